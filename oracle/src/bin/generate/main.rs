@@ -1,0 +1,2 @@
+//! Generator of job files (placeholder).
+fn main() {}

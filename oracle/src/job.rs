@@ -1,0 +1,253 @@
+//! Reads a job file record by record, makes document 01's checks in its order
+//! and hands accepted records to the session.
+
+use crate::RawThreshold;
+use crate::regions::{Answer, Event, Session};
+
+pub const INPUT: usize = 65_536;
+pub const NODES: usize = 4_096;
+pub const THRESHOLDS: usize = 1_024;
+pub const TERMS_OF_ONE: usize = 1_024;
+pub const TERMS: usize = 4_096;
+pub const ANSWERS: usize = 64;
+pub const BOUND: i64 = 1 << 52;
+
+/// One record with its fields, read but not yet checked.
+#[derive(Clone, Copy, Debug, PartialEq, Eq)]
+pub enum Record {
+    Header { nodes: usize },
+    Threshold { node: usize, bound: i64 },
+    Term { condition: usize, weight: u32 },
+    Seal,
+    Mark { node: usize, value: u8 },
+    Settle,
+    Sift,
+    Area { condition: usize, area: u32 },
+}
+
+/// The weight of an area, a half going up.
+pub fn area_weight(area: u32) -> u64 {
+    (u64::from(area) + 50) / 100
+}
+
+/// Bytes behind the kind byte, none for an unknown kind.
+pub fn body_length(kind: u8) -> Option<usize> {
+    match kind {
+        1 => Some(2),
+        2 => Some(10),
+        3 | 8 => Some(6),
+        4 | 6 | 7 => Some(0),
+        5 => Some(3),
+        _ => None,
+    }
+}
+
+fn read_record(kind: u8, body: &[u8]) -> Option<Record> {
+    let body = body.get(..body_length(kind)?)?;
+    let half = |at: usize| usize::from(u16::from_le_bytes([body[at], body[at + 1]]));
+    let word = |at: usize| u32::from_le_bytes(body[at..at + 4].try_into().expect("four bytes"));
+    Some(match kind {
+        1 => Record::Header { nodes: half(0) },
+        2 => Record::Threshold {
+            node: half(0),
+            bound: i64::from_le_bytes(body[2..10].try_into().expect("eight bytes")),
+        },
+        3 => Record::Term { condition: half(0), weight: word(2) },
+        4 => Record::Seal,
+        5 => Record::Mark { node: half(0), value: body[2] },
+        6 => Record::Settle,
+        7 => Record::Sift,
+        _ => Record::Area { condition: half(0), area: word(2) },
+    })
+}
+
+/// What happened at one record, for traces and for the coverage report.
+pub struct Note {
+    pub offset: usize,
+    pub kind: u8,
+    pub record: Option<Record>,
+    /// Every refusal that applies, in the table's order; the first is given.
+    pub found: Vec<u8>,
+    pub answer: Option<Answer>,
+    pub visits: Option<u64>,
+    /// Sure and never nodes before and after.
+    pub decided: [(usize, usize); 2],
+    /// Entries taken from each queue by this record.
+    pub taken: [usize; 3],
+    pub events: Vec<Event>,
+}
+
+/// A whole file, run to its end or its refusal.
+#[derive(Default)]
+pub struct Run {
+    pub length: usize,
+    pub header: Option<usize>,
+    pub thresholds: Vec<RawThreshold>,
+    pub terms: usize,
+    pub session: Option<Session>,
+    /// Settles and sifts; a sift has visits.
+    pub answers: Vec<(Answer, Option<u64>)>,
+    pub contradicted: bool,
+    pub refusal: Option<(u8, usize)>,
+    pub notes: Vec<Note>,
+}
+
+pub fn run(input: &[u8]) -> Run {
+    let mut run = Run { length: input.len(), ..Run::default() };
+    if input.len() > INPUT {
+        run.refusal = Some((10, 0));
+        return run;
+    }
+    let mut at = 0;
+    while at < input.len() {
+        let record = read_record(input[at], &input[at + 1..]);
+        let found = run.refusals(input[at], record.as_ref());
+        let first = found.first().copied();
+        run.note(at, input[at], record, found);
+        if let Some(number) = first {
+            run.refusal = Some((number, at));
+            break;
+        }
+        run.accept(record.expect("a whole record"));
+        at += 1 + body_length(input[at]).expect("a known kind");
+    }
+    run
+}
+
+impl Run {
+    /// Every refusal that applies to a record, in the order of the table. A
+    /// check whose field is missing or has nothing to be held against is left out.
+    fn refusals(&self, kind: u8, record: Option<&Record>) -> Vec<u8> {
+        let known = body_length(kind).is_some();
+        let checks = [
+            (2, !known),
+            (1, known && record.is_none()),
+            (3, self.out_of_turn(kind)),
+            (9, self.contradicted),
+            (5, record.is_some_and(|record| self.node_too_high(record))),
+            (6, record.is_some_and(|record| self.node_not_rising(record))),
+            (7, record.is_some_and(bound_outside)),
+            (8, matches!(record, Some(Record::Mark { value, .. }) if *value > 1)),
+            (4, self.past_counts(kind, record)),
+        ];
+        checks.iter().filter(|(_, applies)| *applies).map(|&(number, _)| number).collect()
+    }
+
+    fn out_of_turn(&self, kind: u8) -> bool {
+        let sealed = self.session.is_some();
+        match kind {
+            1 => self.header.is_some(),
+            _ if self.header.is_none() => true,
+            2 | 4 => sealed,
+            3 | 8 => sealed || self.thresholds.is_empty(),
+            5..=7 => !sealed,
+            _ => false,
+        }
+    }
+
+    fn node_too_high(&self, record: &Record) -> bool {
+        let Some(nodes) = self.header else { return false };
+        match *record {
+            Record::Threshold { node, .. } | Record::Mark { node, .. } => node >= nodes,
+            Record::Term { condition, .. } | Record::Area { condition, .. } => condition >= nodes,
+            _ => false,
+        }
+    }
+
+    fn node_not_rising(&self, record: &Record) -> bool {
+        match (record, self.thresholds.last()) {
+            (Record::Threshold { node, .. }, Some(last)) => *node <= last.node,
+            _ => false,
+        }
+    }
+
+    fn past_counts(&self, kind: u8, record: Option<&Record>) -> bool {
+        match kind {
+            1 => matches!(record, Some(Record::Header { nodes }) if *nodes > NODES),
+            2 => self.thresholds.len() >= THRESHOLDS,
+            3 | 8 => {
+                let open = self.thresholds.last().map_or(0, |last| last.conditions.len());
+                open >= TERMS_OF_ONE || self.terms >= TERMS
+            }
+            6 | 7 => self.answers.len() >= ANSWERS,
+            _ => false,
+        }
+    }
+
+    fn note(&mut self, offset: usize, kind: u8, record: Option<Record>, found: Vec<u8>) {
+        let now = self.session.as_ref().map_or((0, 0), Session::counts);
+        self.notes.push(Note {
+            offset,
+            kind,
+            record,
+            found,
+            answer: None,
+            visits: None,
+            decided: [now, now],
+            taken: [0; 3],
+            events: Vec::new(),
+        });
+    }
+
+    fn accept(&mut self, record: Record) {
+        match record {
+            Record::Header { nodes } => self.header = Some(nodes),
+            Record::Threshold { node, bound } => self.thresholds.push(RawThreshold {
+                node,
+                bound: i128::from(bound),
+                conditions: Vec::new(),
+                weights: Vec::new(),
+            }),
+            Record::Term { condition, weight } => self.term(condition, u64::from(weight)),
+            Record::Area { condition, area } => self.term(condition, area_weight(area)),
+            Record::Seal => {
+                let nodes = self.header.expect("the turn was checked");
+                self.session = Some(Session::new(nodes, self.thresholds.clone()));
+                self.work(|session| (session.seal(), None));
+            }
+            Record::Mark { node, value } => {
+                self.work(|session| (session.mark(node, value == 1), None));
+            }
+            Record::Settle => {
+                let answer = self.work(|session| (session.settle(), None));
+                self.answers.push(answer);
+            }
+            Record::Sift => {
+                let answer = self.work(|session| {
+                    let (answer, visits) = session.sift();
+                    (answer, Some(visits))
+                });
+                self.answers.push(answer);
+            }
+        }
+    }
+
+    fn term(&mut self, condition: usize, weight: u64) {
+        let open = self.thresholds.last_mut().expect("the turn was checked");
+        open.conditions.push(condition);
+        open.weights.push(weight);
+        self.terms += 1;
+    }
+
+    /// Let the session work and enter what it did into the record's note.
+    fn work(
+        &mut self,
+        act: impl FnOnce(&mut Session) -> (Answer, Option<u64>),
+    ) -> (Answer, Option<u64>) {
+        let session = self.session.as_mut().expect("the turn was checked");
+        let before = session.taken;
+        let (answer, visits) = act(session);
+        let note = self.notes.last_mut().expect("noted before it is accepted");
+        note.answer = Some(answer);
+        note.visits = visits;
+        note.decided[1] = session.counts();
+        note.taken = std::array::from_fn(|queue| session.taken[queue] - before[queue]);
+        note.events = std::mem::take(&mut session.events);
+        self.contradicted |= answer == Answer::Contradiction;
+        (answer, visits)
+    }
+}
+
+fn bound_outside(record: &Record) -> bool {
+    matches!(record, Record::Threshold { bound, .. } if !(-BOUND..=BOUND).contains(bound))
+}
