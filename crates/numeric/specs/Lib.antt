@@ -1,1 +1,3 @@
 pub mod Area
+pub mod Threshold
+pub mod Layout

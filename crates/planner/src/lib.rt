@@ -1,0 +1,1 @@
+// The whole file: records, refusals, answers, and the lent buffers.

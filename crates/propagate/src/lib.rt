@@ -1,0 +1,1 @@
+// Propagation on one row and between rows: propagate.rs, and `threshold_prefixes` of prefixes.rs.

@@ -1,0 +1,139 @@
+-- What divisibility shows of a drained row: `threshold_residual` of residual.rs on values.
+use Prim.Native.Nat.{ℕ, zero, suc, _+_, _-_, min}
+use mathlib.Core.Bool.{Bool, true, false, cond, _&&_, _||_, not}
+use mathlib.Core.List.{List, [], _∷_, _++_, reverse}
+use lib.ListN.{length, getD, drop}
+use lib.Dec.{eqb, leb, ltb}
+use lib.Signed.{leZ, ltZ}
+use Rattle.numeric.specs.Threshold.{Term}
+use Rattle.state.specs.declared.Step.{Step}
+use Rattle.state.specs.declared.Step.the-variants.{Unchanged, Changed, Contradiction}
+use Rattle.state.specs.declared.State.{State}
+use Rattle.state.specs.Step.{joined, contradicts}
+use Rattle.state.specs.State.{natural, limit, reached, upperAtMost, hasResidualInterval}
+use Rattle.words.specs.Mask.{bit}
+use Rattle.queues.specs.Marks.{Marks, isDecided, Decided, decided, decide}
+use Rattle.thresholds.specs.Rows.{hasNonunit}
+use Rattle.residual.specs.Gcd.{gcd, misses, branchMisses}
+
+-- The figures of a row with a residual interval; none of them is negative. `upper` is the last sum allowed.
+pub record Interval : Type 0 where
+  pub known : ℕ
+  pub possible : ℕ
+  pub lower : ℕ
+  pub upper : ℕ
+  pub width : ℕ
+
+abbrev pub interval : State → Interval
+interval s = record {
+  known = natural (s .known);
+  possible = natural (s .possible);
+  lower = natural (s .lower);
+  upper = natural (limit (s .upper)) - 1;
+  width = natural (limit (s .upper)) - natural (s .lower);
+}
+
+-- Terms from the light end: does the lattice of all undecided weights miss the interval?
+unfoldable pub checkFrom : Interval → Marks → List Term → ℕ → Step
+checkFrom i m [] divisor =
+    cond (eqb divisor 0 && not (misses (i .known) (i .lower) (min (i .possible) (i .upper)) 0)) Unchanged Contradiction
+checkFrom i m (t ∷ ts) divisor =
+    elim (isDecided m (t .condition)) [
+      | true ↦ checkFrom i m ts divisor
+      | false ↦
+          let next = gcd divisor (t .weight) in
+          elim ((eqb divisor 0 && leb (t .weight) (i .width)) || eqb next 1
+          || (not (eqb next divisor) && not (misses (i .known) (i .lower) (min (i .possible) (i .upper)) next)))
+          [ true ↦ Unchanged | false ↦ checkFrom i m ts next ]
+    ]
+
+-- `threshold_residual_check`
+unfoldable pub residualCheck : List Term → State → Marks → Step
+residualCheck ts s m =
+    cond (hasNonunit ts && hasResidualInterval s)
+    (cond (upperAtMost (s .upper) (reached s) || ltZ (s .possible) (reached s)) Contradiction (checkFrom (interval s) m (reverse ts) 0))
+    Unchanged
+
+-- Terms from the light end: one undecided weight fits, and so does another or the gcd of the others.
+-- Then no term's lattice can miss, and nothing is forced.
+unfoldable pub fitsFrom : Interval → Marks → List Term → Bool → ℕ → Bool
+fitsFrom i m [] fitting complement = false
+fitsFrom i m (t ∷ ts) fitting complement =
+    elim (not fitting && ltb (i .width) (t .weight)) [
+      | true ↦ false
+      | false ↦
+          elim (isDecided m (t .condition)) [
+            | true ↦ fitsFrom i m ts fitting complement
+            | false ↦
+                elim fitting [
+                  | false ↦ fitsFrom i m ts true complement
+                  | true ↦
+                      let next = gcd complement (t .weight) in
+                      elim (leb (t .weight) (i .width) || (ltb 0 next && leb next (i .width)))
+                      [ true ↦ true | false ↦ fitsFrom i m ts true next ]
+                ]
+          ]
+    ]
+
+-- `prepare_suffix`: the gcd of the undecided weights among the last 0, 1, 2 .. terms; the argument's terms are reversed.
+unfoldable pub suffixFrom : Marks → List Term → ℕ → List ℕ
+suffixFrom m [] suffix = suffix ∷ []
+suffixFrom m (t ∷ ts) suffix = suffix ∷ suffixFrom m ts (cond (isDecided m (t .condition)) suffix (gcd suffix (t .weight)))
+
+abbrev pub suffixes : Marks → List Term → List ℕ
+suffixes m ts = suffixFrom m (reverse ts) 0
+
+-- What one undecided term is forced to, by the gcd of the other undecided weights.
+unfoldable pub forceTerm : Interval → Marks → Term → ℕ → Decided
+forceTerm i m t divisor =
+    let off = branchMisses (i .known) (i .possible - t .weight) (i .lower) (i .upper) divisor in
+    let on = branchMisses (i .known + t .weight) (i .possible) (i .lower) (i .upper) divisor in
+    elim (eqb divisor 1) [
+      | true ↦ decided m Unchanged
+      | false ↦
+          elim off [
+            | true ↦ elim on [ true ↦ decided m Contradiction | false ↦ decide true m (t .condition) ]
+            | false ↦ elim on [ true ↦ decide false m (t .condition) | false ↦ decided m Unchanged ]
+          ]
+    ]
+
+-- Terms from the heavy end, with the gcd of the undecided weights before.
+unfoldable pub forceFrom : Interval → List ℕ → List Term → ℕ → Marks → Step → Decided
+forceFrom i suf [] prefix m step = decided m step
+forceFrom i suf (t ∷ ts) prefix m step =
+    elim (isDecided m (t .condition)) [
+      | true ↦ forceFrom i suf ts prefix m step
+      | false ↦
+          let d = forceTerm i m t (gcd prefix (getD suf (length ts) 0)) in
+          elim (contradicts (d .step)) [
+            | true ↦ decided (d .marks) Contradiction
+            | false ↦ forceFrom i suf ts (gcd prefix (t .weight)) (d .marks) (joined step (d .step))
+          ]
+    ]
+
+-- What a residual did: the marks, the answer, and the buffer of gcds, whose first places hold the suffixes.
+pub record Residual : Type 0 where
+  pub marks : Marks
+  pub step : Step
+  pub gcds : List ℕ
+
+abbrev pub residual : Marks → Step → List ℕ → Residual
+residual m k g = record { marks = m; step = k; gcds = g }
+
+-- The list laid over the start of a buffer.
+abbrev pub over : List ℕ → List ℕ → List ℕ
+over l b = l ++ drop (length l) b
+
+-- `threshold_residual`
+unfoldable pub thresholdResidual : List Term → State → Marks → List ℕ → Residual
+thresholdResidual ts s m gcds =
+    elim (contradicts (residualCheck ts s m)) [
+      | true ↦ residual m Contradiction gcds
+      | false ↦
+          elim (not (hasNonunit ts && hasResidualInterval s) || fitsFrom (interval s) m (reverse ts) false 0) [
+            | true ↦ residual m Unchanged gcds
+            | false ↦
+                let f = forceFrom (interval s) (suffixes m ts) ts 0 m Unchanged in
+                residual (f .marks) (f .step) (over (suffixes m ts) gcds)
+          ]
+    ]

@@ -1,0 +1,1 @@
+// Residual divisibility of a drained row: residual.rs.
