@@ -1,3 +1,4 @@
 pub mod Area
 pub mod Threshold
 pub mod Layout
+pub mod TermsLaws

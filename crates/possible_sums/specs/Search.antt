@@ -6,79 +6,68 @@ use lib.ListN.{length, replicate, set}
 use lib.Dec.{leb, ltb}
 use lib.IntN.{_-ℤ_, pos}
 use Rattle.numeric.specs.Threshold.{Term}
+use Rattle.possible_sums.specs.declared.Window.{Window}
+use Rattle.possible_sums.specs.declared.Plan.{Plan}
+use Rattle.possible_sums.specs.declared.Plan.the-variants.{Unplanned, Planned}
+use Rattle.possible_sums.specs.declared.Search.{Search}
+use Rattle.possible_sums.specs.declared.Search.the-variants.{Skipped, Fits, Nothing, Cut}
 use Rattle.state.specs.declared.Step.{Step}
 use Rattle.state.specs.declared.Step.the-variants.{Unchanged, Changed, Contradiction}
 use Rattle.state.specs.declared.State.{State}
 use Rattle.state.specs.State.{natural, limit, hasResidualInterval}
-use Rattle.words.specs.Shift.{Ended, hit, complete, stopped, Shifted, unionShifted}
-use Rattle.queues.specs.Marks.{Marks, isDecided}
+use Rattle.words.specs.declared.Ended.the-variants.{Hit, Complete, Stopped}
+use Rattle.words.specs.Shift.{Shifted, unionShifted}
 use Rattle.thresholds.specs.Rows.{hasNonunit}
 
--- The window of a search, in sums of undecided weights; the words that hold it; the visits that it may use.
-pub record Window : Type 0 where
-  pub lower : ℕ
-  pub maximum : ℕ
-  pub words : ℕ
-  pub visits : ℕ
-
+-- The sums from lower - known to upper - known - 1, and 4 visits for each term.
 abbrev pub window : List Term → State → Window
 window ts s =
     let maximum = natural (limit (s .upper) -ℤ s .known -ℤ pos 1) in
     record { lower = natural (s .lower -ℤ s .known); maximum = maximum; words = maximum / 64 + 1; visits = 4 * length ts }
 
 -- `Plan::for_row`
-pub data Plan : Type 0 where
-  none : Plan
-  planned : Window → Plan
-
 unfoldable pub plan : List Term → State → Plan
 plan ts s =
-    cond (hasNonunit ts && hasResidualInterval s && leb (window ts s .words + 5) (window ts s .visits)) (planned (window ts s)) none
-
--- How a search ended, with the visits that it used.
-pub data Search : Type 0 where
-  unplanned : Search
-  fitting : ℕ → Search  -- some sum lies in the window
-  nothing : ℕ → Search  -- no sum does
-  cut : ℕ → Search  -- the next visit would pass the allowance
+    cond (hasNonunit ts && hasResidualInterval s && leb (window ts s .words + 5) (window ts s .visits)) (Planned (window ts s)) Unplanned
 
 -- Document 01's answer, and the visits.
 abbrev pub searchStep : Search → Step
-searchStep unplanned = Unchanged
-searchStep (fitting n) = Unchanged
-searchStep (nothing n) = Contradiction
-searchStep (cut n) = Unchanged
+searchStep Skipped = Unchanged
+searchStep (Fits n) = Unchanged
+searchStep (Nothing n) = Contradiction
+searchStep (Cut n) = Unchanged
 
+-- The visits of the last search, where the first argument is that of the searches before.
 abbrev pub searchVisits : ℕ → Search → ℕ
-searchVisits before unplanned = before
-searchVisits before (fitting n) = n
-searchVisits before (nothing n) = n
-searchVisits before (cut n) = n
+searchVisits before Skipped = before
+searchVisits before (Fits n) = n
+searchVisits before (Nothing n) = n
+searchVisits before (Cut n) = n
 
--- Terms from the light end; `maximum` is the largest sum that a bit stands for, `left` the visits that are left.
-unfoldable pub searchFrom : Window → Marks → List Term → List ℕ → ℕ → ℕ → Search
-searchFrom w m [] sums maximum left = nothing (w .visits - left)
-searchFrom w m (t ∷ ts) sums maximum zero = cut (w .visits)
-searchFrom w m (t ∷ ts) sums maximum (suc left) =
+-- `d` tells which nodes are decided. Terms from the light end; `maximum` is the largest sum that a bit stands for, `left` the visits that are left.
+unfoldable pub searchFrom : Window → (ℕ → Bool) → List Term → List ℕ → ℕ → ℕ → Search
+searchFrom w d [] sums maximum left = Nothing (w .visits - left)
+searchFrom w d (t ∷ ts) sums maximum zero = Cut (w .visits)
+searchFrom w d (t ∷ ts) sums maximum (suc left) =
     elim (ltb (w .maximum) (t .weight)) [
-      | true ↦ nothing (w .visits - left)
+      | true ↦ Nothing (w .visits - left)
       | false ↦
-          elim (isDecided m (t .condition)) [
-            | true ↦ searchFrom w m ts sums maximum left
+          elim (d (t .condition)) [
+            | true ↦ searchFrom w d ts sums maximum left
             | false ↦
                 let r = unionShifted sums (maximum / 64 + 1) (t .weight) (w .lower) (w .maximum) left in
                 elim (r .ended) [
-                  | hit after ↦ fitting (w .visits - after)
-                  | complete after ↦ searchFrom w m ts (r .words) (min (maximum + t .weight) (w .maximum)) after
-                  | stopped ↦ cut (w .visits)
+                  | Hit after ↦ Fits (w .visits - after)
+                  | Complete after ↦ searchFrom w d ts (r .words) (min (maximum + t .weight) (w .maximum)) after
+                  | Stopped ↦ Cut (w .visits)
                 ]
           ]
     ]
 
 -- One visit takes the words, one clears each, one sets sum 0.
-unfoldable pub search : List Term → State → Marks → Search
-search ts s m =
+unfoldable pub search : List Term → State → (ℕ → Bool) → Search
+search ts s d =
     elim (plan ts s) [
-      | none ↦ unplanned
-      | planned w ↦ searchFrom w m (reverse ts) (set (replicate (w .words) 0) 0 1) 0 (w .visits - (w .words + 2))
+      | Unplanned ↦ Skipped
+      | Planned w ↦ searchFrom w d (reverse ts) (set (replicate (w .words) 0) 0 1) 0 (w .visits - (w .words + 2))
     ]

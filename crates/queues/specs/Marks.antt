@@ -1,10 +1,10 @@
 -- Deciding a node: it goes into its mask and waits to be drained. `sure` and `never` of regions.rs.
 use Prim.Native.Nat.{ℕ}
-use mathlib.Core.Bool.{Bool, true, false, _||_}
+use mathlib.Core.Bool.{Bool, true, false}
 use mathlib.Core.List.{List}
 use Rattle.state.specs.declared.Step.{Step}
 use Rattle.state.specs.declared.Step.the-variants.{Unchanged, Changed, Contradiction}
-use Rattle.words.specs.Mask.{bit, learn, Learned}
+use Rattle.words.specs.Mask.{inEither, learn}
 use Rattle.queues.specs.Queue.{Queue, push}
 
 -- The decided nodes, and those of them that wait to be drained.
@@ -17,7 +17,7 @@ abbrev pub marks : List ℕ → List ℕ → Queue → Marks
 marks s n q = record { sure = s; never = n; nodes = q }
 
 abbrev pub isDecided : Marks → ℕ → Bool
-isDecided m n = bit (m .sure) n || bit (m .never) n
+isDecided m n = inEither (m .sure) (m .never) n
 
 pub record Decided : Type 0 where
   pub marks : Marks

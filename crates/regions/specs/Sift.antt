@@ -8,7 +8,7 @@ use Rattle.state.specs.declared.Step.{Step}
 use Rattle.state.specs.declared.Step.the-variants.{Unchanged, Changed, Contradiction}
 use Rattle.state.specs.Step.{joined, contradicts, isUnchanged}
 use Rattle.queues.specs.Queue.{isEmpty, oldest, nextRow}
-use Rattle.queues.specs.Marks.{Marks}
+use Rattle.queues.specs.Marks.{isDecided}
 use Rattle.thresholds.specs.Rows.{noRow}
 use Rattle.residual.specs.Residual.{Residual, thresholdResidual}
 use Rattle.possible_sums.specs.Search.{search, searchStep, searchVisits}
@@ -34,7 +34,7 @@ tryRow x v gcds visits =
     let after = live (v .states) (a .marks) (v .dirty) (nextRow (v .residuals)) in
     elim (isUnchanged (a .step)) [
       | true ↦
-          let b = search terms (stateAt v r) (a .marks) in
+          let b = search terms (stateAt v r) (isDecided (a .marks)) in
           sifted after (a .gcds) (searchStep b) (searchVisits visits b)
       | false ↦ sifted after (a .gcds) (a .step) visits
     ]

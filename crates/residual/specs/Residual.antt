@@ -33,55 +33,55 @@ interval s = record {
   width = natural (limit (s .upper)) - natural (s .lower);
 }
 
--- Terms from the light end: does the lattice of all undecided weights miss the interval?
-unfoldable pub checkFrom : Interval → Marks → List Term → ℕ → Step
-checkFrom i m [] divisor =
+-- `d` tells which nodes are decided. Terms from the light end: does the lattice of all undecided weights miss the interval?
+unfoldable pub checkFrom : Interval → (ℕ → Bool) → List Term → ℕ → Step
+checkFrom i d [] divisor =
     cond (eqb divisor 0 && not (misses (i .known) (i .lower) (min (i .possible) (i .upper)) 0)) Unchanged Contradiction
-checkFrom i m (t ∷ ts) divisor =
-    elim (isDecided m (t .condition)) [
-      | true ↦ checkFrom i m ts divisor
+checkFrom i d (t ∷ ts) divisor =
+    elim (d (t .condition)) [
+      | true ↦ checkFrom i d ts divisor
       | false ↦
           let next = gcd divisor (t .weight) in
           elim ((eqb divisor 0 && leb (t .weight) (i .width)) || eqb next 1
           || (not (eqb next divisor) && not (misses (i .known) (i .lower) (min (i .possible) (i .upper)) next)))
-          [ true ↦ Unchanged | false ↦ checkFrom i m ts next ]
+          [ true ↦ Unchanged | false ↦ checkFrom i d ts next ]
     ]
 
 -- `threshold_residual_check`
-unfoldable pub residualCheck : List Term → State → Marks → Step
-residualCheck ts s m =
+unfoldable pub residualCheck : List Term → State → (ℕ → Bool) → Step
+residualCheck ts s d =
     cond (hasNonunit ts && hasResidualInterval s)
-    (cond (upperAtMost (s .upper) (reached s) || ltZ (s .possible) (reached s)) Contradiction (checkFrom (interval s) m (reverse ts) 0))
+    (cond (upperAtMost (s .upper) (reached s) || ltZ (s .possible) (reached s)) Contradiction (checkFrom (interval s) d (reverse ts) 0))
     Unchanged
 
 -- Terms from the light end: one undecided weight fits, and so does another or the gcd of the others.
 -- Then no term's lattice can miss, and nothing is forced.
-unfoldable pub fitsFrom : Interval → Marks → List Term → Bool → ℕ → Bool
-fitsFrom i m [] fitting complement = false
-fitsFrom i m (t ∷ ts) fitting complement =
+unfoldable pub fitsFrom : Interval → (ℕ → Bool) → List Term → Bool → ℕ → Bool
+fitsFrom i d [] fitting complement = false
+fitsFrom i d (t ∷ ts) fitting complement =
     elim (not fitting && ltb (i .width) (t .weight)) [
       | true ↦ false
       | false ↦
-          elim (isDecided m (t .condition)) [
-            | true ↦ fitsFrom i m ts fitting complement
+          elim (d (t .condition)) [
+            | true ↦ fitsFrom i d ts fitting complement
             | false ↦
                 elim fitting [
-                  | false ↦ fitsFrom i m ts true complement
+                  | false ↦ fitsFrom i d ts true complement
                   | true ↦
                       let next = gcd complement (t .weight) in
                       elim (leb (t .weight) (i .width) || (ltb 0 next && leb next (i .width)))
-                      [ true ↦ true | false ↦ fitsFrom i m ts true next ]
+                      [ true ↦ true | false ↦ fitsFrom i d ts true next ]
                 ]
           ]
     ]
 
 -- `prepare_suffix`: the gcd of the undecided weights among the last 0, 1, 2 .. terms; the argument's terms are reversed.
-unfoldable pub suffixFrom : Marks → List Term → ℕ → List ℕ
-suffixFrom m [] suffix = suffix ∷ []
-suffixFrom m (t ∷ ts) suffix = suffix ∷ suffixFrom m ts (cond (isDecided m (t .condition)) suffix (gcd suffix (t .weight)))
+unfoldable pub suffixFrom : (ℕ → Bool) → List Term → ℕ → List ℕ
+suffixFrom d [] suffix = suffix ∷ []
+suffixFrom d (t ∷ ts) suffix = suffix ∷ suffixFrom d ts (cond (d (t .condition)) suffix (gcd suffix (t .weight)))
 
-abbrev pub suffixes : Marks → List Term → List ℕ
-suffixes m ts = suffixFrom m (reverse ts) 0
+abbrev pub suffixes : (ℕ → Bool) → List Term → List ℕ
+suffixes d ts = suffixFrom d (reverse ts) 0
 
 -- What one undecided term is forced to, by the gcd of the other undecided weights.
 unfoldable pub forceTerm : Interval → Marks → Term → ℕ → Decided
@@ -127,13 +127,13 @@ over l b = l ++ drop (length l) b
 -- `threshold_residual`
 unfoldable pub thresholdResidual : List Term → State → Marks → List ℕ → Residual
 thresholdResidual ts s m gcds =
-    elim (contradicts (residualCheck ts s m)) [
+    elim (contradicts (residualCheck ts s (isDecided m))) [
       | true ↦ residual m Contradiction gcds
       | false ↦
-          elim (not (hasNonunit ts && hasResidualInterval s) || fitsFrom (interval s) m (reverse ts) false 0) [
+          elim (not (hasNonunit ts && hasResidualInterval s) || fitsFrom (interval s) (isDecided m) (reverse ts) false 0) [
             | true ↦ residual m Unchanged gcds
             | false ↦
-                let f = forceFrom (interval s) (suffixes m ts) ts 0 m Unchanged in
-                residual (f .marks) (f .step) (over (suffixes m ts) gcds)
+                let f = forceFrom (interval s) (suffixes (isDecided m) ts) ts 0 m Unchanged in
+                residual (f .marks) (f .step) (over (suffixes (isDecided m) ts) gcds)
           ]
     ]

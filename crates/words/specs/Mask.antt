@@ -1,6 +1,6 @@
 -- Sets of numbers as bits of 64-bit words: `bit` and `learn` of regions.rs on values.
 use Prim.Native.Nat.{ℕ, _/_, _%_, _^_}
-use mathlib.Core.Bool.{Bool, cond}
+use mathlib.Core.Bool.{Bool, cond, _||_}
 use mathlib.Core.List.{List}
 use lib.ListN.{getD, set}
 use lib.Dec.{eqb}
@@ -18,6 +18,10 @@ digitAt l n = digit (getD l (n / 64) 0) (n % 64)
 
 abbrev pub bit : List ℕ → ℕ → Bool
 bit mask n = eqb (digitAt mask n) 1
+
+-- In one mask or the other: decided.
+abbrev pub inEither : List ℕ → List ℕ → ℕ → Bool
+inEither sure never n = bit sure n || bit never n
 
 unfoldable pub setBit : List ℕ → ℕ → List ℕ
 setBit mask n = set mask (n / 64) (bitOr (getD mask (n / 64) 0) (2 ^ (n % 64)))

@@ -5,12 +5,8 @@ use mathlib.Core.List.{List}
 use lib.ListN.{length, getD, set}
 use lib.Dec.{eqb, leb, ltb}
 use lib.Bits.{bitOr}
-
--- How a shift ended, with the visits that are left.
-pub data Ended : Type 0 where
-  hit : ℕ → Ended
-  complete : ℕ → Ended
-  stopped : Ended
+use Rattle.words.specs.declared.Ended.{Ended}
+use Rattle.words.specs.declared.Ended.the-variants.{Hit, Complete, Stopped}
 
 pub record Shifted : Type 0 where
   pub words : List ℕ
@@ -60,11 +56,11 @@ wordHits l source shift start end =
 
 -- The source words below `source`, the highest first, one visit for each.
 unfoldable pub shiftFrom : ℕ → ℕ → ℕ → ℕ → List ℕ → ℕ → Shifted
-shiftFrom shift start end zero l left = shifted l (complete left)
-shiftFrom shift start end (suc source) l zero = shifted l stopped
+shiftFrom shift start end zero l left = shifted l (Complete left)
+shiftFrom shift start end (suc source) l zero = shifted l Stopped
 shiftFrom shift start end (suc source) l (suc left) =
     elim (wordHits l source shift start end)
-    [ true ↦ shifted (shiftWord l source shift) (hit left) | false ↦ shiftFrom shift start end source (shiftWord l source shift) left ]
+    [ true ↦ shifted (shiftWord l source shift) (Hit left) | false ↦ shiftFrom shift start end source (shiftWord l source shift) left ]
 
 -- The first `sources` words of l, as far as they stay inside it.
 unfoldable pub unionShifted : List ℕ → ℕ → ℕ → ℕ → ℕ → ℕ → Shifted
