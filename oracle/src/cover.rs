@@ -27,8 +27,19 @@ const ORDERS: [(u8, &[(u8, u8)]); 9] = [
     (
         2,
         &[
-            (1, 3), (1, 9), (1, 4), (3, 9), (3, 5), (3, 6), (3, 7), (3, 4), (5, 7), (5, 4),
-            (6, 7), (6, 4), (7, 4),
+            (1, 3),
+            (1, 9),
+            (1, 4),
+            (3, 9),
+            (3, 5),
+            (3, 6),
+            (3, 7),
+            (3, 4),
+            (5, 7),
+            (5, 4),
+            (6, 7),
+            (6, 4),
+            (7, 4),
         ],
     ),
     (3, &[(1, 3), (1, 9), (1, 4), (3, 9), (3, 5), (3, 4), (5, 4)]),
@@ -323,7 +334,11 @@ impl Cover {
         match (number, note.record) {
             (2, _) => {
                 self.hit(format!("refusal 2 kind 0x{:02x}", note.kind));
-                self.hit(if sealed { "refusal 2 after the seal" } else { "refusal 2 before the seal" });
+                self.hit(if sealed {
+                    "refusal 2 after the seal"
+                } else {
+                    "refusal 2 before the seal"
+                });
                 self.hit_if(place == 0, "refusal 2 first record");
             }
             (1, _) => {
@@ -386,7 +401,10 @@ impl Cover {
         let rows = run.session.as_ref().map_or(0, Session::row_count);
         match note.kind {
             6 => {
-                self.hit_if(answer == Answer::Changed && !decided, "settle changed, nothing decided");
+                self.hit_if(
+                    answer == Answer::Changed && !decided,
+                    "settle changed, nothing decided",
+                );
                 self.hit_if(decided, "settle decides");
                 self.hit_if(note.taken[1] > rows, "row queue takes more than there are rows");
             }
@@ -397,7 +415,8 @@ impl Cover {
                     note.events.last(),
                     Some(Event::Search { answer: Answer::Contradiction, .. })
                 );
-                let earlier = answer == Answer::Contradiction && !by_search && note.visits > Some(0);
+                let earlier =
+                    answer == Answer::Contradiction && !by_search && note.visits > Some(0);
                 self.hit_if(earlier, "sift contradiction, visits of an earlier search");
             }
             _ => {}
@@ -438,7 +457,9 @@ impl Cover {
                 self.hit_if(*never > 0, "residual forces never");
                 self.hit_if(sure + never > 1, "residual forces several");
             }
-            Event::Search { answer, words, visits, cut_short, interval, decided, heavy, .. } => {
+            Event::Search {
+                answer, words, visits, cut_short, interval, decided, heavy, ..
+            } => {
                 self.hit(format!("step search {}", word(*answer)));
                 let size = if *words == 1 { "one word" } else { "many words" };
                 let end = match answer {
@@ -486,7 +507,10 @@ impl Cover {
             self.hit_if(same, "row with equal weights");
             self.hit_if(row.total > 1 << 32, "row total above 2^32");
             self.hit_if(row.links.len() > 1, "row linked to several");
-            self.hit_if(row.terms.is_empty() && !row.links.is_empty(), "empty row linked to a longer");
+            self.hit_if(
+                row.terms.is_empty() && !row.links.is_empty(),
+                "empty row linked to a longer",
+            );
             let high = row.guards.last().is_some_and(|guard| guard.1 > row.total);
             self.hit_if(high, "bound above the total");
         }
@@ -507,7 +531,10 @@ impl Cover {
         self.hit_if(zeros, "row of zeros alone");
         let mut sorted = raw.conditions.clone();
         sorted.sort_unstable();
-        self.hit_if(sorted.windows(2).any(|pair| pair[0] == pair[1]), "row with repeated conditions");
+        self.hit_if(
+            sorted.windows(2).any(|pair| pair[0] == pair[1]),
+            "row with repeated conditions",
+        );
         self.hit_if(raw.conditions.contains(&raw.node), "threshold lists itself");
         let later = || raw.conditions.iter().filter(|&&condition| condition > raw.node);
         self.hit_if(later().next().is_some(), "threshold lists a later node");

@@ -7,8 +7,8 @@ mod inert;
 
 pub use drain::{Answer, Event, Moved, RowView, Session};
 
-use crate::words::Words;
 use crate::Stop;
+use crate::words::Words;
 use inert::{
     AnswerSetsSought, Chain, Count, Counters, Meter, Narrower, ReadingClass, adjacency, extrema,
     founded, support, witnesses,

@@ -53,7 +53,8 @@ pub struct Shape {
 }
 
 pub const SMALL: Shape = Shape { nodes: 8, thresholds: 4, terms: 5, all_terms: 10, records: 7 };
-pub const MEDIUM: Shape = Shape { nodes: 40, thresholds: 14, terms: 12, all_terms: 90, records: 30 };
+pub const MEDIUM: Shape =
+    Shape { nodes: 40, thresholds: 14, terms: 12, all_terms: 90, records: 30 };
 pub const LARGE: Shape =
     Shape { nodes: 4_096, thresholds: 1_024, terms: 60, all_terms: 4_096, records: 300 };
 
@@ -103,13 +104,7 @@ fn weight(random: &mut Random, family: Weights) -> u32 {
 }
 
 /// A new list, or one made from an earlier list.
-fn list(
-    random: &mut Random,
-    nodes: usize,
-    most: usize,
-    family: Weights,
-    earlier: &[List],
-) -> List {
+fn list(random: &mut Random, nodes: usize, most: usize, family: Weights, earlier: &[List]) -> List {
     let new = |random: &mut Random, count: usize| -> List {
         (0..count).map(|_| (random.below(nodes), weight(random, family))).collect()
     };
@@ -428,7 +423,10 @@ fn one_record(random: &mut Random) -> Vec<u8> {
     let edge = threshold_oracle::job::BOUND;
     match random.below(10) {
         0 => file.header(node),
-        1 => file.threshold(node, random.pick(&[0, 5, edge, edge + 1, -edge, -edge - 1, i64::MAX, i64::MIN])),
+        1 => file.threshold(
+            node,
+            random.pick(&[0, 5, edge, edge + 1, -edge, -edge - 1, i64::MAX, i64::MIN]),
+        ),
         2 => file.term(node, random.pick(&[0, 1, 7, u32::MAX])),
         3 => file.seal(),
         4 => file.mark(node, random.pick(&[0, 1, 2, 255])),
@@ -636,7 +634,13 @@ fn equal_chain(random: &mut Random, file: &mut File) {
     file.header(count + 3);
     let weights = random.pick(&[[5, 4, 3], [5, 5, 5], [7, 4, 2]]);
     for place in 0..count {
-        let bound = if place == 0 { 6 } else if place + 1 == count { 8 } else { 7 };
+        let bound = if place == 0 {
+            6
+        } else if place + 1 == count {
+            8
+        } else {
+            7
+        };
         file.threshold(3 + place, bound);
         for (condition, weight) in weights.iter().enumerate() {
             file.term(condition, *weight);
