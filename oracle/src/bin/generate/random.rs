@@ -330,21 +330,28 @@ pub fn sums(random: &mut Random, most: usize) -> Vec<u8> {
         _ => random.range(20, 400),
     };
     let spread = random.range(0, 3);
+    // Few common factors: several terms can be forced at once.
+    let factors = random.chance(4);
     let factor = random.pick(&[1, 1, 1, 2, 3]);
     let mut list: List = Vec::new();
     for condition in 0..count {
-        let odd = random.chance(9);
-        let one = if odd { random.range(1, 4 * middle) } else { middle + random.range(0, spread) };
+        let one = if factors {
+            random.pick(&[4, 6, 6, 9, 10, 12, 14, 15, 18, 20, 21, 30])
+        } else if random.chance(9) {
+            random.range(1, 4 * middle)
+        } else {
+            middle + random.range(0, spread)
+        };
         list.push((condition, (one * factor) as u32));
     }
     let all = total(&list);
     let steps = random.range(0, count as i64);
-    let low = if random.chance(3) {
+    let low = if factors || random.chance(3) {
         random.range(1, all)
     } else {
         (steps * middle * factor + random.range(-2, 4 * spread + 3)).max(1)
     };
-    let high = low + random.range(1, 3 + middle / 3);
+    let high = low + if factors { random.range(1, 2) } else { random.range(1, 3 + middle / 3) };
     for (node, bound) in [(count, low), (count + 1, high)] {
         file.threshold(node, bound);
         for &(condition, weight) in &list {
@@ -506,6 +513,9 @@ pub fn limits(random: &mut Random) -> Vec<u8> {
         5 => far_bounds(random, &mut file),
         6 => wide_search(random, &mut file),
         _ => equal_chain(random, &mut file),
+    }
+    if random.chance(6) {
+        damage(random, &mut file.0);
     }
     file.0
 }
