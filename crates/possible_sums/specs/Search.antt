@@ -5,6 +5,7 @@ use mathlib.Core.List.{List, [], _∷_, reverse}
 use lib.ListN.{length, replicate, set}
 use lib.Dec.{leb, ltb}
 use lib.IntN.{_-ℤ_, pos}
+use lib.Signed.{ltZ}
 use Rattle.numeric.specs.Threshold.{Term}
 use Rattle.possible_sums.specs.declared.Window.{Window}
 use Rattle.possible_sums.specs.declared.Plan.{Plan}
@@ -28,7 +29,7 @@ window ts s =
 -- `Plan::for_row`
 unfoldable pub plan : List Term → State → Plan
 plan ts s =
-    cond (hasNonunit ts && hasResidualInterval s && leb (window ts s .words + 5) (window ts s .visits)) (Planned (window ts s)) Unplanned
+    cond (hasNonunit ts && hasResidualInterval s && ltZ (s .known) (limit (s .upper)) && leb (window ts s .words + 5) (window ts s .visits)) (Planned (window ts s)) Unplanned
 
 -- Document 01's answer, and the visits.
 abbrev pub searchStep : Search → Step

@@ -121,6 +121,10 @@ module _ (rows : List Row) where
     done : {s : Table} → Run s s
     more : {s t u : Table} → (Conflict s → ⊥) → Step s t → Run t u → Run s u
 
+  unfoldable pub steps : {s t : Table} → Run s t → ℕ
+  steps done = 0
+  steps (more h a r) = 1 + steps r
+
   -- A run from s reaches a conflict.
   abbrev pub ReachesConflict : Table → Type 0
   ReachesConflict s = (t : Table) × Run s t × Conflict t
