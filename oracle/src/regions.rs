@@ -5,7 +5,7 @@
 mod drain;
 mod inert;
 
-pub use drain::{Answer, Event, Moved, RowView, Session};
+pub use drain::{Answer, Event, Moved, Planner, RowView};
 
 use crate::Stop;
 use crate::words::Words;

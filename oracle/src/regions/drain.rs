@@ -88,7 +88,7 @@ struct Idle {
     progress: support::Progress,
 }
 
-pub struct Session {
+pub struct Planner {
     theory: Theory,
     index: Narrower,
     sure: Vec<u64>,
@@ -115,7 +115,7 @@ pub struct RowView {
 
 type Outcome = Result<Step, Failure<std::convert::Infallible>>;
 
-impl Session {
+impl Planner {
     /// Build the rows by the original's `prepare`, with no chains.
     pub fn new(nodes: usize, raw: Vec<RawThreshold>) -> Self {
         let theory = Theory::of_job(nodes, raw);
@@ -140,7 +140,7 @@ impl Session {
         }
     }
 
-    /// Call the original over this session's memory.
+    /// Call the original over the planner's memory.
     fn call(
         &mut self,
         meter: &mut Meter<'_, Free>,
