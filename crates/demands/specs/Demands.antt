@@ -24,7 +24,8 @@ use Rattle.table.specs.Table.{Table, Conflict, Run, steps, ReachesConflict, AtR
 use Rattle.regions.specs.Drain.{atRest}
 use Rattle.planner.specs.Record.{Record, seal, mark, settle, sift}
 use Rattle.planner.specs.File.{File, Answer, settled, sifted, begun, apply, after, refusal, planned}
-use Rattle.planner.specs.Buffers.{Work, Out, fits, whole}
+use Rattle.memory.specs.Buffers.{Work, fits}
+use Rattle.planner.specs.Contents.{Out, whole}
 use Rattle.demands.specs.Reading.{Marked, SameMarks, Agrees, NoSift, decidedIn, decidedAnd, marksOnly, SameEnd, SameFigures, Decoded, records, decoded, plainlyAll, Passes}
 
 -- DEMAND 1. The program as a whole takes each record or refuses it by one of ten numbers, and always ends. After a refused

@@ -1,4 +1,4 @@
 pub mod Record
 pub mod File
 pub mod Listing
-pub mod Buffers
+pub mod Contents
