@@ -129,6 +129,7 @@ pub record SameLengths (v w : Work) : Type 0 where
   pub nodes : length (v .built .nodes) ≡ length (w .built .nodes)
   pub edges : length (v .built .edges) ≡ length (w .built .edges)
   pub links : length (v .built .links) ≡ length (w .built .links)
+  pub scratch : length (v .built .scratch) ≡ length (w .built .scratch)
   pub figures : length (v .kept .figures) ≡ length (w .kept .figures)
   pub cursors : length (v .kept .cursors) ≡ length (w .kept .cursors)
   pub sure : length (v .kept .sure) ≡ length (w .kept .sure)

@@ -23,6 +23,7 @@ pub record Built : Type 0 where
   pub nodes : List (List ℕ)  -- a node's threshold, counted from 1 (0: none), that threshold's row, where its edges end
   pub edges : List (List ℕ)  -- row and weight, condition by condition
   pub links : List ℕ  -- the neighbours of each row
+  pub scratch : List (List ℕ)  -- zero before and after the seal
 
 -- What marks, settles and sifts change.
 pub record Kept : Type 0 where
@@ -54,7 +55,7 @@ fitsRaw w =
 abbrev pub fitsBuilt : Built → Bool
 fitsBuilt w =
     leb 4096 (length (w .row-conditions)) && leb 4096 (length (w .row-weights)) && leb 1024 (length (w .rows)) && leb 1024 (length (w .guard-bounds))
-    && leb 1024 (length (w .guard-nodes)) && leb 4096 (length (w .nodes)) && leb 4096 (length (w .edges)) && leb 2048 (length (w .links))
+    && leb 1024 (length (w .guard-nodes)) && leb 4096 (length (w .nodes)) && leb 4096 (length (w .edges)) && leb 2048 (length (w .links)) && leb 1024 (length (w .scratch))
 
 abbrev pub fitsKept : Kept → Bool
 fitsKept w =
@@ -90,6 +91,7 @@ clearBuilt w = record {
   nodes = zeros (replicate 3 0) (w .nodes);
   edges = zeros (replicate 2 0) (w .edges);
   links = zeros 0 (w .links);
+  scratch = zeros (replicate 3 0) (w .scratch);
 }
 
 unfoldable pub clearKept : Kept → Kept

@@ -85,6 +85,7 @@ builtOf j w =
           (ends 0 (map (λ (l : List Edge). length l) es))) (w .nodes);
       edges = over (map (λ (e : Edge). e .row ∷ e .weight ∷ []) (joinAll es)) (w .edges);
       links = over (joinAll ls) (w .links);
+      scratch = w .scratch;
     }
 
 abbrev pub figuresOf : State → List ℤ
