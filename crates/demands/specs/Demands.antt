@@ -19,7 +19,7 @@ use Rattle.thresholds.specs.Rows.{Row, rowsOf}
 use Rattle.possible_sums.specs.declared.Window.{Window}
 use Rattle.possible_sums.specs.declared.Plan.the-variants.{Planned}
 use Rattle.possible_sums.specs.declared.Search.the-variants.{Skipped, Fits, Nothing, Cut}
-use Rattle.possible_sums.specs.Search.{plan, search, searchStep}
+use Rattle.possible_sums.specs.Search.{plan, search, searchStep, Lands}
 use Rattle.table.specs.Table.{Table, Conflict, Run, steps, ReachesConflict, AtRest, Ended}
 use Rattle.regions.specs.Drain.{atRest}
 use Rattle.planner.specs.Record.{Record, seal, mark, settle, sift}
@@ -47,15 +47,6 @@ pub record Demand1 : Type 0 where
       → after begun (before ++ (r ∷ [])) .contradicted ≡ false → atRest (after begun (before ++ (r ∷ [])) .live) ≡ true
   pub sift-ends : (input : List ℕ) (before later : List Record) → planned input .records ≡ before ++ (sift ∷ later)
       → after begun (before ++ (sift ∷ [])) .contradicted ≡ false → isEmpty (after begun (before ++ (sift ∷ [])) .live .residuals .queue) ≡ true
-
--- The sum of those undecided terms of a row that a choice takes.
-unfoldable pub chosen : (decided choice : ℕ → Bool) → List Term → ℕ
-chosen decided choice [] = 0
-chosen decided choice (t ∷ ts) = cond (decided (t .condition)) 0 (cond (choice (t .condition)) (t .weight) 0) + chosen decided choice ts
-
--- A choice of undecided terms lands in the window of a search.
-abbrev pub Lands : Window → (decided : ℕ → Bool) → List Term → (choice : ℕ → Bool) → Type 0
-Lands w decided ts choice = (w .lower ≤ chosen decided choice ts) × (chosen decided choice ts ≤ w .maximum)
 
 -- DEMAND 2, as far as it can be proved: against the layouts of the job, in which a weighted row means what it means in OPB.
 -- (That the figures are the Rust's is tried by running both.)

@@ -1,90 +1,44 @@
 -- What stands in every word of every lent buffer after the call, for every input.
-use Prim.Native.Nat.{ℕ, zero, suc, _+_}
+use Prim.Native.Nat.{ℕ, _+_}
 use mathlib.Core.Bool.{Bool, true, false, cond}
-use mathlib.Core.List.{List, [], _∷_, _++_, map}
-use lib.ListN.{length, drop}
-use lib.Dec.{eqb}
+use mathlib.Core.List.{List, [], _∷_, map}
+use lib.ListN.{length}
 use lib.IntN.{ℤ}
+use Rattle.lists.specs.Laid.{over, joinAll, ends, pairs, triples, numbers}
 use Rattle.numeric.specs.Threshold.{Term, Threshold, Job}
 use Rattle.state.specs.declared.State.{State}
 use Rattle.state.specs.Step.{stepNumber}
 use Rattle.state.specs.State.{limit, limited}
-use Rattle.thresholds.specs.Rows.{Row, Guard, Edge, rowsOf, rowNumber, edgesOf}
-use Rattle.prefixes.specs.Links.{Link, links, neighbours}
+use Rattle.thresholds.specs.Rows.{rowsOf}
+use Rattle.thresholds.specs.Laid.{conditions, weights, termLists, guardLists, guardBounds, guardNodes, thresholdOf, rowOfNode, edgeLists, edgeRow}
+use Rattle.prefixes.specs.Links.{neighbourLists}
 use Rattle.memory.specs.Buffers.{Raw, Built, Kept, Work, fits, cleared}
 use Rattle.planner.specs.File.{File, Answer, settled, sifted, Outcome, fileOf}
 
--- A list at the start of a buffer; behind it the buffer stays as it was.
-abbrev pub over : {X : Type 0} → List X → List X → List X
-over l b = l ++ drop (length l) b
-
--- Where parts of these lengths end, laid one behind the other.
-unfoldable pub ends : ℕ → List ℕ → List ℕ
-ends n [] = []
-ends n (k ∷ ks) = (n + k) ∷ ends (n + k) ks
-
-unfoldable pub joinAll : {X : Type 0} → List (List X) → List X
-joinAll [] = []
-joinAll (l ∷ ls) = l ++ joinAll ls
-
--- Two or three parallel lists, place by place.
-unfoldable pub pairs : List ℕ → List ℕ → List (List ℕ)
-pairs [] ys = []
-pairs (x ∷ xs) [] = []
-pairs (x ∷ xs) (y ∷ ys) = (x ∷ y ∷ []) ∷ pairs xs ys
-
-unfoldable pub triples : List ℕ → List ℕ → List ℕ → List (List ℕ)
-triples [] ys zs = []
-triples (x ∷ xs) [] zs = []
-triples (x ∷ xs) (y ∷ ys) [] = []
-triples (x ∷ xs) (y ∷ ys) (z ∷ zs) = (x ∷ y ∷ z ∷ []) ∷ triples xs ys zs
-
--- 0, 1 .. as many as the second argument says.
-unfoldable pub numbers : ℕ → ℕ → List ℕ
-numbers n zero = []
-numbers n (suc k) = n ∷ numbers (n + 1) k
-
-abbrev pub termLengths : List Threshold → List ℕ
-termLengths ts = map (λ (t : Threshold). length (t .terms)) ts
+abbrev pub rawLists : Job → List (List Term)
+rawLists j = map (λ (t : Threshold). t .terms) (j .thresholds)
 
 unfoldable pub rawOf : Job → Raw → Raw
-rawOf j w =
-    let ts = joinAll (map (λ (t : Threshold). t .terms) (j .thresholds)) in
-    record {
-      raw-conditions = over (map (λ (t : Term). t .condition) ts) (w .raw-conditions);
-      raw-weights = over (map (λ (t : Term). t .weight) ts) (w .raw-weights);
-      thresholds = over (pairs (map (λ (t : Threshold). t .node) (j .thresholds)) (ends 0 (termLengths (j .thresholds)))) (w .thresholds);
-      bounds = over (map (λ (t : Threshold). t .bound) (j .thresholds)) (w .bounds);
-    }
-
--- The threshold of a node, counted from 1, and that threshold's row.
-unfoldable pub thresholdOf : ℕ → List Threshold → ℕ → ℕ
-thresholdOf k [] n = 0
-thresholdOf k (t ∷ ts) n = elim (eqb (t .node) n) [ true ↦ k + 1 | false ↦ thresholdOf (k + 1) ts n ]
-
-unfoldable pub rowOfNode : List Row → List Threshold → ℕ → ℕ
-rowOfNode rs [] n = 0
-rowOfNode rs (t ∷ ts) n = elim (eqb (t .node) n) [ true ↦ rowNumber rs (t .terms) | false ↦ rowOfNode rs ts n ]
+rawOf j w = record {
+  raw-conditions = over (conditions (joinAll (rawLists j))) (w .raw-conditions);
+  raw-weights = over (weights (joinAll (rawLists j))) (w .raw-weights);
+  thresholds = over (pairs (map (λ (t : Threshold). t .node) (j .thresholds)) (ends 0 (rawLists j))) (w .thresholds);
+  bounds = over (map (λ (t : Threshold). t .bound) (j .thresholds)) (w .bounds);
+}
 
 unfoldable pub builtOf : Job → Built → Built
 builtOf j w =
     let rs = rowsOf j in
-    let every = numbers 0 (j .nodes) in
-    let ls = map (λ (r : ℕ). neighbours r (links rs)) (numbers 0 (length rs)) in
-    let es = map (λ (c : ℕ). edgesOf rs c) every in
-    let ts = joinAll (map (λ (r : Row). r .terms) rs) in
-    let gs = joinAll (map (λ (r : Row). r .guards) rs) in
     record {
-      row-conditions = over (map (λ (t : Term). t .condition) ts) (w .row-conditions);
-      row-weights = over (map (λ (t : Term). t .weight) ts) (w .row-weights);
-      rows = over (triples (ends 0 (map (λ (r : Row). length (r .terms)) rs)) (ends 0 (map (λ (r : Row). length (r .guards)) rs))
-          (ends 0 (map (λ (l : List ℕ). length l) ls))) (w .rows);
-      guard-bounds = over (map (λ (g : Guard). g .bound) gs) (w .guard-bounds);
-      guard-nodes = over (map (λ (g : Guard). g .node) gs) (w .guard-nodes);
-      nodes = over (triples (map (thresholdOf 0 (j .thresholds)) every) (map (rowOfNode rs (j .thresholds)) every)
-          (ends 0 (map (λ (l : List Edge). length l) es))) (w .nodes);
-      edges = over (map (λ (e : Edge). e .row ∷ e .weight ∷ []) (joinAll es)) (w .edges);
-      links = over (joinAll ls) (w .links);
+      row-conditions = over (conditions (joinAll (termLists rs))) (w .row-conditions);
+      row-weights = over (weights (joinAll (termLists rs))) (w .row-weights);
+      rows = over (triples (ends 0 (termLists rs)) (ends 0 (guardLists rs)) (ends 0 (neighbourLists rs))) (w .rows);
+      guard-bounds = over (guardBounds rs) (w .guard-bounds);
+      guard-nodes = over (guardNodes rs) (w .guard-nodes);
+      nodes = over (triples (map (thresholdOf 0 (j .thresholds)) (numbers 0 (j .nodes))) (map (rowOfNode rs (j .thresholds)) (numbers 0 (j .nodes)))
+          (ends 0 (edgeLists (j .nodes) rs))) (w .nodes);
+      edges = over (map edgeRow (joinAll (edgeLists (j .nodes) rs))) (w .edges);
+      links = over (joinAll (neighbourLists rs)) (w .links);
       scratch = w .scratch;
     }
 

@@ -1,2 +1,3 @@
 pub mod Terms
 pub mod Rows
+pub mod Laid
