@@ -1,3 +1,4 @@
 pub mod Mask
 pub mod MaskLaws
 pub mod Shift
+pub mod ShiftSteps
