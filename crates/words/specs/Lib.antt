@@ -1,4 +1,5 @@
 pub mod Mask
-pub mod MaskLaws
 pub mod Shift
+pub mod Digits
+pub mod MaskLaws
 pub mod ShiftSteps
