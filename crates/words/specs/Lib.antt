@@ -2,4 +2,5 @@ pub mod Mask
 pub mod Shift
 pub mod Digits
 pub mod MaskLaws
+pub mod CountLaws
 pub mod ShiftSteps

@@ -63,6 +63,16 @@ module _ (mask opposite : List ℕ) (n : ℕ) where
   pub length-learn : length (learn mask opposite n .mask) ≡ length mask
   length-learn = by-case (λ l. length l ≡ length mask) refl (length-set-bit mask n)
 
+-- After an answer other than a contradiction the mask has the node.
+pub learn-has : (mask opposite : List ℕ) (n : ℕ) → n / 64 < length mask → (learn mask opposite n .step ≡ Contradiction → ⊥)
+    → bit (learn mask opposite n .mask) n ≡ true
+learn-has mask opposite n h d = one (bit mask n) refl (bit opposite n) refl
+  where
+    one : (b : Bool) → bit mask n ≡ b → (c : Bool) → bit opposite n ≡ c → bit (learn mask opposite n .mask) n ≡ true
+    one true e c f = rw (learn-there mask opposite n e) e
+    one false e true f = absurd (d (ap (λ (x : Learned). x .step) (learn-opposite mask opposite n e f)))
+    one false e false f = rw (learn-new mask opposite n e f) (set-bit-same mask n h)
+
 -- One bit moved up inside a word, as the code makes it.
 pub one-shl : (k : ℕ) → k < 64 → (1 * 2 ^ k) % 18446744073709551616 ≡ 2 ^ k
 one-shl k h = ap (λ (x : ℕ). x % 18446744073709551616) (one-mul (2 ^ k)) ∙ mod-eq-of-lt (pow-lt {i = k} {j = 64} h)
