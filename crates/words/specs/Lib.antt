@@ -4,3 +4,4 @@ pub mod Digits
 pub mod MaskLaws
 pub mod CountLaws
 pub mod ShiftSteps
+pub mod ShiftPlaces
