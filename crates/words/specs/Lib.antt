@@ -5,3 +5,4 @@ pub mod MaskLaws
 pub mod CountLaws
 pub mod ShiftSteps
 pub mod ShiftPlaces
+pub mod ShiftWindow

@@ -38,7 +38,7 @@ high-none w o k h g =
     high-at w o k ∙ digit-high w (64 - o + k) (lt-of-lt-of-le h (pow-mono {i = 64} {j = 64 - o + k} (omega arith)))
 
 -- A place of a source word, by the word's number.
-source-digit : (l : List ℕ) (s q k : ℕ) → q / 64 ≡ s → q % 64 ≡ k → digit (getD l s 0) k ≡ digitAt l q
+pub source-digit : (l : List ℕ) (s q k : ℕ) → q / 64 ≡ s → q % 64 ≡ k → digit (getD l s 0) k ≡ digitAt l q
 source-digit l s q k e f = ap₂ (λ (i : ℕ) (j : ℕ). digit (getD l i 0) j) (sym e) (sym f)
 
 module _ (l : List ℕ) (s d : ℕ) where
