@@ -3,25 +3,25 @@ use mathlib.Core.Path.{_≡_, refl, sym, ap, _∙_, subst}
 use mathlib.Core.Bool.{Bool, true, false, not, _&&_, _||_, or-false}
 use mathlib.Core.List.{List}
 use Prim.Native.Nat.{ℕ, zero, suc, _+_, _-_, _*_, _/_, _%_, _^_, _<_, _≤_, min}
-use native.Mathlib.Nat.{div-eq-of-lt, zero-div, not-suc-le-zero, mod-le}
+use native.Mathlib.Nat.{div-eq-of-lt, zero-div, not-suc-le-zero, mod-le, lt-of-le-of-lt}
 use native.Mathlib.Omega.{arith}
 use lib.Dec.{eqb, ltb}
 use lib.ListN.{length, getD, set, length-set}
 use lib.Pow.{field, shl-shr, pow-pos}
 use borrow.Author.Tests.{eq-eqb, ne-eqb, lt-ltb, le-ltb}
-use Rattle.words.specs.Shift.{Shifted, shifted, meets, lowPart, highPart, orInto, spills, shiftWord, wordHits, shiftFrom, unionShifted}
+use Rattle.words.specs.Shift.{Shifted, shifted, before, upTo, meets, lowPart, highPart, orInto, spills, shiftWord, wordHits, shiftFrom, unionShifted}
 use Rattle.words.specs.declared.Ended.the-variants.{Hit, Complete, Stopped}
 
 -- A window that lies behind the word, before it, or over some of it.
 pub meets-behind : (position bits start end : ℕ) → bits < 2 ^ 64 → position < start / 64 → false ≡ meets position bits start end
 meets-behind position bits start end h g =
-    let f : min (start - 64 * position) 64 ≡ 64 = omega arith in
-    let m : bits % 2 ^ min (end + 1 - 64 * position) 64 < 2 ^ 64 = omega (arith, mod-le bits (2 ^ min (end + 1 - 64 * position) 64)) in
+    let f : before position start ≡ 64 = omega arith in
+    let m : bits % 2 ^ upTo position end < 2 ^ 64 = lt-of-le-of-lt (mod-le bits (2 ^ upTo position end)) h in
     rw (f, div-eq-of-lt m)
 
 pub meets-before : (position bits start end : ℕ) → end / 64 < position → false ≡ meets position bits start end
 meets-before position bits start end g =
-    let f : min (end + 1 - 64 * position) 64 ≡ 0 = omega arith in
+    let f : upTo position end ≡ 0 = omega arith in
     let m : bits % 1 ≡ 0 = omega arith in
     rw (f, m, zero-div)
 
@@ -32,10 +32,10 @@ top-lost bits above h =
     subst (λ (n : ℕ). (bits * 2 ^ above) % 2 ^ n / 2 ^ above ≡ bits % 2 ^ (64 - above)) (sym e)
     (field (bits * 2 ^ above) (64 - above) above ∙ ap (λ (x : ℕ). x % 2 ^ (64 - above)) (shl-shr bits above))
 
-places-up : (position end above : ℕ) → position ≤ end / 64 → above ≡ 63 - (end - position * 64) → min (end + 1 - 64 * position) 64 ≡ 64 - above
+places-up : (position end above : ℕ) → position ≤ end / 64 → above ≡ 63 - (end - position * 64) → upTo position end ≡ 64 - above
 places-up position end above g a = omega arith
 
-places-from : (position start below : ℕ) → start / 64 ≤ position → below ≡ start - position * 64 → min (start - 64 * position) 64 ≡ below
+places-from : (position start below : ℕ) → start / 64 ≤ position → below ≡ start - position * 64 → before position start ≡ below
 places-from position start below h b = omega arith
 
 pub meets-over : (position bits start end above below : ℕ) → start / 64 ≤ position → position ≤ end / 64
