@@ -6,7 +6,7 @@ use Prim.Native.Nat.{ℕ, zero, suc, _+_, _*_, _-_, _/_, _%_, _^_, _<_, _≤_, m
 use native.Mathlib.Nat.{not-suc-le-zero}
 use native.Mathlib.Omega.{arith}
 use native.Nat.{ℕᴺ-discrete as decEq}
-use lib.ListN.{length, getD}
+use lib.ListN.{length, getD, List·getD-eq-default}
 use Rattle.words.specs.Mask.{digit, digitAt}
 use Rattle.words.specs.Digits.{Words}
 use Rattle.words.specs.Shift.{Shifted, shifted, shiftWord, wordHits, shiftFrom, unionShifted}
@@ -167,6 +167,13 @@ module _ (l : List ℕ) (sources d a b allowance : ℕ) where
 
   pub union-64 : Words l → Words (unionShifted l sources d a b allowance .words)
   union-64 w = subst Words (sym union-words) (moves-words d (visits allowance (unionShifted l sources d a b allowance .ended)) (readable l sources d) l w)
+
+  -- There is no place outside the slice, before or after.
+  pub union-outside : (p : ℕ) → length l ≤ p / 64 → digitAt (unionShifted l sources d a b allowance .words) p ≡ digitAt l p
+  union-outside p h =
+      ap (λ (x : ℕ). digit x (p % 64))
+      (List·getD-eq-default (unionShifted l sources d a b allowance .words) 0 {n = p / 64} (rw union-length h)
+      ∙ sym (List·getD-eq-default l 0 {n = p / 64} h))
 
   -- VISITS: a complete shift reads every readable word, a shift is stopped only if it may not read them all.
   pub complete-visits : (k : ℕ) → unionShifted l sources d a b allowance .ended ≡ Complete k → k + readable l sources d ≡ allowance
