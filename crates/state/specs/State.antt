@@ -3,18 +3,10 @@ use Prim.Native.Nat.{ℕ}
 use mathlib.Core.Bool.{Bool, true, false, cond, _&&_, _||_}
 use lib.IntN.{ℤ, pos, negsuc, _+ℤ_, _-ℤ_}
 use lib.Signed.{leZ, ltZ}
+pub use Rattle.number.specs.Signed.{maxZ, natural}
 use Rattle.state.specs.declared.Upper.{Upper}
 use Rattle.state.specs.declared.Upper.the-variants.{Open, Under}
 use Rattle.state.specs.declared.State.{State}
-
--- The larger of two.
-abbrev pub maxZ : ℤ → ℤ → ℤ
-maxZ a b = cond (ltZ a b) b a
-
--- A figure that is never negative, as a natural number.
-abbrev pub natural : ℤ → ℕ
-natural (pos n) = n
-natural (negsuc n) = 0
 
 -- There is an upper limit, and it is at most z.
 abbrev pub upperAtMost : Upper → ℤ → Bool
