@@ -1,2 +1,4 @@
 pub mod Mask
+pub mod MaskLaws
 pub mod Shift
+pub mod ShiftSteps
