@@ -1,2 +1,4 @@
 pub mod Queue
+pub mod QueueLaws
+pub mod RowsLaws
 pub mod Marks
