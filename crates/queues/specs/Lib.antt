@@ -2,3 +2,4 @@ pub mod Queue
 pub mod QueueLaws
 pub mod RowsLaws
 pub mod Marks
+pub mod MarksLaws

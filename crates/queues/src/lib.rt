@@ -1,13 +1,21 @@
 // Nodes and rows that wait their turn: `sure`, `never`, `queue_row` and `next_row` of regions.rs.
 ghost use mathlib.Core.Path.{_≡_};
-ghost use Prim.Native.Nat.{_+_, _<_, _%_};
+ghost use Prim.Native.Nat.{_+_, _<_, _≤_, _%_};
 ghost use lib.ListN.{length, getD};
 ghost use Rattle.queues.specs.Queue.{queue, Held, push as pushed, poppedRing, rows, queueRow, nextRow};
+ghost use Rattle.queues.specs.Marks.{marks, decided, waiting, decide as decides};
+use state::Step;
 
 // A queue in a lent slice: the entries that wait begin at `head` and wrap at the slice's end.
 pub struct Ring {
     pub head: usize,
     pub count: usize,
+}
+
+// What deciding a node did, and the queue of nodes after it.
+pub struct Decision {
+    pub step: Step,
+    pub ring: Ring,
 }
 
 // A place behind the last is that much behind the first.
@@ -71,4 +79,44 @@ pub fn next_row(pending: &mut [u8], items: &[u16], ring: Ring) -> Ring
     let row = items[head] as usize;
     pending[row] = 0;
     popped(ring, 1024)
+}
+
+// Only a node that is new waits.
+fn wait(nodes: &mut [u16], ring: Ring, step: Step, n: usize) -> Ring
+    requires { ⌜ Held 4096 (queue (now nodes) ring) × (n < 4096) ⌝ }
+    ensures { λ r. ⌜ queue (now (nodes .exit)) r ≡ waiting step (queue (now (nodes .entry)) ring) n ⌝ }
+{
+    match step {
+        Step::Unchanged => ring,
+        Step::Changed => push(nodes, ring, 4096, n as u16),
+        Step::Contradiction => ring,
+    }
+}
+
+// `sure` of the Rust for true, `never` for false: the node goes into its mask, and waits if that is new.
+pub fn decide(
+    value: bool,
+    sure: &mut [u64],
+    never: &mut [u64],
+    nodes: &mut [u16],
+    ring: Ring,
+    n: usize,
+) -> Decision
+    requires { ⌜ Held 4096 (queue (now nodes) ring) × (n < 4096) × (64 ≤ length (now sure)) × (64 ≤ length (now never)) ⌝ }
+    ensures { λ r. ⌜ decided (marks (now (sure .exit)) (now (never .exit)) (queue (now (nodes .exit)) (r .ring))) (r .step) ≡ decides value (marks (now (sure .entry)) (now (never .entry)) (queue (now (nodes .entry)) ring)) n ⌝ }
+{
+    if value {
+        let step = words::learn(sure, never, n);
+        let next = wait(nodes, ring, step, n);
+        return Decision {
+            step: step,
+            ring: next,
+        };
+    }
+    let step = words::learn(never, sure, n);
+    let next = wait(nodes, ring, step, n);
+    Decision {
+        step: step,
+        ring: next,
+    }
 }
