@@ -1,8 +1,8 @@
 // Bits of 64-bit words: words.rs, region.rs, and `bit` and `learn` of regions.rs.
 ghost use mathlib.Core.Path.{_≡_};
-ghost use Prim.Native.Nat.{_+_, _-_, _/_, _<_, min};
+ghost use Prim.Native.Nat.{_+_, _-_, _*_, _/_, _^_, _<_, min};
 ghost use lib.ListN.{length};
-ghost use Rattle.words.specs.Mask.{bit as isSet, learn as learnt};
+ghost use Rattle.words.specs.Mask.{bit as isSet, count as nodes, learn as learnt};
 ghost use Rattle.words.specs.Shift.{meets as inside, shiftWord, wordHits, unionShifted};
 use state::Step;
 
@@ -48,6 +48,20 @@ pub fn learn(mask: &mut [u64], opposite: &[u64], n: usize) -> Step
     }
     mask[n / 64] |= 1 << (n % 64);
     Step::Changed
+}
+
+// How many nodes the mask has.
+pub fn count(mask: &[u64]) -> usize
+    requires { ⌜ length (now mask) < 2 ^ 58 ⌝ }
+    ensures { λ r. ⌜ r ≡ nodes (now (mask .entry)) (64 * length (now (mask .entry))) ⌝ }
+{
+    let mut sum: usize = 0;
+    let mut i = 0;
+    while i < mask.len() {
+        sum += u64::count_ones(mask[i]) as usize;
+        i += 1;
+    }
+    sum
 }
 
 // The difference, or 0 where there is none.
