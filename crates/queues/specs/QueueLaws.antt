@@ -111,6 +111,20 @@ module _ (places : ℕ) (q : Queue) (held : Held places q) where
           ∙ ap (λ (t : List ℕ). oldest q ∷ t)
           (entries-same places l (h + 1) ((h + 1) % places) n (sym (mod-mod (h + 1) places)) ∙ ap (entries places l ((h + 1) % places)) less)
 
+  -- Both stay within the slice.
+  pub held-push : (x : ℕ) → q .ring .count < places → Held places (push places q x)
+  unfolding push
+  held-push x room =
+      record { head = held .head; count = omega arith; long = rw length-set (held .long) }
+
+  pub held-popped : Held places (popped places q)
+  unfolding popped
+  held-popped = record {
+    head = mod-lt (q .ring .head + 1) {m = places} (omega (arith, held .head));
+    count = omega (arith, held .count);
+    long = held .long;
+  }
+
   pub empty-none : isEmpty q ≡ true → waitingList places q ≡ []
   unfolding entries
   empty-none e = ap (entries places (q .items) (q .ring .head)) (eqb-true (q .ring .count) 0 e)
