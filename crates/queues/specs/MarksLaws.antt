@@ -15,8 +15,8 @@ use Rattle.words.specs.Mask.{bit, digit, setBit, learn, Learned}
 use Rattle.words.specs.MaskLaws.{learn-there, learn-opposite, learn-new, learn-has, learn-other, length-learn, set-bit-same, set-bit-other, length-set-bit}
 use Rattle.words.specs.Digits.{digit-high}
 use Rattle.queues.specs.Queue.{Queue, queue, ring, Held, oldest, push, popped}
-use Rattle.queues.specs.QueueLaws.{entries, waitingList, entries-length, push-appends, popped-drops, held-push, held-popped}
-use Rattle.queues.specs.Once.{times, times-same, times-other, times-last, times-behind, room}
+use Rattle.queues.specs.QueueLaws.{entries, waitingList, push-times, popped-times, room-left, held-push, held-popped}
+use Rattle.queues.specs.Once.{times, times-same, times-other, times-behind}
 use Rattle.queues.specs.Marks.{Marks, marks, isDecided, Decided, decided, waiting, decide}
 
 -- A mask that learnt, and what waits after its answer, make up a decision.
@@ -153,8 +153,7 @@ module _ (m : Marks) (w : Waits m) where
   -- So there is room for each node that is not decided yet.
   pub waits-room : (n : ℕ) → n < 4096 → isDecided m n ≡ false → m .nodes .ring .count < 4096
   waits-room n h d =
-      rw entries-length at
-      (room 4096 (waitingList 4096 (m .nodes)) (w .once) (λ i k. w .idle i (none i k)) n h (w .idle n d))
+      room-left 4096 (m .nodes) (w .held) (w .once) (λ i k. w .idle i (none i k)) n h (w .idle n d)
 
   new : (value : Bool) (n : ℕ) → n < 4096 → isDecided m n ≡ false → Waits (put value m (setBit (mask value m) n) (push 4096 (m .nodes) n))
   new value n h d = record {
@@ -184,7 +183,7 @@ module _ (m : Marks) (w : Waits m) where
       long false = w .nevers
 
       more : (k : ℕ) → times k (waitingList 4096 (push 4096 (m .nodes) n)) ≡ times k (n ∷ waitingList 4096 (m .nodes))
-      more k = ap (times k) (push-appends 4096 (m .nodes) (w .held) n (waits-room n h d)) ∙ times-last k (waitingList 4096 (m .nodes)) n
+      more = push-times 4096 (m .nodes) (w .held) n (waits-room n h d)
 
       one : (k : ℕ) → Dec (k ≡ n) → times k (n ∷ waitingList 4096 (m .nodes)) ≤ 1
       one k (yes e) = rw e (omega (arith, times-same n (waitingList 4096 (m .nodes)), w .idle n d))
@@ -218,7 +217,7 @@ module _ (m : Marks) (w : Waits m) where
   }
     where
       less : (n : ℕ) → times n (waitingList 4096 (popped 4096 (m .nodes))) ≤ times n (waitingList 4096 (m .nodes))
-      less n = rw (popped-drops 4096 (m .nodes) (w .held) h) (times-behind n (oldest (m .nodes)) (waitingList 4096 (popped 4096 (m .nodes))))
+      less n = rw (popped-times 4096 (m .nodes) (w .held) h n) (times-behind n (oldest (m .nodes)) (waitingList 4096 (popped 4096 (m .nodes))))
 
 -- Nothing is decided in cleared masks, and nothing waits.
 pub waits-none : (l : List ℕ) → 4096 ≤ length l → Waits (marks (replicate 64 0) (replicate 64 0) (queue l (ring 0 0)))
