@@ -3,8 +3,6 @@
 use Prim.Native.Nat.{ℕ, zero, suc, _+_, _*_, _%_, _<_, _≤_, _∣_}
 use native.Mathlib.Nat.{
   mod-lt,
-  mod-eq-of-lt,
-  mod-self,
   zero-lt-suc,
   not-suc-le-zero,
   le-refl,

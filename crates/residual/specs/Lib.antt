@@ -1,3 +1,4 @@
 pub mod Gcd
 pub mod GcdLaws
+pub mod MissesLaws
 pub mod Residual

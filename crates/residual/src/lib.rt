@@ -1,6 +1,6 @@
 // Residual divisibility of a drained row: residual.rs.
 ghost use mathlib.Core.Path.{_≡_};
-ghost use Prim.Native.Nat.{_≤_};
+ghost use Prim.Native.Nat.{_≤_, min, max};
 ghost use Rattle.residual.specs.Gcd.{gcd, misses, branchMisses};
 
 // The greatest common divisor, 0 standing for no number. The right number falls at each turn.
@@ -21,4 +21,53 @@ pub fn gcd(left: u64, right: u64) -> u64
         b = remainder;
     }
     a
+}
+
+// No sum base, base + divisor, base + 2 divisor .. lies from lower to upper. The distance to the next one is held against
+// the width, so that nothing is added to an extreme bound.
+pub fn misses(base: u64, lower: u64, upper: u64, divisor: u64) -> bool
+    requires { ⌜ (base ≤ lower) × (lower ≤ upper) ⌝ }
+    ensures { λ r. ⌜ r ≡ misses base lower upper divisor ⌝ }
+{
+    if divisor == 0 {
+        return base < lower || base > upper;
+    }
+    let offset = lower - base;
+    let remainder = offset % divisor;
+    if remainder == 0 {
+        return false;
+    }
+    let distance = divisor - remainder;
+    let width = upper - lower;
+    distance > width
+}
+
+// The same of the sums from base to maximum alone; where none of these is from lower to upper there is nothing to divide.
+pub fn branch_misses(base: u64, maximum: u64, lower: u64, upper: u64, divisor: u64) -> bool
+    ensures { λ r. ⌜ r ≡ branchMisses base maximum lower upper divisor ⌝ }
+{
+    let from = larger(base, lower);
+    let to = smaller(maximum, upper);
+    if from > to {
+        return true;
+    }
+    misses(base, from, to, divisor)
+}
+
+fn larger(a: u64, b: u64) -> u64
+    ensures { λ r. ⌜ r ≡ max a b ⌝ }
+{
+    if a < b {
+        return b;
+    }
+    a
+}
+
+fn smaller(a: u64, b: u64) -> u64
+    ensures { λ r. ⌜ r ≡ min a b ⌝ }
+{
+    if a < b {
+        return a;
+    }
+    b
 }
