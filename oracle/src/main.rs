@@ -4,16 +4,18 @@
 use std::io::{Read, Write};
 use std::process::ExitCode;
 
-use threshold_oracle::{job, listing};
+use threshold_oracle::{cover::Cover, job, listing};
 
 const HELP: &str = "\
-usage: oracle [--many] [--trace | --rows] < FILE
+usage: oracle [--many] [--trace | --rows] [--cover] < FILE
 Reads one job file and prints its listing.
   --many   many files, each behind its length (u32, little-endian);
            after each listing a line `--`
   --rows   print first the rows, guards, links and conditions' rows
   --trace  print first every record with its answer and steps, the rows,
            cursors, masks, queues and gcds
+  --cover  print behind all files what they have reached; status 1 if a
+           counter is 0 that can be met
   --help   this text
 ";
 
@@ -29,8 +31,12 @@ fn main() -> ExitCode {
     std::io::stdin().read_to_end(&mut input).expect("standard input can be read");
     let files = if has("--many") { frames(&input) } else { vec![&input[..]] };
     let mut out = std::io::BufWriter::new(std::io::stdout().lock());
+    let mut cover = Cover::default();
     for file in files {
         let run = job::run(file);
+        if has("--cover") {
+            cover.file(file, &run);
+        }
         if has("--trace") {
             out.write_all(listing::trace(&run).as_bytes()).expect("output");
         } else if has("--rows") {
@@ -40,6 +46,11 @@ fn main() -> ExitCode {
         if has("--many") {
             out.write_all(b"--\n").expect("output");
         }
+    }
+    if has("--cover") {
+        let (table, wrong) = cover.table();
+        out.write_all(table.as_bytes()).expect("output");
+        return if wrong == 0 { 0.into() } else { 1.into() };
     }
     ExitCode::SUCCESS
 }

@@ -68,6 +68,9 @@ pub enum Event {
         visits: u64,
         cut_short: bool,
         interval: bool,
+        /// Whether the row has decided terms, and terms above the window.
+        decided: bool,
+        heavy: bool,
     },
 }
 
@@ -336,10 +339,11 @@ impl Session {
     /// Each search starts with fresh words. It began exactly if it took a visit.
     fn search(&mut self, row: usize, last: &mut u64) -> Step {
         self.lists.possible_sums = Words::default();
-        let interval = {
-            let (known, possible, lower, upper) = self.states[row].figures();
-            lower > known && upper.is_some_and(|upper| upper <= possible)
-        };
+        let (known, possible, lower, upper) = self.states[row].figures();
+        let interval = lower > known && upper.is_some_and(|upper| upper <= possible);
+        let terms = self.index.thresholds.rows[row].terms.iter();
+        let decided = terms.clone().any(|term| self.decided(term.0).is_some());
+        let heavy = upper.is_some_and(|top| terms.clone().any(|term| term.1 >= top - known));
         let mut meter = Meter::new();
         let step = self.call(&mut meter, |closure, index, _, work| {
             closure.threshold_possible_sums(index, row, work)
@@ -354,6 +358,8 @@ impl Session {
             visits: meter.visits,
             cut_short: meter.cut_short,
             interval,
+            decided,
+            heavy,
         });
         step
     }
