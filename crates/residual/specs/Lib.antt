@@ -2,3 +2,5 @@ pub mod Gcd
 pub mod GcdLaws
 pub mod MissesLaws
 pub mod Residual
+pub mod Shape
+pub mod SuffixLaws

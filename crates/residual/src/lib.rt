@@ -1,7 +1,13 @@
 // Residual divisibility of a drained row: residual.rs.
 ghost use mathlib.Core.Path.{_≡_};
-ghost use Prim.Native.Nat.{_≤_, min, max};
+ghost use Prim.Native.Nat.{_<_, _≤_, min, max};
+ghost use mathlib.Core.Bool.{cond};
+ghost use lib.ListN.{length};
+ghost use Rattle.numeric.specs.Threshold.{terms};
+ghost use Rattle.words.specs.Mask.{inEither};
 ghost use Rattle.residual.specs.Gcd.{gcd, misses, branchMisses};
+ghost use Rattle.residual.specs.Shape.{Shape};
+ghost use Rattle.residual.specs.Residual.{suffixes, over};
 
 // The greatest common divisor, 0 standing for no number. The right number falls at each turn.
 pub fn gcd(left: u64, right: u64) -> u64
@@ -70,4 +76,51 @@ fn smaller(a: u64, b: u64) -> u64
         return a;
     }
     b
+}
+
+// Whether a node is in one of the masks.
+fn decided(sure: &[u64], never: &[u64], node: u16) -> bool
+    requires { ⌜ (node < 4096) × (64 ≤ length (now sure)) × (64 ≤ length (now never)) ⌝ }
+    ensures { λ r. ⌜ r ≡ inEither (now (sure .entry)) (now (never .entry)) node ⌝ }
+{
+    let n = node as usize;
+    if words::bit(sure, n) {
+        return true;
+    }
+    words::bit(never, n)
+}
+
+// The gcd with one weight more, which a decided term leaves out.
+fn reduce(skip: bool, divisor: u64, weight: u64) -> u64
+    ensures { λ r. ⌜ r ≡ cond skip divisor (gcd divisor weight) ⌝ }
+{
+    if skip {
+        return divisor;
+    }
+    gcd(divisor, weight)
+}
+
+// The gcd of the undecided weights among the last 0, 1, 2 .. terms, from the start of the buffer on.
+pub fn prepare_suffix(
+    conditions: &[u16],
+    weights: &[u64],
+    sure: &[u64],
+    never: &[u64],
+    gcds: &mut [u64],
+)
+    requires { ⌜ Shape (now conditions) (now weights) (now sure) (now never) ⌝ }
+    requires { ⌜ length (now weights) < length (now gcds) ⌝ }
+    ensures { λ r. ⌜ now (gcds .exit)
+        ≡ over (suffixes (inEither (now (sure .entry)) (now (never .entry))) (terms (now (conditions .entry)) (now (weights .entry)))) (now (gcds .entry)) ⌝ }
+{
+    let count = weights.len();
+    let mut left = count;
+    let mut suffix: u64 = 0;
+    while left > 0 {
+        gcds[count - left] = suffix;
+        left -= 1;
+        let skip = decided(sure, never, conditions[left]);
+        suffix = reduce(skip, suffix, weights[left]);
+    }
+    gcds[count] = suffix;
 }
