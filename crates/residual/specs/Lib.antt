@@ -4,3 +4,4 @@ pub mod MissesLaws
 pub mod Residual
 pub mod Shape
 pub mod SuffixLaws
+pub mod IntervalLaws

@@ -14,16 +14,10 @@ use Rattle.state.specs.State.{natural, limit, reached, upperAtMost, hasResidual
 use Rattle.words.specs.Mask.{bit}
 use Rattle.queues.specs.Marks.{Marks, isDecided, Decided, decided, decide}
 use Rattle.thresholds.specs.Rows.{hasNonunit}
+use Rattle.residual.specs.declared.Interval.{Interval}
 use Rattle.residual.specs.Gcd.{gcd, misses, branchMisses}
 
 -- The figures of a row with a residual interval; none of them is negative. `upper` is the last sum allowed.
-pub record Interval : Type 0 where
-  pub known : ℕ
-  pub possible : ℕ
-  pub lower : ℕ
-  pub upper : ℕ
-  pub width : ℕ
-
 abbrev pub interval : State → Interval
 interval s = record {
   known = natural (s .known);
@@ -32,6 +26,12 @@ interval s = record {
   upper = natural (limit (s .upper)) - 1;
   width = natural (limit (s .upper)) - natural (s .lower);
 }
+
+-- The undecided weights up to here do not all miss: one fits the interval, their gcd is 1, or a new gcd hits.
+abbrev pub stopsAt : Interval → ℕ → ℕ → ℕ → Bool
+stopsAt i divisor weight next =
+    (eqb divisor 0 && leb weight (i .width)) || eqb next 1
+    || (not (eqb next divisor) && not (misses (i .known) (i .lower) (min (i .possible) (i .upper)) next))
 
 -- `d` tells which nodes are decided. Terms from the light end: does the lattice of all undecided weights miss the interval?
 unfoldable pub checkFrom : Interval → (ℕ → Bool) → List Term → ℕ → Step
@@ -42,9 +42,7 @@ checkFrom i d (t ∷ ts) divisor =
       | true ↦ checkFrom i d ts divisor
       | false ↦
           let next = gcd divisor (t .weight) in
-          elim ((eqb divisor 0 && leb (t .weight) (i .width)) || eqb next 1
-          || (not (eqb next divisor) && not (misses (i .known) (i .lower) (min (i .possible) (i .upper)) next)))
-          [ true ↦ Unchanged | false ↦ checkFrom i d ts next ]
+          elim (stopsAt i divisor (t .weight) next) [ true ↦ Unchanged | false ↦ checkFrom i d ts next ]
     ]
 
 -- `threshold_residual_check`

@@ -1,13 +1,28 @@
 // Residual divisibility of a drained row: residual.rs.
 ghost use mathlib.Core.Path.{_≡_};
-ghost use Prim.Native.Nat.{_<_, _≤_, min, max};
+ghost use Prim.Native.Nat.{_-_, _<_, _≤_, min, max};
 ghost use mathlib.Core.Bool.{cond};
 ghost use lib.ListN.{length};
 ghost use Rattle.numeric.specs.Threshold.{terms};
+ghost use Rattle.number.specs.Signed.{natural as naturalOf};
+ghost use Rattle.state.specs.State.{limit};
 ghost use Rattle.words.specs.Mask.{inEither};
 ghost use Rattle.residual.specs.Gcd.{gcd, misses, branchMisses};
 ghost use Rattle.residual.specs.Shape.{Shape};
-ghost use Rattle.residual.specs.Residual.{suffixes, over};
+ghost use Rattle.residual.specs.Residual.{interval, stopsAt, checkFrom, residualCheck, suffixes, over};
+use state::State;
+use state::Step;
+use state::Upper;
+
+// The figures of a row with a residual interval, none of them negative. `upper` is the last sum allowed, `width` the number
+// of sums allowed.
+pub struct Interval {
+    pub known: u64,
+    pub possible: u64,
+    pub lower: u64,
+    pub upper: u64,
+    pub width: u64,
+}
 
 // The greatest common divisor, 0 standing for no number. The right number falls at each turn.
 pub fn gcd(left: u64, right: u64) -> u64
@@ -123,4 +138,49 @@ pub fn prepare_suffix(
         suffix = reduce(skip, suffix, weights[left]);
     }
     gcds[count] = suffix;
+}
+
+// A figure that is not negative as it is, any other as 0.
+fn natural(figure: i64) -> u64
+    ensures { λ r. ⌜ r ≡ naturalOf figure ⌝ }
+{
+    if figure < 0 {
+        return 0;
+    }
+    figure as u64
+}
+
+// A difference, 0 where it would be negative.
+fn minus(a: u64, b: u64) -> u64
+    ensures { λ r. ⌜ r ≡ a - b ⌝ }
+{
+    if a < b {
+        return 0;
+    }
+    a - b
+}
+
+fn limit_of(upper: Upper) -> u64
+    ensures { λ r. ⌜ r ≡ naturalOf (limit upper) ⌝ }
+{
+    match upper {
+        Upper::Open => 0,
+        Upper::Under(bound) => natural(bound),
+    }
+}
+
+// The interval of a state's figures.
+pub fn interval_of(state: State) -> Interval
+    ensures { λ r. ⌜ r ≡ interval state ⌝ }
+{
+    let upper = state.upper;
+    let limit = limit_of(upper);
+    let lower = natural(state.lower);
+    Interval {
+        known: natural(state.known),
+        possible: natural(state.possible),
+        lower: lower,
+        upper: minus(limit, 1),
+        width: minus(limit, lower),
+    }
 }
