@@ -5,3 +5,4 @@ pub mod Residual
 pub mod Shape
 pub mod SuffixLaws
 pub mod IntervalLaws
+pub mod CheckLaws

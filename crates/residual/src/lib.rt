@@ -1,14 +1,17 @@
 // Residual divisibility of a drained row: residual.rs.
 ghost use mathlib.Core.Path.{_≡_};
 ghost use Prim.Native.Nat.{_-_, _<_, _≤_, min, max};
-ghost use mathlib.Core.Bool.{cond};
+ghost use mathlib.Core.Bool.{cond, _&&_};
+ghost use mathlib.Core.List.{reverse};
 ghost use lib.ListN.{length};
+ghost use lib.Dec.{eqb, leb};
 ghost use Rattle.numeric.specs.Threshold.{terms};
 ghost use Rattle.number.specs.Signed.{natural as naturalOf};
 ghost use Rattle.state.specs.State.{limit};
 ghost use Rattle.words.specs.Mask.{inEither};
+ghost use Rattle.thresholds.specs.Rows.{hasNonunit};
 ghost use Rattle.residual.specs.Gcd.{gcd, misses, branchMisses};
-ghost use Rattle.residual.specs.Shape.{Shape};
+ghost use Rattle.residual.specs.Shape.{Shape, Window};
 ghost use Rattle.residual.specs.Residual.{interval, stopsAt, checkFrom, residualCheck, suffixes, over};
 use state::State;
 use state::Step;
@@ -183,4 +186,106 @@ pub fn interval_of(state: State) -> Interval
         upper: minus(limit, 1),
         width: minus(limit, lower),
     }
+}
+
+// Some weight is above 1; the first is the heaviest.
+fn has_nonunit(conditions: &[u16], weights: &[u64]) -> bool
+    requires { ⌜ length (now conditions) ≡ length (now weights) ⌝ }
+    ensures { λ r. ⌜ r ≡ hasNonunit (terms (now (conditions .entry)) (now (weights .entry))) ⌝ }
+{
+    if weights.len() == 0 {
+        return false;
+    }
+    weights[0] > 1
+}
+
+// The first undecided weight is no wider than the interval: then some multiple of any of its divisors lies there.
+fn first_fits(i: Interval, divisor: u64, weight: u64) -> bool
+    ensures { λ r. ⌜ r ≡ (eqb divisor 0 && leb weight (i .width)) ⌝ }
+{
+    if divisor != 0 {
+        return false;
+    }
+    let width = i.width;
+    weight <= width
+}
+
+// With this weight a sum is allowed for sure, whatever the weights above it.
+fn stops(i: Interval, divisor: u64, weight: u64, next: u64) -> bool
+    requires { ⌜ Window i ⌝ }
+    ensures { λ r. ⌜ r ≡ stopsAt i divisor weight next ⌝ }
+{
+    if first_fits(i, divisor, weight) {
+        return true;
+    }
+    if next == 1 {
+        return true;
+    }
+    if next == divisor {
+        return false;
+    }
+    let upper = smaller(i.possible, i.upper);
+    !misses(i.known, i.lower, upper, next)
+}
+
+// Terms from the light end: does the lattice of all undecided weights miss the interval? A gcd that allows a sum ends the
+// scan, since every later gcd divides it and allows that sum too.
+fn check_from(conditions: &[u16], weights: &[u64], i: Interval, sure: &[u64], never: &[u64]) -> Step
+    requires { ⌜ Shape (now conditions) (now weights) (now sure) (now never) ⌝ }
+    requires { ⌜ Window i ⌝ }
+    ensures { λ r. ⌜ r
+        ≡ checkFrom i (inEither (now (sure .entry)) (now (never .entry))) (reverse (terms (now (conditions .entry)) (now (weights .entry)))) 0 ⌝ }
+{
+    let mut left = weights.len();
+    let mut divisor: u64 = 0;
+    while left > 0 {
+        left -= 1;
+        if decided(sure, never, conditions[left]) {
+            continue;
+        }
+        let weight = weights[left];
+        let next = gcd(divisor, weight);
+        if stops(i, divisor, weight, next) {
+            return Step::Unchanged;
+        }
+        divisor = next;
+    }
+    // A divisor was tested when it last changed.
+    if divisor != 0 {
+        return Step::Contradiction;
+    }
+    let upper = smaller(i.possible, i.upper);
+    if misses(i.known, i.lower, upper, 0) {
+        return Step::Contradiction;
+    }
+    Step::Unchanged
+}
+
+// What divisibility shows of the whole row: that no sum is allowed, or nothing.
+pub fn threshold_residual_check(
+    conditions: &[u16],
+    weights: &[u64],
+    state: State,
+    sure: &[u64],
+    never: &[u64],
+) -> Step
+    requires { ⌜ Shape (now conditions) (now weights) (now sure) (now never) ⌝ }
+    ensures { λ r. ⌜ r
+        ≡ residualCheck (terms (now (conditions .entry)) (now (weights .entry))) state (inEither (now (sure .entry)) (now (never .entry))) ⌝ }
+{
+    if !has_nonunit(conditions, weights) {
+        return Step::Unchanged;
+    }
+    if !state.has_residual_interval() {
+        return Step::Unchanged;
+    }
+    let reached = state.reached();
+    if state.upper_at_most(reached) {
+        return Step::Contradiction;
+    }
+    let possible = state.possible;
+    if possible < reached {
+        return Step::Contradiction;
+    }
+    check_from(conditions, weights, interval_of(state), sure, never)
 }
