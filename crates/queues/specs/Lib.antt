@@ -1,2 +1,5 @@
 pub mod Queue
+pub mod QueueLaws
+pub mod RowsLaws
 pub mod Marks
+pub mod MarksLaws

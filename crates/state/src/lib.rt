@@ -130,7 +130,7 @@ impl State {
         let known = self.known;
         let lower = self.lower;
         let possible = self.possible;
-        if known < lower {
+        if lower > known {
             return self.upper_at_most(possible);
         }
         false

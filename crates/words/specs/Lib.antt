@@ -1,3 +1,8 @@
 pub mod Mask
-pub mod MaskLaws
 pub mod Shift
+pub mod Digits
+pub mod MaskLaws
+pub mod CountLaws
+pub mod ShiftSteps
+pub mod ShiftPlaces
+pub mod ShiftWindow

@@ -1,5 +1,5 @@
 -- Sets of numbers as bits of 64-bit words: `bit` and `learn` of regions.rs on values.
-use Prim.Native.Nat.{ℕ, _/_, _%_, _^_}
+use Prim.Native.Nat.{ℕ, zero, suc, _+_, _/_, _%_, _^_}
 use mathlib.Core.Bool.{Bool, cond, _||_}
 use mathlib.Core.List.{List}
 use lib.ListN.{getD, set}
@@ -25,6 +25,11 @@ inEither sure never n = bit sure n || bit never n
 
 unfoldable pub setBit : List ℕ → ℕ → List ℕ
 setBit mask n = set mask (n / 64) (bitOr (getD mask (n / 64) 0) (2 ^ (n % 64)))
+
+-- How many of the first n nodes the mask has.
+unfoldable pub count : List ℕ → ℕ → ℕ
+count mask zero = 0
+count mask (suc n) = count mask n + cond (bit mask n) 1 0
 
 -- What deciding a node did to its mask, and the answer.
 pub record Learned : Type 0 where
