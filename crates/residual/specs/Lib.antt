@@ -6,3 +6,4 @@ pub mod Shape
 pub mod SuffixLaws
 pub mod IntervalLaws
 pub mod CheckLaws
+pub mod FitsLaws

@@ -52,12 +52,20 @@ residualCheck ts s d =
     (cond (upperAtMost (s .upper) (reached s) || ltZ (s .possible) (reached s)) Contradiction (checkFrom (interval s) d (reverse ts) 0))
     Unchanged
 
+-- No weight fits yet, and this one, the lightest that is left, does not.
+abbrev pub tooWide : Interval → Bool → ℕ → Bool
+tooWide i fitting weight = not fitting && ltb (i .width) weight
+
+-- Beside a weight that fits, another one or the gcd of the others fits.
+abbrev pub bothFit : Interval → ℕ → ℕ → Bool
+bothFit i weight next = leb weight (i .width) || (ltb 0 next && leb next (i .width))
+
 -- Terms from the light end: one undecided weight fits, and so does another or the gcd of the others.
 -- Then no term's lattice can miss, and nothing is forced.
 unfoldable pub fitsFrom : Interval → (ℕ → Bool) → List Term → Bool → ℕ → Bool
 fitsFrom i d [] fitting complement = false
 fitsFrom i d (t ∷ ts) fitting complement =
-    elim (not fitting && ltb (i .width) (t .weight)) [
+    elim (tooWide i fitting (t .weight)) [
       | true ↦ false
       | false ↦
           elim (d (t .condition)) [
@@ -67,8 +75,7 @@ fitsFrom i d (t ∷ ts) fitting complement =
                   | false ↦ fitsFrom i d ts true complement
                   | true ↦
                       let next = gcd complement (t .weight) in
-                      elim (leb (t .weight) (i .width) || (ltb 0 next && leb next (i .width)))
-                      [ true ↦ true | false ↦ fitsFrom i d ts true next ]
+                      elim (bothFit i (t .weight) next) [ true ↦ true | false ↦ fitsFrom i d ts true next ]
                 ]
           ]
     ]

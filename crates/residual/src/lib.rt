@@ -1,7 +1,7 @@
 // Residual divisibility of a drained row: residual.rs.
 ghost use mathlib.Core.Path.{_≡_};
 ghost use Prim.Native.Nat.{_-_, _<_, _≤_, min, max};
-ghost use mathlib.Core.Bool.{cond, _&&_};
+ghost use mathlib.Core.Bool.{false, cond, _&&_};
 ghost use mathlib.Core.List.{reverse};
 ghost use lib.ListN.{length};
 ghost use lib.Dec.{eqb, leb};
@@ -12,7 +12,7 @@ ghost use Rattle.words.specs.Mask.{inEither};
 ghost use Rattle.thresholds.specs.Rows.{hasNonunit};
 ghost use Rattle.residual.specs.Gcd.{gcd, misses, branchMisses};
 ghost use Rattle.residual.specs.Shape.{Shape, Window};
-ghost use Rattle.residual.specs.Residual.{interval, stopsAt, checkFrom, residualCheck, suffixes, over};
+ghost use Rattle.residual.specs.Residual.{interval, stopsAt, checkFrom, residualCheck, tooWide, bothFit, fitsFrom, suffixes, over};
 use state::State;
 use state::Step;
 use state::Upper;
@@ -288,4 +288,60 @@ pub fn threshold_residual_check(
         return Step::Contradiction;
     }
     check_from(conditions, weights, interval_of(state), sure, never)
+}
+
+// No weight fits yet, and this one does not.
+fn too_wide(i: Interval, fitting: bool, weight: u64) -> bool
+    ensures { λ r. ⌜ r ≡ tooWide i fitting weight ⌝ }
+{
+    if fitting {
+        return false;
+    }
+    let width = i.width;
+    weight > width
+}
+
+// Beside a weight that fits, another one or the gcd of the others fits. No gcd, 0, is no witness.
+fn both_fit(i: Interval, weight: u64, next: u64) -> bool
+    ensures { λ r. ⌜ r ≡ bothFit i weight next ⌝ }
+{
+    let width = i.width;
+    if weight <= width {
+        return true;
+    }
+    if next == 0 {
+        return false;
+    }
+    next <= width
+}
+
+// Terms from the light end: one undecided weight fits, and so does another or the gcd of the others. Then every gcd of all
+// weights but one fits, and nothing is forced.
+fn fits_from(conditions: &[u16], weights: &[u64], i: Interval, sure: &[u64], never: &[u64]) -> bool
+    requires { ⌜ Shape (now conditions) (now weights) (now sure) (now never) ⌝ }
+    ensures { λ r. ⌜ r
+        ≡ fitsFrom i (inEither (now (sure .entry)) (now (never .entry))) (reverse (terms (now (conditions .entry)) (now (weights .entry)))) false 0 ⌝ }
+{
+    let mut left = weights.len();
+    let mut fitting = false;
+    let mut complement: u64 = 0;
+    while left > 0 {
+        left -= 1;
+        let weight = weights[left];
+        if too_wide(i, fitting, weight) {
+            return false;
+        }
+        if decided(sure, never, conditions[left]) {
+            continue;
+        }
+        if fitting {
+            complement = gcd(complement, weight);
+            if both_fit(i, weight, complement) {
+                return true;
+            }
+        } else {
+            fitting = true;
+        }
+    }
+    false
 }
