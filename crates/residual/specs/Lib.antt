@@ -7,3 +7,4 @@ pub mod SuffixLaws
 pub mod IntervalLaws
 pub mod CheckLaws
 pub mod FitsLaws
+pub mod ForceLaws

@@ -88,17 +88,22 @@ suffixFrom d (t ∷ ts) suffix = suffix ∷ suffixFrom d ts (cond (d (t .conditi
 abbrev pub suffixes : (ℕ → Bool) → List Term → List ℕ
 suffixes d ts = suffixFrom d (reverse ts) 0
 
--- What one undecided term is forced to, by the gcd of the other undecided weights.
+-- By the gcd of the other undecided weights no sum is allowed where this one is left out; or where it is taken.
+abbrev pub offMisses : Interval → ℕ → ℕ → Bool
+offMisses i weight divisor = branchMisses (i .known) (i .possible - weight) (i .lower) (i .upper) divisor
+
+abbrev pub onMisses : Interval → ℕ → ℕ → Bool
+onMisses i weight divisor = branchMisses (i .known + weight) (i .possible) (i .lower) (i .upper) divisor
+
+-- What one undecided term is forced to.
 unfoldable pub forceTerm : Interval → Marks → Term → ℕ → Decided
 forceTerm i m t divisor =
-    let off = branchMisses (i .known) (i .possible - t .weight) (i .lower) (i .upper) divisor in
-    let on = branchMisses (i .known + t .weight) (i .possible) (i .lower) (i .upper) divisor in
     elim (eqb divisor 1) [
       | true ↦ decided m Unchanged
       | false ↦
-          elim off [
-            | true ↦ elim on [ true ↦ decided m Contradiction | false ↦ decide true m (t .condition) ]
-            | false ↦ elim on [ true ↦ decide false m (t .condition) | false ↦ decided m Unchanged ]
+          elim (offMisses i (t .weight) divisor) [
+            | true ↦ elim (onMisses i (t .weight) divisor) [ true ↦ decided m Contradiction | false ↦ decide true m (t .condition) ]
+            | false ↦ elim (onMisses i (t .weight) divisor) [ true ↦ decide false m (t .condition) | false ↦ decided m Unchanged ]
           ]
     ]
 

@@ -1,18 +1,22 @@
 // Residual divisibility of a drained row: residual.rs.
 ghost use mathlib.Core.Path.{_≡_};
-ghost use Prim.Native.Nat.{_-_, _<_, _≤_, min, max};
+ghost use Prim.Native.Nat.{_+_, _-_, _^_, _<_, _≤_, min, max};
 ghost use mathlib.Core.Bool.{false, cond, _&&_};
 ghost use mathlib.Core.List.{reverse};
 ghost use lib.ListN.{length};
 ghost use lib.Dec.{eqb, leb};
-ghost use Rattle.numeric.specs.Threshold.{terms};
+ghost use Rattle.numeric.specs.Threshold.{term, terms};
 ghost use Rattle.number.specs.Signed.{natural as naturalOf};
 ghost use Rattle.state.specs.State.{limit};
 ghost use Rattle.words.specs.Mask.{inEither};
+ghost use Rattle.queues.specs.Queue.{queue, Held};
+ghost use Rattle.queues.specs.Marks.{marks, decided as decidedOf};
 ghost use Rattle.thresholds.specs.Rows.{hasNonunit};
 ghost use Rattle.residual.specs.Gcd.{gcd, misses, branchMisses};
 ghost use Rattle.residual.specs.Shape.{Shape, Window};
-ghost use Rattle.residual.specs.Residual.{interval, stopsAt, checkFrom, residualCheck, tooWide, bothFit, fitsFrom, suffixes, over};
+ghost use Rattle.residual.specs.Residual.{interval, stopsAt, checkFrom, residualCheck, tooWide, bothFit, fitsFrom, suffixes, offMisses, onMisses, forceTerm, over};
+use queues::Decision;
+use queues::Ring;
 use state::State;
 use state::Step;
 use state::Upper;
@@ -344,4 +348,64 @@ fn fits_from(conditions: &[u16], weights: &[u64], i: Interval, sure: &[u64], nev
         }
     }
     false
+}
+
+// No sum is allowed where a term of this weight is left out.
+fn off_misses(i: Interval, weight: u64, divisor: u64) -> bool
+    ensures { λ r. ⌜ r ≡ offMisses i weight divisor ⌝ }
+{
+    let maximum = minus(i.possible, weight);
+    branch_misses(i.known, maximum, i.lower, i.upper, divisor)
+}
+
+// No sum is allowed where it is taken.
+fn on_misses(i: Interval, weight: u64, divisor: u64) -> bool
+    requires { ⌜ i .known + weight < 2 ^ 64 ⌝ }
+    ensures { λ r. ⌜ r ≡ onMisses i weight divisor ⌝ }
+{
+    let known = i.known;
+    branch_misses(known + weight, i.possible, i.lower, i.upper, divisor)
+}
+
+// What one undecided term is forced to, by the gcd of the other undecided weights. A gcd of 1 shows no more than the bounds.
+fn force_term(
+    i: Interval,
+    node: u16,
+    weight: u64,
+    divisor: u64,
+    sure: &mut [u64],
+    never: &mut [u64],
+    nodes: &mut [u16],
+    ring: Ring,
+) -> Decision
+    requires { ⌜ i .known + weight < 2 ^ 64 ⌝ }
+    requires { ⌜ Held 4096 (queue (now nodes) ring) × (node < 4096) × (64 ≤ length (now sure)) × (64 ≤ length (now never)) ⌝ }
+    ensures { λ r. ⌜ decidedOf (marks (now (sure .exit)) (now (never .exit)) (queue (now (nodes .exit)) (r .ring))) (r .step)
+        ≡ forceTerm i (marks (now (sure .entry)) (now (never .entry)) (queue (now (nodes .entry)) ring)) (term node weight) divisor ⌝ }
+{
+    if divisor == 1 {
+        return Decision {
+            step: Step::Unchanged,
+            ring: ring,
+        };
+    }
+    let off = off_misses(i, weight, divisor);
+    let on = on_misses(i, weight, divisor);
+    let n = node as usize;
+    if off {
+        if on {
+            return Decision {
+                step: Step::Contradiction,
+                ring: ring,
+            };
+        }
+        return queues::decide(true, sure, never, nodes, ring, n);
+    }
+    if on {
+        return queues::decide(false, sure, never, nodes, ring, n);
+    }
+    Decision {
+        step: Step::Unchanged,
+        ring: ring,
+    }
 }
