@@ -15,10 +15,13 @@ use Rattle.state.specs.declared.Step.{Step}
 use Rattle.state.specs.declared.Step.the-variants.{Unchanged, Changed, Contradiction}
 use Rattle.state.specs.Step.{joined, contradicts}
 use Rattle.words.specs.Mask.{learn}
-use Rattle.queues.specs.Queue.{Queue, Held, push}
-use Rattle.queues.specs.Marks.{Marks, isDecided, Decided, decided, decide, waiting}
+use Rattle.queues.specs.declared.Ring.{Ring}
+use Rattle.queues.specs.Queue.{Queue, queue, push}
+use Rattle.queues.specs.Marks.{Marks, marks, isDecided, Decided, decided, decide, waiting}
 use Rattle.residual.specs.declared.Interval.{Interval}
 use Rattle.residual.specs.Gcd.{gcd, branchMisses}
+use Rattle.residual.specs.MissesLaws.{clash}
+use Rattle.residual.specs.Shape.{Room}
 use Rattle.residual.specs.Residual.{offMisses, onMisses, forceTerm, forceFrom, over}
 
 module _ (i : Interval) (m : Marks) (t : Term) (divisor : ℕ) where
@@ -79,11 +82,19 @@ grows-force i m t divisor = by (eqb divisor 1) refl (offMisses i (t .weight) div
     by false e false f true g = rw (e, f, g, forceTerm) (grows-decide false m (t .condition))
     by false e false f false g = rw (e, f, g, forceTerm) (grows-not (m .nodes))
 
--- Room for the terms that are left stays, one term less each turn.
-pub room-next : (q r : Queue) (left : ℕ) → Grows q r → Held 4096 q → q .ring .count + suc left ≤ 4096
-    → Held 4096 r × (r .ring .count + left ≤ 4096)
-room-next q r left g h k =
-    (record { head = omega (arith, g .head, h .head); count = omega (arith, g .count); long = omega (arith, g .long, h .long) }, omega (arith, g .count))
+-- Room for the terms that are left stays, with a term that adds nothing and with one that does.
+pub room-less : (q : Queue) (n k : ℕ) → k ≤ n → Room n q → Room k q
+room-less q n k h r = record { held = r .held; enough = omega (arith, r .enough) }
+
+pub room-next : (q r : Queue) (n k : ℕ) → n ≡ suc k → Grows q r → Room n q → Room k r
+room-next q r n k e g h = record {
+  held = record {
+    head = omega (arith, g .head, h .held .head);
+    count = omega (arith, g .count, h .enough);
+    long = omega (arith, g .long, h .held .long);
+  };
+  enough = omega (arith, g .count, h .enough);
+}
 
 module _ (i : Interval) (suf : List ℕ) (t : Term) (ts : List Term) (prefix : ℕ) (m : Marks) (step : Step) where
   skip : isDecided m (t .condition) ≡ true → forceFrom i suf (t ∷ ts) prefix m step ≡ forceFrom i suf ts prefix m step
@@ -131,6 +142,38 @@ module _ (i : Interval) (suf cs ws : List ℕ) (p prefix : ℕ) (m : Marks) (ste
         → forceFrom i suf (drop p (terms cs ws)) prefix m step
         ≡ forceFrom i suf (drop (p + 1) (terms cs ws)) (gcd prefix (getD ws p 0)) (d .marks) (joined step (d .step))
     force-more k = here ∙ more i suf (term (getD cs p 0) (getD ws p 0)) (drop (p + 1) (terms cs ws)) prefix m step h d behind k
+
+-- One turn of the loop: the marks, the queue and the joined answer that it leaves.
+module _ (i : Interval) (suf cs ws : List ℕ) (p prefix : ℕ) (m : Marks) (step : Step) (f : p < length cs) (g : p < length ws)
+    (same : length cs ≡ length ws) (h : isDecided m (getD cs p 0) ≡ false) (divisor : ℕ) (v : divisor ≡ gcd prefix (getD suf (length ws - p - 1) 0))
+    (s n l : List ℕ) (r r′ : Ring) (k k′ : Step) (e : decided (marks s n (queue l r)) k ≡ forceTerm i m (term (getD cs p 0) (getD ws p 0)) divisor)
+    (a : r′ ≡ r) (j : k′ ≡ joined step k) where
+  pub turn-grows : Grows (m .nodes) (queue l r′)
+  turn-grows =
+      let y : queue l r′ ≡ forceTerm i m (term (getD cs p 0) (getD ws p 0)) divisor .marks .nodes
+      = ap (queue l) a ∙ ap (λ (d : Decided). d .marks .nodes) e in
+      rw y (grows-force i m (term (getD cs p 0) (getD ws p 0)) divisor)
+
+  pub turn-stops : contradicts k ≡ true → decided (marks s n (queue l r′)) k′ ≡ forceFrom i suf (drop p (terms cs ws)) prefix m step
+  turn-stops u =
+      ap (λ (x : Ring). decided (marks s n (queue l x)) k′) a
+      ∙ ap (decided (marks s n (queue l r))) (j ∙ last step k u)
+      ∙ sym (force-stop i suf cs ws p prefix m step f g same h divisor v (decided (marks s n (queue l r)) k) e u)
+    where
+      last : (x y : Step) → contradicts y ≡ true → joined x y ≡ Contradiction
+      last x Unchanged u = absurd (clash (sym u))
+      last x Changed u = absurd (clash (sym u))
+      last Unchanged Contradiction u = refl
+      last Changed Contradiction u = refl
+      last Contradiction Contradiction u = refl
+
+  pub turn-goes-on : (next : ℕ) → next ≡ gcd prefix (getD ws p 0) → contradicts k ≡ false
+      → forceFrom i suf (drop (p + 1) (terms cs ws)) next (marks s n (queue l r′)) k′ ≡ forceFrom i suf (drop p (terms cs ws)) prefix m step
+  turn-goes-on next w u =
+      ap (λ (x : ℕ). forceFrom i suf (drop (p + 1) (terms cs ws)) x (marks s n (queue l r′)) k′) w
+      ∙ ap (λ (x : Ring). forceFrom i suf (drop (p + 1) (terms cs ws)) (gcd prefix (getD ws p 0)) (marks s n (queue l x)) k′) a
+      ∙ ap (forceFrom i suf (drop (p + 1) (terms cs ws)) (gcd prefix (getD ws p 0)) (marks s n (queue l r))) j
+      ∙ sym (force-more i suf cs ws p prefix m step f g same h divisor v (decided (marks s n (queue l r)) k) e u)
 
 -- At the end, and from a buffer that begins with the suffixes.
 pub force-end : (i : Interval) (suf cs ws : List ℕ) (p prefix : ℕ) (m : Marks) (step : Step) → length ws ≤ p

@@ -8,13 +8,15 @@ ghost use lib.Dec.{eqb, leb};
 ghost use Rattle.numeric.specs.Threshold.{term, terms};
 ghost use Rattle.number.specs.Signed.{natural as naturalOf};
 ghost use Rattle.state.specs.State.{limit};
+ghost use Rattle.state.specs.Step.{joined};
 ghost use Rattle.words.specs.Mask.{inEither};
 ghost use Rattle.queues.specs.Queue.{queue, Held};
+ghost use Rattle.state.specs.declared.Step.the-variants.{Unchanged};
 ghost use Rattle.queues.specs.Marks.{marks, decided as decidedOf};
 ghost use Rattle.thresholds.specs.Rows.{hasNonunit};
 ghost use Rattle.residual.specs.Gcd.{gcd, misses, branchMisses};
-ghost use Rattle.residual.specs.Shape.{Shape, Window};
-ghost use Rattle.residual.specs.Residual.{interval, stopsAt, checkFrom, residualCheck, tooWide, bothFit, fitsFrom, suffixes, offMisses, onMisses, forceTerm, over};
+ghost use Rattle.residual.specs.Shape.{Below, Shape, Window, Room};
+ghost use Rattle.residual.specs.Residual.{interval, stopsAt, checkFrom, residualCheck, tooWide, bothFit, fitsFrom, suffixes, offMisses, onMisses, forceTerm, forceFrom, over};
 use queues::Decision;
 use queues::Ring;
 use state::State;
@@ -408,4 +410,65 @@ fn force_term(
         step: Step::Unchanged,
         ring: ring,
     }
+}
+
+// The stronger of two answers, with the later queue.
+fn joined_decision(before: Decision, after: Decision) -> Decision
+    ensures { λ r. ⌜ (r .step ≡ joined (before .step) (after .step)) × (r .ring ≡ after .ring) ⌝ }
+{
+    let first = before.step;
+    let second = after.step;
+    let step = first.join(second);
+    let ring = after.ring;
+    Decision {
+        step: step,
+        ring: ring,
+    }
+}
+
+// Terms from the heavy end, each by the gcd of the undecided weights before it and behind it. Conditions of a row are distinct,
+// so that a decision made here is none of a later term's; its weight stays among those before.
+fn force_from(
+    conditions: &[u16],
+    weights: &[u64],
+    gcds: &[u64],
+    i: Interval,
+    sure: &mut [u64],
+    never: &mut [u64],
+    nodes: &mut [u16],
+    ring: Ring,
+) -> Decision
+    requires { ⌜ Shape (now conditions) (now weights) (now sure) (now never) ⌝ }
+    requires { ⌜ (length (now weights) < length (now gcds)) × (i .known < 2 ^ 63) × Below (2 ^ 63) (now weights) ⌝ }
+    requires { ⌜ Room (length (now weights)) (queue (now nodes) ring) ⌝ }
+    ensures { λ r. ⌜ decidedOf (marks (now (sure .exit)) (now (never .exit)) (queue (now (nodes .exit)) (r .ring))) (r .step)
+        ≡ forceFrom i (now (gcds .entry)) (terms (now (conditions .entry)) (now (weights .entry))) 0
+        (marks (now (sure .entry)) (now (never .entry)) (queue (now (nodes .entry)) ring)) Unchanged ⌝ }
+{
+    let count = weights.len();
+    let mut position: usize = 0;
+    let mut prefix: u64 = 0;
+    let mut so_far = Decision {
+        step: Step::Unchanged,
+        ring: ring,
+    };
+    while position < count {
+        let node = conditions[position];
+        if decided(sure, never, node) {
+            position += 1;
+            continue;
+        }
+        let weight = weights[position];
+        let divisor = gcd(prefix, gcds[count - position - 1]);
+        let waiting = so_far.ring;
+        let forced = force_term(i, node, weight, divisor, sure, never, nodes, waiting);
+        so_far = joined_decision(so_far, forced);
+        let step = forced.step;
+        if step.contradicts() {
+            return so_far;
+        }
+        prefix = gcd(prefix, weight);
+        position += 1;
+    }
+    so_far
 }
