@@ -18,7 +18,7 @@ use Rattle.words.specs.Mask as Mask
 use Rattle.words.specs.Shift as Shift
 use Rattle.queues.specs.Queue as Queues
 use Rattle.queues.specs.Marks as Marks
-use Rattle.thresholds.specs.Terms as Terms
+use Rattle.row.specs.Terms as Terms
 use Rattle.thresholds.specs.Rows as Rows
 use Rattle.prefixes.specs.Links as Links
 use Rattle.residual.specs.Gcd as Gcd

@@ -14,7 +14,7 @@ use Rattle.state.specs.declared.Step.the-variants.{Unchanged, Changed, Contradi
 use Rattle.state.specs.declared.State.{State}
 use Rattle.words.specs.Mask.{bit}
 use Rattle.queues.specs.Queue.{isEmpty}
-use Rattle.thresholds.specs.Terms.{rowTerms}
+use Rattle.row.specs.Terms.{rowTerms}
 use Rattle.thresholds.specs.Rows.{Row, rowsOf}
 use Rattle.possible_sums.specs.declared.Window.{Window}
 use Rattle.possible_sums.specs.declared.Plan.the-variants.{Planned}

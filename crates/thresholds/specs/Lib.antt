@@ -1,3 +1,2 @@
-pub mod Terms
 pub mod Rows
 pub mod Laid
