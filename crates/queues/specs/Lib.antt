@@ -1,2 +1,6 @@
+pub mod Once
 pub mod Queue
+pub mod QueueLaws
+pub mod RowsLaws
 pub mod Marks
+pub mod MarksLaws

@@ -1,8 +1,8 @@
 -- Queues, oldest first, in a buffer that wraps at its end; a row waits at most once.
-use Prim.Native.Nat.{ℕ, _+_, _-_, _%_}
+use Prim.Native.Nat.{ℕ, _+_, _-_, _%_, _<_, _≤_}
 use mathlib.Core.Bool.{Bool, cond}
 use mathlib.Core.List.{List}
-use lib.ListN.{getD, set}
+use lib.ListN.{length, getD, set}
 use lib.Dec.{eqb}
 use Rattle.queues.specs.declared.Ring.{Ring}
 
@@ -23,14 +23,23 @@ isEmpty q = eqb (q .ring .count) 0
 abbrev pub oldest : Queue → ℕ
 oldest q = getD (q .items) (q .ring .head) 0
 
+-- The slice has room for all places, the oldest entry stands at one of them, and no more wait than there are.
+pub record Held (places : ℕ) (q : Queue) : Type 0 where
+  pub head : q .ring .head < places
+  pub count : q .ring .count ≤ places
+  pub long : places ≤ length (q .items)
+
 -- The first argument is the number of places, at which the queue wraps.
 unfoldable pub push : ℕ → Queue → ℕ → Queue
 push places q x =
     queue (set (q .items) ((q .ring .head + q .ring .count) % places) x) (ring (q .ring .head) (q .ring .count + 1))
 
 -- The queue without its oldest entry; its place keeps what stood there.
+abbrev pub poppedRing : ℕ → Ring → Ring
+poppedRing places r = ring ((r .head + 1) % places) (r .count - 1)
+
 unfoldable pub popped : ℕ → Queue → Queue
-popped places q = queue (q .items) (ring ((q .ring .head + 1) % places) (q .ring .count - 1))
+popped places q = queue (q .items) (poppedRing places (q .ring))
 
 -- A queue of at most 1,024 rows, with a flag for each row that waits.
 pub record Rows : Type 0 where

@@ -1,2 +1,10 @@
 pub mod Gcd
+pub mod GcdLaws
+pub mod MissesLaws
 pub mod Residual
+pub mod Shape
+pub mod SuffixLaws
+pub mod IntervalLaws
+pub mod CheckLaws
+pub mod FitsLaws
+pub mod ForceLaws

@@ -14,16 +14,10 @@ use Rattle.state.specs.State.{natural, limit, reached, upperAtMost, hasResidual
 use Rattle.words.specs.Mask.{bit}
 use Rattle.queues.specs.Marks.{Marks, isDecided, Decided, decided, decide}
 use Rattle.thresholds.specs.Rows.{hasNonunit}
+use Rattle.residual.specs.declared.Interval.{Interval}
 use Rattle.residual.specs.Gcd.{gcd, misses, branchMisses}
 
 -- The figures of a row with a residual interval; none of them is negative. `upper` is the last sum allowed.
-pub record Interval : Type 0 where
-  pub known : ℕ
-  pub possible : ℕ
-  pub lower : ℕ
-  pub upper : ℕ
-  pub width : ℕ
-
 abbrev pub interval : State → Interval
 interval s = record {
   known = natural (s .known);
@@ -32,6 +26,12 @@ interval s = record {
   upper = natural (limit (s .upper)) - 1;
   width = natural (limit (s .upper)) - natural (s .lower);
 }
+
+-- The undecided weights up to here do not all miss: one fits the interval, their gcd is 1, or a new gcd hits.
+abbrev pub stopsAt : Interval → ℕ → ℕ → ℕ → Bool
+stopsAt i divisor weight next =
+    (eqb divisor 0 && leb weight (i .width)) || eqb next 1
+    || (not (eqb next divisor) && not (misses (i .known) (i .lower) (min (i .possible) (i .upper)) next))
 
 -- `d` tells which nodes are decided. Terms from the light end: does the lattice of all undecided weights miss the interval?
 unfoldable pub checkFrom : Interval → (ℕ → Bool) → List Term → ℕ → Step
@@ -42,9 +42,7 @@ checkFrom i d (t ∷ ts) divisor =
       | true ↦ checkFrom i d ts divisor
       | false ↦
           let next = gcd divisor (t .weight) in
-          elim ((eqb divisor 0 && leb (t .weight) (i .width)) || eqb next 1
-          || (not (eqb next divisor) && not (misses (i .known) (i .lower) (min (i .possible) (i .upper)) next)))
-          [ true ↦ Unchanged | false ↦ checkFrom i d ts next ]
+          elim (stopsAt i divisor (t .weight) next) [ true ↦ Unchanged | false ↦ checkFrom i d ts next ]
     ]
 
 -- `threshold_residual_check`
@@ -54,12 +52,20 @@ residualCheck ts s d =
     (cond (upperAtMost (s .upper) (reached s) || ltZ (s .possible) (reached s)) Contradiction (checkFrom (interval s) d (reverse ts) 0))
     Unchanged
 
+-- No weight fits yet, and this one, the lightest that is left, does not.
+abbrev pub tooWide : Interval → Bool → ℕ → Bool
+tooWide i fitting weight = not fitting && ltb (i .width) weight
+
+-- Beside a weight that fits, another one or the gcd of the others fits.
+abbrev pub bothFit : Interval → ℕ → ℕ → Bool
+bothFit i weight next = leb weight (i .width) || (ltb 0 next && leb next (i .width))
+
 -- Terms from the light end: one undecided weight fits, and so does another or the gcd of the others.
 -- Then no term's lattice can miss, and nothing is forced.
 unfoldable pub fitsFrom : Interval → (ℕ → Bool) → List Term → Bool → ℕ → Bool
 fitsFrom i d [] fitting complement = false
 fitsFrom i d (t ∷ ts) fitting complement =
-    elim (not fitting && ltb (i .width) (t .weight)) [
+    elim (tooWide i fitting (t .weight)) [
       | true ↦ false
       | false ↦
           elim (d (t .condition)) [
@@ -69,8 +75,7 @@ fitsFrom i d (t ∷ ts) fitting complement =
                   | false ↦ fitsFrom i d ts true complement
                   | true ↦
                       let next = gcd complement (t .weight) in
-                      elim (leb (t .weight) (i .width) || (ltb 0 next && leb next (i .width)))
-                      [ true ↦ true | false ↦ fitsFrom i d ts true next ]
+                      elim (bothFit i (t .weight) next) [ true ↦ true | false ↦ fitsFrom i d ts true next ]
                 ]
           ]
     ]
@@ -83,17 +88,22 @@ suffixFrom d (t ∷ ts) suffix = suffix ∷ suffixFrom d ts (cond (d (t .conditi
 abbrev pub suffixes : (ℕ → Bool) → List Term → List ℕ
 suffixes d ts = suffixFrom d (reverse ts) 0
 
--- What one undecided term is forced to, by the gcd of the other undecided weights.
+-- By the gcd of the other undecided weights no sum is allowed where this one is left out; or where it is taken.
+abbrev pub offMisses : Interval → ℕ → ℕ → Bool
+offMisses i weight divisor = branchMisses (i .known) (i .possible - weight) (i .lower) (i .upper) divisor
+
+abbrev pub onMisses : Interval → ℕ → ℕ → Bool
+onMisses i weight divisor = branchMisses (i .known + weight) (i .possible) (i .lower) (i .upper) divisor
+
+-- What one undecided term is forced to.
 unfoldable pub forceTerm : Interval → Marks → Term → ℕ → Decided
 forceTerm i m t divisor =
-    let off = branchMisses (i .known) (i .possible - t .weight) (i .lower) (i .upper) divisor in
-    let on = branchMisses (i .known + t .weight) (i .possible) (i .lower) (i .upper) divisor in
     elim (eqb divisor 1) [
       | true ↦ decided m Unchanged
       | false ↦
-          elim off [
-            | true ↦ elim on [ true ↦ decided m Contradiction | false ↦ decide true m (t .condition) ]
-            | false ↦ elim on [ true ↦ decide false m (t .condition) | false ↦ decided m Unchanged ]
+          elim (offMisses i (t .weight) divisor) [
+            | true ↦ elim (onMisses i (t .weight) divisor) [ true ↦ decided m Contradiction | false ↦ decide true m (t .condition) ]
+            | false ↦ elim (onMisses i (t .weight) divisor) [ true ↦ decide false m (t .condition) | false ↦ decided m Unchanged ]
           ]
     ]
 

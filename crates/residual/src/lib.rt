@@ -1,1 +1,474 @@
 // Residual divisibility of a drained row: residual.rs.
+ghost use mathlib.Core.Path.{_≡_};
+ghost use Prim.Native.Nat.{_+_, _-_, _^_, _<_, _≤_, min, max};
+ghost use mathlib.Core.Bool.{false, cond, _&&_};
+ghost use mathlib.Core.List.{reverse};
+ghost use lib.ListN.{length};
+ghost use lib.Dec.{eqb, leb};
+ghost use Rattle.numeric.specs.Threshold.{term, terms};
+ghost use Rattle.number.specs.Signed.{natural as naturalOf};
+ghost use Rattle.state.specs.State.{limit};
+ghost use Rattle.state.specs.Step.{joined};
+ghost use Rattle.words.specs.Mask.{inEither};
+ghost use Rattle.queues.specs.Queue.{queue, Held};
+ghost use Rattle.state.specs.declared.Step.the-variants.{Unchanged};
+ghost use Rattle.queues.specs.Marks.{marks, decided as decidedOf};
+ghost use Rattle.thresholds.specs.Rows.{hasNonunit};
+ghost use Rattle.residual.specs.Gcd.{gcd, misses, branchMisses};
+ghost use Rattle.residual.specs.Shape.{Below, Shape, Window, Room};
+ghost use Rattle.residual.specs.Residual.{interval, stopsAt, checkFrom, residualCheck, tooWide, bothFit, fitsFrom, suffixes, offMisses, onMisses, forceTerm, forceFrom, over};
+use queues::Decision;
+use queues::Ring;
+use state::State;
+use state::Step;
+use state::Upper;
+
+// The figures of a row with a residual interval, none of them negative. `upper` is the last sum allowed, `width` the number
+// of sums allowed.
+pub struct Interval {
+    pub known: u64,
+    pub possible: u64,
+    pub lower: u64,
+    pub upper: u64,
+    pub width: u64,
+}
+
+// The greatest common divisor, 0 standing for no number. The right number falls at each turn.
+pub fn gcd(left: u64, right: u64) -> u64
+    ensures { λ r. ⌜ r ≡ gcd left right ⌝ }
+{
+    if left == 0 {
+        return right;
+    }
+    if left == right {
+        return right;
+    }
+    let mut a = left;
+    let mut b = right;
+    while b != 0 {
+        let remainder = a % b;
+        a = b;
+        b = remainder;
+    }
+    a
+}
+
+// No sum base, base + divisor, base + 2 divisor .. lies from lower to upper. The distance to the next one is held against
+// the width, so that nothing is added to an extreme bound.
+pub fn misses(base: u64, lower: u64, upper: u64, divisor: u64) -> bool
+    requires { ⌜ (base ≤ lower) × (lower ≤ upper) ⌝ }
+    ensures { λ r. ⌜ r ≡ misses base lower upper divisor ⌝ }
+{
+    if divisor == 0 {
+        return base < lower || base > upper;
+    }
+    let offset = lower - base;
+    let remainder = offset % divisor;
+    if remainder == 0 {
+        return false;
+    }
+    let distance = divisor - remainder;
+    let width = upper - lower;
+    distance > width
+}
+
+// The same of the sums from base to maximum alone; where none of these is from lower to upper there is nothing to divide.
+pub fn branch_misses(base: u64, maximum: u64, lower: u64, upper: u64, divisor: u64) -> bool
+    ensures { λ r. ⌜ r ≡ branchMisses base maximum lower upper divisor ⌝ }
+{
+    let from = larger(base, lower);
+    let to = smaller(maximum, upper);
+    if from > to {
+        return true;
+    }
+    misses(base, from, to, divisor)
+}
+
+fn larger(a: u64, b: u64) -> u64
+    ensures { λ r. ⌜ r ≡ max a b ⌝ }
+{
+    if a < b {
+        return b;
+    }
+    a
+}
+
+fn smaller(a: u64, b: u64) -> u64
+    ensures { λ r. ⌜ r ≡ min a b ⌝ }
+{
+    if a < b {
+        return a;
+    }
+    b
+}
+
+// Whether a node is in one of the masks.
+fn decided(sure: &[u64], never: &[u64], node: u16) -> bool
+    requires { ⌜ (node < 4096) × (64 ≤ length (now sure)) × (64 ≤ length (now never)) ⌝ }
+    ensures { λ r. ⌜ r ≡ inEither (now (sure .entry)) (now (never .entry)) node ⌝ }
+{
+    let n = node as usize;
+    if words::bit(sure, n) {
+        return true;
+    }
+    words::bit(never, n)
+}
+
+// The gcd with one weight more, which a decided term leaves out.
+fn reduce(skip: bool, divisor: u64, weight: u64) -> u64
+    ensures { λ r. ⌜ r ≡ cond skip divisor (gcd divisor weight) ⌝ }
+{
+    if skip {
+        return divisor;
+    }
+    gcd(divisor, weight)
+}
+
+// The gcd of the undecided weights among the last 0, 1, 2 .. terms, from the start of the buffer on.
+pub fn prepare_suffix(
+    conditions: &[u16],
+    weights: &[u64],
+    sure: &[u64],
+    never: &[u64],
+    gcds: &mut [u64],
+)
+    requires { ⌜ Shape (now conditions) (now weights) (now sure) (now never) ⌝ }
+    requires { ⌜ length (now weights) < length (now gcds) ⌝ }
+    ensures { λ r. ⌜ now (gcds .exit)
+        ≡ over (suffixes (inEither (now (sure .entry)) (now (never .entry))) (terms (now (conditions .entry)) (now (weights .entry)))) (now (gcds .entry)) ⌝ }
+{
+    let count = weights.len();
+    let mut left = count;
+    let mut suffix: u64 = 0;
+    while left > 0 {
+        gcds[count - left] = suffix;
+        left -= 1;
+        let skip = decided(sure, never, conditions[left]);
+        suffix = reduce(skip, suffix, weights[left]);
+    }
+    gcds[count] = suffix;
+}
+
+// A figure that is not negative as it is, any other as 0.
+fn natural(figure: i64) -> u64
+    ensures { λ r. ⌜ r ≡ naturalOf figure ⌝ }
+{
+    if figure < 0 {
+        return 0;
+    }
+    figure as u64
+}
+
+// A difference, 0 where it would be negative.
+fn minus(a: u64, b: u64) -> u64
+    ensures { λ r. ⌜ r ≡ a - b ⌝ }
+{
+    if a < b {
+        return 0;
+    }
+    a - b
+}
+
+fn limit_of(upper: Upper) -> u64
+    ensures { λ r. ⌜ r ≡ naturalOf (limit upper) ⌝ }
+{
+    match upper {
+        Upper::Open => 0,
+        Upper::Under(bound) => natural(bound),
+    }
+}
+
+// The interval of a state's figures.
+pub fn interval_of(state: State) -> Interval
+    ensures { λ r. ⌜ r ≡ interval state ⌝ }
+{
+    let upper = state.upper;
+    let limit = limit_of(upper);
+    let lower = natural(state.lower);
+    Interval {
+        known: natural(state.known),
+        possible: natural(state.possible),
+        lower: lower,
+        upper: minus(limit, 1),
+        width: minus(limit, lower),
+    }
+}
+
+// Some weight is above 1; the first is the heaviest.
+fn has_nonunit(conditions: &[u16], weights: &[u64]) -> bool
+    requires { ⌜ length (now conditions) ≡ length (now weights) ⌝ }
+    ensures { λ r. ⌜ r ≡ hasNonunit (terms (now (conditions .entry)) (now (weights .entry))) ⌝ }
+{
+    if weights.len() == 0 {
+        return false;
+    }
+    weights[0] > 1
+}
+
+// The first undecided weight is no wider than the interval: then some multiple of any of its divisors lies there.
+fn first_fits(i: Interval, divisor: u64, weight: u64) -> bool
+    ensures { λ r. ⌜ r ≡ (eqb divisor 0 && leb weight (i .width)) ⌝ }
+{
+    if divisor != 0 {
+        return false;
+    }
+    let width = i.width;
+    weight <= width
+}
+
+// With this weight a sum is allowed for sure, whatever the weights above it.
+fn stops(i: Interval, divisor: u64, weight: u64, next: u64) -> bool
+    requires { ⌜ Window i ⌝ }
+    ensures { λ r. ⌜ r ≡ stopsAt i divisor weight next ⌝ }
+{
+    if first_fits(i, divisor, weight) {
+        return true;
+    }
+    if next == 1 {
+        return true;
+    }
+    if next == divisor {
+        return false;
+    }
+    let upper = smaller(i.possible, i.upper);
+    !misses(i.known, i.lower, upper, next)
+}
+
+// Terms from the light end: does the lattice of all undecided weights miss the interval? A gcd that allows a sum ends the
+// scan, since every later gcd divides it and allows that sum too.
+fn check_from(conditions: &[u16], weights: &[u64], i: Interval, sure: &[u64], never: &[u64]) -> Step
+    requires { ⌜ Shape (now conditions) (now weights) (now sure) (now never) ⌝ }
+    requires { ⌜ Window i ⌝ }
+    ensures { λ r. ⌜ r
+        ≡ checkFrom i (inEither (now (sure .entry)) (now (never .entry))) (reverse (terms (now (conditions .entry)) (now (weights .entry)))) 0 ⌝ }
+{
+    let mut left = weights.len();
+    let mut divisor: u64 = 0;
+    while left > 0 {
+        left -= 1;
+        if decided(sure, never, conditions[left]) {
+            continue;
+        }
+        let weight = weights[left];
+        let next = gcd(divisor, weight);
+        if stops(i, divisor, weight, next) {
+            return Step::Unchanged;
+        }
+        divisor = next;
+    }
+    // A divisor was tested when it last changed.
+    if divisor != 0 {
+        return Step::Contradiction;
+    }
+    let upper = smaller(i.possible, i.upper);
+    if misses(i.known, i.lower, upper, 0) {
+        return Step::Contradiction;
+    }
+    Step::Unchanged
+}
+
+// What divisibility shows of the whole row: that no sum is allowed, or nothing.
+pub fn threshold_residual_check(
+    conditions: &[u16],
+    weights: &[u64],
+    state: State,
+    sure: &[u64],
+    never: &[u64],
+) -> Step
+    requires { ⌜ Shape (now conditions) (now weights) (now sure) (now never) ⌝ }
+    ensures { λ r. ⌜ r
+        ≡ residualCheck (terms (now (conditions .entry)) (now (weights .entry))) state (inEither (now (sure .entry)) (now (never .entry))) ⌝ }
+{
+    if !has_nonunit(conditions, weights) {
+        return Step::Unchanged;
+    }
+    if !state.has_residual_interval() {
+        return Step::Unchanged;
+    }
+    let reached = state.reached();
+    if state.upper_at_most(reached) {
+        return Step::Contradiction;
+    }
+    let possible = state.possible;
+    if possible < reached {
+        return Step::Contradiction;
+    }
+    check_from(conditions, weights, interval_of(state), sure, never)
+}
+
+// No weight fits yet, and this one does not.
+fn too_wide(i: Interval, fitting: bool, weight: u64) -> bool
+    ensures { λ r. ⌜ r ≡ tooWide i fitting weight ⌝ }
+{
+    if fitting {
+        return false;
+    }
+    let width = i.width;
+    weight > width
+}
+
+// Beside a weight that fits, another one or the gcd of the others fits. No gcd, 0, is no witness.
+fn both_fit(i: Interval, weight: u64, next: u64) -> bool
+    ensures { λ r. ⌜ r ≡ bothFit i weight next ⌝ }
+{
+    let width = i.width;
+    if weight <= width {
+        return true;
+    }
+    if next == 0 {
+        return false;
+    }
+    next <= width
+}
+
+// Terms from the light end: one undecided weight fits, and so does another or the gcd of the others. Then every gcd of all
+// weights but one fits, and nothing is forced.
+fn fits_from(conditions: &[u16], weights: &[u64], i: Interval, sure: &[u64], never: &[u64]) -> bool
+    requires { ⌜ Shape (now conditions) (now weights) (now sure) (now never) ⌝ }
+    ensures { λ r. ⌜ r
+        ≡ fitsFrom i (inEither (now (sure .entry)) (now (never .entry))) (reverse (terms (now (conditions .entry)) (now (weights .entry)))) false 0 ⌝ }
+{
+    let mut left = weights.len();
+    let mut fitting = false;
+    let mut complement: u64 = 0;
+    while left > 0 {
+        left -= 1;
+        let weight = weights[left];
+        if too_wide(i, fitting, weight) {
+            return false;
+        }
+        if decided(sure, never, conditions[left]) {
+            continue;
+        }
+        if fitting {
+            complement = gcd(complement, weight);
+            if both_fit(i, weight, complement) {
+                return true;
+            }
+        } else {
+            fitting = true;
+        }
+    }
+    false
+}
+
+// No sum is allowed where a term of this weight is left out.
+fn off_misses(i: Interval, weight: u64, divisor: u64) -> bool
+    ensures { λ r. ⌜ r ≡ offMisses i weight divisor ⌝ }
+{
+    let maximum = minus(i.possible, weight);
+    branch_misses(i.known, maximum, i.lower, i.upper, divisor)
+}
+
+// No sum is allowed where it is taken.
+fn on_misses(i: Interval, weight: u64, divisor: u64) -> bool
+    requires { ⌜ i .known + weight < 2 ^ 64 ⌝ }
+    ensures { λ r. ⌜ r ≡ onMisses i weight divisor ⌝ }
+{
+    let known = i.known;
+    branch_misses(known + weight, i.possible, i.lower, i.upper, divisor)
+}
+
+// What one undecided term is forced to, by the gcd of the other undecided weights. A gcd of 1 shows no more than the bounds.
+fn force_term(
+    i: Interval,
+    node: u16,
+    weight: u64,
+    divisor: u64,
+    sure: &mut [u64],
+    never: &mut [u64],
+    nodes: &mut [u16],
+    ring: Ring,
+) -> Decision
+    requires { ⌜ i .known + weight < 2 ^ 64 ⌝ }
+    requires { ⌜ Held 4096 (queue (now nodes) ring) × (node < 4096) × (64 ≤ length (now sure)) × (64 ≤ length (now never)) ⌝ }
+    ensures { λ r. ⌜ decidedOf (marks (now (sure .exit)) (now (never .exit)) (queue (now (nodes .exit)) (r .ring))) (r .step)
+        ≡ forceTerm i (marks (now (sure .entry)) (now (never .entry)) (queue (now (nodes .entry)) ring)) (term node weight) divisor ⌝ }
+{
+    if divisor == 1 {
+        return Decision {
+            step: Step::Unchanged,
+            ring: ring,
+        };
+    }
+    let off = off_misses(i, weight, divisor);
+    let on = on_misses(i, weight, divisor);
+    let n = node as usize;
+    if off {
+        if on {
+            return Decision {
+                step: Step::Contradiction,
+                ring: ring,
+            };
+        }
+        return queues::decide(true, sure, never, nodes, ring, n);
+    }
+    if on {
+        return queues::decide(false, sure, never, nodes, ring, n);
+    }
+    Decision {
+        step: Step::Unchanged,
+        ring: ring,
+    }
+}
+
+// The stronger of two answers, with the later queue.
+fn joined_decision(before: Decision, after: Decision) -> Decision
+    ensures { λ r. ⌜ (r .step ≡ joined (before .step) (after .step)) × (r .ring ≡ after .ring) ⌝ }
+{
+    let first = before.step;
+    let second = after.step;
+    let step = first.join(second);
+    let ring = after.ring;
+    Decision {
+        step: step,
+        ring: ring,
+    }
+}
+
+// Terms from the heavy end, each by the gcd of the undecided weights before it and behind it. Conditions of a row are distinct,
+// so that a decision made here is none of a later term's; its weight stays among those before.
+fn force_from(
+    conditions: &[u16],
+    weights: &[u64],
+    gcds: &[u64],
+    i: Interval,
+    sure: &mut [u64],
+    never: &mut [u64],
+    nodes: &mut [u16],
+    ring: Ring,
+) -> Decision
+    requires { ⌜ Shape (now conditions) (now weights) (now sure) (now never) ⌝ }
+    requires { ⌜ (length (now weights) < length (now gcds)) × (i .known < 2 ^ 63) × Below (2 ^ 63) (now weights) ⌝ }
+    requires { ⌜ Room (length (now weights)) (queue (now nodes) ring) ⌝ }
+    ensures { λ r. ⌜ decidedOf (marks (now (sure .exit)) (now (never .exit)) (queue (now (nodes .exit)) (r .ring))) (r .step)
+        ≡ forceFrom i (now (gcds .entry)) (terms (now (conditions .entry)) (now (weights .entry))) 0
+        (marks (now (sure .entry)) (now (never .entry)) (queue (now (nodes .entry)) ring)) Unchanged ⌝ }
+{
+    let count = weights.len();
+    let mut position: usize = 0;
+    let mut prefix: u64 = 0;
+    let mut so_far = Decision {
+        step: Step::Unchanged,
+        ring: ring,
+    };
+    while position < count {
+        let node = conditions[position];
+        if decided(sure, never, node) {
+            position += 1;
+            continue;
+        }
+        let weight = weights[position];
+        let divisor = gcd(prefix, gcds[count - position - 1]);
+        let waiting = so_far.ring;
+        let forced = force_term(i, node, weight, divisor, sure, never, nodes, waiting);
+        so_far = joined_decision(so_far, forced);
+        let step = forced.step;
+        if step.contradicts() {
+            return so_far;
+        }
+        prefix = gcd(prefix, weight);
+        position += 1;
+    }
+    so_far
+}

@@ -1,20 +1,12 @@
 -- The state of a row: sums of drained terms, the required bounds and the cursors, and the tests that the Rust makes of it.
-use Prim.Native.Nat.{ℕ}
-use mathlib.Core.Bool.{Bool, true, false, cond, _&&_, _||_}
-use lib.IntN.{ℤ, pos, negsuc, _+ℤ_, _-ℤ_}
-use lib.Signed.{leZ, ltZ}
+use Prim.Native.Nat.{ℕ, _<_, _^_}
+use mathlib.Core.Bool.{Bool, true, false, _&&_, _||_}
+use lib.IntN.{ℤ, pos, _+ℤ_, _-ℤ_}
+use lib.Signed.{mag, leZ, ltZ}
+pub use Rattle.number.specs.Signed.{maxZ, natural}
 use Rattle.state.specs.declared.Upper.{Upper}
 use Rattle.state.specs.declared.Upper.the-variants.{Open, Under}
 use Rattle.state.specs.declared.State.{State}
-
--- The larger of two.
-abbrev pub maxZ : ℤ → ℤ → ℤ
-maxZ a b = cond (ltZ a b) b a
-
--- A figure that is never negative, as a natural number.
-abbrev pub natural : ℤ → ℕ
-natural (pos n) = n
-natural (negsuc n) = 0
 
 -- There is an upper limit, and it is at most z.
 abbrev pub upperAtMost : Upper → ℤ → Bool
@@ -76,3 +68,9 @@ conflict s = ltZ (s .possible) (s .lower) || upperAtMost (s .upper) (reached s)
 -- Both limits cut into what is possible, so that sums between them may be missing.
 unfoldable pub hasResidualInterval : State → Bool
 hasResidualInterval s = ltZ (s .known) (s .lower) && upperAtMost (s .upper) (s .possible)
+
+-- Figures and a weight so far inside 64 bits that draining the weight stays inside.
+pub record Drains (s : State) (weight : ℕ) : Type 0 where
+  pub known : mag (s .known) < 2 ^ 62
+  pub possible : mag (s .possible) < 2 ^ 62
+  pub light : weight < 2 ^ 45

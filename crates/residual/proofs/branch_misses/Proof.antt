@@ -1,0 +1,33 @@
+-- `residual::branch_misses` meets its contract: the window is cut to the branch's sums, and `misses` does the rest.
+use Prim.Native.Nat.{ℕ, min, max}
+use mathlib.Core.Path.{_≡_, sym, ap₂, _∙_}
+use borrow.Author.Needs.{needs}
+use Rattle.residual.specs.Gcd.{misses}
+use Rattle.residual.specs.MissesLaws.{branch-empty, branch-open}
+use Rattle.residual.proofs.branch_misses.Statement.{statement}
+use Rattle.residual.proofs.branch_misses.Tie as tie
+
+larger-requires : tie.Need-larger-requires
+larger-requires c κs = search needs
+
+smaller-requires : tie.Need-smaller-requires
+smaller-requires c κs = search needs
+
+returns : tie.Need-returns
+returns c =
+    let g = c .before .before .before .args in
+    sym (branch-empty (g .base) (g .maximum) (g .lower) (g .upper) (g .divisor) (search needs))
+
+misses-requires : tie.Need-misses-requires
+misses-requires c κs = search needs
+
+returns-2 : tie.Need-returns-2
+returns-2 c =
+    let g = c .before .before .before .before .args in
+    c .misses .ensures
+    ∙ ap₂ (λ (x y : ℕ). misses (g .base) x y (g .divisor)) (c .before .before .before .larger .ensures) (c .before .before .smaller .ensures)
+    ∙ sym (branch-open (g .base) (g .maximum) (g .lower) (g .upper) (g .divisor) (search needs))
+
+pub branch-misses-spec : {M : Type 1} → statement M
+branch-misses-spec =
+    tie.close (tie.spec larger-requires smaller-requires returns misses-requires returns-2)

@@ -1,0 +1,228 @@
+-- `residual::force_from` meets its contract: forcing the terms that are left, from here, is forcing all of them from the start.
+use Prim.Native.Nat.{ℕ, _+_, _-_, _≤_}
+use native.Mathlib.Omega.{arith}
+use mathlib.Core.Path.{_≡_, refl, sym, ap, _∙_}
+use lib.ListN.{length, drop}
+use borrow.Author.Needs.{needs}
+use Rattle.numeric.specs.Threshold.{Term, terms}
+use Rattle.words.specs.Mask.{inEither}
+use Rattle.state.specs.declared.Step.the-variants.{Unchanged}
+use Rattle.queues.specs.Queue.{queue}
+use Rattle.queues.specs.Marks.{marks}
+use Rattle.residual.specs.Shape.{Room}
+use Rattle.residual.specs.Residual.{forceFrom}
+use Rattle.residual.specs.ForceLaws.{room-less, room-next, force-skip, turn-grows, turn-stops, turn-goes-on, force-end}
+use Rattle.residual.proofs.force_from.Statement.{statement}
+use Rattle.residual.proofs.force_from.Tie as tie
+
+abbrev Inv-loop : tie.InvT-loop
+Inv-loop conditions weights gcds i sure₀ never₀ nodes₀ count position₀ prefix₀ so-far₀ sure never nodes position prefix so-far =
+    (position ≤ length weights) × (length sure ≡ length sure₀) × (length never ≡ length never₀) × (length nodes ≡ length nodes₀)
+    × Room (length weights - position) (queue nodes (so-far .ring))
+    × (forceFrom i gcds (drop position (terms conditions weights)) prefix (marks sure never (queue nodes (so-far .ring))) (so-far .step)
+    ≡ forceFrom i gcds (terms conditions weights) 0 (marks sure₀ never₀ (queue nodes₀ (so-far₀ .ring))) Unchanged)
+
+abbrev μ-loop : tie.MeasureT-loop
+μ-loop conditions weights gcds i sure₀ never₀ nodes₀ count position₀ prefix₀ so-far₀ sure never nodes position prefix so-far = length weights - position
+
+loop-holds : tie.Need-loop-holds Inv-loop μ-loop
+loop-holds c =
+    let g = c .before .before .before .before .before .before .args in
+    let p = c .before .before .before .before .before .before .pre .1 .1 in
+    (omega arith, refl, refl, refl, room-less (queue (g .nodes .now) (g .ring)) (length (g .weights .now)) (length (g .weights .now) - 0) (omega arith) p, refl)
+
+mul-node : tie.Need-mul-node Inv-loop μ-loop
+mul-node c = omega arith
+
+shared-slice-read-node : tie.Need-shared-slice-read-node Inv-loop μ-loop
+shared-slice-read-node c = omega arith
+
+decided-requires : tie.Need-decided-requires Inv-loop μ-loop
+decided-requires c κs =
+    let p = c .before .before .before .before .before .before .before .before .before .before .before .pre .0 in
+    let w = c .before .before .before .before .loop in
+    (p .below (w .position) (omega arith), omega (arith, w .inv .1, p .inSure), omega (arith, w .inv .2, p .inNever))
+
+add-position : tie.Need-add-position Inv-loop μ-loop
+add-position c = omega arith
+
+loop-less : tie.Need-loop-less Inv-loop μ-loop
+loop-less c = omega arith
+
+loop-again : tie.Need-loop-again Inv-loop μ-loop
+loop-again c =
+    let g = c .before .before .before .before .before .before .before .before .before .before .before .before .before .args in
+    let p = c .before .before .before .before .before .before .before .before .before .before .before .before .before .pre .0 in
+    let w = c .before .before .before .before .before .before .loop in (
+      omega arith,
+      w .inv .1,
+      w .inv .2,
+      w .inv .3,
+      room-less (queue (w .nodes) (w .so-far .ring)) (length (g .weights .now) - w .position) (length (g .weights .now) - (w .position + 1)) (omega arith) (w .inv .4),
+      sym
+          (force-skip (g .i) (g .gcds .now) (g .conditions .now) (g .weights .now) (w .position) (w .prefix)
+          (marks (w .sure) (w .never) (queue (w .nodes) (w .so-far .ring))) (w .so-far .step) (omega arith) (omega arith)
+          (sym (c .before .decided .ensures) ∙ c .if1 .taken))
+          ∙ w .inv .5,
+    )
+
+mul-weight : tie.Need-mul-weight Inv-loop μ-loop
+mul-weight c = omega arith
+
+shared-slice-read-weight : tie.Need-shared-slice-read-weight Inv-loop μ-loop
+shared-slice-read-weight c = omega arith
+
+sub-gcd : tie.Need-sub-gcd Inv-loop μ-loop
+sub-gcd c = omega arith
+
+sub-gcd-2 : tie.Need-sub-gcd-2 Inv-loop μ-loop
+sub-gcd-2 c = omega arith
+
+mul-gcd : tie.Need-mul-gcd Inv-loop μ-loop
+mul-gcd c = omega arith
+
+shared-slice-read-gcd : tie.Need-shared-slice-read-gcd Inv-loop μ-loop
+shared-slice-read-gcd c = omega arith
+
+gcd-requires : tie.Need-gcd-requires Inv-loop μ-loop
+gcd-requires c κs = tt
+
+force-term-requires : tie.Need-force-term-requires Inv-loop μ-loop
+force-term-requires c κs =
+    let s = c .before .before .before .before .before .before .before .before .before .before .before .before .before .before .before .before .before .before .before .before in
+    let w = c .before .before .before .before .before .before .before .before .before .before .before .before .before .loop in
+    let t = c .before .before .before .before .before .before .before .before .before .before .before .before .loop-test .taken in
+    let p = s .pre .0 in
+    let q = s .pre .1 .0 in (
+      omega (arith, q .1, q .2 (w .position) (omega (arith, t))),
+      (w .inv .4 .held, p .below (w .position) (omega (arith, t, p .same)), omega (arith, w .inv .1, p .inSure), omega (arith, w .inv .2, p .inNever)),
+    )
+
+joined-decision-requires : tie.Need-joined-decision-requires Inv-loop μ-loop
+joined-decision-requires c κs = tt
+
+contradicts-requires : tie.Need-contradicts-requires Inv-loop μ-loop
+contradicts-requires c κs = tt
+
+same-length : tie.Need-same-length Inv-loop μ-loop
+same-length c =
+    let b = c .before in
+    b .before .before .before .before .before .before .before .before .force-term .kept .1 .1 .1 .1 .0 ∙ b .before .before .before .before .before .before .before .before .before .before .before .before .before .before .before .before .before .before .before .before .before .before .loop .inv .1
+
+same-length-2 : tie.Need-same-length-2 Inv-loop μ-loop
+same-length-2 c =
+    let b = c .before in
+    b .before .before .before .before .before .before .before .before .force-term .kept .1 .1 .1 .1 .1 .0 ∙ b .before .before .before .before .before .before .before .before .before .before .before .before .before .before .before .before .before .before .before .before .before .before .loop .inv .2
+
+same-length-3 : tie.Need-same-length-3 Inv-loop μ-loop
+same-length-3 c =
+    let b = c .before in
+    b .before .before .before .before .before .before .before .before .force-term .kept .1 .1 .1 .1 .1 .1 .0 ∙ b .before .before .before .before .before .before .before .before .before .before .before .before .before .before .before .before .before .before .before .before .before .before .loop .inv .3
+
+returns : tie.Need-returns Inv-loop μ-loop
+returns c =
+    let b = c .before in
+    let g = b .before .before .before .before .before .before .before .before .before .before .before .before .before .before .before .before .before .before .before .before .before .before .before .before .before .before .before .before .before .args in
+    let p = b .before .before .before .before .before .before .before .before .before .before .before .before .before .before .before .before .before .before .before .before .before .before .before .before .before .before .before .before .before .pre .0 in
+    let w = b .before .before .before .before .before .before .before .before .before .before .before .before .before .before .before .before .before .before .before .before .before .before .loop in
+    let t = b .before .before .before .before .before .before .before .before .before .before .before .before .before .before .before .before .before .before .before .before .before .loop-test .taken in
+    let j = b .before .joined-decision in
+    let f = b .before .before .before .before .before .before .before .before .force-term in
+    (turn-stops (g .i) (g .gcds .now) (g .conditions .now) (g .weights .now) (w .position) (w .prefix)
+    (marks (w .sure) (w .never) (queue (w .nodes) (w .so-far .ring))) (w .so-far .step) (omega (arith, t, p .same)) (omega (arith, t)) (p .same)
+    (sym (b .before .before .before .before .before .before .before .before .before .before .before .before .before .before .before .before .before .decided .ensures) ∙ b .before .before .before .before .before .before .before .before .before .before .before .before .before .before .before .before .if1 .left) (b .before .before .before .before .before .before .before .before .before .before .before .before .before .gcd .result) (b .before .before .before .before .before .before .before .before .before .before .before .before .before .gcd .ensures)
+    (f .last .1 .1 .1 .1 .0) (f .last .1 .1 .1 .1 .1 .0) (f .last .1 .1 .1 .1 .1 .1 .0) (f .result .ring) (j .result .ring) (f .result .step) (j .result .step)
+    (f .ensures) (j .ensures .1) (j .ensures .0) (sym (b .contradicts .ensures) ∙ c .if2 .taken))
+    ∙ w .inv .5
+
+gcd-requires-2 : tie.Need-gcd-requires-2 Inv-loop μ-loop
+gcd-requires-2 c κs = tt
+
+add-position-2 : tie.Need-add-position-2 Inv-loop μ-loop
+add-position-2 c = omega (arith, c .before .before .before .before .before .before .before .before .before .before .before .before .before .before .before .before .before .before .before .before .before .before .before .loop-test .taken, c .before .before .before .before .before .before .before .before .before .before .before .before .before .before .before .before .before .before .before .before .before .before .before .before .before .before .before .before .before .before .before .good .1 .0 .0)
+
+loop-less-2 : tie.Need-loop-less-2 Inv-loop μ-loop
+loop-less-2 c = omega (arith, c .before .before .before .before .before .before .before .before .before .before .before .before .before .before .before .before .before .before .before .before .before .before .before .loop-test .taken)
+
+loop-again-2 : tie.Need-loop-again-2 Inv-loop μ-loop
+loop-again-2 c =
+    let b = c .before .before in
+    let g = b .before .before .before .before .before .before .before .before .before .before .before .before .before .before .before .before .before .before .before .before .before .before .before .before .before .before .before .before .before .args in
+    let p = b .before .before .before .before .before .before .before .before .before .before .before .before .before .before .before .before .before .before .before .before .before .before .before .before .before .before .before .before .before .pre .0 in
+    let w = b .before .before .before .before .before .before .before .before .before .before .before .before .before .before .before .before .before .before .before .before .before .before .loop in
+    let t = b .before .before .before .before .before .before .before .before .before .before .before .before .before .before .before .before .before .before .before .before .before .loop-test .taken in
+    let j = b .before .joined-decision in
+    let f = b .before .before .before .before .before .before .before .before .force-term in (
+      omega (arith, t),
+      f .kept .1 .1 .1 .1 .0 ∙ w .inv .1,
+      f .kept .1 .1 .1 .1 .1 .0 ∙ w .inv .2,
+      f .kept .1 .1 .1 .1 .1 .1 .0 ∙ w .inv .3,
+      room-next (queue (w .nodes) (w .so-far .ring)) (queue (f .last .1 .1 .1 .1 .1 .1 .0) (j .result .ring)) (length (g .weights .now) - w .position)
+          (length (g .weights .now) - (w .position + 1)) (omega (arith, t))
+          (turn-grows (g .i) (g .gcds .now) (g .conditions .now) (g .weights .now) (w .position) (w .prefix)
+          (marks (w .sure) (w .never) (queue (w .nodes) (w .so-far .ring))) (w .so-far .step) (omega (arith, t, p .same)) (omega (arith, t)) (p .same)
+          (sym (b .before .before .before .before .before .before .before .before .before .before .before .before .before .before .before .before .before .decided .ensures) ∙ b .before .before .before .before .before .before .before .before .before .before .before .before .before .before .before .before .if1 .left) (b .before .before .before .before .before .before .before .before .before .before .before .before .before .gcd .result) (b .before .before .before .before .before .before .before .before .before .before .before .before .before .gcd .ensures)
+          (f .last .1 .1 .1 .1 .0) (f .last .1 .1 .1 .1 .1 .0) (f .last .1 .1 .1 .1 .1 .1 .0) (f .result .ring) (j .result .ring) (f .result .step) (j .result .step)
+          (f .ensures) (j .ensures .1) (j .ensures .0))
+          (w .inv .4),
+      (turn-goes-on (g .i) (g .gcds .now) (g .conditions .now) (g .weights .now) (w .position) (w .prefix)
+          (marks (w .sure) (w .never) (queue (w .nodes) (w .so-far .ring))) (w .so-far .step) (omega (arith, t, p .same)) (omega (arith, t)) (p .same)
+          (sym (b .before .before .before .before .before .before .before .before .before .before .before .before .before .before .before .before .before .decided .ensures) ∙ b .before .before .before .before .before .before .before .before .before .before .before .before .before .before .before .before .if1 .left) (b .before .before .before .before .before .before .before .before .before .before .before .before .before .gcd .result) (b .before .before .before .before .before .before .before .before .before .before .before .before .before .gcd .ensures)
+          (f .last .1 .1 .1 .1 .0) (f .last .1 .1 .1 .1 .1 .0) (f .last .1 .1 .1 .1 .1 .1 .0) (f .result .ring) (j .result .ring) (f .result .step) (j .result .step)
+          (f .ensures) (j .ensures .1) (j .ensures .0) (c .gcd2 .result) (c .gcd2 .ensures) (sym (b .contradicts .ensures) ∙ c .before .if2 .left))
+          ∙ w .inv .5,
+    )
+
+same-length-4 : tie.Need-same-length-4 Inv-loop μ-loop
+same-length-4 c = c .before .loop .inv .1
+
+same-length-5 : tie.Need-same-length-5 Inv-loop μ-loop
+same-length-5 c = c .before .loop .inv .2
+
+same-length-6 : tie.Need-same-length-6 Inv-loop μ-loop
+same-length-6 c = c .before .loop .inv .3
+
+returns-2 : tie.Need-returns-2 Inv-loop μ-loop
+returns-2 c =
+    let g = c .before .before .before .before .before .before .before .before .args in
+    let w = c .before .loop in
+    sym
+    (force-end (g .i) (g .gcds .now) (g .conditions .now) (g .weights .now) (w .position) (w .prefix)
+    (marks (w .sure) (w .never) (queue (w .nodes) (w .so-far .ring))) (w .so-far .step) (c .loop-test .left))
+    ∙ w .inv .5
+
+pub force-from-spec : {M : Type 1} → statement M
+force-from-spec =
+    tie.close
+    (tie.spec
+    Inv-loop
+    μ-loop
+    loop-holds
+    mul-node
+    shared-slice-read-node
+    decided-requires
+    add-position
+    loop-less
+    loop-again
+    mul-weight
+    shared-slice-read-weight
+    sub-gcd
+    sub-gcd-2
+    mul-gcd
+    shared-slice-read-gcd
+    gcd-requires
+    force-term-requires
+    joined-decision-requires
+    contradicts-requires
+    same-length
+    same-length-2
+    same-length-3
+    returns
+    gcd-requires-2
+    add-position-2
+    loop-less-2
+    loop-again-2
+    same-length-4
+    same-length-5
+    same-length-6
+    returns-2)

@@ -1,0 +1,58 @@
+-- `residual::gcd` meets its contract: the loop keeps the gcd of its two numbers, and the right one falls.
+use Prim.Native.Nat.{ℕ}
+use native.Mathlib.Omega.{arith}
+use native.Mathlib.Nat.{mod-lt}
+use mathlib.Core.Path.{_≡_, refl, sym, ap, _∙_}
+use Rattle.residual.specs.Gcd.{gcd}
+use Rattle.residual.specs.GcdLaws.{gcd-none, gcd-same, gcd-zero, gcd-step}
+use Rattle.residual.proofs.gcd.Statement.{statement}
+use Rattle.residual.proofs.gcd.Tie as tie
+
+abbrev Inv-loop : tie.InvT-loop
+Inv-loop left right a₀ b₀ a b = gcd a b ≡ gcd left right
+
+abbrev μ-loop : tie.MeasureT-loop
+μ-loop left right a₀ b₀ a b = b
+
+returns : tie.Need-returns Inv-loop μ-loop
+returns c =
+    let g = c .before .args in
+    sym (ap (λ (x : ℕ). gcd x (g .right)) (c .if1 .taken) ∙ gcd-none (g .right))
+
+returns-2 : tie.Need-returns-2 Inv-loop μ-loop
+returns-2 c =
+    let g = c .before .before .args in
+    sym (ap (λ (x : ℕ). gcd x (g .right)) (c .if2 .taken) ∙ gcd-same (g .right))
+
+loop-holds : tie.Need-loop-holds Inv-loop μ-loop
+loop-holds c = refl
+
+rem-remainder : tie.Need-rem-remainder Inv-loop μ-loop
+rem-remainder c = omega arith
+
+loop-less : tie.Need-loop-less Inv-loop μ-loop
+loop-less c = mod-lt (c .before .loop .a) (omega arith)
+
+loop-again : tie.Need-loop-again Inv-loop μ-loop
+loop-again c =
+    let w = c .before .loop in
+    sym (gcd-step (w .a) (w .b) (omega arith)) ∙ w .inv
+
+returns-3 : tie.Need-returns-3 Inv-loop μ-loop
+returns-3 c =
+    let w = c .before .loop in
+    sym (gcd-zero (w .a)) ∙ ap (gcd (w .a)) (sym (c .loop-test .left)) ∙ w .inv
+
+pub gcd-spec : {M : Type 1} → statement M
+gcd-spec =
+    tie.close
+    (tie.spec
+    Inv-loop
+    μ-loop
+    returns
+    returns-2
+    loop-holds
+    rem-remainder
+    loop-less
+    loop-again
+    returns-3)

@@ -1,0 +1,208 @@
+-- Forcing one term after the other, from the heavy end: what a turn does to the marks and the answer, and the room it takes.
+use Prim.Native.Nat.{ℕ, suc, _+_, _-_, _%_, _<_, _≤_}
+use native.Mathlib.Omega.{arith}
+use mathlib.Core.Path.{_≡_, refl, sym, ap, _∙_}
+use mathlib.Core.Bool.{Bool, true, false}
+use mathlib.Core.List.{List, [], _∷_, _++_}
+use mathlib.Core.Logic.{_≢_}
+use native.Mathlib.Numerals.{add-one}
+use lib.ListN.{length, getD, set, drop, length-set, length-drop, drop-of-length-le, List·getD-append}
+use borrow.Author.Tests.{eq-eqb, ne-eqb}
+use lib.Dec.{eqb}
+use Rattle.numeric.specs.Threshold.{Term, term, terms}
+use Rattle.numeric.specs.TermsLaws.{up-terms, length-terms}
+use Rattle.state.specs.declared.Step.{Step}
+use Rattle.state.specs.declared.Step.the-variants.{Unchanged, Changed, Contradiction}
+use Rattle.state.specs.Step.{joined, contradicts}
+use Rattle.words.specs.Mask.{learn}
+use Rattle.queues.specs.declared.Ring.{Ring}
+use Rattle.queues.specs.Queue.{Queue, queue, push}
+use Rattle.queues.specs.Marks.{Marks, marks, isDecided, Decided, decided, decide, waiting}
+use Rattle.residual.specs.declared.Interval.{Interval}
+use Rattle.residual.specs.Gcd.{gcd, branchMisses}
+use Rattle.residual.specs.MissesLaws.{clash}
+use Rattle.residual.specs.Shape.{Room}
+use Rattle.residual.specs.Residual.{offMisses, onMisses, forceTerm, forceFrom, over}
+
+module _ (i : Interval) (m : Marks) (t : Term) (divisor : ℕ) where
+  pub force-unit : divisor ≡ 1 → forceTerm i m t divisor ≡ decided m Unchanged
+  unfolding forceTerm
+  force-unit e = rw (eq-eqb divisor 1 e, forceTerm)
+
+  module _ (n : divisor ≢ 1) where
+    pub force-none : offMisses i (t .weight) divisor ≡ true → onMisses i (t .weight) divisor ≡ true → forceTerm i m t divisor ≡ decided m Contradiction
+    unfolding forceTerm
+    force-none f g = rw (ne-eqb divisor 1 n, f, g, forceTerm)
+
+    pub force-sure : offMisses i (t .weight) divisor ≡ true → onMisses i (t .weight) divisor ≡ false → forceTerm i m t divisor ≡ decide true m (t .condition)
+    unfolding forceTerm
+    force-sure f g = rw (ne-eqb divisor 1 n, f, g, forceTerm)
+
+    pub force-never : offMisses i (t .weight) divisor ≡ false → onMisses i (t .weight) divisor ≡ true → forceTerm i m t divisor ≡ decide false m (t .condition)
+    unfolding forceTerm
+    force-never f g = rw (ne-eqb divisor 1 n, f, g, forceTerm)
+
+    pub force-free : offMisses i (t .weight) divisor ≡ false → onMisses i (t .weight) divisor ≡ false → forceTerm i m t divisor ≡ decided m Unchanged
+    unfolding forceTerm
+    force-free f g = rw (ne-eqb divisor 1 n, f, g, forceTerm)
+
+-- The same queue, with at most one entry more.
+pub record Grows (q r : Queue) : Type 0 where
+  pub head : r .ring .head ≡ q .ring .head
+  pub count : r .ring .count ≤ q .ring .count + 1
+  pub long : length (r .items) ≡ length (q .items)
+
+grows-not : (q : Queue) → Grows q q
+grows-not q = record { head = refl; count = omega arith; long = refl }
+
+grows-waiting : (s : Step) (q : Queue) (n : ℕ) → Grows q (waiting s q n)
+unfolding push
+grows-waiting Unchanged q n = grows-not q
+grows-waiting Changed q n = record {
+  head = refl;
+  count = omega arith;
+  long = length-set (q .items) ((q .ring .head + q .ring .count) % 4096) n;
+}
+grows-waiting Contradiction q n = grows-not q
+
+grows-decide : (v : Bool) (m : Marks) (n : ℕ) → Grows (m .nodes) (decide v m n .marks .nodes)
+unfolding decide
+grows-decide true m n = grows-waiting (learn (m .sure) (m .never) n .step) (m .nodes) n
+grows-decide false m n = grows-waiting (learn (m .never) (m .sure) n .step) (m .nodes) n
+
+pub grows-force : (i : Interval) (m : Marks) (t : Term) (divisor : ℕ) → Grows (m .nodes) (forceTerm i m t divisor .marks .nodes)
+unfolding forceTerm
+grows-force i m t divisor = by (eqb divisor 1) refl (offMisses i (t .weight) divisor) refl (onMisses i (t .weight) divisor) refl
+  where
+    by : (u : Bool) → eqb divisor 1 ≡ u → (off : Bool) → offMisses i (t .weight) divisor ≡ off → (on : Bool) → onMisses i (t .weight) divisor ≡ on
+        → Grows (m .nodes) (forceTerm i m t divisor .marks .nodes)
+    by true e off f on g = rw (e, forceTerm) (grows-not (m .nodes))
+    by false e true f true g = rw (e, f, g, forceTerm) (grows-not (m .nodes))
+    by false e true f false g = rw (e, f, g, forceTerm) (grows-decide true m (t .condition))
+    by false e false f true g = rw (e, f, g, forceTerm) (grows-decide false m (t .condition))
+    by false e false f false g = rw (e, f, g, forceTerm) (grows-not (m .nodes))
+
+-- Room for the terms that are left stays, with a term that adds nothing and with one that does.
+pub room-less : (q : Queue) (n k : ℕ) → k ≤ n → Room n q → Room k q
+room-less q n k h r = record { held = r .held; enough = omega (arith, r .enough) }
+
+pub room-next : (q r : Queue) (n k : ℕ) → n ≡ suc k → Grows q r → Room n q → Room k r
+room-next q r n k e g h = record {
+  held = record {
+    head = omega (arith, g .head, h .held .head);
+    count = omega (arith, g .count, h .enough);
+    long = omega (arith, g .long, h .held .long);
+  };
+  enough = omega (arith, g .count, h .enough);
+}
+
+module _ (i : Interval) (suf : List ℕ) (t : Term) (ts : List Term) (prefix : ℕ) (m : Marks) (step : Step) where
+  skip : isDecided m (t .condition) ≡ true → forceFrom i suf (t ∷ ts) prefix m step ≡ forceFrom i suf ts prefix m step
+  unfolding forceFrom
+  skip h = rw (h, forceFrom)
+
+  module _ (h : isDecided m (t .condition) ≡ false) where
+    stop : (d : Decided) → d ≡ forceTerm i m t (gcd prefix (getD suf (length ts) 0)) → contradicts (d .step) ≡ true
+        → forceFrom i suf (t ∷ ts) prefix m step ≡ decided (d .marks) Contradiction
+    unfolding forceFrom
+    stop d e k =
+        let l = rw e at k in
+        rw (h, l, forceFrom) (ap (λ (x : Decided). decided (x .marks) Contradiction) (sym e))
+
+    more : (d : Decided) → d ≡ forceTerm i m t (gcd prefix (getD suf (length ts) 0)) → contradicts (d .step) ≡ false
+        → forceFrom i suf (t ∷ ts) prefix m step ≡ forceFrom i suf ts (gcd prefix (t .weight)) (d .marks) (joined step (d .step))
+    unfolding forceFrom
+    more d e k =
+        let l = rw e at k in
+        rw (h, l, forceFrom) (ap (λ (x : Decided). forceFrom i suf ts (gcd prefix (t .weight)) (x .marks) (joined step (x .step))) (sym e))
+
+-- The same at a place of the two slices; the terms behind it are as many as the suffix's place says.
+module _ (i : Interval) (suf cs ws : List ℕ) (p prefix : ℕ) (m : Marks) (step : Step) (f : p < length cs) (g : p < length ws) where
+  here : forceFrom i suf (drop p (terms cs ws)) prefix m step
+      ≡ forceFrom i suf (term (getD cs p 0) (getD ws p 0) ∷ drop (p + 1) (terms cs ws)) prefix m step
+  here =
+      ap (λ (l : List Term). forceFrom i suf l prefix m step) (up-terms cs ws p f g)
+      ∙ ap (λ (k : ℕ). forceFrom i suf (term (getD cs p 0) (getD ws p 0) ∷ drop k (terms cs ws)) prefix m step) (sym (add-one p))
+
+  pub force-skip : isDecided m (getD cs p 0) ≡ true → forceFrom i suf (drop p (terms cs ws)) prefix m step ≡ forceFrom i suf (drop (p + 1) (terms cs ws)) prefix m step
+  force-skip h = here ∙ skip i suf (term (getD cs p 0) (getD ws p 0)) (drop (p + 1) (terms cs ws)) prefix m step h
+
+  module _ (same : length cs ≡ length ws) (h : isDecided m (getD cs p 0) ≡ false) (divisor : ℕ) (v : divisor ≡ gcd prefix (getD suf (length ws - p - 1) 0))
+      (d : Decided) (e : d ≡ forceTerm i m (term (getD cs p 0) (getD ws p 0)) divisor) where
+    behind : d ≡ forceTerm i m (term (getD cs p 0) (getD ws p 0)) (gcd prefix (getD suf (length (drop (p + 1) (terms cs ws))) 0))
+    behind =
+        e ∙ ap (forceTerm i m (term (getD cs p 0) (getD ws p 0)))
+        (v ∙ ap (λ (k : ℕ). gcd prefix (getD suf k 0))
+        (sym (length-drop (p + 1) (terms cs ws) ∙ omega (arith, length-terms cs ws))))
+
+    pub force-stop : contradicts (d .step) ≡ true → forceFrom i suf (drop p (terms cs ws)) prefix m step ≡ decided (d .marks) Contradiction
+    force-stop k = here ∙ stop i suf (term (getD cs p 0) (getD ws p 0)) (drop (p + 1) (terms cs ws)) prefix m step h d behind k
+
+    pub force-more : contradicts (d .step) ≡ false
+        → forceFrom i suf (drop p (terms cs ws)) prefix m step
+        ≡ forceFrom i suf (drop (p + 1) (terms cs ws)) (gcd prefix (getD ws p 0)) (d .marks) (joined step (d .step))
+    force-more k = here ∙ more i suf (term (getD cs p 0) (getD ws p 0)) (drop (p + 1) (terms cs ws)) prefix m step h d behind k
+
+-- One turn of the loop: the marks, the queue and the joined answer that it leaves.
+module _ (i : Interval) (suf cs ws : List ℕ) (p prefix : ℕ) (m : Marks) (step : Step) (f : p < length cs) (g : p < length ws)
+    (same : length cs ≡ length ws) (h : isDecided m (getD cs p 0) ≡ false) (divisor : ℕ) (v : divisor ≡ gcd prefix (getD suf (length ws - p - 1) 0))
+    (s n l : List ℕ) (r r′ : Ring) (k k′ : Step) (e : decided (marks s n (queue l r)) k ≡ forceTerm i m (term (getD cs p 0) (getD ws p 0)) divisor)
+    (a : r′ ≡ r) (j : k′ ≡ joined step k) where
+  pub turn-grows : Grows (m .nodes) (queue l r′)
+  turn-grows =
+      let y : queue l r′ ≡ forceTerm i m (term (getD cs p 0) (getD ws p 0)) divisor .marks .nodes
+      = ap (queue l) a ∙ ap (λ (d : Decided). d .marks .nodes) e in
+      rw y (grows-force i m (term (getD cs p 0) (getD ws p 0)) divisor)
+
+  pub turn-stops : contradicts k ≡ true → decided (marks s n (queue l r′)) k′ ≡ forceFrom i suf (drop p (terms cs ws)) prefix m step
+  turn-stops u =
+      ap (λ (x : Ring). decided (marks s n (queue l x)) k′) a
+      ∙ ap (decided (marks s n (queue l r))) (j ∙ last step k u)
+      ∙ sym (force-stop i suf cs ws p prefix m step f g same h divisor v (decided (marks s n (queue l r)) k) e u)
+    where
+      last : (x y : Step) → contradicts y ≡ true → joined x y ≡ Contradiction
+      last x Unchanged u = absurd (clash (sym u))
+      last x Changed u = absurd (clash (sym u))
+      last Unchanged Contradiction u = refl
+      last Changed Contradiction u = refl
+      last Contradiction Contradiction u = refl
+
+  pub turn-goes-on : (next : ℕ) → next ≡ gcd prefix (getD ws p 0) → contradicts k ≡ false
+      → forceFrom i suf (drop (p + 1) (terms cs ws)) next (marks s n (queue l r′)) k′ ≡ forceFrom i suf (drop p (terms cs ws)) prefix m step
+  turn-goes-on next w u =
+      ap (λ (x : ℕ). forceFrom i suf (drop (p + 1) (terms cs ws)) x (marks s n (queue l r′)) k′) w
+      ∙ ap (λ (x : Ring). forceFrom i suf (drop (p + 1) (terms cs ws)) (gcd prefix (getD ws p 0)) (marks s n (queue l x)) k′) a
+      ∙ ap (forceFrom i suf (drop (p + 1) (terms cs ws)) (gcd prefix (getD ws p 0)) (marks s n (queue l r))) j
+      ∙ sym (force-more i suf cs ws p prefix m step f g same h divisor v (decided (marks s n (queue l r)) k) e u)
+
+-- At the end, and from a buffer that begins with the suffixes.
+pub force-end : (i : Interval) (suf cs ws : List ℕ) (p prefix : ℕ) (m : Marks) (step : Step) → length ws ≤ p
+    → forceFrom i suf (drop p (terms cs ws)) prefix m step ≡ decided m step
+unfolding forceFrom
+force-end i suf cs ws p prefix m step h =
+    ap (λ (l : List Term). forceFrom i suf l prefix m step) (drop-of-length-le (terms cs ws) {i = p} (omega (arith, length-terms cs ws)))
+
+pub force-over : (i : Interval) (suf b : List ℕ) (ts : List Term) (prefix : ℕ) (m : Marks) (step : Step) → length ts ≤ length suf
+    → forceFrom i (over suf b) ts prefix m step ≡ forceFrom i suf ts prefix m step
+unfolding forceFrom
+force-over i suf b [] prefix m step h = refl
+force-over i suf b (t ∷ ts) prefix m step h =
+    by (λ (p : ℕ) (n : Marks) (s : Step). force-over i suf b ts p n s (omega arith)) (isDecided m (t .condition)) refl
+  where
+    by : ((p : ℕ) (n : Marks) (s : Step) → forceFrom i (over suf b) ts p n s ≡ forceFrom i suf ts p n s)
+        → (u : Bool) → isDecided m (t .condition) ≡ u → forceFrom i (over suf b) (t ∷ ts) prefix m step ≡ forceFrom i suf (t ∷ ts) prefix m step
+    by rest true e =
+        skip i (over suf b) t ts prefix m step e ∙ rest prefix m step ∙ sym (skip i suf t ts prefix m step e)
+    by rest false e = turn (contradicts (d .step)) refl
+      where
+        d : Decided
+        d = forceTerm i m t (gcd prefix (getD suf (length ts) 0))
+
+        q : d ≡ forceTerm i m t (gcd prefix (getD (over suf b) (length ts) 0))
+        q = ap (λ (k : ℕ). forceTerm i m t (gcd prefix k)) (sym (List·getD-append suf (drop (length suf) b) 0 (length ts) (omega arith)))
+
+        turn : (v : Bool) → contradicts (d .step) ≡ v → forceFrom i (over suf b) (t ∷ ts) prefix m step ≡ forceFrom i suf (t ∷ ts) prefix m step
+        turn true k = stop i (over suf b) t ts prefix m step e d q k ∙ sym (stop i suf t ts prefix m step e d refl k)
+        turn false k =
+            more i (over suf b) t ts prefix m step e d q k ∙ rest (gcd prefix (t .weight)) (d .marks) (joined step (d .step))
+            ∙ sym (more i suf t ts prefix m step e d refl k)

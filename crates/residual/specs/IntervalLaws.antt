@@ -1,0 +1,66 @@
+-- A figure as a natural number, and the window that a state's interval gives where the check reaches the terms.
+use Prim.Native.Nat.{ℕ, zero, suc, _-_, _<_, _≤_, min}
+use native.Mathlib.Omega.{arith}
+use mathlib.Core.Path.{_≡_, refl, sym, ap, _∙_}
+use mathlib.Core.Bool.{Bool, true, false, cond, _&&_}
+use lib.Dec.{T, leb}
+use lib.IntN.{ℤ, pos, negsuc, natAbs}
+use lib.Signed.{nonNeg, leZ, ltZ}
+use borrow.Author.Tests.{ltb-true, leb-true}
+use mir.Syntax.{w64}
+use mir.Val.{SFits, Fits}
+use Rattle.number.specs.Signed.{natural, leZ-trans, nlt-leZ, ltZ-weaken, nle-ltZ, leZ-ltZ, max-right}
+use Rattle.state.specs.declared.Upper.{Upper}
+use Rattle.state.specs.declared.Upper.the-variants.{Open, Under}
+use Rattle.state.specs.declared.State.{State}
+use Rattle.state.specs.State.{limit, reached, upperAtMost, hasResidualInterval}
+use Rattle.residual.specs.MissesLaws.{clash}
+use Rattle.residual.specs.Residual.{interval}
+use Rattle.residual.specs.Shape.{Window}
+
+pub natural-below : (z : ℤ) → ltZ z (pos 0) ≡ true → 0 ≡ natural z
+natural-below (pos n) h = omega (arith, ltb-true n 0 h)
+natural-below (negsuc n) h = refl
+
+pub natural-cast : (z : ℤ) → ltZ z (pos 0) ≡ false → SFits w64 z → T (nonNeg z) × Fits w64 (natAbs z)
+natural-cast (pos n) h f = (tt, record { fits = omega (arith, f .sfits) })
+natural-cast (negsuc n) h f = absurd (clash h)
+
+pub natural-same : (z : ℤ) → ltZ z (pos 0) ≡ false → natAbs z ≡ natural z
+natural-same (pos n) h = refl
+natural-same (negsuc n) h = absurd (clash h)
+
+pub natural-mono : (a b : ℤ) → leZ a b ≡ true → natural a ≤ natural b
+natural-mono (pos a) (pos b) h = leb-true a b h
+natural-mono (pos a) (negsuc b) h = absurd (clash (sym h))
+natural-mono (negsuc a) b h = omega arith
+
+-- Below a limit: at most the last number before it.
+natural-last : (a b : ℤ) → ltZ a b ≡ true → natural a ≤ natural b - 1
+natural-last (pos a) (pos b) h = omega (arith, ltb-true a b h)
+natural-last (pos a) (negsuc b) h = absurd (clash (sym h))
+natural-last (negsuc a) b h = omega arith
+
+both-left : (a b : Bool) → (a && b) ≡ true → a ≡ true
+both-left true b h = refl
+both-left false b h = absurd (clash (sym h))
+
+both-right : (a b : Bool) → (a && b) ≡ true → b ≡ true
+both-right true b h = h
+both-right false b h = absurd (clash (sym h))
+
+-- A limit that there is, and that is not at most z, is above z.
+limit-above : (u : Upper) (y z : ℤ) → upperAtMost u y ≡ true → upperAtMost u z ≡ false → ltZ z (limit u) ≡ true
+limit-above Open y z h k = absurd (clash (sym h))
+limit-above (Under u) y z h k = nle-ltZ z u k
+
+pub window : (s : State) → hasResidualInterval s ≡ true → upperAtMost (s .upper) (reached s) ≡ false → ltZ (s .possible) (reached s) ≡ false
+    → Window (interval s)
+unfolding hasResidualInterval
+window s h u p =
+    let r = max-right (s .known) (s .lower) in
+    let l = limit-above (s .upper) (s .possible) (reached s) (both-right (ltZ (s .known) (s .lower)) (upperAtMost (s .upper) (s .possible)) h) u in
+    let a = natural-mono (s .known) (s .lower) (ltZ-weaken (s .known) (s .lower) (both-left (ltZ (s .known) (s .lower)) (upperAtMost (s .upper) (s .possible)) h)) in
+    let b = natural-mono (s .lower) (s .possible) (leZ-trans (s .lower) (reached s) (s .possible) r (nlt-leZ (s .possible) (reached s) p)) in
+    let e = natural-last (s .lower) (limit (s .upper)) (leZ-ltZ (s .lower) (reached s) (limit (s .upper)) r l) in
+    record { above = a; inside = omega arith }
