@@ -99,54 +99,57 @@ decide-grows false m n l u = record {
   upper = λ r. up-refl (u r);
 }
 
-module _ (rows : List Row) (s : Table) (l : ℕ → ℤ) (u : ℕ → Upper) (r : ℕ) (is : IsRow rows r) where
-  -- A row state's figures lie inside those of the masks; its bounds are the table's.
-  pub record Inside (st : State) (m : Marks) : Type 0 where
-    pub known : st .known ≤ℤ knownOf rows (tableOf m l u) r
-    pub possible : possibleOf rows (tableOf m l u) r ≤ℤ st .possible
-    pub lower : st .lower ≡ l r
-    pub upper : st .upper ≡ u r
+-- A row state's figures lie inside those of the masks; its bounds are the table's.
+pub record Inside (rows : List Row) (l : ℕ → ℤ) (u : ℕ → Upper) (r : ℕ) (st : State) (m : Marks) : Type 0 where
+  pub known : st .known ≤ℤ knownOf rows (tableOf m l u) r
+  pub possible : possibleOf rows (tableOf m l u) r ≤ℤ st .possible
+  pub lower : st .lower ≡ l r
+  pub upper : st .upper ≡ u r
 
-  inside-up : (st : State) (m m′ : Marks) → Le (tableOf m l u) (tableOf m′ l u) → Inside st m → Inside st m′
-  inside-up st m m′ g i = record {
-    known = ≤ℤ-trans (i .known) (pos-≤ℤ (known-up (bit (m .sure)) (bit (m′ .sure)) (termsOf rows r) (g .sure)));
-    possible = ≤ℤ-trans (pos-≤ℤ (possible-down (bit (m .never)) (bit (m′ .never)) (termsOf rows r) (g .never))) (i .possible);
-    lower = i .lower;
-    upper = i .upper;
-  }
+pub inside-up : (rows : List Row) (l : ℕ → ℤ) (u : ℕ → Upper) (r : ℕ) (st : State) (m m′ : Marks) → Le (tableOf m l u) (tableOf m′ l u)
+    → Inside rows l u r st m → Inside rows l u r st m′
+inside-up rows l u r st m m′ g i = record {
+  known = ≤ℤ-trans (i .known) (pos-≤ℤ (known-up (bit (m .sure)) (bit (m′ .sure)) (termsOf rows r) (g .sure)));
+  possible = ≤ℤ-trans (pos-≤ℤ (possible-down (bit (m .never)) (bit (m′ .never)) (termsOf rows r) (g .never))) (i .possible);
+  lower = i .lower;
+  upper = i .upper;
+}
 
-  pub inside-guards : (st : State) (m : Marks) (a b : ℕ) → Inside st m → Inside (withGuards st a b) m
+-- `More` is whatever else each decision keeps.
+module _ (rows : List Row) (s : Table) (l : ℕ → ℤ) (u : ℕ → Upper) (r : ℕ) (is : IsRow rows r)
+    (More : Marks → Type 0) (keeps : (value : Bool) (m : Marks) (n : ℕ) → More m → More (decide value m n .marks)) where
+  pub inside-guards : (st : State) (m : Marks) (a b : ℕ) → Inside rows l u r st m → Inside rows l u r (withGuards st a b) m
   unfolding withGuards
   inside-guards st m a b i = record { known = i .known; possible = i .possible; lower = i .lower; upper = i .upper }
 
-  pub inside-terms : (st : State) (m : Marks) (a b : ℕ) → Inside st m → Inside (withTerms st a b) m
+  pub inside-terms : (st : State) (m : Marks) (a b : ℕ) → Inside rows l u r st m → Inside rows l u r (withTerms st a b) m
   unfolding withTerms
   inside-terms st m a b i = record { known = i .known; possible = i .possible; lower = i .lower; upper = i .upper }
 
-  reached-inside : (st : State) (m : Marks) → Inside st m → reached st ≤ℤ reachedOf rows (tableOf m l u) r
+  reached-inside : (st : State) (m : Marks) → Inside rows l u r st m → reached st ≤ℤ reachedOf rows (tableOf m l u) r
   reached-inside st m i =
       max-up {a = st .known} {b = st .lower} {c = knownOf rows (tableOf m l u) r} {d = l r} (i .known) (subst (λ (z : ℤ). z ≤ℤ l r) (sym (i .lower)) (≤ℤ-refl (l r)))
 
   -- what is kept along a scan of the row
-  abbrev Along : State → Marks → Type 0
-  Along st m = Kept rows s l u m × Inside st m
+  abbrev pub Along : State → Marks → Type 0
+  Along st m = Kept rows s l u m × Inside rows l u r st m × More m
 
-  along-decide : (value : Bool) (st : State) (m : Marks) (n : ℕ) → Inside st m
+  along-decide : (value : Bool) (st : State) (m : Marks) (n : ℕ) → Along st m
       → Kept rows s l u (decide value m n .marks) × (contradicts (decide value m n .step) ≡ true → Broken rows s)
       → Along st (decide value m n .marks) × (contradicts (decide value m n .step) ≡ true → Broken rows s)
-  along-decide value st m n i k = ((k .0, inside-up st m (decide value m n .marks) (decide-grows value m n l u) i), k .1)
+  along-decide value st m n h k = ((k .0, inside-up rows l u r st m (decide value m n .marks) (decide-grows value m n l u) (h .1), keeps value m n (h .2)), k .1)
 
   -- RULE 2
   sure-along : (st : State) (m : Marks) → Along st m → let a = sureGuards (getD rows r noRow .guards) st m in Along st (a .marks) × (contradicts (a .step) ≡ true → Broken rows s)
   sure-along st m h =
       scan-keeps (Along st) (Broken rows s) _ _ (drop (st .«sure_guard») (getD rows r noRow .guards))
-      (λ (g : Guard) k x p w. along-decide true st k (g .node) (p .1) (decide-sure rows s l u k (g .node) (p .0)
+      (λ (g : Guard) k x p w. along-decide true st k (g .node) p (decide-sure rows s l u k (g .node) (p .0)
       (λ e. bound-reached r g (is, mem-drop (st .«sure_guard») (getD rows r noRow .guards) g x)
       (≤ℤ-trans (le (nlt-leZ (reached st) (g .bound) w)) (reached-inside st k (p .1))) e)))
       0 m Unchanged h refl
 
   -- RULE 3
-  out-of-reach : (st : State) (m : Marks) (b : ℤ) → Inside st m → (leZ b (st .possible) && not (upperAtMost (st .upper) b)) ≡ false
+  out-of-reach : (st : State) (m : Marks) (b : ℤ) → Inside rows l u r st m → (leZ b (st .possible) && not (upperAtMost (st .upper) b)) ≡ false
       → (possibleOf rows (tableOf m l u) r <ℤ b) ⊎ AtMost (u r) b
   out-of-reach st m b i w =
       ⊎-elim (λ (e : leZ b (st .possible) ≡ false). inl (≤ℤ-<ℤ-trans (i .possible) (lt (nle-ltZ (st .possible) b e))))
@@ -157,7 +160,7 @@ module _ (rows : List Row) (s : Table) (l : ℕ → ℤ) (u : ℕ → Upper) (r 
       → let a = neverGuards (getD rows r noRow .guards) st m k in Along st (a .marks) × (contradicts (a .step) ≡ true → Broken rows s)
   never-along st m k h c =
       scan-keeps (Along st) (Broken rows s) _ _ (reverse (take (st .«never_guard») (getD rows r noRow .guards)))
-      (λ (g : Guard) n x p w. along-decide false st n (g .node) (p .1) (decide-never rows s l u n (g .node) (p .0)
+      (λ (g : Guard) n x p w. along-decide false st n (g .node) p (decide-never rows s l u n (g .node) (p .0)
       (λ e. bound-out-of-reach r g (is, mem-take (st .«never_guard») (getD rows r noRow .guards) g (mem-reverse (take (st .«never_guard») (getD rows r noRow .guards)) g x))
       (out-of-reach st n (g .bound) (p .1) w) e)))
       0 m k h c
@@ -180,11 +183,11 @@ module _ (rows : List Row) (s : Table) (l : ℕ → ℤ) (u : ℕ → Upper) (r 
           (p, λ c. absurd (let z : _≡_ {A = ℕ} 0 1 = cc in omega arith))
       place t k x p w false e =
           subst (λ (b : Bool). let a = cond b (decided k Unchanged) (decide value k (t .condition)) in Along st (a .marks) × (contradicts (a .step) ≡ true → Broken rows s)) (sym e)
-          (along-decide value st k (t .condition) (p .1) (gives t k x p e
+          (along-decide value st k (t .condition) p (gives t k x p e
           (⊎-elim (λ (y : not (isDecided k (t .condition)) ≡ false). absurd (let q = not-false (isDecided k (t .condition)) y in let z : _≡_ {A = ℕ} 0 1 = cc in omega arith))
           (λ y. y) (and-false (not (isDecided k (t .condition))) (waits (t .weight)) w))))
 
-  abbrev Fine : Ran → Type 0
+  abbrev pub Fine : Ran → Type 0
   Fine a = Along (a .state) (a .marks) × (contradicts (a .step) ≡ true → Broken rows s)
 
   pub true-fine : (st : State) (m : Marks) → Along st m → Fine (trueTerms (termsOf rows r) st m)
@@ -205,7 +208,7 @@ module _ (rows : List Row) (s : Table) (l : ℕ → ℤ) (u : ℕ → Upper) (r 
       by : (b : Bool) → Fine (cond b (ran st m Unchanged) (ran (withTerms st (st .«true_term» + forced true waits (drop (st .«true_term») (termsOf rows r)) m .passed) (st .«false_term»))
           (forced true waits (drop (st .«true_term») (termsOf rows r)) m .marks) (forced true waits (drop (st .«true_term») (termsOf rows r)) m .step)))
       by true = (h, λ c. absurd (let z : _≡_ {A = ℕ} 0 1 = cc in omega arith))
-      by false = ((a .0 .0, inside-terms st _ _ _ (a .0 .1)), a .1)
+      by false = ((a .0 .0, inside-terms st _ _ _ (a .0 .1), a .0 .2), a .1)
 
   pub false-fine : (st : State) (m : Marks) → Along st m → Fine (falseTerms (termsOf rows r) st m)
   unfolding falseTerms
@@ -223,7 +226,7 @@ module _ (rows : List Row) (s : Table) (l : ℕ → ℤ) (u : ℕ → Upper) (r 
           (λ t k x p d w. decide-never rows s l u k (t .condition) (p .0)
           (λ q. term-too-heavy r t b (is, mem-drop (st .«false_term») (termsOf rows r) t x) (or-false (bit (k .sure) (t .condition)) (bit (k .never) (t .condition)) d)
           (sym (p .1 .upper) ∙ e) (≤ℤ-trans (sub-up (≤ℤ-refl b) (p .1 .known)) (le (nlt-leZ (pos (t .weight)) (b -ℤ st .known) w))))) in
-          ((a .0 .0, inside-terms st _ _ _ (a .0 .1)), a .1)
+          ((a .0 .0, inside-terms st _ _ _ (a .0 .1), a .0 .2), a .1)
 
   pub guards-fine : (st : State) (m : Marks) → Along st m → Fine (thresholdGuards (getD rows r noRow .guards) st m)
   unfolding thresholdGuards
@@ -246,10 +249,10 @@ module _ (rows : List Row) (s : Table) (l : ℕ → ℤ) (u : ℕ → Upper) (r 
             | true ↦ ran up (a .marks) Contradiction
             | false ↦ ran (withGuards up (up .«sure_guard») (st .«never_guard» - neverGuards gs st (a .marks) (a .step) .passed)) (neverGuards gs st (a .marks) (a .step) .marks) (neverGuards gs st (a .marks) (a .step) .step)
           ])
-      by true e = ((f .0 .0, inside-guards st _ _ _ (f .0 .1)), λ c. f .1 e)
+      by true e = ((f .0 .0, inside-guards st _ _ _ (f .0 .1), f .0 .2), λ c. f .1 e)
       by false e =
           let n = never-along st (a .marks) (a .step) (f .0) e in
-          ((n .0 .0, inside-guards up _ _ _ (inside-guards st _ _ _ (n .0 .1))), n .1)
+          ((n .0 .0, inside-guards up _ _ _ (inside-guards st _ _ _ (n .0 .1)), n .0 .2), n .1)
 
   pub scans-fine : (st : State) (m : Marks) → Along st m → Fine (scans (getD rows r noRow) st m)
   unfolding scans
