@@ -3,16 +3,17 @@ use Prim.Native.Nat.{ℕ, suc, _+_, _-_, _%_, _<_, _≤_}
 use native.Mathlib.Omega.{arith}
 use mathlib.Core.Path.{_≡_, refl, sym, ap, _∙_}
 use mathlib.Core.Bool.{Bool, true, false}
-use mathlib.Core.List.{List, [], _∷_, _++_}
+use mathlib.Core.List.{List, [], _∷_, _++_, reverse}
 use mathlib.Core.Logic.{_≢_}
 use native.Mathlib.Numerals.{add-one}
-use lib.ListN.{length, getD, set, drop, length-set, length-drop, drop-of-length-le, List·getD-append}
+use lib.ListN.{length, getD, set, drop, length-set, length-drop, length-reverse, drop-of-length-le, List·getD-append}
 use borrow.Author.Tests.{eq-eqb, ne-eqb}
 use lib.Dec.{eqb}
 use Rattle.numeric.specs.Threshold.{Term, term, terms}
 use Rattle.numeric.specs.TermsLaws.{up-terms, length-terms}
 use Rattle.state.specs.declared.Step.{Step}
 use Rattle.state.specs.declared.Step.the-variants.{Unchanged, Changed, Contradiction}
+use Rattle.state.specs.declared.State.{State}
 use Rattle.state.specs.Step.{joined, contradicts}
 use Rattle.words.specs.Mask.{learn}
 use Rattle.queues.specs.declared.Ring.{Ring}
@@ -22,7 +23,20 @@ use Rattle.residual.specs.declared.Interval.{Interval}
 use Rattle.residual.specs.Gcd.{gcd, branchMisses}
 use Rattle.residual.specs.MissesLaws.{clash}
 use Rattle.residual.specs.Shape.{Room}
-use Rattle.residual.specs.Residual.{offMisses, onMisses, forceTerm, forceFrom, over}
+use Rattle.residual.specs.SuffixLaws.{length-suffix}
+use Rattle.residual.specs.Residual.{
+  interval,
+  residualCheck,
+  suffixes,
+  offMisses,
+  onMisses,
+  forceTerm,
+  forceFrom,
+  residual,
+  over,
+  nothingForced,
+  thresholdResidual,
+}
 
 module _ (i : Interval) (m : Marks) (t : Term) (divisor : ℕ) where
   pub force-unit : divisor ≡ 1 → forceTerm i m t divisor ≡ decided m Unchanged
@@ -206,3 +220,26 @@ force-over i suf b (t ∷ ts) prefix m step h =
         turn false k =
             more i (over suf b) t ts prefix m step e d q k ∙ rest (gcd prefix (t .weight)) (d .marks) (joined step (d .step))
             ∙ sym (more i suf t ts prefix m step e d refl k)
+
+-- The whole of it: a contradiction of the row, nothing to force, or what forcing did.
+module _ (ts : List Term) (s : State) (m : Marks) (gcds : List ℕ) where
+  pub residual-none : contradicts (residualCheck ts s (isDecided m)) ≡ true → thresholdResidual ts s m gcds ≡ residual m Contradiction gcds
+  unfolding thresholdResidual
+  residual-none h = rw (h, thresholdResidual)
+
+  module _ (h : contradicts (residualCheck ts s (isDecided m)) ≡ false) where
+    pub residual-rest : nothingForced ts s (isDecided m) ≡ true → thresholdResidual ts s m gcds ≡ residual m Unchanged gcds
+    unfolding thresholdResidual
+    residual-rest k = rw (h, k, thresholdResidual)
+
+    pub residual-forced : nothingForced ts s (isDecided m) ≡ false → (d : Decided) (g : List ℕ) → g ≡ over (suffixes (isDecided m) ts) gcds
+        → d ≡ forceFrom (interval s) g ts 0 m Unchanged → residual (d .marks) (d .step) g ≡ thresholdResidual ts s m gcds
+    unfolding thresholdResidual
+    residual-forced k d g e f =
+        let l = length-suffix (isDecided m) (reverse ts) 0 in
+        let r = length-reverse ts in
+        let w = force-over (interval s) (suffixes (isDecided m) ts) gcds ts 0 m Unchanged (omega arith) in
+        ap (residual (d .marks) (d .step)) e
+        ∙ ap (λ (x : Decided). residual (x .marks) (x .step) (over (suffixes (isDecided m) ts) gcds))
+        (f ∙ ap (λ (y : List ℕ). forceFrom (interval s) y ts 0 m Unchanged) e ∙ w)
+        ∙ rw (h, k, thresholdResidual)

@@ -1,5 +1,5 @@
 -- A figure as a natural number, and the window that a state's interval gives where the check reaches the terms.
-use Prim.Native.Nat.{ℕ, zero, suc, _-_, _<_, _≤_, min}
+use Prim.Native.Nat.{ℕ, zero, suc, _-_, _^_, _<_, _≤_, min}
 use native.Mathlib.Omega.{arith}
 use mathlib.Core.Path.{_≡_, refl, sym, ap, _∙_}
 use mathlib.Core.Bool.{Bool, true, false, cond, _&&_}
@@ -29,6 +29,10 @@ natural-cast (negsuc n) h f = absurd (clash h)
 pub natural-same : (z : ℤ) → ltZ z (pos 0) ≡ false → natAbs z ≡ natural z
 natural-same (pos n) h = refl
 natural-same (negsuc n) h = absurd (clash h)
+
+pub natural-small : (z : ℤ) → SFits w64 z → natural z < 2 ^ 63
+natural-small (pos n) f = omega (arith, f .sfits)
+natural-small (negsuc n) f = omega arith
 
 pub natural-mono : (a b : ℤ) → leZ a b ≡ true → natural a ≤ natural b
 natural-mono (pos a) (pos b) h = leb-true a b h

@@ -16,7 +16,24 @@ ghost use Rattle.queues.specs.Marks.{marks, decided as decidedOf};
 ghost use Rattle.thresholds.specs.Rows.{hasNonunit};
 ghost use Rattle.residual.specs.Gcd.{gcd, misses, branchMisses};
 ghost use Rattle.residual.specs.Shape.{Below, Shape, Window, Room};
-ghost use Rattle.residual.specs.Residual.{interval, stopsAt, checkFrom, residualCheck, tooWide, bothFit, fitsFrom, suffixes, offMisses, onMisses, forceTerm, forceFrom, over};
+ghost use Rattle.residual.specs.Residual.{
+  interval,
+  stopsAt,
+  checkFrom,
+  residualCheck,
+  tooWide,
+  bothFit,
+  fitsFrom,
+  suffixes,
+  over,
+  offMisses,
+  onMisses,
+  forceTerm,
+  forceFrom,
+  nothingForced,
+  residual,
+  thresholdResidual,
+};
 use queues::Decision;
 use queues::Ring;
 use state::State;
@@ -471,4 +488,70 @@ fn force_from(
         position += 1;
     }
     so_far
+}
+
+// Nothing can be forced: no residual interval, or every gcd of all weights but one fits it.
+fn nothing_forced(
+    conditions: &[u16],
+    weights: &[u64],
+    state: State,
+    sure: &[u64],
+    never: &[u64],
+) -> bool
+    requires { ⌜ Shape (now conditions) (now weights) (now sure) (now never) ⌝ }
+    ensures { λ r. ⌜ r
+        ≡ nothingForced (terms (now (conditions .entry)) (now (weights .entry))) state (inEither (now (sure .entry)) (now (never .entry))) ⌝ }
+{
+    if !has_nonunit(conditions, weights) {
+        return true;
+    }
+    if !state.has_residual_interval() {
+        return true;
+    }
+    fits_from(conditions, weights, interval_of(state), sure, never)
+}
+
+// What divisibility shows of a drained row: that no sum is allowed, or which of its terms are forced. `gcds` holds the suffixes
+// after it where terms were looked at one by one.
+pub fn threshold_residual(
+    conditions: &[u16],
+    weights: &[u64],
+    state: State,
+    sure: &mut [u64],
+    never: &mut [u64],
+    nodes: &mut [u16],
+    ring: Ring,
+    gcds: &mut [u64],
+) -> Decision
+    requires { ⌜ Shape (now conditions) (now weights) (now sure) (now never) ⌝ }
+    requires { ⌜ (length (now weights) < length (now gcds)) × Below (2 ^ 63) (now weights) ⌝ }
+    requires { ⌜ Room (length (now weights)) (queue (now nodes) ring) ⌝ }
+    ensures { λ r. ⌜ residual (marks (now (sure .exit)) (now (never .exit)) (queue (now (nodes .exit)) (r .ring))) (r .step) (now (gcds .exit))
+        ≡ thresholdResidual (terms (now (conditions .entry)) (now (weights .entry))) state
+        (marks (now (sure .entry)) (now (never .entry)) (queue (now (nodes .entry)) ring)) (now (gcds .entry)) ⌝ }
+{
+    let checked = threshold_residual_check(conditions, weights, state, sure, never);
+    if checked.contradicts() {
+        return Decision {
+            step: Step::Contradiction,
+            ring: ring,
+        };
+    }
+    if nothing_forced(conditions, weights, state, sure, never) {
+        return Decision {
+            step: Step::Unchanged,
+            ring: ring,
+        };
+    }
+    prepare_suffix(conditions, weights, sure, never, gcds);
+    force_from(
+        conditions,
+        weights,
+        gcds,
+        interval_of(state),
+        sure,
+        never,
+        nodes,
+        ring,
+    )
 }
