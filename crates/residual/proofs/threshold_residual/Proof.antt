@@ -1,6 +1,6 @@
 -- `residual::threshold_residual` meets its contract: the check, the scan, the suffixes and the forcing in turn.
 use native.Mathlib.Omega.{arith}
-use mathlib.Core.Path.{_≡_, sym, ap, _∙_}
+use mathlib.Core.Path.{_≡_, refl, sym, ap, _∙_}
 use mir.Syntax.{w64}
 use mir.Val.{SFits}
 use Rattle.numeric.specs.Threshold.{terms}
@@ -17,16 +17,16 @@ use Rattle.residual.proofs.threshold_residual.Statement.{statement}
 use Rattle.residual.proofs.threshold_residual.Tie as tie
 
 threshold-residual-check-requires : tie.Need-threshold-residual-check-requires
-threshold-residual-check-requires c κs = search needs
+threshold-residual-check-requires c κs = c .before .before .before .before .before .before .before .before .pre .0
 
 contradicts-requires : tie.Need-contradicts-requires
-contradicts-requires c κs = search needs
+contradicts-requires c κs = tt
 
 same-length : tie.Need-same-length
-same-length c = search needs
+same-length c = refl
 
 same-length-2 : tie.Need-same-length-2
-same-length-2 c = search needs
+same-length-2 c = refl
 
 returns : tie.Need-returns
 returns c =
@@ -36,13 +36,13 @@ returns c =
     (sym (c .before .contradicts .ensures ∙ ap contradicts (c .before .before .threshold-residual-check .ensures)) ∙ c .if1 .taken))
 
 nothing-forced-requires : tie.Need-nothing-forced-requires
-nothing-forced-requires c κs = search needs
+nothing-forced-requires c κs = c .before .before .before .before .before .before .before .before .before .before .before .before .before .pre .0
 
 same-length-3 : tie.Need-same-length-3
-same-length-3 c = search needs
+same-length-3 c = refl
 
 same-length-4 : tie.Need-same-length-4
-same-length-4 c = search needs
+same-length-4 c = refl
 
 returns-2 : tie.Need-returns-2
 returns-2 c =
@@ -54,10 +54,10 @@ returns-2 c =
     (sym (c .before .nothing-forced .ensures) ∙ c .if2 .taken))
 
 prepare-suffix-requires : tie.Need-prepare-suffix-requires
-prepare-suffix-requires c κs = search needs
+prepare-suffix-requires c κs = let s = c .before .before .before .before .before .before .before .before .before .before .before .before .before .before .before .before .before .before in (s .pre .0, s .pre .1 .0 .0)
 
 interval-of-requires : tie.Need-interval-of-requires
-interval-of-requires c κs = search needs
+interval-of-requires c κs = tt
 
 force-from-requires : tie.Need-force-from-requires
 force-from-requires c κs =
@@ -70,16 +70,16 @@ force-from-requires c κs =
     (s .pre .0, ((omega (arith, s .pre .1 .0 .0, n), omega (arith, i, k), s .pre .1 .0 .1), s .pre .1 .1))
 
 same-length-5 : tie.Need-same-length-5
-same-length-5 c = search needs
+same-length-5 c = c .before .before .before .before .before .before .force-from .kept .1 .1 .1 .1 .0
 
 same-length-6 : tie.Need-same-length-6
-same-length-6 c = search needs
+same-length-6 c = c .before .before .before .before .before .before .force-from .kept .1 .1 .1 .1 .1 .0
 
 same-length-7 : tie.Need-same-length-7
-same-length-7 c = search needs
+same-length-7 c = c .before .before .before .before .before .before .force-from .kept .1 .1 .1 .1 .1 .1 .0
 
 same-length-8 : tie.Need-same-length-8
-same-length-8 c = search needs
+same-length-8 c = c .before .before .before .before .before .before .before .before .before .before .before .before .before .before .prepare-suffix .kept .1 .1 .1 .1 .0
 
 returns-3 : tie.Need-returns-3
 returns-3 c =
