@@ -259,14 +259,14 @@ fn check_from(conditions: &[u16], weights: &[u64], i: Interval, sure: &[u64], ne
     ensures { λ r. ⌜ r
         ≡ checkFrom i (inEither (now (sure .entry)) (now (never .entry))) (reverse (terms (now (conditions .entry)) (now (weights .entry)))) 0 ⌝ }
 {
-    let mut left = weights.len();
+    let mut remaining = weights.len();
     let mut divisor: u64 = 0;
-    while left > 0 {
-        left -= 1;
-        if decided(sure, never, conditions[left]) {
+    while remaining > 0 {
+        remaining -= 1;
+        if decided(sure, never, conditions[remaining]) {
             continue;
         }
-        let weight = weights[left];
+        let weight = weights[remaining];
         let next = gcd(divisor, weight);
         if stops(i, divisor, weight, next) {
             return Step::Unchanged;
@@ -345,16 +345,16 @@ fn fits_from(conditions: &[u16], weights: &[u64], i: Interval, sure: &[u64], nev
     ensures { λ r. ⌜ r
         ≡ fitsFrom i (inEither (now (sure .entry)) (now (never .entry))) (reverse (terms (now (conditions .entry)) (now (weights .entry)))) false 0 ⌝ }
 {
-    let mut left = weights.len();
+    let mut unread = weights.len();
     let mut fitting = false;
     let mut complement: u64 = 0;
-    while left > 0 {
-        left -= 1;
-        let weight = weights[left];
+    while unread > 0 {
+        unread -= 1;
+        let weight = weights[unread];
         if too_wide(i, fitting, weight) {
             return false;
         }
-        if decided(sure, never, conditions[left]) {
+        if decided(sure, never, conditions[unread]) {
             continue;
         }
         if fitting {
@@ -369,7 +369,7 @@ fn fits_from(conditions: &[u16], weights: &[u64], i: Interval, sure: &[u64], nev
     false
 }
 
-// No sum is allowed where a term of this weight is left out.
+// No sum is allowed where a term of this weight is unread out.
 fn off_misses(i: Interval, weight: u64, divisor: u64) -> bool
     ensures { λ r. ⌜ r ≡ offMisses i weight divisor ⌝ }
 {
