@@ -21,11 +21,8 @@ const WHOLE: [&str; 5] = [
 /// Modules that thresholds.rs declares and that remain outside.
 const STANDINS: [&str; 3] = ["capacity.rs", "connectives.rs", "view.rs"];
 
-const WORDS: [&str; 3] = [
-    "const WORD_BITS: usize",
-    "pub fn union_shifted_until_hit<E>(",
-    "fn union_shifted_until<E>(",
-];
+const WORDS: [&str; 3] =
+    ["const WORD_BITS: usize", "pub fn union_shifted_until_hit<E>(", "fn union_shifted_until<E>("];
 const REGION: [&str; 1] = ["const fn words(atoms: usize)"];
 const NUMERIC: [&str; 1] = ["pub struct Threshold<'a> {"];
 const REGIONS: [&str; 9] = [
@@ -79,7 +76,10 @@ fn main() {
 fn read(path: &Path) -> String {
     println!("cargo:rerun-if-changed={}", path.display());
     fs::read_to_string(path).unwrap_or_else(|error| {
-        panic!("cannot read {}: {error}; set ZETESIS_SRC to the folder that holds crates/", path.display())
+        panic!(
+            "cannot read {}: {error}; set ZETESIS_SRC to the folder that holds crates/",
+            path.display()
+        )
     })
 }
 

@@ -135,7 +135,7 @@ def wrap(mark, words):
             row = ""
         row += word + "; "
     rows.append(row)
-    return "".join("%s %s\n" % (mark, row.strip().rstrip(";")) for row in rows)
+    return "".join(("%s %s" % (mark, row.strip().rstrip(";"))).rstrip() + "\n" for row in rows)
 
 
 def write(vectors):

@@ -6,7 +6,7 @@ use std::collections::BTreeMap;
 
 use crate::job::{self, BOUND, Note, Record, Run};
 use crate::listing::word;
-use crate::regions::{Answer, Event, Session};
+use crate::regions::{Answer, Event, Planner};
 
 #[derive(Default)]
 pub struct Cover {
@@ -27,8 +27,19 @@ const ORDERS: [(u8, &[(u8, u8)]); 9] = [
     (
         2,
         &[
-            (1, 3), (1, 9), (1, 4), (3, 9), (3, 5), (3, 6), (3, 7), (3, 4), (5, 7), (5, 4),
-            (6, 7), (6, 4), (7, 4),
+            (1, 3),
+            (1, 9),
+            (1, 4),
+            (3, 9),
+            (3, 5),
+            (3, 6),
+            (3, 7),
+            (3, 4),
+            (5, 7),
+            (5, 4),
+            (6, 7),
+            (6, 4),
+            (7, 4),
         ],
     ),
     (3, &[(1, 3), (1, 9), (1, 4), (3, 9), (3, 5), (3, 4), (5, 4)]),
@@ -259,12 +270,12 @@ impl Cover {
                 self.event(event);
             }
         }
-        self.hit_if(run.refusal.is_some() && run.session.is_none(), "refused before the seal");
+        self.hit_if(run.refusal.is_some() && run.planner.is_none(), "refused before the seal");
         self.hit_if(run.refusal.is_some() && !run.answers.is_empty(), "refused behind an answer");
-        self.hit_if(run.refusal.is_none() && run.session.is_none(), "file without seal");
+        self.hit_if(run.refusal.is_none() && run.planner.is_none(), "file without seal");
         self.job_limits(run);
-        if let Some(session) = &run.session {
-            self.rows(run, session);
+        if let Some(planner) = &run.planner {
+            self.rows(run, planner);
         }
     }
 
@@ -319,11 +330,15 @@ impl Cover {
     ) {
         let kind = if note.kind > 8 { 0 } else { usize::from(note.kind) };
         let name = KINDS[kind];
-        let sealed = run.session.is_some();
+        let sealed = run.planner.is_some();
         match (number, note.record) {
             (2, _) => {
                 self.hit(format!("refusal 2 kind 0x{:02x}", note.kind));
-                self.hit(if sealed { "refusal 2 after the seal" } else { "refusal 2 before the seal" });
+                self.hit(if sealed {
+                    "refusal 2 after the seal"
+                } else {
+                    "refusal 2 before the seal"
+                });
                 self.hit_if(place == 0, "refusal 2 first record");
             }
             (1, _) => {
@@ -383,10 +398,13 @@ impl Cover {
 
     fn answered(&mut self, run: &Run, note: &Note, answer: Answer) {
         let decided = note.decided[0] != note.decided[1];
-        let rows = run.session.as_ref().map_or(0, Session::row_count);
+        let rows = run.planner.as_ref().map_or(0, Planner::row_count);
         match note.kind {
             6 => {
-                self.hit_if(answer == Answer::Changed && !decided, "settle changed, nothing decided");
+                self.hit_if(
+                    answer == Answer::Changed && !decided,
+                    "settle changed, nothing decided",
+                );
                 self.hit_if(decided, "settle decides");
                 self.hit_if(note.taken[1] > rows, "row queue takes more than there are rows");
             }
@@ -397,7 +415,8 @@ impl Cover {
                     note.events.last(),
                     Some(Event::Search { answer: Answer::Contradiction, .. })
                 );
-                let earlier = answer == Answer::Contradiction && !by_search && note.visits > Some(0);
+                let earlier =
+                    answer == Answer::Contradiction && !by_search && note.visits > Some(0);
                 self.hit_if(earlier, "sift contradiction, visits of an earlier search");
             }
             _ => {}
@@ -438,7 +457,9 @@ impl Cover {
                 self.hit_if(*never > 0, "residual forces never");
                 self.hit_if(sure + never > 1, "residual forces several");
             }
-            Event::Search { answer, words, visits, cut_short, interval, decided, heavy, .. } => {
+            Event::Search {
+                answer, words, visits, cut_short, interval, decided, heavy, ..
+            } => {
                 self.hit(format!("step search {}", word(*answer)));
                 let size = if *words == 1 { "one word" } else { "many words" };
                 let end = match answer {
@@ -468,16 +489,16 @@ impl Cover {
     }
 
     /// What the rows of a sealed job look like.
-    fn rows(&mut self, run: &Run, session: &Session) {
-        let rows: Vec<_> = (0..session.row_count()).map(|row| session.row(row)).collect();
+    fn rows(&mut self, run: &Run, planner: &Planner) {
+        let rows: Vec<_> = (0..planner.row_count()).map(|row| planner.row(row)).collect();
         self.hit_if(rows.len() == 1_024, "limit rows 1,024 met");
         for (most, (queue, full)) in
-            session.most.iter().zip([("node", 4_096), ("row", 1_024), ("residual", 1_024)])
+            planner.most.iter().zip([("node", 4_096), ("row", 1_024), ("residual", 1_024)])
         {
             let name = if queue == "node" { "4,096" } else { "1,024" };
             self.hit_if(*most == full, format!("limit {queue} queue {name} waiting"));
         }
-        self.hit_if(session.suffix().len() == 1_025, "limit gcds 1,025 built");
+        self.hit_if(planner.suffix().len() == 1_025, "limit gcds 1,025 built");
         for row in &rows {
             self.hit_if(row.guards.len() > 1, "row with several guards");
             let same = row.guards.windows(2).any(|pair| pair[0].1 == pair[1].1);
@@ -486,20 +507,23 @@ impl Cover {
             self.hit_if(same, "row with equal weights");
             self.hit_if(row.total > 1 << 32, "row total above 2^32");
             self.hit_if(row.links.len() > 1, "row linked to several");
-            self.hit_if(row.terms.is_empty() && !row.links.is_empty(), "empty row linked to a longer");
+            self.hit_if(
+                row.terms.is_empty() && !row.links.is_empty(),
+                "empty row linked to a longer",
+            );
             let high = row.guards.last().is_some_and(|guard| guard.1 > row.total);
             self.hit_if(high, "bound above the total");
         }
         for (place, raw) in run.thresholds.iter().enumerate() {
-            self.raw_list(run, session, place, raw);
+            self.raw_list(run, planner, place, raw);
         }
-        self.equal_rows(run, session, &rows);
+        self.equal_rows(run, planner, &rows);
     }
 
-    fn raw_list(&mut self, run: &Run, session: &Session, place: usize, raw: &crate::RawThreshold) {
-        let own = session.row_of(raw.node);
+    fn raw_list(&mut self, run: &Run, planner: &Planner, place: usize, raw: &crate::RawThreshold) {
+        let own = planner.row_of(raw.node);
         let earlier = run.thresholds[..place].iter();
-        let shared = earlier.clone().any(|other| session.row_of(other.node) == own);
+        let shared = earlier.clone().any(|other| planner.row_of(other.node) == own);
         self.hit_if(shared, "row shared by raw list");
         self.hit_if(shared && mixed(run), "row shared by term and area");
         self.hit_if(raw.conditions.is_empty(), "row without terms");
@@ -507,20 +531,23 @@ impl Cover {
         self.hit_if(zeros, "row of zeros alone");
         let mut sorted = raw.conditions.clone();
         sorted.sort_unstable();
-        self.hit_if(sorted.windows(2).any(|pair| pair[0] == pair[1]), "row with repeated conditions");
+        self.hit_if(
+            sorted.windows(2).any(|pair| pair[0] == pair[1]),
+            "row with repeated conditions",
+        );
         self.hit_if(raw.conditions.contains(&raw.node), "threshold lists itself");
         let later = || raw.conditions.iter().filter(|&&condition| condition > raw.node);
         self.hit_if(later().next().is_some(), "threshold lists a later node");
-        let threshold = later().any(|&condition| session.row_of(condition).is_some());
+        let threshold = later().any(|&condition| planner.row_of(condition).is_some());
         self.hit_if(threshold, "threshold lists a later threshold");
     }
 
     /// Two rows with the same terms: their raw lists differ in order or parts,
     /// or in nothing but terms of weight 0.
-    fn equal_rows(&mut self, run: &Run, session: &Session, rows: &[crate::regions::RowView]) {
+    fn equal_rows(&mut self, run: &Run, planner: &Planner, rows: &[crate::regions::RowView]) {
         let mut first: BTreeMap<usize, Vec<(usize, u64)>> = BTreeMap::new();
         for raw in &run.thresholds {
-            let row = session.row_of(raw.node).expect("a threshold");
+            let row = planner.row_of(raw.node).expect("a threshold");
             let pairs = raw.conditions.iter().copied().zip(raw.weights.iter().copied());
             first.entry(row).or_insert_with(|| pairs.filter(|pair| pair.1 > 0).collect());
         }

@@ -1,8 +1,8 @@
 //! Reads a job file record by record, makes document 01's checks in its order
-//! and hands accepted records to the session.
+//! and hands accepted records to the planner.
 
 use crate::RawThreshold;
-use crate::regions::{Answer, Event, Session};
+use crate::regions::{Answer, Event, Planner};
 
 pub const INPUT: usize = 65_536;
 pub const NODES: usize = 4_096;
@@ -84,7 +84,7 @@ pub struct Run {
     pub header: Option<usize>,
     pub thresholds: Vec<RawThreshold>,
     pub terms: usize,
-    pub session: Option<Session>,
+    pub planner: Option<Planner>,
     /// Settles and sifts; a sift has visits.
     pub answers: Vec<(Answer, Option<u64>)>,
     pub contradicted: bool,
@@ -134,7 +134,7 @@ impl Run {
     }
 
     fn out_of_turn(&self, kind: u8) -> bool {
-        let sealed = self.session.is_some();
+        let sealed = self.planner.is_some();
         match kind {
             1 => self.header.is_some(),
             _ if self.header.is_none() => true,
@@ -175,7 +175,7 @@ impl Run {
     }
 
     fn note(&mut self, offset: usize, kind: u8, record: Option<Record>, found: Vec<u8>) {
-        let now = self.session.as_ref().map_or((0, 0), Session::counts);
+        let now = self.planner.as_ref().map_or((0, 0), Planner::counts);
         self.notes.push(Note {
             offset,
             kind,
@@ -202,19 +202,19 @@ impl Run {
             Record::Area { condition, area } => self.term(condition, area_weight(area)),
             Record::Seal => {
                 let nodes = self.header.expect("the turn was checked");
-                self.session = Some(Session::new(nodes, self.thresholds.clone()));
-                self.work(|session| (session.seal(), None));
+                self.planner = Some(Planner::new(nodes, self.thresholds.clone()));
+                self.work(|planner| (planner.seal(), None));
             }
             Record::Mark { node, value } => {
-                self.work(|session| (session.mark(node, value == 1), None));
+                self.work(|planner| (planner.mark(node, value == 1), None));
             }
             Record::Settle => {
-                let answer = self.work(|session| (session.settle(), None));
+                let answer = self.work(|planner| (planner.settle(), None));
                 self.answers.push(answer);
             }
             Record::Sift => {
-                let answer = self.work(|session| {
-                    let (answer, visits) = session.sift();
+                let answer = self.work(|planner| {
+                    let (answer, visits) = planner.sift();
                     (answer, Some(visits))
                 });
                 self.answers.push(answer);
@@ -229,20 +229,20 @@ impl Run {
         self.terms += 1;
     }
 
-    /// Let the session work and enter what it did into the record's note.
+    /// Let the planner work and enter what it did into the record's note.
     fn work(
         &mut self,
-        act: impl FnOnce(&mut Session) -> (Answer, Option<u64>),
+        act: impl FnOnce(&mut Planner) -> (Answer, Option<u64>),
     ) -> (Answer, Option<u64>) {
-        let session = self.session.as_mut().expect("the turn was checked");
-        let before = session.taken;
-        let (answer, visits) = act(session);
+        let planner = self.planner.as_mut().expect("the turn was checked");
+        let before = planner.taken;
+        let (answer, visits) = act(planner);
         let note = self.notes.last_mut().expect("noted before it is accepted");
         note.answer = Some(answer);
         note.visits = visits;
-        note.decided[1] = session.counts();
-        note.taken = std::array::from_fn(|queue| session.taken[queue] - before[queue]);
-        note.events = std::mem::take(&mut session.events);
+        note.decided[1] = planner.counts();
+        note.taken = std::array::from_fn(|queue| planner.taken[queue] - before[queue]);
+        note.events = std::mem::take(&mut planner.events);
         self.contradicted |= answer == Answer::Contradiction;
         (answer, visits)
     }

@@ -3,7 +3,7 @@
 use std::fmt::Write;
 
 use crate::job::{Note, Record, Run};
-use crate::regions::{Answer, Event, Session};
+use crate::regions::{Answer, Event, Planner};
 
 pub fn word(answer: Answer) -> &'static str {
     match answer {
@@ -22,10 +22,10 @@ pub fn listing(run: &Run) -> String {
             Some(visits) => line(&mut out, format_args!("sift {} {visits}", word(*answer))),
         }
     }
-    if let Some(session) = &run.session {
-        nodes_and_rows(&mut out, session);
+    if let Some(planner) = &run.planner {
+        nodes_and_rows(&mut out, planner);
     }
-    let (sure, never) = run.session.as_ref().map_or((0, 0), Session::counts);
+    let (sure, never) = run.planner.as_ref().map_or((0, 0), Planner::counts);
     match run.refusal {
         None => line(&mut out, format_args!("end {sure} {never}")),
         Some((number, offset)) => line(&mut out, format_args!("refused {number} at {offset}")),
@@ -33,14 +33,14 @@ pub fn listing(run: &Run) -> String {
     out
 }
 
-fn nodes_and_rows(out: &mut String, session: &Session) {
-    for node in 0..session.nodes() {
-        if let Some(sure) = session.decided(node) {
+fn nodes_and_rows(out: &mut String, planner: &Planner) {
+    for node in 0..planner.nodes() {
+        if let Some(sure) = planner.decided(node) {
             line(out, format_args!("node {node} {}", value(sure)));
         }
     }
-    for row in 0..session.row_count() {
-        let (known, possible, lower, upper) = session.row(row).figures;
+    for row in 0..planner.row_count() {
+        let (known, possible, lower, upper) = planner.row(row).figures;
         let upper = upper.map_or("-".to_string(), |upper| upper.to_string());
         line(out, format_args!("row {row} {known} {possible} {lower} {upper}"));
     }
@@ -49,16 +49,16 @@ fn nodes_and_rows(out: &mut String, session: &Session) {
 /// Rows as built: terms, guards and links, and the rows of each condition.
 pub fn rows(run: &Run) -> String {
     let mut out = String::new();
-    let Some(session) = &run.session else { return out };
-    for number in 0..session.row_count() {
-        let row = session.row(number);
+    let Some(planner) = &run.planner else { return out };
+    for number in 0..planner.row_count() {
+        let row = planner.row(number);
         line(&mut out, format_args!("row {number} total {}", row.total));
         line(&mut out, format_args!("  terms{}", pairs(&row.terms)));
         line(&mut out, format_args!("  guards{}", pairs(&row.guards)));
         line(&mut out, format_args!("  links{}", singles(&row.links)));
     }
-    for node in 0..session.nodes() {
-        let rows = session.incidences_of(node);
+    for node in 0..planner.nodes() {
+        let rows = planner.incidences_of(node);
         if !rows.is_empty() {
             line(&mut out, format_args!("condition {node} in{}", pairs(&rows)));
         }
@@ -76,27 +76,27 @@ pub fn trace(run: &Run) -> String {
         }
     }
     out += &rows(run);
-    if let Some(session) = &run.session {
-        memory(&mut out, session);
+    if let Some(planner) = &run.planner {
+        memory(&mut out, planner);
     }
     out
 }
 
-fn memory(out: &mut String, session: &Session) {
-    for number in 0..session.row_count() {
-        line(out, format_args!("cursors {number}{}", singles(&session.row(number).cursors)));
+fn memory(out: &mut String, planner: &Planner) {
+    for number in 0..planner.row_count() {
+        line(out, format_args!("cursors {number}{}", singles(&planner.row(number).cursors)));
     }
-    for (name, mask) in ["sure", "never"].iter().zip(session.masks()) {
+    for (name, mask) in ["sure", "never"].iter().zip(planner.masks()) {
         let words = mask.iter().map(|word| format!(" {word:016x}"));
         line(out, format_args!("mask {name}{}", words.collect::<String>()));
     }
-    let nodes = session.waiting_nodes().iter();
+    let nodes = planner.waiting_nodes().iter();
     let nodes: String = nodes.map(|&(node, sure)| format!(" {node}:{}", value(sure))).collect();
-    line(out, format_args!("nodes taken {} waiting{nodes}", session.taken[0]));
-    let [rows, residuals] = session.waiting_rows();
-    line(out, format_args!("rows taken {} waiting{}", session.taken[1], singles(rows)));
-    line(out, format_args!("residuals taken {} waiting{}", session.taken[2], singles(residuals)));
-    line(out, format_args!("gcds{}", singles(session.suffix())));
+    line(out, format_args!("nodes taken {} waiting{nodes}", planner.taken[0]));
+    let [rows, residuals] = planner.waiting_rows();
+    line(out, format_args!("rows taken {} waiting{}", planner.taken[1], singles(rows)));
+    line(out, format_args!("residuals taken {} waiting{}", planner.taken[2], singles(residuals)));
+    line(out, format_args!("gcds{}", singles(planner.suffix())));
 }
 
 fn record_line(out: &mut String, note: &Note) {

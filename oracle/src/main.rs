@@ -60,7 +60,8 @@ fn frames(mut rest: &[u8]) -> Vec<&[u8]> {
     let mut files = Vec::new();
     while let Some((length, behind)) = rest.split_first_chunk::<4>() {
         let length = u32::from_le_bytes(*length) as usize;
-        let (file, behind) = behind.split_at_checked(length).expect("a frame's bytes are all there");
+        let (file, behind) =
+            behind.split_at_checked(length).expect("a frame's bytes are all there");
         files.push(file);
         rest = behind;
     }

@@ -5,10 +5,10 @@
 mod drain;
 mod inert;
 
-pub use drain::{Answer, Event, Moved, RowView, Session};
+pub use drain::{Answer, Event, Moved, Planner, RowView};
 
-use crate::words::Words;
 use crate::Stop;
+use crate::words::Words;
 use inert::{
     AnswerSetsSought, Chain, Count, Counters, Meter, Narrower, ReadingClass, adjacency, extrema,
     founded, support, witnesses,

@@ -235,37 +235,52 @@ apply f settle = settledFile f
 apply f sift = siftedFile f
 apply f unknown = f
 
--- THE FILE: what is left, and the refusal with its offset; number 0 is no refusal.
+-- THE FILE: what is left, the records that were taken, and the refusal with its offset; number 0 is no refusal.
 pub record Outcome : Type 0 where
   pub file : File
+  pub records : List Record
   pub refused : ℕ
   pub at : ℕ
 
-abbrev pub outcome : File → ℕ → ℕ → Outcome
-outcome f r o = record { file = f; refused = r; at = o }
+abbrev pub outcome : File → List Record → ℕ → ℕ → Outcome
+outcome f rs r o = record { file = f; records = rs; refused = r; at = o }
 
--- The refusal of the record that begins here: kind, body, then the checks above.
+-- The record that begins with this kind, and what stands before the checks above: kind, then body.
+abbrev pub bodyOf : ℕ → List ℕ → List ℕ
+bodyOf kind rest = take (bodyLength (kindOf kind)) rest
+
+abbrev pub recordAt : ℕ → List ℕ → Record
+recordAt kind rest = recordOf (kindOf kind) (bodyOf kind rest)
+
+abbrev pub unknownKind : ℕ → Bool
+unknownKind kind = eqb kind 0 || ltb 8 kind
+
+abbrev pub cutBody : ℕ → List ℕ → Bool
+cutBody kind rest = ltb (length (bodyOf kind rest)) (bodyLength (kindOf kind))
+
 abbrev pub refusalAt : File → ℕ → List ℕ → ℕ
-refusalAt f kind rest =
-    cond (eqb kind 0 || ltb 8 kind) 2
-    (cond (ltb (length (take (bodyLength (kindOf kind)) rest)) (bodyLength (kindOf kind))) 1
-    (refusal f (recordOf (kindOf kind) (take (bodyLength (kindOf kind)) rest))))
+refusalAt f kind rest = cond (unknownKind kind) 2 (cond (cutBody kind rest) 1 (refusal f (recordAt kind rest)))
 
 -- Records from an offset on; the first argument bounds their number.
-unfoldable pub readFrom : ℕ → ℕ → List ℕ → File → Outcome
-readFrom zero o bytes f = outcome f 0 o
-readFrom (suc n) o [] f = outcome f 0 o
-readFrom (suc n) o (kind ∷ rest) f =
+unfoldable pub readFrom : ℕ → ℕ → List ℕ → File → List Record → Outcome
+readFrom zero o bytes f taken = outcome f taken 0 o
+readFrom (suc n) o [] f taken = outcome f taken 0 o
+readFrom (suc n) o (kind ∷ rest) f taken =
     let size = bodyLength (kindOf kind) in
     let r = refusalAt f kind rest in
     elim (eqb r 0) [
-      | true ↦ readFrom n (o + 1 + size) (drop size rest) (apply f (recordOf (kindOf kind) (take size rest)))
-      | false ↦ outcome f r o
+      | true ↦ readFrom n (o + 1 + size) (drop size rest) (apply f (recordAt kind rest)) (taken ++ (recordAt kind rest ∷ []))
+      | false ↦ outcome f taken r o
     ]
 
 unfoldable pub fileOf : List ℕ → Outcome
-fileOf bytes = readFrom (length bytes) 0 bytes begun
+fileOf bytes = readFrom (length bytes) 0 bytes begun []
 
 -- With the test that stands before the first byte.
 unfoldable pub planned : List ℕ → Outcome
-planned bytes = elim (ltb 65536 (length bytes)) [ true ↦ outcome begun 10 0 | false ↦ fileOf bytes ]
+planned bytes = elim (ltb 65536 (length bytes)) [ true ↦ outcome begun [] 10 0 | false ↦ fileOf bytes ]
+
+-- What a list of records leaves, none of them refused.
+unfoldable pub after : File → List Record → File
+after f [] = f
+after f (r ∷ rs) = after (apply f r) rs

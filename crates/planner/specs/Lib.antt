@@ -1,3 +1,4 @@
 pub mod Record
 pub mod File
 pub mod Listing
+pub mod Contents

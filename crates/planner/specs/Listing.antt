@@ -5,6 +5,8 @@ use mathlib.Core.List.{List, [], _∷_, _++_}
 use lib.ListN.{length, getD}
 use lib.Dec.{eqb, ltb}
 use lib.IntN.{ℤ, pos, negsuc}
+use Prim.Native.Char.{code}
+use Prim.Native.String.{String}
 use Rattle.state.specs.declared.Step.{Step}
 use Rattle.state.specs.declared.Step.the-variants.{Unchanged, Changed, Contradiction}
 use Rattle.state.specs.declared.State.{State}
@@ -15,44 +17,15 @@ use Rattle.words.specs.Mask.{bit}
 use Rattle.thresholds.specs.Rows.{Row, rowsOf}
 use Rattle.planner.specs.File.{File, Answer, settled, sifted, Outcome}
 
--- Fixed words.
-abbrev pub settleWord : List ℕ  -- "settle "
-settleWord = 115 ∷ 101 ∷ 116 ∷ 116 ∷ 108 ∷ 101 ∷ 32 ∷ []
-
-abbrev pub siftWord : List ℕ  -- "sift "
-siftWord = 115 ∷ 105 ∷ 102 ∷ 116 ∷ 32 ∷ []
-
-abbrev pub nodeWord : List ℕ  -- "node "
-nodeWord = 110 ∷ 111 ∷ 100 ∷ 101 ∷ 32 ∷ []
-
-abbrev pub rowWord : List ℕ  -- "row "
-rowWord = 114 ∷ 111 ∷ 119 ∷ 32 ∷ []
-
-abbrev pub endWord : List ℕ  -- "end "
-endWord = 101 ∷ 110 ∷ 100 ∷ 32 ∷ []
-
-abbrev pub refusedWord : List ℕ  -- "refused "
-refusedWord = 114 ∷ 101 ∷ 102 ∷ 117 ∷ 115 ∷ 101 ∷ 100 ∷ 32 ∷ []
-
-abbrev pub atWord : List ℕ  -- " at "
-atWord = 32 ∷ 97 ∷ 116 ∷ 32 ∷ []
-
-abbrev pub sureWord : List ℕ  -- " sure"
-sureWord = 32 ∷ 115 ∷ 117 ∷ 114 ∷ 101 ∷ []
-
-abbrev pub neverWord : List ℕ  -- " never"
-neverWord = 32 ∷ 110 ∷ 101 ∷ 118 ∷ 101 ∷ 114 ∷ []
+-- The bytes of a text.
+unfoldable pub text : String → List ℕ
+text String.[] = []
+text (String._∷_ c s) = code c ∷ text s
 
 abbrev pub stepWord : Step → List ℕ
-stepWord Unchanged = 117 ∷ 110 ∷ 99 ∷ 104 ∷ 97 ∷ 110 ∷ 103 ∷ 101 ∷ 100 ∷ []  -- "unchanged"
-stepWord Changed = 99 ∷ 104 ∷ 97 ∷ 110 ∷ 103 ∷ 101 ∷ 100 ∷ []  -- "changed"
-stepWord Contradiction = 99 ∷ 111 ∷ 110 ∷ 116 ∷ 114 ∷ 97 ∷ 100 ∷ 105 ∷ 99 ∷ 116 ∷ 105 ∷ 111 ∷ 110 ∷ []  -- "contradiction"
-
-abbrev pub space : List ℕ
-space = 32 ∷ []
-
-abbrev pub newline : List ℕ
-newline = 10 ∷ []
+stepWord Unchanged = text "unchanged"
+stepWord Changed = text "changed"
+stepWord Contradiction = text "contradiction"
 
 -- A number in decimal: the digits before those of the last argument. No number here has more than 20.
 unfoldable pub digits : ℕ → ℕ → List ℕ → List ℕ
@@ -72,8 +45,8 @@ upperText Open = 45 ∷ []
 upperText (Under u) = decimalZ u
 
 abbrev pub answerLine : Answer → List ℕ
-answerLine (settled k) = settleWord ++ stepWord k ++ newline
-answerLine (sifted k n) = siftWord ++ stepWord k ++ space ++ decimal n ++ newline
+answerLine (settled k) = text "settle " ++ stepWord k ++ text "\n"
+answerLine (sifted k n) = text "sift " ++ stepWord k ++ text " " ++ decimal n ++ text "\n"
 
 unfoldable pub answerLines : List Answer → List ℕ
 answerLines [] = []
@@ -84,18 +57,18 @@ unfoldable pub nodeLines : File → ℕ → ℕ → List ℕ
 nodeLines f zero n = []
 nodeLines f (suc more) n =
     elim (bit (f .live .marks .sure) n) [
-      | true ↦ nodeWord ++ decimal n ++ sureWord ++ newline ++ nodeLines f more (n + 1)
+      | true ↦ text "node " ++ decimal n ++ text " sure\n" ++ nodeLines f more (n + 1)
       | false ↦
           elim (bit (f .live .marks .never) n)
-          [ true ↦ nodeWord ++ decimal n ++ neverWord ++ newline ++ nodeLines f more (n + 1) | false ↦ nodeLines f more (n + 1) ]
+          [ true ↦ text "node " ++ decimal n ++ text " never\n" ++ nodeLines f more (n + 1) | false ↦ nodeLines f more (n + 1) ]
     ]
 
 abbrev pub figures : State → List ℕ
-figures s = decimalZ (s .known) ++ space ++ decimalZ (s .possible) ++ space ++ decimalZ (s .lower) ++ space ++ upperText (s .upper)
+figures s = decimalZ (s .known) ++ text " " ++ decimalZ (s .possible) ++ text " " ++ decimalZ (s .lower) ++ text " " ++ upperText (s .upper)
 
 unfoldable pub rowLines : File → List Row → ℕ → List ℕ
 rowLines f [] r = []
-rowLines f (x ∷ xs) r = rowWord ++ decimal r ++ space ++ figures (getD (f .live .states) r noState) ++ newline ++ rowLines f xs (r + 1)
+rowLines f (x ∷ xs) r = text "row " ++ decimal r ++ text " " ++ figures (getD (f .live .states) r noState) ++ text "\n" ++ rowLines f xs (r + 1)
 
 -- How many of the nodes below n a mask has.
 unfoldable pub count : List ℕ → ℕ → ℕ
@@ -108,9 +81,9 @@ stateLines f = cond (f .sealed) (nodeLines f (f .job .nodes) 0 ++ rowLines f (ro
 abbrev pub lastLine : Outcome → List ℕ
 lastLine o =
     cond (eqb (o .refused) 0)
-    (endWord ++ decimal (count (o .file .live .marks .sure) (o .file .job .nodes)) ++ space
-    ++ decimal (count (o .file .live .marks .never) (o .file .job .nodes)) ++ newline)
-    (refusedWord ++ decimal (o .refused) ++ atWord ++ decimal (o .at) ++ newline)
+    (text "end " ++ decimal (count (o .file .live .marks .sure) (o .file .job .nodes)) ++ text " "
+    ++ decimal (count (o .file .live .marks .never) (o .file .job .nodes)) ++ text "\n")
+    (text "refused " ++ decimal (o .refused) ++ text " at " ++ decimal (o .at) ++ text "\n")
 
 unfoldable pub listing : Outcome → List ℕ
 listing o = answerLines (o .file .answers) ++ stateLines (o .file) ++ lastLine o

@@ -1,10 +1,11 @@
 -- The sum search of possible_sums.rs on values: when it is planned, every visit, and what it answers.
-use Prim.Native.Nat.{ℕ, zero, suc, _+_, _-_, _*_, _/_, min}
+use Prim.Native.Nat.{ℕ, zero, suc, _+_, _-_, _*_, _/_, _≤_, min}
 use mathlib.Core.Bool.{Bool, true, false, cond, _&&_}
 use mathlib.Core.List.{List, [], _∷_, reverse}
 use lib.ListN.{length, replicate, set}
 use lib.Dec.{leb, ltb}
 use lib.IntN.{_-ℤ_, pos}
+use lib.Signed.{ltZ}
 use Rattle.numeric.specs.Threshold.{Term}
 use Rattle.possible_sums.specs.declared.Window.{Window}
 use Rattle.possible_sums.specs.declared.Plan.{Plan}
@@ -28,7 +29,7 @@ window ts s =
 -- `Plan::for_row`
 unfoldable pub plan : List Term → State → Plan
 plan ts s =
-    cond (hasNonunit ts && hasResidualInterval s && leb (window ts s .words + 5) (window ts s .visits)) (Planned (window ts s)) Unplanned
+    cond (hasNonunit ts && hasResidualInterval s && ltZ (s .known) (limit (s .upper)) && leb (window ts s .words + 5) (window ts s .visits)) (Planned (window ts s)) Unplanned
 
 -- Document 01's answer, and the visits.
 abbrev pub searchStep : Search → Step
@@ -71,3 +72,14 @@ search ts s d =
       | Unplanned ↦ Skipped
       | Planned w ↦ searchFrom w d (reverse ts) (set (replicate (w .words) 0) 0 1) 0 (w .visits - (w .words + 2))
     ]
+
+-- WHAT IS RIGHT, apart from words and visits.
+
+-- The sum of those undecided terms of a row that a choice takes.
+unfoldable pub chosen : (decided choice : ℕ → Bool) → List Term → ℕ
+chosen decided choice [] = 0
+chosen decided choice (t ∷ ts) = cond (decided (t .condition)) 0 (cond (choice (t .condition)) (t .weight) 0) + chosen decided choice ts
+
+-- A choice of undecided terms lands in the window of a search.
+abbrev pub Lands : Window → (decided : ℕ → Bool) → List Term → (choice : ℕ → Bool) → Type 0
+Lands w decided ts choice = (w .lower ≤ chosen decided choice ts) × (chosen decided choice ts ≤ w .maximum)

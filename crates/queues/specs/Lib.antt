@@ -1,3 +1,4 @@
+pub mod Once
 pub mod Queue
 pub mod QueueLaws
 pub mod RowsLaws

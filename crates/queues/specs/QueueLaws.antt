@@ -3,15 +3,16 @@
 use mathlib.Core.Path.{_≡_, refl, sym, ap, _∙_}
 use mathlib.Core.List.{List, [], _∷_, _++_}
 use mathlib.Core.Logic.{_≢_}
-use mathlib.Core.Bool.{true, false}
+use mathlib.Core.Bool.{true}
 use Prim.Native.Nat.{ℕ, zero, suc, _+_, _-_, _%_, _≤_, _<_}
-use native.Mathlib.Nat.{mod-eq-of-lt, mod-lt, mod-mod, mod-eq-sub-mod, add-mod, not-suc-le-zero, lt-of-not-le}
+use native.Mathlib.Nat.{mod-eq-of-lt, mod-lt, mod-mod, mod-eq-sub-mod, add-mod, lt-of-not-le}
 use native.Mathlib.Decide.{decLt}
 use native.Mathlib.Numerals.{add-one}
 use native.Mathlib.Omega.{arith}
 use borrow.Author.Tests.{eq-eqb, ne-eqb, eqb-true}
 use lib.ListN.{length, getD, set, length-set}
 use lib.Seq.{getD-set-same, getD-set-other}
+use Rattle.queues.specs.Once.{times, times-last, room}
 use Rattle.queues.specs.Queue.{Queue, queue, Held, isEmpty, oldest, push, popped, Rows, rows, queueRow}
 
 -- A place behind the last is that much behind the first.
@@ -110,6 +111,35 @@ module _ (places : ℕ) (q : Queue) (held : Held places q) where
           ∙ ap (λ (k : ℕ). getD l k 0 ∷ entries places l (h + 1) n) (mod-eq-of-lt (held .head))
           ∙ ap (λ (t : List ℕ). oldest q ∷ t)
           (entries-same places l (h + 1) ((h + 1) % places) n (sym (mod-mod (h + 1) places)) ∙ ap (entries places l ((h + 1) % places)) less)
+
+  -- Both stay within the slice.
+  pub held-push : (x : ℕ) → q .ring .count < places → Held places (push places q x)
+  unfolding push
+  held-push x room =
+      record { head = held .head; count = omega arith; long = rw length-set (held .long) }
+
+  pub held-popped : Held places (popped places q)
+  unfolding popped
+  held-popped = record {
+    head = mod-lt (q .ring .head + 1) {m = places} (omega (arith, held .head));
+    count = omega (arith, held .count);
+    long = held .long;
+  }
+
+  -- How often each number waits after both.
+  pub push-times : (x : ℕ) → q .ring .count < places → (r : ℕ)
+      → times r (waitingList places (push places q x)) ≡ times r (x ∷ waitingList places q)
+  push-times x room r = ap (times r) (push-appends x room) ∙ times-last r (waitingList places q) x
+
+  pub popped-times : 0 < q .ring .count → (r : ℕ)
+      → times r (waitingList places q) ≡ times r (oldest q ∷ waitingList places (popped places q))
+  popped-times some r = ap (times r) (popped-drops some)
+
+  -- Where each number below the number of places waits at most once, and no other, there is room for one that does not wait.
+  pub room-left : ((r : ℕ) → times r (waitingList places q) ≤ 1) → ((r : ℕ) → places ≤ r → times r (waitingList places q) ≡ 0)
+      → (x : ℕ) → x < places → times x (waitingList places q) ≡ 0 → q .ring .count < places
+  room-left once none x h z =
+      rw entries-length at (room places (waitingList places q) once none x h z)
 
   pub empty-none : isEmpty q ≡ true → waitingList places q ≡ []
   unfolding entries

@@ -1,7 +1,7 @@
 -- The state of a row: sums of drained terms, the required bounds and the cursors, and the tests that the Rust makes of it.
 use Prim.Native.Nat.{ℕ, _<_, _^_}
-use mathlib.Core.Bool.{Bool, true, false, cond, _&&_, _||_}
-use lib.IntN.{ℤ, pos, negsuc, _+ℤ_, _-ℤ_}
+use mathlib.Core.Bool.{Bool, true, false, _&&_, _||_}
+use lib.IntN.{ℤ, pos, _+ℤ_, _-ℤ_}
 use lib.Signed.{mag, leZ, ltZ}
 pub use Rattle.number.specs.Signed.{maxZ, natural}
 use Rattle.state.specs.declared.Upper.{Upper}

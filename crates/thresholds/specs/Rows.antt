@@ -9,7 +9,7 @@ use lib.Dec.{eqb, leb, ltb}
 use Rattle.numeric.specs.Threshold.{Term, term, Threshold, Job}
 use Rattle.state.specs.declared.State.{State}
 use Rattle.state.specs.State.{firstState}
-use Rattle.thresholds.specs.Terms.{rowTerms, sameTerms, total}
+use Rattle.row.specs.Terms.{rowTerms, sameTerms, total}
 
 -- A guard of a row: a threshold that compares its bound with the row's sum.
 pub record Guard : Type 0 where

@@ -1,16 +1,16 @@
 -- Single places of words as numbers 0 and 1: what joining, moving and cutting a word does to each, and a word that changes in a list.
-use mathlib.Core.Path.{_≡_, refl, sym, ap, ap₂, _∙_, subst}
+use mathlib.Core.Path.{_≡_, sym, ap, _∙_, subst}
 use mathlib.Core.Logic.{_≢_}
 use mathlib.Core.List.{List}
-use Prim.Native.Nat.{ℕ, zero, suc, _+_, _*_, _-_, _/_, _%_, _^_, _<_, _≤_, max}
-use native.Mathlib.Nat.{mod-lt, mod-eq-of-lt, mul-add-mod-self-right, zero-div, zero-mod, div-eq-of-lt, div-self, mul-mod-left, mul-assoc, one-mul, lt-of-not-le}
+use Prim.Native.Nat.{ℕ, _+_, _*_, _-_, _/_, _%_, _^_, _<_, max}
+use native.Mathlib.Nat.{mod-lt, mod-eq-of-lt, mul-add-mod-self-right, zero-mod, div-eq-of-lt, div-self, mul-mod-left, mul-assoc, one-mul, lt-of-not-le}
 use native.Nat.{ℕᴺ-discrete as decEq}
 use native.Mathlib.Decide.{decLt}
 use native.Mathlib.Omega.{arith}
 use lib.Dec.{lit<}
 use lib.Pow.{pow-pos, pow-add, pow-lt, shr-shr, shl-shr, field, mod-mod-pow}
-use lib.Bits.{bitOr, or-step, or-shr}
-use lib.ListN.{length, getD, set}
+use lib.Bits.{bitOr, or-step, or-shr, or-lt}
+use lib.ListN.{length, getD}
 use lib.Seq.{getD-set-same, getD-set-other, set-out}
 use Rattle.words.specs.Mask.{digit, digitAt}
 use Rattle.words.specs.Shift.{orInto}
@@ -82,3 +82,18 @@ or-none l i bits p z = by (decLt i (length l)) (decEq (p / 64) i)
     by (yes h) (yes e) = or-same l i bits p h e ∙ (let q = z e in omega arith)
     by (no h) d = ap (λ (x : List ℕ). digitAt x p) (set-out l i (bitOr (getD l i 0) bits) (let g = lt-of-not-le h in omega arith))
     by (yes h) (no e) = or-other l i bits p e
+
+-- Words of 64 bits.
+abbrev pub Words : List ℕ → Type 0
+Words l = (i : ℕ) → getD l i 0 < 2 ^ 64
+
+pub or-words : (l : List ℕ) (i bits : ℕ) → Words l → bits < 2 ^ 64 → Words (orInto l i bits)
+or-words l i bits w h j = by (decEq j i) (decLt i (length l))
+  where
+    new : bitOr (getD l i 0) bits < 2 ^ 64
+    new = or-lt 64 (getD l i 0) bits (w i) h
+
+    by : Dec (j ≡ i) → Dec (i < length l) → getD (orInto l i bits) j 0 < 2 ^ 64
+    by (yes e) (yes g) = rw (e, getD-set-same l i (bitOr (getD l i 0) bits) 0 g) new
+    by (yes e) (no g) = rw (set-out l i (bitOr (getD l i 0) bits) (let u = lt-of-not-le g in omega arith)) (w j)
+    by (no e) g = rw (getD-set-other l i j (bitOr (getD l i 0) bits) 0 e) (w j)

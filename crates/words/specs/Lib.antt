@@ -6,3 +6,4 @@ pub mod CountLaws
 pub mod ShiftSteps
 pub mod ShiftPlaces
 pub mod ShiftWindow
+pub mod ShiftLaws

@@ -1,5 +1,5 @@
 -- Which nodes a mask has after `setBit` and `learn`, and what `learn` answers.
-use mathlib.Core.Path.{_≡_, refl, sym, ap, _∙_}
+use mathlib.Core.Path.{_≡_, refl, ap, _∙_}
 use mathlib.Core.Logic.{_≢_}
 use mathlib.Core.Bool.{Bool, true, false}
 use mathlib.Core.List.{List}
@@ -11,8 +11,8 @@ use lib.ListN.{length, getD, set, length-set}
 use lib.Bits.{bitOr}
 use lib.Pow.{pow-lt}
 use borrow.Author.Tests.{eq-eqb}
-use Rattle.words.specs.Mask.{digit, digitAt, bit, setBit, learn, learned, Learned}
-use Rattle.words.specs.Digits.{digit-small, or-same, or-none, pow-digit, pow-digit-same}
+use Rattle.words.specs.Mask.{bit, setBit, learn, learned, Learned}
+use Rattle.words.specs.Digits.{Words, or-words, digit-small, or-same, or-none, pow-digit, pow-digit-same}
 use Rattle.state.specs.declared.Step.the-variants.{Unchanged, Changed, Contradiction}
 
 -- The node is in the mask after it was put in; every other node is as it was.
@@ -30,6 +30,10 @@ set-bit-other mask n k d =
 pub length-set-bit : (mask : List ℕ) (n : ℕ) → length (setBit mask n) ≡ length mask
 unfolding setBit
 length-set-bit mask n = length-set mask (n / 64) (bitOr (getD mask (n / 64) 0) (2 ^ (n % 64)))
+
+pub set-bit-words : (mask : List ℕ) (n : ℕ) → Words mask → Words (setBit mask n)
+unfolding setBit
+set-bit-words mask n w = or-words mask (n / 64) (2 ^ (n % 64)) w (pow-lt {i = n % 64} {j = 64} (mod-lt n (lit< tt)))
 
 -- The three answers.
 pub learn-there : (mask opposite : List ℕ) (n : ℕ) → bit mask n ≡ true → learn mask opposite n ≡ learned mask Unchanged
@@ -62,6 +66,9 @@ module _ (mask opposite : List ℕ) (n : ℕ) where
 
   pub length-learn : length (learn mask opposite n .mask) ≡ length mask
   length-learn = by-case (λ l. length l ≡ length mask) refl (length-set-bit mask n)
+
+  pub learn-words : Words mask → Words (learn mask opposite n .mask)
+  learn-words w = by-case Words w (set-bit-words mask n w)
 
 -- After an answer other than a contradiction the mask has the node.
 pub learn-has : (mask opposite : List ℕ) (n : ℕ) → n / 64 < length mask → (learn mask opposite n .step ≡ Contradiction → ⊥)

@@ -3,7 +3,7 @@ use Prim.Native.Nat.{ℕ, zero, suc, _+_, _-_, _*_, _/_, _%_, _^_, min}
 use mathlib.Core.Bool.{Bool, true, false, cond, _&&_, _||_, not}
 use mathlib.Core.List.{List}
 use lib.ListN.{length, getD, set}
-use lib.Dec.{eqb, leb, ltb}
+use lib.Dec.{eqb, ltb}
 use lib.Bits.{bitOr}
 use Rattle.words.specs.declared.Ended.{Ended}
 use Rattle.words.specs.declared.Ended.the-variants.{Hit, Complete, Stopped}
@@ -15,12 +15,16 @@ pub record Shifted : Type 0 where
 abbrev pub shifted : List ℕ → Ended → Shifted
 shifted l e = record { words = l; ended = e }
 
+-- How many places of the word that stands at a position are before the window's start, and how many up to its end.
+abbrev pub before : ℕ → ℕ → ℕ
+before position start = min (start - 64 * position) 64
+
+abbrev pub upTo : ℕ → ℕ → ℕ
+upTo position end = min (end + 1 - 64 * position) 64
+
 -- The bits of the word that stands at a position, those outside the places from start to end left out.
 abbrev pub inWindow : ℕ → ℕ → ℕ → ℕ → ℕ
-inWindow position bits start end =
-    let up = end + 1 - 64 * position in
-    let from = start - 64 * position in
-    bits % 2 ^ min up 64 / 2 ^ min from 64
+inWindow position bits start end = bits % 2 ^ upTo position end / 2 ^ before position start
 
 -- Some bit of the word lies in the window.
 abbrev pub meets : ℕ → ℕ → ℕ → ℕ → Bool

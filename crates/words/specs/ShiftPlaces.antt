@@ -1,25 +1,19 @@
 -- One source word, place by place: where its bits go, and that every other place stays.
 use mathlib.Core.Path.{_≡_, refl, sym, ap, ap₂, _∙_, subst}
-use mathlib.Core.Logic.{_≢_}
 use mathlib.Core.Bool.{Bool, true, false}
 use mathlib.Core.List.{List}
-use Prim.Native.Nat.{ℕ, zero, suc, _+_, _*_, _-_, _/_, _%_, _^_, _<_, _≤_, max}
+use Prim.Native.Nat.{ℕ, _+_, _*_, _-_, _/_, _%_, _^_, _<_, _≤_, max}
 use native.Mathlib.Nat.{lt-of-not-le, lt-of-lt-of-le, lt-of-le-of-lt, mod-lt}
 use native.Mathlib.Decide.{decLe, decLt}
 use native.Mathlib.Omega.{arith}
-use native.Nat.{ℕᴺ-discrete as decEq}
 use lib.Pow.{pow-mono, pow-pos, shr-le}
-use lib.Bits.{bitOr, or-lt}
-use lib.ListN.{length, getD, set, length-set}
-use lib.Seq.{getD-set-same, getD-set-other, set-out}
+use lib.Bits.{bitOr}
+use lib.ListN.{length, getD, length-set}
+use lib.Seq.{getD-set-other}
 use Rattle.words.specs.Mask.{digit, digitAt}
-use Rattle.words.specs.Digits.{shr-digit, mod-digit, up-digit, up-low, digit-high, or-same, or-other, or-none}
+use Rattle.words.specs.Digits.{Words, or-words, shr-digit, mod-digit, up-digit, up-low, digit-high, or-same, or-other, or-none}
 use Rattle.words.specs.Shift.{lowPart, highPart, orInto, spills, shiftWord, wordHits}
 use Rattle.words.specs.ShiftSteps.{target, lowOf, highOf, shift-one, shift-two, spills-over, length-shift}
-
--- Words of 64 bits.
-abbrev pub Words : List ℕ → Type 0
-Words l = (i : ℕ) → getD l i 0 < 2 ^ 64
 
 -- The two parts of a moved word, place by place.
 pub low-up : (w o k : ℕ) → k < 64 → o ≤ k → digit (lowPart w o) k ≡ digit w (k - o)
@@ -111,17 +105,6 @@ module _ (l : List ℕ) (s d : ℕ) where
   pub hits-kept : (j a b : ℕ) → j < s → wordHits (shiftWord l s d) j d a b ≡ wordHits l j d a b
   unfolding wordHits
   hits-kept j a b h = rw (source-kept j h, length-shift l s d)
-
-or-words : (l : List ℕ) (i bits : ℕ) → Words l → bits < 2 ^ 64 → Words (orInto l i bits)
-or-words l i bits w h j = by (decEq j i) (decLt i (length l))
-  where
-    new : bitOr (getD l i 0) bits < 2 ^ 64
-    new = or-lt 64 (getD l i 0) bits (w i) h
-
-    by : Dec (j ≡ i) → Dec (i < length l) → getD (orInto l i bits) j 0 < 2 ^ 64
-    by (yes e) (yes g) = rw (e, getD-set-same l i (bitOr (getD l i 0) bits) 0 g) new
-    by (yes e) (no g) = rw (set-out l i (bitOr (getD l i 0) bits) (let u = lt-of-not-le g in omega arith)) (w j)
-    by (no e) g = rw (getD-set-other l i j (bitOr (getD l i 0) bits) 0 e) (w j)
 
 pub shift-words : (l : List ℕ) (s d : ℕ) → Words l → Words (shiftWord l s d)
 shift-words l s d w =

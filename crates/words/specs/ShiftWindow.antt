@@ -1,19 +1,19 @@
 -- A word meets the window exactly if one of its set places lies in it; and so for the moved bits of one source word.
-use mathlib.Core.Path.{_≡_, refl, sym, ap, _∙_, subst}
-use mathlib.Core.Bool.{Bool, true, false, not, _&&_, _||_, or-true}
+use mathlib.Core.Path.{_≡_, refl, sym, ap, _∙_}
+use mathlib.Core.Bool.{Bool, true, false, not, _&&_, or-true}
 use mathlib.Core.List.{List}
-use Prim.Native.Nat.{ℕ, zero, suc, _+_, _*_, _-_, _/_, _%_, _^_, _<_, _≤_, min}
-use native.Mathlib.Nat.{lt-of-not-le, lt-of-lt-of-le, lt-of-le-of-lt, mod-lt, mod-le, pow-zero, pow-suc, zero-div, zero-mod}
+use Prim.Native.Nat.{ℕ, zero, suc, _+_, _*_, _-_, _/_, _%_, _^_, _<_, _≤_}
+use native.Mathlib.Nat.{lt-of-not-le, lt-of-lt-of-le, lt-of-le-of-lt, mod-lt, pow-zero, pow-suc, zero-div, zero-mod}
 use native.Mathlib.Decide.{decLe, decLt}
 use native.Mathlib.Omega.{arith}
 use native.Nat.{ℕᴺ-discrete as decEq}
 use lib.Dec.{eqb, ltb}
 use lib.Pow.{pow-mono, pow-pos, shr-le}
 use lib.ListN.{length, getD}
-use borrow.Author.Tests.{eq-eqb, ne-eqb, eqb-true, eqb-false, ltb-true, not-true, not-false}
+use borrow.Author.Tests.{ne-eqb, eqb-false, ltb-true, not-true}
 use Rattle.words.specs.Mask.{digit, digitAt}
-use Rattle.words.specs.Digits.{digit-small, shr-digit, mod-digit, digit-high}
-use Rattle.words.specs.Shift.{inWindow, meets, lowPart, highPart, spills, wordHits}
+use Rattle.words.specs.Digits.{shr-digit, mod-digit, digit-high}
+use Rattle.words.specs.Shift.{before, upTo, inWindow, meets, spills, wordHits}
 use Rattle.words.specs.ShiftSteps.{target, lowOf, highOf, spills-over, hits-low}
 use Rattle.words.specs.ShiftPlaces.{source-digit, low-up, low-none, high-at, high-none}
 
@@ -42,8 +42,8 @@ pub record Met (position bits start end : ℕ) : Type 0 where
 pub meets-set : (position bits start end : ℕ) → Met position bits start end → meets position bits start end ≡ true
 meets-set position bits start end m =
     let k = m .place in
-    let f = min (start - 64 * position) 64 in
-    let u = min (end + 1 - 64 * position) 64 in
+    let f = before position start in
+    let u = upTo position end in
     let a : f ≤ k = omega arith in
     let b : k < u = omega arith in
     let e : f + (k - f) ≡ k = omega arith in
@@ -55,8 +55,8 @@ meets-set position bits start end m =
 
 pub meets-only : (position bits start end : ℕ) → meets position bits start end ≡ true → Met position bits start end
 meets-only position bits start end h =
-    let f = min (start - 64 * position) 64 in
-    let u = min (end + 1 - 64 * position) 64 in
+    let f = before position start in
+    let u = upTo position end in
     let small : bits % 2 ^ u < 2 ^ u = mod-lt bits (pow-pos u) in
     let r = set-place u (inWindow position bits start end) (lt-of-le-of-lt (shr-le (bits % 2 ^ u) f) small)
     (eqb-false (inWindow position bits start end) 0 (not-true (eqb (inWindow position bits start end) 0) h)) in
@@ -81,10 +81,10 @@ meets-only position bits start end h =
             let z = digit-high x k (lt-of-lt-of-le s (pow-mono {i = u} {j = k} (omega arith))) in
             absurd (omega arith)
 
-    from : (position start k : ℕ) → min (start - 64 * position) 64 ≤ k → k < 64 → start ≤ 64 * position + k
+    from : (position start k : ℕ) → before position start ≤ k → k < 64 → start ≤ 64 * position + k
     from position start k h g = omega arith
 
-    to : (position end k : ℕ) → k < min (end + 1 - 64 * position) 64 → 64 * position + k ≤ end
+    to : (position end k : ℕ) → k < upTo position end → 64 * position + k ≤ end
     to position end k h = omega arith
 
 -- Place p, inside the list, has a bit that moved up by d from a set place of word s, and lies in the window.

@@ -112,7 +112,9 @@ fn shift_word(words: &mut [u64], source: usize, shift: usize, start: usize, end:
     let target = source + shift / 64;
     let offset = shift % 64;
     let low = bits << offset;
-    words[target] |= low;
+    let joined = words[target] | low;
+    words[target] = joined;
+    // The window is asked of the moved bits alone, not of what stood there before.
     let found = meets(target, low, start, end);
     if offset == 0 {
         return found;

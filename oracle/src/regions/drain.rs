@@ -51,7 +51,11 @@ pub enum Event {
         rows: usize,
         reached: usize,
     },
-    Prefixes { row: usize, answer: Answer, moved: Vec<Moved> },
+    Prefixes {
+        row: usize,
+        answer: Answer,
+        moved: Vec<Moved>,
+    },
     Residual {
         row: usize,
         answer: Answer,
@@ -84,7 +88,7 @@ struct Idle {
     progress: support::Progress,
 }
 
-pub struct Session {
+pub struct Planner {
     theory: Theory,
     index: Narrower,
     sure: Vec<u64>,
@@ -111,14 +115,13 @@ pub struct RowView {
 
 type Outcome = Result<Step, Failure<std::convert::Infallible>>;
 
-impl Session {
+impl Planner {
     /// Build the rows by the original's `prepare`, with no chains.
     pub fn new(nodes: usize, raw: Vec<RawThreshold>) -> Self {
         let theory = Theory::of_job(nodes, raw);
         let chain_of = vec![None; nodes];
-        let thresholds =
-            Thresholds::prepare(&theory, &[], &chain_of, &extrema::Extrema, false)
-                .expect("the limits leave no overflow");
+        let thresholds = Thresholds::prepare(&theory, &[], &chain_of, &extrema::Extrema, false)
+            .expect("the limits leave no overflow");
         let states = thresholds.knowledge();
         let mut lists = CommonScratch::default();
         lists.prepare_thresholds(states.len()).expect("memory");
@@ -137,7 +140,7 @@ impl Session {
         }
     }
 
-    /// Call the original over this session's memory.
+    /// Call the original over the planner's memory.
     fn call(
         &mut self,
         meter: &mut Meter<'_, Free>,
@@ -195,8 +198,10 @@ impl Session {
 
     /// Decide and queue one node.
     pub fn mark(&mut self, node: usize, sure: bool) -> Answer {
-        self.step(|closure, _, _, _| Ok(if sure { closure.sure(node) } else { closure.never(node) }))
-            .into()
+        self.step(|closure, _, _, _| {
+            Ok(if sure { closure.sure(node) } else { closure.never(node) })
+        })
+        .into()
     }
 
     pub fn settle(&mut self) -> Answer {
@@ -300,7 +305,8 @@ impl Session {
     fn prefixes(&mut self, row: usize) -> Step {
         let targets = self.index.thresholds.links(row).to_vec();
         let before: Vec<State> = targets.iter().map(|&target| self.states[target]).collect();
-        let step = self.step(|closure, index, _, work| closure.threshold_prefixes(index, row, work));
+        let step =
+            self.step(|closure, index, _, work| closure.threshold_prefixes(index, row, work));
         let mut moved = Vec::new();
         for (&target, old) in targets.iter().zip(before) {
             let (_, _, lower, upper) = self.states[target].figures();
@@ -320,7 +326,8 @@ impl Session {
         let before = self.counts();
         // Taken away for the moment, to see whether the call builds it anew.
         let suffix = std::mem::take(&mut self.lists.residual_suffix);
-        let step = self.step(|closure, index, _, work| closure.threshold_residual(index, row, work));
+        let step =
+            self.step(|closure, index, _, work| closure.threshold_residual(index, row, work));
         let branches = !self.lists.residual_suffix.is_empty();
         if !branches {
             self.lists.residual_suffix = suffix;
@@ -348,13 +355,17 @@ impl Session {
         let step = self.call(&mut meter, |closure, index, _, work| {
             closure.threshold_possible_sums(index, row, work)
         });
+        let words = self.lists.possible_sums.capacity();
         if meter.visits > 0 {
             *last = meter.visits;
+            // An allocator that hands out more than asked would be noticed here.
+            let wanted = upper.map(|upper| (upper - known - 1) / 64 + 1);
+            assert_eq!(wanted, Some(words as i128), "words of the plan");
         }
         self.events.push(Event::Search {
             row,
             answer: step.into(),
-            words: self.lists.possible_sums.capacity(),
+            words,
             visits: meter.visits,
             cut_short: meter.cut_short,
             interval,

@@ -5,9 +5,6 @@ use Rattle.words.specs.Mask.{Learned}
 use Rattle.words.specs.MaskLaws.{learn-there, learn-opposite, learn-new, set-bit}
 use Rattle.words.proofs.learn.Statement.{statement}
 use Rattle.words.proofs.learn.Tie as tie
-use Rattle.words.proofs.learn.Reads as reads
-use Rattle.words.proofs.learn.Lts as lts
-use Rattle.words.proofs.bit.Reads as bit-reads
 
 bit-requires : tie.Need-bit-requires
 bit-requires c κs = search needs

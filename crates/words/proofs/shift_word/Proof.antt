@@ -1,5 +1,5 @@
 -- `words::shift_word` meets its contract: a word that stays whole, one whose upper part falls off the end, and one in two parts.
-use mathlib.Core.Path.{_≡_, sym, _∙_}
+use mathlib.Core.Path.{sym, _∙_}
 use Prim.Native.Nat.{_+_, _-_, _/_, _%_, _<_, _≤_}
 use native.Mathlib.Omega.{arith}
 use lib.ListN.{length, length-set}
@@ -7,9 +7,6 @@ use borrow.Author.Needs.{needs}
 use Rattle.words.specs.ShiftSteps.{spills-whole, spills-last, spills-over, shift-one, shift-two, hits-one, hits-low, hits-high}
 use Rattle.words.proofs.shift_word.Statement.{statement}
 use Rattle.words.proofs.shift_word.Tie as tie
-use Rattle.words.proofs.shift_word.Reads as reads
-use Rattle.words.proofs.shift_word.Lts as lts
-use Rattle.words.proofs.meets.Reads as meets-reads
 
 mul-bits : tie.Need-mul-bits
 mul-bits c = search needs
@@ -23,11 +20,14 @@ add-target c = search needs
 shl-low : tie.Need-shl-low
 shl-low c = search needs
 
+mul-joined : tie.Need-mul-joined
+mul-joined c = search needs
+
+slice-read-joined : tie.Need-slice-read-joined
+slice-read-joined c = search needs
+
 mul-words : tie.Need-mul-words
 mul-words c = search needs
-
-slice-read-words : tie.Need-slice-read-words
-slice-read-words c = search needs
 
 slice-write-words : tie.Need-slice-write-words
 slice-write-words c = search needs
@@ -70,8 +70,8 @@ add-words c = search needs
 mul-words-2 : tie.Need-mul-words-2
 mul-words-2 c = search needs
 
-slice-read-words-2 : tie.Need-slice-read-words-2
-slice-read-words-2 c = search needs
+slice-read-words : tie.Need-slice-read-words
+slice-read-words c = search needs
 
 slice-write-words-2 : tie.Need-slice-write-words-2
 slice-write-words-2 c = search needs
@@ -114,8 +114,9 @@ shift-word-spec =
     slice-read-bits
     add-target
     shl-low
+    mul-joined
+    slice-read-joined
     mul-words
-    slice-read-words
     slice-write-words
     meets-requires
     same-length
@@ -127,7 +128,7 @@ shift-word-spec =
     shr-high
     add-words
     mul-words-2
-    slice-read-words-2
+    slice-read-words
     slice-write-words-2
     same-length-3
     returns-3

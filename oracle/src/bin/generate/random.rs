@@ -53,7 +53,8 @@ pub struct Shape {
 }
 
 pub const SMALL: Shape = Shape { nodes: 8, thresholds: 4, terms: 5, all_terms: 10, records: 7 };
-pub const MEDIUM: Shape = Shape { nodes: 40, thresholds: 14, terms: 12, all_terms: 90, records: 30 };
+pub const MEDIUM: Shape =
+    Shape { nodes: 40, thresholds: 14, terms: 12, all_terms: 90, records: 30 };
 pub const LARGE: Shape =
     Shape { nodes: 4_096, thresholds: 1_024, terms: 60, all_terms: 4_096, records: 300 };
 
@@ -103,13 +104,7 @@ fn weight(random: &mut Random, family: Weights) -> u32 {
 }
 
 /// A new list, or one made from an earlier list.
-fn list(
-    random: &mut Random,
-    nodes: usize,
-    most: usize,
-    family: Weights,
-    earlier: &[List],
-) -> List {
+fn list(random: &mut Random, nodes: usize, most: usize, family: Weights, earlier: &[List]) -> List {
     let new = |random: &mut Random, count: usize| -> List {
         (0..count).map(|_| (random.below(nodes), weight(random, family))).collect()
     };
@@ -335,21 +330,28 @@ pub fn sums(random: &mut Random, most: usize) -> Vec<u8> {
         _ => random.range(20, 400),
     };
     let spread = random.range(0, 3);
+    // Few common factors: several terms can be forced at once.
+    let factors = random.chance(4);
     let factor = random.pick(&[1, 1, 1, 2, 3]);
     let mut list: List = Vec::new();
     for condition in 0..count {
-        let odd = random.chance(9);
-        let one = if odd { random.range(1, 4 * middle) } else { middle + random.range(0, spread) };
+        let one = if factors {
+            random.pick(&[4, 6, 6, 9, 10, 12, 14, 15, 18, 20, 21, 30])
+        } else if random.chance(9) {
+            random.range(1, 4 * middle)
+        } else {
+            middle + random.range(0, spread)
+        };
         list.push((condition, (one * factor) as u32));
     }
     let all = total(&list);
     let steps = random.range(0, count as i64);
-    let low = if random.chance(3) {
+    let low = if factors || random.chance(3) {
         random.range(1, all)
     } else {
         (steps * middle * factor + random.range(-2, 4 * spread + 3)).max(1)
     };
-    let high = low + random.range(1, 3 + middle / 3);
+    let high = low + if factors { random.range(1, 2) } else { random.range(1, 3 + middle / 3) };
     for (node, bound) in [(count, low), (count + 1, high)] {
         file.threshold(node, bound);
         for &(condition, weight) in &list {
@@ -428,7 +430,10 @@ fn one_record(random: &mut Random) -> Vec<u8> {
     let edge = threshold_oracle::job::BOUND;
     match random.below(10) {
         0 => file.header(node),
-        1 => file.threshold(node, random.pick(&[0, 5, edge, edge + 1, -edge, -edge - 1, i64::MAX, i64::MIN])),
+        1 => file.threshold(
+            node,
+            random.pick(&[0, 5, edge, edge + 1, -edge, -edge - 1, i64::MAX, i64::MIN]),
+        ),
         2 => file.term(node, random.pick(&[0, 1, 7, u32::MAX])),
         3 => file.seal(),
         4 => file.mark(node, random.pick(&[0, 1, 2, 255])),
@@ -508,6 +513,9 @@ pub fn limits(random: &mut Random) -> Vec<u8> {
         5 => far_bounds(random, &mut file),
         6 => wide_search(random, &mut file),
         _ => equal_chain(random, &mut file),
+    }
+    if random.chance(6) {
+        damage(random, &mut file.0);
     }
     file.0
 }
@@ -636,7 +644,13 @@ fn equal_chain(random: &mut Random, file: &mut File) {
     file.header(count + 3);
     let weights = random.pick(&[[5, 4, 3], [5, 5, 5], [7, 4, 2]]);
     for place in 0..count {
-        let bound = if place == 0 { 6 } else if place + 1 == count { 8 } else { 7 };
+        let bound = if place == 0 {
+            6
+        } else if place + 1 == count {
+            8
+        } else {
+            7
+        };
         file.threshold(3 + place, bound);
         for (condition, weight) in weights.iter().enumerate() {
             file.term(condition, *weight);

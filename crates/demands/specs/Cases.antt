@@ -1,0 +1,134 @@
+-- The cases P1 to P12 of document 01, rows of one table under one theorem, proved by computing the definitions.
+use Prim.Native.Nat.{ℕ, zero, suc, _+_, _-_, _/_, _%_, _^_}
+use Prim.Native.String.{String}
+use mathlib.Core.Path.{_≡_, refl, sym, ap, _∙_, subst⁻¹}
+use mathlib.Core.Bool.{Bool, true, false, cond}
+use mathlib.Core.List.{List, [], _∷_, _++_, List·Memᴰ, List·Memᴰ·cases-cons, List·Memᴰ·not-nil}
+use mathlib.Core.Logic.{_⊎_, ⊎-elim}
+use lib.IntN.{ℤ, pos, negsuc}
+use Rattle.numeric.specs.Area.{weightOfArea}
+use Rattle.numeric.specs.Threshold.{Term, term}
+use Rattle.state.specs.declared.Step.{Step}
+use Rattle.state.specs.declared.Step.the-variants.{Unchanged, Changed, Contradiction}
+use Rattle.state.specs.declared.State.{State}
+use Rattle.state.specs.declared.Upper.the-variants.{Open, Under}
+use Rattle.state.specs.Step as Steps
+use Rattle.state.specs.State as States
+use Rattle.words.specs.Mask as Mask
+use Rattle.words.specs.Shift as Shift
+use Rattle.queues.specs.Queue as Queues
+use Rattle.queues.specs.Marks as Marks
+use Rattle.row.specs.Terms as Terms
+use Rattle.thresholds.specs.Rows as Rows
+use Rattle.prefixes.specs.Links as Links
+use Rattle.residual.specs.Gcd as Gcd
+use Rattle.residual.specs.Residual as Residuals
+use Rattle.possible_sums.specs.declared.Search.{Search}
+use Rattle.possible_sums.specs.declared.Search.the-variants.{Skipped, Fits, Nothing, Cut}
+use Rattle.possible_sums.specs.Search as Searches
+use Rattle.propagate.specs.Scan as Scan
+use Rattle.propagate.specs.Row as Row
+use Rattle.propagate.specs.Between as Between
+use Rattle.regions.specs.Drain as Drain
+use Rattle.regions.specs.Sift as Sift
+use Rattle.planner.specs.Record.{littleEndian, Record, header, opens, adds, areas, seal, mark, settle, sift, unknown}
+use Rattle.planner.specs.File as File
+use Rattle.planner.specs.Listing.{text, listing}
+use Rattle.planner.specs.Listing as Listing
+
+-- A number as so many bytes, the lowest first.
+unfoldable pub bytes : ℕ → ℕ → List ℕ
+bytes zero n = []
+bytes (suc k) n = n % 256 ∷ bytes k (n / 256)
+
+unfoldable pub twos : ℤ → ℕ
+twos (pos n) = n
+twos (negsuc n) = 2 ^ 64 - 1 - n
+
+-- A record as it is written.
+unfoldable pub written : Record → List ℕ
+written (header n) = 1 ∷ bytes 2 n
+written (opens n b) = 2 ∷ bytes 2 n ++ bytes 8 (twos b)
+written (adds c w) = 3 ∷ bytes 2 c ++ bytes 4 w
+written seal = 4 ∷ []
+written (mark n v) = 5 ∷ bytes 2 n ++ bytes 1 v
+written settle = 6 ∷ []
+written sift = 7 ∷ []
+written (areas c a) = 8 ∷ bytes 2 c ++ bytes 4 a
+written unknown = []
+
+unfoldable pub writtenAll : List Record → List ℕ
+writtenAll [] = []
+writtenAll (r ∷ rs) = written r ++ writtenAll rs
+
+-- A case: what is given, and what the papers say of it.
+pub data Case : Type 0 where
+  lists : (file : List Record) (listing : String) → Case
+  conflicts : State → Bool → Case
+  divides : (a b gcd : ℕ) → Case
+  weighs : (area weight : ℕ) → Case
+  merges : (raw row : List Term) → Case
+  searches : (row : List Term) → State → Search → Case
+  residual : (row : List Term) → State → Step → Case
+
+-- What is claimed of a case: the definitions give it.
+abbrev pub Right : Case → Type 0
+Right (lists f t) = listing (File.planned (writtenAll f)) ≡ text t
+Right (conflicts s b) = States.conflict s ≡ b
+Right (divides a b g) = Gcd.gcd a b ≡ g
+Right (weighs a w) = weightOfArea a ≡ w
+Right (merges raw row) = Terms.rowTerms raw ≡ row
+Right (searches row s r) = Searches.search row s (λ n. false) ≡ r
+Right (residual row s k) = Residuals.thresholdResidual row s (File.cleared .marks) [] .step ≡ k
+
+-- A row state before its scans: known 0, possible, lower, upper.
+abbrev fresh : ℕ → ℕ → ℕ → State
+fresh p l u = States.stateOf (pos 0) (pos p) (pos l) (Under (pos u)) 0 0 0 0
+
+-- Files A and B of document 01.
+abbrev pub file-A : List Record
+file-A = header 5 ∷ opens 4 (pos 6) ∷ adds 0 4 ∷ adds 1 3 ∷ adds 2 2 ∷ seal ∷ mark 4 1 ∷ settle ∷ []
+
+abbrev pub file-B : List Record
+file-B =
+    header 6 ∷ opens 4 (pos 6) ∷ adds 0 5 ∷ adds 1 5 ∷ adds 2 4 ∷ adds 3 4
+    ∷ opens 5 (pos 8) ∷ adds 0 5 ∷ adds 1 5 ∷ adds 2 4 ∷ adds 3 4 ∷ seal ∷ mark 4 1 ∷ mark 5 0 ∷ settle ∷ sift ∷ []
+
+abbrev pub cases : List Case
+cases =
+    lists (header 1 ∷ opens 0 (pos 0) ∷ seal ∷ []) "node 0 sure\nrow 0 0 0 0 -\nend 1 0\n"  -- P1
+    ∷ lists (header 1 ∷ opens 0 (pos 1) ∷ seal ∷ []) "node 0 never\nrow 0 0 0 0 -\nend 0 1\n"  -- P2
+    ∷ lists (header 1 ∷ opens 0 (negsuc 0) ∷ seal ∷ []) "node 0 sure\nrow 0 0 0 0 -\nend 1 0\n"  -- P3
+    ∷ divides 0 0 0 ∷ divides 0 6 6  -- P4
+    ∷ lists file-A "settle changed\nnode 0 sure\nnode 4 sure\nrow 0 4 9 6 -\nend 2 0\n"  -- P5
+    ∷ lists (header 3 ∷ opens 2 (pos 5) ∷ adds 0 5 ∷ adds 1 4 ∷ seal ∷ mark 2 0 ∷ settle ∷ [])
+    "settle changed\nnode 0 never\nnode 2 never\nrow 0 0 4 0 5\nend 0 2\n"  -- P6
+    ∷ conflicts (States.stateOf (pos 0) (pos 9) (pos 9) Open 0 0 0 0) false  -- P7
+    ∷ conflicts (States.stateOf (pos 0) (pos 9) (pos 10) Open 0 0 0 0) true
+    ∷ lists file-B "settle unchanged\nsift contradiction 11\nnode 4 sure\nnode 5 never\nrow 0 0 18 6 8\nend 1 1\n"  -- P8
+    ∷ searches (term 0 301 ∷ term 1 299 ∷ term 2 200 ∷ []) (fresh 800 400 431) (Cut 12)  -- P9
+    ∷ lists (header 5 ∷ opens 3 (pos 400) ∷ adds 0 301 ∷ adds 1 299 ∷ adds 2 200 ∷ opens 4 (pos 431) ∷ adds 0 301 ∷ adds 1 299 ∷ adds 2 200
+    ∷ seal ∷ mark 3 1 ∷ mark 4 0 ∷ sift ∷ [])
+    "sift unchanged 12\nnode 3 sure\nnode 4 never\nrow 0 0 800 400 431\nend 1 1\n"
+    ∷ weighs 49 0 ∷ weighs 50 1 ∷ weighs 4294967295 42949673  -- P10
+    ∷ merges (term 3 2 ∷ term 3 2 ∷ []) (term 3 4 ∷ [])  -- P11
+    ∷ residual (term 0 4 ∷ term 1 4 ∷ term 2 4 ∷ term 3 3 ∷ []) (fresh 15 5 7) Contradiction  -- P12
+    ∷ []
+
+-- The claim at each row of a list.
+abbrev Every : List Case → Type 0
+Every [] = Unit {0}
+Every (c ∷ cs) = Right c × Every cs
+
+lift : (cs : List Case) → Every cs → (c : Case) → List·Memᴰ c cs → Right c
+lift [] h c m = absurd (List·Memᴰ·not-nil m)
+lift (d ∷ cs) h c m =
+    ⊎-elim (λ (e : c ≡ d). subst⁻¹ Right e (h .0)) (λ (n : List·Memᴰ c cs). lift cs (h .1) c n) (List·Memᴰ·cases-cons m)
+
+computed : Every cases
+unfolding States.firstState States.noState States.withKnown States.withPossible States.withLower States.withUpper States.withGuards States.withTerms States.drained States.conflict States.hasResidualInterval Mask.setBit Mask.learn Shift.shiftWord Shift.wordHits Shift.shiftFrom Shift.unionShifted Queues.push Queues.popped Queues.queueRow Queues.nextRow Marks.decide Terms.merge Terms.merged Terms.insert Terms.sorted Terms.total Terms.sameTerms Rows.insertGuard Rows.place Rows.placeAll Rows.rowNumber Rows.hasNonunit Rows.edgesIn Rows.edgesFrom Links.notAfter Links.insertRow Links.orderFrom Links.common Links.ancestors Links.stacked Links.linked Links.linksFrom Links.links Links.neighbours Gcd.gcdIn Gcd.gcd Gcd.misses Gcd.branchMisses Residuals.checkFrom Residuals.residualCheck Residuals.fitsFrom Residuals.suffixFrom Residuals.forceTerm Residuals.forceFrom Residuals.thresholdResidual Searches.plan Searches.searchFrom Searches.search Scan.scan Row.thresholdGuards Row.trueTerms Row.falseTerms Row.scans Row.thresholdRow Row.wantsResidual Between.runRow Between.bounded Between.thresholdGuard Between.conditionFrom Between.thresholdCondition Between.prefixesFrom Between.thresholdPrefixes Drain.firstStates Drain.seedFrom Drain.seal Drain.mark Drain.guardOf Drain.takeNode Drain.takeRow Drain.drain Sift.tryRow Sift.siftFrom File.begun File.lastNode File.lastTerms File.allTerms File.first File.refusal File.addTerm File.settledFile File.siftedFile File.apply File.readFrom File.fileOf File.planned File.after Listing.text Listing.digits Listing.answerLines Listing.nodeLines Listing.rowLines Listing.count Listing.listing littleEndian bytes twos written writtenAll
+computed = (refl, (refl, (refl, (refl, (refl, (refl, (refl, (refl, (refl, (refl, (refl, (refl, (refl, (refl, (refl, (refl, (refl, tt)))))))))))))))))
+
+-- EVERY CASE OF THE TABLE
+pub worked : (c : Case) → List·Memᴰ c cases → Right c
+worked c m = lift cases computed c m

@@ -1,0 +1,1 @@
+// Lists as buffers hold them: definitions and laws, no code.

@@ -1,0 +1,115 @@
+-- The lent buffers (docs/BUFFERS.md): what is lent, the test of every length, and clearing.
+use Prim.Native.Nat.{ℕ}
+use mathlib.Core.Bool.{Bool, _&&_}
+use mathlib.Core.List.{List, [], _∷_}
+use lib.ListN.{length, replicate}
+use lib.Dec.{leb}
+use lib.IntN.{ℤ, pos}
+
+-- The job as the records gave it.
+pub record Raw : Type 0 where
+  pub raw-conditions : List ℕ  -- of all terms, in the order of the records
+  pub raw-weights : List ℕ
+  pub thresholds : List (List ℕ)  -- node; where its terms end
+  pub bounds : List ℤ
+
+-- What the seal builds: rows, guards, and who stands where.
+pub record Built : Type 0 where
+  pub row-conditions : List ℕ  -- the terms of the rows, one row behind the other
+  pub row-weights : List ℕ
+  pub rows : List (List ℕ)  -- where a row's terms, guards and neighbours end
+  pub guard-bounds : List ℤ
+  pub guard-nodes : List ℕ
+  pub nodes : List (List ℕ)  -- a node's threshold, counted from 1 (0: none), that threshold's row, where its edges end
+  pub edges : List (List ℕ)  -- row and weight, condition by condition
+  pub links : List ℕ  -- the neighbours of each row
+  pub scratch : List (List ℕ)  -- zero before and after the seal
+
+-- What marks, settles and sifts change.
+pub record Kept : Type 0 where
+  pub figures : List (List ℤ)  -- known, possible, lower, upper (0 for none)
+  pub cursors : List (List ℕ)  -- the four cursors, then 1 if there is an upper
+  pub sure : List ℕ
+  pub never : List ℕ
+  pub search : List ℕ  -- zero before and after each search
+  pub gcds : List ℕ
+  pub node-queue : List ℕ
+  pub row-queue : List ℕ
+  pub residual-queue : List ℕ
+  pub row-pending : List ℕ
+  pub residual-pending : List ℕ
+  pub answers : List ℕ
+  pub visits : List ℕ
+
+pub record Work : Type 0 where
+  pub raw : Raw
+  pub built : Built
+  pub kept : Kept
+
+-- THE TEST of every length.
+
+abbrev pub fitsRaw : Raw → Bool
+fitsRaw w =
+    leb 4096 (length (w .raw-conditions)) && leb 4096 (length (w .raw-weights)) && leb 1024 (length (w .thresholds)) && leb 1024 (length (w .bounds))
+
+abbrev pub fitsBuilt : Built → Bool
+fitsBuilt w =
+    leb 4096 (length (w .row-conditions)) && leb 4096 (length (w .row-weights)) && leb 1024 (length (w .rows)) && leb 1024 (length (w .guard-bounds))
+    && leb 1024 (length (w .guard-nodes)) && leb 4096 (length (w .nodes)) && leb 4096 (length (w .edges)) && leb 2048 (length (w .links)) && leb 1024 (length (w .scratch))
+
+abbrev pub fitsKept : Kept → Bool
+fitsKept w =
+    leb 1024 (length (w .figures)) && leb 1024 (length (w .cursors)) && leb 64 (length (w .sure)) && leb 64 (length (w .never))
+    && leb 4096 (length (w .search)) && leb 1025 (length (w .gcds)) && leb 4096 (length (w .node-queue)) && leb 1024 (length (w .row-queue))
+    && leb 1024 (length (w .residual-queue)) && leb 1024 (length (w .row-pending)) && leb 1024 (length (w .residual-pending))
+    && leb 64 (length (w .answers)) && leb 64 (length (w .visits))
+
+unfoldable pub fits : List ℕ → Work → Bool
+fits input w = fitsRaw (w .raw) && fitsBuilt (w .built) && fitsKept (w .kept) && leb (length input) 65536
+
+-- CLEARING: every element of every buffer, however long it is.
+
+unfoldable pub zeros : {X : Type 0} → X → List X → List X
+zeros z [] = []
+zeros z (x ∷ xs) = z ∷ zeros z xs
+
+unfoldable pub clearRaw : Raw → Raw
+clearRaw w = record {
+  raw-conditions = zeros 0 (w .raw-conditions);
+  raw-weights = zeros 0 (w .raw-weights);
+  thresholds = zeros (replicate 2 0) (w .thresholds);
+  bounds = zeros (pos 0) (w .bounds);
+}
+
+unfoldable pub clearBuilt : Built → Built
+clearBuilt w = record {
+  row-conditions = zeros 0 (w .row-conditions);
+  row-weights = zeros 0 (w .row-weights);
+  rows = zeros (replicate 3 0) (w .rows);
+  guard-bounds = zeros (pos 0) (w .guard-bounds);
+  guard-nodes = zeros 0 (w .guard-nodes);
+  nodes = zeros (replicate 3 0) (w .nodes);
+  edges = zeros (replicate 2 0) (w .edges);
+  links = zeros 0 (w .links);
+  scratch = zeros (replicate 3 0) (w .scratch);
+}
+
+unfoldable pub clearKept : Kept → Kept
+clearKept w = record {
+  figures = zeros (replicate 4 (pos 0)) (w .figures);
+  cursors = zeros (replicate 5 0) (w .cursors);
+  sure = zeros 0 (w .sure);
+  never = zeros 0 (w .never);
+  search = zeros 0 (w .search);
+  gcds = zeros 0 (w .gcds);
+  node-queue = zeros 0 (w .node-queue);
+  row-queue = zeros 0 (w .row-queue);
+  residual-queue = zeros 0 (w .residual-queue);
+  row-pending = zeros 0 (w .row-pending);
+  residual-pending = zeros 0 (w .residual-pending);
+  answers = zeros 0 (w .answers);
+  visits = zeros 0 (w .visits);
+}
+
+unfoldable pub cleared : Work → Work
+cleared w = record { raw = clearRaw (w .raw); built = clearBuilt (w .built); kept = clearKept (w .kept) }

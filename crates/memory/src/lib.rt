@@ -1,0 +1,1 @@
+// The lent buffers: the test of their lengths, and clearing.
