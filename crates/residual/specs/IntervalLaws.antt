@@ -40,21 +40,21 @@ natural-mono (pos a) (negsuc b) h = absurd (clash (sym h))
 natural-mono (negsuc a) b h = omega arith
 
 -- Below a limit: at most the last number before it.
-natural-last : (a b : ℤ) → ltZ a b ≡ true → natural a ≤ natural b - 1
+pub natural-last : (a b : ℤ) → ltZ a b ≡ true → natural a ≤ natural b - 1
 natural-last (pos a) (pos b) h = omega (arith, ltb-true a b h)
 natural-last (pos a) (negsuc b) h = absurd (clash (sym h))
 natural-last (negsuc a) b h = omega arith
 
-both-left : (a b : Bool) → (a && b) ≡ true → a ≡ true
+pub both-left : (a b : Bool) → (a && b) ≡ true → a ≡ true
 both-left true b h = refl
 both-left false b h = absurd (clash (sym h))
 
-both-right : (a b : Bool) → (a && b) ≡ true → b ≡ true
+pub both-right : (a b : Bool) → (a && b) ≡ true → b ≡ true
 both-right true b h = h
 both-right false b h = absurd (clash (sym h))
 
 -- A limit that there is, and that is not at most z, is above z.
-limit-above : (u : Upper) (y z : ℤ) → upperAtMost u y ≡ true → upperAtMost u z ≡ false → ltZ z (limit u) ≡ true
+pub limit-above : (u : Upper) (y z : ℤ) → upperAtMost u y ≡ true → upperAtMost u z ≡ false → ltZ z (limit u) ≡ true
 limit-above Open y z h k = absurd (clash (sym h))
 limit-above (Under u) y z h k = nle-ltZ z u k
 

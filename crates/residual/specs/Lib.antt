@@ -8,3 +8,4 @@ pub mod IntervalLaws
 pub mod CheckLaws
 pub mod FitsLaws
 pub mod ForceLaws
+pub mod Sums
