@@ -9,3 +9,4 @@ pub mod CheckLaws
 pub mod FitsLaws
 pub mod ForceLaws
 pub mod Sums
+pub mod ResidualLaws
