@@ -1,5 +1,6 @@
 -- Forcing one term after the other, from the heavy end: what a turn does to the marks and the answer, and the room it takes.
 use Prim.Native.Nat.{ℕ, suc, _+_, _-_, _%_, _<_, _≤_}
+use native.Mathlib.Decide.{ℕ-discrete}
 use native.Mathlib.Omega.{arith}
 use mathlib.Core.Path.{_≡_, refl, sym, ap, _∙_}
 use mathlib.Core.Bool.{Bool, true, false}
@@ -84,17 +85,26 @@ unfolding decide
 grows-decide true m n = grows-waiting (learn (m .sure) (m .never) n .step) (m .nodes) n
 grows-decide false m n = grows-waiting (learn (m .never) (m .sure) n .step) (m .nodes) n
 
-pub grows-force : (i : Interval) (m : Marks) (t : Term) (divisor : ℕ) → Grows (m .nodes) (forceTerm i m t divisor .marks .nodes)
-unfolding forceTerm
-grows-force i m t divisor = by (eqb divisor 1) refl (offMisses i (t .weight) divisor) refl (onMisses i (t .weight) divisor) refl
+-- What holds of each of the four ways to force a term holds of the way taken.
+pub force-cases : (P : Decided → Type 0) (i : Interval) (m : Marks) (t : Term) (divisor : ℕ) → P (decided m Unchanged)
+    → (offMisses i (t .weight) divisor ≡ true → onMisses i (t .weight) divisor ≡ true → P (decided m Contradiction))
+    → (offMisses i (t .weight) divisor ≡ true → P (decide true m (t .condition)))
+    → (onMisses i (t .weight) divisor ≡ true → P (decide false m (t .condition))) → P (forceTerm i m t divisor)
+force-cases P i m t divisor rest none sure never =
+    by (ℕ-discrete divisor 1) (offMisses i (t .weight) divisor) refl (onMisses i (t .weight) divisor) refl
   where
-    by : (u : Bool) → eqb divisor 1 ≡ u → (off : Bool) → offMisses i (t .weight) divisor ≡ off → (on : Bool) → onMisses i (t .weight) divisor ≡ on
-        → Grows (m .nodes) (forceTerm i m t divisor .marks .nodes)
-    by true e off f on g = rw (e, forceTerm) (grows-not (m .nodes))
-    by false e true f true g = rw (e, f, g, forceTerm) (grows-not (m .nodes))
-    by false e true f false g = rw (e, f, g, forceTerm) (grows-decide true m (t .condition))
-    by false e false f true g = rw (e, f, g, forceTerm) (grows-decide false m (t .condition))
-    by false e false f false g = rw (e, f, g, forceTerm) (grows-not (m .nodes))
+    by : Dec (divisor ≡ 1) → (off : Bool) → offMisses i (t .weight) divisor ≡ off → (on : Bool) → onMisses i (t .weight) divisor ≡ on
+        → P (forceTerm i m t divisor)
+    by (yes e) off f on g = rw (force-unit i m t divisor e) rest
+    by (no n) true f true g = rw (force-none i m t divisor n f g) (none f g)
+    by (no n) true f false g = rw (force-sure i m t divisor n f g) (sure f)
+    by (no n) false f true g = rw (force-never i m t divisor n f g) (never g)
+    by (no n) false f false g = rw (force-free i m t divisor n f g) rest
+
+pub grows-force : (i : Interval) (m : Marks) (t : Term) (divisor : ℕ) → Grows (m .nodes) (forceTerm i m t divisor .marks .nodes)
+grows-force i m t divisor =
+    force-cases (λ (x : Decided). Grows (m .nodes) (x .marks .nodes)) i m t divisor (grows-not (m .nodes)) (λ f g. grows-not (m .nodes))
+    (λ f. grows-decide true m (t .condition)) (λ g. grows-decide false m (t .condition))
 
 -- Room for the terms that are left stays, with a term that adds nothing and with one that does.
 pub room-less : (q : Queue) (n k : ℕ) → k ≤ n → Room n q → Room k q
@@ -111,22 +121,22 @@ room-next q r n k e g h = record {
 }
 
 module _ (i : Interval) (suf : List ℕ) (t : Term) (ts : List Term) (prefix : ℕ) (m : Marks) (step : Step) where
-  skip : isDecided m (t .condition) ≡ true → forceFrom i suf (t ∷ ts) prefix m step ≡ forceFrom i suf ts prefix m step
+  pub from-skip : isDecided m (t .condition) ≡ true → forceFrom i suf (t ∷ ts) prefix m step ≡ forceFrom i suf ts prefix m step
   unfolding forceFrom
-  skip h = rw (h, forceFrom)
+  from-skip h = rw (h, forceFrom)
 
   module _ (h : isDecided m (t .condition) ≡ false) where
-    stop : (d : Decided) → d ≡ forceTerm i m t (gcd prefix (getD suf (length ts) 0)) → contradicts (d .step) ≡ true
+    pub from-stop : (d : Decided) → d ≡ forceTerm i m t (gcd prefix (getD suf (length ts) 0)) → contradicts (d .step) ≡ true
         → forceFrom i suf (t ∷ ts) prefix m step ≡ decided (d .marks) Contradiction
     unfolding forceFrom
-    stop d e k =
+    from-stop d e k =
         let l = rw e at k in
         rw (h, l, forceFrom) (ap (λ (x : Decided). decided (x .marks) Contradiction) (sym e))
 
-    more : (d : Decided) → d ≡ forceTerm i m t (gcd prefix (getD suf (length ts) 0)) → contradicts (d .step) ≡ false
+    pub from-more : (d : Decided) → d ≡ forceTerm i m t (gcd prefix (getD suf (length ts) 0)) → contradicts (d .step) ≡ false
         → forceFrom i suf (t ∷ ts) prefix m step ≡ forceFrom i suf ts (gcd prefix (t .weight)) (d .marks) (joined step (d .step))
     unfolding forceFrom
-    more d e k =
+    from-more d e k =
         let l = rw e at k in
         rw (h, l, forceFrom) (ap (λ (x : Decided). forceFrom i suf ts (gcd prefix (t .weight)) (x .marks) (joined step (x .step))) (sym e))
 
@@ -139,7 +149,7 @@ module _ (i : Interval) (suf cs ws : List ℕ) (p prefix : ℕ) (m : Marks) (ste
       ∙ ap (λ (k : ℕ). forceFrom i suf (term (getD cs p 0) (getD ws p 0) ∷ drop k (terms cs ws)) prefix m step) (sym (add-one p))
 
   pub force-skip : isDecided m (getD cs p 0) ≡ true → forceFrom i suf (drop p (terms cs ws)) prefix m step ≡ forceFrom i suf (drop (p + 1) (terms cs ws)) prefix m step
-  force-skip h = here ∙ skip i suf (term (getD cs p 0) (getD ws p 0)) (drop (p + 1) (terms cs ws)) prefix m step h
+  force-skip h = here ∙ from-skip i suf (term (getD cs p 0) (getD ws p 0)) (drop (p + 1) (terms cs ws)) prefix m step h
 
   module _ (same : length cs ≡ length ws) (h : isDecided m (getD cs p 0) ≡ false) (divisor : ℕ) (v : divisor ≡ gcd prefix (getD suf (length ws - p - 1) 0))
       (d : Decided) (e : d ≡ forceTerm i m (term (getD cs p 0) (getD ws p 0)) divisor) where
@@ -150,12 +160,12 @@ module _ (i : Interval) (suf cs ws : List ℕ) (p prefix : ℕ) (m : Marks) (ste
         (sym (length-drop (p + 1) (terms cs ws) ∙ omega (arith, length-terms cs ws))))
 
     pub force-stop : contradicts (d .step) ≡ true → forceFrom i suf (drop p (terms cs ws)) prefix m step ≡ decided (d .marks) Contradiction
-    force-stop k = here ∙ stop i suf (term (getD cs p 0) (getD ws p 0)) (drop (p + 1) (terms cs ws)) prefix m step h d behind k
+    force-stop k = here ∙ from-stop i suf (term (getD cs p 0) (getD ws p 0)) (drop (p + 1) (terms cs ws)) prefix m step h d behind k
 
     pub force-more : contradicts (d .step) ≡ false
         → forceFrom i suf (drop p (terms cs ws)) prefix m step
         ≡ forceFrom i suf (drop (p + 1) (terms cs ws)) (gcd prefix (getD ws p 0)) (d .marks) (joined step (d .step))
-    force-more k = here ∙ more i suf (term (getD cs p 0) (getD ws p 0)) (drop (p + 1) (terms cs ws)) prefix m step h d behind k
+    force-more k = here ∙ from-more i suf (term (getD cs p 0) (getD ws p 0)) (drop (p + 1) (terms cs ws)) prefix m step h d behind k
 
 -- One turn of the loop: the marks, the queue and the joined answer that it leaves.
 module _ (i : Interval) (suf cs ws : List ℕ) (p prefix : ℕ) (m : Marks) (step : Step) (f : p < length cs) (g : p < length ws)
@@ -206,7 +216,7 @@ force-over i suf b (t ∷ ts) prefix m step h =
     by : ((p : ℕ) (n : Marks) (s : Step) → forceFrom i (over suf b) ts p n s ≡ forceFrom i suf ts p n s)
         → (u : Bool) → isDecided m (t .condition) ≡ u → forceFrom i (over suf b) (t ∷ ts) prefix m step ≡ forceFrom i suf (t ∷ ts) prefix m step
     by rest true e =
-        skip i (over suf b) t ts prefix m step e ∙ rest prefix m step ∙ sym (skip i suf t ts prefix m step e)
+        from-skip i (over suf b) t ts prefix m step e ∙ rest prefix m step ∙ sym (from-skip i suf t ts prefix m step e)
     by rest false e = turn (contradicts (d .step)) refl
       where
         d : Decided
@@ -216,10 +226,10 @@ force-over i suf b (t ∷ ts) prefix m step h =
         q = ap (λ (k : ℕ). forceTerm i m t (gcd prefix k)) (sym (List·getD-append suf (drop (length suf) b) 0 (length ts) (omega arith)))
 
         turn : (v : Bool) → contradicts (d .step) ≡ v → forceFrom i (over suf b) (t ∷ ts) prefix m step ≡ forceFrom i suf (t ∷ ts) prefix m step
-        turn true k = stop i (over suf b) t ts prefix m step e d q k ∙ sym (stop i suf t ts prefix m step e d refl k)
+        turn true k = from-stop i (over suf b) t ts prefix m step e d q k ∙ sym (from-stop i suf t ts prefix m step e d refl k)
         turn false k =
-            more i (over suf b) t ts prefix m step e d q k ∙ rest (gcd prefix (t .weight)) (d .marks) (joined step (d .step))
-            ∙ sym (more i suf t ts prefix m step e d refl k)
+            from-more i (over suf b) t ts prefix m step e d q k ∙ rest (gcd prefix (t .weight)) (d .marks) (joined step (d .step))
+            ∙ sym (from-more i suf t ts prefix m step e d refl k)
 
 -- The whole of it: a contradiction of the row, nothing to force, or what forcing did.
 module _ (ts : List Term) (s : State) (m : Marks) (gcds : List ℕ) where

@@ -10,3 +10,4 @@ pub mod FitsLaws
 pub mod ForceLaws
 pub mod Sums
 pub mod ResidualLaws
+pub mod SoundLaws
