@@ -3,4 +3,5 @@ pub mod ScanLaws
 pub mod Shape
 pub mod Guards
 pub mod Row
+pub mod RowLaws
 pub mod Between

@@ -13,6 +13,7 @@ use Rattle.state.specs.Step.{joined, contradicts}
 use Rattle.state.specs.State.{reached, upperAtMost, limited, limit, conflict, hasResidualInterval, withGuards, withTerms}
 use Rattle.queues.specs.Marks.{Marks, isDecided, Decided, decided, decide}
 use Rattle.thresholds.specs.Rows.{Row, Guard, hasNonunit}
+use Rattle.propagate.specs.declared.Cutoff.{Cutoff}
 use Rattle.propagate.specs.Scan.{scan, Scanned, scanned, force}
 
 -- A row's state and the marks after some of its scans, and their answer.
@@ -56,10 +57,22 @@ thresholdGuards gs s m =
           ran (withGuards up (up .«sure_guard») (s .«never_guard» - b .passed)) (b .marks) (b .step)
     ]
 
+-- A weight that the cutoff leaves free: up to it where sure terms are sought, below it where never ones are.
+abbrev pub light : Cutoff → ℕ → Bool
+light c w = cond (c .value) (leZ (pos w) (c .weight)) (ltZ (pos w) (c .weight))
+
+abbrev pub cut : Bool → ℤ → Cutoff
+cut b z = record { value = b; weight = z }
+
+abbrev pub termWaits : (ℕ → Bool) → Term → Marks → Bool
+termWaits waits t m = not (isDecided m (t .condition)) && waits (t .weight)
+
+abbrev pub forces : Bool → Term → Marks → Decided
+forces value t m = force value m (t .condition)
+
 -- Terms from the heaviest down: decided ones are passed, and those that the cutoff forces.
 abbrev pub forced : Bool → (ℕ → Bool) → List Term → Marks → Scanned
-forced value waits ts m =
-    scan (λ (t : Term) (k : Marks). not (isDecided k (t .condition)) && waits (t .weight)) (λ (t : Term) (k : Marks). force value k (t .condition)) ts 0 m Unchanged
+forced value waits ts m = scan (termWaits waits) (forces value) ts 0 m Unchanged
 
 -- `threshold_terms` for true: a weight above possible - lower is needed.
 unfoldable pub trueTerms : List Term → State → Marks → Ran

@@ -1,5 +1,5 @@
 -- A scan, place by place: what a turn leaves, how far a scan comes, and what it keeps. Assumes nothing.
-use Prim.Native.Nat.{ℕ, suc, _+_, _-_, _<_, _≤_}
+use Prim.Native.Nat.{ℕ, zero, suc, _+_, _-_, _<_, _≤_}
 use native.Mathlib.Omega.{arith}
 use mathlib.Core.Path.{_≡_, refl, sym, ap, _∙_}
 use mathlib.Core.Bool.{Bool, true, false, cond, _&&_, not}
@@ -90,6 +90,27 @@ turn-keeps P false d s a b = by (contradicts (d .step)) refl
 unfoldable pub All : {X : Type 0} → (X → Type 0) → List X → Type 0
 All P [] = Prim.Unit
 All P (x ∷ xs) = P x × All P xs
+
+module _ {X : Type 0} (P : X → Type 0) where
+  pub all-drop : (n : ℕ) (xs : List X) → All P xs → All P (drop n xs)
+  unfolding All
+  all-drop zero xs h = h
+  all-drop (suc n) [] h = h
+  all-drop (suc n) (x ∷ xs) h = all-drop n xs (h .1)
+
+  pub all-take : (n : ℕ) (xs : List X) → All P xs → All P (take n xs)
+  unfolding All
+  all-take zero xs h = Prim.tt
+  all-take (suc n) [] h = h
+  all-take (suc n) (x ∷ xs) h = (h .0, all-take n xs (h .1))
+
+  pub all-reverse : (xs : List X) → All P xs → All P (reverse xs)
+  unfolding All
+  all-reverse xs h = go xs [] h Prim.tt
+    where
+      go : (ys acc : List X) → All P ys → All P acc → All P (reverseAux ys acc)
+      go [] acc a b = b
+      go (y ∷ ys) acc a b = go ys (y ∷ acc) (a .1) (a .0, b)
 
 -- What holds before and is kept by each act holds after; and no more places are passed than there are.
 module _ {X : Type 0} (waits : X → Marks → Bool) (act : X → Marks → Decided) where

@@ -2,8 +2,9 @@
 ghost use mathlib.Core.Path.{_≡_};
 ghost use mathlib.Core.Bool.{false, not, _&&_};
 ghost use Prim.Native.Nat.{_+_, _<_, _≤_, _^_};
-ghost use lib.ListN.{length};
+ghost use lib.ListN.{length, drop};
 ghost use lib.Signed.{ltZ};
+ghost use Rattle.numeric.specs.Threshold.{terms};
 ghost use Rattle.words.specs.Mask.{inEither};
 ghost use Rattle.state.specs.State.{reached};
 ghost use Rattle.queues.specs.Queue.{queue};
@@ -12,7 +13,7 @@ ghost use Rattle.queues.specs.MarksLaws.{Waits};
 ghost use Rattle.propagate.specs.Scan.{scanned, turn as turnOf, turned, force};
 ghost use Rattle.propagate.specs.Shape.{Below};
 ghost use Rattle.propagate.specs.Guards.{guards};
-ghost use Rattle.propagate.specs.Row.{reachable, sureGuards, neverGuards};
+ghost use Rattle.propagate.specs.Row.{ran as ranOf, reachable, sureGuards, neverGuards, thresholdGuards, light, forced};
 use queues::Decision;
 use queues::Ring;
 use state::State;
@@ -21,6 +22,13 @@ use state::Step;
 // A scan of a row's guards or terms so far: the places passed, the strongest answer, the queue of nodes.
 pub struct Scan {
     pub passed: usize,
+    pub step: Step,
+    pub ring: Ring,
+}
+
+// A row's state after some of its scans, their answer and the queue of nodes.
+pub struct Ran {
+    pub state: State,
     pub step: Step,
     pub ring: Ring,
 }
@@ -215,6 +223,101 @@ fn never_guards(
             return so_far;
         }
         at -= 1;
+    }
+    so_far
+}
+
+// `threshold_guards`: what is reached makes guards sure, what cannot be reached makes them never.
+pub fn threshold_guards(
+    bounds: &[i64],
+    names: &[u16],
+    state: State,
+    sure: &mut [u64],
+    never: &mut [u64],
+    nodes: &mut [u16],
+    ring: Ring,
+) -> Ran
+    requires { ⌜ (length (now bounds) ≡ length (now names)) × Below 4096 (now names) × (state .«never_guard» ≤ length (now bounds)) × Waits (marks (now sure) (now never) (queue (now nodes) ring)) ⌝ }
+    ensures { λ r. ⌜ ranOf (r .state) (marks (now (sure .exit)) (now (never .exit)) (queue (now (nodes .exit)) (r .ring))) (r .step)
+        ≡ thresholdGuards (guards (now (bounds .entry)) (now (names .entry))) state (marks (now (sure .entry)) (now (never .entry)) (queue (now (nodes .entry)) ring)) ⌝ }
+{
+    let low = state.never_guard;
+    let first = sure_guards(bounds, names, state, sure, never, nodes, ring);
+    let up = state.sure_guard + first.passed;
+    let step = first.step;
+    let next = first.ring;
+    if step.contradicts() {
+        let moved = state.with_guards(up, low);
+        return Ran {
+            state: moved,
+            step: Step::Contradiction,
+            ring: next,
+        };
+    }
+    let second = never_guards(bounds, names, state, sure, never, nodes, next, step);
+    let moved = state.with_guards(up, low - second.passed);
+    let last = second.step;
+    let left = second.ring;
+    Ran {
+        state: moved,
+        step: last,
+        ring: left,
+    }
+}
+
+// A weight of this much waits: up to it where sure terms are sought, below it where never ones are.
+struct Cutoff {
+    value: bool,
+    weight: i64,
+}
+
+impl Cutoff {
+    fn waits(self, weight: u64) -> bool
+        requires { ⌜ weight < 2 ^ 63 ⌝ }
+        ensures { λ r. ⌜ r ≡ light self weight ⌝ }
+    {
+        let cut = self.weight;
+        let own = weight as i64;
+        if self.value {
+            return own <= cut;
+        }
+        own < cut
+    }
+}
+
+// Terms from the cursor on, the heaviest first: decided ones are passed, and those that the cutoff forces.
+fn forced_terms(
+    conditions: &[u16],
+    weights: &[u64],
+    from: usize,
+    cutoff: Cutoff,
+    sure: &mut [u64],
+    never: &mut [u64],
+    nodes: &mut [u16],
+    ring: Ring,
+) -> Scan
+    requires { ⌜ (length (now conditions) ≡ length (now weights)) × Below 4096 (now conditions) × Below (2 ^ 63) (now weights) × Waits (marks (now sure) (now never) (queue (now nodes) ring)) ⌝ }
+    ensures { λ r. ⌜ scanned (r .passed) (marks (now (sure .exit)) (now (never .exit)) (queue (now (nodes .exit)) (r .ring))) (r .step)
+        ≡ forced (cutoff .value) (light cutoff) (drop from (terms (now (conditions .entry)) (now (weights .entry)))) (marks (now (sure .entry)) (now (never .entry)) (queue (now (nodes .entry)) ring)) ⌝ }
+{
+    let value = cutoff.value;
+    let mut at = from;
+    let mut so_far = Scan {
+        passed: 0,
+        step: Step::Unchanged,
+        ring: ring,
+    };
+    while at < weights.len() {
+        let weight = weights[at];
+        let node = conditions[at];
+        let waits = cutoff.waits(weight);
+        let turn = term_turn(value, waits, node, sure, never, nodes, so_far);
+        let next = turn.scan;
+        so_far = next;
+        if turn.ends {
+            return so_far;
+        }
+        at += 1;
     }
     so_far
 }
