@@ -1,2 +1,4 @@
 pub mod Links
 pub mod WordsLaws
+pub mod OrderLaws
+pub mod LinksLaws
