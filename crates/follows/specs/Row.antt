@@ -45,7 +45,7 @@ not-false : (b : Bool) → not b ≡ false → b ≡ true
 not-false true h = refl
 not-false false h = sym h
 
-or-true : (a b : Bool) → (a || b) ≡ true → (a ≡ true) ⊎ (b ≡ true)
+pub or-true : (a b : Bool) → (a || b) ≡ true → (a ≡ true) ⊎ (b ≡ true)
 or-true true b h = inl refl
 or-true false b h = inr h
 
@@ -53,12 +53,12 @@ or-false : (a b : Bool) → (a || b) ≡ false → (a ≡ false) × (b ≡ false
 or-false true b h = absurd (let z : _≡_ {A = ℕ} 0 1 = cc in omega arith)
 or-false false b h = (refl, h)
 
-mem-drop : {X : Type 0} (n : ℕ) (xs : List X) (x : X) → List·Memᴰ x (drop n xs) → List·Memᴰ x xs
+pub mem-drop : {X : Type 0} (n : ℕ) (xs : List X) (x : X) → List·Memᴰ x (drop n xs) → List·Memᴰ x xs
 mem-drop zero xs x m = m
 mem-drop (suc n) [] x m = m
 mem-drop (suc n) (y ∷ ys) x m = List·Memᴰ·tail (mem-drop n ys x m)
 
-mem-take : {X : Type 0} (n : ℕ) (xs : List X) (x : X) → List·Memᴰ x (take n xs) → List·Memᴰ x xs
+pub mem-take : {X : Type 0} (n : ℕ) (xs : List X) (x : X) → List·Memᴰ x (take n xs) → List·Memᴰ x xs
 mem-take zero xs x m = absurd (List·Memᴰ·not-nil m)
 mem-take (suc n) [] x m = m
 mem-take (suc n) (y ∷ ys) x m = ⊎-elim (λ (e : x ≡ y). List·Memᴰ·head e) (λ k. List·Memᴰ·tail (mem-take n ys x k)) (List·Memᴰ·cases-cons m)
@@ -68,7 +68,7 @@ mem-aux [] acc x m = inr m
 mem-aux (y ∷ ys) acc x m =
     ⊎-elim (λ k. inl (List·Memᴰ·tail k)) (λ k. ⊎-elim (λ (e : x ≡ y). inl (List·Memᴰ·head e)) (λ n. inr n) (List·Memᴰ·cases-cons k)) (mem-aux ys (y ∷ acc) x m)
 
-mem-reverse : {X : Type 0} (xs : List X) (x : X) → List·Memᴰ x (reverse xs) → List·Memᴰ x xs
+pub mem-reverse : {X : Type 0} (xs : List X) (x : X) → List·Memᴰ x (reverse xs) → List·Memᴰ x xs
 mem-reverse xs x m = ⊎-elim (λ k. k) (λ k. absurd (List·Memᴰ·not-nil k)) (mem-aux xs [] x m)
 
 -- UPPERS
