@@ -4,10 +4,10 @@ use Prim.Native.Nat.{ℕ, zero, suc, _+_, _-_, _/_, _≤_, _<_}
 use native.Mathlib.Omega.{arith}
 use mathlib.Core.Path.{_≡_, refl, sym, ap, ap₂, _∙_, subst}
 use mathlib.Core.Bool.{Bool, true, false, not, cond, _&&_, _||_}
-use mathlib.Core.List.{List, [], _∷_, _++_, append-assoc, List·Memᴰ, List·Memᴰ·head, List·Memᴰ·tail, List·Memᴰ·cases-cons, List·Memᴰ·not-nil, List·Memᴰ·append-cases}
+use mathlib.Core.List.{List, [], _∷_, _++_, append-assoc, reverse, reverse-cons, reverse-append, reverse-reverse, List·Memᴰ, List·Memᴰ·head, List·Memᴰ·tail, List·Memᴰ·cases-cons, List·Memᴰ·not-nil, List·Memᴰ·append-cases}
 use mathlib.Core.Logic.{_⊎_, inl, inr, ⊎-elim}
-use lib.ListN.{length, take, drop, take-append-drop}
-use lib.Seq.{take-add, take-append-seam}
+use lib.ListN.{length, take, drop, take-append-drop, length-take, length-append, length-reverse}
+use lib.Seq.{take-add, take-append-seam, drop-append-seam}
 use lib.IntN.{ℤ, pos, _-ℤ_}
 use lib.Signed.{leZ, ltZ}
 use Rattle.number.specs.Signed.{leZ-refl, leZ-trans, leZ-nlt}
@@ -16,16 +16,17 @@ use Rattle.state.specs.declared.Step.{Step}
 use Rattle.state.specs.declared.Step.the-variants.{Unchanged, Changed, Contradiction}
 use Rattle.state.specs.declared.State.{State}
 use Rattle.state.specs.Step.{joined, contradicts}
-use Rattle.state.specs.State.{reached}
+use Rattle.state.specs.State.{reached, upperAtMost}
 use Rattle.words.specs.Mask.{bit}
 use Rattle.queues.specs.Marks.{Marks, isDecided, Decided, decided, decide}
 use Rattle.queues.specs.MarksLaws.{mask, decide-has, decide-length}
-use Rattle.state.specs.declared.Upper.the-variants.{Open}
+use Rattle.state.specs.declared.Upper.{Upper}
+use Rattle.state.specs.declared.Upper.the-variants.{Open, Under}
 use Rattle.thresholds.specs.Rows.{Guard}
 use Rattle.propagate.specs.Scan.{scan, Scanned, scanned, force}
-use Rattle.propagate.specs.Row.{sureWaits, decides, sureGuards, termWaits, forces, forced}
+use Rattle.propagate.specs.Row.{sureWaits, decides, sureGuards, reachable, neverWaits, neverGuards, termWaits, forces, forced}
 use Rattle.follows.specs.Decide.{scan-keeps}
-use Rattle.follows.specs.Row.{decide-grows, mem-drop, or-true}
+use Rattle.follows.specs.Row.{decide-grows, mem-drop, mem-take, mem-reverse, or-true}
 
 -- Every element has a property.
 abbrev pub All : {X : Type 0} → (X → Type 0) → List X → Type 0
@@ -265,4 +266,113 @@ forced-complete value light down ts n m fall small w old c =
         ⊎-elim (λ (e : t ≡ x). let z : t .weight ≡ x .weight = ap (λ (y : Term). y .weight) e in omega arith) (λ j. fall′ .0 t j)
         (List·Memᴰ·cases-cons (subst (λ (l : List Term). List·Memᴰ t l) (q .2) b)) in
         let f = down (t .weight) (x .weight) le (and-right (not (isDecided (forced value light (drop n ts) m .marks) (x .condition))) (light (x .weight)) (q .3)) in
+        let z : _≡_ {A = ℕ} 0 1 = cc (f, h) in omega arith) (o .next)
+
+-- GUARDS FROM ABOVE: bounds fall along the reversed list.
+abbrev FallingBounds : List Guard → Type 0
+FallingBounds [] = Unit {0}
+FallingBounds (g ∷ gs) = All (λ (h : Guard). leZ (h .bound) (g .bound) ≡ true) gs × FallingBounds gs
+
+falls-snoc : (gs : List Guard) (x : Guard) → FallingBounds gs → All (λ (h : Guard). leZ (x .bound) (h .bound) ≡ true) gs → FallingBounds (gs ++ (x ∷ []))
+falls-snoc [] x f h = (λ y i. absurd (List·Memᴰ·not-nil i), tt)
+falls-snoc (g ∷ gs) x f h = (
+  λ y i. ⊎-elim (f .0 y)
+      (λ j. ⊎-elim (λ (e : y ≡ x). subst (λ (z : Guard). leZ (z .bound) (g .bound) ≡ true) (sym e) (h g (List·Memᴰ·head refl))) (λ k. absurd (List·Memᴰ·not-nil k)) (List·Memᴰ·cases-cons j))
+      (List·Memᴰ·append-cases gs i),
+  falls-snoc gs x (f .1) (λ y i. h y (List·Memᴰ·tail i)),
+)
+
+reverse-falls : (gs : List Guard) → Rising gs → FallingBounds (reverse gs)
+reverse-falls [] h = tt
+reverse-falls (g ∷ gs) h = subst FallingBounds (sym (reverse-cons g gs)) (falls-snoc (reverse gs) g (reverse-falls gs (h .1)) (λ y i. h .0 y (mem-reverse gs y i)))
+
+rising-take : (n : ℕ) (gs : List Guard) → Rising gs → Rising (take n gs)
+rising-take zero gs h = tt
+rising-take (suc n) [] h = tt
+rising-take (suc n) (g ∷ gs) h = (λ y i. h .0 y (mem-take n gs y i), rising-take n gs (h .1))
+
+falls-back : (xs ys : List Guard) → FallingBounds (xs ++ ys) → FallingBounds ys
+falls-back [] ys h = h
+falls-back (x ∷ xs) ys h = falls-back xs ys (h .1)
+
+-- what is in reach stays so for a lower bound
+reach-down : (st : State) (a b : ℤ) → leZ a b ≡ true → reachable st b ≡ true → reachable st a ≡ true
+reach-down st a b h k = both-true (leZ-trans a b (st .possible) h (left (leZ b (st .possible)) _ k)) (under (st .upper) (right (leZ b (st .possible)) _ k))
+  where
+    left : (p q : Bool) → (p && q) ≡ true → p ≡ true
+    left true q e = refl
+    left false q e = e
+
+    right : (p q : Bool) → (p && q) ≡ true → q ≡ true
+    right true q e = e
+    right false q e = absurd (let z : _≡_ {A = ℕ} 0 1 = cc in omega arith)
+
+    both-true : {p q : Bool} → p ≡ true → q ≡ true → (p && q) ≡ true
+    both-true {p} {q} e f = ap₂ (λ (x y : Bool). x && y) e f
+
+    not-true : (p : Bool) → not p ≡ true → p ≡ false
+    not-true true e = sym e
+    not-true false e = refl
+
+    below : (u : ℤ) (t : Bool) → leZ u a ≡ t → not (leZ u b) ≡ true → not t ≡ true
+    below u true e f = ap not (sym (leZ-trans u a b e h)) ∙ f
+    below u false e f = refl
+
+    under : (x : Upper) → not (upperAtMost x b) ≡ true → not (upperAtMost x a) ≡ true
+    under Open e = refl
+    under (Under u) e = below u (leZ u a) refl e
+
+-- RULE 3 IS DONE: every guard whose bound is out of reach is never, and so is every guard behind the cursor.
+pub never-complete : (gs : List Guard) (st : State) (m : Marks) (k : Step) → Rising gs → All (λ (g : Guard). g .node < 4096) gs → Wide m → st .«never_guard» ≤ length gs
+    → All (λ (g : Guard). Has false (g .node) m) (drop (st .«never_guard») gs) → contradicts k ≡ false → contradicts (neverGuards gs st m k .step) ≡ false
+    → let a = neverGuards gs st m k in
+    All (λ (g : Guard). Has false (g .node) (a .marks)) (drop (st .«never_guard» - a .passed) gs)
+    × All (λ (g : Guard). reachable st (g .bound) ≡ false → Has false (g .node) (a .marks)) gs
+never-complete gs st m k up small w fits old ck c =
+    let o = scan-stops (neverWaits st) (decides false) Wide (λ (g : Guard). Has false (g .node)) (λ g n p. wide-decide false n (g .node) p)
+    (λ g h n p. has-stays false (g .node) false n (h .node) p) rs
+    (λ g n i p v d. has-after false n (g .node) (small g (mem-take (st .«never_guard») gs g (mem-reverse (take (st .«never_guard») gs) g i))) p d) 0 m k w ck c in
+    let before : All (λ (g : Guard). Has false (g .node) (neverGuards gs st m k .marks)) (drop (st .«never_guard») gs) =
+    λ g i. scan-keeps (Has false (g .node)) (Unit {0}) (neverWaits st) (decides false) rs
+    (λ h n j p v. (has-stays false (g .node) false n (h .node) p, λ _. tt)) 0 m k (old g i) ck .0 in (
+      λ g i. ⊎-elim (λ j. o .done g (mem-reverse (o .front) g j)) (before g)
+          (List·Memᴰ·append-cases (reverse (o .front)) (subst (λ (l : List Guard). List·Memᴰ g l) (cursor o) i)),
+      λ g i h. ⊎-elim
+          (λ j. ⊎-elim (o .done g) (λ b. absurd (waits-on g h o b)) (List·Memᴰ·append-cases (o .front) (subst (λ (l : List Guard). List·Memᴰ g l) (o .split) (in-reverse (take (st .«never_guard») gs) g j))))
+          (before g)
+          (List·Memᴰ·append-cases (take (st .«never_guard») gs) (subst (λ (l : List Guard). List·Memᴰ g l) (sym (take-append-drop (st .«never_guard») gs)) i)),
+    )
+  where
+    rs : List Guard
+    rs = reverse (take (st .«never_guard») gs)
+
+    Ends : Type 0
+    Ends = Stopped (neverWaits st) (λ (g : Guard). Has false (g .node)) rs 0 (neverGuards gs st m k)
+
+    in-reverse : (xs : List Guard) (g : Guard) → List·Memᴰ g xs → List·Memᴰ g (reverse xs)
+    in-reverse xs g i = mem-reverse (reverse xs) g (subst (λ (l : List Guard). List·Memᴰ g l) (sym (reverse-reverse xs)) i)
+
+    cursor : (o : Ends) → drop (st .«never_guard» - neverGuards gs st m k .passed) gs ≡ reverse (o .front) ++ drop (st .«never_guard») gs
+    cursor o =
+        let t : take (st .«never_guard») gs ≡ reverse (o .back) ++ reverse (o .front) = sym (reverse-reverse (take (st .«never_guard») gs)) ∙ ap reverse (o .split) ∙ reverse-append (o .front) (o .back) in
+        let e : gs ≡ reverse (o .back) ++ (reverse (o .front) ++ drop (st .«never_guard») gs) =
+        sym (take-append-drop (st .«never_guard») gs) ∙ ap (λ (l : List Guard). l ++ drop (st .«never_guard») gs) t
+        ∙ append-assoc (reverse (o .back)) (reverse (o .front)) (drop (st .«never_guard») gs) in
+        let n : length (take (st .«never_guard») gs) ≡ st .«never_guard» = length-take (st .«never_guard») gs ∙ omega arith in
+        let q : length (take (st .«never_guard») gs) ≡ length (reverse (o .back)) + length (reverse (o .front)) = ap length t ∙ length-append (reverse (o .back)) (reverse (o .front)) in
+        let f = length-reverse (o .front) in
+        let p = o .passed in
+        let d : st .«never_guard» - neverGuards gs st m k .passed ≡ length (reverse (o .back)) = omega arith in
+        ap₂ (λ (i : ℕ) (l : List Guard). drop i l) d e ∙ drop-append-seam (reverse (o .back)) (reverse (o .front) ++ drop (st .«never_guard») gs)
+
+    waits-on : (g : Guard) → reachable st (g .bound) ≡ false → (o : Ends) → List·Memᴰ g (o .back) → ⊥
+    waits-on g h o b =
+        ⊎-elim (λ (e : o .back ≡ []). List·Memᴰ·not-nil (subst (λ (l : List Guard). List·Memᴰ g l) e b))
+        (λ n.
+        let x = n .0 in
+        let fall : FallingBounds (x ∷ n .1) = subst FallingBounds (n .2) (falls-back (o .front) (o .back) (subst FallingBounds (o .split) (reverse-falls (take (st .«never_guard») gs) (rising-take (st .«never_guard») gs up)))) in
+        let le : leZ (g .bound) (x .bound) ≡ true =
+        ⊎-elim (λ (e : g ≡ x). subst (λ (y : Guard). leZ (y .bound) (x .bound) ≡ true) (sym e) (leZ-refl (x .bound))) (λ j. fall .0 g j)
+        (List·Memᴰ·cases-cons (subst (λ (l : List Guard). List·Memᴰ g l) (n .2) b)) in
+        let f = reach-down st (g .bound) (x .bound) le (n .3) in
         let z : _≡_ {A = ℕ} 0 1 = cc (f, h) in omega arith) (o .next)
