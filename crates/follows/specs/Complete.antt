@@ -109,14 +109,14 @@ pub record Wide (m : Marks) : Type 0 where
   pub sure : 64 ≤ length (m .sure)
   pub never : 64 ≤ length (m .never)
 
-wide-decide : (value : Bool) (m : Marks) (n : ℕ) → Wide m → Wide (decide value m n .marks)
+pub wide-decide : (value : Bool) (m : Marks) (n : ℕ) → Wide m → Wide (decide value m n .marks)
 wide-decide value m n w = let a = decide-length value m n true in let b = decide-length value m n false in record { sure = let h = w .sure in omega arith; never = let h = w .never in omega arith }
 
 -- A node is in the mask of a value, and stays there.
 abbrev pub Has : Bool → ℕ → Marks → Type 0
 Has v n m = bit (mask v m) n ≡ true
 
-has-stays : (v : Bool) (k : ℕ) (value : Bool) (m : Marks) (n : ℕ) → Has v k m → Has v k (decide value m n .marks)
+pub has-stays : (v : Bool) (k : ℕ) (value : Bool) (m : Marks) (n : ℕ) → Has v k m → Has v k (decide value m n .marks)
 has-stays true k value m n h = decide-grows value m n (λ _. pos 0) (λ _. Open) .sure k h
 has-stays false k value m n h = decide-grows value m n (λ _. pos 0) (λ _. Open) .never k h
 
@@ -132,7 +132,7 @@ either-has false n m h = ap (λ (b : Bool). bit (m .sure) n || b) h ∙ by (bit 
     by true = refl
     by false = refl
 
-decided-stays : (k : ℕ) (value : Bool) (m : Marks) (n : ℕ) → isDecided m k ≡ true → isDecided (decide value m n .marks) k ≡ true
+pub decided-stays : (k : ℕ) (value : Bool) (m : Marks) (n : ℕ) → isDecided m k ≡ true → isDecided (decide value m n .marks) k ≡ true
 decided-stays k value m n h =
     ⊎-elim (λ (e : bit (m .sure) k ≡ true). either-has true k (decide value m n .marks) (has-stays true k value m n e))
     (λ (e : bit (m .never) k ≡ true). either-has false k (decide value m n .marks) (has-stays false k value m n e)) (or-true (bit (m .sure) k) (bit (m .never) k) h)
@@ -212,14 +212,14 @@ falling-drop zero xs h = h
 falling-drop (suc n) [] h = h
 falling-drop (suc n) (x ∷ xs) h = falling-drop n xs (h .1)
 
-wide-force : (value : Bool) (m : Marks) (n : ℕ) → Wide m → Wide (force value m n .marks)
+pub wide-force : (value : Bool) (m : Marks) (n : ℕ) → Wide m → Wide (force value m n .marks)
 wide-force value m n w = by (isDecided m n)
   where
     by : (b : Bool) → Wide (cond b (decided m Unchanged) (decide value m n) .marks)
     by true = w
     by false = wide-decide value m n w
 
-force-stays : (k : ℕ) (value : Bool) (m : Marks) (n : ℕ) → isDecided m k ≡ true → isDecided (force value m n .marks) k ≡ true
+pub force-stays : (k : ℕ) (value : Bool) (m : Marks) (n : ℕ) → isDecided m k ≡ true → isDecided (force value m n .marks) k ≡ true
 force-stays k value m n h = by (isDecided m n)
   where
     by : (b : Bool) → isDecided (cond b (decided m Unchanged) (decide value m n) .marks) k ≡ true
@@ -232,6 +232,13 @@ force-makes value m n s w c = by (isDecided m n) refl c
     by : (b : Bool) → isDecided m n ≡ b → contradicts (cond b (decided m Unchanged) (decide value m n) .step) ≡ false → isDecided (cond b (decided m Unchanged) (decide value m n) .marks) n ≡ true
     by true e d = e
     by false e d = either-has value n (decide value m n .marks) (has-after value m n s w d)
+
+pub force-has : (v : Bool) (k : ℕ) (value : Bool) (m : Marks) (n : ℕ) → Has v k m → Has v k (force value m n .marks)
+force-has v k value m n h = by (isDecided m n)
+  where
+    by : (b : Bool) → Has v k (cond b (decided m Unchanged) (decide value m n) .marks)
+    by true = h
+    by false = has-stays v k value m n h
 
 -- RULES 4 AND 5 ARE DONE: every term that the cutoff forces is decided, and so is every term that the cursor passed.
 pub forced-complete : (value : Bool) (light : ℕ → Bool) → ((a b : ℕ) → a ≤ b → light b ≡ true → light a ≡ true)
