@@ -12,10 +12,11 @@ ghost use Rattle.state.specs.Step.{joined};
 ghost use Rattle.words.specs.Mask.{inEither};
 ghost use Rattle.queues.specs.Queue.{queue, Held};
 ghost use Rattle.state.specs.declared.Step.the-variants.{Unchanged};
+ghost use Rattle.queues.specs.MarksLaws.{Waits};
 ghost use Rattle.queues.specs.Marks.{marks, decided as decidedOf};
 ghost use Rattle.thresholds.specs.Rows.{hasNonunit};
 ghost use Rattle.residual.specs.Gcd.{gcd, misses, branchMisses};
-ghost use Rattle.residual.specs.Shape.{Below, Shape, Window, Room};
+ghost use Rattle.residual.specs.Shape.{Below, Shape, Window};
 ghost use Rattle.residual.specs.Residual.{
   interval,
   stopsAt,
@@ -457,7 +458,7 @@ fn force_from(
 ) -> Decision
     requires { ⌜ Shape (now conditions) (now weights) (now sure) (now never) ⌝ }
     requires { ⌜ (length (now weights) < length (now gcds)) × (i .known < 2 ^ 63) × Below (2 ^ 63) (now weights) ⌝ }
-    requires { ⌜ Room (length (now weights)) (queue (now nodes) ring) ⌝ }
+    requires { ⌜ Waits (marks (now sure) (now never) (queue (now nodes) ring)) ⌝ }
     ensures { λ r. ⌜ decidedOf (marks (now (sure .exit)) (now (never .exit)) (queue (now (nodes .exit)) (r .ring))) (r .step)
         ≡ forceFrom i (now (gcds .entry)) (terms (now (conditions .entry)) (now (weights .entry))) 0
         (marks (now (sure .entry)) (now (never .entry)) (queue (now (nodes .entry)) ring)) Unchanged ⌝ }
@@ -525,7 +526,7 @@ pub fn threshold_residual(
 ) -> Decision
     requires { ⌜ Shape (now conditions) (now weights) (now sure) (now never) ⌝ }
     requires { ⌜ (length (now weights) < length (now gcds)) × Below (2 ^ 63) (now weights) ⌝ }
-    requires { ⌜ Room (length (now weights)) (queue (now nodes) ring) ⌝ }
+    requires { ⌜ Waits (marks (now sure) (now never) (queue (now nodes) ring)) ⌝ }
     ensures { λ r. ⌜ residual (marks (now (sure .exit)) (now (never .exit)) (queue (now (nodes .exit)) (r .ring))) (r .step) (now (gcds .exit))
         ≡ thresholdResidual (terms (now (conditions .entry)) (now (weights .entry))) state
         (marks (now (sure .entry)) (now (never .entry)) (queue (now (nodes .entry)) ring)) (now (gcds .entry)) ⌝ }

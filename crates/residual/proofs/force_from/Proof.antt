@@ -1,24 +1,22 @@
 -- `residual::force_from` meets its contract: forcing the terms that are left, from here, is forcing all of them from the start.
-use Prim.Native.Nat.{ℕ, _+_, _-_, _≤_}
+use Prim.Native.Nat.{_-_, _≤_}
 use native.Mathlib.Omega.{arith}
-use mathlib.Core.Path.{_≡_, refl, sym, ap, _∙_}
+use mathlib.Core.Path.{_≡_, refl, sym, _∙_}
 use lib.ListN.{length, drop}
-use borrow.Author.Needs.{needs}
-use Rattle.numeric.specs.Threshold.{Term, terms}
-use Rattle.words.specs.Mask.{inEither}
+use Rattle.numeric.specs.Threshold.{terms}
 use Rattle.state.specs.declared.Step.the-variants.{Unchanged}
 use Rattle.queues.specs.Queue.{queue}
 use Rattle.queues.specs.Marks.{marks}
-use Rattle.residual.specs.Shape.{Room}
+use Rattle.queues.specs.MarksLaws.{Waits}
 use Rattle.residual.specs.Residual.{forceFrom}
-use Rattle.residual.specs.ForceLaws.{room-less, room-next, force-skip, turn-grows, turn-stops, turn-goes-on, force-end}
+use Rattle.residual.specs.ForceLaws.{force-skip, turn-waits, turn-stops, turn-goes-on, force-end}
 use Rattle.residual.proofs.force_from.Statement.{statement}
 use Rattle.residual.proofs.force_from.Tie as tie
 
 abbrev Inv-loop : tie.InvT-loop
 Inv-loop conditions weights gcds i sure₀ never₀ nodes₀ count position₀ prefix₀ so-far₀ sure never nodes position prefix so-far =
     (position ≤ length weights) × (length sure ≡ length sure₀) × (length never ≡ length never₀) × (length nodes ≡ length nodes₀)
-    × Room (length weights - position) (queue nodes (so-far .ring))
+    × Waits (marks sure never (queue nodes (so-far .ring)))
     × (forceFrom i gcds (drop position (terms conditions weights)) prefix (marks sure never (queue nodes (so-far .ring))) (so-far .step)
     ≡ forceFrom i gcds (terms conditions weights) 0 (marks sure₀ never₀ (queue nodes₀ (so-far₀ .ring))) Unchanged)
 
@@ -29,7 +27,7 @@ loop-holds : tie.Need-loop-holds Inv-loop μ-loop
 loop-holds c =
     let g = c .before .before .before .before .before .before .args in
     let p = c .before .before .before .before .before .before .pre .1 .1 in
-    (omega arith, refl, refl, refl, room-less (queue (g .nodes .now) (g .ring)) (length (g .weights .now)) (length (g .weights .now) - 0) (omega arith) p, refl)
+    (omega arith, refl, refl, refl, p, refl)
 
 mul-node : tie.Need-mul-node Inv-loop μ-loop
 mul-node c = omega arith
@@ -58,7 +56,7 @@ loop-again c =
       w .inv .1,
       w .inv .2,
       w .inv .3,
-      room-less (queue (w .nodes) (w .so-far .ring)) (length (g .weights .now) - w .position) (length (g .weights .now) - (w .position + 1)) (omega arith) (w .inv .4),
+      w .inv .4,
       sym
           (force-skip (g .i) (g .gcds .now) (g .conditions .now) (g .weights .now) (w .position) (w .prefix)
           (marks (w .sure) (w .never) (queue (w .nodes) (w .so-far .ring))) (w .so-far .step) (omega arith) (omega arith)
@@ -157,14 +155,11 @@ loop-again-2 c =
       f .kept .1 .1 .1 .1 .0 ∙ w .inv .1,
       f .kept .1 .1 .1 .1 .1 .0 ∙ w .inv .2,
       f .kept .1 .1 .1 .1 .1 .1 .0 ∙ w .inv .3,
-      room-next (queue (w .nodes) (w .so-far .ring)) (queue (f .last .1 .1 .1 .1 .1 .1 .0) (j .result .ring)) (length (g .weights .now) - w .position)
-          (length (g .weights .now) - (w .position + 1)) (omega (arith, t))
-          (turn-grows (g .i) (g .gcds .now) (g .conditions .now) (g .weights .now) (w .position) (w .prefix)
+      turn-waits (g .i) (g .gcds .now) (g .conditions .now) (g .weights .now) (w .position) (w .prefix)
           (marks (w .sure) (w .never) (queue (w .nodes) (w .so-far .ring))) (w .so-far .step) (omega (arith, t, p .same)) (omega (arith, t)) (p .same)
           (sym (b .before .before .before .before .before .before .before .before .before .before .before .before .before .before .before .before .before .decided .ensures) ∙ b .before .before .before .before .before .before .before .before .before .before .before .before .before .before .before .before .if1 .left) (b .before .before .before .before .before .before .before .before .before .before .before .before .before .gcd .result) (b .before .before .before .before .before .before .before .before .before .before .before .before .before .gcd .ensures)
           (f .last .1 .1 .1 .1 .0) (f .last .1 .1 .1 .1 .1 .0) (f .last .1 .1 .1 .1 .1 .1 .0) (f .result .ring) (j .result .ring) (f .result .step) (j .result .step)
-          (f .ensures) (j .ensures .1) (j .ensures .0))
-          (w .inv .4),
+          (f .ensures) (j .ensures .1) (j .ensures .0) (p .below (w .position) (omega (arith, t, p .same))) (w .inv .4),
       (turn-goes-on (g .i) (g .gcds .now) (g .conditions .now) (g .weights .now) (w .position) (w .prefix)
           (marks (w .sure) (w .never) (queue (w .nodes) (w .so-far .ring))) (w .so-far .step) (omega (arith, t, p .same)) (omega (arith, t)) (p .same)
           (sym (b .before .before .before .before .before .before .before .before .before .before .before .before .before .before .before .before .before .decided .ensures) ∙ b .before .before .before .before .before .before .before .before .before .before .before .before .before .before .before .before .if1 .left) (b .before .before .before .before .before .before .before .before .before .before .before .before .before .gcd .result) (b .before .before .before .before .before .before .before .before .before .before .before .before .before .gcd .ensures)

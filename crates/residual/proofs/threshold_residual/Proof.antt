@@ -1,6 +1,6 @@
 -- `residual::threshold_residual` meets its contract: the check, the scan, the suffixes and the forcing in turn.
 use native.Mathlib.Omega.{arith}
-use mathlib.Core.Path.{_≡_, refl, sym, ap, _∙_}
+use mathlib.Core.Path.{refl, sym, ap, _∙_}
 use mir.Syntax.{w64}
 use mir.Val.{SFits}
 use Rattle.numeric.specs.Threshold.{terms}
