@@ -1,3 +1,7 @@
 pub mod Scan
+pub mod ScanLaws
+pub mod Shape
+pub mod Guards
 pub mod Row
+pub mod RowLaws
 pub mod Between

@@ -1,1 +1,323 @@
 // Propagation on one row and between rows: propagate.rs, and `threshold_prefixes` of prefixes.rs.
+ghost use mathlib.Core.Path.{_≡_};
+ghost use mathlib.Core.Bool.{false, not, _&&_};
+ghost use Prim.Native.Nat.{_+_, _<_, _≤_, _^_};
+ghost use lib.ListN.{length, drop};
+ghost use lib.Signed.{ltZ};
+ghost use Rattle.numeric.specs.Threshold.{terms};
+ghost use Rattle.words.specs.Mask.{inEither};
+ghost use Rattle.state.specs.State.{reached};
+ghost use Rattle.queues.specs.Queue.{queue};
+ghost use Rattle.queues.specs.Marks.{Marks, marks, isDecided, decided, decide};
+ghost use Rattle.queues.specs.MarksLaws.{Waits};
+ghost use Rattle.propagate.specs.Scan.{scanned, turn as turnOf, turned, force};
+ghost use Rattle.propagate.specs.Shape.{Below};
+ghost use Rattle.propagate.specs.Guards.{guards};
+ghost use Rattle.propagate.specs.Row.{ran as ranOf, reachable, sureGuards, neverGuards, thresholdGuards, light, forced};
+use queues::Decision;
+use queues::Ring;
+use state::State;
+use state::Step;
+
+// A scan of a row's guards or terms so far: the places passed, the strongest answer, the queue of nodes.
+pub struct Scan {
+    pub passed: usize,
+    pub step: Step,
+    pub ring: Ring,
+}
+
+// A row's state after some of its scans, their answer and the queue of nodes.
+pub struct Ran {
+    pub state: State,
+    pub step: Step,
+    pub ring: Ring,
+}
+
+// The scan after one more place, and whether it ends there.
+struct Turn {
+    scan: Scan,
+    ends: bool,
+}
+
+// One place more is passed, with what it decided; a contradiction ends the scan.
+fn passed_turn(scan: Scan, made: Decision) -> Turn
+    requires { ⌜ scan .passed + 1 < 2 ^ 64 ⌝ }
+    ensures { λ r. ⌜ ((m n : Marks) → turnOf (scanned (r .scan .passed) m (r .scan .step)) (r .ends) ≡ turned false (decided m (made .step)) (scanned (scan .passed) n (scan .step)))
+        × (r .scan .ring ≡ made .ring) ⌝ }
+{
+    let passed = scan.passed + 1;
+    let step = made.step;
+    let ring = made.ring;
+    if step.contradicts() {
+        let next = Scan {
+            passed: passed,
+            step: Step::Contradiction,
+            ring: ring,
+        };
+        return Turn {
+            scan: next,
+            ends: true,
+        };
+    }
+    let before = scan.step;
+    let joined = before.join(step);
+    let next = Scan {
+        passed: passed,
+        step: joined,
+        ring: ring,
+    };
+    Turn {
+        scan: next,
+        ends: false,
+    }
+}
+
+// A guard that waits ends the scan; any other is passed, and its node decided.
+fn guard_turn(
+    value: bool,
+    waits: bool,
+    node: u16,
+    sure: &mut [u64],
+    never: &mut [u64],
+    nodes: &mut [u16],
+    scan: Scan,
+) -> Turn
+    requires { ⌜ Waits (marks (now sure) (now never) (queue (now nodes) (scan .ring))) × (node < 4096) × (scan .passed + 1 < 2 ^ 64) ⌝ }
+    ensures { λ r. ⌜ turnOf (scanned (r .scan .passed) (marks (now (sure .exit)) (now (never .exit)) (queue (now (nodes .exit)) (r .scan .ring))) (r .scan .step)) (r .ends)
+        ≡ turned waits (decide value (marks (now (sure .entry)) (now (never .entry)) (queue (now (nodes .entry)) (scan .ring))) node)
+        (scanned (scan .passed) (marks (now (sure .entry)) (now (never .entry)) (queue (now (nodes .entry)) (scan .ring))) (scan .step)) ⌝ }
+{
+    if waits {
+        return Turn {
+            scan: scan,
+            ends: true,
+        };
+    }
+    let ring = scan.ring;
+    let made = queues::decide(value, sure, never, nodes, ring, node as usize);
+    passed_turn(scan, made)
+}
+
+// In one mask or the other.
+fn decided(sure: &[u64], never: &[u64], node: u16) -> bool
+    requires { ⌜ (node < 4096) × (64 ≤ length (now sure)) × (64 ≤ length (now never)) ⌝ }
+    ensures { λ r. ⌜ r ≡ inEither (now (sure .entry)) (now (never .entry)) node ⌝ }
+{
+    let n = node as usize;
+    if words::bit(sure, n) {
+        return true;
+    }
+    words::bit(never, n)
+}
+
+// A term that is decided is passed as it is; any other waits, or is forced.
+fn term_turn(
+    value: bool,
+    waits: bool,
+    node: u16,
+    sure: &mut [u64],
+    never: &mut [u64],
+    nodes: &mut [u16],
+    scan: Scan,
+) -> Turn
+    requires { ⌜ Waits (marks (now sure) (now never) (queue (now nodes) (scan .ring))) × (node < 4096) × (scan .passed + 1 < 2 ^ 64) ⌝ }
+    ensures { λ r. ⌜ turnOf (scanned (r .scan .passed) (marks (now (sure .exit)) (now (never .exit)) (queue (now (nodes .exit)) (r .scan .ring))) (r .scan .step)) (r .ends)
+        ≡ turned (not (isDecided (marks (now (sure .entry)) (now (never .entry)) (queue (now (nodes .entry)) (scan .ring))) node) && waits)
+        (force value (marks (now (sure .entry)) (now (never .entry)) (queue (now (nodes .entry)) (scan .ring))) node)
+        (scanned (scan .passed) (marks (now (sure .entry)) (now (never .entry)) (queue (now (nodes .entry)) (scan .ring))) (scan .step)) ⌝ }
+{
+    let ring = scan.ring;
+    if decided(sure, never, node) {
+        let made = Decision {
+            step: Step::Unchanged,
+            ring: ring,
+        };
+        return passed_turn(scan, made);
+    }
+    guard_turn(value, waits, node, sure, never, nodes, scan)
+}
+
+// The bound is above what is reached.
+fn sure_waits(state: State, bound: i64) -> bool
+    ensures { λ r. ⌜ r ≡ ltZ (reached state) bound ⌝ }
+{
+    let reached = state.reached();
+    reached < bound
+}
+
+// The bound can still be reached: it is possible, and the limit is above it.
+fn never_waits(state: State, bound: i64) -> bool
+    ensures { λ r. ⌜ r ≡ reachable state bound ⌝ }
+{
+    let possible = state.possible;
+    if possible < bound {
+        return false;
+    }
+    !state.upper_at_most(bound)
+}
+
+// Guards from the cursor up: those whose bound is reached are sure.
+fn sure_guards(
+    bounds: &[i64],
+    names: &[u16],
+    state: State,
+    sure: &mut [u64],
+    never: &mut [u64],
+    nodes: &mut [u16],
+    ring: Ring,
+) -> Scan
+    requires { ⌜ (length (now bounds) ≡ length (now names)) × Below 4096 (now names) × Waits (marks (now sure) (now never) (queue (now nodes) ring)) ⌝ }
+    ensures { λ r. ⌜ scanned (r .passed) (marks (now (sure .exit)) (now (never .exit)) (queue (now (nodes .exit)) (r .ring))) (r .step)
+        ≡ sureGuards (guards (now (bounds .entry)) (now (names .entry))) state (marks (now (sure .entry)) (now (never .entry)) (queue (now (nodes .entry)) ring)) ⌝ }
+{
+    let mut at = state.sure_guard;
+    let mut so_far = Scan {
+        passed: 0,
+        step: Step::Unchanged,
+        ring: ring,
+    };
+    while at < bounds.len() {
+        let bound = bounds[at];
+        let node = names[at];
+        let waits = sure_waits(state, bound);
+        let turn = guard_turn(true, waits, node, sure, never, nodes, so_far);
+        let next = turn.scan;
+        so_far = next;
+        if turn.ends {
+            return so_far;
+        }
+        at += 1;
+    }
+    so_far
+}
+
+// Guards from the cursor down: those whose bound cannot be reached are never.
+fn never_guards(
+    bounds: &[i64],
+    names: &[u16],
+    state: State,
+    sure: &mut [u64],
+    never: &mut [u64],
+    nodes: &mut [u16],
+    ring: Ring,
+    before: Step,
+) -> Scan
+    requires { ⌜ (length (now bounds) ≡ length (now names)) × Below 4096 (now names) × (state .«never_guard» ≤ length (now bounds)) × Waits (marks (now sure) (now never) (queue (now nodes) ring)) ⌝ }
+    ensures { λ r. ⌜ scanned (r .passed) (marks (now (sure .exit)) (now (never .exit)) (queue (now (nodes .exit)) (r .ring))) (r .step)
+        ≡ neverGuards (guards (now (bounds .entry)) (now (names .entry))) state (marks (now (sure .entry)) (now (never .entry)) (queue (now (nodes .entry)) ring)) before ⌝ }
+{
+    let mut at = state.never_guard;
+    let mut so_far = Scan {
+        passed: 0,
+        step: before,
+        ring: ring,
+    };
+    while at > 0 {
+        let bound = bounds[at - 1];
+        let node = names[at - 1];
+        let waits = never_waits(state, bound);
+        let turn = guard_turn(false, waits, node, sure, never, nodes, so_far);
+        let next = turn.scan;
+        so_far = next;
+        if turn.ends {
+            return so_far;
+        }
+        at -= 1;
+    }
+    so_far
+}
+
+// `threshold_guards`: what is reached makes guards sure, what cannot be reached makes them never.
+pub fn threshold_guards(
+    bounds: &[i64],
+    names: &[u16],
+    state: State,
+    sure: &mut [u64],
+    never: &mut [u64],
+    nodes: &mut [u16],
+    ring: Ring,
+) -> Ran
+    requires { ⌜ (length (now bounds) ≡ length (now names)) × Below 4096 (now names) × (state .«never_guard» ≤ length (now bounds)) × Waits (marks (now sure) (now never) (queue (now nodes) ring)) ⌝ }
+    ensures { λ r. ⌜ ranOf (r .state) (marks (now (sure .exit)) (now (never .exit)) (queue (now (nodes .exit)) (r .ring))) (r .step)
+        ≡ thresholdGuards (guards (now (bounds .entry)) (now (names .entry))) state (marks (now (sure .entry)) (now (never .entry)) (queue (now (nodes .entry)) ring)) ⌝ }
+{
+    let low = state.never_guard;
+    let first = sure_guards(bounds, names, state, sure, never, nodes, ring);
+    let up = state.sure_guard + first.passed;
+    let step = first.step;
+    let next = first.ring;
+    if step.contradicts() {
+        let moved = state.with_guards(up, low);
+        return Ran {
+            state: moved,
+            step: Step::Contradiction,
+            ring: next,
+        };
+    }
+    let second = never_guards(bounds, names, state, sure, never, nodes, next, step);
+    let moved = state.with_guards(up, low - second.passed);
+    let last = second.step;
+    let left = second.ring;
+    Ran {
+        state: moved,
+        step: last,
+        ring: left,
+    }
+}
+
+// A weight of this much waits: up to it where sure terms are sought, below it where never ones are.
+struct Cutoff {
+    value: bool,
+    weight: i64,
+}
+
+impl Cutoff {
+    fn waits(self, weight: u64) -> bool
+        requires { ⌜ weight < 2 ^ 63 ⌝ }
+        ensures { λ r. ⌜ r ≡ light self weight ⌝ }
+    {
+        let cut = self.weight;
+        let own = weight as i64;
+        if self.value {
+            return own <= cut;
+        }
+        own < cut
+    }
+}
+
+// Terms from the cursor on, the heaviest first: decided ones are passed, and those that the cutoff forces.
+fn forced_terms(
+    conditions: &[u16],
+    weights: &[u64],
+    from: usize,
+    cutoff: Cutoff,
+    sure: &mut [u64],
+    never: &mut [u64],
+    nodes: &mut [u16],
+    ring: Ring,
+) -> Scan
+    requires { ⌜ (length (now conditions) ≡ length (now weights)) × Below 4096 (now conditions) × Below (2 ^ 63) (now weights) × Waits (marks (now sure) (now never) (queue (now nodes) ring)) ⌝ }
+    ensures { λ r. ⌜ scanned (r .passed) (marks (now (sure .exit)) (now (never .exit)) (queue (now (nodes .exit)) (r .ring))) (r .step)
+        ≡ forced (cutoff .value) (light cutoff) (drop from (terms (now (conditions .entry)) (now (weights .entry)))) (marks (now (sure .entry)) (now (never .entry)) (queue (now (nodes .entry)) ring)) ⌝ }
+{
+    let value = cutoff.value;
+    let mut at = from;
+    let mut so_far = Scan {
+        passed: 0,
+        step: Step::Unchanged,
+        ring: ring,
+    };
+    while at < weights.len() {
+        let weight = weights[at];
+        let node = conditions[at];
+        let waits = cutoff.waits(weight);
+        let turn = term_turn(value, waits, node, sure, never, nodes, so_far);
+        let next = turn.scan;
+        so_far = next;
+        if turn.ends {
+            return so_far;
+        }
+        at += 1;
+    }
+    so_far
+}
