@@ -1,7 +1,7 @@
 -- Sums of chosen terms: term by term, with one choice changed, and in any order.
-use Prim.Native.Nat.{ℕ, zero, suc, _+_, _<_, _≤_}
+use Prim.Native.Nat.{ℕ, _+_, _<_}
 use native.Mathlib.Omega.{arith}
-use mathlib.Core.Path.{_≡_, refl, sym, ap, ap₂, _∙_}
+use mathlib.Core.Path.{_≡_, refl, ap₂, _∙_}
 use mathlib.Core.Bool.{Bool, true, false, cond}
 use mathlib.Core.Logic.{_≢_, _⊎_, inl, inr}
 use mathlib.Core.List.{List, [], _∷_, reverse, reverseAux}
@@ -9,7 +9,8 @@ use lib.Dec.{eqb}
 use borrow.Author.Tests.{eq-eqb, ne-eqb}
 use Rattle.numeric.specs.Threshold.{Term}
 use Rattle.possible_sums.specs.Search.{chosen}
-use Rattle.possible_sums.specs.RowLaws.{All, Fresh}
+use Rattle.row.specs.TermsLaws.{All}
+use Rattle.possible_sums.specs.RowLaws.{Fresh}
 
 -- One choice changed.
 abbrev pub changed : (ℕ → Bool) → ℕ → Bool → ℕ → Bool

@@ -4,18 +4,17 @@ use Prim.Native.Nat.{ℕ, zero, suc, _+_, _-_, _*_, _/_, _<_, _≤_, min}
 use native.Mathlib.Nat.{lt-of-lt-of-le}
 use native.Mathlib.Omega.{arith}
 use mathlib.Core.Path.{_≡_, refl, sym, ap, _∙_, subst}
-use mathlib.Core.Bool.{Bool, true, false, cond, _&&_}
+use mathlib.Core.Bool.{Bool, true, false}
 use mathlib.Core.Logic.{_≢_, _⊎_, inl, inr, _↔_}
 use mathlib.Core.List.{List, [], _∷_, reverse}
 use lib.ListN.{length}
-use lib.Dec.{leb, ltb}
+use lib.Dec.{ltb}
 use lib.IntN.{ℤ, pos, negsuc, _+ℤ_, _-ℤ_, +ℤ-idl}
 use lib.Signed.{ltZ}
-use borrow.Author.Tests.{ltb-true, ltb-false}
+use borrow.Author.Tests.{ltb-true}
 use Rattle.numeric.specs.Threshold.{Term}
 use Rattle.number.specs.Signed.{natural, ltZ-minus}
 use Rattle.state.specs.declared.State.{State}
-use Rattle.state.specs.declared.Step.{Step}
 use Rattle.state.specs.declared.Step.the-variants.{Unchanged, Contradiction}
 use Rattle.state.specs.StateLaws.{known-lower}
 use Rattle.words.specs.declared.Ended.{Ended}
@@ -27,10 +26,11 @@ use Rattle.possible_sums.specs.declared.Plan.{Plan}
 use Rattle.possible_sums.specs.declared.Plan.the-variants.{Unplanned, Planned}
 use Rattle.possible_sums.specs.declared.Search.{Search}
 use Rattle.possible_sums.specs.declared.Search.the-variants.{Skipped, Fits, Nothing, Cut}
-use Rattle.possible_sums.specs.Search.{window, plan, search, searchFrom, searchStep, searchVisits, chosen, Lands}
-use Rattle.possible_sums.specs.RowLaws.{All, Pairwise, Fresh, Rising, all-map, all-both, all-of, rising}
+use Rattle.possible_sums.specs.Search.{plan, search, searchFrom, searchStep, searchVisits, chosen, Lands}
+use Rattle.row.specs.TermsLaws.{All, all-map}
+use Rattle.possible_sums.specs.RowLaws.{Fresh, Later, Rising, all-both, all-of, rising}
 use Rattle.possible_sums.specs.ChoiceLaws.{chosen-none, chosen-moves, chosen-heavy, chosen-reverse}
-use Rattle.possible_sums.specs.SearchSteps.{from-cut, from-heavy, from-skip, from-fits, from-stopped, from-more, plan-is, search-none, search-begins}
+use Rattle.possible_sums.specs.SearchSteps.{from-heavy, from-skip, from-fits, from-stopped, from-more, plan-is, search-none, search-begins}
 use Rattle.possible_sums.specs.SumsLaws.{Sums, first, first-sums, sums-skip, sums-hit, sums-more}
 
 -- ---- what an answer says of the choices, the terms in two parts
@@ -75,13 +75,12 @@ module _ (w : Window) (d : ℕ → Bool) where
     where
       fresh : Fresh (t .condition) rest
       fresh =
-          all-map {P = λ (u : Term). (t .weight ≤ u .weight) × (t .condition ≢ u .condition)} {Q = λ (u : Term). u .condition ≢ t .condition}
-          (λ u x e. x .1 (sym e)) rest (r .0)
+          all-map (Later t) (λ (u : Term). u .condition ≢ t .condition) rest (λ u x e. x .1 (sym e)) (r .0)
 
       apart : Apart (t ∷ before) rest
       apart =
           all-both (λ (u : Term). t .condition ≢ u .condition) (λ (u : Term). Fresh (u .condition) before) rest
-          (all-map {P = λ (u : Term). (t .weight ≤ u .weight) × (t .condition ≢ u .condition)} {Q = λ (u : Term). t .condition ≢ u .condition} (λ u x. x .1) rest (r .0))
+          (all-map (Later t) (λ (u : Term). t .condition ≢ u .condition) rest (λ u x. x .1) (r .0))
           (f .1)
 
       by : ((b : List ℕ) (m l : ℕ) → Sums w d (t ∷ before) rest b m → Answers (t ∷ before) rest (searchFrom w d rest b m l))
@@ -94,8 +93,7 @@ module _ (w : Window) (d : ℕ → Bool) where
           (λ choice. left-over before (t ∷ rest) sums maximum s choice
           (chosen-heavy d choice (w .maximum) (t ∷ rest) (
             h,
-            all-map {P = λ (u : Term). (t .weight ≤ u .weight) × (t .condition ≢ u .condition)} {Q = λ (u : Term). w .maximum < u .weight}
-                (λ u x. lt-of-lt-of-le h (x .0)) rest (r .0),
+            all-map (Later t) (λ (u : Term). w .maximum < u .weight) rest (λ u x. lt-of-lt-of-le h (x .0)) (r .0),
           )))
       by ih false a true b e c =
           subst (Answers before (t ∷ rest)) (sym (from-skip w d t rest sums maximum left a b))

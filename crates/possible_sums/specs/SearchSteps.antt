@@ -1,21 +1,19 @@
 -- The search one term a turn from the light end, at places of the two slices, and when a row is planned.
-use Prim.Native.Nat.{ℕ, zero, suc, _+_, _-_, _*_, _/_, _^_, _<_, _≤_, min}
-use native.Mathlib.Nat.{not-suc-le-zero}
+use Prim.Native.Nat.{ℕ, suc, _+_, _-_, _*_, _/_, _^_, _<_, _≤_, min}
 use native.Mathlib.Omega.{arith}
 use mathlib.Core.Path.{_≡_, refl, sym, ap, ap₂, _∙_, subst}
 use mathlib.Core.Bool.{Bool, true, false, cond, _&&_}
-use mathlib.Core.List.{List, [], _∷_, reverse}
+use mathlib.Core.List.{List, _∷_, reverse}
 use lib.ListN.{length, getD, set, replicate}
 use lib.Dec.{leb, ltb}
 use lib.IntN.{ℤ, pos, _-ℤ_}
-use lib.Signed.{mag, ltZ, leZ}
+use lib.Signed.{mag, ltZ}
 use mir.Syntax.{w64}
 use mir.Val.{SFits}
-use borrow.Author.Tests.{lt-ltb, le-ltb, le-leb, lt-leb, leb-true}
-use Rattle.numeric.specs.Threshold.{Term, term, terms}
+use borrow.Author.Tests.{le-leb, lt-leb, leb-true}
+use Rattle.numeric.specs.Threshold.{Term, term}
 use Rattle.number.specs.Signed.{natural, mag-minus, sub-sfits}
 use Rattle.state.specs.declared.State.{State}
-use Rattle.state.specs.declared.Upper.{Upper}
 use Rattle.state.specs.declared.Upper.the-variants.{Open, Under}
 use Rattle.state.specs.State.{limit, upperAtMost, hasResidualInterval}
 use Rattle.words.specs.declared.Ended.the-variants.{Hit, Complete, Stopped}
@@ -23,9 +21,7 @@ use Rattle.words.specs.Shift.{Shifted, unionShifted}
 use Rattle.words.specs.ShiftLaws.{Outcome, completes, hits, stops, outcome, readable}
 use Rattle.thresholds.specs.Rows.{hasNonunit}
 use Rattle.possible_sums.specs.declared.Window.{Window}
-use Rattle.possible_sums.specs.declared.Plan.{Plan}
 use Rattle.possible_sums.specs.declared.Plan.the-variants.{Unplanned, Planned}
-use Rattle.possible_sums.specs.declared.Search.{Search}
 use Rattle.possible_sums.specs.declared.Search.the-variants.{Skipped, Fits, Nothing, Cut}
 use Rattle.possible_sums.specs.Search.{window, plan, searchFrom, search}
 use Rattle.possible_sums.specs.Shape.{Figures, Prepared}

@@ -1,10 +1,10 @@
 -- What the words of a search hold: the sums of the undecided terms looked at so far, and none in the window.
-use Prim.Native.Nat.{ℕ, zero, suc, _+_, _-_, _*_, _/_, _%_, _^_, _<_, _≤_, min, max}
+use Prim.Native.Nat.{ℕ, _+_, _-_, _/_, _%_, _^_, _<_, _≤_, min, max}
 use native.Mathlib.Nat.{lt-of-not-le}
 use native.Mathlib.Decide.{decLe, decLt}
 use native.Mathlib.Omega.{arith}
 use native.Nat.{ℕᴺ-discrete as decEq}
-use mathlib.Core.Path.{_≡_, refl, sym, ap, _∙_, subst}
+use mathlib.Core.Path.{_≡_, refl, sym, ap, _∙_}
 use mathlib.Core.Bool.{Bool, true, false}
 use mathlib.Core.Logic.{_≢_, _⊎_, inl, inr}
 use mathlib.Core.List.{List, [], _∷_}
@@ -12,10 +12,9 @@ use lib.Pow.{pow-pos}
 use lib.ListN.{length, getD, set, replicate, length-set, length-replicate, getD-replicate, List·getD-eq-default}
 use lib.Seq.{getD-set-same, getD-set-other}
 use Rattle.numeric.specs.Threshold.{Term}
-use Rattle.words.specs.declared.Ended.{Ended}
-use Rattle.words.specs.declared.Ended.the-variants.{Hit, Complete, Stopped}
+use Rattle.words.specs.declared.Ended.the-variants.{Hit, Complete}
 use Rattle.words.specs.Mask.{digit, digitAt}
-use Rattle.words.specs.Digits.{Words, digit-small, digit-high, pow-digit, pow-digit-same}
+use Rattle.words.specs.Digits.{Words, digit-small, digit-high, pow-digit}
 use Rattle.words.specs.Shift.{unionShifted}
 use Rattle.words.specs.ShiftLaws.{Moved, union-length, union-64, union-outside, complete-moved, complete-kept, hit-moved, moved-hit}
 use Rattle.possible_sums.specs.declared.Window.{Window}
