@@ -1,21 +1,19 @@
 -- The search one term a turn from the light end, at places of the two slices, and when a row is planned.
-use Prim.Native.Nat.{ℕ, zero, suc, _+_, _-_, _*_, _/_, _^_, _<_, _≤_, min}
-use native.Mathlib.Nat.{not-suc-le-zero}
+use Prim.Native.Nat.{ℕ, suc, _+_, _-_, _*_, _/_, _^_, _<_, _≤_, min}
 use native.Mathlib.Omega.{arith}
 use mathlib.Core.Path.{_≡_, refl, sym, ap, ap₂, _∙_, subst}
 use mathlib.Core.Bool.{Bool, true, false, cond, _&&_}
-use mathlib.Core.List.{List, [], _∷_, reverse}
+use mathlib.Core.List.{List, _∷_, reverse}
 use lib.ListN.{length, getD, set, replicate}
 use lib.Dec.{leb, ltb}
 use lib.IntN.{ℤ, pos, _-ℤ_}
-use lib.Signed.{mag, ltZ, leZ}
+use lib.Signed.{mag, ltZ}
 use mir.Syntax.{w64}
 use mir.Val.{SFits}
-use borrow.Author.Tests.{lt-ltb, le-ltb, le-leb, lt-leb, leb-true}
-use Rattle.numeric.specs.Threshold.{Term, term, terms}
+use borrow.Author.Tests.{le-leb, lt-leb, leb-true}
+use Rattle.numeric.specs.Threshold.{Term, term}
 use Rattle.number.specs.Signed.{natural, mag-minus, sub-sfits}
 use Rattle.state.specs.declared.State.{State}
-use Rattle.state.specs.declared.Upper.{Upper}
 use Rattle.state.specs.declared.Upper.the-variants.{Open, Under}
 use Rattle.state.specs.State.{limit, upperAtMost, hasResidualInterval}
 use Rattle.words.specs.declared.Ended.the-variants.{Hit, Complete, Stopped}
@@ -23,9 +21,7 @@ use Rattle.words.specs.Shift.{Shifted, unionShifted}
 use Rattle.words.specs.ShiftLaws.{Outcome, completes, hits, stops, outcome, readable}
 use Rattle.thresholds.specs.Rows.{hasNonunit}
 use Rattle.possible_sums.specs.declared.Window.{Window}
-use Rattle.possible_sums.specs.declared.Plan.{Plan}
 use Rattle.possible_sums.specs.declared.Plan.the-variants.{Unplanned, Planned}
-use Rattle.possible_sums.specs.declared.Search.{Search}
 use Rattle.possible_sums.specs.declared.Search.the-variants.{Skipped, Fits, Nothing, Cut}
 use Rattle.possible_sums.specs.Search.{window, plan, searchFrom, search}
 use Rattle.possible_sums.specs.Shape.{Figures, Prepared}
@@ -127,26 +123,35 @@ module _ (ts : List Term) (s : State) where
               plan-window (rw (q, r) at h)
               ∙ sym (ap Planned (λ i. record { lower = p i; maximum = q i; words = q i / 64 + 1; visits = 4 * r i }))
 
--- What a plan's window is.
-pub plan-prepared : (ts : List Term) (s : State) (w : Window) → length ts ≤ 1024 → plan ts s ≡ Planned w → Prepared w
-unfolding plan
-plan-prepared ts s w n e =
-    by (hasNonunit ts && hasResidualInterval s && ltZ (s .known) (limit (s .upper)) && leb (window ts s .words + 5) (window ts s .visits)) refl e
-  where
-    room : (a b c d : Bool) → (a && b && c && d) ≡ true → d ≡ true
-    room true true true d h = h
-    room true true false d h = absurd (let z : _≡_ {A = ℕ} 0 1 = cc in omega arith)
-    room true false c d h = absurd (let z : _≡_ {A = ℕ} 0 1 = cc in omega arith)
-    room false b c d h = absurd (let z : _≡_ {A = ℕ} 0 1 = cc in omega arith)
+-- What a plan says of its row, and of its window.
+pub record Searched (ts : List Term) (s : State) (w : Window) : Type 0 where
+  pub same : window ts s ≡ w
+  pub cut : hasResidualInterval s ≡ true
+  pub room : window ts s .words + 5 ≤ window ts s .visits
 
-    by : (x : Bool) → (hasNonunit ts && hasResidualInterval s && ltZ (s .known) (limit (s .upper)) && leb (window ts s .words + 5) (window ts s .visits)) ≡ x
-        → cond x (Planned (window ts s)) Unplanned ≡ Planned w → Prepared w
+pub plan-is : (ts : List Term) (s : State) (w : Window) → plan ts s ≡ Planned w → Searched ts s w
+unfolding plan
+plan-is ts s w e = by (tests (hasNonunit ts)) refl e
+  where
+    tests : Bool → Bool
+    tests a = a && hasResidualInterval s && ltZ (s .known) (limit (s .upper)) && leb (window ts s .words + 5) (window ts s .visits)
+
+    met : (a b c d : Bool) → (a && b && c && d) ≡ true → (b ≡ true) × (d ≡ true)
+    met true true true d h = (refl, h)
+    met true true false d h = absurd (let z : _≡_ {A = ℕ} 0 1 = cc in omega arith)
+    met true false c d h = absurd (let z : _≡_ {A = ℕ} 0 1 = cc in omega arith)
+    met false b c d h = absurd (let z : _≡_ {A = ℕ} 0 1 = cc in omega arith)
+
+    by : (x : Bool) → tests (hasNonunit ts) ≡ x → cond x (Planned (window ts s)) Unplanned ≡ Planned w → Searched ts s w
     by true h q =
-        let v : window ts s ≡ w = cc in
-        let l = leb-true (window ts s .words + 5) (window ts s .visits)
-        (room (hasNonunit ts) (hasResidualInterval s) (ltZ (s .known) (limit (s .upper))) (leb (window ts s .words + 5) (window ts s .visits)) h) in
-        subst Prepared v (record { words = refl; enough = l; visits = omega arith })
+        let m = met (hasNonunit ts) (hasResidualInterval s) (ltZ (s .known) (limit (s .upper))) (leb (window ts s .words + 5) (window ts s .visits)) h in
+        record { same = cc; cut = m .0; room = leb-true (window ts s .words + 5) (window ts s .visits) (m .1) }
     by false h q = absurd (let z : _≡_ {A = ℕ} 0 1 = cc in omega arith)
+
+pub plan-prepared : (ts : List Term) (s : State) (w : Window) → length ts ≤ 1024 → plan ts s ≡ Planned w → Prepared w
+plan-prepared ts s w n e =
+    let p = plan-is ts s w e in
+    subst Prepared (p .same) (record { words = refl; enough = p .room; visits = omega arith })
 
 -- Where there is no limit both limits do not cut.
 pub open-wide : (s : State) → s .upper ≡ Open → hasResidualInterval s ≡ false

@@ -1,5 +1,5 @@
 -- What a search asks of its row, of the masks, of the row's figures and of the words that it is lent.
-use Prim.Native.Nat.{ℕ, _+_, _*_, _/_, _<_, _≤_, _^_}
+use Prim.Native.Nat.{ℕ, _+_, _/_, _<_, _≤_, _^_}
 use mathlib.Core.Path.{_≡_}
 use mathlib.Core.List.{List}
 use lib.ListN.{length, getD}

@@ -1,13 +1,13 @@
--- The terms of a row from the light end, where all are left, where some are, and where none is; its first weight; figures as numbers.
+-- The terms of a row from the light end, where all are left, where some are, and where none is; figures as natural numbers.
 use Prim.Native.Nat.{ℕ, zero, suc, _-_, _<_, _≤_}
 use native.Mathlib.Nat.{not-suc-le-zero}
 use native.Mathlib.Omega.{arith}
-use mathlib.Core.Path.{_≡_, refl, sym, ap, _∙_}
-use mathlib.Core.Bool.{Bool, true, false}
+use mathlib.Core.Path.{_≡_, refl, ap}
+use mathlib.Core.Bool.{true, false}
 use mathlib.Core.List.{List, [], _∷_, reverse}
 use lib.ListN.{length, getD, take}
 use lib.Seq.{take-all}
-use lib.Dec.{T, ltb}
+use lib.Dec.{T}
 use lib.IntN.{ℤ, pos, negsuc, natAbs}
 use lib.Signed.{nonNeg, ltZ}
 use borrow.Author.Tests.{ltb-true}
@@ -16,7 +16,6 @@ use mir.Val.{SFits, Fits}
 use Rattle.numeric.specs.Threshold.{Term, term, terms}
 use Rattle.numeric.specs.TermsLaws.{down-terms, length-terms}
 use Rattle.number.specs.Signed.{natural}
-use Rattle.thresholds.specs.Rows.{hasNonunit}
 
 abbrev pub lastTerms : List ℕ → List ℕ → ℕ → List Term
 lastTerms cs ws left = reverse (take left (terms cs ws))
@@ -33,19 +32,6 @@ last-next cs ws (suc left) h f g =
 
 pub last-none : (cs ws : List ℕ) (left : ℕ) → left ≡ 0 → lastTerms cs ws left ≡ []
 last-none cs ws left e = ap (λ (k : ℕ). reverse (take k (terms cs ws))) e
-
--- The first weight of a row that has one.
-pub nonunit-none : (cs ws : List ℕ) → length ws ≡ 0 → hasNonunit (terms cs ws) ≡ false
-unfolding hasNonunit terms
-nonunit-none [] ws e = refl
-nonunit-none (c ∷ cs) [] e = refl
-nonunit-none (c ∷ cs) (w ∷ ws) e = absurd (let h : length (w ∷ ws) ≡ 0 = e in omega arith)
-
-pub nonunit-first : (cs ws : List ℕ) → 0 < length cs → 0 < length ws → hasNonunit (terms cs ws) ≡ ltb 1 (getD ws 0 0)
-unfolding hasNonunit terms
-nonunit-first [] ws h k = absurd (not-suc-le-zero h)
-nonunit-first (c ∷ cs) [] h k = absurd (not-suc-le-zero k)
-nonunit-first (c ∷ cs) (w ∷ ws) h k = refl
 
 clash : true ≡ false → ⊥
 clash h = let z : _≡_ {A = ℕ} 0 1 = cc in omega arith

@@ -1,11 +1,10 @@
 -- Words that are all zero: cleared one by one, and again after a part of them was used.
-use Prim.Native.Nat.{ℕ, zero, suc, _+_, _-_, _<_, _≤_}
-use native.Mathlib.Nat.{lt-of-not-le}
+use Prim.Native.Nat.{ℕ, _+_, _-_, _<_, _≤_}
 use native.Mathlib.Omega.{arith}
 use native.Nat.{ℕᴺ-discrete as decEq}
 use mathlib.Core.Path.{_≡_, refl, sym, ap, _∙_}
-use mathlib.Core.List.{List, [], _∷_, _++_}
-use lib.ListN.{length, getD, set, replicate, take, drop, length-set, length-replicate, getD-replicate, take-append-drop}
+use mathlib.Core.List.{List, _++_}
+use lib.ListN.{length, getD, set, replicate, take, drop, length-replicate, getD-replicate, take-append-drop}
 use lib.Seq.{getD-set-same, getD-set-other, getD-take, length-take-le, ext-getD}
 use Rattle.possible_sums.specs.Shape.{Zeros}
 

@@ -6,10 +6,10 @@ ghost use lib.ListN.{length, replicate, set};
 ghost use Rattle.numeric.specs.Threshold.{terms};
 ghost use Rattle.number.specs.Signed.{natural as naturalOf};
 ghost use Rattle.words.specs.Mask.{inEither};
-ghost use Rattle.thresholds.specs.Rows.{hasNonunit};
 ghost use Rattle.possible_sums.specs.Shape.{Shape, Figures, Zeros, Prepared};
-ghost use Rattle.possible_sums.specs.Search.{plan, searchFrom, search};
+ghost use Rattle.possible_sums.specs.Search.{plan, searchFrom, search, searchStep, searchVisits};
 use state::State;
+use state::Step;
 use state::Upper;
 use words::Ended;
 
@@ -39,6 +39,32 @@ pub enum Search {
     Cut(usize),
 }
 
+impl Search {
+    // Only a search that ended with no sum in the window contradicts.
+    pub fn step(self) -> Step
+        ensures { λ r. ⌜ r ≡ searchStep self ⌝ }
+    {
+        match self {
+            Search::Skipped => Step::Unchanged,
+            Search::Fits(_) => Step::Unchanged,
+            Search::Nothing(_) => Step::Contradiction,
+            Search::Cut(_) => Step::Unchanged,
+        }
+    }
+
+    // The visits that this search used, those of the last one before where none was planned.
+    pub fn visits(self, before: usize) -> usize
+        ensures { λ r. ⌜ r ≡ searchVisits before self ⌝ }
+    {
+        match self {
+            Search::Skipped => before,
+            Search::Fits(n) => n,
+            Search::Nothing(n) => n,
+            Search::Cut(n) => n,
+        }
+    }
+}
+
 // A figure that is not negative as it is, any other as 0.
 fn natural(figure: i64) -> usize
     ensures { λ r. ⌜ r ≡ naturalOf figure ⌝ }
@@ -56,17 +82,6 @@ fn smaller(a: usize, b: usize) -> usize
         return a;
     }
     b
-}
-
-// Some weight is above 1; the first is the heaviest.
-fn has_nonunit(conditions: &[u16], weights: &[u64]) -> bool
-    requires { ⌜ length (now conditions) ≡ length (now weights) ⌝ }
-    ensures { λ r. ⌜ r ≡ hasNonunit (terms (now (conditions .entry)) (now (weights .entry))) ⌝ }
-{
-    if weights.len() == 0 {
-        return false;
-    }
-    weights[0] > 1
 }
 
 // Whether a node is in one of the masks.
@@ -88,7 +103,7 @@ impl Plan {
         requires { ⌜ (length (now conditions) ≡ length (now weights)) × (length (now weights) ≤ 1024) × Figures state ⌝ }
         ensures { λ r. ⌜ r ≡ plan (terms (now (conditions .entry)) (now (weights .entry))) state ⌝ }
     {
-        if !has_nonunit(conditions, weights) {
+        if !thresholds::has_nonunit(conditions, weights) {
             return Plan::Unplanned;
         }
         if !state.has_residual_interval() {

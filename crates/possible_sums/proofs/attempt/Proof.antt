@@ -1,8 +1,8 @@
 -- `possible_sums::attempt` meets its contract.
 use Prim.Native.Nat.{ℕ, _+_, _-_}
-use mathlib.Core.Path.{_≡_, sym, ap, ap₂, _∙_}
+use mathlib.Core.Path.{ap, ap₂, _∙_}
 use mathlib.Core.List.{List, reverse}
-use lib.ListN.{length, set, replicate}
+use lib.ListN.{set, replicate}
 use borrow.Author.Needs.{needs}
 use Rattle.numeric.specs.Threshold.{terms}
 use Rattle.words.specs.Mask.{inEither}

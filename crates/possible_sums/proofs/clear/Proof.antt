@@ -1,8 +1,8 @@
 -- `possible_sums::clear` meets its contract: the words passed are zero.
-use Prim.Native.Nat.{ℕ, _-_, _<_, _≤_}
+use Prim.Native.Nat.{_-_, _≤_}
 use native.Mathlib.Omega.{arith}
 use mathlib.Core.Path.{_≡_, refl}
-use lib.ListN.{length, getD, length-set}
+use lib.ListN.{length, length-set}
 use Rattle.possible_sums.specs.ZerosLaws.{ZeroTo, zero-next, zero-all}
 use Rattle.possible_sums.proofs.clear.Statement.{statement}
 use Rattle.possible_sums.proofs.clear.Tie as tie

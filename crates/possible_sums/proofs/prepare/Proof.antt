@@ -1,9 +1,9 @@
 -- `possible_sums::prepare` meets its contract.
 use native.Mathlib.Omega.{arith}
-use mathlib.Core.Path.{_≡_, sym, ap, _∙_}
+use mathlib.Core.Path.{ap}
 use mathlib.Core.List.{List}
 use Prim.Native.Nat.{ℕ}
-use lib.ListN.{length, set, length-set, length-replicate}
+use lib.ListN.{set, length-set}
 use borrow.Author.Needs.{needs}
 use Rattle.possible_sums.proofs.prepare.Statement.{statement}
 use Rattle.possible_sums.proofs.prepare.Tie as tie

@@ -1,5 +1,5 @@
 -- `possible_sums::search_from` meets its contract: the search of the terms that are left, from here, is that of the whole row.
-use Prim.Native.Nat.{ℕ, suc, _+_, _-_, _/_, _≤_, min}
+use Prim.Native.Nat.{ℕ, _+_, _-_, _/_, _≤_}
 use native.Mathlib.Omega.{arith}
 use mathlib.Core.Path.{_≡_, refl, sym, ap, ap₂, _∙_}
 use mathlib.Core.List.{List, reverse}

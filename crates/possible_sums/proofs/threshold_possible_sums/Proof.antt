@@ -1,15 +1,13 @@
 -- `possible_sums::threshold_possible_sums` meets its contract.
-use Prim.Native.Nat.{ℕ, _+_, _-_, _≤_}
+use Prim.Native.Nat.{_-_, _≤_}
 use native.Mathlib.Omega.{arith}
-use mathlib.Core.Path.{_≡_, sym, ap, ap₂, _∙_}
-use mathlib.Core.List.{List, reverse}
+use mathlib.Core.Path.{_≡_, sym, _∙_}
 use lib.ListN.{length}
 use lib.Seq.{length-take-le}
 use borrow.Author.Needs.{needs}
 use Rattle.numeric.specs.Threshold.{terms}
 use Rattle.numeric.specs.TermsLaws.{length-terms}
 use Rattle.words.specs.Mask.{inEither}
-use Rattle.possible_sums.specs.declared.Window.{Window}
 use Rattle.possible_sums.specs.Shape.{Prepared}
 use Rattle.possible_sums.specs.ZerosLaws.{zeros-back}
 use Rattle.possible_sums.specs.SearchSteps.{search-none, search-begins, plan-prepared}

@@ -1,30 +1,28 @@
 -- `possible_sums::Plan::for_row` meets its contract: each test is one of the definition's.
-use Prim.Native.Nat.{ℕ, _+_, _-_, _*_, _/_, _<_, _≤_}
+use Prim.Native.Nat.{_-_}
 use native.Mathlib.Omega.{arith}
-use mathlib.Core.Path.{_≡_, refl, sym, ap, ap₂, _∙_}
-use mathlib.Core.Bool.{true, false}
-use lib.IntN.{ℤ, pos, _-ℤ_}
-use lib.Signed.{mag, ltZ}
+use mathlib.Core.Path.{_≡_, sym, ap, _∙_}
+use mathlib.Core.Bool.{true}
+use lib.IntN.{pos, _-ℤ_}
+use lib.Signed.{ltZ}
 use lib.ListN.{length}
 use mir.Syntax.{w64}
 use mir.Val.{toZ, ofZ}
-use mir.Facts.{toZ-ofZ, toZ-pos}
+use mir.Facts.{toZ-ofZ}
 use borrow.Author.Needs.{needs}
 use borrow.Author.Tests.{not-true, not-false}
-use Rattle.numeric.specs.Threshold.{Term, terms}
+use Rattle.numeric.specs.Threshold.{terms}
 use Rattle.numeric.specs.TermsLaws.{length-terms}
-use Rattle.number.specs.Signed.{natural, sub-sfits, mag-minus, leZ-nlt, nle-ltZ}
+use Rattle.number.specs.Signed.{natural, leZ-nlt, nle-ltZ}
 use Rattle.state.specs.declared.Upper.{Upper}
 use Rattle.state.specs.State.{limit, hasResidualInterval}
 use Rattle.thresholds.specs.Rows.{hasNonunit}
-use Rattle.possible_sums.specs.declared.Window.{Window}
-use Rattle.possible_sums.specs.Search.{window, plan}
 use Rattle.possible_sums.specs.SearchSteps.{plan-unit, plan-wide, plan-reached, not-planned, is-planned, open-wide, lower-known, limit-known, last-known}
 use Rattle.possible_sums.proofs.Plan.for_row.Statement.{statement}
 use Rattle.possible_sums.proofs.Plan.for_row.Tie as tie
 
 has-nonunit-requires : tie.Need-has-nonunit-requires
-has-nonunit-requires c κs = search needs
+has-nonunit-requires c κs = sym (c .before .before .pre .0)
 
 returns : tie.Need-returns
 returns c =
