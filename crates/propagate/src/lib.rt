@@ -11,13 +11,14 @@ ghost use Rattle.queues.specs.Queue.{queue};
 ghost use Rattle.queues.specs.Marks.{Marks, marks, isDecided, decided, decide};
 ghost use Rattle.queues.specs.MarksLaws.{Waits};
 ghost use Rattle.propagate.specs.Scan.{scanned, turn as turnOf, turned, force};
-ghost use Rattle.propagate.specs.Shape.{Below};
+ghost use Rattle.propagate.specs.Shape.{Below, TermSlices, GuardSlices, Figures};
 ghost use Rattle.propagate.specs.Guards.{guards};
-ghost use Rattle.propagate.specs.Row.{ran as ranOf, reachable, sureGuards, neverGuards, thresholdGuards, light, forced};
+ghost use Rattle.propagate.specs.Row.{ran as ranOf, reachable, sureGuards, neverGuards, thresholdGuards, light, forced, trueTerms, falseTerms};
 use queues::Decision;
 use queues::Ring;
 use state::State;
 use state::Step;
+use state::Upper;
 
 // A scan of a row's guards or terms so far: the places passed, the strongest answer, the queue of nodes.
 pub struct Scan {
@@ -166,7 +167,7 @@ fn sure_guards(
     nodes: &mut [u16],
     ring: Ring,
 ) -> Scan
-    requires { ⌜ (length (now bounds) ≡ length (now names)) × Below 4096 (now names) × Waits (marks (now sure) (now never) (queue (now nodes) ring)) ⌝ }
+    requires { ⌜ GuardSlices (now bounds) (now names) × Waits (marks (now sure) (now never) (queue (now nodes) ring)) ⌝ }
     ensures { λ r. ⌜ scanned (r .passed) (marks (now (sure .exit)) (now (never .exit)) (queue (now (nodes .exit)) (r .ring))) (r .step)
         ≡ sureGuards (guards (now (bounds .entry)) (now (names .entry))) state (marks (now (sure .entry)) (now (never .entry)) (queue (now (nodes .entry)) ring)) ⌝ }
 {
@@ -202,7 +203,7 @@ fn never_guards(
     ring: Ring,
     before: Step,
 ) -> Scan
-    requires { ⌜ (length (now bounds) ≡ length (now names)) × Below 4096 (now names) × (state .«never_guard» ≤ length (now bounds)) × Waits (marks (now sure) (now never) (queue (now nodes) ring)) ⌝ }
+    requires { ⌜ GuardSlices (now bounds) (now names) × (state .«never_guard» ≤ length (now bounds)) × Waits (marks (now sure) (now never) (queue (now nodes) ring)) ⌝ }
     ensures { λ r. ⌜ scanned (r .passed) (marks (now (sure .exit)) (now (never .exit)) (queue (now (nodes .exit)) (r .ring))) (r .step)
         ≡ neverGuards (guards (now (bounds .entry)) (now (names .entry))) state (marks (now (sure .entry)) (now (never .entry)) (queue (now (nodes .entry)) ring)) before ⌝ }
 {
@@ -237,7 +238,7 @@ pub fn threshold_guards(
     nodes: &mut [u16],
     ring: Ring,
 ) -> Ran
-    requires { ⌜ (length (now bounds) ≡ length (now names)) × Below 4096 (now names) × (state .«never_guard» ≤ length (now bounds)) × Waits (marks (now sure) (now never) (queue (now nodes) ring)) ⌝ }
+    requires { ⌜ GuardSlices (now bounds) (now names) × (state .«never_guard» ≤ length (now bounds)) × Waits (marks (now sure) (now never) (queue (now nodes) ring)) ⌝ }
     ensures { λ r. ⌜ ranOf (r .state) (marks (now (sure .exit)) (now (never .exit)) (queue (now (nodes .exit)) (r .ring))) (r .step)
         ≡ thresholdGuards (guards (now (bounds .entry)) (now (names .entry))) state (marks (now (sure .entry)) (now (never .entry)) (queue (now (nodes .entry)) ring)) ⌝ }
 {
@@ -296,7 +297,7 @@ fn forced_terms(
     nodes: &mut [u16],
     ring: Ring,
 ) -> Scan
-    requires { ⌜ (length (now conditions) ≡ length (now weights)) × Below 4096 (now conditions) × Below (2 ^ 63) (now weights) × Waits (marks (now sure) (now never) (queue (now nodes) ring)) ⌝ }
+    requires { ⌜ TermSlices (now conditions) (now weights) × Waits (marks (now sure) (now never) (queue (now nodes) ring)) ⌝ }
     ensures { λ r. ⌜ scanned (r .passed) (marks (now (sure .exit)) (now (never .exit)) (queue (now (nodes .exit)) (r .ring))) (r .step)
         ≡ forced (cutoff .value) (light cutoff) (drop from (terms (now (conditions .entry)) (now (weights .entry)))) (marks (now (sure .entry)) (now (never .entry)) (queue (now (nodes .entry)) ring)) ⌝ }
 {
@@ -320,4 +321,85 @@ fn forced_terms(
         at += 1;
     }
     so_far
+}
+
+// `threshold_terms` for true: a term heavier than possible - lower is needed.
+fn true_terms(
+    conditions: &[u16],
+    weights: &[u64],
+    state: State,
+    sure: &mut [u64],
+    never: &mut [u64],
+    nodes: &mut [u16],
+    ring: Ring,
+) -> Ran
+    requires { ⌜ TermSlices (now conditions) (now weights) × Figures state × Waits (marks (now sure) (now never) (queue (now nodes) ring)) ⌝ }
+    ensures { λ r. ⌜ ranOf (r .state) (marks (now (sure .exit)) (now (never .exit)) (queue (now (nodes .exit)) (r .ring))) (r .step)
+        ≡ trueTerms (terms (now (conditions .entry)) (now (weights .entry))) state (marks (now (sure .entry)) (now (never .entry)) (queue (now (nodes .entry)) ring)) ⌝ }
+{
+    let known = state.known;
+    let lower = state.lower;
+    let possible = state.possible;
+    if known >= lower {
+        return Ran {
+            state: state,
+            step: Step::Unchanged,
+            ring: ring,
+        };
+    }
+    let cutoff = Cutoff {
+        value: true,
+        weight: possible - lower,
+    };
+    let from = state.true_term;
+    let scan = forced_terms(conditions, weights, from, cutoff, sure, never, nodes, ring);
+    let moved = state.with_terms(from + scan.passed, state.false_term);
+    let step = scan.step;
+    let next = scan.ring;
+    Ran {
+        state: moved,
+        step: step,
+        ring: next,
+    }
+}
+
+// `threshold_terms` for false: a term of at least upper - known is too heavy.
+fn false_terms(
+    conditions: &[u16],
+    weights: &[u64],
+    state: State,
+    sure: &mut [u64],
+    never: &mut [u64],
+    nodes: &mut [u16],
+    ring: Ring,
+) -> Ran
+    requires { ⌜ TermSlices (now conditions) (now weights) × Figures state × Waits (marks (now sure) (now never) (queue (now nodes) ring)) ⌝ }
+    ensures { λ r. ⌜ ranOf (r .state) (marks (now (sure .exit)) (now (never .exit)) (queue (now (nodes .exit)) (r .ring))) (r .step)
+        ≡ falseTerms (terms (now (conditions .entry)) (now (weights .entry))) state (marks (now (sure .entry)) (now (never .entry)) (queue (now (nodes .entry)) ring)) ⌝ }
+{
+    let known = state.known;
+    let upper = state.upper;
+    match upper {
+        Upper::Open => Ran {
+            state: state,
+            step: Step::Unchanged,
+            ring: ring,
+        },
+        Upper::Under(limit) => {
+            let cutoff = Cutoff {
+                value: false,
+                weight: limit - known,
+            };
+            let from = state.false_term;
+            let scan = forced_terms(conditions, weights, from, cutoff, sure, never, nodes, ring);
+            let moved = state.with_terms(state.true_term, from + scan.passed);
+            let step = scan.step;
+            let next = scan.ring;
+            Ran {
+                state: moved,
+                step: step,
+                ring: next,
+            }
+        }
+    }
 }
