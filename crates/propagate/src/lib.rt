@@ -3,17 +3,19 @@ ghost use mathlib.Core.Path.{_≡_};
 ghost use mathlib.Core.Bool.{false, not, _&&_};
 ghost use Prim.Native.Nat.{_+_, _<_, _≤_, _^_};
 ghost use lib.ListN.{length, drop};
+ghost use mathlib.Core.List.{List};
 ghost use lib.Signed.{ltZ};
-ghost use Rattle.numeric.specs.Threshold.{terms};
+ghost use Rattle.numeric.specs.Threshold.{Term, terms};
 ghost use Rattle.words.specs.Mask.{inEither};
 ghost use Rattle.state.specs.State.{reached};
 ghost use Rattle.queues.specs.Queue.{queue};
 ghost use Rattle.queues.specs.Marks.{Marks, marks, isDecided, decided, decide};
 ghost use Rattle.queues.specs.MarksLaws.{Waits};
+ghost use Rattle.thresholds.specs.Rows.{Guard, rowOf};
 ghost use Rattle.propagate.specs.Scan.{scanned, turn as turnOf, turned, force};
 ghost use Rattle.propagate.specs.Shape.{Below, TermSlices, GuardSlices, Figures};
 ghost use Rattle.propagate.specs.Guards.{guards};
-ghost use Rattle.propagate.specs.Row.{ran as ranOf, reachable, sureGuards, neverGuards, thresholdGuards, light, forced, trueTerms, falseTerms};
+ghost use Rattle.propagate.specs.Row.{ran as ranOf, reachable, sureGuards, neverGuards, thresholdGuards, light, forced, trueTerms, falseTerms, rowTerms, thresholdRow, wantsResidual};
 use queues::Decision;
 use queues::Ring;
 use state::State;
@@ -402,4 +404,89 @@ fn false_terms(
             }
         }
     }
+}
+
+// Terms behind the guards: those that must be sure, then those that must not.
+fn row_terms(
+    conditions: &[u16],
+    weights: &[u64],
+    before: Ran,
+    sure: &mut [u64],
+    never: &mut [u64],
+    nodes: &mut [u16],
+) -> Ran
+    requires { ⌜ TermSlices (now conditions) (now weights) × Figures (before .state) × Waits (marks (now sure) (now never) (queue (now nodes) (before .ring))) ⌝ }
+    ensures { λ r. ⌜ ranOf (r .state) (marks (now (sure .exit)) (now (never .exit)) (queue (now (nodes .exit)) (r .ring))) (r .step)
+        ≡ rowTerms (terms (now (conditions .entry)) (now (weights .entry)))
+        (ranOf (before .state) (marks (now (sure .entry)) (now (never .entry)) (queue (now (nodes .entry)) (before .ring))) (before .step)) ⌝ }
+{
+    let start = before.state;
+    let ring = before.ring;
+    let first = true_terms(conditions, weights, start, sure, never, nodes, ring);
+    let step = first.step;
+    if step.contradicts() {
+        return first;
+    }
+    let state = first.state;
+    let next = first.ring;
+    let second = false_terms(conditions, weights, state, sure, never, nodes, next);
+    let guards = before.step;
+    let last = second.step;
+    let end = second.state;
+    let left = second.ring;
+    let both = guards.join(step);
+    let all = both.join(last);
+    Ran {
+        state: end,
+        step: all,
+        ring: left,
+    }
+}
+
+// `threshold_row`: a row in conflict contradicts; any other scans its guards, then its terms.
+pub fn threshold_row(
+    conditions: &[u16],
+    weights: &[u64],
+    bounds: &[i64],
+    names: &[u16],
+    state: State,
+    sure: &mut [u64],
+    never: &mut [u64],
+    nodes: &mut [u16],
+    ring: Ring,
+) -> Ran
+    requires { ⌜ TermSlices (now conditions) (now weights) × GuardSlices (now bounds) (now names) × Figures state × (state .«never_guard» ≤ length (now bounds)) × Waits (marks (now sure) (now never) (queue (now nodes) ring)) ⌝ }
+    ensures { λ r. ⌜ ((raw : List Term) → ranOf (r .state) (marks (now (sure .exit)) (now (never .exit)) (queue (now (nodes .exit)) (r .ring))) (r .step)
+        ≡ thresholdRow (rowOf raw (terms (now (conditions .entry)) (now (weights .entry))) (guards (now (bounds .entry)) (now (names .entry)))) state (marks (now (sure .entry)) (now (never .entry)) (queue (now (nodes .entry)) ring))) ⌝ }
+{
+    if state.conflict() {
+        return Ran {
+            state: state,
+            step: Step::Contradiction,
+            ring: ring,
+        };
+    }
+    let first = threshold_guards(bounds, names, state, sure, never, nodes, ring);
+    let step = first.step;
+    if step.contradicts() {
+        return first;
+    }
+    row_terms(conditions, weights, first, sure, never, nodes)
+}
+
+// A row in no conflict with a weight above 1 waits for a residual when both its limits cut.
+pub fn wants_residual(conditions: &[u16], weights: &[u64], state: State) -> bool
+    requires { ⌜ length (now conditions) ≡ length (now weights) ⌝ }
+    ensures { λ r. ⌜ ((raw : List Term) (gs : List Guard) → r ≡ wantsResidual (rowOf raw (terms (now (conditions .entry)) (now (weights .entry))) gs) state) ⌝ }
+{
+    if state.conflict() {
+        return false;
+    }
+    if weights.len() == 0 {
+        return false;
+    }
+    if weights[0] <= 1 {
+        return false;
+    }
+    state.has_residual_interval()
 }
