@@ -1,1 +1,6 @@
 pub mod Links
+pub mod WordsLaws
+pub mod OrderLaws
+pub mod LinksLaws
+pub mod Held
+pub mod HeldLaws

@@ -1,18 +1,20 @@
 -- Forcing one term after the other, from the heavy end: what a turn does to the marks and the answer, and the room it takes.
 use Prim.Native.Nat.{ℕ, suc, _+_, _-_, _%_, _<_, _≤_}
+use native.Mathlib.Decide.{ℕ-discrete}
 use native.Mathlib.Omega.{arith}
 use mathlib.Core.Path.{_≡_, refl, sym, ap, _∙_}
 use mathlib.Core.Bool.{Bool, true, false}
-use mathlib.Core.List.{List, [], _∷_, _++_}
+use mathlib.Core.List.{List, [], _∷_, _++_, reverse}
 use mathlib.Core.Logic.{_≢_}
 use native.Mathlib.Numerals.{add-one}
-use lib.ListN.{length, getD, set, drop, length-set, length-drop, drop-of-length-le, List·getD-append}
+use lib.ListN.{length, getD, set, drop, length-set, length-drop, length-reverse, drop-of-length-le, List·getD-append}
 use borrow.Author.Tests.{eq-eqb, ne-eqb}
 use lib.Dec.{eqb}
 use Rattle.numeric.specs.Threshold.{Term, term, terms}
 use Rattle.numeric.specs.TermsLaws.{up-terms, length-terms}
 use Rattle.state.specs.declared.Step.{Step}
 use Rattle.state.specs.declared.Step.the-variants.{Unchanged, Changed, Contradiction}
+use Rattle.state.specs.declared.State.{State}
 use Rattle.state.specs.Step.{joined, contradicts}
 use Rattle.words.specs.Mask.{learn}
 use Rattle.queues.specs.declared.Ring.{Ring}
@@ -22,7 +24,20 @@ use Rattle.residual.specs.declared.Interval.{Interval}
 use Rattle.residual.specs.Gcd.{gcd, branchMisses}
 use Rattle.residual.specs.MissesLaws.{clash}
 use Rattle.residual.specs.Shape.{Room}
-use Rattle.residual.specs.Residual.{offMisses, onMisses, forceTerm, forceFrom, over}
+use Rattle.residual.specs.SuffixLaws.{length-suffix}
+use Rattle.residual.specs.Residual.{
+  interval,
+  residualCheck,
+  suffixes,
+  offMisses,
+  onMisses,
+  forceTerm,
+  forceFrom,
+  residual,
+  over,
+  nothingForced,
+  thresholdResidual,
+}
 
 module _ (i : Interval) (m : Marks) (t : Term) (divisor : ℕ) where
   pub force-unit : divisor ≡ 1 → forceTerm i m t divisor ≡ decided m Unchanged
@@ -70,17 +85,26 @@ unfolding decide
 grows-decide true m n = grows-waiting (learn (m .sure) (m .never) n .step) (m .nodes) n
 grows-decide false m n = grows-waiting (learn (m .never) (m .sure) n .step) (m .nodes) n
 
-pub grows-force : (i : Interval) (m : Marks) (t : Term) (divisor : ℕ) → Grows (m .nodes) (forceTerm i m t divisor .marks .nodes)
-unfolding forceTerm
-grows-force i m t divisor = by (eqb divisor 1) refl (offMisses i (t .weight) divisor) refl (onMisses i (t .weight) divisor) refl
+-- What holds of each of the four ways to force a term holds of the way taken.
+pub force-cases : (P : Decided → Type 0) (i : Interval) (m : Marks) (t : Term) (divisor : ℕ) → P (decided m Unchanged)
+    → (offMisses i (t .weight) divisor ≡ true → onMisses i (t .weight) divisor ≡ true → P (decided m Contradiction))
+    → (offMisses i (t .weight) divisor ≡ true → P (decide true m (t .condition)))
+    → (onMisses i (t .weight) divisor ≡ true → P (decide false m (t .condition))) → P (forceTerm i m t divisor)
+force-cases P i m t divisor rest none sure never =
+    by (ℕ-discrete divisor 1) (offMisses i (t .weight) divisor) refl (onMisses i (t .weight) divisor) refl
   where
-    by : (u : Bool) → eqb divisor 1 ≡ u → (off : Bool) → offMisses i (t .weight) divisor ≡ off → (on : Bool) → onMisses i (t .weight) divisor ≡ on
-        → Grows (m .nodes) (forceTerm i m t divisor .marks .nodes)
-    by true e off f on g = rw (e, forceTerm) (grows-not (m .nodes))
-    by false e true f true g = rw (e, f, g, forceTerm) (grows-not (m .nodes))
-    by false e true f false g = rw (e, f, g, forceTerm) (grows-decide true m (t .condition))
-    by false e false f true g = rw (e, f, g, forceTerm) (grows-decide false m (t .condition))
-    by false e false f false g = rw (e, f, g, forceTerm) (grows-not (m .nodes))
+    by : Dec (divisor ≡ 1) → (off : Bool) → offMisses i (t .weight) divisor ≡ off → (on : Bool) → onMisses i (t .weight) divisor ≡ on
+        → P (forceTerm i m t divisor)
+    by (yes e) off f on g = rw (force-unit i m t divisor e) rest
+    by (no n) true f true g = rw (force-none i m t divisor n f g) (none f g)
+    by (no n) true f false g = rw (force-sure i m t divisor n f g) (sure f)
+    by (no n) false f true g = rw (force-never i m t divisor n f g) (never g)
+    by (no n) false f false g = rw (force-free i m t divisor n f g) rest
+
+pub grows-force : (i : Interval) (m : Marks) (t : Term) (divisor : ℕ) → Grows (m .nodes) (forceTerm i m t divisor .marks .nodes)
+grows-force i m t divisor =
+    force-cases (λ (x : Decided). Grows (m .nodes) (x .marks .nodes)) i m t divisor (grows-not (m .nodes)) (λ f g. grows-not (m .nodes))
+    (λ f. grows-decide true m (t .condition)) (λ g. grows-decide false m (t .condition))
 
 -- Room for the terms that are left stays, with a term that adds nothing and with one that does.
 pub room-less : (q : Queue) (n k : ℕ) → k ≤ n → Room n q → Room k q
@@ -97,22 +121,22 @@ room-next q r n k e g h = record {
 }
 
 module _ (i : Interval) (suf : List ℕ) (t : Term) (ts : List Term) (prefix : ℕ) (m : Marks) (step : Step) where
-  skip : isDecided m (t .condition) ≡ true → forceFrom i suf (t ∷ ts) prefix m step ≡ forceFrom i suf ts prefix m step
+  pub from-skip : isDecided m (t .condition) ≡ true → forceFrom i suf (t ∷ ts) prefix m step ≡ forceFrom i suf ts prefix m step
   unfolding forceFrom
-  skip h = rw (h, forceFrom)
+  from-skip h = rw (h, forceFrom)
 
   module _ (h : isDecided m (t .condition) ≡ false) where
-    stop : (d : Decided) → d ≡ forceTerm i m t (gcd prefix (getD suf (length ts) 0)) → contradicts (d .step) ≡ true
+    pub from-stop : (d : Decided) → d ≡ forceTerm i m t (gcd prefix (getD suf (length ts) 0)) → contradicts (d .step) ≡ true
         → forceFrom i suf (t ∷ ts) prefix m step ≡ decided (d .marks) Contradiction
     unfolding forceFrom
-    stop d e k =
+    from-stop d e k =
         let l = rw e at k in
         rw (h, l, forceFrom) (ap (λ (x : Decided). decided (x .marks) Contradiction) (sym e))
 
-    more : (d : Decided) → d ≡ forceTerm i m t (gcd prefix (getD suf (length ts) 0)) → contradicts (d .step) ≡ false
+    pub from-more : (d : Decided) → d ≡ forceTerm i m t (gcd prefix (getD suf (length ts) 0)) → contradicts (d .step) ≡ false
         → forceFrom i suf (t ∷ ts) prefix m step ≡ forceFrom i suf ts (gcd prefix (t .weight)) (d .marks) (joined step (d .step))
     unfolding forceFrom
-    more d e k =
+    from-more d e k =
         let l = rw e at k in
         rw (h, l, forceFrom) (ap (λ (x : Decided). forceFrom i suf ts (gcd prefix (t .weight)) (x .marks) (joined step (x .step))) (sym e))
 
@@ -125,7 +149,7 @@ module _ (i : Interval) (suf cs ws : List ℕ) (p prefix : ℕ) (m : Marks) (ste
       ∙ ap (λ (k : ℕ). forceFrom i suf (term (getD cs p 0) (getD ws p 0) ∷ drop k (terms cs ws)) prefix m step) (sym (add-one p))
 
   pub force-skip : isDecided m (getD cs p 0) ≡ true → forceFrom i suf (drop p (terms cs ws)) prefix m step ≡ forceFrom i suf (drop (p + 1) (terms cs ws)) prefix m step
-  force-skip h = here ∙ skip i suf (term (getD cs p 0) (getD ws p 0)) (drop (p + 1) (terms cs ws)) prefix m step h
+  force-skip h = here ∙ from-skip i suf (term (getD cs p 0) (getD ws p 0)) (drop (p + 1) (terms cs ws)) prefix m step h
 
   module _ (same : length cs ≡ length ws) (h : isDecided m (getD cs p 0) ≡ false) (divisor : ℕ) (v : divisor ≡ gcd prefix (getD suf (length ws - p - 1) 0))
       (d : Decided) (e : d ≡ forceTerm i m (term (getD cs p 0) (getD ws p 0)) divisor) where
@@ -136,12 +160,12 @@ module _ (i : Interval) (suf cs ws : List ℕ) (p prefix : ℕ) (m : Marks) (ste
         (sym (length-drop (p + 1) (terms cs ws) ∙ omega (arith, length-terms cs ws))))
 
     pub force-stop : contradicts (d .step) ≡ true → forceFrom i suf (drop p (terms cs ws)) prefix m step ≡ decided (d .marks) Contradiction
-    force-stop k = here ∙ stop i suf (term (getD cs p 0) (getD ws p 0)) (drop (p + 1) (terms cs ws)) prefix m step h d behind k
+    force-stop k = here ∙ from-stop i suf (term (getD cs p 0) (getD ws p 0)) (drop (p + 1) (terms cs ws)) prefix m step h d behind k
 
     pub force-more : contradicts (d .step) ≡ false
         → forceFrom i suf (drop p (terms cs ws)) prefix m step
         ≡ forceFrom i suf (drop (p + 1) (terms cs ws)) (gcd prefix (getD ws p 0)) (d .marks) (joined step (d .step))
-    force-more k = here ∙ more i suf (term (getD cs p 0) (getD ws p 0)) (drop (p + 1) (terms cs ws)) prefix m step h d behind k
+    force-more k = here ∙ from-more i suf (term (getD cs p 0) (getD ws p 0)) (drop (p + 1) (terms cs ws)) prefix m step h d behind k
 
 -- One turn of the loop: the marks, the queue and the joined answer that it leaves.
 module _ (i : Interval) (suf cs ws : List ℕ) (p prefix : ℕ) (m : Marks) (step : Step) (f : p < length cs) (g : p < length ws)
@@ -192,7 +216,7 @@ force-over i suf b (t ∷ ts) prefix m step h =
     by : ((p : ℕ) (n : Marks) (s : Step) → forceFrom i (over suf b) ts p n s ≡ forceFrom i suf ts p n s)
         → (u : Bool) → isDecided m (t .condition) ≡ u → forceFrom i (over suf b) (t ∷ ts) prefix m step ≡ forceFrom i suf (t ∷ ts) prefix m step
     by rest true e =
-        skip i (over suf b) t ts prefix m step e ∙ rest prefix m step ∙ sym (skip i suf t ts prefix m step e)
+        from-skip i (over suf b) t ts prefix m step e ∙ rest prefix m step ∙ sym (from-skip i suf t ts prefix m step e)
     by rest false e = turn (contradicts (d .step)) refl
       where
         d : Decided
@@ -202,7 +226,30 @@ force-over i suf b (t ∷ ts) prefix m step h =
         q = ap (λ (k : ℕ). forceTerm i m t (gcd prefix k)) (sym (List·getD-append suf (drop (length suf) b) 0 (length ts) (omega arith)))
 
         turn : (v : Bool) → contradicts (d .step) ≡ v → forceFrom i (over suf b) (t ∷ ts) prefix m step ≡ forceFrom i suf (t ∷ ts) prefix m step
-        turn true k = stop i (over suf b) t ts prefix m step e d q k ∙ sym (stop i suf t ts prefix m step e d refl k)
+        turn true k = from-stop i (over suf b) t ts prefix m step e d q k ∙ sym (from-stop i suf t ts prefix m step e d refl k)
         turn false k =
-            more i (over suf b) t ts prefix m step e d q k ∙ rest (gcd prefix (t .weight)) (d .marks) (joined step (d .step))
-            ∙ sym (more i suf t ts prefix m step e d refl k)
+            from-more i (over suf b) t ts prefix m step e d q k ∙ rest (gcd prefix (t .weight)) (d .marks) (joined step (d .step))
+            ∙ sym (from-more i suf t ts prefix m step e d refl k)
+
+-- The whole of it: a contradiction of the row, nothing to force, or what forcing did.
+module _ (ts : List Term) (s : State) (m : Marks) (gcds : List ℕ) where
+  pub residual-none : contradicts (residualCheck ts s (isDecided m)) ≡ true → thresholdResidual ts s m gcds ≡ residual m Contradiction gcds
+  unfolding thresholdResidual
+  residual-none h = rw (h, thresholdResidual)
+
+  module _ (h : contradicts (residualCheck ts s (isDecided m)) ≡ false) where
+    pub residual-rest : nothingForced ts s (isDecided m) ≡ true → thresholdResidual ts s m gcds ≡ residual m Unchanged gcds
+    unfolding thresholdResidual
+    residual-rest k = rw (h, k, thresholdResidual)
+
+    pub residual-forced : nothingForced ts s (isDecided m) ≡ false → (d : Decided) (g : List ℕ) → g ≡ over (suffixes (isDecided m) ts) gcds
+        → d ≡ forceFrom (interval s) g ts 0 m Unchanged → residual (d .marks) (d .step) g ≡ thresholdResidual ts s m gcds
+    unfolding thresholdResidual
+    residual-forced k d g e f =
+        let l = length-suffix (isDecided m) (reverse ts) 0 in
+        let r = length-reverse ts in
+        let w = force-over (interval s) (suffixes (isDecided m) ts) gcds ts 0 m Unchanged (omega arith) in
+        ap (residual (d .marks) (d .step)) e
+        ∙ ap (λ (x : Decided). residual (x .marks) (x .step) (over (suffixes (isDecided m) ts) gcds))
+        (f ∙ ap (λ (y : List ℕ). forceFrom (interval s) y ts 0 m Unchanged) e ∙ w)
+        ∙ rw (h, k, thresholdResidual)

@@ -134,13 +134,17 @@ residual m k g = record { marks = m; step = k; gcds = g }
 abbrev pub over : List ℕ → List ℕ → List ℕ
 over l b = l ++ drop (length l) b
 
+-- Nothing can be forced: no residual interval, or every gcd of all weights but one fits it.
+abbrev pub nothingForced : List Term → State → (ℕ → Bool) → Bool
+nothingForced ts s d = not (hasNonunit ts && hasResidualInterval s) || fitsFrom (interval s) d (reverse ts) false 0
+
 -- `threshold_residual`
 unfoldable pub thresholdResidual : List Term → State → Marks → List ℕ → Residual
 thresholdResidual ts s m gcds =
     elim (contradicts (residualCheck ts s (isDecided m))) [
       | true ↦ residual m Contradiction gcds
       | false ↦
-          elim (not (hasNonunit ts && hasResidualInterval s) || fitsFrom (interval s) (isDecided m) (reverse ts) false 0) [
+          elim (nothingForced ts s (isDecided m)) [
             | true ↦ residual m Unchanged gcds
             | false ↦
                 let f = forceFrom (interval s) (suffixes (isDecided m) ts) ts 0 m Unchanged in

@@ -12,7 +12,7 @@ use Rattle.numeric.specs.TermsLaws.{down-terms}
 use Rattle.residual.specs.Gcd.{gcd}
 use Rattle.residual.specs.Residual.{suffixFrom, suffixes, over}
 
-length-suffix : (d : ℕ → Bool) (ts : List Term) (suffix : ℕ) → length (suffixFrom d ts suffix) ≡ suc (length ts)
+pub length-suffix : (d : ℕ → Bool) (ts : List Term) (suffix : ℕ) → length (suffixFrom d ts suffix) ≡ suc (length ts)
 unfolding suffixFrom
 length-suffix d [] suffix = refl
 length-suffix d (t ∷ ts) suffix = ap suc (length-suffix d ts (cond (d (t .condition)) suffix (gcd suffix (t .weight))))

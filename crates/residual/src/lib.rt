@@ -16,7 +16,24 @@ ghost use Rattle.queues.specs.Marks.{marks, decided as decidedOf};
 ghost use Rattle.thresholds.specs.Rows.{hasNonunit};
 ghost use Rattle.residual.specs.Gcd.{gcd, misses, branchMisses};
 ghost use Rattle.residual.specs.Shape.{Below, Shape, Window, Room};
-ghost use Rattle.residual.specs.Residual.{interval, stopsAt, checkFrom, residualCheck, tooWide, bothFit, fitsFrom, suffixes, offMisses, onMisses, forceTerm, forceFrom, over};
+ghost use Rattle.residual.specs.Residual.{
+  interval,
+  stopsAt,
+  checkFrom,
+  residualCheck,
+  tooWide,
+  bothFit,
+  fitsFrom,
+  suffixes,
+  over,
+  offMisses,
+  onMisses,
+  forceTerm,
+  forceFrom,
+  nothingForced,
+  residual,
+  thresholdResidual,
+};
 use queues::Decision;
 use queues::Ring;
 use state::State;
@@ -242,14 +259,14 @@ fn check_from(conditions: &[u16], weights: &[u64], i: Interval, sure: &[u64], ne
     ensures { λ r. ⌜ r
         ≡ checkFrom i (inEither (now (sure .entry)) (now (never .entry))) (reverse (terms (now (conditions .entry)) (now (weights .entry)))) 0 ⌝ }
 {
-    let mut left = weights.len();
+    let mut remaining = weights.len();
     let mut divisor: u64 = 0;
-    while left > 0 {
-        left -= 1;
-        if decided(sure, never, conditions[left]) {
+    while remaining > 0 {
+        remaining -= 1;
+        if decided(sure, never, conditions[remaining]) {
             continue;
         }
-        let weight = weights[left];
+        let weight = weights[remaining];
         let next = gcd(divisor, weight);
         if stops(i, divisor, weight, next) {
             return Step::Unchanged;
@@ -328,16 +345,16 @@ fn fits_from(conditions: &[u16], weights: &[u64], i: Interval, sure: &[u64], nev
     ensures { λ r. ⌜ r
         ≡ fitsFrom i (inEither (now (sure .entry)) (now (never .entry))) (reverse (terms (now (conditions .entry)) (now (weights .entry)))) false 0 ⌝ }
 {
-    let mut left = weights.len();
+    let mut unread = weights.len();
     let mut fitting = false;
     let mut complement: u64 = 0;
-    while left > 0 {
-        left -= 1;
-        let weight = weights[left];
+    while unread > 0 {
+        unread -= 1;
+        let weight = weights[unread];
         if too_wide(i, fitting, weight) {
             return false;
         }
-        if decided(sure, never, conditions[left]) {
+        if decided(sure, never, conditions[unread]) {
             continue;
         }
         if fitting {
@@ -352,7 +369,7 @@ fn fits_from(conditions: &[u16], weights: &[u64], i: Interval, sure: &[u64], nev
     false
 }
 
-// No sum is allowed where a term of this weight is left out.
+// No sum is allowed where a term of this weight is unread out.
 fn off_misses(i: Interval, weight: u64, divisor: u64) -> bool
     ensures { λ r. ⌜ r ≡ offMisses i weight divisor ⌝ }
 {
@@ -471,4 +488,70 @@ fn force_from(
         position += 1;
     }
     so_far
+}
+
+// Nothing can be forced: no residual interval, or every gcd of all weights but one fits it.
+fn nothing_forced(
+    conditions: &[u16],
+    weights: &[u64],
+    state: State,
+    sure: &[u64],
+    never: &[u64],
+) -> bool
+    requires { ⌜ Shape (now conditions) (now weights) (now sure) (now never) ⌝ }
+    ensures { λ r. ⌜ r
+        ≡ nothingForced (terms (now (conditions .entry)) (now (weights .entry))) state (inEither (now (sure .entry)) (now (never .entry))) ⌝ }
+{
+    if !has_nonunit(conditions, weights) {
+        return true;
+    }
+    if !state.has_residual_interval() {
+        return true;
+    }
+    fits_from(conditions, weights, interval_of(state), sure, never)
+}
+
+// What divisibility shows of a drained row: that no sum is allowed, or which of its terms are forced. `gcds` holds the suffixes
+// after it where terms were looked at one by one.
+pub fn threshold_residual(
+    conditions: &[u16],
+    weights: &[u64],
+    state: State,
+    sure: &mut [u64],
+    never: &mut [u64],
+    nodes: &mut [u16],
+    ring: Ring,
+    gcds: &mut [u64],
+) -> Decision
+    requires { ⌜ Shape (now conditions) (now weights) (now sure) (now never) ⌝ }
+    requires { ⌜ (length (now weights) < length (now gcds)) × Below (2 ^ 63) (now weights) ⌝ }
+    requires { ⌜ Room (length (now weights)) (queue (now nodes) ring) ⌝ }
+    ensures { λ r. ⌜ residual (marks (now (sure .exit)) (now (never .exit)) (queue (now (nodes .exit)) (r .ring))) (r .step) (now (gcds .exit))
+        ≡ thresholdResidual (terms (now (conditions .entry)) (now (weights .entry))) state
+        (marks (now (sure .entry)) (now (never .entry)) (queue (now (nodes .entry)) ring)) (now (gcds .entry)) ⌝ }
+{
+    let checked = threshold_residual_check(conditions, weights, state, sure, never);
+    if checked.contradicts() {
+        return Decision {
+            step: Step::Contradiction,
+            ring: ring,
+        };
+    }
+    if nothing_forced(conditions, weights, state, sure, never) {
+        return Decision {
+            step: Step::Unchanged,
+            ring: ring,
+        };
+    }
+    prepare_suffix(conditions, weights, sure, never, gcds);
+    force_from(
+        conditions,
+        weights,
+        gcds,
+        interval_of(state),
+        sure,
+        never,
+        nodes,
+        ring,
+    )
 }

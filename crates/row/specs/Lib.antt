@@ -1,1 +1,3 @@
 pub mod Terms
+pub mod TermsLaws
+pub mod SumLaws

@@ -1,2 +1,4 @@
 pub mod Rows
 pub mod Laid
+pub mod Raw
+pub mod RawLaws
