@@ -95,6 +95,12 @@ beside-stored j rows others i x h b = record {
   apart = λ cs e. with-stored j rows i x cs (let q = b .long in omega arith) ∙ b .apart cs e;
 }
 
+pub beside-with : (j : ℕ) (rows others rows′ : List (List ℕ)) (ds : List ℕ) → length ds ≡ length rows → rows′ ≡ withColumn j rows ds → Beside j rows others → Beside j rows′ others
+beside-with j rows others rows′ ds h e b = record {
+  long = ap length e ∙ length-with j rows ds ∙ b .long;
+  apart = λ cs q. ap (λ (r : List (List ℕ)). withColumn j r cs) e ∙ with-with j rows ds cs (h ∙ b .long ∙ sym q) ∙ b .apart cs q;
+}
+
 -- Rows beside others are those with the column that they have.
 pub beside-is : (j : ℕ) (rows others : List (List ℕ)) → Beside j rows others → rows ≡ withColumn j others (column j rows)
 beside-is j rows others b = sym (with-self j rows) ∙ b .apart (column j rows) (length-column j rows ∙ b .long)
