@@ -6,3 +6,5 @@ pub mod Held
 pub mod HeldLaws
 pub mod Merge
 pub mod MergeLaws
+pub mod LaidLaws
+pub mod SortLaws
