@@ -17,7 +17,7 @@ pub fn begin(
     nodes: &mut [[u16; 3]],
     edges: &mut [[u64; 2]],
     links: &mut [u16],
-    scratch: &mut [[u16; 3]],
+    scratch: &mut [u64],
     figures: &mut [[i64; 4]],
     cursors: &mut [[usize; 5]],
     sure: &mut [u64],

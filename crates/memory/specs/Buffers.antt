@@ -23,7 +23,7 @@ pub record Built : Type 0 where
   pub nodes : List (List ℕ)  -- a node's threshold, counted from 1 (0: none), that threshold's row, where its edges end
   pub edges : List (List ℕ)  -- row and weight, condition by condition
   pub links : List ℕ  -- the neighbours of each row
-  pub scratch : List (List ℕ)  -- zero before and after the seal
+  pub scratch : List ℕ  -- zero before and after the seal
 
 -- What marks, settles and sifts change.
 pub record Kept : Type 0 where
@@ -52,7 +52,7 @@ abbrev pub rawBuffers : List ℕ → List ℕ → List (List ℕ) → List ℤ �
 rawBuffers raw-conditions raw-weights thresholds bounds =
     record { raw-conditions = raw-conditions; raw-weights = raw-weights; thresholds = thresholds; bounds = bounds }
 
-abbrev pub builtBuffers : List ℕ → List ℕ → List (List ℕ) → List ℤ → List ℕ → List (List ℕ) → List (List ℕ) → List ℕ → List (List ℕ) → Built
+abbrev pub builtBuffers : List ℕ → List ℕ → List (List ℕ) → List ℤ → List ℕ → List (List ℕ) → List (List ℕ) → List ℕ → List ℕ → Built
 builtBuffers row-conditions row-weights rows guard-bounds guard-nodes nodes edges links scratch =
     record {
       row-conditions = row-conditions;
@@ -99,7 +99,7 @@ fitsRaw w = enoughRaw (length (w .raw-conditions)) (length (w .raw-weights)) (le
 abbrev pub enoughBuilt : ℕ → ℕ → ℕ → ℕ → ℕ → ℕ → ℕ → ℕ → ℕ → Bool
 enoughBuilt row-conditions row-weights rows guard-bounds guard-nodes nodes edges links scratch =
     leb 4096 row-conditions && leb 4096 row-weights && leb 1024 rows && leb 1024 guard-bounds && leb 1024 guard-nodes && leb 4096 nodes && leb 4096 edges
-    && leb 2048 links && leb 1024 scratch
+    && leb 2048 links && leb 3072 scratch
 
 abbrev pub fitsBuilt : Built → Bool
 fitsBuilt w = enoughBuilt (length (w .row-conditions)) (length (w .row-weights)) (length (w .rows)) (length (w .guard-bounds)) (length (w .guard-nodes))
@@ -142,7 +142,7 @@ clearBuilt w = record {
   nodes = zeros (replicate 3 0) (w .nodes);
   edges = zeros (replicate 2 0) (w .edges);
   links = zeros 0 (w .links);
-  scratch = zeros (replicate 3 0) (w .scratch);
+  scratch = zeros 0 (w .scratch);
 }
 
 unfoldable pub clearKept : Kept → Kept

@@ -57,10 +57,10 @@ pub byRaw : {raw-conditions : List ℕ} {raw-weights : List ℕ} {thresholds : L
 unfolding clearRaw
 byRaw w e0 e1 e2 e3 = λ i. record { raw-conditions = e0 i; raw-weights = e1 i; thresholds = e2 i; bounds = e3 i }
 
-pub byBuilt : {row-conditions : List ℕ} {row-weights : List ℕ} {rows : List (List ℕ)} {guard-bounds : List ℤ} {guard-nodes : List ℕ} {nodes : List (List ℕ)} {edges : List (List ℕ)} {links : List ℕ} {scratch : List (List ℕ)} (w : Built)
+pub byBuilt : {row-conditions : List ℕ} {row-weights : List ℕ} {rows : List (List ℕ)} {guard-bounds : List ℤ} {guard-nodes : List ℕ} {nodes : List (List ℕ)} {edges : List (List ℕ)} {links : List ℕ} {scratch : List ℕ} (w : Built)
     → row-conditions ≡ zeros 0 (w .row-conditions) → row-weights ≡ zeros 0 (w .row-weights) → rows ≡ zeros (replicate 3 0) (w .rows)
     → guard-bounds ≡ zeros (pos 0) (w .guard-bounds) → guard-nodes ≡ zeros 0 (w .guard-nodes) → nodes ≡ zeros (replicate 3 0) (w .nodes)
-    → edges ≡ zeros (replicate 2 0) (w .edges) → links ≡ zeros 0 (w .links) → scratch ≡ zeros (replicate 3 0) (w .scratch)
+    → edges ≡ zeros (replicate 2 0) (w .edges) → links ≡ zeros 0 (w .links) → scratch ≡ zeros 0 (w .scratch)
     → builtBuffers row-conditions row-weights rows guard-bounds guard-nodes nodes edges links scratch ≡ clearBuilt w
 unfolding clearBuilt
 byBuilt w e0 e1 e2 e3 e4 e5 e6 e7 e8 = λ i. record {

@@ -24,7 +24,7 @@ pub record SizedBuilt (w : Built) : Type 0 where
   pub nodes : 4096 ≤ length (w .nodes)
   pub edges : 4096 ≤ length (w .edges)
   pub links : 2048 ≤ length (w .links)
-  pub scratch : 1024 ≤ length (w .scratch)
+  pub scratch : 3072 ≤ length (w .scratch)
 
 pub record SizedKept (w : Kept) : Type 0 where
   pub figures : 1024 ≤ length (w .figures)
@@ -67,7 +67,7 @@ sizedRaw w h4 =
 
 sizedBuilt : (w : Built) → fitsBuilt w ≡ true → SizedBuilt w
 sizedBuilt w h9 =
-    let p8 = both _ (leb 1024 (length (w .scratch))) h9 in
+    let p8 = both _ (leb 3072 (length (w .scratch))) h9 in
     let h8 = p8 .0 in
     let p7 = both _ (leb 2048 (length (w .links))) h8 in
     let h7 = p7 .0 in
@@ -93,7 +93,7 @@ sizedBuilt w h9 =
       edges = leb-true 4096 (length (w .edges))
           (p6 .1);
       links = leb-true 2048 (length (w .links)) (p7 .1);
-      scratch = leb-true 1024 (length (w .scratch)) (p8 .1);
+      scratch = leb-true 3072 (length (w .scratch)) (p8 .1);
     }
 
 sizedKept : (w : Kept) → fitsKept w ≡ true → SizedKept w

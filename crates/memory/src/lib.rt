@@ -136,7 +136,7 @@ pub fn clear_built(
     nodes: &mut [[u16; 3]],
     edges: &mut [[u64; 2]],
     links: &mut [u16],
-    scratch: &mut [[u16; 3]],
+    scratch: &mut [u64],
 )
     ensures { λ _. ⌜ builtBuffers (now («row_conditions» .exit)) (now («row_weights» .exit)) (now (rows .exit)) (now («guard_bounds» .exit)) (now («guard_nodes» .exit)) (now (nodes .exit)) (now (edges .exit)) (now (links .exit)) (now (scratch .exit))
         ≡ clearBuilt (builtBuffers (now («row_conditions» .entry)) (now («row_weights» .entry)) (now (rows .entry)) (now («guard_bounds» .entry)) (now («guard_nodes» .entry)) (now (nodes .entry)) (now (edges .entry)) (now (links .entry)) (now (scratch .entry))) ⌝ }
@@ -149,7 +149,7 @@ pub fn clear_built(
     clear_u16x3(nodes);
     clear_u64x2(edges);
     clear_u16(links);
-    clear_u16x3(scratch);
+    clear_u64(scratch);
 }
 
 // Clears what marks, settles and sifts change.
@@ -215,7 +215,7 @@ pub fn fits_built(
         & (nodes >= 4096)
         & (edges >= 4096)
         & (links >= 2048)
-        & (scratch >= 1024)
+        & (scratch >= 3072)
 }
 
 // Whether the last phase's buffers of these lengths are long enough.
