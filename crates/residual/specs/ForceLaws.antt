@@ -7,7 +7,7 @@ use mathlib.Core.Bool.{Bool, true, false}
 use mathlib.Core.List.{List, [], _∷_, reverse}
 use mathlib.Core.Logic.{_≢_}
 use native.Mathlib.Numerals.{add-one}
-use lib.ListN.{length, getD, drop, length-drop, length-reverse, drop-of-length-le, List·getD-append}
+use lib.ListN.{length, getD, drop, length-append, length-drop, length-reverse, drop-of-length-le, List·getD-append}
 use borrow.Author.Tests.{eq-eqb, ne-eqb}
 use Rattle.numeric.specs.Threshold.{Term, term, terms}
 use Rattle.numeric.specs.TermsLaws.{up-terms, length-terms}
@@ -217,10 +217,53 @@ module _ (ts : List Term) (s : State) (m : Marks) (gcds : List ℕ) where
         (f ∙ ap (λ (y : List ℕ). forceFrom (interval s) y ts 0 m Unchanged) e ∙ w)
         ∙ rw (h, k, thresholdResidual)
 
+-- What forcing each of the terms keeps, the residual of the row keeps.
+abbrev pub Each : (Term → Type 0) → List Term → Type 0
+Each Q [] = Unit {0}
+Each Q (t ∷ ts) = Q t × Each Q ts
+
+module _ (Q : Term → Type 0) (P : Marks → Type 0)
+    (one : (i : Interval) (m : Marks) (t : Term) (divisor : ℕ) → Q t → P m → P (forceTerm i m t divisor .marks)) where
+  from-keeping : (i : Interval) (suf : List ℕ) (ts : List Term) (prefix : ℕ) (m : Marks) (step : Step) → Each Q ts → P m
+      → P (forceFrom i suf ts prefix m step .marks)
+  unfolding forceFrom
+  from-keeping i suf [] prefix m step h w = w
+  from-keeping i suf (t ∷ ts) prefix m step h w =
+      by (λ (p : ℕ) (n : Marks) (s : Step) (v : P n). from-keeping i suf ts p n s (h .1) v) (isDecided m (t .condition)) refl
+    where
+      d : Decided
+      d = forceTerm i m t (gcd prefix (getD suf (length ts) 0))
+
+      after : P (d .marks)
+      after = one i m t (gcd prefix (getD suf (length ts) 0)) (h .0) w
+
+      turn : ((p : ℕ) (n : Marks) (s : Step) → P n → P (forceFrom i suf ts p n s .marks)) → isDecided m (t .condition) ≡ false
+          → (b : Bool) → contradicts (d .step) ≡ b → P (forceFrom i suf (t ∷ ts) prefix m step .marks)
+      turn ih e true k = rw (from-stop i suf t ts prefix m step e d refl k) after
+      turn ih e false k = rw (from-more i suf t ts prefix m step e d refl k) (ih (gcd prefix (t .weight)) (d .marks) (joined step (d .step)) after)
+
+      by : ((p : ℕ) (n : Marks) (s : Step) → P n → P (forceFrom i suf ts p n s .marks)) → (u : Bool) → isDecided m (t .condition) ≡ u
+          → P (forceFrom i suf (t ∷ ts) prefix m step .marks)
+      by ih true e = rw (from-skip i suf t ts prefix m step e) (ih prefix m step w)
+      by ih false e = turn ih e (contradicts (d .step)) refl
+
+  pub residual-keeping : (ts : List Term) (s : State) (m : Marks) (gcds : List ℕ) → Each Q ts → P m → P (thresholdResidual ts s m gcds .marks)
+  residual-keeping ts s m gcds h w = by (contradicts (residualCheck ts s (isDecided m))) refl (nothingForced ts s (isDecided m)) refl
+    where
+      l : List ℕ
+      l = over (suffixes (isDecided m) ts) gcds
+
+      by : (c : Bool) → contradicts (residualCheck ts s (isDecided m)) ≡ c → (n : Bool) → nothingForced ts s (isDecided m) ≡ n
+          → P (thresholdResidual ts s m gcds .marks)
+      by true c n q = rw (residual-none ts s m gcds c) w
+      by false c true q = rw (residual-rest ts s m gcds c q) w
+      by false c false q =
+          subst (λ (r : Residual). P (r .marks)) (residual-forced ts s m gcds c q (forceFrom (interval s) l ts 0 m Unchanged) l refl refl)
+          (from-keeping (interval s) l ts 0 m Unchanged h w)
+
 -- Nodes wait at most once after it, too.
 abbrev pub Inside : List Term → Type 0
-Inside [] = Unit {0}
-Inside (t ∷ ts) = (t .condition < 4096) × Inside ts
+Inside = Each (λ (t : Term). t .condition < 4096)
 
 pub inside-terms : (cs ws : List ℕ) → Below 4096 cs → Inside (terms cs ws)
 unfolding terms
@@ -228,37 +271,26 @@ inside-terms [] ws h = tt
 inside-terms (c ∷ cs) [] h = tt
 inside-terms (c ∷ cs) (w ∷ ws) h = (h 0 (omega arith), inside-terms cs ws (λ (i : ℕ) (k : i < length cs). h (suc i) (omega arith)))
 
-waits-from : (i : Interval) (suf : List ℕ) (ts : List Term) (prefix : ℕ) (m : Marks) (step : Step) → Inside ts → Waits m
-    → Waits (forceFrom i suf ts prefix m step .marks)
-unfolding forceFrom
-waits-from i suf [] prefix m step h w = w
-waits-from i suf (t ∷ ts) prefix m step h w =
-    by (λ (p : ℕ) (n : Marks) (s : Step) (v : Waits n). waits-from i suf ts p n s (h .1) v) (isDecided m (t .condition)) refl
-  where
-    d : Decided
-    d = forceTerm i m t (gcd prefix (getD suf (length ts) 0))
-
-    after : Waits (d .marks)
-    after = waits-force i m t (gcd prefix (getD suf (length ts) 0)) (h .0) w
-
-    turn : ((p : ℕ) (n : Marks) (s : Step) → Waits n → Waits (forceFrom i suf ts p n s .marks)) → isDecided m (t .condition) ≡ false
-        → (b : Bool) → contradicts (d .step) ≡ b → Waits (forceFrom i suf (t ∷ ts) prefix m step .marks)
-    turn ih e true k = rw (from-stop i suf t ts prefix m step e d refl k) after
-    turn ih e false k = rw (from-more i suf t ts prefix m step e d refl k) (ih (gcd prefix (t .weight)) (d .marks) (joined step (d .step)) after)
-
-    by : ((p : ℕ) (n : Marks) (s : Step) → Waits n → Waits (forceFrom i suf ts p n s .marks)) → (u : Bool) → isDecided m (t .condition) ≡ u
-        → Waits (forceFrom i suf (t ∷ ts) prefix m step .marks)
-    by ih true e = rw (from-skip i suf t ts prefix m step e) (ih prefix m step w)
-    by ih false e = turn ih e (contradicts (d .step)) refl
-
 pub waits-residual : (ts : List Term) (s : State) (m : Marks) (gcds : List ℕ) → Inside ts → Waits m → Waits (thresholdResidual ts s m gcds .marks)
-waits-residual ts s m gcds h w = by (contradicts (residualCheck ts s (isDecided m))) refl (nothingForced ts s (isDecided m)) refl
+waits-residual = residual-keeping (λ (t : Term). t .condition < 4096) Waits waits-force
+
+-- The buffer of gcds keeps its length.
+pub gcds-length : (ts : List Term) (s : State) (m : Marks) (gcds : List ℕ) → length ts < length gcds → length (thresholdResidual ts s m gcds .gcds) ≡ length gcds
+gcds-length ts s m gcds h = by (contradicts (residualCheck ts s (isDecided m))) refl (nothingForced ts s (isDecided m)) refl
   where
+    l : List ℕ
+    l = suffixes (isDecided m) ts
+
+    laid : length (over l gcds) ≡ length gcds
+    laid =
+        length-append l (drop (length l) gcds) ∙ ap (λ (k : ℕ). length l + k) (length-drop (length l) gcds)
+        ∙ omega (arith, length-suffix (isDecided m) (reverse ts) 0, length-reverse ts)
+
     by : (c : Bool) → contradicts (residualCheck ts s (isDecided m)) ≡ c → (n : Bool) → nothingForced ts s (isDecided m) ≡ n
-        → Waits (thresholdResidual ts s m gcds .marks)
-    by true c n q = rw (residual-none ts s m gcds c) w
-    by false c true q = rw (residual-rest ts s m gcds c q) w
+        → length (thresholdResidual ts s m gcds .gcds) ≡ length gcds
+    by true c n q = ap (λ (r : Residual). length (r .gcds)) (residual-none ts s m gcds c)
+    by false c true q = ap (λ (r : Residual). length (r .gcds)) (residual-rest ts s m gcds c q)
     by false c false q =
-        subst (λ (r : Residual). Waits (r .marks))
-        (residual-forced ts s m gcds c q (forceFrom (interval s) (over (suffixes (isDecided m) ts) gcds) ts 0 m Unchanged) (over (suffixes (isDecided m) ts) gcds) refl refl)
-        (waits-from (interval s) (over (suffixes (isDecided m) ts) gcds) ts 0 m Unchanged h w)
+        ap (λ (r : Residual). length (r .gcds))
+        (sym (residual-forced ts s m gcds c q (forceFrom (interval s) (over l gcds) ts 0 m Unchanged) (over l gcds) refl refl))
+        ∙ laid

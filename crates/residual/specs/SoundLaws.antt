@@ -29,7 +29,7 @@ use Rattle.residual.specs.GcdLaws.{chosen, gcd-left, gcd-right}
 use Rattle.residual.specs.MissesLaws.{clash, branch-sum}
 use Rattle.residual.specs.Residual.{interval, residualCheck, fitsFrom, suffixFrom, suffixes, offMisses, onMisses, forceTerm, forceFrom, Residual, over, nothingForced, thresholdResidual}
 use Rattle.residual.specs.IntervalLaws.{natural-mono, natural-last, both-right, limit-above}
-use Rattle.residual.specs.ForceLaws.{force-cases, from-skip, from-more, force-over, residual-rest, residual-forced}
+use Rattle.residual.specs.ForceLaws.{force-cases, Each, residual-keeping, from-skip, from-more, force-over, residual-rest, residual-forced}
 use Rattle.residual.specs.SuffixLaws.{length-suffix}
 use Rattle.residual.specs.Sums.{
   openWeights,
@@ -368,3 +368,33 @@ residual-sound ts s m gcds v k u g e p l h = by (contradicts (residualCheck ts s
         → Agrees v (thresholdResidual ts s m gcds .marks) × (contradicts (thresholdResidual ts s m gcds .step) ≡ false)
     by true q = absurd (none q)
     by false q = forced q (nothingForced ts s d) refl
+
+-- ---- what is decided stays decided
+
+abbrev pub Keeps : Marks → Marks → Type 0
+Keeps m n = (b : Bool) (k : ℕ) → bit (mask b m) k ≡ true → bit (mask b n) k ≡ true
+
+decide-keeps : (b : Bool) (m : Marks) (n : ℕ) → Keeps m (decide b m n .marks)
+decide-keeps b m n c k h = by (ℕ-discrete k n) (same-bool b c)
+  where
+    by : Dec (k ≡ n) → Dec (c ≡ b) → bit (mask c (decide b m n .marks)) k ≡ true
+    by (no d) s = decide-other b m n c k d ∙ h
+    by (yes d) (yes s) =
+        let there : bit (mask b m) n ≡ true = ap₂ (λ (x : Bool) (y : ℕ). bit (mask x m) y) (sym s) (sym d) ∙ h in
+        ap (λ (r : Decided). bit (mask c (r .marks)) k) (decide-there b m n there) ∙ h
+    by (yes d) (no s) =
+        subst (λ (x : Bool). bit (mask x (decide b m n .marks)) k ≡ bit (mask x m) k) (apart b c s) (ap (λ (l : List ℕ). bit l k) (decide-opposite b m n)) ∙ h
+
+force-keeps : (i : Interval) (m : Marks) (t : Term) (divisor : ℕ) → Keeps m (forceTerm i m t divisor .marks)
+force-keeps i m t divisor =
+    force-cases (λ (r : Decided). Keeps m (r .marks)) i m t divisor (λ b k h. h) (λ f g b k h. h) (λ f. decide-keeps true m (t .condition))
+    (λ g. decide-keeps false m (t .condition))
+
+all-terms : (ts : List Term) → Each (λ (t : Term). Unit {0}) ts
+all-terms [] = tt
+all-terms (t ∷ ts) = (tt, all-terms ts)
+
+pub residual-keeps : (ts : List Term) (s : State) (m : Marks) (gcds : List ℕ) → Keeps m (thresholdResidual ts s m gcds .marks)
+residual-keeps ts s m gcds b k h =
+    residual-keeping (λ (t : Term). Unit {0}) (λ (n : Marks). bit (mask b n) k ≡ true)
+    (λ (i : Interval) (n : Marks) (t : Term) (divisor : ℕ) q g. force-keeps i n t divisor b k g) ts s m gcds (all-terms ts) h

@@ -358,7 +358,7 @@ fn fits_from(conditions: &[u16], weights: &[u64], i: Interval, sure: &[u64], nev
     false
 }
 
-// No sum is allowed where a term of this weight is unread out.
+// No sum is allowed where a term of this weight is left out.
 fn off_misses(i: Interval, weight: u64, divisor: u64) -> bool
     ensures { λ r. ⌜ r ≡ offMisses i weight divisor ⌝ }
 {
