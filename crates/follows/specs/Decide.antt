@@ -14,9 +14,9 @@ use Rattle.state.specs.declared.Step.{Step}
 use Rattle.state.specs.declared.Step.the-variants.{Unchanged, Changed, Contradiction}
 use Rattle.state.specs.declared.Upper.{Upper}
 use Rattle.state.specs.Step.{joined, contradicts}
-use Rattle.words.specs.Mask.{bit, learn, Learned}
-use Rattle.words.specs.MaskLaws.{learn-there, learn-opposite, learn-new, learn-other}
-use Rattle.queues.specs.Marks.{Marks, marks, Decided, decided, decide, waiting}
+use Rattle.words.specs.Mask.{bit}
+use Rattle.queues.specs.Marks.{Marks, Decided, decide}
+use Rattle.queues.specs.MarksLaws.{mask, decide-there, decide-new, decide-other, decide-opposite}
 use Rattle.thresholds.specs.Rows.{Row}
 use Rattle.propagate.specs.Scan.{scan, Scanned}
 use Rattle.table.specs.Table as T
@@ -36,13 +36,10 @@ Broken rows s = (t : Table) × Follows rows s t × Conflict rows t
 pub follows-below : (rows : List Row) (s t u : Table) → Follows rows s u → Le t u → Follows rows s t
 follows-below rows s t u f h w a rest = le-then t u w h (f w a rest)
 
--- MASKS: a node is in the new mask only if it was there or is the one that was put in.
-learned-only : (mask opposite : List ℕ) (n k : ℕ) → bit (learn mask opposite n .mask) k ≡ true → (k ≡ n) ⊎ (bit mask k ≡ true)
-learned-only mask opposite n k h = by (ℕ-discrete k n)
-  where
-    by : Dec (k ≡ n) → (k ≡ n) ⊎ (bit mask k ≡ true)
-    by (yes e) = inl e
-    by (no d) = inr (sym (learn-other mask opposite n k d) ∙ h)
+-- The table with one more node of a value.
+abbrev pub decideAs : Bool → Table → ℕ → Table
+decideAs true t n = decideSure t n
+decideAs false t n = decideNever t n
 
 at-same : (n k : ℕ) (f : ℕ → Bool) → k ≡ n → T.at n true f k ≡ true
 at-same n k f e = ap (λ (b : Bool). cond b true (f k)) (eq-eqb k n e)
@@ -58,66 +55,57 @@ true-false : (b : Bool) → (b ≡ true) ⊎ (b ≡ false)
 true-false true = inl refl
 true-false false = inr refl
 
+module _ (l : ℕ → ℤ) (u : ℕ → Upper) where
+  -- a decision adds no more than its node
+  adds-only : (value : Bool) (m : Marks) (n k : ℕ) → bit (mask value (decide value m n .marks)) k ≡ true → T.at n true (bit (mask value m)) k ≡ true
+  adds-only value m n k h = by (ℕ-discrete k n)
+    where
+      by : Dec (k ≡ n) → T.at n true (bit (mask value m)) k ≡ true
+      by (yes e) = at-same n k (bit (mask value m)) e
+      by (no d) = at-kept n k (bit (mask value m)) (sym (decide-other value m n value k d) ∙ h)
+
+  decided-below : (value : Bool) (m : Marks) (n : ℕ) → Le (tableOf (decide value m n .marks) l u) (decideAs value (tableOf m l u) n)
+  decided-below true m n = record {
+    sure = adds-only true m n;
+    never = λ k h. ap (λ (x : List ℕ). bit x k) (sym (decide-opposite true m n)) ∙ h;
+    lower = λ r. ≤ℤ-refl (l r);
+    upper = λ r. up-refl (u r);
+  }
+  decided-below false m n = record {
+    sure = λ k h. ap (λ (x : List ℕ). bit x k) (sym (decide-opposite false m n)) ∙ h;
+    never = adds-only false m n;
+    lower = λ r. ≤ℤ-refl (l r);
+    upper = λ r. up-refl (u r);
+  }
+
+  -- a node decided against the other mask is in conflict
+  clash : (rows : List Row) (value : Bool) (m : Marks) (n : ℕ) → bit (mask (not value) m) n ≡ true → Conflict rows (decideAs value (tableOf m l u) n)
+  clash rows true m n h = both n (at-same n n (bit (m .sure)) refl) h
+  clash rows false m n h = both n h (at-same n n (bit (m .never)) refl)
+
 module _ (rows : List Row) (s : Table) (l : ℕ → ℤ) (u : ℕ → Upper) where
   -- What is kept along a scan: the masks follow from the start.
   abbrev pub Kept : Marks → Type 0
   Kept m = Follows rows s (tableOf m l u)
 
   -- DECIDING a node that some rule gives
-  pub decide-sure : (m : Marks) (n : ℕ) → Kept m → (bit (m .sure) n ≡ false → T.Step rows (tableOf m l u) (decideSure (tableOf m l u) n))
-      → Kept (decide true m n .marks) × (contradicts (decide true m n .step) ≡ true → Broken rows s)
-  unfolding decide
-  decide-sure m n f gives = ⊎-elim there new (true-false (bit (m .sure) n))
+  pub decide-follows : (value : Bool) (m : Marks) (n : ℕ) → Kept m
+      → (bit (mask value m) n ≡ false → T.Step rows (tableOf m l u) (decideAs value (tableOf m l u) n))
+      → Kept (decide value m n .marks) × (contradicts (decide value m n .step) ≡ true → Broken rows s)
+  decide-follows value m n f gives = ⊎-elim there new (true-false (bit (mask value m) n))
     where
-      there : bit (m .sure) n ≡ true → Kept (decide true m n .marks) × (contradicts (decide true m n .step) ≡ true → Broken rows s)
+      there : bit (mask value m) n ≡ true → Kept (decide value m n .marks) × (contradicts (decide value m n .step) ≡ true → Broken rows s)
       there e =
-          let q = learn-there (m .sure) (m .never) n e in (
-            subst (λ (k : Learned). Kept (marks (k .mask) (m .never) (waiting (k .step) (m .nodes) n))) (sym q) f,
-            λ c. absurd (let z : _≡_ {A = ℕ} 0 1 = cc (q, c) in omega arith),
-          )
+          let q = decide-there value m n e in
+          (subst (λ (d : Decided). Kept (d .marks)) (sym q) f, λ c. absurd (let z : _≡_ {A = ℕ} 0 1 = cc (q, c) in omega arith))
 
-      new : bit (m .sure) n ≡ false → Kept (decide true m n .marks) × (contradicts (decide true m n .step) ≡ true → Broken rows s)
+      new : bit (mask value m) n ≡ false → Kept (decide value m n .marks) × (contradicts (decide value m n .step) ≡ true → Broken rows s)
       new e =
-          let d = follows-step rows s (tableOf m l u) (decideSure (tableOf m l u) n) f (gives e) in (
-            follows-below rows s (tableOf (decide true m n .marks) l u) (decideSure (tableOf m l u) n) d
-                (record {
-                  sure = λ k h. ⊎-elim (at-same n k (bit (m .sure))) (at-kept n k (bit (m .sure))) (learned-only (m .sure) (m .never) n k h);
-                  never = λ k h. h;
-                  lower = λ r. ≤ℤ-refl (l r);
-                  upper = λ r. up-refl (u r);
-                }),
-            λ c. ⊎-elim
-                (λ (o : bit (m .never) n ≡ true). (decideSure (tableOf m l u) n, d, both n (at-same n n (bit (m .sure)) refl) o))
-                (λ (o : bit (m .never) n ≡ false). absurd (let q = learn-new (m .sure) (m .never) n e o in let z : _≡_ {A = ℕ} 0 1 = cc (q, c) in omega arith))
-                (true-false (bit (m .never) n)),
-          )
-
-  pub decide-never : (m : Marks) (n : ℕ) → Kept m → (bit (m .never) n ≡ false → T.Step rows (tableOf m l u) (decideNever (tableOf m l u) n))
-      → Kept (decide false m n .marks) × (contradicts (decide false m n .step) ≡ true → Broken rows s)
-  unfolding decide
-  decide-never m n f gives = ⊎-elim there new (true-false (bit (m .never) n))
-    where
-      there : bit (m .never) n ≡ true → Kept (decide false m n .marks) × (contradicts (decide false m n .step) ≡ true → Broken rows s)
-      there e =
-          let q = learn-there (m .never) (m .sure) n e in (
-            subst (λ (k : Learned). Kept (marks (m .sure) (k .mask) (waiting (k .step) (m .nodes) n))) (sym q) f,
-            λ c. absurd (let z : _≡_ {A = ℕ} 0 1 = cc (q, c) in omega arith),
-          )
-
-      new : bit (m .never) n ≡ false → Kept (decide false m n .marks) × (contradicts (decide false m n .step) ≡ true → Broken rows s)
-      new e =
-          let d = follows-step rows s (tableOf m l u) (decideNever (tableOf m l u) n) f (gives e) in (
-            follows-below rows s (tableOf (decide false m n .marks) l u) (decideNever (tableOf m l u) n) d
-                (record {
-                  sure = λ k h. h;
-                  never = λ k h. ⊎-elim (at-same n k (bit (m .never))) (at-kept n k (bit (m .never))) (learned-only (m .never) (m .sure) n k h);
-                  lower = λ r. ≤ℤ-refl (l r);
-                  upper = λ r. up-refl (u r);
-                }),
-            λ c. ⊎-elim
-                (λ (o : bit (m .sure) n ≡ true). (decideNever (tableOf m l u) n, d, both n o (at-same n n (bit (m .never)) refl)))
-                (λ (o : bit (m .sure) n ≡ false). absurd (let q = learn-new (m .never) (m .sure) n e o in let z : _≡_ {A = ℕ} 0 1 = cc (q, c) in omega arith))
-                (true-false (bit (m .sure) n)),
+          let d = follows-step rows s (tableOf m l u) (decideAs value (tableOf m l u) n) f (gives e) in (
+            follows-below rows s (tableOf (decide value m n .marks) l u) (decideAs value (tableOf m l u) n) d (decided-below l u value m n),
+            λ c. ⊎-elim (λ (o : bit (mask (not value) m) n ≡ true). (decideAs value (tableOf m l u) n, d, clash l u rows value m n o))
+                (λ (o : bit (mask (not value) m) n ≡ false). absurd (let q = decide-new value m n e o in let z : _≡_ {A = ℕ} 0 1 = cc (q, c) in omega arith))
+                (true-false (bit (mask (not value) m) n)),
           )
 
 -- A SCAN keeps what each of its places keeps; if it contradicts, a place did.

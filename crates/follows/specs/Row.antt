@@ -24,12 +24,12 @@ use Rattle.words.specs.MaskLaws.{learn-there, learn-other}
 use Rattle.queues.specs.Marks.{Marks, marks, isDecided, Decided, decided, decide}
 use Rattle.thresholds.specs.Rows.{Row, Guard, noRow}
 use Rattle.propagate.specs.Scan.{scan, Scanned}
-use Rattle.propagate.specs.Row.{Ran, ran, sureGuards, neverGuards, thresholdGuards, forced, trueTerms, falseTerms, scans, thresholdRow}
+use Rattle.propagate.specs.Row.{Ran, ran, sureGuards, neverGuards, thresholdGuards, forced, trueTerms, falseTerms, rowTerms, scans, thresholdRow}
 use Rattle.table.specs.Table as T
 use Rattle.table.specs.Table.{Table, IsRow, termsOf, knownOf, possibleOf, reachedOf, AtMost, Conflict, lower-above, upper-reached, bound-reached, bound-out-of-reach, term-needed, term-too-heavy}
 use Rattle.table.specs.Order.{le, lt, ≤ℤ-trans, ≤ℤ-<ℤ-trans, pos-≤ℤ, max-up, sub-up, up-refl, at-most-up}
 use Rattle.table.specs.TableLaws.{Le, Follows, known-up, possible-down}
-use Rattle.follows.specs.Decide.{tableOf, Broken, Kept, decide-sure, decide-never, scan-keeps}
+use Rattle.follows.specs.Decide.{tableOf, Broken, Kept, decide-follows, scan-keeps}
 
 -- BOOLEANS AND LISTS
 
@@ -45,7 +45,7 @@ not-false : (b : Bool) → not b ≡ false → b ≡ true
 not-false true h = refl
 not-false false h = sym h
 
-or-true : (a b : Bool) → (a || b) ≡ true → (a ≡ true) ⊎ (b ≡ true)
+pub or-true : (a b : Bool) → (a || b) ≡ true → (a ≡ true) ⊎ (b ≡ true)
 or-true true b h = inl refl
 or-true false b h = inr h
 
@@ -53,12 +53,12 @@ or-false : (a b : Bool) → (a || b) ≡ false → (a ≡ false) × (b ≡ false
 or-false true b h = absurd (let z : _≡_ {A = ℕ} 0 1 = cc in omega arith)
 or-false false b h = (refl, h)
 
-mem-drop : {X : Type 0} (n : ℕ) (xs : List X) (x : X) → List·Memᴰ x (drop n xs) → List·Memᴰ x xs
+pub mem-drop : {X : Type 0} (n : ℕ) (xs : List X) (x : X) → List·Memᴰ x (drop n xs) → List·Memᴰ x xs
 mem-drop zero xs x m = m
 mem-drop (suc n) [] x m = m
 mem-drop (suc n) (y ∷ ys) x m = List·Memᴰ·tail (mem-drop n ys x m)
 
-mem-take : {X : Type 0} (n : ℕ) (xs : List X) (x : X) → List·Memᴰ x (take n xs) → List·Memᴰ x xs
+pub mem-take : {X : Type 0} (n : ℕ) (xs : List X) (x : X) → List·Memᴰ x (take n xs) → List·Memᴰ x xs
 mem-take zero xs x m = absurd (List·Memᴰ·not-nil m)
 mem-take (suc n) [] x m = m
 mem-take (suc n) (y ∷ ys) x m = ⊎-elim (λ (e : x ≡ y). List·Memᴰ·head e) (λ k. List·Memᴰ·tail (mem-take n ys x k)) (List·Memᴰ·cases-cons m)
@@ -68,7 +68,7 @@ mem-aux [] acc x m = inr m
 mem-aux (y ∷ ys) acc x m =
     ⊎-elim (λ k. inl (List·Memᴰ·tail k)) (λ k. ⊎-elim (λ (e : x ≡ y). inl (List·Memᴰ·head e)) (λ n. inr n) (List·Memᴰ·cases-cons k)) (mem-aux ys (y ∷ acc) x m)
 
-mem-reverse : {X : Type 0} (xs : List X) (x : X) → List·Memᴰ x (reverse xs) → List·Memᴰ x xs
+pub mem-reverse : {X : Type 0} (xs : List X) (x : X) → List·Memᴰ x (reverse xs) → List·Memᴰ x xs
 mem-reverse xs x m = ⊎-elim (λ k. k) (λ k. absurd (List·Memᴰ·not-nil k)) (mem-aux xs [] x m)
 
 -- UPPERS
@@ -143,7 +143,7 @@ module _ (rows : List Row) (s : Table) (l : ℕ → ℤ) (u : ℕ → Upper) (r 
   sure-along : (st : State) (m : Marks) → Along st m → let a = sureGuards (getD rows r noRow .guards) st m in Along st (a .marks) × (contradicts (a .step) ≡ true → Broken rows s)
   sure-along st m h =
       scan-keeps (Along st) (Broken rows s) _ _ (drop (st .«sure_guard») (getD rows r noRow .guards))
-      (λ (g : Guard) k x p w. along-decide true st k (g .node) p (decide-sure rows s l u k (g .node) (p .0)
+      (λ (g : Guard) k x p w. along-decide true st k (g .node) p (decide-follows rows s l u true k (g .node) (p .0)
       (λ e. bound-reached r g (is, mem-drop (st .«sure_guard») (getD rows r noRow .guards) g x)
       (≤ℤ-trans (le (nlt-leZ (reached st) (g .bound) w)) (reached-inside st k (p .1))) e)))
       0 m Unchanged h refl
@@ -160,7 +160,7 @@ module _ (rows : List Row) (s : Table) (l : ℕ → ℤ) (u : ℕ → Upper) (r 
       → let a = neverGuards (getD rows r noRow .guards) st m k in Along st (a .marks) × (contradicts (a .step) ≡ true → Broken rows s)
   never-along st m k h c =
       scan-keeps (Along st) (Broken rows s) _ _ (reverse (take (st .«never_guard») (getD rows r noRow .guards)))
-      (λ (g : Guard) n x p w. along-decide false st n (g .node) p (decide-never rows s l u n (g .node) (p .0)
+      (λ (g : Guard) n x p w. along-decide false st n (g .node) p (decide-follows rows s l u false n (g .node) (p .0)
       (λ e. bound-out-of-reach r g (is, mem-take (st .«never_guard») (getD rows r noRow .guards) g (mem-reverse (take (st .«never_guard») (getD rows r noRow .guards)) g x))
       (out-of-reach st n (g .bound) (p .1) w) e)))
       0 m k h c
@@ -200,7 +200,7 @@ module _ (rows : List Row) (s : Table) (l : ℕ → ℤ) (u : ℕ → Upper) (r 
       a : Along st (forced true waits (drop (st .«true_term») (termsOf rows r)) m .marks)
           × (contradicts (forced true waits (drop (st .«true_term») (termsOf rows r)) m .step) ≡ true → Broken rows s)
       a = force-along true st (drop (st .«true_term») (termsOf rows r)) waits m h
-          (λ t k x p e w. decide-sure rows s l u k (t .condition) (p .0)
+          (λ t k x p e w. decide-follows rows s l u true k (t .condition) (p .0)
           (λ q. term-needed r t (is, mem-drop (st .«true_term») (termsOf rows r) t x) (or-false (bit (k .sure) (t .condition)) (bit (k .never) (t .condition)) e)
           (≤ℤ-<ℤ-trans (subst (λ (z : ℤ). (possibleOf rows (tableOf k l u) r -ℤ z) ≤ℤ (st .possible -ℤ st .lower)) (p .1 .lower) (sub-up (p .1 .possible) (≤ℤ-refl (st .lower))))
           (lt (nle-ltZ (st .possible -ℤ st .lower) (pos (t .weight)) w)))))
@@ -223,7 +223,7 @@ module _ (rows : List Row) (s : Table) (l : ℕ → ℤ) (u : ℕ → Upper) (r 
       by Open e = (h, λ c. absurd (let z : _≡_ {A = ℕ} 0 1 = cc in omega arith))
       by (Under b) e =
           let a = force-along false st (drop (st .«false_term») (termsOf rows r)) (λ (w : ℕ). ltZ (pos w) (b -ℤ st .known)) m h
-          (λ t k x p d w. decide-never rows s l u k (t .condition) (p .0)
+          (λ t k x p d w. decide-follows rows s l u false k (t .condition) (p .0)
           (λ q. term-too-heavy r t b (is, mem-drop (st .«false_term») (termsOf rows r) t x) (or-false (bit (k .sure) (t .condition)) (bit (k .never) (t .condition)) d)
           (sym (p .1 .upper) ∙ e) (≤ℤ-trans (sub-up (≤ℤ-refl b) (p .1 .known)) (le (nlt-leZ (pos (t .weight)) (b -ℤ st .known) w))))) in
           ((a .0 .0, inside-terms st _ _ _ (a .0 .1), a .0 .2), a .1)
@@ -255,7 +255,7 @@ module _ (rows : List Row) (s : Table) (l : ℕ → ℤ) (u : ℕ → Upper) (r 
           ((n .0 .0, inside-guards up _ _ _ (inside-guards st _ _ _ (n .0 .1)), n .0 .2), n .1)
 
   pub scans-fine : (st : State) (m : Marks) → Along st m → Fine (scans (getD rows r noRow) st m)
-  unfolding scans
+  unfolding scans rowTerms trueTerms
   scans-fine st m h = one (contradicts (a .step)) refl
     where
       row : Row

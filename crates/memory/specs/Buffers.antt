@@ -54,11 +54,35 @@ rawBuffers raw-conditions raw-weights thresholds bounds =
 
 abbrev pub builtBuffers : List ℕ → List ℕ → List (List ℕ) → List ℤ → List ℕ → List (List ℕ) → List (List ℕ) → List ℕ → List (List ℕ) → Built
 builtBuffers row-conditions row-weights rows guard-bounds guard-nodes nodes edges links scratch =
-    record { row-conditions = row-conditions; row-weights = row-weights; rows = rows; guard-bounds = guard-bounds; guard-nodes = guard-nodes; nodes = nodes; edges = edges; links = links; scratch = scratch }
+    record {
+      row-conditions = row-conditions;
+      row-weights = row-weights;
+      rows = rows;
+      guard-bounds = guard-bounds;
+      guard-nodes = guard-nodes;
+      nodes = nodes;
+      edges = edges;
+      links = links;
+      scratch = scratch;
+    }
 
 abbrev pub keptBuffers : List (List ℤ) → List (List ℕ) → List ℕ → List ℕ → List ℕ → List ℕ → List ℕ → List ℕ → List ℕ → List ℕ → List ℕ → List ℕ → List ℕ → Kept
 keptBuffers figures cursors sure never search gcds node-queue row-queue residual-queue row-pending residual-pending answers visits =
-    record { figures = figures; cursors = cursors; sure = sure; never = never; search = search; gcds = gcds; node-queue = node-queue; row-queue = row-queue; residual-queue = residual-queue; row-pending = row-pending; residual-pending = residual-pending; answers = answers; visits = visits }
+    record {
+      figures = figures;
+      cursors = cursors;
+      sure = sure;
+      never = never;
+      search = search;
+      gcds = gcds;
+      node-queue = node-queue;
+      row-queue = row-queue;
+      residual-queue = residual-queue;
+      row-pending = row-pending;
+      residual-pending = residual-pending;
+      answers = answers;
+      visits = visits;
+    }
 
 abbrev pub workBuffers : Raw → Built → Kept → Work
 workBuffers raw built kept = record { raw = raw; built = built; kept = kept }
@@ -74,17 +98,22 @@ fitsRaw w = enoughRaw (length (w .raw-conditions)) (length (w .raw-weights)) (le
 
 abbrev pub enoughBuilt : ℕ → ℕ → ℕ → ℕ → ℕ → ℕ → ℕ → ℕ → ℕ → Bool
 enoughBuilt row-conditions row-weights rows guard-bounds guard-nodes nodes edges links scratch =
-    leb 4096 row-conditions && leb 4096 row-weights && leb 1024 rows && leb 1024 guard-bounds && leb 1024 guard-nodes && leb 4096 nodes && leb 4096 edges && leb 2048 links && leb 1024 scratch
+    leb 4096 row-conditions && leb 4096 row-weights && leb 1024 rows && leb 1024 guard-bounds && leb 1024 guard-nodes && leb 4096 nodes && leb 4096 edges
+    && leb 2048 links && leb 1024 scratch
 
 abbrev pub fitsBuilt : Built → Bool
-fitsBuilt w = enoughBuilt (length (w .row-conditions)) (length (w .row-weights)) (length (w .rows)) (length (w .guard-bounds)) (length (w .guard-nodes)) (length (w .nodes)) (length (w .edges)) (length (w .links)) (length (w .scratch))
+fitsBuilt w = enoughBuilt (length (w .row-conditions)) (length (w .row-weights)) (length (w .rows)) (length (w .guard-bounds)) (length (w .guard-nodes))
+    (length (w .nodes)) (length (w .edges)) (length (w .links)) (length (w .scratch))
 
 abbrev pub enoughKept : ℕ → ℕ → ℕ → ℕ → ℕ → ℕ → ℕ → ℕ → ℕ → ℕ → ℕ → ℕ → ℕ → Bool
 enoughKept figures cursors sure never search gcds node-queue row-queue residual-queue row-pending residual-pending answers visits =
-    leb 1024 figures && leb 1024 cursors && leb 64 sure && leb 64 never && leb 4096 search && leb 1025 gcds && leb 4096 node-queue && leb 1024 row-queue && leb 1024 residual-queue && leb 1024 row-pending && leb 1024 residual-pending && leb 64 answers && leb 64 visits
+    leb 1024 figures && leb 1024 cursors && leb 64 sure && leb 64 never && leb 4096 search && leb 1025 gcds && leb 4096 node-queue && leb 1024 row-queue
+    && leb 1024 residual-queue && leb 1024 row-pending && leb 1024 residual-pending && leb 64 answers && leb 64 visits
 
 abbrev pub fitsKept : Kept → Bool
-fitsKept w = enoughKept (length (w .figures)) (length (w .cursors)) (length (w .sure)) (length (w .never)) (length (w .search)) (length (w .gcds)) (length (w .node-queue)) (length (w .row-queue)) (length (w .residual-queue)) (length (w .row-pending)) (length (w .residual-pending)) (length (w .answers)) (length (w .visits))
+fitsKept w = enoughKept (length (w .figures)) (length (w .cursors)) (length (w .sure)) (length (w .never)) (length (w .search)) (length (w .gcds))
+    (length (w .node-queue)) (length (w .row-queue)) (length (w .residual-queue)) (length (w .row-pending)) (length (w .residual-pending)) (length (w .answers))
+    (length (w .visits))
 
 unfoldable pub fits : List ℕ → Work → Bool
 fits input w = fitsRaw (w .raw) && fitsBuilt (w .built) && fitsKept (w .kept) && leb (length input) 65536

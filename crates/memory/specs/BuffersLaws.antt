@@ -51,19 +51,49 @@ clearing-end z l m n c h =
     c .so-far ∙ ap (λ (k : ℕ). zerosN k z l) e ∙ zerosN-all z l
 
 pub byRaw : {raw-conditions : List ℕ} {raw-weights : List ℕ} {thresholds : List (List ℕ)} {bounds : List ℤ} (w : Raw)
-    → raw-conditions ≡ zeros 0 (w .raw-conditions) → raw-weights ≡ zeros 0 (w .raw-weights) → thresholds ≡ zeros (replicate 2 0) (w .thresholds) → bounds ≡ zeros (pos 0) (w .bounds)
+    → raw-conditions ≡ zeros 0 (w .raw-conditions) → raw-weights ≡ zeros 0 (w .raw-weights) → thresholds ≡ zeros (replicate 2 0) (w .thresholds)
+    → bounds ≡ zeros (pos 0) (w .bounds)
     → rawBuffers raw-conditions raw-weights thresholds bounds ≡ clearRaw w
 unfolding clearRaw
 byRaw w e0 e1 e2 e3 = λ i. record { raw-conditions = e0 i; raw-weights = e1 i; thresholds = e2 i; bounds = e3 i }
 
 pub byBuilt : {row-conditions : List ℕ} {row-weights : List ℕ} {rows : List (List ℕ)} {guard-bounds : List ℤ} {guard-nodes : List ℕ} {nodes : List (List ℕ)} {edges : List (List ℕ)} {links : List ℕ} {scratch : List (List ℕ)} (w : Built)
-    → row-conditions ≡ zeros 0 (w .row-conditions) → row-weights ≡ zeros 0 (w .row-weights) → rows ≡ zeros (replicate 3 0) (w .rows) → guard-bounds ≡ zeros (pos 0) (w .guard-bounds) → guard-nodes ≡ zeros 0 (w .guard-nodes) → nodes ≡ zeros (replicate 3 0) (w .nodes) → edges ≡ zeros (replicate 2 0) (w .edges) → links ≡ zeros 0 (w .links) → scratch ≡ zeros (replicate 3 0) (w .scratch)
+    → row-conditions ≡ zeros 0 (w .row-conditions) → row-weights ≡ zeros 0 (w .row-weights) → rows ≡ zeros (replicate 3 0) (w .rows)
+    → guard-bounds ≡ zeros (pos 0) (w .guard-bounds) → guard-nodes ≡ zeros 0 (w .guard-nodes) → nodes ≡ zeros (replicate 3 0) (w .nodes)
+    → edges ≡ zeros (replicate 2 0) (w .edges) → links ≡ zeros 0 (w .links) → scratch ≡ zeros (replicate 3 0) (w .scratch)
     → builtBuffers row-conditions row-weights rows guard-bounds guard-nodes nodes edges links scratch ≡ clearBuilt w
 unfolding clearBuilt
-byBuilt w e0 e1 e2 e3 e4 e5 e6 e7 e8 = λ i. record { row-conditions = e0 i; row-weights = e1 i; rows = e2 i; guard-bounds = e3 i; guard-nodes = e4 i; nodes = e5 i; edges = e6 i; links = e7 i; scratch = e8 i }
+byBuilt w e0 e1 e2 e3 e4 e5 e6 e7 e8 = λ i. record {
+  row-conditions = e0 i;
+  row-weights = e1 i;
+  rows = e2 i;
+  guard-bounds = e3 i;
+  guard-nodes = e4 i;
+  nodes = e5 i;
+  edges = e6 i;
+  links = e7 i;
+  scratch = e8 i;
+}
 
 pub byKept : {figures : List (List ℤ)} {cursors : List (List ℕ)} {sure : List ℕ} {never : List ℕ} {search : List ℕ} {gcds : List ℕ} {node-queue : List ℕ} {row-queue : List ℕ} {residual-queue : List ℕ} {row-pending : List ℕ} {residual-pending : List ℕ} {answers : List ℕ} {visits : List ℕ} (w : Kept)
-    → figures ≡ zeros (replicate 4 (pos 0)) (w .figures) → cursors ≡ zeros (replicate 5 0) (w .cursors) → sure ≡ zeros 0 (w .sure) → never ≡ zeros 0 (w .never) → search ≡ zeros 0 (w .search) → gcds ≡ zeros 0 (w .gcds) → node-queue ≡ zeros 0 (w .node-queue) → row-queue ≡ zeros 0 (w .row-queue) → residual-queue ≡ zeros 0 (w .residual-queue) → row-pending ≡ zeros 0 (w .row-pending) → residual-pending ≡ zeros 0 (w .residual-pending) → answers ≡ zeros 0 (w .answers) → visits ≡ zeros 0 (w .visits)
+    → figures ≡ zeros (replicate 4 (pos 0)) (w .figures) → cursors ≡ zeros (replicate 5 0) (w .cursors) → sure ≡ zeros 0 (w .sure) → never ≡ zeros 0 (w .never)
+    → search ≡ zeros 0 (w .search) → gcds ≡ zeros 0 (w .gcds) → node-queue ≡ zeros 0 (w .node-queue) → row-queue ≡ zeros 0 (w .row-queue)
+    → residual-queue ≡ zeros 0 (w .residual-queue) → row-pending ≡ zeros 0 (w .row-pending) → residual-pending ≡ zeros 0 (w .residual-pending)
+    → answers ≡ zeros 0 (w .answers) → visits ≡ zeros 0 (w .visits)
     → keptBuffers figures cursors sure never search gcds node-queue row-queue residual-queue row-pending residual-pending answers visits ≡ clearKept w
 unfolding clearKept
-byKept w e0 e1 e2 e3 e4 e5 e6 e7 e8 e9 e10 e11 e12 = λ i. record { figures = e0 i; cursors = e1 i; sure = e2 i; never = e3 i; search = e4 i; gcds = e5 i; node-queue = e6 i; row-queue = e7 i; residual-queue = e8 i; row-pending = e9 i; residual-pending = e10 i; answers = e11 i; visits = e12 i }
+byKept w e0 e1 e2 e3 e4 e5 e6 e7 e8 e9 e10 e11 e12 = λ i. record {
+  figures = e0 i;
+  cursors = e1 i;
+  sure = e2 i;
+  never = e3 i;
+  search = e4 i;
+  gcds = e5 i;
+  node-queue = e6 i;
+  row-queue = e7 i;
+  residual-queue = e8 i;
+  row-pending = e9 i;
+  residual-pending = e10 i;
+  answers = e11 i;
+  visits = e12 i;
+}

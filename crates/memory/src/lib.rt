@@ -4,6 +4,7 @@ ghost use lib.ListN.{replicate};
 ghost use lib.IntN.{pos};
 ghost use Rattle.memory.specs.Buffers.{rawBuffers, builtBuffers, keptBuffers, enoughRaw, enoughBuilt, enoughKept, zeros, clearRaw, clearBuilt, clearKept};
 
+// One leaf for each type of element, each for buffers of any length.
 pub fn clear_u8(b: &mut [u8])
     ensures { λ _. ⌜ now (b .exit) ≡ zeros 0 (now (b .entry)) ⌝ }
 {
@@ -116,7 +117,8 @@ pub fn clear_raw(
     thresholds: &mut [[u16; 2]],
     bounds: &mut [i64],
 )
-    ensures { λ _. ⌜ rawBuffers (now («raw_conditions» .exit)) (now («raw_weights» .exit)) (now (thresholds .exit)) (now (bounds .exit)) ≡ clearRaw (rawBuffers (now («raw_conditions» .entry)) (now («raw_weights» .entry)) (now (thresholds .entry)) (now (bounds .entry))) ⌝ }
+    ensures { λ _. ⌜ rawBuffers (now («raw_conditions» .exit)) (now («raw_weights» .exit)) (now (thresholds .exit)) (now (bounds .exit))
+        ≡ clearRaw (rawBuffers (now («raw_conditions» .entry)) (now («raw_weights» .entry)) (now (thresholds .entry)) (now (bounds .entry))) ⌝ }
 {
     clear_u16(raw_conditions);
     clear_u32(raw_weights);
@@ -136,7 +138,8 @@ pub fn clear_built(
     links: &mut [u16],
     scratch: &mut [[u16; 3]],
 )
-    ensures { λ _. ⌜ builtBuffers (now («row_conditions» .exit)) (now («row_weights» .exit)) (now (rows .exit)) (now («guard_bounds» .exit)) (now («guard_nodes» .exit)) (now (nodes .exit)) (now (edges .exit)) (now (links .exit)) (now (scratch .exit)) ≡ clearBuilt (builtBuffers (now («row_conditions» .entry)) (now («row_weights» .entry)) (now (rows .entry)) (now («guard_bounds» .entry)) (now («guard_nodes» .entry)) (now (nodes .entry)) (now (edges .entry)) (now (links .entry)) (now (scratch .entry))) ⌝ }
+    ensures { λ _. ⌜ builtBuffers (now («row_conditions» .exit)) (now («row_weights» .exit)) (now (rows .exit)) (now («guard_bounds» .exit)) (now («guard_nodes» .exit)) (now (nodes .exit)) (now (edges .exit)) (now (links .exit)) (now (scratch .exit))
+        ≡ clearBuilt (builtBuffers (now («row_conditions» .entry)) (now («row_weights» .entry)) (now (rows .entry)) (now («guard_bounds» .entry)) (now («guard_nodes» .entry)) (now (nodes .entry)) (now (edges .entry)) (now (links .entry)) (now (scratch .entry))) ⌝ }
 {
     clear_u16(row_conditions);
     clear_u64(row_weights);
@@ -165,7 +168,8 @@ pub fn clear_kept(
     answers: &mut [u8],
     visits: &mut [u16],
 )
-    ensures { λ _. ⌜ keptBuffers (now (figures .exit)) (now (cursors .exit)) (now (sure .exit)) (now (never .exit)) (now (search .exit)) (now (gcds .exit)) (now («node_queue» .exit)) (now («row_queue» .exit)) (now («residual_queue» .exit)) (now («row_pending» .exit)) (now («residual_pending» .exit)) (now (answers .exit)) (now (visits .exit)) ≡ clearKept (keptBuffers (now (figures .entry)) (now (cursors .entry)) (now (sure .entry)) (now (never .entry)) (now (search .entry)) (now (gcds .entry)) (now («node_queue» .entry)) (now («row_queue» .entry)) (now («residual_queue» .entry)) (now («row_pending» .entry)) (now («residual_pending» .entry)) (now (answers .entry)) (now (visits .entry))) ⌝ }
+    ensures { λ _. ⌜ keptBuffers (now (figures .exit)) (now (cursors .exit)) (now (sure .exit)) (now (never .exit)) (now (search .exit)) (now (gcds .exit)) (now («node_queue» .exit)) (now («row_queue» .exit)) (now («residual_queue» .exit)) (now («row_pending» .exit)) (now («residual_pending» .exit)) (now (answers .exit)) (now (visits .exit))
+        ≡ clearKept (keptBuffers (now (figures .entry)) (now (cursors .entry)) (now (sure .entry)) (now (never .entry)) (now (search .entry)) (now (gcds .entry)) (now («node_queue» .entry)) (now («row_queue» .entry)) (now («residual_queue» .entry)) (now («row_pending» .entry)) (now («residual_pending» .entry)) (now (answers .entry)) (now (visits .entry))) ⌝ }
 {
     clear_i64x4(figures);
     clear_usizex5(cursors);
@@ -182,14 +186,14 @@ pub fn clear_kept(
     clear_u16(visits);
 }
 
-// Whether buffers of these lengths are long enough.
+// Whether the job's buffers of these lengths are long enough.
 pub fn fits_raw(raw_conditions: usize, raw_weights: usize, thresholds: usize, bounds: usize) -> bool
     ensures { λ r. ⌜ r ≡ enoughRaw «raw_conditions» «raw_weights» thresholds bounds ⌝ }
 {
     (raw_conditions >= 4096) & (raw_weights >= 4096) & (thresholds >= 1024) & (bounds >= 1024)
 }
 
-// Whether buffers of these lengths are long enough.
+// Whether the seal's buffers of these lengths are long enough.
 pub fn fits_built(
     row_conditions: usize,
     row_weights: usize,
@@ -214,7 +218,7 @@ pub fn fits_built(
         & (scratch >= 1024)
 }
 
-// Whether buffers of these lengths are long enough.
+// Whether the last phase's buffers of these lengths are long enough.
 pub fn fits_kept(
     figures: usize,
     cursors: usize,

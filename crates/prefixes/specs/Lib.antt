@@ -4,3 +4,7 @@ pub mod OrderLaws
 pub mod LinksLaws
 pub mod Held
 pub mod HeldLaws
+pub mod Merge
+pub mod MergeLaws
+pub mod LaidLaws
+pub mod SortLaws

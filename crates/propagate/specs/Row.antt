@@ -86,21 +86,22 @@ falseTerms ts s m =
     let a = forced false (λ (w : ℕ). ltZ (pos w) (limit (s .upper) -ℤ s .known)) (drop (s .«false_term») ts) m in
     cond (limited (s .upper)) (ran (withTerms s (s .«true_term») (s .«false_term» + a .passed)) (a .marks) (a .step)) (ran s m Unchanged)
 
+-- Terms behind the guards, those to be sure first.
+unfoldable pub rowTerms : List Term → Ran → Ran
+rowTerms ts a =
+    let b = trueTerms ts (a .state) (a .marks) in
+    elim (contradicts (b .step)) [
+      | true ↦ b
+      | false ↦
+          let c = falseTerms ts (b .state) (b .marks) in
+          ran (c .state) (c .marks) (joined (joined (a .step) (b .step)) (c .step))
+    ]
+
 -- Scans of a row that is in no conflict, each only where the one before did not contradict.
 unfoldable pub scans : Row → State → Marks → Ran
 scans r s m =
     let a = thresholdGuards (r .guards) s m in
-    elim (contradicts (a .step)) [
-      | true ↦ a
-      | false ↦
-          let b = trueTerms (r .terms) (a .state) (a .marks) in
-          elim (contradicts (b .step)) [
-            | true ↦ b
-            | false ↦
-                let c = falseTerms (r .terms) (b .state) (b .marks) in
-                ran (c .state) (c .marks) (joined (joined (a .step) (b .step)) (c .step))
-          ]
-    ]
+    elim (contradicts (a .step)) [ true ↦ a | false ↦ rowTerms (r .terms) a ]
 
 -- `threshold_row`
 unfoldable pub thresholdRow : Row → State → Marks → Ran

@@ -3,21 +3,24 @@ ghost use mathlib.Core.Path.{_≡_};
 ghost use mathlib.Core.Bool.{false, not, _&&_};
 ghost use Prim.Native.Nat.{_+_, _<_, _≤_, _^_};
 ghost use lib.ListN.{length, drop};
+ghost use mathlib.Core.List.{List};
 ghost use lib.Signed.{ltZ};
-ghost use Rattle.numeric.specs.Threshold.{terms};
+ghost use Rattle.numeric.specs.Threshold.{Term, terms};
 ghost use Rattle.words.specs.Mask.{inEither};
 ghost use Rattle.state.specs.State.{reached};
 ghost use Rattle.queues.specs.Queue.{queue};
 ghost use Rattle.queues.specs.Marks.{Marks, marks, isDecided, decided, decide};
 ghost use Rattle.queues.specs.MarksLaws.{Waits};
+ghost use Rattle.thresholds.specs.Rows.{Guard, rowOf};
 ghost use Rattle.propagate.specs.Scan.{scanned, turn as turnOf, turned, force};
-ghost use Rattle.propagate.specs.Shape.{Below};
+ghost use Rattle.propagate.specs.Shape.{Below, TermSlices, GuardSlices, Figures};
 ghost use Rattle.propagate.specs.Guards.{guards};
-ghost use Rattle.propagate.specs.Row.{ran as ranOf, reachable, sureGuards, neverGuards, thresholdGuards, light, forced};
+ghost use Rattle.propagate.specs.Row.{ran as ranOf, reachable, sureGuards, neverGuards, thresholdGuards, light, forced, trueTerms, falseTerms, rowTerms, thresholdRow, wantsResidual};
 use queues::Decision;
 use queues::Ring;
 use state::State;
 use state::Step;
+use state::Upper;
 
 // A scan of a row's guards or terms so far: the places passed, the strongest answer, the queue of nodes.
 pub struct Scan {
@@ -166,7 +169,7 @@ fn sure_guards(
     nodes: &mut [u16],
     ring: Ring,
 ) -> Scan
-    requires { ⌜ (length (now bounds) ≡ length (now names)) × Below 4096 (now names) × Waits (marks (now sure) (now never) (queue (now nodes) ring)) ⌝ }
+    requires { ⌜ GuardSlices (now bounds) (now names) × Waits (marks (now sure) (now never) (queue (now nodes) ring)) ⌝ }
     ensures { λ r. ⌜ scanned (r .passed) (marks (now (sure .exit)) (now (never .exit)) (queue (now (nodes .exit)) (r .ring))) (r .step)
         ≡ sureGuards (guards (now (bounds .entry)) (now (names .entry))) state (marks (now (sure .entry)) (now (never .entry)) (queue (now (nodes .entry)) ring)) ⌝ }
 {
@@ -202,7 +205,7 @@ fn never_guards(
     ring: Ring,
     before: Step,
 ) -> Scan
-    requires { ⌜ (length (now bounds) ≡ length (now names)) × Below 4096 (now names) × (state .«never_guard» ≤ length (now bounds)) × Waits (marks (now sure) (now never) (queue (now nodes) ring)) ⌝ }
+    requires { ⌜ GuardSlices (now bounds) (now names) × (state .«never_guard» ≤ length (now bounds)) × Waits (marks (now sure) (now never) (queue (now nodes) ring)) ⌝ }
     ensures { λ r. ⌜ scanned (r .passed) (marks (now (sure .exit)) (now (never .exit)) (queue (now (nodes .exit)) (r .ring))) (r .step)
         ≡ neverGuards (guards (now (bounds .entry)) (now (names .entry))) state (marks (now (sure .entry)) (now (never .entry)) (queue (now (nodes .entry)) ring)) before ⌝ }
 {
@@ -237,7 +240,7 @@ pub fn threshold_guards(
     nodes: &mut [u16],
     ring: Ring,
 ) -> Ran
-    requires { ⌜ (length (now bounds) ≡ length (now names)) × Below 4096 (now names) × (state .«never_guard» ≤ length (now bounds)) × Waits (marks (now sure) (now never) (queue (now nodes) ring)) ⌝ }
+    requires { ⌜ GuardSlices (now bounds) (now names) × (state .«never_guard» ≤ length (now bounds)) × Waits (marks (now sure) (now never) (queue (now nodes) ring)) ⌝ }
     ensures { λ r. ⌜ ranOf (r .state) (marks (now (sure .exit)) (now (never .exit)) (queue (now (nodes .exit)) (r .ring))) (r .step)
         ≡ thresholdGuards (guards (now (bounds .entry)) (now (names .entry))) state (marks (now (sure .entry)) (now (never .entry)) (queue (now (nodes .entry)) ring)) ⌝ }
 {
@@ -296,7 +299,7 @@ fn forced_terms(
     nodes: &mut [u16],
     ring: Ring,
 ) -> Scan
-    requires { ⌜ (length (now conditions) ≡ length (now weights)) × Below 4096 (now conditions) × Below (2 ^ 63) (now weights) × Waits (marks (now sure) (now never) (queue (now nodes) ring)) ⌝ }
+    requires { ⌜ TermSlices (now conditions) (now weights) × Waits (marks (now sure) (now never) (queue (now nodes) ring)) ⌝ }
     ensures { λ r. ⌜ scanned (r .passed) (marks (now (sure .exit)) (now (never .exit)) (queue (now (nodes .exit)) (r .ring))) (r .step)
         ≡ forced (cutoff .value) (light cutoff) (drop from (terms (now (conditions .entry)) (now (weights .entry)))) (marks (now (sure .entry)) (now (never .entry)) (queue (now (nodes .entry)) ring)) ⌝ }
 {
@@ -320,4 +323,170 @@ fn forced_terms(
         at += 1;
     }
     so_far
+}
+
+// `threshold_terms` for true: a term heavier than possible - lower is needed.
+fn true_terms(
+    conditions: &[u16],
+    weights: &[u64],
+    state: State,
+    sure: &mut [u64],
+    never: &mut [u64],
+    nodes: &mut [u16],
+    ring: Ring,
+) -> Ran
+    requires { ⌜ TermSlices (now conditions) (now weights) × Figures state × Waits (marks (now sure) (now never) (queue (now nodes) ring)) ⌝ }
+    ensures { λ r. ⌜ ranOf (r .state) (marks (now (sure .exit)) (now (never .exit)) (queue (now (nodes .exit)) (r .ring))) (r .step)
+        ≡ trueTerms (terms (now (conditions .entry)) (now (weights .entry))) state (marks (now (sure .entry)) (now (never .entry)) (queue (now (nodes .entry)) ring)) ⌝ }
+{
+    let known = state.known;
+    let lower = state.lower;
+    let possible = state.possible;
+    if known >= lower {
+        return Ran {
+            state: state,
+            step: Step::Unchanged,
+            ring: ring,
+        };
+    }
+    let cutoff = Cutoff {
+        value: true,
+        weight: possible - lower,
+    };
+    let from = state.true_term;
+    let scan = forced_terms(conditions, weights, from, cutoff, sure, never, nodes, ring);
+    let moved = state.with_terms(from + scan.passed, state.false_term);
+    let step = scan.step;
+    let next = scan.ring;
+    Ran {
+        state: moved,
+        step: step,
+        ring: next,
+    }
+}
+
+// `threshold_terms` for false: a term of at least upper - known is too heavy.
+fn false_terms(
+    conditions: &[u16],
+    weights: &[u64],
+    state: State,
+    sure: &mut [u64],
+    never: &mut [u64],
+    nodes: &mut [u16],
+    ring: Ring,
+) -> Ran
+    requires { ⌜ TermSlices (now conditions) (now weights) × Figures state × Waits (marks (now sure) (now never) (queue (now nodes) ring)) ⌝ }
+    ensures { λ r. ⌜ ranOf (r .state) (marks (now (sure .exit)) (now (never .exit)) (queue (now (nodes .exit)) (r .ring))) (r .step)
+        ≡ falseTerms (terms (now (conditions .entry)) (now (weights .entry))) state (marks (now (sure .entry)) (now (never .entry)) (queue (now (nodes .entry)) ring)) ⌝ }
+{
+    let known = state.known;
+    let upper = state.upper;
+    match upper {
+        Upper::Open => Ran {
+            state: state,
+            step: Step::Unchanged,
+            ring: ring,
+        },
+        Upper::Under(limit) => {
+            let cutoff = Cutoff {
+                value: false,
+                weight: limit - known,
+            };
+            let from = state.false_term;
+            let scan = forced_terms(conditions, weights, from, cutoff, sure, never, nodes, ring);
+            let moved = state.with_terms(state.true_term, from + scan.passed);
+            let step = scan.step;
+            let next = scan.ring;
+            Ran {
+                state: moved,
+                step: step,
+                ring: next,
+            }
+        }
+    }
+}
+
+// Terms behind the guards: those that must be sure, then those that must not.
+fn row_terms(
+    conditions: &[u16],
+    weights: &[u64],
+    before: Ran,
+    sure: &mut [u64],
+    never: &mut [u64],
+    nodes: &mut [u16],
+) -> Ran
+    requires { ⌜ TermSlices (now conditions) (now weights) × Figures (before .state) × Waits (marks (now sure) (now never) (queue (now nodes) (before .ring))) ⌝ }
+    ensures { λ r. ⌜ ranOf (r .state) (marks (now (sure .exit)) (now (never .exit)) (queue (now (nodes .exit)) (r .ring))) (r .step)
+        ≡ rowTerms (terms (now (conditions .entry)) (now (weights .entry)))
+        (ranOf (before .state) (marks (now (sure .entry)) (now (never .entry)) (queue (now (nodes .entry)) (before .ring))) (before .step)) ⌝ }
+{
+    let start = before.state;
+    let ring = before.ring;
+    let first = true_terms(conditions, weights, start, sure, never, nodes, ring);
+    let step = first.step;
+    if step.contradicts() {
+        return first;
+    }
+    let state = first.state;
+    let next = first.ring;
+    let second = false_terms(conditions, weights, state, sure, never, nodes, next);
+    let guards = before.step;
+    let last = second.step;
+    let end = second.state;
+    let left = second.ring;
+    let both = guards.join(step);
+    let all = both.join(last);
+    Ran {
+        state: end,
+        step: all,
+        ring: left,
+    }
+}
+
+// `threshold_row`: a row in conflict contradicts; any other scans its guards, then its terms.
+pub fn threshold_row(
+    conditions: &[u16],
+    weights: &[u64],
+    bounds: &[i64],
+    names: &[u16],
+    state: State,
+    sure: &mut [u64],
+    never: &mut [u64],
+    nodes: &mut [u16],
+    ring: Ring,
+) -> Ran
+    requires { ⌜ TermSlices (now conditions) (now weights) × GuardSlices (now bounds) (now names) × Figures state × (state .«never_guard» ≤ length (now bounds)) × Waits (marks (now sure) (now never) (queue (now nodes) ring)) ⌝ }
+    ensures { λ r. ⌜ ((raw : List Term) → ranOf (r .state) (marks (now (sure .exit)) (now (never .exit)) (queue (now (nodes .exit)) (r .ring))) (r .step)
+        ≡ thresholdRow (rowOf raw (terms (now (conditions .entry)) (now (weights .entry))) (guards (now (bounds .entry)) (now (names .entry)))) state (marks (now (sure .entry)) (now (never .entry)) (queue (now (nodes .entry)) ring))) ⌝ }
+{
+    if state.conflict() {
+        return Ran {
+            state: state,
+            step: Step::Contradiction,
+            ring: ring,
+        };
+    }
+    let first = threshold_guards(bounds, names, state, sure, never, nodes, ring);
+    let step = first.step;
+    if step.contradicts() {
+        return first;
+    }
+    row_terms(conditions, weights, first, sure, never, nodes)
+}
+
+// A row in no conflict with a weight above 1 waits for a residual when both its limits cut.
+pub fn wants_residual(conditions: &[u16], weights: &[u64], state: State) -> bool
+    requires { ⌜ length (now conditions) ≡ length (now weights) ⌝ }
+    ensures { λ r. ⌜ ((raw : List Term) (gs : List Guard) → r ≡ wantsResidual (rowOf raw (terms (now (conditions .entry)) (now (weights .entry))) gs) state) ⌝ }
+{
+    if state.conflict() {
+        return false;
+    }
+    if weights.len() == 0 {
+        return false;
+    }
+    if weights[0] <= 1 {
+        return false;
+    }
+    state.has_residual_interval()
 }

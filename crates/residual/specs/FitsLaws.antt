@@ -1,10 +1,9 @@
 -- The scan for a fitting weight and another one beside it, one term a turn from the light end.
 use Prim.Native.Nat.{ℕ, _-_, _<_, _≤_}
-use mathlib.Core.Path.{_≡_, refl, sym, ap, _∙_}
-use mathlib.Core.Bool.{Bool, true, false, _&&_, _||_, not}
-use mathlib.Core.List.{List, [], _∷_, reverse}
+use mathlib.Core.Path.{_≡_, sym, ap, _∙_}
+use mathlib.Core.Bool.{Bool, true, false}
+use mathlib.Core.List.{List, _∷_, reverse}
 use lib.ListN.{length, getD}
-use lib.Dec.{leb, ltb}
 use Rattle.numeric.specs.Threshold.{Term, term}
 use Rattle.state.specs.declared.State.{State}
 use Rattle.state.specs.State.{hasResidualInterval}

@@ -1,29 +1,28 @@
--- Forcing one term after the other, from the heavy end: what a turn does to the marks and the answer, and the room it takes.
-use Prim.Native.Nat.{ℕ, suc, _+_, _-_, _%_, _<_, _≤_}
+-- Forcing one term after the other, from the heavy end: what a turn does to the marks and the answer, and that there is room for it.
+use Prim.Native.Nat.{ℕ, suc, _+_, _-_, _<_, _≤_}
 use native.Mathlib.Decide.{ℕ-discrete}
 use native.Mathlib.Omega.{arith}
-use mathlib.Core.Path.{_≡_, refl, sym, ap, _∙_}
+use mathlib.Core.Path.{_≡_, refl, sym, ap, _∙_, subst}
 use mathlib.Core.Bool.{Bool, true, false}
-use mathlib.Core.List.{List, [], _∷_, _++_, reverse}
+use mathlib.Core.List.{List, [], _∷_, reverse}
 use mathlib.Core.Logic.{_≢_}
 use native.Mathlib.Numerals.{add-one}
-use lib.ListN.{length, getD, set, drop, length-set, length-drop, length-reverse, drop-of-length-le, List·getD-append}
+use lib.ListN.{length, getD, drop, length-drop, length-reverse, drop-of-length-le, List·getD-append}
 use borrow.Author.Tests.{eq-eqb, ne-eqb}
-use lib.Dec.{eqb}
 use Rattle.numeric.specs.Threshold.{Term, term, terms}
 use Rattle.numeric.specs.TermsLaws.{up-terms, length-terms}
 use Rattle.state.specs.declared.Step.{Step}
 use Rattle.state.specs.declared.Step.the-variants.{Unchanged, Changed, Contradiction}
 use Rattle.state.specs.declared.State.{State}
 use Rattle.state.specs.Step.{joined, contradicts}
-use Rattle.words.specs.Mask.{learn}
 use Rattle.queues.specs.declared.Ring.{Ring}
-use Rattle.queues.specs.Queue.{Queue, queue, push}
-use Rattle.queues.specs.Marks.{Marks, marks, isDecided, Decided, decided, decide, waiting}
+use Rattle.queues.specs.Queue.{queue}
+use Rattle.queues.specs.MarksLaws.{Waits, waits-decide}
+use Rattle.queues.specs.Marks.{Marks, marks, isDecided, Decided, decided, decide}
 use Rattle.residual.specs.declared.Interval.{Interval}
-use Rattle.residual.specs.Gcd.{gcd, branchMisses}
+use Rattle.residual.specs.Gcd.{gcd}
 use Rattle.residual.specs.MissesLaws.{clash}
-use Rattle.residual.specs.Shape.{Room}
+use Rattle.residual.specs.Shape.{Below}
 use Rattle.residual.specs.SuffixLaws.{length-suffix}
 use Rattle.residual.specs.Residual.{
   interval,
@@ -33,6 +32,7 @@ use Rattle.residual.specs.Residual.{
   onMisses,
   forceTerm,
   forceFrom,
+  Residual,
   residual,
   over,
   nothingForced,
@@ -61,30 +61,6 @@ module _ (i : Interval) (m : Marks) (t : Term) (divisor : ℕ) where
     unfolding forceTerm
     force-free f g = rw (ne-eqb divisor 1 n, f, g, forceTerm)
 
--- The same queue, with at most one entry more.
-pub record Grows (q r : Queue) : Type 0 where
-  pub head : r .ring .head ≡ q .ring .head
-  pub count : r .ring .count ≤ q .ring .count + 1
-  pub long : length (r .items) ≡ length (q .items)
-
-grows-not : (q : Queue) → Grows q q
-grows-not q = record { head = refl; count = omega arith; long = refl }
-
-grows-waiting : (s : Step) (q : Queue) (n : ℕ) → Grows q (waiting s q n)
-unfolding push
-grows-waiting Unchanged q n = grows-not q
-grows-waiting Changed q n = record {
-  head = refl;
-  count = omega arith;
-  long = length-set (q .items) ((q .ring .head + q .ring .count) % 4096) n;
-}
-grows-waiting Contradiction q n = grows-not q
-
-grows-decide : (v : Bool) (m : Marks) (n : ℕ) → Grows (m .nodes) (decide v m n .marks .nodes)
-unfolding decide
-grows-decide true m n = grows-waiting (learn (m .sure) (m .never) n .step) (m .nodes) n
-grows-decide false m n = grows-waiting (learn (m .never) (m .sure) n .step) (m .nodes) n
-
 -- What holds of each of the four ways to force a term holds of the way taken.
 pub force-cases : (P : Decided → Type 0) (i : Interval) (m : Marks) (t : Term) (divisor : ℕ) → P (decided m Unchanged)
     → (offMisses i (t .weight) divisor ≡ true → onMisses i (t .weight) divisor ≡ true → P (decided m Contradiction))
@@ -101,24 +77,11 @@ force-cases P i m t divisor rest none sure never =
     by (no n) false f true g = rw (force-never i m t divisor n f g) (never g)
     by (no n) false f false g = rw (force-free i m t divisor n f g) rest
 
-pub grows-force : (i : Interval) (m : Marks) (t : Term) (divisor : ℕ) → Grows (m .nodes) (forceTerm i m t divisor .marks .nodes)
-grows-force i m t divisor =
-    force-cases (λ (x : Decided). Grows (m .nodes) (x .marks .nodes)) i m t divisor (grows-not (m .nodes)) (λ f g. grows-not (m .nodes))
-    (λ f. grows-decide true m (t .condition)) (λ g. grows-decide false m (t .condition))
-
--- Room for the terms that are left stays, with a term that adds nothing and with one that does.
-pub room-less : (q : Queue) (n k : ℕ) → k ≤ n → Room n q → Room k q
-room-less q n k h r = record { held = r .held; enough = omega (arith, r .enough) }
-
-pub room-next : (q r : Queue) (n k : ℕ) → n ≡ suc k → Grows q r → Room n q → Room k r
-room-next q r n k e g h = record {
-  held = record {
-    head = omega (arith, g .head, h .held .head);
-    count = omega (arith, g .count, h .enough);
-    long = omega (arith, g .long, h .held .long);
-  };
-  enough = omega (arith, g .count, h .enough);
-}
+-- Forcing a term keeps that each node waits at most once.
+pub waits-force : (i : Interval) (m : Marks) (t : Term) (divisor : ℕ) → t .condition < 4096 → Waits m → Waits (forceTerm i m t divisor .marks)
+waits-force i m t divisor h w =
+    force-cases (λ (x : Decided). Waits (x .marks)) i m t divisor w (λ f g. w) (λ f. waits-decide m w true (t .condition) h)
+    (λ g. waits-decide m w false (t .condition) h)
 
 module _ (i : Interval) (suf : List ℕ) (t : Term) (ts : List Term) (prefix : ℕ) (m : Marks) (step : Step) where
   pub from-skip : isDecided m (t .condition) ≡ true → forceFrom i suf (t ∷ ts) prefix m step ≡ forceFrom i suf ts prefix m step
@@ -172,11 +135,11 @@ module _ (i : Interval) (suf cs ws : List ℕ) (p prefix : ℕ) (m : Marks) (ste
     (same : length cs ≡ length ws) (h : isDecided m (getD cs p 0) ≡ false) (divisor : ℕ) (v : divisor ≡ gcd prefix (getD suf (length ws - p - 1) 0))
     (s n l : List ℕ) (r r′ : Ring) (k k′ : Step) (e : decided (marks s n (queue l r)) k ≡ forceTerm i m (term (getD cs p 0) (getD ws p 0)) divisor)
     (a : r′ ≡ r) (j : k′ ≡ joined step k) where
-  pub turn-grows : Grows (m .nodes) (queue l r′)
-  turn-grows =
-      let y : queue l r′ ≡ forceTerm i m (term (getD cs p 0) (getD ws p 0)) divisor .marks .nodes
-      = ap (queue l) a ∙ ap (λ (d : Decided). d .marks .nodes) e in
-      rw y (grows-force i m (term (getD cs p 0) (getD ws p 0)) divisor)
+  pub turn-waits : getD cs p 0 < 4096 → Waits m → Waits (marks s n (queue l r′))
+  turn-waits b w =
+      let y : marks s n (queue l r′) ≡ forceTerm i m (term (getD cs p 0) (getD ws p 0)) divisor .marks
+      = ap (λ (x : Ring). marks s n (queue l x)) a ∙ ap (λ (d : Decided). d .marks) e in
+      rw y (waits-force i m (term (getD cs p 0) (getD ws p 0)) divisor b w)
 
   pub turn-stops : contradicts k ≡ true → decided (marks s n (queue l r′)) k′ ≡ forceFrom i suf (drop p (terms cs ws)) prefix m step
   turn-stops u =
@@ -253,3 +216,49 @@ module _ (ts : List Term) (s : State) (m : Marks) (gcds : List ℕ) where
         ∙ ap (λ (x : Decided). residual (x .marks) (x .step) (over (suffixes (isDecided m) ts) gcds))
         (f ∙ ap (λ (y : List ℕ). forceFrom (interval s) y ts 0 m Unchanged) e ∙ w)
         ∙ rw (h, k, thresholdResidual)
+
+-- Nodes wait at most once after it, too.
+abbrev pub Inside : List Term → Type 0
+Inside [] = Unit {0}
+Inside (t ∷ ts) = (t .condition < 4096) × Inside ts
+
+pub inside-terms : (cs ws : List ℕ) → Below 4096 cs → Inside (terms cs ws)
+unfolding terms
+inside-terms [] ws h = tt
+inside-terms (c ∷ cs) [] h = tt
+inside-terms (c ∷ cs) (w ∷ ws) h = (h 0 (omega arith), inside-terms cs ws (λ (i : ℕ) (k : i < length cs). h (suc i) (omega arith)))
+
+waits-from : (i : Interval) (suf : List ℕ) (ts : List Term) (prefix : ℕ) (m : Marks) (step : Step) → Inside ts → Waits m
+    → Waits (forceFrom i suf ts prefix m step .marks)
+unfolding forceFrom
+waits-from i suf [] prefix m step h w = w
+waits-from i suf (t ∷ ts) prefix m step h w =
+    by (λ (p : ℕ) (n : Marks) (s : Step) (v : Waits n). waits-from i suf ts p n s (h .1) v) (isDecided m (t .condition)) refl
+  where
+    d : Decided
+    d = forceTerm i m t (gcd prefix (getD suf (length ts) 0))
+
+    after : Waits (d .marks)
+    after = waits-force i m t (gcd prefix (getD suf (length ts) 0)) (h .0) w
+
+    turn : ((p : ℕ) (n : Marks) (s : Step) → Waits n → Waits (forceFrom i suf ts p n s .marks)) → isDecided m (t .condition) ≡ false
+        → (b : Bool) → contradicts (d .step) ≡ b → Waits (forceFrom i suf (t ∷ ts) prefix m step .marks)
+    turn ih e true k = rw (from-stop i suf t ts prefix m step e d refl k) after
+    turn ih e false k = rw (from-more i suf t ts prefix m step e d refl k) (ih (gcd prefix (t .weight)) (d .marks) (joined step (d .step)) after)
+
+    by : ((p : ℕ) (n : Marks) (s : Step) → Waits n → Waits (forceFrom i suf ts p n s .marks)) → (u : Bool) → isDecided m (t .condition) ≡ u
+        → Waits (forceFrom i suf (t ∷ ts) prefix m step .marks)
+    by ih true e = rw (from-skip i suf t ts prefix m step e) (ih prefix m step w)
+    by ih false e = turn ih e (contradicts (d .step)) refl
+
+pub waits-residual : (ts : List Term) (s : State) (m : Marks) (gcds : List ℕ) → Inside ts → Waits m → Waits (thresholdResidual ts s m gcds .marks)
+waits-residual ts s m gcds h w = by (contradicts (residualCheck ts s (isDecided m))) refl (nothingForced ts s (isDecided m)) refl
+  where
+    by : (c : Bool) → contradicts (residualCheck ts s (isDecided m)) ≡ c → (n : Bool) → nothingForced ts s (isDecided m) ≡ n
+        → Waits (thresholdResidual ts s m gcds .marks)
+    by true c n q = rw (residual-none ts s m gcds c) w
+    by false c true q = rw (residual-rest ts s m gcds c q) w
+    by false c false q =
+        subst (λ (r : Residual). Waits (r .marks))
+        (residual-forced ts s m gcds c q (forceFrom (interval s) (over (suffixes (isDecided m) ts) gcds) ts 0 m Unchanged) (over (suffixes (isDecided m) ts) gcds) refl refl)
+        (waits-from (interval s) (over (suffixes (isDecided m) ts) gcds) ts 0 m Unchanged h w)

@@ -1,9 +1,9 @@
 -- A figure as a natural number, and the window that a state's interval gives where the check reaches the terms.
-use Prim.Native.Nat.{ℕ, zero, suc, _-_, _^_, _<_, _≤_, min}
+use Prim.Native.Nat.{_-_, _^_, _<_, _≤_}
 use native.Mathlib.Omega.{arith}
-use mathlib.Core.Path.{_≡_, refl, sym, ap, _∙_}
-use mathlib.Core.Bool.{Bool, true, false, cond, _&&_}
-use lib.Dec.{T, leb}
+use mathlib.Core.Path.{_≡_, refl, sym}
+use mathlib.Core.Bool.{Bool, true, false, _&&_}
+use lib.Dec.{T}
 use lib.IntN.{ℤ, pos, negsuc, natAbs}
 use lib.Signed.{nonNeg, leZ, ltZ}
 use borrow.Author.Tests.{ltb-true, leb-true}

@@ -1,20 +1,19 @@
 -- What a residual shows holds of every choice of the undecided weights: a contradiction is given only if no sum is allowed,
 -- and a term is forced only if every allowed sum has it so.
-use Prim.Native.Nat.{ℕ, zero, suc, _+_, _-_, _<_, _≤_, _∣_, min}
-use native.Mathlib.Nat.{dvd-zero, dvd-add, dvd-trans, eq-zero-of-zero-dvd}
+use Prim.Native.Nat.{ℕ, _+_, _-_, _≤_, _∣_, min}
+use native.Mathlib.Nat.{dvd-zero, dvd-add, dvd-trans}
 use native.Mathlib.Decide.{ℕ-discrete}
 use native.Mathlib.Omega.{arith}
 use mathlib.Core.Path.{_≡_, refl, sym, ap, _∙_, subst}
-use mathlib.Core.Bool.{Bool, true, false, cond, _&&_, _||_, not}
+use mathlib.Core.Bool.{Bool, true, false, _&&_, _||_, not}
 use mathlib.Core.Logic.{_≢_}
 use mathlib.Core.List.{List, [], _∷_, reverse}
 use lib.Dec.{eqb, leb}
-use lib.IntN.{ℤ, pos, negsuc}
+use lib.IntN.{ℤ, pos}
 use lib.Signed.{leZ, ltZ}
-use borrow.Author.Tests.{eq-eqb, ne-eqb, eqb-true, le-leb, not-true}
-use Rattle.number.specs.Signed.{natural, leZ-trans, ltZ-nle, max-least, nle-ltZ}
+use borrow.Author.Tests.{ne-eqb, le-leb}
+use Rattle.number.specs.Signed.{natural, leZ-trans, ltZ-nle, max-least}
 use Rattle.numeric.specs.Threshold.{Term}
-use Rattle.state.specs.declared.Step.{Step}
 use Rattle.state.specs.declared.Step.the-variants.{Unchanged, Contradiction}
 use Rattle.state.specs.declared.Upper.{Upper}
 use Rattle.state.specs.declared.Upper.the-variants.{Open, Under}
@@ -28,7 +27,7 @@ use Rattle.residual.specs.GcdLaws.{chosen, gcd-left, gcd-right}
 use Rattle.residual.specs.MissesLaws.{clash, misses-sum, branch-sum}
 use Rattle.residual.specs.Residual.{interval, stopsAt, checkFrom, residualCheck, offMisses, onMisses}
 use Rattle.residual.specs.Shape.{Window}
-use Rattle.residual.specs.IntervalLaws.{natural-mono, natural-last, both-left, both-right, limit-above, window}
+use Rattle.residual.specs.IntervalLaws.{natural-mono, natural-last, both-right, limit-above, window}
 use Rattle.residual.specs.CheckLaws.{check-skip, check-stop, check-more, check-unit, check-wide, check-terms, check-end-hits}
 use Rattle.residual.specs.Sums.{
   openWeights,

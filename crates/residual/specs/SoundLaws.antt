@@ -1,6 +1,6 @@
 -- Forcing is sound: a layout that agrees with the decided nodes, and whose sum of the row is allowed, agrees with every node
 -- that a residual decides, and then there is no contradiction.
-use Prim.Native.Nat.{ℕ, zero, suc, _+_, _-_, _<_, _≤_, _∣_}
+use Prim.Native.Nat.{ℕ, _+_, _-_, _≤_, _∣_}
 use native.Mathlib.Nat.{dvd-refl, dvd-zero, dvd-add, dvd-trans}
 use native.Mathlib.Decide.{ℕ-discrete}
 use native.Mathlib.Omega.{arith}
@@ -9,9 +9,9 @@ use mathlib.Core.Bool.{Bool, true, false, cond, _&&_, _||_, not}
 use mathlib.Core.Logic.{_≢_}
 use mathlib.Core.List.{List, [], _∷_, _++_, reverse, reverse-append, append-assoc}
 use lib.ListN.{length, getD, length-reverse}
-use lib.IntN.{ℤ, pos}
+use lib.IntN.{pos}
 use lib.Signed.{leZ, ltZ}
-use borrow.Author.Tests.{le-leb, not-true, not-false}
+use borrow.Author.Tests.{le-leb}
 use Rattle.number.specs.Signed.{natural}
 use Rattle.numeric.specs.Threshold.{Term}
 use Rattle.state.specs.declared.Step.{Step}
@@ -20,31 +20,16 @@ use Rattle.state.specs.declared.State.{State}
 use Rattle.state.specs.Step.{joined, contradicts}
 use Rattle.state.specs.State.{limit, upperAtMost, hasResidualInterval}
 use Rattle.words.specs.Mask.{bit}
-use Rattle.queues.specs.Marks.{Marks, isDecided, Decided, decided, decide}
-use Rattle.queues.specs.MarksLaws.{mask, decide-there, decide-clash, decide-new, decide-other, decide-opposite}
+use Rattle.queues.specs.Marks.{Marks, isDecided, Decided, decide}
+use Rattle.queues.specs.MarksLaws.{mask, decide-there, decide-new, decide-other, decide-opposite}
 use Rattle.thresholds.specs.Rows.{hasNonunit}
 use Rattle.residual.specs.declared.Interval.{Interval}
 use Rattle.residual.specs.Gcd.{gcd}
 use Rattle.residual.specs.GcdLaws.{chosen, gcd-left, gcd-right}
 use Rattle.residual.specs.MissesLaws.{clash, branch-sum}
-use Rattle.residual.specs.Residual.{
-  interval,
-  residualCheck,
-  fitsFrom,
-  suffixFrom,
-  suffixes,
-  offMisses,
-  onMisses,
-  forceTerm,
-  forceFrom,
-  Residual,
-  residual,
-  over,
-  nothingForced,
-  thresholdResidual,
-}
-use Rattle.residual.specs.IntervalLaws.{natural-mono, natural-last, both-left, both-right, limit-above}
-use Rattle.residual.specs.ForceLaws.{force-cases, from-skip, from-more, force-over, residual-none, residual-rest, residual-forced}
+use Rattle.residual.specs.Residual.{interval, residualCheck, fitsFrom, suffixFrom, suffixes, offMisses, onMisses, forceTerm, forceFrom, Residual, over, nothingForced, thresholdResidual}
+use Rattle.residual.specs.IntervalLaws.{natural-mono, natural-last, both-right, limit-above}
+use Rattle.residual.specs.ForceLaws.{force-cases, from-skip, from-more, force-over, residual-rest, residual-forced}
 use Rattle.residual.specs.SuffixLaws.{length-suffix}
 use Rattle.residual.specs.Sums.{
   openWeights,

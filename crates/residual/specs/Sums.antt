@@ -1,13 +1,11 @@
 -- Sums of some of the undecided weights of a row: as choices of a list of weights, and as a layout makes them.
-use Prim.Native.Nat.{ℕ, zero, suc, _+_, _≤_, _∣_}
+use Prim.Native.Nat.{ℕ, _+_, _≤_, _∣_}
 use native.Mathlib.Nat.{dvd-zero, dvd-add, dvd-trans}
 use native.Mathlib.Omega.{arith}
 use mathlib.Core.Path.{_≡_, refl, sym, ap, _∙_, subst}
 use mathlib.Core.Bool.{Bool, true, false, cond}
 use mathlib.Core.List.{List, [], _∷_, _++_, reverse, reverse-cons, reverse-reverse, append-nil}
-use lib.ListN.{length}
 use Rattle.numeric.specs.Threshold.{Term}
-use Rattle.residual.specs.Gcd.{gcd}
 use Rattle.residual.specs.GcdLaws.{chosen, gcdAll, gcd-left, gcd-right}
 
 -- The weights of the undecided terms, and what a layout chooses of them.

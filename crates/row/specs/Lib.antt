@@ -1,3 +1,5 @@
 pub mod Terms
 pub mod TermsLaws
 pub mod SumLaws
+pub mod Keys
+pub mod KeysLaws

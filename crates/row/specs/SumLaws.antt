@@ -27,7 +27,7 @@ share-more v c a b = by (v c)
     by true = refl
     by false = refl
 
-share-zero : (v : ℕ → Bool) (t : Term) → t .weight ≡ 0 → share v t ≡ 0
+pub share-zero : (v : ℕ → Bool) (t : Term) → t .weight ≡ 0 → share v t ≡ 0
 share-zero v t e = by (v (t .condition))
   where
     by : (x : Bool) → cond x (t .weight) 0 ≡ 0

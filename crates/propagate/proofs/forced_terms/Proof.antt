@@ -28,7 +28,7 @@ abbrev μ-loop : tie.MeasureT-loop
 μ-loop conditions weights from cutoff sure₀ never₀ nodes₀ value at₀ so-far₀ sure never nodes at so-far = length weights - at
 
 loop-holds : tie.Need-loop-holds Inv-loop μ-loop
-loop-holds c = (omega arith, omega arith, refl, refl, refl, c .before .before .before .before .before .pre .3, refl)
+loop-holds c = (omega arith, omega arith, refl, refl, refl, c .before .before .before .before .before .pre .1, refl)
 
 mul-weight : tie.Need-mul-weight Inv-loop μ-loop
 mul-weight c = omega arith
@@ -43,14 +43,14 @@ shared-slice-read-node : tie.Need-shared-slice-read-node Inv-loop μ-loop
 shared-slice-read-node c = omega arith
 
 waits-requires : tie.Need-waits-requires Inv-loop μ-loop
-waits-requires c κs = c .before .before .before .before .before .before .before .before .before .pre .2 (c .before .before .before .loop .at) (omega arith)
+waits-requires c κs = c .before .before .before .before .before .before .before .before .before .pre .0 .light (c .before .before .before .loop .at) (omega arith)
 
 term-turn-requires : tie.Need-term-turn-requires Inv-loop μ-loop
 term-turn-requires c κs =
     let p = c .before .before .before .before .before .before .before .before .before .before .before .before .before .pre in
     let w = c .before .before .before .before .before .before .before .loop in
     let t = c .before .before .before .before .before .before .loop-test .taken in
-    (w .inv .5, p .1 (w .at) (omega arith), omega arith)
+    (w .inv .5, p .0 .below (w .at) (omega arith), omega arith)
 
 same-length : tie.Need-same-length Inv-loop μ-loop
 same-length c = c .before .before .before .before .before .before .before .before .term-turn .kept .1 .1 .1 .0 ∙ c .before .before .before .before .before .before .before .before .before .before .before .before .before .before .before .before .loop .inv .2
@@ -67,7 +67,7 @@ returns c =
     let w = c .before .before .before .before .before .before .before .before .before .before .before .before .before .before .before .before .loop in
     let t = c .before .before .before .before .before .before .before .before .term-turn in
     let test = c .before .before .before .before .before .before .before .before .before .before .before .before .before .before .before .loop-test .taken in
-    let same = c .before .before .before .before .before .before .before .before .before .before .before .before .before .before .before .before .before .before .before .before .before .before .pre .0 in
+    let same = c .before .before .before .before .before .before .before .before .before .before .before .before .before .before .before .before .before .before .before .before .before .before .pre .0 .same in
     let b = g .weights .now in
     let n = g .conditions .now in
     let m = marks (w .sure) (w .never) (queue (w .nodes) (w .so-far .ring)) in
@@ -91,7 +91,7 @@ loop-again c =
     let w = c .before .before .before .before .before .before .before .before .before .before .before .before .before .before .before .before .loop in
     let t = c .before .before .before .before .before .before .before .before .term-turn in
     let test = c .before .before .before .before .before .before .before .before .before .before .before .before .before .before .before .loop-test .taken in
-    let same = c .before .before .before .before .before .before .before .before .before .before .before .before .before .before .before .before .before .before .before .before .before .before .pre .0 in
+    let same = c .before .before .before .before .before .before .before .before .before .before .before .before .before .before .before .before .before .before .before .before .before .before .pre .0 .same in
     let b = g .weights .now in
     let n = g .conditions .now in
     let m = marks (w .sure) (w .never) (queue (w .nodes) (w .so-far .ring)) in
@@ -107,7 +107,7 @@ loop-again c =
       t .kept .1 .1 .1 .1 .0 ∙ w .inv .3,
       t .kept .1 .1 .1 .1 .1 .0 ∙ w .inv .4,
       place-keeps (termWaits (light (g .cutoff))) (forces (g .cutoff .value)) (drop (w .at) (terms n b)) x (drop (w .at + 1) (terms n b)) here (w .so-far .passed) m (w .so-far .step)
-          (not (isDecided m (getD n (w .at) 0)) && c .before .before .before .before .before .before .before .before .before .before .before .before .waits .result) v d (t .ensures) Waits (w .inv .5) (force-keeps (g .cutoff .value) m (getD n (w .at) 0) (c .before .before .before .before .before .before .before .before .before .before .before .before .before .before .before .before .before .before .before .before .before .before .pre .1 (w .at) (omega arith)) (w .inv .5)),
+          (not (isDecided m (getD n (w .at) 0)) && c .before .before .before .before .before .before .before .before .before .before .before .before .waits .result) v d (t .ensures) Waits (w .inv .5) (force-keeps (g .cutoff .value) m (getD n (w .at) 0) (c .before .before .before .before .before .before .before .before .before .before .before .before .before .before .before .before .before .before .before .before .before .before .pre .0 .below (w .at) (omega arith)) (w .inv .5)),
       place-goes (termWaits (light (g .cutoff))) (forces (g .cutoff .value)) (drop (w .at) (terms n b)) x (drop (w .at + 1) (terms n b)) here (w .so-far .passed) m (w .so-far .step)
           (not (isDecided m (getD n (w .at) 0)) && c .before .before .before .before .before .before .before .before .before .before .before .before .waits .result) v d (t .ensures) (c .if1 .left)
           ∙ w .inv .6,

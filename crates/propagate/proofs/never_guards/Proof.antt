@@ -31,7 +31,7 @@ abbrev μ-loop : tie.MeasureT-loop
 μ-loop bounds names state sure₀ never₀ nodes₀ at₀ so-far₀ sure never nodes at so-far = at
 
 loop-holds : tie.Need-loop-holds Inv-loop μ-loop
-loop-holds c = (omega arith, omega arith, refl, refl, refl, c .before .before .before .before .pre .3, refl)
+loop-holds c = (omega arith, omega arith, refl, refl, refl, c .before .before .before .before .pre .2, refl)
 
 sub-bound : tie.Need-sub-bound Inv-loop μ-loop
 sub-bound c = omega arith
@@ -59,7 +59,7 @@ guard-turn-requires c κs =
     let p = c .before .before .before .before .before .before .before .before .before .before .before .before .pre in
     let w = c .before .before .before .before .before .before .before .loop in
     let t = c .before .before .before .before .before .before .loop-test .taken in
-    (w .inv .5, p .1 (w .at - 1) (omega arith), omega arith)
+    (w .inv .5, p .0 .below (w .at - 1) (omega arith), omega arith)
 
 same-length : tie.Need-same-length Inv-loop μ-loop
 same-length c = c .before .before .before .before .before .before .before .before .guard-turn .kept .1 .1 .1 .0 ∙ c .before .before .before .before .before .before .before .before .before .before .before .before .before .before .before .before .loop .inv .2
@@ -76,8 +76,8 @@ returns c =
     let w = c .before .before .before .before .before .before .before .before .before .before .before .before .before .before .before .before .loop in
     let t = c .before .before .before .before .before .before .before .before .guard-turn in
     let test = c .before .before .before .before .before .before .before .before .before .before .before .before .before .before .before .loop-test .taken in
-    let same = c .before .before .before .before .before .before .before .before .before .before .before .before .before .before .before .before .before .before .before .before .before .pre .0 in
-    let room = c .before .before .before .before .before .before .before .before .before .before .before .before .before .before .before .before .before .before .before .before .before .pre .2 in
+    let same = c .before .before .before .before .before .before .before .before .before .before .before .before .before .before .before .before .before .before .before .before .before .pre .0 .same in
+    let room = c .before .before .before .before .before .before .before .before .before .before .before .before .before .before .before .before .before .before .before .before .before .pre .1 in
     let b = g .bounds .now in
     let n = g .names .now in
     let m = marks (w .sure) (w .never) (queue (w .nodes) (w .so-far .ring)) in
@@ -102,8 +102,8 @@ loop-again c =
     let w = c .before .before .before .before .before .before .before .before .before .before .before .before .before .before .before .before .loop in
     let t = c .before .before .before .before .before .before .before .before .guard-turn in
     let test = c .before .before .before .before .before .before .before .before .before .before .before .before .before .before .before .loop-test .taken in
-    let same = c .before .before .before .before .before .before .before .before .before .before .before .before .before .before .before .before .before .before .before .before .before .pre .0 in
-    let room = c .before .before .before .before .before .before .before .before .before .before .before .before .before .before .before .before .before .before .before .before .before .pre .2 in
+    let same = c .before .before .before .before .before .before .before .before .before .before .before .before .before .before .before .before .before .before .before .before .before .pre .0 .same in
+    let room = c .before .before .before .before .before .before .before .before .before .before .before .before .before .before .before .before .before .before .before .before .before .pre .1 in
     let b = g .bounds .now in
     let n = g .names .now in
     let m = marks (w .sure) (w .never) (queue (w .nodes) (w .so-far .ring)) in
@@ -120,7 +120,7 @@ loop-again c =
       t .kept .1 .1 .1 .1 .0 ∙ w .inv .3,
       t .kept .1 .1 .1 .1 .1 .0 ∙ w .inv .4,
       place-keeps (neverWaits (g .state)) (decides false) (reverse (take (w .at) (guards b n))) x (reverse (take (w .at - 1) (guards b n))) here (w .so-far .passed) m (w .so-far .step)
-          (c .before .before .before .before .before .before .before .before .before .before .before .before .never-waits .result) v d (t .ensures) Waits (w .inv .5) (waits-decide m (w .inv .5) false (getD n (w .at - 1) 0) (c .before .before .before .before .before .before .before .before .before .before .before .before .before .before .before .before .before .before .before .before .before .pre .1 (w .at - 1) (omega arith))),
+          (c .before .before .before .before .before .before .before .before .before .before .before .before .never-waits .result) v d (t .ensures) Waits (w .inv .5) (waits-decide m (w .inv .5) false (getD n (w .at - 1) 0) (c .before .before .before .before .before .before .before .before .before .before .before .before .before .before .before .before .before .before .before .before .before .pre .0 .below (w .at - 1) (omega arith))),
       place-goes (neverWaits (g .state)) (decides false) (reverse (take (w .at) (guards b n))) x (reverse (take (w .at - 1) (guards b n))) here (w .so-far .passed) m (w .so-far .step)
           (c .before .before .before .before .before .before .before .before .before .before .before .before .never-waits .result) v d (t .ensures) (c .if1 .left)
           ∙ w .inv .6,

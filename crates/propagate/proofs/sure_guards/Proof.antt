@@ -31,7 +31,7 @@ abbrev μ-loop : tie.MeasureT-loop
 μ-loop bounds names state sure₀ never₀ nodes₀ at₀ so-far₀ sure never nodes at so-far = length bounds - at
 
 loop-holds : tie.Need-loop-holds Inv-loop μ-loop
-loop-holds c = (omega arith, omega arith, refl, refl, refl, c .before .before .before .before .pre .2, refl)
+loop-holds c = (omega arith, omega arith, refl, refl, refl, c .before .before .before .before .pre .1, refl)
 
 mul-bound : tie.Need-mul-bound Inv-loop μ-loop
 mul-bound c = omega arith
@@ -53,7 +53,7 @@ guard-turn-requires c κs =
     let p = c .before .before .before .before .before .before .before .before .before .before .before .before .pre in
     let w = c .before .before .before .before .before .before .before .loop in
     let t = c .before .before .before .before .before .before .loop-test .taken in
-    (w .inv .5, p .1 (w .at) (omega arith), omega arith)
+    (w .inv .5, p .0 .below (w .at) (omega arith), omega arith)
 
 same-length : tie.Need-same-length Inv-loop μ-loop
 same-length c = c .before .before .before .before .before .before .before .before .guard-turn .kept .1 .1 .1 .0 ∙ c .before .before .before .before .before .before .before .before .before .before .before .before .before .before .before .before .loop .inv .2
@@ -70,7 +70,7 @@ returns c =
     let w = c .before .before .before .before .before .before .before .before .before .before .before .before .before .before .before .before .loop in
     let t = c .before .before .before .before .before .before .before .before .guard-turn in
     let test = c .before .before .before .before .before .before .before .before .before .before .before .before .before .before .before .loop-test .taken in
-    let same = c .before .before .before .before .before .before .before .before .before .before .before .before .before .before .before .before .before .before .before .before .before .pre .0 in
+    let same = c .before .before .before .before .before .before .before .before .before .before .before .before .before .before .before .before .before .before .before .before .before .pre .0 .same in
     let b = g .bounds .now in
     let n = g .names .now in
     let m = marks (w .sure) (w .never) (queue (w .nodes) (w .so-far .ring)) in
@@ -95,7 +95,7 @@ loop-again c =
     let w = c .before .before .before .before .before .before .before .before .before .before .before .before .before .before .before .before .loop in
     let t = c .before .before .before .before .before .before .before .before .guard-turn in
     let test = c .before .before .before .before .before .before .before .before .before .before .before .before .before .before .before .loop-test .taken in
-    let same = c .before .before .before .before .before .before .before .before .before .before .before .before .before .before .before .before .before .before .before .before .before .pre .0 in
+    let same = c .before .before .before .before .before .before .before .before .before .before .before .before .before .before .before .before .before .before .before .before .before .pre .0 .same in
     let b = g .bounds .now in
     let n = g .names .now in
     let m = marks (w .sure) (w .never) (queue (w .nodes) (w .so-far .ring)) in
@@ -112,7 +112,7 @@ loop-again c =
       t .kept .1 .1 .1 .1 .0 ∙ w .inv .3,
       t .kept .1 .1 .1 .1 .1 .0 ∙ w .inv .4,
       place-keeps (sureWaits (g .state)) (decides true) (drop (w .at) (guards b n)) x (drop (w .at + 1) (guards b n)) here (w .so-far .passed) m (w .so-far .step)
-          (c .before .before .before .before .before .before .before .before .before .before .before .before .sure-waits .result) v d (t .ensures) Waits (w .inv .5) (waits-decide m (w .inv .5) true (getD n (w .at) 0) (c .before .before .before .before .before .before .before .before .before .before .before .before .before .before .before .before .before .before .before .before .before .pre .1 (w .at) (omega arith))),
+          (c .before .before .before .before .before .before .before .before .before .before .before .before .sure-waits .result) v d (t .ensures) Waits (w .inv .5) (waits-decide m (w .inv .5) true (getD n (w .at) 0) (c .before .before .before .before .before .before .before .before .before .before .before .before .before .before .before .before .before .before .before .before .before .pre .0 .below (w .at) (omega arith))),
       place-goes (sureWaits (g .state)) (decides true) (drop (w .at) (guards b n)) x (drop (w .at + 1) (guards b n)) here (w .so-far .passed) m (w .so-far .step)
           (c .before .before .before .before .before .before .before .before .before .before .before .before .sure-waits .result) v d (t .ensures) (c .if1 .left)
           ∙ w .inv .6,

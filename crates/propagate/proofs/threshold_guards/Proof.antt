@@ -14,7 +14,7 @@ use Rattle.propagate.proofs.threshold_guards.Statement.{statement}
 use Rattle.propagate.proofs.threshold_guards.Tie as tie
 
 sure-guards-requires : tie.Need-sure-guards-requires
-sure-guards-requires c κs = let p = c .before .before .before .before .before .before .before .pre in (p .0, p .1, p .3)
+sure-guards-requires c κs = let p = c .before .before .before .before .before .before .before .pre in (p .0, p .2)
 
 add-up : tie.Need-add-up
 add-up c =
@@ -55,7 +55,7 @@ never-guards-requires c κs =
     let gs = guards (a .bounds .now) (a .names .now) in
     let m = marks (a .sure .now) (a .never .now) (queue (a .nodes .now) (a .ring)) in
     let e : marks (f .last .1 .1 .1 .0) (f .last .1 .1 .1 .1 .0) (queue (f .last .1 .1 .1 .1 .1 .0) (f .result .ring)) ≡ _ = ap (λ (x : Scanned). x .marks) (f .ensures) in
-    (p .0, p .1, p .2, rw e (sure-keeps gs (a .state) m (all-guards (a .bounds .now) (a .names .now) (p .1)) (p .3)))
+    (p .0, p .1, rw e (sure-keeps gs (a .state) m (all-guards (a .bounds .now) (a .names .now) (p .0 .below)) (p .2)))
 
 sub-with-guards : tie.Need-sub-with-guards
 sub-with-guards c =

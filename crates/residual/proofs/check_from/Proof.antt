@@ -4,7 +4,6 @@ use native.Mathlib.Omega.{arith}
 use mathlib.Core.Path.{_≡_, sym, ap, _∙_}
 use mathlib.Core.List.{List, reverse}
 use lib.ListN.{length}
-use borrow.Author.Needs.{needs}
 use Rattle.numeric.specs.Threshold.{Term, terms}
 use Rattle.words.specs.Mask.{inEither}
 use Rattle.residual.specs.Gcd.{misses}

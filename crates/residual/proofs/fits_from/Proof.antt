@@ -1,5 +1,5 @@
 -- `residual::fits_from` meets its contract: the scan of the terms that are left, from here, is that of the whole row.
-use Prim.Native.Nat.{ℕ, _-_, _≤_}
+use Prim.Native.Nat.{_-_, _≤_}
 use native.Mathlib.Omega.{arith}
 use mathlib.Core.Path.{_≡_, sym, ap, _∙_}
 use mathlib.Core.Bool.{false}

@@ -1,6 +1,6 @@
 -- `residual::threshold_residual` meets its contract: the check, the scan, the suffixes and the forcing in turn.
 use native.Mathlib.Omega.{arith}
-use mathlib.Core.Path.{_≡_, refl, sym, ap, _∙_}
+use mathlib.Core.Path.{refl, sym, ap, _∙_}
 use mir.Syntax.{w64}
 use mir.Val.{SFits}
 use Rattle.numeric.specs.Threshold.{terms}
@@ -54,7 +54,7 @@ returns-2 c =
     (sym (c .before .nothing-forced .ensures) ∙ c .if2 .taken))
 
 prepare-suffix-requires : tie.Need-prepare-suffix-requires
-prepare-suffix-requires c κs = let s = c .before .before .before .before .before .before .before .before .before .before .before .before .before .before .before .before .before .before in (s .pre .0, s .pre .1 .0 .0)
+prepare-suffix-requires c κs = let s = c .before .before .before .before .before .before .before .before .before .before .before .before .before .before .before .before .before .before in (s .pre .0, s .pre .1 .0)
 
 interval-of-requires : tie.Need-interval-of-requires
 interval-of-requires c κs = tt
@@ -67,7 +67,7 @@ force-from-requires c κs =
     let k = natural-small (g .state .known) f in
     let i = ap (λ (x : Interval). x .known) (c .before .before .before .interval-of .ensures) in
     let n = c .before .before .before .before .before .before .before .prepare-suffix .kept .1 .1 .1 .1 .0 in
-    (s .pre .0, ((omega (arith, s .pre .1 .0 .0, n), omega (arith, i, k), s .pre .1 .0 .1), s .pre .1 .1))
+    (s .pre .0, (omega (arith, s .pre .1 .0, n), omega (arith, i, k), s .pre .1 .1, s .pre .1 .2))
 
 same-length-5 : tie.Need-same-length-5
 same-length-5 c = c .before .before .before .before .before .before .force-from .kept .1 .1 .1 .1 .0
