@@ -9,14 +9,17 @@ use mathlib.Core.Logic.{_≢_, _⊎_, inl, inr, _↔_}
 use mathlib.Core.List.{List, [], _∷_, reverse}
 use lib.ListN.{length}
 use lib.Dec.{ltb}
-use lib.IntN.{ℤ, pos, negsuc, _+ℤ_, _-ℤ_, +ℤ-idl}
-use lib.Signed.{ltZ}
-use borrow.Author.Tests.{ltb-true}
+use lib.IntN.{ℤ, pos, negsuc, _+ℤ_, _-ℤ_, +ℤ-idl, +ℤ-comm, +ℤ-negℤ-cancel}
+use lib.Signed.{leZ, ltZ}
+use borrow.Author.Tests.{ltb-true, leb-true}
 use Rattle.numeric.specs.Threshold.{Term}
-use Rattle.number.specs.Signed.{natural, ltZ-minus}
+use Rattle.number.specs.Signed.{natural, natural-minus, leZ-sub, ltZ-minus}
 use Rattle.state.specs.declared.State.{State}
 use Rattle.state.specs.declared.Step.the-variants.{Unchanged, Contradiction}
-use Rattle.state.specs.StateLaws.{known-lower}
+use Rattle.state.specs.declared.Upper.{Upper}
+use Rattle.state.specs.declared.Upper.the-variants.{Under}
+use Rattle.state.specs.State.{limit}
+use Rattle.state.specs.StateLaws.{known-lower, upper-cuts}
 use Rattle.words.specs.declared.Ended.{Ended}
 use Rattle.words.specs.declared.Ended.the-variants.{Hit, Complete, Stopped}
 use Rattle.words.specs.Shift.{unionShifted}
@@ -26,7 +29,7 @@ use Rattle.possible_sums.specs.declared.Plan.{Plan}
 use Rattle.possible_sums.specs.declared.Plan.the-variants.{Unplanned, Planned}
 use Rattle.possible_sums.specs.declared.Search.{Search}
 use Rattle.possible_sums.specs.declared.Search.the-variants.{Skipped, Fits, Nothing, Cut}
-use Rattle.possible_sums.specs.Search.{plan, search, searchFrom, searchStep, searchVisits, chosen, Lands}
+use Rattle.possible_sums.specs.Search.{window, plan, search, searchFrom, searchStep, searchVisits, chosen, Lands}
 use Rattle.row.specs.TermsLaws.{All, all-map}
 use Rattle.possible_sums.specs.RowLaws.{Fresh, Later, Rising, all-both, all-of, rising}
 use Rattle.possible_sums.specs.ChoiceLaws.{chosen-none, chosen-moves, chosen-heavy, chosen-reverse}
@@ -160,6 +163,51 @@ search-exact raw s d w e n = by (search (rowTerms raw) s d) refl (answered raw s
 pub cut-short : (raw : List Term) (s : State) (decided : ℕ → Bool) (n : ℕ) → search (rowTerms raw) s decided ≡ Cut n
     → searchStep (search (rowTerms raw) s decided) ≡ Unchanged
 cut-short raw s d n e = ap searchStep e
+
+-- A CONTRADICTION, IN THE ROW'S FIGURES: with what is known, no choice's sum reaches lower and stays below upper.
+past : (z : ℤ) (n : ℕ) → leZ z (pos n) ≡ true → natural z ≤ n
+past (pos m) n h = leb-true m n h
+past (negsuc m) n h = omega arith
+
+short : (z : ℤ) (n : ℕ) → ltZ (pos n) z ≡ true → n ≤ natural (z -ℤ pos 1)
+short (pos m) n h = omega (arith, ltb-true n m h, natural-minus m 1)
+short (negsuc m) n h = absurd (let z : _≡_ {A = ℕ} 0 1 = cc in omega arith)
+
+lands : (ts : List Term) (s : State) (d choice : ℕ → Bool) → leZ (s .lower) (s .known +ℤ pos (chosen d choice ts)) ≡ true
+    → ltZ (s .known +ℤ pos (chosen d choice ts)) (limit (s .upper)) ≡ true → Lands (window ts s) d ts choice
+lands ts s d choice f g =
+    let n = chosen d choice ts in
+    let e : s .known +ℤ pos n -ℤ s .known ≡ pos n = ap (λ (z : ℤ). z -ℤ s .known) (+ℤ-comm (s .known) (pos n)) ∙ +ℤ-negℤ-cancel (pos n) (s .known) in (
+      past (s .lower -ℤ s .known) n (ap (leZ (s .lower -ℤ s .known)) (sym e) ∙ leZ-sub (s .lower) (s .known +ℤ pos n) (s .known) ∙ f),
+      short (limit (s .upper) -ℤ s .known) n
+          (ltZ-minus (pos n) (limit (s .upper)) (s .known) ∙ ap (λ (z : ℤ). ltZ z (limit (s .upper))) (+ℤ-comm (pos n) (s .known)) ∙ g),
+    )
+
+pub search-refutes : (raw : List Term) (s : State) (d : ℕ → Bool) → searchStep (search (rowTerms raw) s d) ≡ Contradiction
+    → (b : ℤ) × (s .upper ≡ Under b)
+    × ((choice : ℕ → Bool) → leZ (s .lower) (s .known +ℤ pos (chosen d choice (rowTerms raw))) ≡ true
+    → ltZ (s .known +ℤ pos (chosen d choice (rowTerms raw))) b ≡ true → ⊥)
+search-refutes raw s d q = by (plan (rowTerms raw) s) refl
+  where
+    not-cut : (n : ℕ) → search (rowTerms raw) s d ≢ Cut n
+    not-cut n e = let z = sym (ap searchStep e) ∙ q in let y : _≡_ {A = ℕ} 0 1 = cc in omega arith
+
+    by : (p : Plan) → plan (rowTerms raw) s ≡ p → (b : ℤ) × (s .upper ≡ Under b)
+        × ((choice : ℕ → Bool) → leZ (s .lower) (s .known +ℤ pos (chosen d choice (rowTerms raw))) ≡ true
+        → ltZ (s .known +ℤ pos (chosen d choice (rowTerms raw))) b ≡ true → ⊥)
+    by Unplanned e =
+        absurd (let z = sym (ap searchStep (search-none (rowTerms raw) s d e)) ∙ q in let y : _≡_ {A = ℕ} 0 1 = cc in omega arith)
+    by (Planned w) e =
+        let p = plan-is (rowTerms raw) s w e in
+        let u = upper-cuts s (p .cut) in (
+          u .0,
+          u .1,
+          λ choice f g.
+              search-exact raw s d w e not-cut .0 q choice
+              (subst (λ (v : Window). Lands v d (rowTerms raw) choice) (p .same)
+              (lands (rowTerms raw) s d choice f
+              (ap (λ (x : Upper). ltZ (s .known +ℤ pos (chosen d choice (rowTerms raw))) (limit x)) (u .1) ∙ g))),
+        )
 
 -- ---- visits
 

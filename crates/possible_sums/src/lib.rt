@@ -12,6 +12,7 @@ use state::State;
 use state::Step;
 use state::Upper;
 use words::Ended;
+use words::union_shifted_until_hit;
 
 // The window of a search, in sums of undecided weights; the words that hold it; the visits that it may use.
 pub struct Window {
@@ -191,14 +192,7 @@ fn search_from(
         if decided(sure, never, conditions[count]) {
             continue;
         }
-        let ended = words::union_shifted_until_hit(
-            words,
-            maximum / 64 + 1,
-            weight,
-            w.lower,
-            limit,
-            left,
-        );
+        let ended = union_shifted_until_hit(words, maximum / 64 + 1, weight, w.lower, limit, left);
         match ended {
             Ended::Hit(after) => {
                 let hit = visits - after;

@@ -1,8 +1,10 @@
 -- `possible_sums::search_from` meets its contract: the search of the terms that are left, from here, is that of the whole row.
-use Prim.Native.Nat.{ℕ, _+_, _-_, _/_, _≤_}
+use Prim.Native.Nat.{ℕ, suc, _+_, _-_, _/_, _≤_}
 use native.Mathlib.Omega.{arith}
+use mathlib.Core.Bool.{false}
+use lib.Dec.{ltb}
 use mathlib.Core.Path.{_≡_, refl, sym, ap, ap₂, _∙_}
-use mathlib.Core.List.{List, reverse}
+use mathlib.Core.List.{List, _∷_, reverse}
 use lib.ListN.{length, getD}
 use borrow.Author.Needs.{needs}
 use borrow.Author.Tests.{lt-ltb, le-ltb}
@@ -57,9 +59,8 @@ same-length c = search needs
 returns : tie.Need-returns Inv-loop μ-loop
 returns c =
     let g = c .before .before .before .before .before .before .before .before .args in
-    let s = c .before .before .before .before .before .before .before .before .pre .0 .same in
     let v = c .before .before .loop in
-    let t = c .before .loop-test .taken in
+    let s = c .before .before .before .before .before .before .before .before .pre .0 .same in
     sym
     (turn-cut (g .w) (inEither (g .sure .now) (g .never .now)) (g .conditions .now) (g .weights .now) (v .words) (v .count) (v .maximum) (v .left)
     (omega arith) (omega arith) (omega arith) (c .if1 .taken))
@@ -70,6 +71,22 @@ sub-left c = omega arith
 
 sub-count : tie.Need-sub-count Inv-loop μ-loop
 sub-count c = omega arith
+
+-- With a visit left, the search goes on with the lightest term that is left.
+from-here : (c : tie.Else1 Inv-loop μ-loop) → searchFrom (c .before .before .before .before .before .before .before .before .args .w) (inEither (c .before .before .before .before .before .before .before .before .args .sure .now) (c .before .before .before .before .before .before .before .before .args .never .now))
+    (lastTerm (c .before .before .before .before .before .before .before .before .args .conditions .now) (c .before .before .before .before .before .before .before .before .args .weights .now) (c .before .before .loop .count)
+    ∷ lastTerms (c .before .before .before .before .before .before .before .before .args .conditions .now) (c .before .before .before .before .before .before .before .before .args .weights .now) (c .before .before .loop .count - 1))
+    (c .before .before .loop .words) (c .before .before .loop .maximum) (suc (c .before .before .loop .left - 1))
+    ≡ searchFrom (c .before .before .before .before .before .before .before .before .args .w) (inEither (c .before .before .before .before .before .before .before .before .args .sure .now) (c .before .before .before .before .before .before .before .before .args .never .now))
+    (reverse (terms (c .before .before .before .before .before .before .before .before .args .conditions .now) (c .before .before .before .before .before .before .before .before .args .weights .now))) (c .before .before .before .before .before .before .before .before .args .words .now) 0 (c .before .before .before .before .before .before .before .before .args .allowance)
+from-here c =
+    let g = c .before .before .before .before .before .before .before .before .args in
+    let v = c .before .before .loop in
+    let s = c .before .before .before .before .before .before .before .before .pre .0 .same in
+    sym
+    (turn (g .w) (inEither (g .sure .now) (g .never .now)) (g .conditions .now) (g .weights .now) (v .words) (v .count) (v .maximum) (v .left)
+    (omega arith) (omega arith) (omega arith) (c .if1 .left))
+    ∙ v .inv .6
 
 mul-weight : tie.Need-mul-weight Inv-loop μ-loop
 mul-weight c = omega arith
@@ -86,16 +103,16 @@ same-length-2 c = search needs
 returns-2 : tie.Need-returns-2 Inv-loop μ-loop
 returns-2 c =
     let g = c .before .before .before .before .before .before .before .before .before .before .args in
-    let s = c .before .before .before .before .before .before .before .before .before .before .pre .0 .same in
     let v = c .before .before .before .before .loop in
-    let t = c .before .before .before .loop-test .taken in
-    let d = inEither (g .sure .now) (g .never .now) in
     sym
-    (turn (g .w) d (g .conditions .now) (g .weights .now) (v .words) (v .count) (v .maximum) (v .left) (omega arith) (omega arith) (omega arith)
-    (c .before .before .if1 .left)
-    ∙ from-heavy (g .w) d (lastTerm (g .conditions .now) (g .weights .now) (v .count)) (lastTerms (g .conditions .now) (g .weights .now) (v .count - 1))
-    (v .words) (v .maximum) (v .left - 1) (lt-ltb (g .w .maximum) (getD (g .weights .now) (v .count - 1) 0) (c .if2 .taken)))
-    ∙ v .inv .6
+    (from-heavy (g .w) (inEither (g .sure .now) (g .never .now)) (lastTerm (g .conditions .now) (g .weights .now) (v .count)) (lastTerms (g .conditions .now) (g .weights .now) (v .count - 1))
+    (v .words) (v .maximum) (v .left - 1)
+    (lt-ltb (g .w .maximum) (getD (g .weights .now) (v .count - 1) 0) (c .if2 .taken)))
+    ∙ from-here (c .before .before)
+
+-- A term that is not too heavy.
+light : (c : tie.Else2 Inv-loop μ-loop) → ltb (c .before .before .before .before .before .before .before .before .before .before .args .w .maximum) (getD (c .before .before .before .before .before .before .before .before .before .before .args .weights .now) (c .before .before .before .before .loop .count - 1) 0) ≡ false
+light c = le-ltb (c .before .before .before .before .before .before .before .before .before .before .args .w .maximum) (getD (c .before .before .before .before .before .before .before .before .before .before .args .weights .now) (c .before .before .before .before .loop .count - 1) 0) (c .if2 .left)
 
 mul-decided : tie.Need-mul-decided Inv-loop μ-loop
 mul-decided c = omega arith
@@ -117,10 +134,7 @@ loop-less c = omega arith
 loop-again : tie.Need-loop-again Inv-loop μ-loop
 loop-again c =
     let g = c .before .before .before .before .before .before .before .before .before .before .before .before .before .args in
-    let s = c .before .before .before .before .before .before .before .before .before .before .before .before .before .pre .0 .same in
-    let v = c .before .before .before .before .before .before .before .loop in
-    let t = c .before .before .before .before .before .before .loop-test .taken in
-    let d = inEither (g .sure .now) (g .never .now) in (
+    let v = c .before .before .before .before .before .before .before .loop in (
       refl,
       refl,
       omega arith,
@@ -128,16 +142,18 @@ loop-again c =
       v .inv .4,
       v .inv .5,
       sym
-          (turn (g .w) d (g .conditions .now) (g .weights .now) (v .words) (v .count) (v .maximum) (v .left) (omega arith) (omega arith) (omega arith)
-          (c .before .before .before .before .before .if1 .left)
-          ∙ from-skip (g .w) d (lastTerm (g .conditions .now) (g .weights .now) (v .count)) (lastTerms (g .conditions .now) (g .weights .now) (v .count - 1))
-          (v .words) (v .maximum) (v .left - 1) (le-ltb (g .w .maximum) (getD (g .weights .now) (v .count - 1) 0) (c .before .before .before .if2 .left))
-          (sym (c .before .decided .ensures) ∙ c .if3 .taken))
-          ∙ v .inv .6,
+          (from-skip (g .w) (inEither (g .sure .now) (g .never .now)) (lastTerm (g .conditions .now) (g .weights .now) (v .count)) (lastTerms (g .conditions .now) (g .weights .now) (v .count - 1))
+          (v .words) (v .maximum) (v .left - 1)
+          (light (c .before .before .before)) (sym (c .before .decided .ensures) ∙ c .if3 .taken))
+          ∙ from-here (c .before .before .before .before .before),
     )
 
 add-union-shifted-until-hit : tie.Need-add-union-shifted-until-hit Inv-loop μ-loop
 add-union-shifted-until-hit c = omega arith
+
+-- A term that is undecided.
+undecided : (c : tie.Else3 Inv-loop μ-loop) → inEither (c .before .before .before .before .before .before .before .before .before .before .before .before .before .args .sure .now) (c .before .before .before .before .before .before .before .before .before .before .before .before .before .args .never .now) (getD (c .before .before .before .before .before .before .before .before .before .before .before .before .before .args .conditions .now) (c .before .before .before .before .before .before .before .loop .count - 1) 0) ≡ false
+undecided c = sym (c .before .decided .ensures) ∙ c .if3 .left
 
 union-shifted-until-hit-requires : tie.Need-union-shifted-until-hit-requires Inv-loop μ-loop
 union-shifted-until-hit-requires c κs = search needs
@@ -148,13 +164,9 @@ enum-known-ended c = search needs
 sub-hit : tie.Need-sub-hit Inv-loop μ-loop
 sub-hit c =
     let g = c .before .before .before .before .before .before .before .before .before .before .before .before .before .before .before .before .before .before .before .before .args in
-    let s = c .before .before .before .before .before .before .before .before .before .before .before .before .before .before .before .before .before .before .before .before .pre .0 .same in
     let v = c .before .before .before .before .before .before .before .before .before .before .before .before .before .before .loop in
-    let t = c .before .before .before .before .before .before .before .before .before .before .before .before .before .loop-test .taken in
-    let d = inEither (g .sure .now) (g .never .now) in
-    let u = c .before .before .before .before .before .union-shifted-until-hit .ensures in
     let e = c .before .ended .given in
-    let h = hit-left (v .words) (v .maximum / 64 + 1) (getD (g .weights .now) (v .count - 1) 0) (g .w .lower) (g .w .maximum) (v .left - 1) (e .0 .0) (sym (u .1) ∙ e .1) in
+    let h = hit-left (v .words) (v .maximum / 64 + 1) (getD (g .weights .now) (v .count - 1) 0) (g .w .lower) (g .w .maximum) (v .left - 1) (e .0 .0) (sym (c .before .before .before .before .before .union-shifted-until-hit .ensures .1) ∙ e .1) in
     omega arith
 
 same-length-3 : tie.Need-same-length-3 Inv-loop μ-loop
@@ -163,19 +175,13 @@ same-length-3 c = search needs
 returns-3 : tie.Need-returns-3 Inv-loop μ-loop
 returns-3 c =
     let g = c .before .before .before .before .before .before .before .before .before .before .before .before .before .before .before .before .before .before .before .before .args in
-    let s = c .before .before .before .before .before .before .before .before .before .before .before .before .before .before .before .before .before .before .before .before .pre .0 .same in
     let v = c .before .before .before .before .before .before .before .before .before .before .before .before .before .before .loop in
-    let t = c .before .before .before .before .before .before .before .before .before .before .before .before .before .loop-test .taken in
-    let d = inEither (g .sure .now) (g .never .now) in
-    let u = c .before .before .before .before .before .union-shifted-until-hit .ensures in
     let e = c .before .ended .given in
     sym
-    (turn (g .w) d (g .conditions .now) (g .weights .now) (v .words) (v .count) (v .maximum) (v .left) (omega arith) (omega arith) (omega arith)
-    (c .before .before .before .before .before .before .before .before .before .before .before .before .if1 .left)
-    ∙ from-fits (g .w) d (lastTerm (g .conditions .now) (g .weights .now) (v .count)) (lastTerms (g .conditions .now) (g .weights .now) (v .count - 1))
-    (v .words) (v .maximum) (v .left - 1) (le-ltb (g .w .maximum) (getD (g .weights .now) (v .count - 1) 0) (c .before .before .before .before .before .before .before .before .before .before .if2 .left))
-    (sym (c .before .before .before .before .before .before .before .before .decided .ensures) ∙ c .before .before .before .before .before .before .before .if3 .left) (e .0 .0) (sym (u .1) ∙ e .1))
-    ∙ v .inv .6
+    (from-fits (g .w) (inEither (g .sure .now) (g .never .now)) (lastTerm (g .conditions .now) (g .weights .now) (v .count)) (lastTerms (g .conditions .now) (g .weights .now) (v .count - 1))
+    (v .words) (v .maximum) (v .left - 1)
+    (light (c .before .before .before .before .before .before .before .before .before .before)) (undecided (c .before .before .before .before .before .before .before)) (e .0 .0) (sym (c .before .before .before .before .before .union-shifted-until-hit .ensures .1) ∙ e .1))
+    ∙ from-here (c .before .before .before .before .before .before .before .before .before .before .before .before)
 
 enum-told : tie.Need-enum-told Inv-loop μ-loop
 enum-told c = search needs
@@ -186,18 +192,12 @@ same-length-4 c = search needs
 returns-4 : tie.Need-returns-4 Inv-loop μ-loop
 returns-4 c =
     let g = c .before .before .before .before .before .before .before .before .before .before .before .before .before .before .before .before .before .before .before .args in
-    let s = c .before .before .before .before .before .before .before .before .before .before .before .before .before .before .before .before .before .before .before .pre .0 .same in
     let v = c .before .before .before .before .before .before .before .before .before .before .before .before .before .loop in
-    let t = c .before .before .before .before .before .before .before .before .before .before .before .before .loop-test .taken in
-    let d = inEither (g .sure .now) (g .never .now) in
-    let u = c .before .before .before .before .union-shifted-until-hit .ensures in
     sym
-    (turn (g .w) d (g .conditions .now) (g .weights .now) (v .words) (v .count) (v .maximum) (v .left) (omega arith) (omega arith) (omega arith)
-    (c .before .before .before .before .before .before .before .before .before .before .before .if1 .left)
-    ∙ from-stopped (g .w) d (lastTerm (g .conditions .now) (g .weights .now) (v .count)) (lastTerms (g .conditions .now) (g .weights .now) (v .count - 1))
-    (v .words) (v .maximum) (v .left - 1) (le-ltb (g .w .maximum) (getD (g .weights .now) (v .count - 1) 0) (c .before .before .before .before .before .before .before .before .before .if2 .left))
-    (sym (c .before .before .before .before .before .before .before .decided .ensures) ∙ c .before .before .before .before .before .before .if3 .left) (sym (u .1) ∙ c .enum-told .given .1))
-    ∙ v .inv .6
+    (from-stopped (g .w) (inEither (g .sure .now) (g .never .now)) (lastTerm (g .conditions .now) (g .weights .now) (v .count)) (lastTerms (g .conditions .now) (g .weights .now) (v .count - 1))
+    (v .words) (v .maximum) (v .left - 1)
+    (light (c .before .before .before .before .before .before .before .before .before)) (undecided (c .before .before .before .before .before .before)) (sym (c .before .before .before .before .union-shifted-until-hit .ensures .1) ∙ c .enum-told .given .1))
+    ∙ from-here (c .before .before .before .before .before .before .before .before .before .before .before)
 
 enum-known-ended-2 : tie.Need-enum-known-ended-2 Inv-loop μ-loop
 enum-known-ended-2 c = search needs
@@ -205,12 +205,7 @@ enum-known-ended-2 c = search needs
 add-smaller : tie.Need-add-smaller Inv-loop μ-loop
 add-smaller c =
     let p = c .before .before .before .before .before .before .before .before .before .before .before .before .before .before .before .before .before .before .before .before .pre .1 .0 in
-    let q = p .words in
-    let r = p .enough in
-    let y = p .visits in
-    let v = c .before .before .before .before .before .before .before .before .before .before .before .before .before .before .loop in
-    let i = c .before .before .before .before .before .before .before .before .before .before .if2 .left in
-    omega arith
+    omega (arith, p .words, p .enough, p .visits, c .before .before .before .before .before .before .before .before .before .before .before .before .before .before .loop .inv .4, c .before .before .before .before .before .before .before .before .before .before .if2 .left)
 
 smaller-requires : tie.Need-smaller-requires Inv-loop μ-loop
 smaller-requires c κs = search needs
@@ -221,10 +216,7 @@ loop-less-2 c = omega arith
 loop-again-2 : tie.Need-loop-again-2 Inv-loop μ-loop
 loop-again-2 c =
     let g = c .before .before .before .before .before .before .before .before .before .before .before .before .before .before .before .before .before .before .before .before .before .args in
-    let s = c .before .before .before .before .before .before .before .before .before .before .before .before .before .before .before .before .before .before .before .before .before .pre .0 .same in
     let v = c .before .before .before .before .before .before .before .before .before .before .before .before .before .before .before .loop in
-    let t = c .before .before .before .before .before .before .before .before .before .before .before .before .before .before .loop-test .taken in
-    let d = inEither (g .sure .now) (g .never .now) in
     let u = c .before .before .before .before .before .before .union-shifted-until-hit .ensures in
     let e = c .before .before .ended2 .given in
     let q : unionShifted (v .words) (v .maximum / 64 + 1) (getD (g .weights .now) (v .count - 1) 0) (g .w .lower) (g .w .maximum) (v .left - 1) .ended ≡ _ = sym (u .1) ∙ e .1 in
@@ -236,14 +228,12 @@ loop-again-2 c =
       omega arith,
       omega arith,
       ap length (u .0) ∙ union-length (v .words) (v .maximum / 64 + 1) (getD (g .weights .now) (v .count - 1) 0) (g .w .lower) (g .w .maximum) (v .left - 1) ∙ v .inv .5,
-      ap₂ (λ (l : List ℕ) (n : ℕ). searchFrom (g .w) d (lastTerms (g .conditions .now) (g .weights .now) (v .count - 1)) l n (e .0 .0)) (u .0) m
+      ap₂ (λ (l : List ℕ) (n : ℕ). searchFrom (g .w) (inEither (g .sure .now) (g .never .now)) (lastTerms (g .conditions .now) (g .weights .now) (v .count - 1)) l n (e .0 .0)) (u .0) m
           ∙ sym
-          (turn (g .w) d (g .conditions .now) (g .weights .now) (v .words) (v .count) (v .maximum) (v .left) (omega arith) (omega arith) (omega arith)
-          (c .before .before .before .before .before .before .before .before .before .before .before .before .before .if1 .left)
-          ∙ from-more (g .w) d (lastTerm (g .conditions .now) (g .weights .now) (v .count)) (lastTerms (g .conditions .now) (g .weights .now) (v .count - 1))
-          (v .words) (v .maximum) (v .left - 1) (le-ltb (g .w .maximum) (getD (g .weights .now) (v .count - 1) 0) (c .before .before .before .before .before .before .before .before .before .before .before .if2 .left))
-          (sym (c .before .before .before .before .before .before .before .before .before .decided .ensures) ∙ c .before .before .before .before .before .before .before .before .if3 .left) (e .0 .0) q)
-          ∙ v .inv .6,
+          (from-more (g .w) (inEither (g .sure .now) (g .never .now)) (lastTerm (g .conditions .now) (g .weights .now) (v .count)) (lastTerms (g .conditions .now) (g .weights .now) (v .count - 1))
+          (v .words) (v .maximum) (v .left - 1)
+          (light (c .before .before .before .before .before .before .before .before .before .before .before)) (undecided (c .before .before .before .before .before .before .before .before)) (e .0 .0) q)
+          ∙ from-here (c .before .before .before .before .before .before .before .before .before .before .before .before .before),
     )
 
 sub-all : tie.Need-sub-all Inv-loop μ-loop
