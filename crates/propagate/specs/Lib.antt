@@ -5,3 +5,4 @@ pub mod Guards
 pub mod Row
 pub mod RowLaws
 pub mod Between
+pub mod BetweenLaws

@@ -87,7 +87,7 @@ falseTerms ts s m =
     cond (limited (s .upper)) (ran (withTerms s (s .«true_term») (s .«false_term» + a .passed)) (a .marks) (a .step)) (ran s m Unchanged)
 
 -- Terms behind the guards, those to be sure first.
-unfoldable pub rowTerms : List Term → Ran → Ran
+abbrev pub rowTerms : List Term → Ran → Ran
 rowTerms ts a =
     let b = trueTerms ts (a .state) (a .marks) in
     elim (contradicts (b .step)) [

@@ -204,14 +204,12 @@ module _ (ts : List Term) (s : State) (m : Marks) (conditions : All Condition ts
 -- Terms behind the guards.
 module _ (ts : List Term) (a b : Ran) (e : b ≡ trueTerms ts (a .state) (a .marks)) where
   pub terms-stop : contradicts (b .step) ≡ true → b ≡ rowTerms ts a
-  unfolding rowTerms
   terms-stop h =
       let k = rw e at h in
       rw (rowTerms, k) e
 
   pub terms-more : contradicts (b .step) ≡ false → (d : Ran) → d ≡ falseTerms ts (b .state) (b .marks)
       → (k : Step) → k ≡ joined (joined (a .step) (b .step)) (d .step) → ran (d .state) (d .marks) k ≡ rowTerms ts a
-  unfolding rowTerms
   terms-more h d f k g =
       let l = rw e at h in
       rw (rowTerms, l) (rw (g, f, e))

@@ -13,6 +13,7 @@ ghost use Rattle.queues.specs.Marks.{Marks, marks, isDecided, decided, decide};
 ghost use Rattle.queues.specs.MarksLaws.{Waits};
 ghost use Rattle.thresholds.specs.Rows.{Guard, rowOf};
 ghost use Rattle.propagate.specs.Scan.{scanned, turn as turnOf, turned, force};
+ghost use Rattle.propagate.specs.Between.{guardState, movedLower, movedUpper, movedState};
 ghost use Rattle.propagate.specs.Shape.{Below, TermSlices, GuardSlices, Figures};
 ghost use Rattle.propagate.specs.Guards.{guards};
 ghost use Rattle.propagate.specs.Row.{ran as ranOf, reachable, sureGuards, neverGuards, thresholdGuards, light, forced, trueTerms, falseTerms, rowTerms, thresholdRow, wantsResidual};
@@ -489,4 +490,92 @@ pub fn wants_residual(conditions: &[u16], weights: &[u64], state: State) -> bool
         return false;
     }
     state.has_residual_interval()
+}
+
+// A row's state after a bound from outside, and whether the bound was new.
+pub struct Tightened {
+    pub state: State,
+    pub changed: bool,
+}
+
+// `threshold_guard` on its row's state: a sure guard raises lower to its bound, a never one lowers upper.
+pub fn guard_state(state: State, value: bool, bound: i64) -> Tightened
+    ensures { λ r. ⌜ r ≡ guardState state value bound ⌝ }
+{
+    if value {
+        if state.needs_lower(bound) {
+            let raised = state.raise_lower(bound);
+            return Tightened {
+                state: raised,
+                changed: true,
+            };
+        }
+        return Tightened {
+            state: state,
+            changed: false,
+        };
+    }
+    if state.upper_at_most(bound) {
+        return Tightened {
+            state: state,
+            changed: false,
+        };
+    }
+    let lowered = state.lower_upper(bound);
+    Tightened {
+        state: lowered,
+        changed: true,
+    }
+}
+
+// The longer of two rows with equal first terms has at least the shorter's lower.
+fn moved_lower(source: State, state: State, from: usize, to: usize) -> Tightened
+    ensures { λ r. ⌜ r ≡ movedLower source state from to ⌝ }
+{
+    let lower = source.lower;
+    if from <= to {
+        if state.needs_lower(lower) {
+            let raised = state.raise_lower(lower);
+            return Tightened {
+                state: raised,
+                changed: true,
+            };
+        }
+    }
+    Tightened {
+        state: state,
+        changed: false,
+    }
+}
+
+// The shorter has at most the longer's upper.
+fn moved_upper(source: State, before: Tightened, from: usize, to: usize) -> Tightened
+    ensures { λ r. ⌜ r ≡ movedUpper source before from to ⌝ }
+{
+    let upper = source.upper;
+    if from < to {
+        return before;
+    }
+    match upper {
+        Upper::Open => before,
+        Upper::Under(limit) => {
+            let state = before.state;
+            if state.upper_at_most(limit) {
+                return before;
+            }
+            let lowered = state.lower_upper(limit);
+            Tightened {
+                state: lowered,
+                changed: true,
+            }
+        }
+    }
+}
+
+// `threshold_prefixes` on one neighbour's state; `from` and `to` are the terms of the two rows.
+pub fn moved_state(source: State, state: State, from: usize, to: usize) -> Tightened
+    ensures { λ r. ⌜ r ≡ movedState source state from to ⌝ }
+{
+    let raised = moved_lower(source, state, from, to);
+    moved_upper(source, raised, from, to)
 }
