@@ -3,3 +3,7 @@ pub mod TermsLaws
 pub mod SumLaws
 pub mod Keys
 pub mod KeysLaws
+pub mod LoopLaws
+pub mod RowLaws
+pub mod Stretch
+pub mod StretchLaws
