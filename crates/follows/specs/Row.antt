@@ -24,7 +24,7 @@ use Rattle.words.specs.MaskLaws.{learn-there, learn-other}
 use Rattle.queues.specs.Marks.{Marks, marks, isDecided, Decided, decided, decide}
 use Rattle.thresholds.specs.Rows.{Row, Guard, noRow}
 use Rattle.propagate.specs.Scan.{scan, Scanned}
-use Rattle.propagate.specs.Row.{Ran, ran, sureGuards, neverGuards, thresholdGuards, forced, trueTerms, falseTerms, rowTerms, scans, thresholdRow}
+use Rattle.propagate.specs.Row.{Ran, ran, sureGuards, neverGuards, thresholdGuards, forced, trueTerms, falseTerms, scans, thresholdRow}
 use Rattle.table.specs.Table as T
 use Rattle.table.specs.Table.{Table, IsRow, termsOf, knownOf, possibleOf, reachedOf, AtMost, Conflict, lower-above, upper-reached, bound-reached, bound-out-of-reach, term-needed, term-too-heavy}
 use Rattle.table.specs.Order.{le, lt, ≤ℤ-trans, ≤ℤ-<ℤ-trans, pos-≤ℤ, max-up, sub-up, up-refl, at-most-up}
@@ -255,7 +255,7 @@ module _ (rows : List Row) (s : Table) (l : ℕ → ℤ) (u : ℕ → Upper) (r 
           ((n .0 .0, inside-guards up _ _ _ (inside-guards st _ _ _ (n .0 .1)), n .0 .2), n .1)
 
   pub scans-fine : (st : State) (m : Marks) → Along st m → Fine (scans (getD rows r noRow) st m)
-  unfolding scans rowTerms trueTerms
+  unfolding scans
   scans-fine st m h = one (contradicts (a .step)) refl
     where
       row : Row

@@ -21,7 +21,7 @@ use Rattle.state.specs.State.{reached, limited, limit, conflict, withGuards, wi
 use Rattle.queues.specs.Marks.{Marks, isDecided, Decided, decide}
 use Rattle.thresholds.specs.Rows.{Row, Guard}
 use Rattle.propagate.specs.Scan.{Scanned, scan}
-use Rattle.propagate.specs.Row.{Ran, ran, decides, sureWaits, sureGuards, reachable, neverWaits, neverGuards, thresholdGuards, termWaits, forces, forced, trueTerms, falseTerms, rowTerms, scans, thresholdRow}
+use Rattle.propagate.specs.Row.{Ran, ran, decides, sureWaits, sureGuards, reachable, neverWaits, neverGuards, thresholdGuards, termWaits, forces, forced, trueTerms, falseTerms, scans, thresholdRow}
 use Rattle.follows.specs.Decide.{scan-keeps}
 use Rattle.follows.specs.Complete.{All, Wide, Has, wide-decide, wide-force, has-stays, decided-stays, force-stays, force-has, Rising, Falling, sure-complete, never-complete, forced-complete}
 
@@ -257,7 +257,7 @@ false-figures ts st m = by (limited (st .upper)) _ _ _
 -- decided, and the figures are as they were.
 pub row-complete : (row : Row) → Ordered row → (st : State) (m : Marks) → Passed row st m → contradicts (thresholdRow row st m .step) ≡ false
     → let r = thresholdRow row st m in Passed row (r .state) (r .marks) × Complete row st (r .marks) × SameFigures (r .state) st
-unfolding thresholdRow scans rowTerms trueTerms
+unfolding thresholdRow scans
 row-complete row o st m p h = by (conflict st) h
   where
     a : Ran

@@ -1,4 +1,5 @@
--- Laws of whole files: refusals are one of ten numbers; what was taken makes the file.
+-- Laws of whole files: refusals are one of ten numbers; what was taken makes the file; a refused record leaves what the file
+-- cut before it leaves.
 use Prim.Native.Nat.{ℕ, zero, suc, _+_, _-_, _≤_, _<_, min}
 use native.Mathlib.Nat.{le-refl, not-suc-le-zero, le-of-suc-le-suc}
 use native.Mathlib.Omega.{arith}
@@ -8,7 +9,8 @@ use mathlib.Core.List.{List, [], _∷_, _++_, append-assoc}
 use lib.ListN.{length, take, drop, length-take, length-drop}
 use lib.Seq.{take-take, take-nil}
 use lib.Dec.{eqb, ltb}
-use borrow.Author.Tests.{eqb-true, eqb-false, eq-eqb, le-ltb, ltb-true}
+use mathlib.Core.Logic.{_⊎_, inl, inr, ⊎-elim}
+use borrow.Author.Tests.{eq-eqb, ne-eqb}
 use Rattle.planner.specs.Record.{Kind, kindOf, bodyLength, Record, recordOf}
 use Rattle.planner.specs.File.{File, Check, check, first, refusal, apply, wrongTurn, noSuchNode, notRising, badBound, badValue, tooMany, Outcome, outcome, bodyOf, recordAt, unknownKind, cutBody, refusalAt, readFrom, fileOf, begun, planned, after}
 
@@ -46,8 +48,10 @@ read-up-to (suc n) o [] f taken = omega arith
 read-up-to (suc n) o (kind ∷ rest) f taken = by (λ o b g t. read-up-to n o b g t) (eqb (refusalAt f kind rest) 0)
   where
     by : ((o : ℕ) (b : List ℕ) (g : File) (t : List Record) → readFrom n o b g t .refused ≤ 9) → (b : Bool)
-        → let r : Outcome = elim b [ true ↦ readFrom n (o + 1 + bodyLength (kindOf kind)) (drop (bodyLength (kindOf kind)) rest) (apply f (recordAt kind rest)) (taken ++ (recordAt kind rest ∷ []))
-            | false ↦ outcome f taken (refusalAt f kind rest) o ] in r .refused ≤ 9
+        → let r : Outcome = elim b [
+          | true ↦ readFrom n (o + 1 + bodyLength (kindOf kind)) (drop (bodyLength (kindOf kind)) rest) (apply f (recordAt kind rest)) (taken ++ (recordAt kind rest ∷ []))
+          | false ↦ outcome f taken (refusalAt f kind rest) o
+        ] in r .refused ≤ 9
     by ih true = ih _ _ _ _
     by ih false = refusal-at-up-to f kind rest
 
@@ -67,8 +71,102 @@ read-taken (suc n) o (kind ∷ rest) f g taken h = by (λ o b f t h. read-taken 
   where
     x : Record
     x = recordAt kind rest
+
     by : ((o : ℕ) (b : List ℕ) (f : File) (t : List Record) → f ≡ after g t → readFrom n o b f t .file ≡ after g (readFrom n o b f t .records)) → (b : Bool)
         → let r : Outcome = elim b [ true ↦ readFrom n (o + 1 + bodyLength (kindOf kind)) (drop (bodyLength (kindOf kind)) rest) (apply f x) (taken ++ (x ∷ [])) | false ↦ outcome f taken (refusalAt f kind rest) o ]
-          in r .file ≡ after g (r .records)
+        in r .file ≡ after g (r .records)
     by ih true = ih _ _ _ _ (ap (λ (y : File). apply y x) h ∙ sym (after-snoc g taken x))
     by ih false = h
+
+-- A REFUSED RECORD: cut before it, the file reads the same and is accepted
+
+-- One record: it is taken, or the reading ends there.
+module _ (n o kind : ℕ) (rest : List ℕ) (f : File) (taken : List Record) where
+  goes : Bool → Outcome
+  goes b = elim b [
+    | true ↦ readFrom n (o + 1 + bodyLength (kindOf kind)) (drop (bodyLength (kindOf kind)) rest) (apply f (recordAt kind rest)) (taken ++ (recordAt kind rest ∷ []))
+    | false ↦ outcome f taken (refusalAt f kind rest) o
+  ]
+
+  read-on : refusalAt f kind rest ≡ 0
+      → readFrom (suc n) o (kind ∷ rest) f taken
+      ≡ readFrom n (o + 1 + bodyLength (kindOf kind)) (drop (bodyLength (kindOf kind)) rest) (apply f (recordAt kind rest)) (taken ++ (recordAt kind rest ∷ []))
+  unfolding readFrom goes
+  read-on h = ap goes (eq-eqb (refusalAt f kind rest) 0 h)
+
+  read-stop : (refusalAt f kind rest ≡ 0 → ⊥) → readFrom (suc n) o (kind ∷ rest) f taken ≡ outcome f taken (refusalAt f kind rest) o
+  unfolding readFrom goes
+  read-stop h = ap goes (ne-eqb (refusalAt f kind rest) 0 h)
+
+zero-or : (n : ℕ) → (n ≡ 0) ⊎ (n ≡ 0 → ⊥)
+zero-or zero = inl refl
+zero-or (suc n) = inr (λ e. omega arith)
+
+-- Enough is enough: the bound on the number of records is never met.
+pub read-enough : (n m o : ℕ) (bytes : List ℕ) (f : File) (taken : List Record) → length bytes ≤ n → length bytes ≤ m → readFrom n o bytes f taken ≡ readFrom m o bytes f taken
+unfolding readFrom
+read-enough zero zero o bytes f taken h k = refl
+read-enough zero (suc m) o [] f taken h k = refl
+read-enough zero (suc m) o (kind ∷ rest) f taken h k = absurd (not-suc-le-zero h)
+read-enough (suc n) zero o [] f taken h k = refl
+read-enough (suc n) zero o (kind ∷ rest) f taken h k = absurd (not-suc-le-zero k)
+read-enough (suc n) (suc m) o [] f taken h k = refl
+read-enough (suc n) (suc m) o (kind ∷ rest) f taken h k =
+    let d = length-drop (bodyLength (kindOf kind)) rest in
+    ⊎-elim
+    (λ (e : refusalAt f kind rest ≡ 0). read-on n o kind rest f taken e ∙ read-enough n m _ _ _ _ (omega arith) (omega arith) ∙ sym (read-on m o kind rest f taken e))
+    (λ (e : refusalAt f kind rest ≡ 0 → ⊥). read-stop n o kind rest f taken e ∙ sym (read-stop m o kind rest f taken e)) (zero-or (refusalAt f kind rest))
+
+drop-take : (a b : ℕ) (l : List ℕ) → drop a (take b l) ≡ take (b - a) (drop a l)
+drop-take zero b l = let e : b ≡ b - 0 = omega arith in ap (λ (n : ℕ). take n l) e
+drop-take (suc a) zero l = let e : 0 ≡ 0 - suc a = omega arith in ap (λ (n : ℕ). take n (drop (suc a) l)) e
+drop-take (suc a) (suc b) [] = sym (take-nil (suc b - suc a))
+drop-take (suc a) (suc b) (x ∷ xs) = let e : b - a ≡ suc b - suc a = omega arith in drop-take a b xs ∙ ap (λ (n : ℕ). take n (drop a xs)) e
+
+-- The body of a record is the same in a list that is cut behind it.
+same-body : (kind k : ℕ) (rest : List ℕ) → bodyLength (kindOf kind) ≤ k → bodyOf kind (take k rest) ≡ bodyOf kind rest
+same-body kind k rest h = take-take (bodyLength (kindOf kind)) k rest h
+
+same-refusal : (f : File) (kind k : ℕ) (rest : List ℕ) → bodyLength (kindOf kind) ≤ k → refusalAt f kind (take k rest) ≡ refusalAt f kind rest
+same-refusal f kind k rest h =
+    ap (λ (b : List ℕ). cond (unknownKind kind) 2 (cond (ltb (length b) (bodyLength (kindOf kind))) 1 (refusal f (recordOf (kindOf kind) b)))) (same-body kind k rest h)
+
+-- The reading stopped behind o, and the part before that place reads the same and is accepted.
+abbrev pub Cut : ℕ → ℕ → List ℕ → File → List Record → Outcome → Type 0
+Cut n o bytes f taken r = (o ≤ r .at) × (readFrom n o (take (r .at - o) bytes) f taken ≡ outcome (r .file) (r .records) 0 (r .at))
+
+pub read-cut : (n o : ℕ) (bytes : List ℕ) (f : File) (taken : List Record) → (readFrom n o bytes f taken .refused ≡ 0 → ⊥) → Cut n o bytes f taken (readFrom n o bytes f taken)
+unfolding readFrom
+read-cut zero o bytes f taken h = absurd (h refl)
+read-cut (suc n) o [] f taken h = absurd (h refl)
+read-cut (suc n) o (kind ∷ rest) f taken h =
+    ⊎-elim
+    (λ (e : refusalAt f kind rest ≡ 0).
+    let q = read-on n o kind rest f taken e in
+    subst (Cut (suc n) o (kind ∷ rest) f taken) (sym q)
+    (on e (readFrom n (o + 1 + size) (drop size rest) (apply f (recordAt kind rest)) (taken ++ (recordAt kind rest ∷ []))) (read-cut n (o + 1 + size) (drop size rest) (apply f (recordAt kind rest)) (taken ++ (recordAt kind rest ∷ [])) (λ z. h (ap (λ (y : Outcome). y .refused) q ∙ z)))))
+    (λ (e : refusalAt f kind rest ≡ 0 → ⊥). subst (Cut (suc n) o (kind ∷ rest) f taken) (sym (read-stop n o kind rest f taken e)) (stop (refusalAt f kind rest)))
+    (zero-or (refusalAt f kind rest))
+  where
+    size : ℕ
+    size = bodyLength (kindOf kind)
+
+    stop : (r : ℕ) → Cut (suc n) o (kind ∷ rest) f taken (outcome f taken r o)
+    stop r = (le-refl o, (let e : o - o ≡ 0 = omega arith in ap (λ (k : ℕ). readFrom (suc n) o (take k (kind ∷ rest)) f taken) e))
+
+    on : refusalAt f kind rest ≡ 0 → (r : Outcome) → Cut n (o + 1 + size) (drop size rest) (apply f (recordAt kind rest)) (taken ++ (recordAt kind rest ∷ [])) r
+        → Cut (suc n) o (kind ∷ rest) f taken r
+    on e r c =
+        let b = c .0 in
+        let k = r .at - o - 1 in
+        let w : size ≤ k = omega arith in
+        let a : r .at - o ≡ suc k = omega arith in
+        let d : drop size (take k rest) ≡ take (r .at - (o + 1 + size)) (drop size rest) =
+        drop-take size k rest ∙ (let g : k - size ≡ r .at - (o + 1 + size) = omega arith in ap (λ (i : ℕ). take i (drop size rest)) g) in
+        let x : recordAt kind (take k rest) ≡ recordAt kind rest = ap (recordOf (kindOf kind)) (same-body kind k rest w) in (
+          omega arith,
+          ap (λ (i : ℕ). readFrom (suc n) o (take i (kind ∷ rest)) f taken) a
+              ∙ read-on n o kind (take k rest) f taken (same-refusal f kind k rest w ∙ e)
+              ∙ ap₂ (λ (l : List ℕ) (y : Record). readFrom n (o + 1 + size) l (apply f y) (taken ++ (y ∷ []))) d x
+              ∙ c .1,
+        )
