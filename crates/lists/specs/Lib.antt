@@ -1,1 +1,6 @@
 pub mod Laid
+pub mod Deal
+pub mod DealLaws
+pub mod Columns
+pub mod ColumnsLaws
+pub mod TallyLaws

@@ -23,7 +23,7 @@ pub record Built : Type 0 where
   pub nodes : List (List ℕ)  -- a node's threshold, counted from 1 (0: none), that threshold's row, where its edges end
   pub edges : List (List ℕ)  -- row and weight, condition by condition
   pub links : List ℕ  -- the neighbours of each row
-  pub scratch : List (List ℕ)  -- zero before and after the seal
+  pub scratch : List ℕ  -- zero before and after the seal
 
 -- What marks, settles and sifts change.
 pub record Kept : Type 0 where
@@ -46,23 +46,74 @@ pub record Work : Type 0 where
   pub built : Built
   pub kept : Kept
 
--- THE TEST of every length.
+-- A group from its buffers, in the order of the parameters of the functions that are lent it.
+
+abbrev pub rawBuffers : List ℕ → List ℕ → List (List ℕ) → List ℤ → Raw
+rawBuffers raw-conditions raw-weights thresholds bounds =
+    record { raw-conditions = raw-conditions; raw-weights = raw-weights; thresholds = thresholds; bounds = bounds }
+
+abbrev pub builtBuffers : List ℕ → List ℕ → List (List ℕ) → List ℤ → List ℕ → List (List ℕ) → List (List ℕ) → List ℕ → List ℕ → Built
+builtBuffers row-conditions row-weights rows guard-bounds guard-nodes nodes edges links scratch =
+    record {
+      row-conditions = row-conditions;
+      row-weights = row-weights;
+      rows = rows;
+      guard-bounds = guard-bounds;
+      guard-nodes = guard-nodes;
+      nodes = nodes;
+      edges = edges;
+      links = links;
+      scratch = scratch;
+    }
+
+abbrev pub keptBuffers : List (List ℤ) → List (List ℕ) → List ℕ → List ℕ → List ℕ → List ℕ → List ℕ → List ℕ → List ℕ → List ℕ → List ℕ → List ℕ → List ℕ → Kept
+keptBuffers figures cursors sure never search gcds node-queue row-queue residual-queue row-pending residual-pending answers visits =
+    record {
+      figures = figures;
+      cursors = cursors;
+      sure = sure;
+      never = never;
+      search = search;
+      gcds = gcds;
+      node-queue = node-queue;
+      row-queue = row-queue;
+      residual-queue = residual-queue;
+      row-pending = row-pending;
+      residual-pending = residual-pending;
+      answers = answers;
+      visits = visits;
+    }
+
+abbrev pub workBuffers : Raw → Built → Kept → Work
+workBuffers raw built kept = record { raw = raw; built = built; kept = kept }
+
+-- THE TEST of every length: of the lengths themselves, and of the buffers.
+
+abbrev pub enoughRaw : ℕ → ℕ → ℕ → ℕ → Bool
+enoughRaw raw-conditions raw-weights thresholds bounds =
+    leb 4096 raw-conditions && leb 4096 raw-weights && leb 1024 thresholds && leb 1024 bounds
 
 abbrev pub fitsRaw : Raw → Bool
-fitsRaw w =
-    leb 4096 (length (w .raw-conditions)) && leb 4096 (length (w .raw-weights)) && leb 1024 (length (w .thresholds)) && leb 1024 (length (w .bounds))
+fitsRaw w = enoughRaw (length (w .raw-conditions)) (length (w .raw-weights)) (length (w .thresholds)) (length (w .bounds))
+
+abbrev pub enoughBuilt : ℕ → ℕ → ℕ → ℕ → ℕ → ℕ → ℕ → ℕ → ℕ → Bool
+enoughBuilt row-conditions row-weights rows guard-bounds guard-nodes nodes edges links scratch =
+    leb 4096 row-conditions && leb 4096 row-weights && leb 1024 rows && leb 1024 guard-bounds && leb 1024 guard-nodes && leb 4096 nodes && leb 4096 edges
+    && leb 2048 links && leb 3072 scratch
 
 abbrev pub fitsBuilt : Built → Bool
-fitsBuilt w =
-    leb 4096 (length (w .row-conditions)) && leb 4096 (length (w .row-weights)) && leb 1024 (length (w .rows)) && leb 1024 (length (w .guard-bounds))
-    && leb 1024 (length (w .guard-nodes)) && leb 4096 (length (w .nodes)) && leb 4096 (length (w .edges)) && leb 2048 (length (w .links)) && leb 1024 (length (w .scratch))
+fitsBuilt w = enoughBuilt (length (w .row-conditions)) (length (w .row-weights)) (length (w .rows)) (length (w .guard-bounds)) (length (w .guard-nodes))
+    (length (w .nodes)) (length (w .edges)) (length (w .links)) (length (w .scratch))
+
+abbrev pub enoughKept : ℕ → ℕ → ℕ → ℕ → ℕ → ℕ → ℕ → ℕ → ℕ → ℕ → ℕ → ℕ → ℕ → Bool
+enoughKept figures cursors sure never search gcds node-queue row-queue residual-queue row-pending residual-pending answers visits =
+    leb 1024 figures && leb 1024 cursors && leb 64 sure && leb 64 never && leb 4096 search && leb 1025 gcds && leb 4096 node-queue && leb 1024 row-queue
+    && leb 1024 residual-queue && leb 1024 row-pending && leb 1024 residual-pending && leb 64 answers && leb 64 visits
 
 abbrev pub fitsKept : Kept → Bool
-fitsKept w =
-    leb 1024 (length (w .figures)) && leb 1024 (length (w .cursors)) && leb 64 (length (w .sure)) && leb 64 (length (w .never))
-    && leb 4096 (length (w .search)) && leb 1025 (length (w .gcds)) && leb 4096 (length (w .node-queue)) && leb 1024 (length (w .row-queue))
-    && leb 1024 (length (w .residual-queue)) && leb 1024 (length (w .row-pending)) && leb 1024 (length (w .residual-pending))
-    && leb 64 (length (w .answers)) && leb 64 (length (w .visits))
+fitsKept w = enoughKept (length (w .figures)) (length (w .cursors)) (length (w .sure)) (length (w .never)) (length (w .search)) (length (w .gcds))
+    (length (w .node-queue)) (length (w .row-queue)) (length (w .residual-queue)) (length (w .row-pending)) (length (w .residual-pending)) (length (w .answers))
+    (length (w .visits))
 
 unfoldable pub fits : List ℕ → Work → Bool
 fits input w = fitsRaw (w .raw) && fitsBuilt (w .built) && fitsKept (w .kept) && leb (length input) 65536
@@ -91,7 +142,7 @@ clearBuilt w = record {
   nodes = zeros (replicate 3 0) (w .nodes);
   edges = zeros (replicate 2 0) (w .edges);
   links = zeros 0 (w .links);
-  scratch = zeros (replicate 3 0) (w .scratch);
+  scratch = zeros 0 (w .scratch);
 }
 
 unfoldable pub clearKept : Kept → Kept

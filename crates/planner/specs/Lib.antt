@@ -2,3 +2,4 @@ pub mod Record
 pub mod File
 pub mod Listing
 pub mod Contents
+pub mod FileLaws

@@ -1,1 +1,9 @@
 pub mod Search
+pub mod Shape
+pub mod TermsLaws
+pub mod ZerosLaws
+pub mod SearchSteps
+pub mod RowLaws
+pub mod ChoiceLaws
+pub mod SumsLaws
+pub mod SearchLaws

@@ -13,11 +13,11 @@ use Rattle.possible_sums.specs.declared.Plan.the-variants.{Unplanned, Pl
 use Rattle.possible_sums.specs.declared.Search.{Search}
 use Rattle.possible_sums.specs.declared.Search.the-variants.{Skipped, Fits, Nothing, Cut}
 use Rattle.state.specs.declared.Step.{Step}
-use Rattle.state.specs.declared.Step.the-variants.{Unchanged, Changed, Contradiction}
+use Rattle.state.specs.declared.Step.the-variants.{Unchanged, Contradiction}
 use Rattle.state.specs.declared.State.{State}
 use Rattle.state.specs.State.{natural, limit, hasResidualInterval}
 use Rattle.words.specs.declared.Ended.the-variants.{Hit, Complete, Stopped}
-use Rattle.words.specs.Shift.{Shifted, unionShifted}
+use Rattle.words.specs.Shift.{unionShifted}
 use Rattle.thresholds.specs.Rows.{hasNonunit}
 
 -- The sums from lower - known to upper - known - 1, and 4 visits for each term.

@@ -1,7 +1,7 @@
 -- What moves between rows: a drained guard, a drained condition, bounds over prefix links. propagate.rs and
 -- `threshold_prefixes` on values.
 use Prim.Native.Nat.{ℕ}
-use mathlib.Core.Bool.{Bool, true, false, cond, _&&_, _||_, not}
+use mathlib.Core.Bool.{Bool, true, false, cond, _&&_, not}
 use mathlib.Core.List.{List, [], _∷_}
 use lib.ListN.{length, getD, set}
 use lib.IntN.{ℤ}
@@ -20,7 +20,12 @@ use Rattle.queues.specs.Queue.{Rows, queueRow}
 use Rattle.queues.specs.Marks.{Marks}
 use Rattle.thresholds.specs.Rows.{Row, noRow, Edge, edgesOf, rowNumber}
 use Rattle.prefixes.specs.Links.{Link, neighbours}
+use Rattle.propagate.specs.declared.Tightened.{Tightened}
 use Rattle.propagate.specs.Row.{Ran, thresholdRow, wantsResidual}
+
+-- A row's state after what another row or a guard told it, and whether that is anything new.
+abbrev pub tight : State → Bool → Tightened
+tight s c = record { state = s; changed = c }
 
 -- What the seal built and nothing changes after: thresholds, rows, prefix links.
 pub record Index : Type 0 where
@@ -69,14 +74,15 @@ bounded x v r s =
     runRow x (cond (eqb (length (neighbours r (x .links))) 0) moved (withDirty moved r)) r
 
 -- `threshold_guard`: a sure guard raises its row's lower to its bound, a never one lowers its upper.
+unfoldable pub guardState : State → Bool → ℤ → Tightened
+guardState s true b = elim (leZ b (s .lower)) [ true ↦ tight s false | false ↦ tight (withLower s b) true ]
+guardState s false b = elim (upperAtMost (s .upper) b) [ true ↦ tight s false | false ↦ tight (withUpper s (Under b)) true ]
+
 unfoldable pub thresholdGuard : Index → Live → Threshold → Did
 thresholdGuard x v t =
     let r = rowNumber (x .rows) (t .terms) in
-    let s = stateAt v r in
-    elim (bit (v .marks .sure) (t .node)) [
-      | true ↦ elim (leZ (t .bound) (s .lower)) [ true ↦ did v Unchanged | false ↦ bounded x v r (withLower s (t .bound)) ]
-      | false ↦ elim (upperAtMost (s .upper) (t .bound)) [ true ↦ did v Unchanged | false ↦ bounded x v r (withUpper s (Under (t .bound))) ]
-    ]
+    let g = guardState (stateAt v r) (bit (v .marks .sure) (t .node)) (t .bound) in
+    elim (g .changed) [ true ↦ bounded x v r (g .state) | false ↦ did v Unchanged ]
 
 -- `threshold_condition`: the rows in which the node stands, in order.
 unfoldable pub conditionFrom : Index → Bool → List Edge → Live → Did
@@ -93,29 +99,32 @@ conditionFrom x value (e ∷ es) v =
 unfoldable pub thresholdCondition : Index → Live → ℕ → Did
 thresholdCondition x v node = conditionFrom x (bit (v .marks .sure) node) (edgesOf (x .rows) node) v
 
--- The longer row has at least the shorter's lower, the shorter at most the longer's upper; equal rows both.
-abbrev pub lowerMoves : Index → ℕ → State → ℕ → State → Bool
-lowerMoves x row source target s =
-    leb (length (getD (x .rows) row noRow .terms)) (length (getD (x .rows) target noRow .terms)) && ltZ (s .lower) (source .lower)
+-- The longer row has at least the shorter's lower, the shorter at most the longer's upper; equal rows both. The numbers are
+-- those of the terms of the row that hands on and of the one that takes.
+unfoldable pub movedLower : State → State → ℕ → ℕ → Tightened
+movedLower source s n k = cond (leb n k && ltZ (s .lower) (source .lower)) (tight (withLower s (source .lower)) true) (tight s false)
 
 abbrev pub under : Upper → Upper → Bool
 under Open u = false
 under (Under a) u = not (upperAtMost u a)
 
-abbrev pub upperMoves : Index → ℕ → State → ℕ → State → Bool
-upperMoves x row source target s =
-    leb (length (getD (x .rows) target noRow .terms)) (length (getD (x .rows) row noRow .terms)) && under (source .upper) (s .upper)
+unfoldable pub movedUpper : State → Tightened → ℕ → ℕ → Tightened
+movedUpper source t n k = cond (leb k n && under (source .upper) (t .state .upper)) (tight (withUpper (t .state) (source .upper)) true) t
+
+abbrev pub movedState : State → State → ℕ → ℕ → Tightened
+movedState source s n k = movedUpper source (movedLower source s n k) n k
+
+abbrev pub termCount : Index → ℕ → ℕ
+termCount x r = length (getD (x .rows) r noRow .terms)
 
 unfoldable pub prefixesFrom : Index → ℕ → State → List ℕ → Live → Did
 prefixesFrom x row source [] v = did v Unchanged
 prefixesFrom x row source (r ∷ rs) v =
-    let s = stateAt v r in
-    let l = cond (lowerMoves x row source r s) (withLower s (source .lower)) s in
-    let u = cond (upperMoves x row source r s) (withUpper l (source .upper)) l in
-    elim (lowerMoves x row source r s || upperMoves x row source r s) [
+    let t = movedState source (stateAt v r) (termCount x row) (termCount x r) in
+    elim (t .changed) [
       | false ↦ prefixesFrom x row source rs v
       | true ↦
-          let d = runRow x (withDirty (withState v r u) r) r in
+          let d = runRow x (withDirty (withState v r (t .state)) r) r in
           elim (contradicts (d .step)) [
             | true ↦ did (d .live) Contradiction
             | false ↦

@@ -1,3 +1,8 @@
 pub mod Scan
+pub mod ScanLaws
+pub mod Shape
+pub mod Guards
 pub mod Row
+pub mod RowLaws
 pub mod Between
+pub mod BetweenLaws

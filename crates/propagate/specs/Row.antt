@@ -13,7 +13,8 @@ use Rattle.state.specs.Step.{joined, contradicts}
 use Rattle.state.specs.State.{reached, upperAtMost, limited, limit, conflict, hasResidualInterval, withGuards, withTerms}
 use Rattle.queues.specs.Marks.{Marks, isDecided, Decided, decided, decide}
 use Rattle.thresholds.specs.Rows.{Row, Guard, hasNonunit}
-use Rattle.propagate.specs.Scan.{scan, Scanned, scanned}
+use Rattle.propagate.specs.declared.Cutoff.{Cutoff}
+use Rattle.propagate.specs.Scan.{scan, Scanned, scanned, force}
 
 -- A row's state and the marks after some of its scans, and their answer.
 pub record Ran : Type 0 where
@@ -24,16 +25,25 @@ pub record Ran : Type 0 where
 abbrev pub ran : State → Marks → Step → Ran
 ran s m k = record { state = s; marks = m; step = k }
 
+abbrev pub decides : Bool → Guard → Marks → Decided
+decides value g m = decide value m (g .node)
+
 -- Guards whose bound is reached are sure; they are passed from the lowest bound up.
+abbrev pub sureWaits : State → Guard → Marks → Bool
+sureWaits s g m = ltZ (reached s) (g .bound)
+
 abbrev pub sureGuards : List Guard → State → Marks → Scanned
-sureGuards gs s m =
-    scan (λ (g : Guard) (k : Marks). ltZ (reached s) (g .bound)) (λ (g : Guard) (k : Marks). decide true k (g .node)) (drop (s .«sure_guard») gs) 0 m Unchanged
+sureGuards gs s m = scan (sureWaits s) (decides true) (drop (s .«sure_guard») gs) 0 m Unchanged
 
 -- Guards whose bound can't be reached are never; they are passed from the highest bound down.
+abbrev pub reachable : State → ℤ → Bool
+reachable s b = leZ b (s .possible) && not (upperAtMost (s .upper) b)
+
+abbrev pub neverWaits : State → Guard → Marks → Bool
+neverWaits s g m = reachable s (g .bound)
+
 abbrev pub neverGuards : List Guard → State → Marks → Step → Scanned
-neverGuards gs s m k =
-    scan (λ (g : Guard) (_ : Marks). leZ (g .bound) (s .possible) && not (upperAtMost (s .upper) (g .bound)))
-    (λ (g : Guard) (n : Marks). decide false n (g .node)) (reverse (take (s .«never_guard») gs)) 0 m k
+neverGuards gs s m k = scan (neverWaits s) (decides false) (reverse (take (s .«never_guard») gs)) 0 m k
 
 -- `threshold_guards`
 unfoldable pub thresholdGuards : List Guard → State → Marks → Ran
@@ -47,11 +57,22 @@ thresholdGuards gs s m =
           ran (withGuards up (up .«sure_guard») (s .«never_guard» - b .passed)) (b .marks) (b .step)
     ]
 
+-- A weight that the cutoff leaves free: up to it where sure terms are sought, below it where never ones are.
+abbrev pub light : Cutoff → ℕ → Bool
+light c w = cond (c .value) (leZ (pos w) (c .weight)) (ltZ (pos w) (c .weight))
+
+abbrev pub cut : Bool → ℤ → Cutoff
+cut b z = record { value = b; weight = z }
+
+abbrev pub termWaits : (ℕ → Bool) → Term → Marks → Bool
+termWaits waits t m = not (isDecided m (t .condition)) && waits (t .weight)
+
+abbrev pub forces : Bool → Term → Marks → Decided
+forces value t m = force value m (t .condition)
+
 -- Terms from the heaviest down: decided ones are passed, and those that the cutoff forces.
 abbrev pub forced : Bool → (ℕ → Bool) → List Term → Marks → Scanned
-forced value waits ts m =
-    scan (λ (t : Term) (k : Marks). not (isDecided k (t .condition)) && waits (t .weight))
-    (λ (t : Term) (k : Marks). cond (isDecided k (t .condition)) (decided k Unchanged) (decide value k (t .condition))) ts 0 m Unchanged
+forced value waits ts m = scan (termWaits waits) (forces value) ts 0 m Unchanged
 
 -- `threshold_terms` for true: a weight above possible - lower is needed.
 unfoldable pub trueTerms : List Term → State → Marks → Ran
@@ -65,21 +86,22 @@ falseTerms ts s m =
     let a = forced false (λ (w : ℕ). ltZ (pos w) (limit (s .upper) -ℤ s .known)) (drop (s .«false_term») ts) m in
     cond (limited (s .upper)) (ran (withTerms s (s .«true_term») (s .«false_term» + a .passed)) (a .marks) (a .step)) (ran s m Unchanged)
 
+-- Terms behind the guards, those to be sure first.
+abbrev pub rowTerms : List Term → Ran → Ran
+rowTerms ts a =
+    let b = trueTerms ts (a .state) (a .marks) in
+    elim (contradicts (b .step)) [
+      | true ↦ b
+      | false ↦
+          let c = falseTerms ts (b .state) (b .marks) in
+          ran (c .state) (c .marks) (joined (joined (a .step) (b .step)) (c .step))
+    ]
+
 -- Scans of a row that is in no conflict, each only where the one before did not contradict.
 unfoldable pub scans : Row → State → Marks → Ran
 scans r s m =
     let a = thresholdGuards (r .guards) s m in
-    elim (contradicts (a .step)) [
-      | true ↦ a
-      | false ↦
-          let b = trueTerms (r .terms) (a .state) (a .marks) in
-          elim (contradicts (b .step)) [
-            | true ↦ b
-            | false ↦
-                let c = falseTerms (r .terms) (b .state) (b .marks) in
-                ran (c .state) (c .marks) (joined (joined (a .step) (b .step)) (c .step))
-          ]
-    ]
+    elim (contradicts (a .step)) [ true ↦ a | false ↦ rowTerms (r .terms) a ]
 
 -- `threshold_row`
 unfoldable pub thresholdRow : Row → State → Marks → Ran

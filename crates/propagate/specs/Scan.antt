@@ -1,12 +1,12 @@
 -- A scan of a row's guards or terms: places are passed in order, and what they decide is decided, up to the first that
 -- must wait. The four cursors of a row state count the places passed.
 use Prim.Native.Nat.{ℕ, _+_}
-use mathlib.Core.Bool.{Bool, true, false}
+use mathlib.Core.Bool.{Bool, true, false, cond}
 use mathlib.Core.List.{List, [], _∷_}
 use Rattle.state.specs.declared.Step.{Step}
 use Rattle.state.specs.declared.Step.the-variants.{Unchanged, Changed, Contradiction}
 use Rattle.state.specs.Step.{joined, contradicts}
-use Rattle.queues.specs.Marks.{Marks, Decided}
+use Rattle.queues.specs.Marks.{Marks, isDecided, Decided, decided, decide}
 
 pub record Scanned : Type 0 where
   pub passed : ℕ
@@ -28,3 +28,23 @@ scan waits act (x ∷ xs) n m k =
             | false ↦ scan waits act xs (n + 1) (act x m .marks) (joined k (act x m .step))
           ]
     ]
+
+-- One place: what the scan is after it, and whether the scan ends there.
+pub record Turned : Type 0 where
+  pub scanned : Scanned
+  pub ends : Bool
+
+abbrev pub turn : Scanned → Bool → Turned
+turn s e = record { scanned = s; ends = e }
+
+unfoldable pub turned : Bool → Decided → Scanned → Turned
+turned true d s = turn s true
+turned false d s =
+    elim (contradicts (d .step)) [
+      | true ↦ turn (scanned (s .passed + 1) (d .marks) Contradiction) true
+      | false ↦ turn (scanned (s .passed + 1) (d .marks) (joined (s .step) (d .step))) false
+    ]
+
+-- A term that is decided is passed as it is.
+abbrev pub force : Bool → Marks → ℕ → Decided
+force value m n = cond (isDecided m n) (decided m Unchanged) (decide value m n)

@@ -1,1 +1,581 @@
 // Propagation on one row and between rows: propagate.rs, and `threshold_prefixes` of prefixes.rs.
+ghost use mathlib.Core.Path.{_≡_};
+ghost use mathlib.Core.Bool.{false, not, _&&_};
+ghost use Prim.Native.Nat.{_+_, _<_, _≤_, _^_};
+ghost use lib.ListN.{length, drop};
+ghost use mathlib.Core.List.{List};
+ghost use lib.Signed.{ltZ};
+ghost use Rattle.numeric.specs.Threshold.{Term, terms};
+ghost use Rattle.words.specs.Mask.{inEither};
+ghost use Rattle.state.specs.State.{reached};
+ghost use Rattle.queues.specs.Queue.{queue};
+ghost use Rattle.queues.specs.Marks.{Marks, marks, isDecided, decided, decide};
+ghost use Rattle.queues.specs.MarksLaws.{Waits};
+ghost use Rattle.thresholds.specs.Rows.{Guard, rowOf};
+ghost use Rattle.propagate.specs.Scan.{scanned, turn as turnOf, turned, force};
+ghost use Rattle.propagate.specs.Between.{guardState, movedLower, movedUpper, movedState};
+ghost use Rattle.propagate.specs.Shape.{Below, TermSlices, GuardSlices, Figures};
+ghost use Rattle.propagate.specs.Guards.{guards};
+ghost use Rattle.propagate.specs.Row.{ran as ranOf, reachable, sureGuards, neverGuards, thresholdGuards, light, forced, trueTerms, falseTerms, rowTerms, thresholdRow, wantsResidual};
+use queues::Decision;
+use queues::Ring;
+use state::State;
+use state::Step;
+use state::Upper;
+
+// A scan of a row's guards or terms so far: the places passed, the strongest answer, the queue of nodes.
+pub struct Scan {
+    pub passed: usize,
+    pub step: Step,
+    pub ring: Ring,
+}
+
+// A row's state after some of its scans, their answer and the queue of nodes.
+pub struct Ran {
+    pub state: State,
+    pub step: Step,
+    pub ring: Ring,
+}
+
+// The scan after one more place, and whether it ends there.
+struct Turn {
+    scan: Scan,
+    ends: bool,
+}
+
+// One place more is passed, with what it decided; a contradiction ends the scan.
+fn passed_turn(scan: Scan, made: Decision) -> Turn
+    requires { ⌜ scan .passed + 1 < 2 ^ 64 ⌝ }
+    ensures { λ r. ⌜ ((m n : Marks) → turnOf (scanned (r .scan .passed) m (r .scan .step)) (r .ends) ≡ turned false (decided m (made .step)) (scanned (scan .passed) n (scan .step)))
+        × (r .scan .ring ≡ made .ring) ⌝ }
+{
+    let passed = scan.passed + 1;
+    let step = made.step;
+    let ring = made.ring;
+    if step.contradicts() {
+        let next = Scan {
+            passed: passed,
+            step: Step::Contradiction,
+            ring: ring,
+        };
+        return Turn {
+            scan: next,
+            ends: true,
+        };
+    }
+    let before = scan.step;
+    let joined = before.join(step);
+    let next = Scan {
+        passed: passed,
+        step: joined,
+        ring: ring,
+    };
+    Turn {
+        scan: next,
+        ends: false,
+    }
+}
+
+// A guard that waits ends the scan; any other is passed, and its node decided.
+fn guard_turn(
+    value: bool,
+    waits: bool,
+    node: u16,
+    sure: &mut [u64],
+    never: &mut [u64],
+    nodes: &mut [u16],
+    scan: Scan,
+) -> Turn
+    requires { ⌜ Waits (marks (now sure) (now never) (queue (now nodes) (scan .ring))) × (node < 4096) × (scan .passed + 1 < 2 ^ 64) ⌝ }
+    ensures { λ r. ⌜ turnOf (scanned (r .scan .passed) (marks (now (sure .exit)) (now (never .exit)) (queue (now (nodes .exit)) (r .scan .ring))) (r .scan .step)) (r .ends)
+        ≡ turned waits (decide value (marks (now (sure .entry)) (now (never .entry)) (queue (now (nodes .entry)) (scan .ring))) node)
+        (scanned (scan .passed) (marks (now (sure .entry)) (now (never .entry)) (queue (now (nodes .entry)) (scan .ring))) (scan .step)) ⌝ }
+{
+    if waits {
+        return Turn {
+            scan: scan,
+            ends: true,
+        };
+    }
+    let ring = scan.ring;
+    let made = queues::decide(value, sure, never, nodes, ring, node as usize);
+    passed_turn(scan, made)
+}
+
+// In one mask or the other.
+fn decided(sure: &[u64], never: &[u64], node: u16) -> bool
+    requires { ⌜ (node < 4096) × (64 ≤ length (now sure)) × (64 ≤ length (now never)) ⌝ }
+    ensures { λ r. ⌜ r ≡ inEither (now (sure .entry)) (now (never .entry)) node ⌝ }
+{
+    let n = node as usize;
+    if words::bit(sure, n) {
+        return true;
+    }
+    words::bit(never, n)
+}
+
+// A term that is decided is passed as it is; any other waits, or is forced.
+fn term_turn(
+    value: bool,
+    waits: bool,
+    node: u16,
+    sure: &mut [u64],
+    never: &mut [u64],
+    nodes: &mut [u16],
+    scan: Scan,
+) -> Turn
+    requires { ⌜ Waits (marks (now sure) (now never) (queue (now nodes) (scan .ring))) × (node < 4096) × (scan .passed + 1 < 2 ^ 64) ⌝ }
+    ensures { λ r. ⌜ turnOf (scanned (r .scan .passed) (marks (now (sure .exit)) (now (never .exit)) (queue (now (nodes .exit)) (r .scan .ring))) (r .scan .step)) (r .ends)
+        ≡ turned (not (isDecided (marks (now (sure .entry)) (now (never .entry)) (queue (now (nodes .entry)) (scan .ring))) node) && waits)
+        (force value (marks (now (sure .entry)) (now (never .entry)) (queue (now (nodes .entry)) (scan .ring))) node)
+        (scanned (scan .passed) (marks (now (sure .entry)) (now (never .entry)) (queue (now (nodes .entry)) (scan .ring))) (scan .step)) ⌝ }
+{
+    let ring = scan.ring;
+    if decided(sure, never, node) {
+        let made = Decision {
+            step: Step::Unchanged,
+            ring: ring,
+        };
+        return passed_turn(scan, made);
+    }
+    guard_turn(value, waits, node, sure, never, nodes, scan)
+}
+
+// The bound is above what is reached.
+fn sure_waits(state: State, bound: i64) -> bool
+    ensures { λ r. ⌜ r ≡ ltZ (reached state) bound ⌝ }
+{
+    let reached = state.reached();
+    reached < bound
+}
+
+// The bound can still be reached: it is possible, and the limit is above it.
+fn never_waits(state: State, bound: i64) -> bool
+    ensures { λ r. ⌜ r ≡ reachable state bound ⌝ }
+{
+    let possible = state.possible;
+    if possible < bound {
+        return false;
+    }
+    !state.upper_at_most(bound)
+}
+
+// Guards from the cursor up: those whose bound is reached are sure.
+fn sure_guards(
+    bounds: &[i64],
+    names: &[u16],
+    state: State,
+    sure: &mut [u64],
+    never: &mut [u64],
+    nodes: &mut [u16],
+    ring: Ring,
+) -> Scan
+    requires { ⌜ GuardSlices (now bounds) (now names) × Waits (marks (now sure) (now never) (queue (now nodes) ring)) ⌝ }
+    ensures { λ r. ⌜ scanned (r .passed) (marks (now (sure .exit)) (now (never .exit)) (queue (now (nodes .exit)) (r .ring))) (r .step)
+        ≡ sureGuards (guards (now (bounds .entry)) (now (names .entry))) state (marks (now (sure .entry)) (now (never .entry)) (queue (now (nodes .entry)) ring)) ⌝ }
+{
+    let mut at = state.sure_guard;
+    let mut so_far = Scan {
+        passed: 0,
+        step: Step::Unchanged,
+        ring: ring,
+    };
+    while at < bounds.len() {
+        let bound = bounds[at];
+        let node = names[at];
+        let waits = sure_waits(state, bound);
+        let turn = guard_turn(true, waits, node, sure, never, nodes, so_far);
+        let next = turn.scan;
+        so_far = next;
+        if turn.ends {
+            return so_far;
+        }
+        at += 1;
+    }
+    so_far
+}
+
+// Guards from the cursor down: those whose bound cannot be reached are never.
+fn never_guards(
+    bounds: &[i64],
+    names: &[u16],
+    state: State,
+    sure: &mut [u64],
+    never: &mut [u64],
+    nodes: &mut [u16],
+    ring: Ring,
+    before: Step,
+) -> Scan
+    requires { ⌜ GuardSlices (now bounds) (now names) × (state .«never_guard» ≤ length (now bounds)) × Waits (marks (now sure) (now never) (queue (now nodes) ring)) ⌝ }
+    ensures { λ r. ⌜ scanned (r .passed) (marks (now (sure .exit)) (now (never .exit)) (queue (now (nodes .exit)) (r .ring))) (r .step)
+        ≡ neverGuards (guards (now (bounds .entry)) (now (names .entry))) state (marks (now (sure .entry)) (now (never .entry)) (queue (now (nodes .entry)) ring)) before ⌝ }
+{
+    let mut at = state.never_guard;
+    let mut so_far = Scan {
+        passed: 0,
+        step: before,
+        ring: ring,
+    };
+    while at > 0 {
+        let bound = bounds[at - 1];
+        let node = names[at - 1];
+        let waits = never_waits(state, bound);
+        let turn = guard_turn(false, waits, node, sure, never, nodes, so_far);
+        let next = turn.scan;
+        so_far = next;
+        if turn.ends {
+            return so_far;
+        }
+        at -= 1;
+    }
+    so_far
+}
+
+// `threshold_guards`: what is reached makes guards sure, what cannot be reached makes them never.
+pub fn threshold_guards(
+    bounds: &[i64],
+    names: &[u16],
+    state: State,
+    sure: &mut [u64],
+    never: &mut [u64],
+    nodes: &mut [u16],
+    ring: Ring,
+) -> Ran
+    requires { ⌜ GuardSlices (now bounds) (now names) × (state .«never_guard» ≤ length (now bounds)) × Waits (marks (now sure) (now never) (queue (now nodes) ring)) ⌝ }
+    ensures { λ r. ⌜ ranOf (r .state) (marks (now (sure .exit)) (now (never .exit)) (queue (now (nodes .exit)) (r .ring))) (r .step)
+        ≡ thresholdGuards (guards (now (bounds .entry)) (now (names .entry))) state (marks (now (sure .entry)) (now (never .entry)) (queue (now (nodes .entry)) ring)) ⌝ }
+{
+    let low = state.never_guard;
+    let first = sure_guards(bounds, names, state, sure, never, nodes, ring);
+    let up = state.sure_guard + first.passed;
+    let step = first.step;
+    let next = first.ring;
+    if step.contradicts() {
+        let moved = state.with_guards(up, low);
+        return Ran {
+            state: moved,
+            step: Step::Contradiction,
+            ring: next,
+        };
+    }
+    let second = never_guards(bounds, names, state, sure, never, nodes, next, step);
+    let moved = state.with_guards(up, low - second.passed);
+    let last = second.step;
+    let left = second.ring;
+    Ran {
+        state: moved,
+        step: last,
+        ring: left,
+    }
+}
+
+// A weight of this much waits: up to it where sure terms are sought, below it where never ones are.
+struct Cutoff {
+    value: bool,
+    weight: i64,
+}
+
+impl Cutoff {
+    fn waits(self, weight: u64) -> bool
+        requires { ⌜ weight < 2 ^ 63 ⌝ }
+        ensures { λ r. ⌜ r ≡ light self weight ⌝ }
+    {
+        let cut = self.weight;
+        let own = weight as i64;
+        if self.value {
+            return own <= cut;
+        }
+        own < cut
+    }
+}
+
+// Terms from the cursor on, the heaviest first: decided ones are passed, and those that the cutoff forces.
+fn forced_terms(
+    conditions: &[u16],
+    weights: &[u64],
+    from: usize,
+    cutoff: Cutoff,
+    sure: &mut [u64],
+    never: &mut [u64],
+    nodes: &mut [u16],
+    ring: Ring,
+) -> Scan
+    requires { ⌜ TermSlices (now conditions) (now weights) × Waits (marks (now sure) (now never) (queue (now nodes) ring)) ⌝ }
+    ensures { λ r. ⌜ scanned (r .passed) (marks (now (sure .exit)) (now (never .exit)) (queue (now (nodes .exit)) (r .ring))) (r .step)
+        ≡ forced (cutoff .value) (light cutoff) (drop from (terms (now (conditions .entry)) (now (weights .entry)))) (marks (now (sure .entry)) (now (never .entry)) (queue (now (nodes .entry)) ring)) ⌝ }
+{
+    let value = cutoff.value;
+    let mut at = from;
+    let mut so_far = Scan {
+        passed: 0,
+        step: Step::Unchanged,
+        ring: ring,
+    };
+    while at < weights.len() {
+        let weight = weights[at];
+        let node = conditions[at];
+        let waits = cutoff.waits(weight);
+        let turn = term_turn(value, waits, node, sure, never, nodes, so_far);
+        let next = turn.scan;
+        so_far = next;
+        if turn.ends {
+            return so_far;
+        }
+        at += 1;
+    }
+    so_far
+}
+
+// `threshold_terms` for true: a term heavier than possible - lower is needed.
+fn true_terms(
+    conditions: &[u16],
+    weights: &[u64],
+    state: State,
+    sure: &mut [u64],
+    never: &mut [u64],
+    nodes: &mut [u16],
+    ring: Ring,
+) -> Ran
+    requires { ⌜ TermSlices (now conditions) (now weights) × Figures state × Waits (marks (now sure) (now never) (queue (now nodes) ring)) ⌝ }
+    ensures { λ r. ⌜ ranOf (r .state) (marks (now (sure .exit)) (now (never .exit)) (queue (now (nodes .exit)) (r .ring))) (r .step)
+        ≡ trueTerms (terms (now (conditions .entry)) (now (weights .entry))) state (marks (now (sure .entry)) (now (never .entry)) (queue (now (nodes .entry)) ring)) ⌝ }
+{
+    let known = state.known;
+    let lower = state.lower;
+    let possible = state.possible;
+    if known >= lower {
+        return Ran {
+            state: state,
+            step: Step::Unchanged,
+            ring: ring,
+        };
+    }
+    let cutoff = Cutoff {
+        value: true,
+        weight: possible - lower,
+    };
+    let from = state.true_term;
+    let scan = forced_terms(conditions, weights, from, cutoff, sure, never, nodes, ring);
+    let moved = state.with_terms(from + scan.passed, state.false_term);
+    let step = scan.step;
+    let next = scan.ring;
+    Ran {
+        state: moved,
+        step: step,
+        ring: next,
+    }
+}
+
+// `threshold_terms` for false: a term of at least upper - known is too heavy.
+fn false_terms(
+    conditions: &[u16],
+    weights: &[u64],
+    state: State,
+    sure: &mut [u64],
+    never: &mut [u64],
+    nodes: &mut [u16],
+    ring: Ring,
+) -> Ran
+    requires { ⌜ TermSlices (now conditions) (now weights) × Figures state × Waits (marks (now sure) (now never) (queue (now nodes) ring)) ⌝ }
+    ensures { λ r. ⌜ ranOf (r .state) (marks (now (sure .exit)) (now (never .exit)) (queue (now (nodes .exit)) (r .ring))) (r .step)
+        ≡ falseTerms (terms (now (conditions .entry)) (now (weights .entry))) state (marks (now (sure .entry)) (now (never .entry)) (queue (now (nodes .entry)) ring)) ⌝ }
+{
+    let known = state.known;
+    let upper = state.upper;
+    match upper {
+        Upper::Open => Ran {
+            state: state,
+            step: Step::Unchanged,
+            ring: ring,
+        },
+        Upper::Under(limit) => {
+            let cutoff = Cutoff {
+                value: false,
+                weight: limit - known,
+            };
+            let from = state.false_term;
+            let scan = forced_terms(conditions, weights, from, cutoff, sure, never, nodes, ring);
+            let moved = state.with_terms(state.true_term, from + scan.passed);
+            let step = scan.step;
+            let next = scan.ring;
+            Ran {
+                state: moved,
+                step: step,
+                ring: next,
+            }
+        }
+    }
+}
+
+// Terms behind the guards: those that must be sure, then those that must not.
+fn row_terms(
+    conditions: &[u16],
+    weights: &[u64],
+    before: Ran,
+    sure: &mut [u64],
+    never: &mut [u64],
+    nodes: &mut [u16],
+) -> Ran
+    requires { ⌜ TermSlices (now conditions) (now weights) × Figures (before .state) × Waits (marks (now sure) (now never) (queue (now nodes) (before .ring))) ⌝ }
+    ensures { λ r. ⌜ ranOf (r .state) (marks (now (sure .exit)) (now (never .exit)) (queue (now (nodes .exit)) (r .ring))) (r .step)
+        ≡ rowTerms (terms (now (conditions .entry)) (now (weights .entry)))
+        (ranOf (before .state) (marks (now (sure .entry)) (now (never .entry)) (queue (now (nodes .entry)) (before .ring))) (before .step)) ⌝ }
+{
+    let start = before.state;
+    let ring = before.ring;
+    let first = true_terms(conditions, weights, start, sure, never, nodes, ring);
+    let step = first.step;
+    if step.contradicts() {
+        return first;
+    }
+    let state = first.state;
+    let next = first.ring;
+    let second = false_terms(conditions, weights, state, sure, never, nodes, next);
+    let guards = before.step;
+    let last = second.step;
+    let end = second.state;
+    let left = second.ring;
+    let both = guards.join(step);
+    let all = both.join(last);
+    Ran {
+        state: end,
+        step: all,
+        ring: left,
+    }
+}
+
+// `threshold_row`: a row in conflict contradicts; any other scans its guards, then its terms.
+pub fn threshold_row(
+    conditions: &[u16],
+    weights: &[u64],
+    bounds: &[i64],
+    names: &[u16],
+    state: State,
+    sure: &mut [u64],
+    never: &mut [u64],
+    nodes: &mut [u16],
+    ring: Ring,
+) -> Ran
+    requires { ⌜ TermSlices (now conditions) (now weights) × GuardSlices (now bounds) (now names) × Figures state × (state .«never_guard» ≤ length (now bounds)) × Waits (marks (now sure) (now never) (queue (now nodes) ring)) ⌝ }
+    ensures { λ r. ⌜ ((raw : List Term) → ranOf (r .state) (marks (now (sure .exit)) (now (never .exit)) (queue (now (nodes .exit)) (r .ring))) (r .step)
+        ≡ thresholdRow (rowOf raw (terms (now (conditions .entry)) (now (weights .entry))) (guards (now (bounds .entry)) (now (names .entry)))) state (marks (now (sure .entry)) (now (never .entry)) (queue (now (nodes .entry)) ring))) ⌝ }
+{
+    if state.conflict() {
+        return Ran {
+            state: state,
+            step: Step::Contradiction,
+            ring: ring,
+        };
+    }
+    let first = threshold_guards(bounds, names, state, sure, never, nodes, ring);
+    let step = first.step;
+    if step.contradicts() {
+        return first;
+    }
+    row_terms(conditions, weights, first, sure, never, nodes)
+}
+
+// A row in no conflict with a weight above 1 waits for a residual when both its limits cut.
+pub fn wants_residual(conditions: &[u16], weights: &[u64], state: State) -> bool
+    requires { ⌜ length (now conditions) ≡ length (now weights) ⌝ }
+    ensures { λ r. ⌜ ((raw : List Term) (gs : List Guard) → r ≡ wantsResidual (rowOf raw (terms (now (conditions .entry)) (now (weights .entry))) gs) state) ⌝ }
+{
+    if state.conflict() {
+        return false;
+    }
+    if weights.len() == 0 {
+        return false;
+    }
+    if weights[0] <= 1 {
+        return false;
+    }
+    state.has_residual_interval()
+}
+
+// A row's state after a bound from outside, and whether the bound was new.
+pub struct Tightened {
+    pub state: State,
+    pub changed: bool,
+}
+
+// `threshold_guard` on its row's state: a sure guard raises lower to its bound, a never one lowers upper.
+pub fn guard_state(state: State, value: bool, bound: i64) -> Tightened
+    ensures { λ r. ⌜ r ≡ guardState state value bound ⌝ }
+{
+    if value {
+        if state.needs_lower(bound) {
+            let raised = state.raise_lower(bound);
+            return Tightened {
+                state: raised,
+                changed: true,
+            };
+        }
+        return Tightened {
+            state: state,
+            changed: false,
+        };
+    }
+    if state.upper_at_most(bound) {
+        return Tightened {
+            state: state,
+            changed: false,
+        };
+    }
+    let lowered = state.lower_upper(bound);
+    Tightened {
+        state: lowered,
+        changed: true,
+    }
+}
+
+// The longer of two rows with equal first terms has at least the shorter's lower.
+fn moved_lower(source: State, state: State, from: usize, to: usize) -> Tightened
+    ensures { λ r. ⌜ r ≡ movedLower source state from to ⌝ }
+{
+    let lower = source.lower;
+    if from <= to {
+        if state.needs_lower(lower) {
+            let raised = state.raise_lower(lower);
+            return Tightened {
+                state: raised,
+                changed: true,
+            };
+        }
+    }
+    Tightened {
+        state: state,
+        changed: false,
+    }
+}
+
+// The shorter has at most the longer's upper.
+fn moved_upper(source: State, before: Tightened, from: usize, to: usize) -> Tightened
+    ensures { λ r. ⌜ r ≡ movedUpper source before from to ⌝ }
+{
+    let upper = source.upper;
+    if from < to {
+        return before;
+    }
+    match upper {
+        Upper::Open => before,
+        Upper::Under(limit) => {
+            let state = before.state;
+            if state.upper_at_most(limit) {
+                return before;
+            }
+            let lowered = state.lower_upper(limit);
+            Tightened {
+                state: lowered,
+                changed: true,
+            }
+        }
+    }
+}
+
+// `threshold_prefixes` on one neighbour's state; `from` and `to` are the terms of the two rows.
+pub fn moved_state(source: State, state: State, from: usize, to: usize) -> Tightened
+    ensures { λ r. ⌜ r ≡ movedState source state from to ⌝ }
+{
+    let raised = moved_lower(source, state, from, to);
+    moved_upper(source, raised, from, to)
+}

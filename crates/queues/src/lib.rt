@@ -21,7 +21,7 @@ pub struct Decision {
 // A place behind the last is that much behind the first.
 fn wrapped(at: usize, places: usize) -> usize
     requires { ⌜ at < places + places ⌝ }
-    ensures { λ r. ⌜ r ≡ at % places ⌝ }
+    ensures { λ r. ⌜ (r ≡ at % places) × (r < places) ⌝ }
 {
     if at < places {
         return at;

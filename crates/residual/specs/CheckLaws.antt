@@ -2,18 +2,17 @@
 use Prim.Native.Nat.{ℕ, zero, suc, _-_, _<_, _≤_, min}
 use native.Mathlib.Nat.{not-suc-le-zero}
 use native.Mathlib.Omega.{arith}
-use mathlib.Core.Path.{_≡_, refl, sym, ap, _∙_}
-use mathlib.Core.Bool.{Bool, true, false, cond, _&&_, _||_, not}
+use mathlib.Core.Path.{_≡_, sym, ap, _∙_}
+use mathlib.Core.Bool.{Bool, true, false, _&&_, not}
 use mathlib.Core.List.{List, [], _∷_, reverse}
 use mathlib.Core.Logic.{_≢_}
 use lib.ListN.{length, getD, take}
 use lib.Seq.{take-all}
-use lib.Dec.{eqb, leb, ltb}
+use lib.Dec.{eqb, leb}
 use lib.Signed.{ltZ}
 use borrow.Author.Tests.{eq-eqb, ne-eqb}
 use Rattle.numeric.specs.Threshold.{Term, term, terms}
 use Rattle.numeric.specs.TermsLaws.{down-terms, length-terms}
-use Rattle.state.specs.declared.Step.{Step}
 use Rattle.state.specs.declared.Step.the-variants.{Unchanged, Contradiction}
 use Rattle.state.specs.declared.State.{State}
 use Rattle.state.specs.State.{reached, upperAtMost, hasResidualInterval}
@@ -104,19 +103,6 @@ module _ (i : Interval) (d : ℕ → Bool) (divisor : ℕ) where
   pub check-end-hits : divisor ≡ 0 → misses (i .known) (i .lower) (min (i .possible) (i .upper)) 0 ≡ false → checkFrom i d [] divisor ≡ Unchanged
   unfolding checkFrom
   check-end-hits h k = simp (eq-eqb divisor 0 h, k)
-
--- The first weight of a row that has one.
-pub nonunit-none : (cs ws : List ℕ) → length ws ≡ 0 → hasNonunit (terms cs ws) ≡ false
-unfolding hasNonunit terms
-nonunit-none [] ws e = refl
-nonunit-none (c ∷ cs) [] e = refl
-nonunit-none (c ∷ cs) (w ∷ ws) e = absurd (let h : length (w ∷ ws) ≡ 0 = e in omega arith)
-
-pub nonunit-first : (cs ws : List ℕ) → 0 < length cs → 0 < length ws → hasNonunit (terms cs ws) ≡ ltb 1 (getD ws 0 0)
-unfolding hasNonunit terms
-nonunit-first [] ws h k = absurd (not-suc-le-zero h)
-nonunit-first (c ∷ cs) [] h k = absurd (not-suc-le-zero k)
-nonunit-first (c ∷ cs) (w ∷ ws) h k = refl
 
 -- What the check answers before it looks at the terms, and that it looks at them else.
 module _ (ts : List Term) (s : State) (d : ℕ → Bool) where

@@ -1,14 +1,16 @@
 -- The scan for a fitting weight and another one beside it, one term a turn from the light end.
 use Prim.Native.Nat.{ℕ, _-_, _<_, _≤_}
-use mathlib.Core.Path.{_≡_, refl, sym, ap, _∙_}
-use mathlib.Core.Bool.{Bool, true, false, _&&_, _||_, not}
-use mathlib.Core.List.{List, [], _∷_}
+use mathlib.Core.Path.{_≡_, sym, ap, _∙_}
+use mathlib.Core.Bool.{Bool, true, false}
+use mathlib.Core.List.{List, _∷_, reverse}
 use lib.ListN.{length, getD}
-use lib.Dec.{leb, ltb}
 use Rattle.numeric.specs.Threshold.{Term, term}
+use Rattle.state.specs.declared.State.{State}
+use Rattle.state.specs.State.{hasResidualInterval}
+use Rattle.thresholds.specs.Rows.{hasNonunit}
 use Rattle.residual.specs.declared.Interval.{Interval}
 use Rattle.residual.specs.Gcd.{gcd}
-use Rattle.residual.specs.Residual.{tooWide, bothFit, fitsFrom}
+use Rattle.residual.specs.Residual.{interval, tooWide, bothFit, fitsFrom, nothingForced}
 use Rattle.residual.specs.CheckLaws.{lastTerms, last-next, last-none}
 
 module _ (i : Interval) (d : ℕ → Bool) (t : Term) (ts : List Term) (fitting : Bool) (complement : ℕ) where
@@ -71,3 +73,14 @@ pub fits-none : (i : Interval) (d : ℕ → Bool) (cs ws : List ℕ) (left : ℕ
     → fitsFrom i d (lastTerms cs ws left) fitting complement ≡ false
 unfolding fitsFrom
 fits-none i d cs ws left fitting complement e = ap (λ (x : List Term). fitsFrom i d x fitting complement) (last-none cs ws left e)
+
+-- What there is to force, by the three tests.
+module _ (ts : List Term) (s : State) (d : ℕ → Bool) where
+  pub nothing-unit : hasNonunit ts ≡ false → nothingForced ts s d ≡ true
+  nothing-unit h = simp h
+
+  pub nothing-wide : hasNonunit ts ≡ true → hasResidualInterval s ≡ false → nothingForced ts s d ≡ true
+  nothing-wide h k = simp (h, k)
+
+  pub nothing-fits : hasNonunit ts ≡ true → hasResidualInterval s ≡ true → nothingForced ts s d ≡ fitsFrom (interval s) d (reverse ts) false 0
+  nothing-fits h k = simp (h, k)

@@ -1,28 +1,43 @@
--- Forcing one term after the other, from the heavy end: what a turn does to the marks and the answer, and the room it takes.
-use Prim.Native.Nat.{ℕ, suc, _+_, _-_, _%_, _<_, _≤_}
+-- Forcing one term after the other, from the heavy end: what a turn does to the marks and the answer, and that there is room for it.
+use Prim.Native.Nat.{ℕ, suc, _+_, _-_, _<_, _≤_}
+use native.Mathlib.Decide.{ℕ-discrete}
 use native.Mathlib.Omega.{arith}
-use mathlib.Core.Path.{_≡_, refl, sym, ap, _∙_}
+use mathlib.Core.Path.{_≡_, refl, sym, ap, _∙_, subst}
 use mathlib.Core.Bool.{Bool, true, false}
-use mathlib.Core.List.{List, [], _∷_, _++_}
+use mathlib.Core.List.{List, [], _∷_, reverse}
 use mathlib.Core.Logic.{_≢_}
 use native.Mathlib.Numerals.{add-one}
-use lib.ListN.{length, getD, set, drop, length-set, length-drop, drop-of-length-le, List·getD-append}
+use lib.ListN.{length, getD, drop, length-append, length-drop, length-reverse, drop-of-length-le, List·getD-append}
 use borrow.Author.Tests.{eq-eqb, ne-eqb}
-use lib.Dec.{eqb}
 use Rattle.numeric.specs.Threshold.{Term, term, terms}
 use Rattle.numeric.specs.TermsLaws.{up-terms, length-terms}
 use Rattle.state.specs.declared.Step.{Step}
 use Rattle.state.specs.declared.Step.the-variants.{Unchanged, Changed, Contradiction}
+use Rattle.state.specs.declared.State.{State}
 use Rattle.state.specs.Step.{joined, contradicts}
-use Rattle.words.specs.Mask.{learn}
 use Rattle.queues.specs.declared.Ring.{Ring}
-use Rattle.queues.specs.Queue.{Queue, queue, push}
-use Rattle.queues.specs.Marks.{Marks, marks, isDecided, Decided, decided, decide, waiting}
+use Rattle.queues.specs.Queue.{queue}
+use Rattle.queues.specs.MarksLaws.{Waits, waits-decide}
+use Rattle.queues.specs.Marks.{Marks, marks, isDecided, Decided, decided, decide}
 use Rattle.residual.specs.declared.Interval.{Interval}
-use Rattle.residual.specs.Gcd.{gcd, branchMisses}
+use Rattle.residual.specs.Gcd.{gcd}
 use Rattle.residual.specs.MissesLaws.{clash}
-use Rattle.residual.specs.Shape.{Room}
-use Rattle.residual.specs.Residual.{offMisses, onMisses, forceTerm, forceFrom, over}
+use Rattle.residual.specs.Shape.{Below}
+use Rattle.residual.specs.SuffixLaws.{length-suffix}
+use Rattle.residual.specs.Residual.{
+  interval,
+  residualCheck,
+  suffixes,
+  offMisses,
+  onMisses,
+  forceTerm,
+  forceFrom,
+  Residual,
+  residual,
+  over,
+  nothingForced,
+  thresholdResidual,
+}
 
 module _ (i : Interval) (m : Marks) (t : Term) (divisor : ℕ) where
   pub force-unit : divisor ≡ 1 → forceTerm i m t divisor ≡ decided m Unchanged
@@ -46,73 +61,45 @@ module _ (i : Interval) (m : Marks) (t : Term) (divisor : ℕ) where
     unfolding forceTerm
     force-free f g = rw (ne-eqb divisor 1 n, f, g, forceTerm)
 
--- The same queue, with at most one entry more.
-pub record Grows (q r : Queue) : Type 0 where
-  pub head : r .ring .head ≡ q .ring .head
-  pub count : r .ring .count ≤ q .ring .count + 1
-  pub long : length (r .items) ≡ length (q .items)
-
-grows-not : (q : Queue) → Grows q q
-grows-not q = record { head = refl; count = omega arith; long = refl }
-
-grows-waiting : (s : Step) (q : Queue) (n : ℕ) → Grows q (waiting s q n)
-unfolding push
-grows-waiting Unchanged q n = grows-not q
-grows-waiting Changed q n = record {
-  head = refl;
-  count = omega arith;
-  long = length-set (q .items) ((q .ring .head + q .ring .count) % 4096) n;
-}
-grows-waiting Contradiction q n = grows-not q
-
-grows-decide : (v : Bool) (m : Marks) (n : ℕ) → Grows (m .nodes) (decide v m n .marks .nodes)
-unfolding decide
-grows-decide true m n = grows-waiting (learn (m .sure) (m .never) n .step) (m .nodes) n
-grows-decide false m n = grows-waiting (learn (m .never) (m .sure) n .step) (m .nodes) n
-
-pub grows-force : (i : Interval) (m : Marks) (t : Term) (divisor : ℕ) → Grows (m .nodes) (forceTerm i m t divisor .marks .nodes)
-unfolding forceTerm
-grows-force i m t divisor = by (eqb divisor 1) refl (offMisses i (t .weight) divisor) refl (onMisses i (t .weight) divisor) refl
+-- What holds of each of the four ways to force a term holds of the way taken.
+pub force-cases : (P : Decided → Type 0) (i : Interval) (m : Marks) (t : Term) (divisor : ℕ) → P (decided m Unchanged)
+    → (offMisses i (t .weight) divisor ≡ true → onMisses i (t .weight) divisor ≡ true → P (decided m Contradiction))
+    → (offMisses i (t .weight) divisor ≡ true → P (decide true m (t .condition)))
+    → (onMisses i (t .weight) divisor ≡ true → P (decide false m (t .condition))) → P (forceTerm i m t divisor)
+force-cases P i m t divisor rest none sure never =
+    by (ℕ-discrete divisor 1) (offMisses i (t .weight) divisor) refl (onMisses i (t .weight) divisor) refl
   where
-    by : (u : Bool) → eqb divisor 1 ≡ u → (off : Bool) → offMisses i (t .weight) divisor ≡ off → (on : Bool) → onMisses i (t .weight) divisor ≡ on
-        → Grows (m .nodes) (forceTerm i m t divisor .marks .nodes)
-    by true e off f on g = rw (e, forceTerm) (grows-not (m .nodes))
-    by false e true f true g = rw (e, f, g, forceTerm) (grows-not (m .nodes))
-    by false e true f false g = rw (e, f, g, forceTerm) (grows-decide true m (t .condition))
-    by false e false f true g = rw (e, f, g, forceTerm) (grows-decide false m (t .condition))
-    by false e false f false g = rw (e, f, g, forceTerm) (grows-not (m .nodes))
+    by : Dec (divisor ≡ 1) → (off : Bool) → offMisses i (t .weight) divisor ≡ off → (on : Bool) → onMisses i (t .weight) divisor ≡ on
+        → P (forceTerm i m t divisor)
+    by (yes e) off f on g = rw (force-unit i m t divisor e) rest
+    by (no n) true f true g = rw (force-none i m t divisor n f g) (none f g)
+    by (no n) true f false g = rw (force-sure i m t divisor n f g) (sure f)
+    by (no n) false f true g = rw (force-never i m t divisor n f g) (never g)
+    by (no n) false f false g = rw (force-free i m t divisor n f g) rest
 
--- Room for the terms that are left stays, with a term that adds nothing and with one that does.
-pub room-less : (q : Queue) (n k : ℕ) → k ≤ n → Room n q → Room k q
-room-less q n k h r = record { held = r .held; enough = omega (arith, r .enough) }
-
-pub room-next : (q r : Queue) (n k : ℕ) → n ≡ suc k → Grows q r → Room n q → Room k r
-room-next q r n k e g h = record {
-  held = record {
-    head = omega (arith, g .head, h .held .head);
-    count = omega (arith, g .count, h .enough);
-    long = omega (arith, g .long, h .held .long);
-  };
-  enough = omega (arith, g .count, h .enough);
-}
+-- Forcing a term keeps that each node waits at most once.
+pub waits-force : (i : Interval) (m : Marks) (t : Term) (divisor : ℕ) → t .condition < 4096 → Waits m → Waits (forceTerm i m t divisor .marks)
+waits-force i m t divisor h w =
+    force-cases (λ (x : Decided). Waits (x .marks)) i m t divisor w (λ f g. w) (λ f. waits-decide m w true (t .condition) h)
+    (λ g. waits-decide m w false (t .condition) h)
 
 module _ (i : Interval) (suf : List ℕ) (t : Term) (ts : List Term) (prefix : ℕ) (m : Marks) (step : Step) where
-  skip : isDecided m (t .condition) ≡ true → forceFrom i suf (t ∷ ts) prefix m step ≡ forceFrom i suf ts prefix m step
+  pub from-skip : isDecided m (t .condition) ≡ true → forceFrom i suf (t ∷ ts) prefix m step ≡ forceFrom i suf ts prefix m step
   unfolding forceFrom
-  skip h = rw (h, forceFrom)
+  from-skip h = rw (h, forceFrom)
 
   module _ (h : isDecided m (t .condition) ≡ false) where
-    stop : (d : Decided) → d ≡ forceTerm i m t (gcd prefix (getD suf (length ts) 0)) → contradicts (d .step) ≡ true
+    pub from-stop : (d : Decided) → d ≡ forceTerm i m t (gcd prefix (getD suf (length ts) 0)) → contradicts (d .step) ≡ true
         → forceFrom i suf (t ∷ ts) prefix m step ≡ decided (d .marks) Contradiction
     unfolding forceFrom
-    stop d e k =
+    from-stop d e k =
         let l = rw e at k in
         rw (h, l, forceFrom) (ap (λ (x : Decided). decided (x .marks) Contradiction) (sym e))
 
-    more : (d : Decided) → d ≡ forceTerm i m t (gcd prefix (getD suf (length ts) 0)) → contradicts (d .step) ≡ false
+    pub from-more : (d : Decided) → d ≡ forceTerm i m t (gcd prefix (getD suf (length ts) 0)) → contradicts (d .step) ≡ false
         → forceFrom i suf (t ∷ ts) prefix m step ≡ forceFrom i suf ts (gcd prefix (t .weight)) (d .marks) (joined step (d .step))
     unfolding forceFrom
-    more d e k =
+    from-more d e k =
         let l = rw e at k in
         rw (h, l, forceFrom) (ap (λ (x : Decided). forceFrom i suf ts (gcd prefix (t .weight)) (x .marks) (joined step (x .step))) (sym e))
 
@@ -125,7 +112,7 @@ module _ (i : Interval) (suf cs ws : List ℕ) (p prefix : ℕ) (m : Marks) (ste
       ∙ ap (λ (k : ℕ). forceFrom i suf (term (getD cs p 0) (getD ws p 0) ∷ drop k (terms cs ws)) prefix m step) (sym (add-one p))
 
   pub force-skip : isDecided m (getD cs p 0) ≡ true → forceFrom i suf (drop p (terms cs ws)) prefix m step ≡ forceFrom i suf (drop (p + 1) (terms cs ws)) prefix m step
-  force-skip h = here ∙ skip i suf (term (getD cs p 0) (getD ws p 0)) (drop (p + 1) (terms cs ws)) prefix m step h
+  force-skip h = here ∙ from-skip i suf (term (getD cs p 0) (getD ws p 0)) (drop (p + 1) (terms cs ws)) prefix m step h
 
   module _ (same : length cs ≡ length ws) (h : isDecided m (getD cs p 0) ≡ false) (divisor : ℕ) (v : divisor ≡ gcd prefix (getD suf (length ws - p - 1) 0))
       (d : Decided) (e : d ≡ forceTerm i m (term (getD cs p 0) (getD ws p 0)) divisor) where
@@ -136,23 +123,23 @@ module _ (i : Interval) (suf cs ws : List ℕ) (p prefix : ℕ) (m : Marks) (ste
         (sym (length-drop (p + 1) (terms cs ws) ∙ omega (arith, length-terms cs ws))))
 
     pub force-stop : contradicts (d .step) ≡ true → forceFrom i suf (drop p (terms cs ws)) prefix m step ≡ decided (d .marks) Contradiction
-    force-stop k = here ∙ stop i suf (term (getD cs p 0) (getD ws p 0)) (drop (p + 1) (terms cs ws)) prefix m step h d behind k
+    force-stop k = here ∙ from-stop i suf (term (getD cs p 0) (getD ws p 0)) (drop (p + 1) (terms cs ws)) prefix m step h d behind k
 
     pub force-more : contradicts (d .step) ≡ false
         → forceFrom i suf (drop p (terms cs ws)) prefix m step
         ≡ forceFrom i suf (drop (p + 1) (terms cs ws)) (gcd prefix (getD ws p 0)) (d .marks) (joined step (d .step))
-    force-more k = here ∙ more i suf (term (getD cs p 0) (getD ws p 0)) (drop (p + 1) (terms cs ws)) prefix m step h d behind k
+    force-more k = here ∙ from-more i suf (term (getD cs p 0) (getD ws p 0)) (drop (p + 1) (terms cs ws)) prefix m step h d behind k
 
 -- One turn of the loop: the marks, the queue and the joined answer that it leaves.
 module _ (i : Interval) (suf cs ws : List ℕ) (p prefix : ℕ) (m : Marks) (step : Step) (f : p < length cs) (g : p < length ws)
     (same : length cs ≡ length ws) (h : isDecided m (getD cs p 0) ≡ false) (divisor : ℕ) (v : divisor ≡ gcd prefix (getD suf (length ws - p - 1) 0))
     (s n l : List ℕ) (r r′ : Ring) (k k′ : Step) (e : decided (marks s n (queue l r)) k ≡ forceTerm i m (term (getD cs p 0) (getD ws p 0)) divisor)
     (a : r′ ≡ r) (j : k′ ≡ joined step k) where
-  pub turn-grows : Grows (m .nodes) (queue l r′)
-  turn-grows =
-      let y : queue l r′ ≡ forceTerm i m (term (getD cs p 0) (getD ws p 0)) divisor .marks .nodes
-      = ap (queue l) a ∙ ap (λ (d : Decided). d .marks .nodes) e in
-      rw y (grows-force i m (term (getD cs p 0) (getD ws p 0)) divisor)
+  pub turn-waits : getD cs p 0 < 4096 → Waits m → Waits (marks s n (queue l r′))
+  turn-waits b w =
+      let y : marks s n (queue l r′) ≡ forceTerm i m (term (getD cs p 0) (getD ws p 0)) divisor .marks
+      = ap (λ (x : Ring). marks s n (queue l x)) a ∙ ap (λ (d : Decided). d .marks) e in
+      rw y (waits-force i m (term (getD cs p 0) (getD ws p 0)) divisor b w)
 
   pub turn-stops : contradicts k ≡ true → decided (marks s n (queue l r′)) k′ ≡ forceFrom i suf (drop p (terms cs ws)) prefix m step
   turn-stops u =
@@ -192,7 +179,7 @@ force-over i suf b (t ∷ ts) prefix m step h =
     by : ((p : ℕ) (n : Marks) (s : Step) → forceFrom i (over suf b) ts p n s ≡ forceFrom i suf ts p n s)
         → (u : Bool) → isDecided m (t .condition) ≡ u → forceFrom i (over suf b) (t ∷ ts) prefix m step ≡ forceFrom i suf (t ∷ ts) prefix m step
     by rest true e =
-        skip i (over suf b) t ts prefix m step e ∙ rest prefix m step ∙ sym (skip i suf t ts prefix m step e)
+        from-skip i (over suf b) t ts prefix m step e ∙ rest prefix m step ∙ sym (from-skip i suf t ts prefix m step e)
     by rest false e = turn (contradicts (d .step)) refl
       where
         d : Decided
@@ -202,7 +189,108 @@ force-over i suf b (t ∷ ts) prefix m step h =
         q = ap (λ (k : ℕ). forceTerm i m t (gcd prefix k)) (sym (List·getD-append suf (drop (length suf) b) 0 (length ts) (omega arith)))
 
         turn : (v : Bool) → contradicts (d .step) ≡ v → forceFrom i (over suf b) (t ∷ ts) prefix m step ≡ forceFrom i suf (t ∷ ts) prefix m step
-        turn true k = stop i (over suf b) t ts prefix m step e d q k ∙ sym (stop i suf t ts prefix m step e d refl k)
+        turn true k = from-stop i (over suf b) t ts prefix m step e d q k ∙ sym (from-stop i suf t ts prefix m step e d refl k)
         turn false k =
-            more i (over suf b) t ts prefix m step e d q k ∙ rest (gcd prefix (t .weight)) (d .marks) (joined step (d .step))
-            ∙ sym (more i suf t ts prefix m step e d refl k)
+            from-more i (over suf b) t ts prefix m step e d q k ∙ rest (gcd prefix (t .weight)) (d .marks) (joined step (d .step))
+            ∙ sym (from-more i suf t ts prefix m step e d refl k)
+
+-- The whole of it: a contradiction of the row, nothing to force, or what forcing did.
+module _ (ts : List Term) (s : State) (m : Marks) (gcds : List ℕ) where
+  pub residual-none : contradicts (residualCheck ts s (isDecided m)) ≡ true → thresholdResidual ts s m gcds ≡ residual m Contradiction gcds
+  unfolding thresholdResidual
+  residual-none h = rw (h, thresholdResidual)
+
+  module _ (h : contradicts (residualCheck ts s (isDecided m)) ≡ false) where
+    pub residual-rest : nothingForced ts s (isDecided m) ≡ true → thresholdResidual ts s m gcds ≡ residual m Unchanged gcds
+    unfolding thresholdResidual
+    residual-rest k = rw (h, k, thresholdResidual)
+
+    pub residual-forced : nothingForced ts s (isDecided m) ≡ false → (d : Decided) (g : List ℕ) → g ≡ over (suffixes (isDecided m) ts) gcds
+        → d ≡ forceFrom (interval s) g ts 0 m Unchanged → residual (d .marks) (d .step) g ≡ thresholdResidual ts s m gcds
+    unfolding thresholdResidual
+    residual-forced k d g e f =
+        let l = length-suffix (isDecided m) (reverse ts) 0 in
+        let r = length-reverse ts in
+        let w = force-over (interval s) (suffixes (isDecided m) ts) gcds ts 0 m Unchanged (omega arith) in
+        ap (residual (d .marks) (d .step)) e
+        ∙ ap (λ (x : Decided). residual (x .marks) (x .step) (over (suffixes (isDecided m) ts) gcds))
+        (f ∙ ap (λ (y : List ℕ). forceFrom (interval s) y ts 0 m Unchanged) e ∙ w)
+        ∙ rw (h, k, thresholdResidual)
+
+-- What forcing each of the terms keeps, the residual of the row keeps.
+abbrev pub Each : (Term → Type 0) → List Term → Type 0
+Each Q [] = Unit {0}
+Each Q (t ∷ ts) = Q t × Each Q ts
+
+module _ (Q : Term → Type 0) (P : Marks → Type 0)
+    (one : (i : Interval) (m : Marks) (t : Term) (divisor : ℕ) → Q t → P m → P (forceTerm i m t divisor .marks)) where
+  from-keeping : (i : Interval) (suf : List ℕ) (ts : List Term) (prefix : ℕ) (m : Marks) (step : Step) → Each Q ts → P m
+      → P (forceFrom i suf ts prefix m step .marks)
+  unfolding forceFrom
+  from-keeping i suf [] prefix m step h w = w
+  from-keeping i suf (t ∷ ts) prefix m step h w =
+      by (λ (p : ℕ) (n : Marks) (s : Step) (v : P n). from-keeping i suf ts p n s (h .1) v) (isDecided m (t .condition)) refl
+    where
+      d : Decided
+      d = forceTerm i m t (gcd prefix (getD suf (length ts) 0))
+
+      after : P (d .marks)
+      after = one i m t (gcd prefix (getD suf (length ts) 0)) (h .0) w
+
+      turn : ((p : ℕ) (n : Marks) (s : Step) → P n → P (forceFrom i suf ts p n s .marks)) → isDecided m (t .condition) ≡ false
+          → (b : Bool) → contradicts (d .step) ≡ b → P (forceFrom i suf (t ∷ ts) prefix m step .marks)
+      turn ih e true k = rw (from-stop i suf t ts prefix m step e d refl k) after
+      turn ih e false k = rw (from-more i suf t ts prefix m step e d refl k) (ih (gcd prefix (t .weight)) (d .marks) (joined step (d .step)) after)
+
+      by : ((p : ℕ) (n : Marks) (s : Step) → P n → P (forceFrom i suf ts p n s .marks)) → (u : Bool) → isDecided m (t .condition) ≡ u
+          → P (forceFrom i suf (t ∷ ts) prefix m step .marks)
+      by ih true e = rw (from-skip i suf t ts prefix m step e) (ih prefix m step w)
+      by ih false e = turn ih e (contradicts (d .step)) refl
+
+  pub residual-keeping : (ts : List Term) (s : State) (m : Marks) (gcds : List ℕ) → Each Q ts → P m → P (thresholdResidual ts s m gcds .marks)
+  residual-keeping ts s m gcds h w = by (contradicts (residualCheck ts s (isDecided m))) refl (nothingForced ts s (isDecided m)) refl
+    where
+      l : List ℕ
+      l = over (suffixes (isDecided m) ts) gcds
+
+      by : (c : Bool) → contradicts (residualCheck ts s (isDecided m)) ≡ c → (n : Bool) → nothingForced ts s (isDecided m) ≡ n
+          → P (thresholdResidual ts s m gcds .marks)
+      by true c n q = rw (residual-none ts s m gcds c) w
+      by false c true q = rw (residual-rest ts s m gcds c q) w
+      by false c false q =
+          subst (λ (r : Residual). P (r .marks)) (residual-forced ts s m gcds c q (forceFrom (interval s) l ts 0 m Unchanged) l refl refl)
+          (from-keeping (interval s) l ts 0 m Unchanged h w)
+
+-- Nodes wait at most once after it, too.
+abbrev pub Inside : List Term → Type 0
+Inside = Each (λ (t : Term). t .condition < 4096)
+
+pub inside-terms : (cs ws : List ℕ) → Below 4096 cs → Inside (terms cs ws)
+unfolding terms
+inside-terms [] ws h = tt
+inside-terms (c ∷ cs) [] h = tt
+inside-terms (c ∷ cs) (w ∷ ws) h = (h 0 (omega arith), inside-terms cs ws (λ (i : ℕ) (k : i < length cs). h (suc i) (omega arith)))
+
+pub waits-residual : (ts : List Term) (s : State) (m : Marks) (gcds : List ℕ) → Inside ts → Waits m → Waits (thresholdResidual ts s m gcds .marks)
+waits-residual = residual-keeping (λ (t : Term). t .condition < 4096) Waits waits-force
+
+-- The buffer of gcds keeps its length.
+pub gcds-length : (ts : List Term) (s : State) (m : Marks) (gcds : List ℕ) → length ts < length gcds → length (thresholdResidual ts s m gcds .gcds) ≡ length gcds
+gcds-length ts s m gcds h = by (contradicts (residualCheck ts s (isDecided m))) refl (nothingForced ts s (isDecided m)) refl
+  where
+    l : List ℕ
+    l = suffixes (isDecided m) ts
+
+    laid : length (over l gcds) ≡ length gcds
+    laid =
+        length-append l (drop (length l) gcds) ∙ ap (λ (k : ℕ). length l + k) (length-drop (length l) gcds)
+        ∙ omega (arith, length-suffix (isDecided m) (reverse ts) 0, length-reverse ts)
+
+    by : (c : Bool) → contradicts (residualCheck ts s (isDecided m)) ≡ c → (n : Bool) → nothingForced ts s (isDecided m) ≡ n
+        → length (thresholdResidual ts s m gcds .gcds) ≡ length gcds
+    by true c n q = ap (λ (r : Residual). length (r .gcds)) (residual-none ts s m gcds c)
+    by false c true q = ap (λ (r : Residual). length (r .gcds)) (residual-rest ts s m gcds c q)
+    by false c false q =
+        ap (λ (r : Residual). length (r .gcds))
+        (sym (residual-forced ts s m gcds c q (forceFrom (interval s) (over l gcds) ts 0 m Unchanged) (over l gcds) refl refl))
+        ∙ laid

@@ -1,6 +1,6 @@
 -- The greatest common divisor by remainders, and whether a lattice of sums misses an interval.
 use Prim.Native.Nat.{ℕ, zero, suc, _-_, _%_, min, max}
-use mathlib.Core.Bool.{Bool, true, false, cond, _||_}
+use mathlib.Core.Bool.{Bool, true, cond, _||_}
 use lib.Dec.{eqb, ltb}
 
 -- The second number falls at each step, so that it serves as the count of steps.

@@ -1,6 +1,6 @@
 -- What gcd is: it divides both numbers, and what divides both divides it; 0 stands for no number at all.
 -- Every sum of a choice of weights is a multiple of the gcd of the weights.
-use Prim.Native.Nat.{ℕ, zero, suc, _+_, _*_, _%_, _<_, _≤_, _∣_}
+use Prim.Native.Nat.{ℕ, zero, suc, _+_, _%_, _<_, _≤_, _∣_}
 use native.Mathlib.Nat.{
   mod-lt,
   zero-lt-suc,
@@ -14,7 +14,7 @@ use native.Mathlib.Nat.{
   dvd-add,
 }
 use native.Mathlib.Omega.{arith}
-use mathlib.Core.Path.{_≡_, refl, sym, ap, _∙_}
+use mathlib.Core.Path.{_≡_, refl}
 use mathlib.Core.List.{List, [], _∷_}
 use mathlib.Core.Bool.{Bool, true, false}
 use Rattle.residual.specs.Gcd.{gcdIn, gcd}

@@ -1,9 +1,9 @@
 -- A figure as a natural number, and the window that a state's interval gives where the check reaches the terms.
-use Prim.Native.Nat.{ℕ, zero, suc, _-_, _<_, _≤_, min}
+use Prim.Native.Nat.{_-_, _^_, _<_, _≤_}
 use native.Mathlib.Omega.{arith}
-use mathlib.Core.Path.{_≡_, refl, sym, ap, _∙_}
-use mathlib.Core.Bool.{Bool, true, false, cond, _&&_}
-use lib.Dec.{T, leb}
+use mathlib.Core.Path.{_≡_, refl, sym}
+use mathlib.Core.Bool.{Bool, true, false, _&&_}
+use lib.Dec.{T}
 use lib.IntN.{ℤ, pos, negsuc, natAbs}
 use lib.Signed.{nonNeg, leZ, ltZ}
 use borrow.Author.Tests.{ltb-true, leb-true}
@@ -30,27 +30,31 @@ pub natural-same : (z : ℤ) → ltZ z (pos 0) ≡ false → natAbs z ≡ natura
 natural-same (pos n) h = refl
 natural-same (negsuc n) h = absurd (clash h)
 
+pub natural-small : (z : ℤ) → SFits w64 z → natural z < 2 ^ 63
+natural-small (pos n) f = omega (arith, f .sfits)
+natural-small (negsuc n) f = omega arith
+
 pub natural-mono : (a b : ℤ) → leZ a b ≡ true → natural a ≤ natural b
 natural-mono (pos a) (pos b) h = leb-true a b h
 natural-mono (pos a) (negsuc b) h = absurd (clash (sym h))
 natural-mono (negsuc a) b h = omega arith
 
 -- Below a limit: at most the last number before it.
-natural-last : (a b : ℤ) → ltZ a b ≡ true → natural a ≤ natural b - 1
+pub natural-last : (a b : ℤ) → ltZ a b ≡ true → natural a ≤ natural b - 1
 natural-last (pos a) (pos b) h = omega (arith, ltb-true a b h)
 natural-last (pos a) (negsuc b) h = absurd (clash (sym h))
 natural-last (negsuc a) b h = omega arith
 
-both-left : (a b : Bool) → (a && b) ≡ true → a ≡ true
+pub both-left : (a b : Bool) → (a && b) ≡ true → a ≡ true
 both-left true b h = refl
 both-left false b h = absurd (clash (sym h))
 
-both-right : (a b : Bool) → (a && b) ≡ true → b ≡ true
+pub both-right : (a b : Bool) → (a && b) ≡ true → b ≡ true
 both-right true b h = h
 both-right false b h = absurd (clash (sym h))
 
 -- A limit that there is, and that is not at most z, is above z.
-limit-above : (u : Upper) (y z : ℤ) → upperAtMost u y ≡ true → upperAtMost u z ≡ false → ltZ z (limit u) ≡ true
+pub limit-above : (u : Upper) (y z : ℤ) → upperAtMost u y ≡ true → upperAtMost u z ≡ false → ltZ z (limit u) ≡ true
 limit-above Open y z h k = absurd (clash (sym h))
 limit-above (Under u) y z h k = nle-ltZ z u k
 

@@ -1,22 +1,11 @@
 -- misses and branchMisses are exact: they are true exactly if no number of the lattice lies in the window.
 use Prim.Native.Nat.{ℕ, zero, suc, _+_, _-_, _*_, _/_, _%_, _<_, _≤_, _∣_, min, max}
-use native.Mathlib.Nat.{
-  mod-lt,
-  suc-mul,
-  mul-zero,
-  zero-mul,
-  lt-of-not-le,
-  lt-of-mul-lt-mul-right,
-  mul-le-mul-right,
-  div-add-mod',
-  mod-eq-zero-of-dvd,
-  dvd-mul-left,
-}
+use native.Mathlib.Nat.{mod-lt, suc-mul, mul-zero, zero-mul, lt-of-not-le, lt-of-mul-lt-mul-right, mul-le-mul-right, div-add-mod', mod-eq-zero-of-dvd}
 use native.Mathlib.Omega.{arith}
-use mathlib.Core.Path.{_≡_, refl, sym, ap, _∙_, subst}
+use mathlib.Core.Path.{_≡_, refl, sym, ap, _∙_}
 use mathlib.Core.Bool.{Bool, true, false, _||_}
 use mathlib.Core.Logic.{_↔_, _≢_}
-use lib.Dec.{eqb, ltb}
+use lib.Dec.{ltb}
 use native.Mathlib.Decide.{decLt}
 use borrow.Author.Tests.{lt-ltb, le-ltb, ltb-true, ltb-false, eq-eqb, ne-eqb}
 use Rattle.residual.specs.Gcd.{distance, misses, branchMisses}

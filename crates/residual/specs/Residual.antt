@@ -1,17 +1,17 @@
 -- What divisibility shows of a drained row: `threshold_residual` of residual.rs on values.
-use Prim.Native.Nat.{ℕ, zero, suc, _+_, _-_, min}
+use Prim.Native.Nat.{ℕ, _+_, _-_, min}
 use mathlib.Core.Bool.{Bool, true, false, cond, _&&_, _||_, not}
-use mathlib.Core.List.{List, [], _∷_, _++_, reverse}
-use lib.ListN.{length, getD, drop}
+use mathlib.Core.List.{List, [], _∷_, reverse}
+use lib.ListN.{length, getD}
 use lib.Dec.{eqb, leb, ltb}
-use lib.Signed.{leZ, ltZ}
+use lib.Signed.{ltZ}
+pub use Rattle.lists.specs.Laid.{over}
 use Rattle.numeric.specs.Threshold.{Term}
 use Rattle.state.specs.declared.Step.{Step}
-use Rattle.state.specs.declared.Step.the-variants.{Unchanged, Changed, Contradiction}
+use Rattle.state.specs.declared.Step.the-variants.{Unchanged, Contradiction}
 use Rattle.state.specs.declared.State.{State}
 use Rattle.state.specs.Step.{joined, contradicts}
 use Rattle.state.specs.State.{natural, limit, reached, upperAtMost, hasResidualInterval}
-use Rattle.words.specs.Mask.{bit}
 use Rattle.queues.specs.Marks.{Marks, isDecided, Decided, decided, decide}
 use Rattle.thresholds.specs.Rows.{hasNonunit}
 use Rattle.residual.specs.declared.Interval.{Interval}
@@ -130,9 +130,9 @@ pub record Residual : Type 0 where
 abbrev pub residual : Marks → Step → List ℕ → Residual
 residual m k g = record { marks = m; step = k; gcds = g }
 
--- The list laid over the start of a buffer.
-abbrev pub over : List ℕ → List ℕ → List ℕ
-over l b = l ++ drop (length l) b
+-- Nothing can be forced: no residual interval, or every gcd of all weights but one fits it.
+abbrev pub nothingForced : List Term → State → (ℕ → Bool) → Bool
+nothingForced ts s d = not (hasNonunit ts && hasResidualInterval s) || fitsFrom (interval s) d (reverse ts) false 0
 
 -- `threshold_residual`
 unfoldable pub thresholdResidual : List Term → State → Marks → List ℕ → Residual
@@ -140,7 +140,7 @@ thresholdResidual ts s m gcds =
     elim (contradicts (residualCheck ts s (isDecided m))) [
       | true ↦ residual m Contradiction gcds
       | false ↦
-          elim (not (hasNonunit ts && hasResidualInterval s) || fitsFrom (interval s) (isDecided m) (reverse ts) false 0) [
+          elim (nothingForced ts s (isDecided m)) [
             | true ↦ residual m Unchanged gcds
             | false ↦
                 let f = forceFrom (interval s) (suffixes (isDecided m) ts) ts 0 m Unchanged in

@@ -1,9 +1,8 @@
 -- What a row's slices and the two masks must be like: as many weights as conditions, every condition inside both masks.
-use Prim.Native.Nat.{ℕ, _+_, _<_, _≤_, min}
+use Prim.Native.Nat.{ℕ, _<_, _≤_, min}
 use mathlib.Core.Path.{_≡_}
 use mathlib.Core.List.{List}
 use lib.ListN.{length, getD}
-use Rattle.queues.specs.Queue.{Queue, Held}
 use Rattle.residual.specs.declared.Interval.{Interval}
 
 -- Every number of the list is below n.
@@ -20,8 +19,3 @@ pub record Shape (conditions weights sure never : List ℕ) : Type 0 where
 pub record Window (i : Interval) : Type 0 where
   pub above : i .known ≤ i .lower
   pub inside : i .lower ≤ min (i .possible) (i .upper)
-
--- The queue of nodes has room for n more.
-pub record Room (n : ℕ) (q : Queue) : Type 0 where
-  pub held : Held 4096 q
-  pub enough : q .ring .count + n ≤ 4096

@@ -1,18 +1,18 @@
 -- How the suffixes are laid into the buffer of gcds, one store a turn, the light end first.
-use Prim.Native.Nat.{ℕ, zero, suc, _+_, _-_, _<_, _≤_}
+use Prim.Native.Nat.{ℕ, zero, suc, _-_, _<_, _≤_}
 use native.Mathlib.Nat.{not-suc-le-zero, zero-add}
 use native.Mathlib.Omega.{arith}
-use mathlib.Core.Path.{_≡_, refl, sym, ap, ap₂, _∙_, subst}
+use mathlib.Core.Path.{_≡_, refl, sym, ap, ap₂, _∙_}
 use mathlib.Core.Bool.{Bool, cond}
 use mathlib.Core.List.{List, [], _∷_, _++_, reverse}
 use lib.ListN.{length, getD, set, take, drop, length-reverse}
 use lib.Seq.{sets, sets-eq, take-length}
-use Rattle.numeric.specs.Threshold.{Term, term, terms}
+use Rattle.numeric.specs.Threshold.{Term, terms}
 use Rattle.numeric.specs.TermsLaws.{down-terms}
 use Rattle.residual.specs.Gcd.{gcd}
 use Rattle.residual.specs.Residual.{suffixFrom, suffixes, over}
 
-length-suffix : (d : ℕ → Bool) (ts : List Term) (suffix : ℕ) → length (suffixFrom d ts suffix) ≡ suc (length ts)
+pub length-suffix : (d : ℕ → Bool) (ts : List Term) (suffix : ℕ) → length (suffixFrom d ts suffix) ≡ suc (length ts)
 unfolding suffixFrom
 length-suffix d [] suffix = refl
 length-suffix d (t ∷ ts) suffix = ap suc (length-suffix d ts (cond (d (t .condition)) suffix (gcd suffix (t .weight))))

@@ -12,11 +12,28 @@ ghost use Rattle.state.specs.Step.{joined};
 ghost use Rattle.words.specs.Mask.{inEither};
 ghost use Rattle.queues.specs.Queue.{queue, Held};
 ghost use Rattle.state.specs.declared.Step.the-variants.{Unchanged};
+ghost use Rattle.queues.specs.MarksLaws.{Waits};
 ghost use Rattle.queues.specs.Marks.{marks, decided as decidedOf};
-ghost use Rattle.thresholds.specs.Rows.{hasNonunit};
 ghost use Rattle.residual.specs.Gcd.{gcd, misses, branchMisses};
-ghost use Rattle.residual.specs.Shape.{Below, Shape, Window, Room};
-ghost use Rattle.residual.specs.Residual.{interval, stopsAt, checkFrom, residualCheck, tooWide, bothFit, fitsFrom, suffixes, offMisses, onMisses, forceTerm, forceFrom, over};
+ghost use Rattle.residual.specs.Shape.{Below, Shape, Window};
+ghost use Rattle.residual.specs.Residual.{
+  interval,
+  stopsAt,
+  checkFrom,
+  residualCheck,
+  tooWide,
+  bothFit,
+  fitsFrom,
+  suffixes,
+  over,
+  offMisses,
+  onMisses,
+  forceTerm,
+  forceFrom,
+  nothingForced,
+  residual,
+  thresholdResidual,
+};
 use queues::Decision;
 use queues::Ring;
 use state::State;
@@ -194,17 +211,6 @@ pub fn interval_of(state: State) -> Interval
     }
 }
 
-// Some weight is above 1; the first is the heaviest.
-fn has_nonunit(conditions: &[u16], weights: &[u64]) -> bool
-    requires { ⌜ length (now conditions) ≡ length (now weights) ⌝ }
-    ensures { λ r. ⌜ r ≡ hasNonunit (terms (now (conditions .entry)) (now (weights .entry))) ⌝ }
-{
-    if weights.len() == 0 {
-        return false;
-    }
-    weights[0] > 1
-}
-
 // The first undecided weight is no wider than the interval: then some multiple of any of its divisors lies there.
 fn first_fits(i: Interval, divisor: u64, weight: u64) -> bool
     ensures { λ r. ⌜ r ≡ (eqb divisor 0 && leb weight (i .width)) ⌝ }
@@ -242,14 +248,14 @@ fn check_from(conditions: &[u16], weights: &[u64], i: Interval, sure: &[u64], ne
     ensures { λ r. ⌜ r
         ≡ checkFrom i (inEither (now (sure .entry)) (now (never .entry))) (reverse (terms (now (conditions .entry)) (now (weights .entry)))) 0 ⌝ }
 {
-    let mut left = weights.len();
+    let mut remaining = weights.len();
     let mut divisor: u64 = 0;
-    while left > 0 {
-        left -= 1;
-        if decided(sure, never, conditions[left]) {
+    while remaining > 0 {
+        remaining -= 1;
+        if decided(sure, never, conditions[remaining]) {
             continue;
         }
-        let weight = weights[left];
+        let weight = weights[remaining];
         let next = gcd(divisor, weight);
         if stops(i, divisor, weight, next) {
             return Step::Unchanged;
@@ -279,7 +285,7 @@ pub fn threshold_residual_check(
     ensures { λ r. ⌜ r
         ≡ residualCheck (terms (now (conditions .entry)) (now (weights .entry))) state (inEither (now (sure .entry)) (now (never .entry))) ⌝ }
 {
-    if !has_nonunit(conditions, weights) {
+    if !thresholds::has_nonunit(conditions, weights) {
         return Step::Unchanged;
     }
     if !state.has_residual_interval() {
@@ -328,16 +334,16 @@ fn fits_from(conditions: &[u16], weights: &[u64], i: Interval, sure: &[u64], nev
     ensures { λ r. ⌜ r
         ≡ fitsFrom i (inEither (now (sure .entry)) (now (never .entry))) (reverse (terms (now (conditions .entry)) (now (weights .entry)))) false 0 ⌝ }
 {
-    let mut left = weights.len();
+    let mut unread = weights.len();
     let mut fitting = false;
     let mut complement: u64 = 0;
-    while left > 0 {
-        left -= 1;
-        let weight = weights[left];
+    while unread > 0 {
+        unread -= 1;
+        let weight = weights[unread];
         if too_wide(i, fitting, weight) {
             return false;
         }
-        if decided(sure, never, conditions[left]) {
+        if decided(sure, never, conditions[unread]) {
             continue;
         }
         if fitting {
@@ -385,11 +391,12 @@ fn force_term(
     ensures { λ r. ⌜ decidedOf (marks (now (sure .exit)) (now (never .exit)) (queue (now (nodes .exit)) (r .ring))) (r .step)
         ≡ forceTerm i (marks (now (sure .entry)) (now (never .entry)) (queue (now (nodes .entry)) ring)) (term node weight) divisor ⌝ }
 {
+    let same = Decision {
+        step: Step::Unchanged,
+        ring: ring,
+    };
     if divisor == 1 {
-        return Decision {
-            step: Step::Unchanged,
-            ring: ring,
-        };
+        return same;
     }
     let off = off_misses(i, weight, divisor);
     let on = on_misses(i, weight, divisor);
@@ -406,10 +413,7 @@ fn force_term(
     if on {
         return queues::decide(false, sure, never, nodes, ring, n);
     }
-    Decision {
-        step: Step::Unchanged,
-        ring: ring,
-    }
+    same
 }
 
 // The stronger of two answers, with the later queue.
@@ -439,29 +443,24 @@ fn force_from(
     ring: Ring,
 ) -> Decision
     requires { ⌜ Shape (now conditions) (now weights) (now sure) (now never) ⌝ }
-    requires { ⌜ (length (now weights) < length (now gcds)) × (i .known < 2 ^ 63) × Below (2 ^ 63) (now weights) ⌝ }
-    requires { ⌜ Room (length (now weights)) (queue (now nodes) ring) ⌝ }
-    ensures { λ r. ⌜ decidedOf (marks (now (sure .exit)) (now (never .exit)) (queue (now (nodes .exit)) (r .ring))) (r .step)
-        ≡ forceFrom i (now (gcds .entry)) (terms (now (conditions .entry)) (now (weights .entry))) 0
-        (marks (now (sure .entry)) (now (never .entry)) (queue (now (nodes .entry)) ring)) Unchanged ⌝ }
+    requires { ⌜ (length (now weights) < length (now gcds)) × (i .known < 2 ^ 63) × Below (2 ^ 63) (now weights) × Waits (marks (now sure) (now never) (queue (now nodes) ring)) ⌝ }
+    ensures { λ r. ⌜ decidedOf (marks (now (sure .exit)) (now (never .exit)) (queue (now (nodes .exit)) (r .ring))) (r .step) ≡ forceFrom i (now (gcds .entry)) (terms (now (conditions .entry)) (now (weights .entry))) 0 (marks (now (sure .entry)) (now (never .entry)) (queue (now (nodes .entry)) ring)) Unchanged ⌝ }
 {
-    let count = weights.len();
     let mut position: usize = 0;
     let mut prefix: u64 = 0;
     let mut so_far = Decision {
         step: Step::Unchanged,
         ring: ring,
     };
-    while position < count {
+    while position < weights.len() {
         let node = conditions[position];
         if decided(sure, never, node) {
             position += 1;
             continue;
         }
         let weight = weights[position];
-        let divisor = gcd(prefix, gcds[count - position - 1]);
-        let waiting = so_far.ring;
-        let forced = force_term(i, node, weight, divisor, sure, never, nodes, waiting);
+        let divisor = gcd(prefix, gcds[weights.len() - position - 1]);
+        let forced = force_term(i, node, weight, divisor, sure, never, nodes, so_far.ring);
         so_far = joined_decision(so_far, forced);
         let step = forced.step;
         if step.contradicts() {
@@ -471,4 +470,67 @@ fn force_from(
         position += 1;
     }
     so_far
+}
+
+// Nothing can be forced: no residual interval, or every gcd of all weights but one fits it.
+fn nothing_forced(
+    conditions: &[u16],
+    weights: &[u64],
+    state: State,
+    sure: &[u64],
+    never: &[u64],
+) -> bool
+    requires { ⌜ Shape (now conditions) (now weights) (now sure) (now never) ⌝ }
+    ensures { λ r. ⌜ r
+        ≡ nothingForced (terms (now (conditions .entry)) (now (weights .entry))) state (inEither (now (sure .entry)) (now (never .entry))) ⌝ }
+{
+    if !thresholds::has_nonunit(conditions, weights) {
+        return true;
+    }
+    if !state.has_residual_interval() {
+        return true;
+    }
+    fits_from(conditions, weights, interval_of(state), sure, never)
+}
+
+// What divisibility shows of a drained row: that no sum is allowed, or which of its terms are forced. `gcds` holds the suffixes
+// after it where terms were looked at one by one.
+pub fn threshold_residual(
+    conditions: &[u16],
+    weights: &[u64],
+    state: State,
+    sure: &mut [u64],
+    never: &mut [u64],
+    nodes: &mut [u16],
+    ring: Ring,
+    gcds: &mut [u64],
+) -> Decision
+    requires { ⌜ Shape (now conditions) (now weights) (now sure) (now never) ⌝ }
+    requires { ⌜ (length (now weights) < length (now gcds)) × Below (2 ^ 63) (now weights) × Waits (marks (now sure) (now never) (queue (now nodes) ring)) ⌝ }
+    ensures { λ r. ⌜ residual (marks (now (sure .exit)) (now (never .exit)) (queue (now (nodes .exit)) (r .ring))) (r .step) (now (gcds .exit)) ≡ thresholdResidual (terms (now (conditions .entry)) (now (weights .entry))) state (marks (now (sure .entry)) (now (never .entry)) (queue (now (nodes .entry)) ring)) (now (gcds .entry)) ⌝ }
+{
+    let checked = threshold_residual_check(conditions, weights, state, sure, never);
+    if checked.contradicts() {
+        return Decision {
+            step: Step::Contradiction,
+            ring: ring,
+        };
+    }
+    if nothing_forced(conditions, weights, state, sure, never) {
+        return Decision {
+            step: Step::Unchanged,
+            ring: ring,
+        };
+    }
+    prepare_suffix(conditions, weights, sure, never, gcds);
+    force_from(
+        conditions,
+        weights,
+        gcds,
+        interval_of(state),
+        sure,
+        never,
+        nodes,
+        ring,
+    )
 }

@@ -1,1 +1,4 @@
 pub mod Table
+pub mod Order
+pub mod TableLaws
+pub mod LayoutLaws

@@ -1,2 +1,6 @@
 pub mod Rows
 pub mod Laid
+pub mod Raw
+pub mod RawLaws
+pub mod Incidents
+pub mod IncidentsLaws

@@ -1,13 +1,12 @@
 -- The ones of a mask's words, added up, are the nodes that it has.
-use mathlib.Core.Path.{_≡_, refl, sym, ap, ap₂, _∙_}
+use mathlib.Core.Path.{_≡_, refl, sym, ap, _∙_}
 use mathlib.Core.Bool.{Bool, true, false, cond}
 use mathlib.Core.List.{List}
-use Prim.Native.Nat.{ℕ, zero, suc, _+_, _*_, _-_, _/_, _%_, _^_, _<_, _≤_}
+use Prim.Native.Nat.{ℕ, zero, suc, _+_, _*_, _/_, _%_, _^_, _<_, _≤_}
 use native.Mathlib.Nat.{pow-zero, pow-suc}
 use native.Mathlib.Omega.{arith}
-use lib.Dec.{eqb}
-use lib.Count.{ones, onesIn, ones-step, ones-le}
-use lib.ListN.{length, getD}
+use lib.Count.{ones, onesIn, ones-step}
+use lib.ListN.{getD}
 use borrow.Author.Tests.{eqb-true, eqb-false}
 use Rattle.words.specs.Mask.{digit, digitAt, bit, count}
 use Rattle.words.specs.Digits.{digit-small, shr-digit}

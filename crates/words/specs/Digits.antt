@@ -1,16 +1,16 @@
 -- Single places of words as numbers 0 and 1: what joining, moving and cutting a word does to each, and a word that changes in a list.
-use mathlib.Core.Path.{_≡_, refl, sym, ap, ap₂, _∙_, subst}
+use mathlib.Core.Path.{_≡_, sym, ap, _∙_, subst}
 use mathlib.Core.Logic.{_≢_}
 use mathlib.Core.List.{List}
-use Prim.Native.Nat.{ℕ, zero, suc, _+_, _*_, _-_, _/_, _%_, _^_, _<_, _≤_, max}
-use native.Mathlib.Nat.{mod-lt, mod-eq-of-lt, mul-add-mod-self-right, zero-div, zero-mod, div-eq-of-lt, div-self, mul-mod-left, mul-assoc, one-mul, lt-of-not-le}
+use Prim.Native.Nat.{ℕ, _+_, _*_, _-_, _/_, _%_, _^_, _<_, max}
+use native.Mathlib.Nat.{mod-lt, mod-eq-of-lt, mul-add-mod-self-right, zero-mod, div-eq-of-lt, div-self, mul-mod-left, mul-assoc, one-mul, lt-of-not-le}
 use native.Nat.{ℕᴺ-discrete as decEq}
 use native.Mathlib.Decide.{decLt}
 use native.Mathlib.Omega.{arith}
 use lib.Dec.{lit<}
 use lib.Pow.{pow-pos, pow-add, pow-lt, shr-shr, shl-shr, field, mod-mod-pow}
 use lib.Bits.{bitOr, or-step, or-shr, or-lt}
-use lib.ListN.{length, getD, set}
+use lib.ListN.{length, getD}
 use lib.Seq.{getD-set-same, getD-set-other, set-out}
 use Rattle.words.specs.Mask.{digit, digitAt}
 use Rattle.words.specs.Shift.{orInto}

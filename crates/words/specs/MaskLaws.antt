@@ -1,5 +1,5 @@
 -- Which nodes a mask has after `setBit` and `learn`, and what `learn` answers.
-use mathlib.Core.Path.{_≡_, refl, sym, ap, _∙_}
+use mathlib.Core.Path.{_≡_, refl, ap, _∙_}
 use mathlib.Core.Logic.{_≢_}
 use mathlib.Core.Bool.{Bool, true, false}
 use mathlib.Core.List.{List}
@@ -11,7 +11,7 @@ use lib.ListN.{length, getD, set, length-set}
 use lib.Bits.{bitOr}
 use lib.Pow.{pow-lt}
 use borrow.Author.Tests.{eq-eqb}
-use Rattle.words.specs.Mask.{digit, digitAt, bit, setBit, learn, learned, Learned}
+use Rattle.words.specs.Mask.{bit, setBit, learn, learned, Learned}
 use Rattle.words.specs.Digits.{Words, or-words, digit-small, or-same, or-none, pow-digit, pow-digit-same}
 use Rattle.state.specs.declared.Step.the-variants.{Unchanged, Changed, Contradiction}
 

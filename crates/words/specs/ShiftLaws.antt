@@ -2,11 +2,11 @@
 use mathlib.Core.Path.{_≡_, refl, sym, ap, ap₂, _∙_, subst}
 use mathlib.Core.Bool.{Bool, true, false}
 use mathlib.Core.List.{List}
-use Prim.Native.Nat.{ℕ, zero, suc, _+_, _*_, _-_, _/_, _%_, _^_, _<_, _≤_, min, max}
+use Prim.Native.Nat.{ℕ, zero, suc, _+_, _-_, _/_, _%_, _<_, _≤_, min, max}
 use native.Mathlib.Nat.{not-suc-le-zero}
 use native.Mathlib.Omega.{arith}
 use native.Nat.{ℕᴺ-discrete as decEq}
-use lib.ListN.{length, getD, List·getD-eq-default}
+use lib.ListN.{length, List·getD-eq-default}
 use Rattle.words.specs.Mask.{digit, digitAt}
 use Rattle.words.specs.Digits.{Words}
 use Rattle.words.specs.Shift.{Shifted, shifted, shiftWord, wordHits, shiftFrom, unionShifted}
@@ -141,10 +141,11 @@ module _ (d a b n : ℕ) (l : List ℕ) (left : ℕ) where
   outcome-hit r (hits k s i e w f) j q = let z : k ≡ j = cc in (s, i, omega arith, w, f)
   outcome-hit r (stops i f) j q = absurd (let z : _≡_ {A = ℕ} 0 1 = cc in omega arith)
 
-  outcome-stopped : (r : Shifted) → Outcome d a b n l left r → r .ended ≡ Stopped → left < n
+  outcome-stopped : (r : Shifted) → Outcome d a b n l left r → r .ended ≡ Stopped
+      → (left < n) × ((t : ℕ) → n ≤ t + left → t < n → wordHits l t d a b ≡ false)
   outcome-stopped r (completes k e f) q = absurd (let z : _≡_ {A = ℕ} 0 1 = cc in omega arith)
   outcome-stopped r (hits k s i e w f) q = absurd (let z : _≡_ {A = ℕ} 0 1 = cc in omega arith)
-  outcome-stopped r (stops i f) q = i
+  outcome-stopped r (stops i f) q = (i, f)
 
   outcome-some : (r : Shifted) → Outcome d a b n l left r → (t : ℕ) → t < n → wordHits l t d a b ≡ true → (r .ended ≡ Stopped → ⊥)
       → (k : ℕ) × (r .ended ≡ Hit k)
@@ -180,7 +181,7 @@ module _ (l : List ℕ) (sources d a b allowance : ℕ) where
   complete-visits k q = outcome-complete d a b (readable l sources d) l allowance (unionShifted l sources d a b allowance) union-outcome k q .0
 
   pub stopped-visits : unionShifted l sources d a b allowance .ended ≡ Stopped → allowance < readable l sources d
-  stopped-visits q = outcome-stopped d a b (readable l sources d) l allowance (unionShifted l sources d a b allowance) union-outcome q
+  stopped-visits q = outcome-stopped d a b (readable l sources d) l allowance (unionShifted l sources d a b allowance) union-outcome q .0
 
   -- PLACES: after a complete shift a place is set if it was, or if the place d below was and stood in the source words.
   module _ (w : Words l) (k : ℕ) (q : unionShifted l sources d a b allowance .ended ≡ Complete k) (p : ℕ) where
@@ -215,6 +216,16 @@ module _ (l : List ℕ) (sources d a b allowance : ℕ) where
         hits-only l (o .0) d a b (w (o .0)) (let i = o .1 in omega arith) (o .3),
         λ t g h x. let y = o .4 t g h in let v = hits-set l t d a b x in let z : _≡_ {A = ℕ} 0 1 = cc in omega arith,
       )
+
+  -- A stopped shift has met no such bit in the words that it read.
+  pub stopped-none : unionShifted l sources d a b allowance .ended ≡ Stopped
+      → (t : ℕ) → readable l sources d ≤ t + allowance → t < readable l sources d → Hits l t d a b → ⊥
+  stopped-none q t g h x =
+      let o = outcome-stopped d a b (readable l sources d) l allowance (unionShifted l sources d a b allowance) union-outcome q in
+      let y = o .1 t g h in
+      let v = hits-set l t d a b x in
+      let z : _≡_ {A = ℕ} 0 1 = cc in
+      omega arith
 
   pub hit-moved : Words l → (k : ℕ) → unionShifted l sources d a b allowance .ended ≡ Hit k → (p : ℕ) × Moved l sources d p × (a ≤ p) × (p ≤ b)
   hit-moved w k q =

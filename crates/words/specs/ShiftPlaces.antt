@@ -1,17 +1,15 @@
 -- One source word, place by place: where its bits go, and that every other place stays.
 use mathlib.Core.Path.{_≡_, refl, sym, ap, ap₂, _∙_, subst}
-use mathlib.Core.Logic.{_≢_}
 use mathlib.Core.Bool.{Bool, true, false}
 use mathlib.Core.List.{List}
-use Prim.Native.Nat.{ℕ, zero, suc, _+_, _*_, _-_, _/_, _%_, _^_, _<_, _≤_, max}
+use Prim.Native.Nat.{ℕ, _+_, _*_, _-_, _/_, _%_, _^_, _<_, _≤_, max}
 use native.Mathlib.Nat.{lt-of-not-le, lt-of-lt-of-le, lt-of-le-of-lt, mod-lt}
 use native.Mathlib.Decide.{decLe, decLt}
 use native.Mathlib.Omega.{arith}
-use native.Nat.{ℕᴺ-discrete as decEq}
 use lib.Pow.{pow-mono, pow-pos, shr-le}
-use lib.Bits.{bitOr, or-lt}
-use lib.ListN.{length, getD, set, length-set}
-use lib.Seq.{getD-set-same, getD-set-other, set-out}
+use lib.Bits.{bitOr}
+use lib.ListN.{length, getD, length-set}
+use lib.Seq.{getD-set-other}
 use Rattle.words.specs.Mask.{digit, digitAt}
 use Rattle.words.specs.Digits.{Words, or-words, shr-digit, mod-digit, up-digit, up-low, digit-high, or-same, or-other, or-none}
 use Rattle.words.specs.Shift.{lowPart, highPart, orInto, spills, shiftWord, wordHits}

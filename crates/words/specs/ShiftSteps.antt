@@ -1,13 +1,13 @@
 -- The shift's definitions at the values that the code has in its hands.
 use mathlib.Core.Path.{_≡_, refl, sym, ap, _∙_, subst}
-use mathlib.Core.Bool.{Bool, true, false, not, _&&_, _||_, or-false}
+use mathlib.Core.Bool.{Bool, true, false, cond, not, _&&_, or-false}
 use mathlib.Core.List.{List}
 use Prim.Native.Nat.{ℕ, zero, suc, _+_, _-_, _*_, _/_, _%_, _^_, _<_, _≤_, min}
 use native.Mathlib.Nat.{div-eq-of-lt, zero-div, not-suc-le-zero, mod-le, lt-of-le-of-lt}
 use native.Mathlib.Omega.{arith}
 use lib.Dec.{eqb, ltb}
-use lib.ListN.{length, getD, set, length-set}
-use lib.Pow.{field, shl-shr, pow-pos}
+use lib.ListN.{length, getD, length-set}
+use lib.Pow.{field, shl-shr}
 use borrow.Author.Tests.{eq-eqb, ne-eqb, lt-ltb, le-ltb}
 use Rattle.words.specs.Shift.{Shifted, shifted, before, upTo, meets, lowPart, highPart, orInto, spills, shiftWord, wordHits, shiftFrom, unionShifted}
 use Rattle.words.specs.declared.Ended.the-variants.{Hit, Complete, Stopped}
@@ -111,27 +111,31 @@ module _ (shift start end : ℕ) (l : List ℕ) where
   from-stopped zero left h e = absurd (not-suc-le-zero h)
   from-stopped (suc source) left h e = rw e
 
-  pub from-hit : (source left : ℕ) → 0 < source → (left ≡ 0 → ⊥) → wordHits l (source - 1) shift start end ≡ true
-      → shiftFrom shift start end source l left ≡ shifted (shiftWord l (source - 1) shift) (Hit (left - 1))
+  from-turn : (source left : ℕ) → 0 < source → (left ≡ 0 → ⊥)
+      → shiftFrom shift start end source l left
+      ≡ cond (wordHits l (source - 1) shift start end) (shifted (shiftWord l (source - 1) shift) (Hit (left - 1)))
+      (shiftFrom shift start end (source - 1) (shiftWord l (source - 1) shift) (left - 1))
   unfolding shiftFrom
-  from-hit zero left h n w = absurd (not-suc-le-zero h)
-  from-hit (suc source) zero h n w = absurd (n refl)
-  from-hit (suc source) (suc left) h n w =
+  from-turn zero left h n = absurd (not-suc-le-zero h)
+  from-turn (suc source) zero h n = absurd (n refl)
+  from-turn (suc source) (suc left) h n =
       let e : suc source - 1 ≡ source = omega arith in
       let d : suc left - 1 ≡ left = omega arith in
-      let v = rw e at w in
-      rw (e, d, v, shiftFrom)
+      rw (e, d, shiftFrom) (by (wordHits l source shift start end))
+    where
+      by : (found : Bool)
+          → elim found [ true ↦ shifted (shiftWord l source shift) (Hit left) | false ↦ shiftFrom shift start end source (shiftWord l source shift) left ]
+          ≡ cond found (shifted (shiftWord l source shift) (Hit left)) (shiftFrom shift start end source (shiftWord l source shift) left)
+      by true = refl
+      by false = refl
 
-  pub from-next : (source left : ℕ) → 0 < source → (left ≡ 0 → ⊥) → wordHits l (source - 1) shift start end ≡ false
+  pub from-hit : (source left : ℕ) (found : Bool) → 0 < source → (left ≡ 0 → ⊥) → found ≡ wordHits l (source - 1) shift start end → found ≡ true
+      → shiftFrom shift start end source l left ≡ shifted (shiftWord l (source - 1) shift) (Hit (left - 1))
+  from-hit source left found h n w f = let v = sym w ∙ f in from-turn source left h n ∙ rw v
+
+  pub from-next : (source left : ℕ) (found : Bool) → 0 < source → (left ≡ 0 → ⊥) → found ≡ wordHits l (source - 1) shift start end → found ≡ false
       → shiftFrom shift start end source l left ≡ shiftFrom shift start end (source - 1) (shiftWord l (source - 1) shift) (left - 1)
-  unfolding shiftFrom
-  from-next zero left h n w = absurd (not-suc-le-zero h)
-  from-next (suc source) zero h n w = absurd (n refl)
-  from-next (suc source) (suc left) h n w =
-      let e : suc source - 1 ≡ source = omega arith in
-      let d : suc left - 1 ≡ left = omega arith in
-      let v = rw e at w in
-      rw (e, d, v, shiftFrom)
+  from-next source left found h n w f = let v = sym w ∙ f in from-turn source left h n ∙ rw v
 
   pub from-start : (sources allowance readable : ℕ) → readable ≡ min sources (length l - shift / 64)
       → shiftFrom shift start end readable l allowance ≡ unionShifted l sources shift start end allowance

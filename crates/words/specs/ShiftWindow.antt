@@ -1,19 +1,19 @@
 -- A word meets the window exactly if one of its set places lies in it; and so for the moved bits of one source word.
-use mathlib.Core.Path.{_≡_, refl, sym, ap, _∙_, subst}
-use mathlib.Core.Bool.{Bool, true, false, not, _&&_, _||_, or-true}
+use mathlib.Core.Path.{_≡_, refl, sym, ap, _∙_}
+use mathlib.Core.Bool.{Bool, true, false, not, _&&_, or-true}
 use mathlib.Core.List.{List}
-use Prim.Native.Nat.{ℕ, zero, suc, _+_, _*_, _-_, _/_, _%_, _^_, _<_, _≤_, min}
-use native.Mathlib.Nat.{lt-of-not-le, lt-of-lt-of-le, lt-of-le-of-lt, mod-lt, mod-le, pow-zero, pow-suc, zero-div, zero-mod}
+use Prim.Native.Nat.{ℕ, zero, suc, _+_, _*_, _-_, _/_, _%_, _^_, _<_, _≤_}
+use native.Mathlib.Nat.{lt-of-not-le, lt-of-lt-of-le, lt-of-le-of-lt, mod-lt, pow-zero, pow-suc, zero-div, zero-mod}
 use native.Mathlib.Decide.{decLe, decLt}
 use native.Mathlib.Omega.{arith}
 use native.Nat.{ℕᴺ-discrete as decEq}
 use lib.Dec.{eqb, ltb}
 use lib.Pow.{pow-mono, pow-pos, shr-le}
 use lib.ListN.{length, getD}
-use borrow.Author.Tests.{eq-eqb, ne-eqb, eqb-true, eqb-false, ltb-true, not-true, not-false}
+use borrow.Author.Tests.{ne-eqb, eqb-false, ltb-true, not-true}
 use Rattle.words.specs.Mask.{digit, digitAt}
-use Rattle.words.specs.Digits.{digit-small, shr-digit, mod-digit, digit-high}
-use Rattle.words.specs.Shift.{before, upTo, inWindow, meets, lowPart, highPart, spills, wordHits}
+use Rattle.words.specs.Digits.{shr-digit, mod-digit, digit-high}
+use Rattle.words.specs.Shift.{before, upTo, inWindow, meets, spills, wordHits}
 use Rattle.words.specs.ShiftSteps.{target, lowOf, highOf, spills-over, hits-low}
 use Rattle.words.specs.ShiftPlaces.{source-digit, low-up, low-none, high-at, high-none}
 

@@ -13,7 +13,7 @@ sub-t6 : tie.Need-sub-t6
 sub-t6 c = search needs
 
 returns : tie.Need-returns
-returns c = simp (c .wrapped .ensures)
+returns c = simp (c .wrapped .ensures .0)
 
 pub popped-spec : {M : Type 1} → statement M
 popped-spec = tie.close (tie.spec add-wrapped wrapped-requires sub-t6 returns)

@@ -1,8 +1,6 @@
 -- `queues::push` meets its contract. Assumes nothing.
 use mathlib.Core.Path.{ap}
 use Prim.Native.Nat.{ℕ, _+_}
-use native.Mathlib.Nat.{mod-lt}
-use native.Mathlib.Omega.{arith}
 use lib.ListN.{set}
 use Rattle.queues.specs.Queue.{queue, ring, push}
 use borrow.Author.Needs.{needs}
@@ -16,18 +14,10 @@ wrapped-requires : tie.Need-wrapped-requires
 wrapped-requires c κs = search needs
 
 mul-items : tie.Need-mul-items
-mul-items c =
-    let a = c .before .before .args in
-    let p = c .before .before .pre in
-    let m = mod-lt (a .ring .head + a .ring .count) {m = a .places} (omega (arith, p .head)) in
-    record { fits = omega (arith, c .wrapped .ensures, p .long) }
+mul-items c = search needs
 
 slice-write-items : tie.Need-slice-write-items
-slice-write-items c =
-    let a = c .before .before .args in
-    let p = c .before .before .pre in
-    let m = mod-lt (a .ring .head + a .ring .count) {m = a .places} (omega (arith, p .head)) in
-    omega (arith, c .wrapped .ensures, p .long)
+slice-write-items c = search needs
 
 add-t8 : tie.Need-add-t8
 add-t8 c = search needs
@@ -39,7 +29,7 @@ returns : tie.Need-returns
 unfolding push
 returns c =
     let a = c .before .before .args in
-    ap (λ (k : ℕ). queue (set (a .items .now) k (a .x)) (ring (a .ring .head) (a .ring .count + 1))) (c .wrapped .ensures)
+    ap (λ (k : ℕ). queue (set (a .items .now) k (a .x)) (ring (a .ring .head) (a .ring .count + 1))) (c .wrapped .ensures .0)
 
 pub push-spec : {M : Type 1} → statement M
 push-spec =

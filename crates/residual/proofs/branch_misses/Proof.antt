@@ -1,6 +1,6 @@
 -- `residual::branch_misses` meets its contract: the window is cut to the branch's sums, and `misses` does the rest.
-use Prim.Native.Nat.{ℕ, min, max}
-use mathlib.Core.Path.{_≡_, sym, ap₂, _∙_}
+use Prim.Native.Nat.{ℕ}
+use mathlib.Core.Path.{sym, ap₂, _∙_}
 use borrow.Author.Needs.{needs}
 use Rattle.residual.specs.Gcd.{misses}
 use Rattle.residual.specs.MissesLaws.{branch-empty, branch-open}

@@ -4,7 +4,6 @@ use native.Mathlib.Omega.{arith}
 use mathlib.Core.Path.{_≡_, sym, ap, _∙_}
 use mathlib.Core.List.{List, reverse}
 use lib.ListN.{length}
-use borrow.Author.Needs.{needs}
 use Rattle.numeric.specs.Threshold.{Term, terms}
 use Rattle.words.specs.Mask.{inEither}
 use Rattle.residual.specs.Gcd.{misses}
@@ -24,13 +23,13 @@ use Rattle.residual.proofs.check_from.Statement.{statement}
 use Rattle.residual.proofs.check_from.Tie as tie
 
 abbrev Inv-loop : tie.InvT-loop
-Inv-loop conditions weights i sure never left₀ divisor₀ left divisor =
-    (left ≤ length weights)
-    × (checkFrom i (inEither sure never) (lastTerms conditions weights left) divisor
+Inv-loop conditions weights i sure never remaining₀ divisor₀ remaining divisor =
+    (remaining ≤ length weights)
+    × (checkFrom i (inEither sure never) (lastTerms conditions weights remaining) divisor
     ≡ checkFrom i (inEither sure never) (reverse (terms conditions weights)) 0)
 
 abbrev μ-loop : tie.MeasureT-loop
-μ-loop conditions weights i sure never left₀ divisor₀ left divisor = left
+μ-loop conditions weights i sure never remaining₀ divisor₀ remaining divisor = remaining
 
 loop-holds : tie.Need-loop-holds Inv-loop μ-loop
 loop-holds c =
@@ -38,8 +37,8 @@ loop-holds c =
     let p = c .before .before .before .before .pre .0 in
     (omega arith, ap (λ (l : List Term). checkFrom (g .i) (inEither (g .sure .now) (g .never .now)) l 0) (last-all (g .conditions .now) (g .weights .now) (p .same)))
 
-sub-left : tie.Need-sub-left Inv-loop μ-loop
-sub-left c = omega arith
+sub-remaining : tie.Need-sub-remaining Inv-loop μ-loop
+sub-remaining c = omega arith
 
 mul-decided : tie.Need-mul-decided Inv-loop μ-loop
 mul-decided c = omega arith
@@ -50,7 +49,7 @@ shared-slice-read-decided c = omega arith
 decided-requires : tie.Need-decided-requires Inv-loop μ-loop
 decided-requires c κs =
     let p = c .before .before .before .before .before .before .before .pre .0 in
-    (p .below (c .before .before .loop .left - 1) (omega arith), p .inSure, p .inNever)
+    (p .below (c .before .before .loop .remaining - 1) (omega arith), p .inSure, p .inNever)
 
 loop-less : tie.Need-loop-less Inv-loop μ-loop
 loop-less c = omega arith
@@ -62,7 +61,7 @@ loop-again c =
     let w = b .loop in (
       omega arith,
       sym
-          (turn-skip (g .i) (inEither (g .sure .now) (g .never .now)) (g .conditions .now) (g .weights .now) (w .left) (w .divisor) (omega arith) (omega arith) (omega arith)
+          (turn-skip (g .i) (inEither (g .sure .now) (g .never .now)) (g .conditions .now) (g .weights .now) (w .remaining) (w .divisor) (omega arith) (omega arith) (omega arith)
           (sym (c .before .decided .ensures) ∙ c .if1 .taken))
           ∙ w .inv .1,
     )
@@ -86,7 +85,7 @@ returns c =
     let w = b .loop in
     let e = c .before .before .before .before in
     sym
-    (turn-stop (g .i) (inEither (g .sure .now) (g .never .now)) (g .conditions .now) (g .weights .now) (w .left) (w .divisor) (omega arith) (omega arith) (omega arith)
+    (turn-stop (g .i) (inEither (g .sure .now) (g .never .now)) (g .conditions .now) (g .weights .now) (w .remaining) (w .divisor) (omega arith) (omega arith) (omega arith)
     (c .before .before .gcd .result) (sym (e .before .decided .ensures) ∙ e .if1 .left) (c .before .before .gcd .ensures)
     (sym (c .before .stops .ensures) ∙ c .if2 .taken))
     ∙ w .inv .1
@@ -102,7 +101,7 @@ loop-again-2 c =
     let e = c .before .before .before .before in (
       omega arith,
       sym
-          (turn-more (g .i) (inEither (g .sure .now) (g .never .now)) (g .conditions .now) (g .weights .now) (w .left) (w .divisor) (omega arith) (omega arith) (omega arith)
+          (turn-more (g .i) (inEither (g .sure .now) (g .never .now)) (g .conditions .now) (g .weights .now) (w .remaining) (w .divisor) (omega arith) (omega arith) (omega arith)
           (c .before .before .gcd .result) (sym (e .before .decided .ensures) ∙ e .if1 .left) (c .before .before .gcd .ensures)
           (sym (c .before .stops .ensures) ∙ c .if2 .left))
           ∙ w .inv .1,
@@ -115,7 +114,7 @@ returns-2 c =
     let d = inEither (g .sure .now) (g .never .now) in
     let w = b .loop in
     sym
-    (ap (λ (l : List Term). checkFrom (g .i) d l (w .divisor)) (last-none (g .conditions .now) (g .weights .now) (w .left) (omega arith))
+    (ap (λ (l : List Term). checkFrom (g .i) d l (w .divisor)) (last-none (g .conditions .now) (g .weights .now) (w .remaining) (omega arith))
     ∙ check-end-divisor (g .i) d (w .divisor) (c .if3 .taken))
     ∙ w .inv .1
 
@@ -135,7 +134,7 @@ returns-3 c =
     let w = b .loop in
     let z : w .divisor ≡ 0 = omega (arith, c .before .before .before .if3 .left) in
     sym
-    (ap (λ (l : List Term). checkFrom (g .i) d l (w .divisor)) (last-none (g .conditions .now) (g .weights .now) (w .left) (omega arith))
+    (ap (λ (l : List Term). checkFrom (g .i) d l (w .divisor)) (last-none (g .conditions .now) (g .weights .now) (w .remaining) (omega arith))
     ∙ check-end-misses (g .i) d (w .divisor) z
     (sym (c .before .misses .ensures ∙ ap (λ (x : ℕ). misses (g .i .known) (g .i .lower) x 0) (c .before .before .smaller .ensures)) ∙ c .if4 .taken))
     ∙ w .inv .1
@@ -148,7 +147,7 @@ returns-4 c =
     let w = b .loop in
     let z : w .divisor ≡ 0 = omega (arith, c .before .before .before .if3 .left) in
     sym
-    (ap (λ (l : List Term). checkFrom (g .i) d l (w .divisor)) (last-none (g .conditions .now) (g .weights .now) (w .left) (omega arith))
+    (ap (λ (l : List Term). checkFrom (g .i) d l (w .divisor)) (last-none (g .conditions .now) (g .weights .now) (w .remaining) (omega arith))
     ∙ check-end-hits (g .i) d (w .divisor) z
     (sym (c .before .misses .ensures ∙ ap (λ (x : ℕ). misses (g .i .known) (g .i .lower) x 0) (c .before .before .smaller .ensures)) ∙ c .if4 .left))
     ∙ w .inv .1
@@ -160,7 +159,7 @@ check-from-spec =
     Inv-loop
     μ-loop
     loop-holds
-    sub-left
+    sub-remaining
     mul-decided
     shared-slice-read-decided
     decided-requires

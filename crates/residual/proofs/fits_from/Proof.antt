@@ -1,5 +1,5 @@
 -- `residual::fits_from` meets its contract: the scan of the terms that are left, from here, is that of the whole row.
-use Prim.Native.Nat.{ℕ, _-_, _≤_}
+use Prim.Native.Nat.{_-_, _≤_}
 use native.Mathlib.Omega.{arith}
 use mathlib.Core.Path.{_≡_, sym, ap, _∙_}
 use mathlib.Core.Bool.{false}
@@ -14,13 +14,13 @@ use Rattle.residual.proofs.fits_from.Statement.{statement}
 use Rattle.residual.proofs.fits_from.Tie as tie
 
 abbrev Inv-loop : tie.InvT-loop
-Inv-loop conditions weights i sure never left₀ fitting₀ complement₀ left fitting complement =
-    (left ≤ length weights)
-    × (fitsFrom i (inEither sure never) (lastTerms conditions weights left) fitting complement
+Inv-loop conditions weights i sure never unread₀ fitting₀ complement₀ unread fitting complement =
+    (unread ≤ length weights)
+    × (fitsFrom i (inEither sure never) (lastTerms conditions weights unread) fitting complement
     ≡ fitsFrom i (inEither sure never) (reverse (terms conditions weights)) false 0)
 
 abbrev μ-loop : tie.MeasureT-loop
-μ-loop conditions weights i sure never left₀ fitting₀ complement₀ left fitting complement = left
+μ-loop conditions weights i sure never unread₀ fitting₀ complement₀ unread fitting complement = unread
 
 loop-holds : tie.Need-loop-holds Inv-loop μ-loop
 loop-holds c =
@@ -28,8 +28,8 @@ loop-holds c =
     let p = c .before .before .before .before .pre in
     (omega arith, ap (λ (l : List Term). fitsFrom (g .i) (inEither (g .sure .now) (g .never .now)) l false 0) (last-all (g .conditions .now) (g .weights .now) (p .same)))
 
-sub-left : tie.Need-sub-left Inv-loop μ-loop
-sub-left c = omega arith
+sub-unread : tie.Need-sub-unread Inv-loop μ-loop
+sub-unread c = omega arith
 
 mul-weight : tie.Need-mul-weight Inv-loop μ-loop
 mul-weight c = omega arith
@@ -45,7 +45,7 @@ returns c =
     let w = c .before .before .before .before .loop in
     let g = c .before .before .before .before .before .before .before .before .before .args in
     sym
-    (fits-wide (g .i) (inEither (g .sure .now) (g .never .now)) (g .conditions .now) (g .weights .now) (w .left) (w .fitting) (w .complement) (omega arith) (omega arith) (omega arith)
+    (fits-wide (g .i) (inEither (g .sure .now) (g .never .now)) (g .conditions .now) (g .weights .now) (w .unread) (w .fitting) (w .complement) (omega arith) (omega arith) (omega arith)
     (sym (c .before .too-wide .ensures) ∙ c .if1 .taken))
     ∙ w .inv .1
 
@@ -58,7 +58,7 @@ shared-slice-read-decided c = omega arith
 decided-requires : tie.Need-decided-requires Inv-loop μ-loop
 decided-requires c κs =
     let p = c .before .before .before .before .before .before .before .before .before .before .pre in
-    (p .below (c .before .before .before .before .before .loop .left - 1) (omega arith), p .inSure, p .inNever)
+    (p .below (c .before .before .before .before .before .loop .unread - 1) (omega arith), p .inSure, p .inNever)
 
 loop-less : tie.Need-loop-less Inv-loop μ-loop
 loop-less c = omega arith
@@ -70,7 +70,7 @@ loop-again c =
     let e = c .before .before .before in (
       omega arith,
       sym
-          (fits-skip (g .i) (inEither (g .sure .now) (g .never .now)) (g .conditions .now) (g .weights .now) (w .left) (w .fitting) (w .complement) (omega arith) (omega arith) (omega arith)
+          (fits-skip (g .i) (inEither (g .sure .now) (g .never .now)) (g .conditions .now) (g .weights .now) (w .unread) (w .fitting) (w .complement) (omega arith) (omega arith) (omega arith)
           (sym (e .before .too-wide .ensures) ∙ e .if1 .left) (sym (c .before .decided .ensures) ∙ c .if2 .taken))
           ∙ w .inv .1,
     )
@@ -88,7 +88,7 @@ returns-2 c =
     let b = c .before .before .before .before in
     let e = b .before .before .before in
     sym
-    (fits-both (g .i) (inEither (g .sure .now) (g .never .now)) (g .conditions .now) (g .weights .now) (w .left) (w .fitting) (w .complement) (omega arith) (omega arith) (omega arith)
+    (fits-both (g .i) (inEither (g .sure .now) (g .never .now)) (g .conditions .now) (g .weights .now) (w .unread) (w .fitting) (w .complement) (omega arith) (omega arith) (omega arith)
     (sym (e .before .too-wide .ensures) ∙ e .if1 .left) (sym (b .before .decided .ensures) ∙ b .if2 .left)
     (c .before .before .before .if3 .taken) (c .before .before .gcd .result) (c .before .before .gcd .ensures)
     (sym (c .before .both-fit .ensures) ∙ c .if4 .taken))
@@ -105,7 +105,7 @@ loop-again-2 c =
     let e = b .before .before .before in (
       omega arith,
       sym
-          (fits-more (g .i) (inEither (g .sure .now) (g .never .now)) (g .conditions .now) (g .weights .now) (w .left) (w .fitting) (w .complement) (omega arith) (omega arith) (omega arith)
+          (fits-more (g .i) (inEither (g .sure .now) (g .never .now)) (g .conditions .now) (g .weights .now) (w .unread) (w .fitting) (w .complement) (omega arith) (omega arith) (omega arith)
           (sym (e .before .too-wide .ensures) ∙ e .if1 .left) (sym (b .before .decided .ensures) ∙ b .if2 .left)
           (c .before .before .before .if3 .taken) (c .before .before .gcd .result) (c .before .before .gcd .ensures)
           (sym (c .before .both-fit .ensures) ∙ c .if4 .left))
@@ -123,7 +123,7 @@ loop-again-3 c =
     let e = b .before .before .before in (
       omega arith,
       sym
-          (fits-first (g .i) (inEither (g .sure .now) (g .never .now)) (g .conditions .now) (g .weights .now) (w .left) (w .fitting) (w .complement) (omega arith) (omega arith) (omega arith)
+          (fits-first (g .i) (inEither (g .sure .now) (g .never .now)) (g .conditions .now) (g .weights .now) (w .unread) (w .fitting) (w .complement) (omega arith) (omega arith) (omega arith)
           (sym (e .before .too-wide .ensures) ∙ e .if1 .left) (sym (b .before .decided .ensures) ∙ b .if2 .left) (c .if3 .left))
           ∙ w .inv .1,
     )
@@ -132,7 +132,7 @@ returns-3 : tie.Need-returns-3 Inv-loop μ-loop
 returns-3 c =
     let w = c .before .loop in
     let g = c .before .before .before .before .before .before .args in
-    sym (fits-none (g .i) (inEither (g .sure .now) (g .never .now)) (g .conditions .now) (g .weights .now) (w .left) (w .fitting) (w .complement) (omega arith))
+    sym (fits-none (g .i) (inEither (g .sure .now) (g .never .now)) (g .conditions .now) (g .weights .now) (w .unread) (w .fitting) (w .complement) (omega arith))
     ∙ w .inv .1
 
 pub fits-from-spec : {M : Type 1} → statement M
@@ -142,7 +142,7 @@ fits-from-spec =
     Inv-loop
     μ-loop
     loop-holds
-    sub-left
+    sub-unread
     mul-weight
     shared-slice-read-weight
     too-wide-requires

@@ -1,35 +1,33 @@
 -- `residual::force_from` meets its contract: forcing the terms that are left, from here, is forcing all of them from the start.
-use Prim.Native.Nat.{ℕ, _+_, _-_, _≤_}
+use Prim.Native.Nat.{_-_, _≤_}
 use native.Mathlib.Omega.{arith}
-use mathlib.Core.Path.{_≡_, refl, sym, ap, _∙_}
+use mathlib.Core.Path.{_≡_, refl, sym, _∙_}
 use lib.ListN.{length, drop}
-use borrow.Author.Needs.{needs}
-use Rattle.numeric.specs.Threshold.{Term, terms}
-use Rattle.words.specs.Mask.{inEither}
+use Rattle.numeric.specs.Threshold.{terms}
 use Rattle.state.specs.declared.Step.the-variants.{Unchanged}
 use Rattle.queues.specs.Queue.{queue}
 use Rattle.queues.specs.Marks.{marks}
-use Rattle.residual.specs.Shape.{Room}
+use Rattle.queues.specs.MarksLaws.{Waits}
 use Rattle.residual.specs.Residual.{forceFrom}
-use Rattle.residual.specs.ForceLaws.{room-less, room-next, force-skip, turn-grows, turn-stops, turn-goes-on, force-end}
+use Rattle.residual.specs.ForceLaws.{force-skip, turn-waits, turn-stops, turn-goes-on, force-end}
 use Rattle.residual.proofs.force_from.Statement.{statement}
 use Rattle.residual.proofs.force_from.Tie as tie
 
 abbrev Inv-loop : tie.InvT-loop
-Inv-loop conditions weights gcds i sure₀ never₀ nodes₀ count position₀ prefix₀ so-far₀ sure never nodes position prefix so-far =
+Inv-loop conditions weights gcds i sure₀ never₀ nodes₀ position₀ prefix₀ so-far₀ sure never nodes position prefix so-far =
     (position ≤ length weights) × (length sure ≡ length sure₀) × (length never ≡ length never₀) × (length nodes ≡ length nodes₀)
-    × Room (length weights - position) (queue nodes (so-far .ring))
+    × Waits (marks sure never (queue nodes (so-far .ring)))
     × (forceFrom i gcds (drop position (terms conditions weights)) prefix (marks sure never (queue nodes (so-far .ring))) (so-far .step)
     ≡ forceFrom i gcds (terms conditions weights) 0 (marks sure₀ never₀ (queue nodes₀ (so-far₀ .ring))) Unchanged)
 
 abbrev μ-loop : tie.MeasureT-loop
-μ-loop conditions weights gcds i sure₀ never₀ nodes₀ count position₀ prefix₀ so-far₀ sure never nodes position prefix so-far = length weights - position
+μ-loop conditions weights gcds i sure₀ never₀ nodes₀ position₀ prefix₀ so-far₀ sure never nodes position prefix so-far = length weights - position
 
 loop-holds : tie.Need-loop-holds Inv-loop μ-loop
 loop-holds c =
     let g = c .before .before .before .before .before .before .args in
-    let p = c .before .before .before .before .before .before .pre .1 .1 in
-    (omega arith, refl, refl, refl, room-less (queue (g .nodes .now) (g .ring)) (length (g .weights .now)) (length (g .weights .now) - 0) (omega arith) p, refl)
+    let p = c .before .before .before .before .before .before .pre .1 .3 in
+    (omega arith, refl, refl, refl, p, refl)
 
 mul-node : tie.Need-mul-node Inv-loop μ-loop
 mul-node c = omega arith
@@ -58,7 +56,7 @@ loop-again c =
       w .inv .1,
       w .inv .2,
       w .inv .3,
-      room-less (queue (w .nodes) (w .so-far .ring)) (length (g .weights .now) - w .position) (length (g .weights .now) - (w .position + 1)) (omega arith) (w .inv .4),
+      w .inv .4,
       sym
           (force-skip (g .i) (g .gcds .now) (g .conditions .now) (g .weights .now) (w .position) (w .prefix)
           (marks (w .sure) (w .never) (queue (w .nodes) (w .so-far .ring))) (w .so-far .step) (omega arith) (omega arith)
@@ -89,11 +87,11 @@ gcd-requires c κs = tt
 
 force-term-requires : tie.Need-force-term-requires Inv-loop μ-loop
 force-term-requires c κs =
-    let s = c .before .before .before .before .before .before .before .before .before .before .before .before .before .before .before .before .before .before .before .before in
-    let w = c .before .before .before .before .before .before .before .before .before .before .before .before .before .loop in
-    let t = c .before .before .before .before .before .before .before .before .before .before .before .before .loop-test .taken in
+    let s = c .before .before .before .before .before .before .before .before .before .before .before .before .before .before .before .before .before .before .before in
+    let w = c .before .before .before .before .before .before .before .before .before .before .before .before .loop in
+    let t = c .before .before .before .before .before .before .before .before .before .before .before .loop-test .taken in
     let p = s .pre .0 in
-    let q = s .pre .1 .0 in (
+    let q = s .pre .1 in (
       omega (arith, q .1, q .2 (w .position) (omega (arith, t))),
       (w .inv .4 .held, p .below (w .position) (omega (arith, t, p .same)), omega (arith, w .inv .1, p .inSure), omega (arith, w .inv .2, p .inNever)),
     )
@@ -107,30 +105,30 @@ contradicts-requires c κs = tt
 same-length : tie.Need-same-length Inv-loop μ-loop
 same-length c =
     let b = c .before in
-    b .before .before .before .before .before .before .before .before .force-term .kept .1 .1 .1 .1 .0 ∙ b .before .before .before .before .before .before .before .before .before .before .before .before .before .before .before .before .before .before .before .before .before .before .loop .inv .1
+    b .before .before .before .before .before .before .before .before .force-term .kept .1 .1 .1 .1 .0 ∙ b .before .before .before .before .before .before .before .before .before .before .before .before .before .before .before .before .before .before .before .before .before .loop .inv .1
 
 same-length-2 : tie.Need-same-length-2 Inv-loop μ-loop
 same-length-2 c =
     let b = c .before in
-    b .before .before .before .before .before .before .before .before .force-term .kept .1 .1 .1 .1 .1 .0 ∙ b .before .before .before .before .before .before .before .before .before .before .before .before .before .before .before .before .before .before .before .before .before .before .loop .inv .2
+    b .before .before .before .before .before .before .before .before .force-term .kept .1 .1 .1 .1 .1 .0 ∙ b .before .before .before .before .before .before .before .before .before .before .before .before .before .before .before .before .before .before .before .before .before .loop .inv .2
 
 same-length-3 : tie.Need-same-length-3 Inv-loop μ-loop
 same-length-3 c =
     let b = c .before in
-    b .before .before .before .before .before .before .before .before .force-term .kept .1 .1 .1 .1 .1 .1 .0 ∙ b .before .before .before .before .before .before .before .before .before .before .before .before .before .before .before .before .before .before .before .before .before .before .loop .inv .3
+    b .before .before .before .before .before .before .before .before .force-term .kept .1 .1 .1 .1 .1 .1 .0 ∙ b .before .before .before .before .before .before .before .before .before .before .before .before .before .before .before .before .before .before .before .before .before .loop .inv .3
 
 returns : tie.Need-returns Inv-loop μ-loop
 returns c =
     let b = c .before in
-    let g = b .before .before .before .before .before .before .before .before .before .before .before .before .before .before .before .before .before .before .before .before .before .before .before .before .before .before .before .before .before .args in
-    let p = b .before .before .before .before .before .before .before .before .before .before .before .before .before .before .before .before .before .before .before .before .before .before .before .before .before .before .before .before .before .pre .0 in
-    let w = b .before .before .before .before .before .before .before .before .before .before .before .before .before .before .before .before .before .before .before .before .before .before .loop in
-    let t = b .before .before .before .before .before .before .before .before .before .before .before .before .before .before .before .before .before .before .before .before .before .loop-test .taken in
+    let g = b .before .before .before .before .before .before .before .before .before .before .before .before .before .before .before .before .before .before .before .before .before .before .before .before .before .before .before .before .args in
+    let p = b .before .before .before .before .before .before .before .before .before .before .before .before .before .before .before .before .before .before .before .before .before .before .before .before .before .before .before .before .pre .0 in
+    let w = b .before .before .before .before .before .before .before .before .before .before .before .before .before .before .before .before .before .before .before .before .before .loop in
+    let t = b .before .before .before .before .before .before .before .before .before .before .before .before .before .before .before .before .before .before .before .before .loop-test .taken in
     let j = b .before .joined-decision in
     let f = b .before .before .before .before .before .before .before .before .force-term in
     (turn-stops (g .i) (g .gcds .now) (g .conditions .now) (g .weights .now) (w .position) (w .prefix)
     (marks (w .sure) (w .never) (queue (w .nodes) (w .so-far .ring))) (w .so-far .step) (omega (arith, t, p .same)) (omega (arith, t)) (p .same)
-    (sym (b .before .before .before .before .before .before .before .before .before .before .before .before .before .before .before .before .before .decided .ensures) ∙ b .before .before .before .before .before .before .before .before .before .before .before .before .before .before .before .before .if1 .left) (b .before .before .before .before .before .before .before .before .before .before .before .before .before .gcd .result) (b .before .before .before .before .before .before .before .before .before .before .before .before .before .gcd .ensures)
+    (sym (b .before .before .before .before .before .before .before .before .before .before .before .before .before .before .before .before .decided .ensures) ∙ b .before .before .before .before .before .before .before .before .before .before .before .before .before .before .before .if1 .left) (b .before .before .before .before .before .before .before .before .before .before .before .before .gcd .result) (b .before .before .before .before .before .before .before .before .before .before .before .before .gcd .ensures)
     (f .last .1 .1 .1 .1 .0) (f .last .1 .1 .1 .1 .1 .0) (f .last .1 .1 .1 .1 .1 .1 .0) (f .result .ring) (j .result .ring) (f .result .step) (j .result .step)
     (f .ensures) (j .ensures .1) (j .ensures .0) (sym (b .contradicts .ensures) ∙ c .if2 .taken))
     ∙ w .inv .5
@@ -139,35 +137,32 @@ gcd-requires-2 : tie.Need-gcd-requires-2 Inv-loop μ-loop
 gcd-requires-2 c κs = tt
 
 add-position-2 : tie.Need-add-position-2 Inv-loop μ-loop
-add-position-2 c = omega (arith, c .before .before .before .before .before .before .before .before .before .before .before .before .before .before .before .before .before .before .before .before .before .before .before .loop-test .taken, c .before .before .before .before .before .before .before .before .before .before .before .before .before .before .before .before .before .before .before .before .before .before .before .before .before .before .before .before .before .before .before .good .1 .0 .0)
+add-position-2 c = omega (arith, c .before .before .before .before .before .before .before .before .before .before .before .before .before .before .before .before .before .before .before .before .before .before .loop-test .taken, c .before .before .before .before .before .before .before .before .before .before .before .before .before .before .before .before .before .before .before .before .before .before .before .before .before .before .before .before .before .before .good .1 .0 .0)
 
 loop-less-2 : tie.Need-loop-less-2 Inv-loop μ-loop
-loop-less-2 c = omega (arith, c .before .before .before .before .before .before .before .before .before .before .before .before .before .before .before .before .before .before .before .before .before .before .before .loop-test .taken)
+loop-less-2 c = omega (arith, c .before .before .before .before .before .before .before .before .before .before .before .before .before .before .before .before .before .before .before .before .before .before .loop-test .taken)
 
 loop-again-2 : tie.Need-loop-again-2 Inv-loop μ-loop
 loop-again-2 c =
     let b = c .before .before in
-    let g = b .before .before .before .before .before .before .before .before .before .before .before .before .before .before .before .before .before .before .before .before .before .before .before .before .before .before .before .before .before .args in
-    let p = b .before .before .before .before .before .before .before .before .before .before .before .before .before .before .before .before .before .before .before .before .before .before .before .before .before .before .before .before .before .pre .0 in
-    let w = b .before .before .before .before .before .before .before .before .before .before .before .before .before .before .before .before .before .before .before .before .before .before .loop in
-    let t = b .before .before .before .before .before .before .before .before .before .before .before .before .before .before .before .before .before .before .before .before .before .loop-test .taken in
+    let g = b .before .before .before .before .before .before .before .before .before .before .before .before .before .before .before .before .before .before .before .before .before .before .before .before .before .before .before .before .args in
+    let p = b .before .before .before .before .before .before .before .before .before .before .before .before .before .before .before .before .before .before .before .before .before .before .before .before .before .before .before .before .pre .0 in
+    let w = b .before .before .before .before .before .before .before .before .before .before .before .before .before .before .before .before .before .before .before .before .before .loop in
+    let t = b .before .before .before .before .before .before .before .before .before .before .before .before .before .before .before .before .before .before .before .before .loop-test .taken in
     let j = b .before .joined-decision in
     let f = b .before .before .before .before .before .before .before .before .force-term in (
       omega (arith, t),
       f .kept .1 .1 .1 .1 .0 ∙ w .inv .1,
       f .kept .1 .1 .1 .1 .1 .0 ∙ w .inv .2,
       f .kept .1 .1 .1 .1 .1 .1 .0 ∙ w .inv .3,
-      room-next (queue (w .nodes) (w .so-far .ring)) (queue (f .last .1 .1 .1 .1 .1 .1 .0) (j .result .ring)) (length (g .weights .now) - w .position)
-          (length (g .weights .now) - (w .position + 1)) (omega (arith, t))
-          (turn-grows (g .i) (g .gcds .now) (g .conditions .now) (g .weights .now) (w .position) (w .prefix)
+      turn-waits (g .i) (g .gcds .now) (g .conditions .now) (g .weights .now) (w .position) (w .prefix)
           (marks (w .sure) (w .never) (queue (w .nodes) (w .so-far .ring))) (w .so-far .step) (omega (arith, t, p .same)) (omega (arith, t)) (p .same)
-          (sym (b .before .before .before .before .before .before .before .before .before .before .before .before .before .before .before .before .before .decided .ensures) ∙ b .before .before .before .before .before .before .before .before .before .before .before .before .before .before .before .before .if1 .left) (b .before .before .before .before .before .before .before .before .before .before .before .before .before .gcd .result) (b .before .before .before .before .before .before .before .before .before .before .before .before .before .gcd .ensures)
+          (sym (b .before .before .before .before .before .before .before .before .before .before .before .before .before .before .before .before .decided .ensures) ∙ b .before .before .before .before .before .before .before .before .before .before .before .before .before .before .before .if1 .left) (b .before .before .before .before .before .before .before .before .before .before .before .before .gcd .result) (b .before .before .before .before .before .before .before .before .before .before .before .before .gcd .ensures)
           (f .last .1 .1 .1 .1 .0) (f .last .1 .1 .1 .1 .1 .0) (f .last .1 .1 .1 .1 .1 .1 .0) (f .result .ring) (j .result .ring) (f .result .step) (j .result .step)
-          (f .ensures) (j .ensures .1) (j .ensures .0))
-          (w .inv .4),
+          (f .ensures) (j .ensures .1) (j .ensures .0) (p .below (w .position) (omega (arith, t, p .same))) (w .inv .4),
       (turn-goes-on (g .i) (g .gcds .now) (g .conditions .now) (g .weights .now) (w .position) (w .prefix)
           (marks (w .sure) (w .never) (queue (w .nodes) (w .so-far .ring))) (w .so-far .step) (omega (arith, t, p .same)) (omega (arith, t)) (p .same)
-          (sym (b .before .before .before .before .before .before .before .before .before .before .before .before .before .before .before .before .before .decided .ensures) ∙ b .before .before .before .before .before .before .before .before .before .before .before .before .before .before .before .before .if1 .left) (b .before .before .before .before .before .before .before .before .before .before .before .before .before .gcd .result) (b .before .before .before .before .before .before .before .before .before .before .before .before .before .gcd .ensures)
+          (sym (b .before .before .before .before .before .before .before .before .before .before .before .before .before .before .before .before .decided .ensures) ∙ b .before .before .before .before .before .before .before .before .before .before .before .before .before .before .before .if1 .left) (b .before .before .before .before .before .before .before .before .before .before .before .before .gcd .result) (b .before .before .before .before .before .before .before .before .before .before .before .before .gcd .ensures)
           (f .last .1 .1 .1 .1 .0) (f .last .1 .1 .1 .1 .1 .0) (f .last .1 .1 .1 .1 .1 .1 .0) (f .result .ring) (j .result .ring) (f .result .step) (j .result .step)
           (f .ensures) (j .ensures .1) (j .ensures .0) (c .gcd2 .result) (c .gcd2 .ensures) (sym (b .contradicts .ensures) ∙ c .before .if2 .left))
           ∙ w .inv .5,

@@ -4,7 +4,6 @@ use Rattle.numeric.specs.Threshold.{term}
 use Rattle.queues.specs.Queue.{queue}
 use Rattle.queues.specs.Marks.{marks}
 use Rattle.residual.specs.ForceLaws.{force-unit, force-none, force-sure, force-never, force-free}
-use borrow.Author.Needs.{needs}
 use Rattle.residual.proofs.force_term.Statement.{statement}
 use Rattle.residual.proofs.force_term.Tie as tie
 
@@ -14,10 +13,10 @@ returns c =
     sym (force-unit (g .i) (marks (g .sure .now) (g .never .now) (queue (g .nodes .now) (g .ring))) (term (g .node) (g .weight)) (g .divisor) (c .if1 .taken))
 
 off-misses-requires : tie.Need-off-misses-requires
-off-misses-requires c κs = search needs
+off-misses-requires c κs = tt
 
 on-misses-requires : tie.Need-on-misses-requires
-on-misses-requires c κs = search needs
+on-misses-requires c κs = c .before .before .before .before .before .pre .0
 
 returns-2 : tie.Need-returns-2
 returns-2 c =
@@ -29,16 +28,16 @@ returns-2 c =
     (sym (e .on-misses .ensures) ∙ c .if3 .taken))
 
 decide-requires : tie.Need-decide-requires
-decide-requires c κs = search needs
+decide-requires c κs = c .before .before .before .before .before .before .before .before .before .before .before .pre .1
 
 same-length : tie.Need-same-length
-same-length c = search needs
+same-length c = c .before .before .before .before .before .before .decide .kept .1 .0
 
 same-length-2 : tie.Need-same-length-2
-same-length-2 c = search needs
+same-length-2 c = c .before .before .before .before .before .before .decide .kept .1 .1 .0
 
 same-length-3 : tie.Need-same-length-3
-same-length-3 c = search needs
+same-length-3 c = c .before .before .before .before .before .before .decide .kept .1 .1 .1 .0
 
 returns-3 : tie.Need-returns-3
 returns-3 c =
@@ -51,16 +50,16 @@ returns-3 c =
     (sym (e .on-misses .ensures) ∙ c .before .before .before .before .before .before .before .before .before .before .if3 .left))
 
 decide-requires-2 : tie.Need-decide-requires-2
-decide-requires-2 c κs = search needs
+decide-requires-2 c κs = c .before .before .before .before .before .before .before .before .before .before .before .pre .1
 
 same-length-4 : tie.Need-same-length-4
-same-length-4 c = search needs
+same-length-4 c = c .before .before .before .before .before .before .decide2 .kept .1 .0
 
 same-length-5 : tie.Need-same-length-5
-same-length-5 c = search needs
+same-length-5 c = c .before .before .before .before .before .before .decide2 .kept .1 .1 .0
 
 same-length-6 : tie.Need-same-length-6
-same-length-6 c = search needs
+same-length-6 c = c .before .before .before .before .before .before .decide2 .kept .1 .1 .1 .0
 
 returns-4 : tie.Need-returns-4
 returns-4 c =

@@ -1,7 +1,7 @@
 -- `residual::prepare_suffix` meets its contract: what is laid down and what is left to lay are the suffixes of the whole row.
-use Prim.Native.Nat.{ℕ, _-_, _<_, _≤_}
+use Prim.Native.Nat.{ℕ, _-_, _≤_}
 use native.Mathlib.Omega.{arith}
-use mathlib.Core.Path.{_≡_, refl, sym, ap, ap₂, _∙_}
+use mathlib.Core.Path.{_≡_, refl, sym, ap, _∙_}
 use mathlib.Core.Bool.{Bool, cond}
 use lib.ListN.{length, getD, set, length-set}
 use borrow.Author.Needs.{needs}

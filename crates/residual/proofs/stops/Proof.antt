@@ -1,7 +1,7 @@
 -- `residual::stops` meets its contract: each test rules one part of the definition out.
 use Prim.Native.Nat.{ℕ}
 use mathlib.Core.Path.{sym, ap, _∙_}
-use mathlib.Core.Bool.{Bool, not}
+use mathlib.Core.Bool.{not}
 use Rattle.residual.specs.Gcd.{misses}
 use Rattle.residual.specs.CheckLaws.{stops-first, stops-one, stops-same, stops-new}
 use borrow.Author.Needs.{needs}

@@ -12,7 +12,6 @@ use Rattle.state.specs.State.{reached, upperAtMost, hasResidualInterval}
 use Rattle.thresholds.specs.Rows.{hasNonunit}
 use Rattle.residual.specs.declared.Interval.{Interval}
 use Rattle.residual.specs.Residual.{checkFrom}
-use Rattle.residual.specs.Shape.{Window}
 use Rattle.residual.specs.IntervalLaws.{window}
 use Rattle.residual.specs.CheckLaws.{check-unit, check-wide, check-reached, check-short, check-terms}
 use borrow.Author.Needs.{needs}

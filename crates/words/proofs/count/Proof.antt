@@ -1,6 +1,6 @@
 -- `words::count` meets its contract. The loop's invariant: the sum is the count of the nodes of the words passed.
 -- The measure is what is left of the length.
-use mathlib.Core.Path.{_≡_, refl, sym, ap, _∙_}
+use mathlib.Core.Path.{_≡_, sym, ap, _∙_}
 use Prim.Native.Nat.{ℕ, _+_, _*_, _-_, _^_, _<_, _≤_}
 use native.Mathlib.Omega.{arith}
 use lib.Count.{ones, ones-le}

@@ -1,5 +1,5 @@
 -- `words::shift_word` meets its contract: a word that stays whole, one whose upper part falls off the end, and one in two parts.
-use mathlib.Core.Path.{_≡_, sym, _∙_}
+use mathlib.Core.Path.{sym, _∙_}
 use Prim.Native.Nat.{_+_, _-_, _/_, _%_, _<_, _≤_}
 use native.Mathlib.Omega.{arith}
 use lib.ListN.{length, length-set}

@@ -56,8 +56,8 @@ returns-2 c =
     let w = c .before .before .before .before .before .before .before .loop in
     let k = c .before .before .before .shift-word .ensures in
     let e = sym (w .inv .2)
-    ∙ from-hit (g .shift) (g .start) (g .end) (w .words) (w .source) (w .left) (c .before .before .before .before .before .before .loop-test .taken)
-    (c .before .before .before .before .before .if1 .left) (sym (k .1) ∙ c .if2 .taken) in
+    ∙ from-hit (g .shift) (g .start) (g .end) (w .words) (w .source) (w .left) (c .before .before .before .shift-word .result) (c .before .before .before .before .before .before .loop-test .taken)
+    (c .before .before .before .before .before .if1 .left) (k .1) (c .if2 .taken) in
     (k .0 ∙ ap (λ (x : Shifted). x .words) (sym e), ap (λ (x : Shifted). x .ended) (sym e))
 
 loop-less : tie.Need-loop-less Inv-loop μ-loop
@@ -71,8 +71,8 @@ loop-again c =
       ap length (k .0) ∙ length-shift (w .words) (w .source - 1) (g .shift) ∙ w .inv .0,
       search needs,
       ap (λ (l : List ℕ). shiftFrom (g .shift) (g .start) (g .end) (w .source - 1) l (w .left - 1)) (k .0)
-          ∙ sym (from-next (g .shift) (g .start) (g .end) (w .words) (w .source) (w .left) (c .before .before .before .before .before .before .loop-test .taken)
-          (c .before .before .before .before .before .if1 .left) (sym (k .1) ∙ c .if2 .left))
+          ∙ sym (from-next (g .shift) (g .start) (g .end) (w .words) (w .source) (w .left) (c .before .before .before .shift-word .result) (c .before .before .before .before .before .before .loop-test .taken)
+          (c .before .before .before .before .before .if1 .left) (k .1) (c .if2 .left))
           ∙ w .inv .2,
     )
 

@@ -1,0 +1,4 @@
+pub mod Decide
+pub mod Row
+pub mod Complete
+pub mod RowComplete

@@ -1,0 +1,1 @@
+// Each step of the planner follows by the rules of the table: theorems, no code.

@@ -1,0 +1,291 @@
+-- `possible_sums::search_from` meets its contract: the search of the terms that are left, from here, is that of the whole row.
+use Prim.Native.Nat.{ℕ, suc, _+_, _-_, _/_, _≤_}
+use native.Mathlib.Omega.{arith}
+use mathlib.Core.Bool.{false}
+use lib.Dec.{ltb}
+use mathlib.Core.Path.{_≡_, refl, sym, ap, ap₂, _∙_}
+use mathlib.Core.List.{List, _∷_, reverse}
+use lib.ListN.{length, getD}
+use borrow.Author.Needs.{needs}
+use borrow.Author.Tests.{lt-ltb, le-ltb}
+use Rattle.numeric.specs.Threshold.{Term, terms}
+use Rattle.words.specs.Mask.{inEither}
+use Rattle.words.specs.Shift.{unionShifted}
+use Rattle.words.specs.ShiftLaws.{union-length, complete-visits}
+use Rattle.possible_sums.specs.Search.{searchFrom}
+use Rattle.possible_sums.specs.TermsLaws.{lastTerms, last-all}
+use Rattle.possible_sums.specs.SearchSteps.{
+  lastTerm,
+  turn,
+  turn-none,
+  turn-cut,
+  from-heavy,
+  from-skip,
+  from-fits,
+  from-stopped,
+  from-more,
+  hit-left,
+}
+use Rattle.possible_sums.proofs.search_from.Statement.{statement}
+use Rattle.possible_sums.proofs.search_from.Tie as tie
+
+abbrev Inv-loop : tie.InvT-loop
+Inv-loop conditions weights w sure never words₀ allowance limit visits count₀ maximum₀ left₀ words count maximum left =
+    (limit ≡ w .maximum) × (visits ≡ w .visits) × (count ≤ length weights) × (left ≤ w .visits) × (maximum ≤ w .maximum)
+    × (length words ≡ length words₀)
+    × (searchFrom w (inEither sure never) (lastTerms conditions weights count) words maximum left
+    ≡ searchFrom w (inEither sure never) (reverse (terms conditions weights)) words₀ 0 allowance)
+
+abbrev μ-loop : tie.MeasureT-loop
+μ-loop conditions weights w sure never words₀ allowance limit visits count₀ maximum₀ left₀ words count maximum left = count
+
+loop-holds : tie.Need-loop-holds Inv-loop μ-loop
+loop-holds c =
+    let g = c .before .before .before .before .before .args in
+    let p = c .before .before .before .before .before .pre in (
+      refl,
+      refl,
+      omega arith,
+      p .1 .1,
+      omega arith,
+      refl,
+      ap (λ (l : List Term). searchFrom (g .w) (inEither (g .sure .now) (g .never .now)) l (g .words .now) 0 (g .allowance))
+          (last-all (g .conditions .now) (g .weights .now) (p .0 .same)),
+    )
+
+same-length : tie.Need-same-length Inv-loop μ-loop
+same-length c = search needs
+
+returns : tie.Need-returns Inv-loop μ-loop
+returns c =
+    let g = c .before .before .before .before .before .before .before .before .args in
+    let v = c .before .before .loop in
+    let s = c .before .before .before .before .before .before .before .before .pre .0 .same in
+    sym
+    (turn-cut (g .w) (inEither (g .sure .now) (g .never .now)) (g .conditions .now) (g .weights .now) (v .words) (v .count) (v .maximum) (v .left)
+    (omega arith) (omega arith) (omega arith) (c .if1 .taken))
+    ∙ v .inv .6
+
+sub-left : tie.Need-sub-left Inv-loop μ-loop
+sub-left c = omega arith
+
+sub-count : tie.Need-sub-count Inv-loop μ-loop
+sub-count c = omega arith
+
+-- With a visit left, the search goes on with the lightest term that is left.
+from-here : (c : tie.Else1 Inv-loop μ-loop) → searchFrom (c .before .before .before .before .before .before .before .before .args .w) (inEither (c .before .before .before .before .before .before .before .before .args .sure .now) (c .before .before .before .before .before .before .before .before .args .never .now))
+    (lastTerm (c .before .before .before .before .before .before .before .before .args .conditions .now) (c .before .before .before .before .before .before .before .before .args .weights .now) (c .before .before .loop .count)
+    ∷ lastTerms (c .before .before .before .before .before .before .before .before .args .conditions .now) (c .before .before .before .before .before .before .before .before .args .weights .now) (c .before .before .loop .count - 1))
+    (c .before .before .loop .words) (c .before .before .loop .maximum) (suc (c .before .before .loop .left - 1))
+    ≡ searchFrom (c .before .before .before .before .before .before .before .before .args .w) (inEither (c .before .before .before .before .before .before .before .before .args .sure .now) (c .before .before .before .before .before .before .before .before .args .never .now))
+    (reverse (terms (c .before .before .before .before .before .before .before .before .args .conditions .now) (c .before .before .before .before .before .before .before .before .args .weights .now))) (c .before .before .before .before .before .before .before .before .args .words .now) 0 (c .before .before .before .before .before .before .before .before .args .allowance)
+from-here c =
+    let g = c .before .before .before .before .before .before .before .before .args in
+    let v = c .before .before .loop in
+    let s = c .before .before .before .before .before .before .before .before .pre .0 .same in
+    sym
+    (turn (g .w) (inEither (g .sure .now) (g .never .now)) (g .conditions .now) (g .weights .now) (v .words) (v .count) (v .maximum) (v .left)
+    (omega arith) (omega arith) (omega arith) (c .if1 .left))
+    ∙ v .inv .6
+
+mul-weight : tie.Need-mul-weight Inv-loop μ-loop
+mul-weight c = omega arith
+
+shared-slice-read-weight : tie.Need-shared-slice-read-weight Inv-loop μ-loop
+shared-slice-read-weight c = omega arith
+
+sub-used : tie.Need-sub-used Inv-loop μ-loop
+sub-used c = omega arith
+
+same-length-2 : tie.Need-same-length-2 Inv-loop μ-loop
+same-length-2 c = search needs
+
+returns-2 : tie.Need-returns-2 Inv-loop μ-loop
+returns-2 c =
+    let g = c .before .before .before .before .before .before .before .before .before .before .args in
+    let v = c .before .before .before .before .loop in
+    sym
+    (from-heavy (g .w) (inEither (g .sure .now) (g .never .now)) (lastTerm (g .conditions .now) (g .weights .now) (v .count)) (lastTerms (g .conditions .now) (g .weights .now) (v .count - 1))
+    (v .words) (v .maximum) (v .left - 1)
+    (lt-ltb (g .w .maximum) (getD (g .weights .now) (v .count - 1) 0) (c .if2 .taken)))
+    ∙ from-here (c .before .before)
+
+-- A term that is not too heavy.
+light : (c : tie.Else2 Inv-loop μ-loop) → ltb (c .before .before .before .before .before .before .before .before .before .before .args .w .maximum) (getD (c .before .before .before .before .before .before .before .before .before .before .args .weights .now) (c .before .before .before .before .loop .count - 1) 0) ≡ false
+light c = le-ltb (c .before .before .before .before .before .before .before .before .before .before .args .w .maximum) (getD (c .before .before .before .before .before .before .before .before .before .before .args .weights .now) (c .before .before .before .before .loop .count - 1) 0) (c .if2 .left)
+
+mul-decided : tie.Need-mul-decided Inv-loop μ-loop
+mul-decided c = omega arith
+
+shared-slice-read-decided : tie.Need-shared-slice-read-decided Inv-loop μ-loop
+shared-slice-read-decided c = let s = c .before .before .before .before .before .before .before .before .before .before .before .pre .0 .same in omega arith
+
+decided-requires : tie.Need-decided-requires Inv-loop μ-loop
+decided-requires c κs =
+    let p = c .before .before .before .before .before .before .before .before .before .before .before .pre .0 in
+    let s = p .same in
+    let v = c .before .before .before .before .before .loop in
+    let t = c .before .before .before .before .loop-test .taken in
+    (p .below (v .count - 1) (omega arith), p .inSure, p .inNever)
+
+loop-less : tie.Need-loop-less Inv-loop μ-loop
+loop-less c = omega arith
+
+loop-again : tie.Need-loop-again Inv-loop μ-loop
+loop-again c =
+    let g = c .before .before .before .before .before .before .before .before .before .before .before .before .before .args in
+    let v = c .before .before .before .before .before .before .before .loop in (
+      refl,
+      refl,
+      omega arith,
+      omega arith,
+      v .inv .4,
+      v .inv .5,
+      sym
+          (from-skip (g .w) (inEither (g .sure .now) (g .never .now)) (lastTerm (g .conditions .now) (g .weights .now) (v .count)) (lastTerms (g .conditions .now) (g .weights .now) (v .count - 1))
+          (v .words) (v .maximum) (v .left - 1)
+          (light (c .before .before .before)) (sym (c .before .decided .ensures) ∙ c .if3 .taken))
+          ∙ from-here (c .before .before .before .before .before),
+    )
+
+add-union-shifted-until-hit : tie.Need-add-union-shifted-until-hit Inv-loop μ-loop
+add-union-shifted-until-hit c = omega arith
+
+-- A term that is undecided.
+undecided : (c : tie.Else3 Inv-loop μ-loop) → inEither (c .before .before .before .before .before .before .before .before .before .before .before .before .before .args .sure .now) (c .before .before .before .before .before .before .before .before .before .before .before .before .before .args .never .now) (getD (c .before .before .before .before .before .before .before .before .before .before .before .before .before .args .conditions .now) (c .before .before .before .before .before .before .before .loop .count - 1) 0) ≡ false
+undecided c = sym (c .before .decided .ensures) ∙ c .if3 .left
+
+union-shifted-until-hit-requires : tie.Need-union-shifted-until-hit-requires Inv-loop μ-loop
+union-shifted-until-hit-requires c κs = search needs
+
+enum-known-ended : tie.Need-enum-known-ended Inv-loop μ-loop
+enum-known-ended c = search needs
+
+sub-hit : tie.Need-sub-hit Inv-loop μ-loop
+sub-hit c =
+    let g = c .before .before .before .before .before .before .before .before .before .before .before .before .before .before .before .before .before .before .before .before .args in
+    let v = c .before .before .before .before .before .before .before .before .before .before .before .before .before .before .loop in
+    let e = c .before .ended .given in
+    let h = hit-left (v .words) (v .maximum / 64 + 1) (getD (g .weights .now) (v .count - 1) 0) (g .w .lower) (g .w .maximum) (v .left - 1) (e .0 .0) (sym (c .before .before .before .before .before .union-shifted-until-hit .ensures .1) ∙ e .1) in
+    omega arith
+
+same-length-3 : tie.Need-same-length-3 Inv-loop μ-loop
+same-length-3 c = search needs
+
+returns-3 : tie.Need-returns-3 Inv-loop μ-loop
+returns-3 c =
+    let g = c .before .before .before .before .before .before .before .before .before .before .before .before .before .before .before .before .before .before .before .before .args in
+    let v = c .before .before .before .before .before .before .before .before .before .before .before .before .before .before .loop in
+    let e = c .before .ended .given in
+    sym
+    (from-fits (g .w) (inEither (g .sure .now) (g .never .now)) (lastTerm (g .conditions .now) (g .weights .now) (v .count)) (lastTerms (g .conditions .now) (g .weights .now) (v .count - 1))
+    (v .words) (v .maximum) (v .left - 1)
+    (light (c .before .before .before .before .before .before .before .before .before .before)) (undecided (c .before .before .before .before .before .before .before)) (e .0 .0) (sym (c .before .before .before .before .before .union-shifted-until-hit .ensures .1) ∙ e .1))
+    ∙ from-here (c .before .before .before .before .before .before .before .before .before .before .before .before)
+
+enum-told : tie.Need-enum-told Inv-loop μ-loop
+enum-told c = search needs
+
+same-length-4 : tie.Need-same-length-4 Inv-loop μ-loop
+same-length-4 c = search needs
+
+returns-4 : tie.Need-returns-4 Inv-loop μ-loop
+returns-4 c =
+    let g = c .before .before .before .before .before .before .before .before .before .before .before .before .before .before .before .before .before .before .before .args in
+    let v = c .before .before .before .before .before .before .before .before .before .before .before .before .before .loop in
+    sym
+    (from-stopped (g .w) (inEither (g .sure .now) (g .never .now)) (lastTerm (g .conditions .now) (g .weights .now) (v .count)) (lastTerms (g .conditions .now) (g .weights .now) (v .count - 1))
+    (v .words) (v .maximum) (v .left - 1)
+    (light (c .before .before .before .before .before .before .before .before .before)) (undecided (c .before .before .before .before .before .before)) (sym (c .before .before .before .before .union-shifted-until-hit .ensures .1) ∙ c .enum-told .given .1))
+    ∙ from-here (c .before .before .before .before .before .before .before .before .before .before .before)
+
+enum-known-ended-2 : tie.Need-enum-known-ended-2 Inv-loop μ-loop
+enum-known-ended-2 c = search needs
+
+add-smaller : tie.Need-add-smaller Inv-loop μ-loop
+add-smaller c =
+    let p = c .before .before .before .before .before .before .before .before .before .before .before .before .before .before .before .before .before .before .before .before .pre .1 .0 in
+    omega (arith, p .words, p .enough, p .visits, c .before .before .before .before .before .before .before .before .before .before .before .before .before .before .loop .inv .4, c .before .before .before .before .before .before .before .before .before .before .if2 .left)
+
+smaller-requires : tie.Need-smaller-requires Inv-loop μ-loop
+smaller-requires c κs = search needs
+
+loop-less-2 : tie.Need-loop-less-2 Inv-loop μ-loop
+loop-less-2 c = omega arith
+
+loop-again-2 : tie.Need-loop-again-2 Inv-loop μ-loop
+loop-again-2 c =
+    let g = c .before .before .before .before .before .before .before .before .before .before .before .before .before .before .before .before .before .before .before .before .before .args in
+    let v = c .before .before .before .before .before .before .before .before .before .before .before .before .before .before .before .loop in
+    let u = c .before .before .before .before .before .before .union-shifted-until-hit .ensures in
+    let e = c .before .before .ended2 .given in
+    let q : unionShifted (v .words) (v .maximum / 64 + 1) (getD (g .weights .now) (v .count - 1) 0) (g .w .lower) (g .w .maximum) (v .left - 1) .ended ≡ _ = sym (u .1) ∙ e .1 in
+    let k = complete-visits (v .words) (v .maximum / 64 + 1) (getD (g .weights .now) (v .count - 1) 0) (g .w .lower) (g .w .maximum) (v .left - 1) (e .0 .0) q in
+    let m = c .smaller .ensures in (
+      refl,
+      refl,
+      omega arith,
+      omega arith,
+      omega arith,
+      ap length (u .0) ∙ union-length (v .words) (v .maximum / 64 + 1) (getD (g .weights .now) (v .count - 1) 0) (g .w .lower) (g .w .maximum) (v .left - 1) ∙ v .inv .5,
+      ap₂ (λ (l : List ℕ) (n : ℕ). searchFrom (g .w) (inEither (g .sure .now) (g .never .now)) (lastTerms (g .conditions .now) (g .weights .now) (v .count - 1)) l n (e .0 .0)) (u .0) m
+          ∙ sym
+          (from-more (g .w) (inEither (g .sure .now) (g .never .now)) (lastTerm (g .conditions .now) (g .weights .now) (v .count)) (lastTerms (g .conditions .now) (g .weights .now) (v .count - 1))
+          (v .words) (v .maximum) (v .left - 1)
+          (light (c .before .before .before .before .before .before .before .before .before .before .before)) (undecided (c .before .before .before .before .before .before .before .before)) (e .0 .0) q)
+          ∙ from-here (c .before .before .before .before .before .before .before .before .before .before .before .before .before),
+    )
+
+sub-all : tie.Need-sub-all Inv-loop μ-loop
+sub-all c = omega arith
+
+same-length-5 : tie.Need-same-length-5 Inv-loop μ-loop
+same-length-5 c = search needs
+
+returns-5 : tie.Need-returns-5 Inv-loop μ-loop
+returns-5 c =
+    let g = c .before .before .before .before .before .before .before .args in
+    let v = c .before .loop in
+    sym
+    (turn-none (g .w) (inEither (g .sure .now) (g .never .now)) (g .conditions .now) (g .weights .now) (v .words) (v .count) (v .maximum) (v .left)
+    (omega (arith, c .loop-test .left)))
+    ∙ v .inv .6
+
+pub search-from-spec : {M : Type 1} → statement M
+search-from-spec =
+    tie.close
+    (tie.spec
+    Inv-loop
+    μ-loop
+    loop-holds
+    same-length
+    returns
+    sub-left
+    sub-count
+    mul-weight
+    shared-slice-read-weight
+    sub-used
+    same-length-2
+    returns-2
+    mul-decided
+    shared-slice-read-decided
+    decided-requires
+    loop-less
+    loop-again
+    add-union-shifted-until-hit
+    union-shifted-until-hit-requires
+    enum-known-ended
+    sub-hit
+    same-length-3
+    returns-3
+    enum-told
+    same-length-4
+    returns-4
+    enum-known-ended-2
+    add-smaller
+    smaller-requires
+    loop-less-2
+    loop-again-2
+    sub-all
+    same-length-5
+    returns-5)

@@ -1,0 +1,52 @@
+-- `propagate::guard_turn` meets its contract: it waits, or decides and passes.
+use Rattle.queues.specs.Queue.{queue}
+use Rattle.queues.specs.Marks.{marks, decide}
+use Rattle.propagate.specs.Scan.{scanned}
+use Rattle.propagate.specs.ScanLaws.{waits-turn, guard-passed}
+use borrow.Author.Needs.{needs}
+use Rattle.propagate.proofs.guard_turn.Statement.{statement}
+use Rattle.propagate.proofs.guard_turn.Tie as tie
+
+returns : tie.Need-returns
+returns c =
+    let a = c .before .before .before .before .args in
+    let m = marks (a .sure .now) (a .never .now) (queue (a .nodes .now) (a .scan .ring)) in
+    waits-turn (a .waits) (decide (a .value) m (a .node)) (scanned (a .scan .passed) m (a .scan .step)) (c .if1 .taken)
+
+decide-requires : tie.Need-decide-requires
+decide-requires c κs =
+    let p = c .before .before .before .before .before .before .before .before .pre in
+    (p .0 .held, p .1, search needs, search needs)
+
+passed-turn-requires : tie.Need-passed-turn-requires
+passed-turn-requires c κs = search needs
+
+same-length : tie.Need-same-length
+same-length c = search needs
+
+same-length-2 : tie.Need-same-length-2
+same-length-2 c = search needs
+
+same-length-3 : tie.Need-same-length-3
+same-length-3 c = search needs
+
+returns-2 : tie.Need-returns-2
+returns-2 c =
+    let a = c .before .before .before .before .before .before .before .before .before .before .before .before .before .before .before .before .args in
+    let d = c .before .before .before .before .before .before .before .decide in
+    let t = c .passed-turn in
+    guard-passed (a .value) (a .waits) (marks (a .sure .now) (a .never .now) (queue (a .nodes .now) (a .scan .ring))) (a .node) (a .scan .passed) (a .scan .step)
+    (d .last .1 .0) (d .last .1 .1 .0) (d .last .1 .1 .1 .0) (d .result .ring) (t .result .scan .ring) (d .result .step) (t .result .scan .passed) (t .result .scan .step) (t .result .ends)
+    (t .ensures .1) (t .ensures .0) (c .before .before .before .before .before .before .before .before .before .before .before .before .if1 .left) (d .ensures)
+
+pub guard-turn-spec : {M : Type 1} → statement M
+guard-turn-spec =
+    tie.close
+    (tie.spec
+    returns
+    decide-requires
+    passed-turn-requires
+    same-length
+    same-length-2
+    same-length-3
+    returns-2)

@@ -1,0 +1,54 @@
+-- `propagate::moved_upper` meets its contract.
+use mathlib.Core.Path.{_≡_, sym, ap, _∙_}
+use mir.Syntax.{w64}
+use mir.Val.{toZ, ofZ}
+use borrow.Author.Needs.{needs}
+use Rattle.propagate.specs.BetweenLaws.{upper-not, upper-none, upper-stays, upper-moves}
+use Rattle.propagate.proofs.moved_upper.Statement.{statement}
+use Rattle.propagate.proofs.moved_upper.Tie as tie
+
+returns : tie.Need-returns
+returns c = let a = c .before .args in upper-not (a .source) (a .before) (a .from) (a .to) (c .if1 .taken)
+
+enum-told : tie.Need-enum-told
+enum-told c = search needs
+
+enum-known-upper : tie.Need-enum-known-upper
+enum-known-upper c = search needs
+
+upper-at-most-requires : tie.Need-upper-at-most-requires
+upper-at-most-requires c κs = search needs
+
+returns-2 : tie.Need-returns-2
+returns-2 c =
+    let a = c .before .before .before .before .before .before .before .args in
+    let u = c .before .before .before .before .upper .given in
+    let hu : toZ w64 (ofZ w64 (u .0 .0)) ≡ u .0 .0 = search needs in
+    upper-stays (a .source) (a .before) (a .from) (a .to) (c .before .before .before .before .before .before .if1 .left) (u .0 .0) (u .1) (sym (simp hu at (c .before .upper-at-most .ensures)) ∙ c .if2 .taken)
+
+lower-upper-requires : tie.Need-lower-upper-requires
+lower-upper-requires c κs = search needs
+
+returns-3 : tie.Need-returns-3
+returns-3 c = let a = c .before .before .before .args in upper-none (a .source) (a .before) (a .from) (a .to) (c .before .before .if1 .left) (c .enum-told .given .1)
+
+returns-4 : tie.Need-returns-4
+returns-4 c =
+    let a = c .before .before .before .before .before .before .before .before .args in
+    let u = c .before .before .before .before .before .upper .given in
+    let hu : toZ w64 (ofZ w64 (u .0 .0)) ≡ u .0 .0 = search needs in
+    upper-moves (a .source) (a .before) (a .from) (a .to) (c .before .before .before .before .before .before .before .if1 .left) (u .0 .0) (u .1) (sym (simp hu at (c .before .before .upper-at-most .ensures)) ∙ c .before .if2 .left)
+    (c .lower-upper .result) (simp hu at (c .lower-upper .ensures))
+
+pub moved-upper-spec : {M : Type 1} → statement M
+moved-upper-spec =
+    tie.close
+    (tie.spec
+    returns
+    enum-told
+    enum-known-upper
+    upper-at-most-requires
+    returns-2
+    lower-upper-requires
+    returns-3
+    returns-4)

@@ -1,0 +1,119 @@
+-- `residual::threshold_residual` meets its contract: the check, the scan, the suffixes and the forcing in turn.
+use native.Mathlib.Omega.{arith}
+use mathlib.Core.Path.{refl, sym, ap, _∙_}
+use mir.Syntax.{w64}
+use mir.Val.{SFits}
+use Rattle.numeric.specs.Threshold.{terms}
+use Rattle.state.specs.Step.{contradicts}
+use Rattle.state.specs.declared.Step.the-variants.{Unchanged}
+use Rattle.queues.specs.Queue.{queue}
+use Rattle.queues.specs.Marks.{marks, decided}
+use Rattle.residual.specs.declared.Interval.{Interval}
+use Rattle.residual.specs.Residual.{forceFrom}
+use Rattle.residual.specs.IntervalLaws.{natural-small}
+use Rattle.residual.specs.ForceLaws.{residual-none, residual-rest, residual-forced}
+use borrow.Author.Needs.{needs}
+use Rattle.residual.proofs.threshold_residual.Statement.{statement}
+use Rattle.residual.proofs.threshold_residual.Tie as tie
+
+threshold-residual-check-requires : tie.Need-threshold-residual-check-requires
+threshold-residual-check-requires c κs = c .before .before .before .before .before .before .before .before .pre .0
+
+contradicts-requires : tie.Need-contradicts-requires
+contradicts-requires c κs = tt
+
+same-length : tie.Need-same-length
+same-length c = refl
+
+same-length-2 : tie.Need-same-length-2
+same-length-2 c = refl
+
+returns : tie.Need-returns
+returns c =
+    let g = c .before .before .before .before .before .before .before .before .before .before .before .args in
+    sym
+    (residual-none (terms (g .conditions .now) (g .weights .now)) (g .state) (marks (g .sure .now) (g .never .now) (queue (g .nodes .now) (g .ring))) (g .gcds .now)
+    (sym (c .before .contradicts .ensures ∙ ap contradicts (c .before .before .threshold-residual-check .ensures)) ∙ c .if1 .taken))
+
+nothing-forced-requires : tie.Need-nothing-forced-requires
+nothing-forced-requires c κs = c .before .before .before .before .before .before .before .before .before .before .before .before .before .pre .0
+
+same-length-3 : tie.Need-same-length-3
+same-length-3 c = refl
+
+same-length-4 : tie.Need-same-length-4
+same-length-4 c = refl
+
+returns-2 : tie.Need-returns-2
+returns-2 c =
+    let g = c .before .before .before .before .before .before .before .before .before .before .before .before .before .before .before .args in
+    let e = c .before .before .before .before in
+    sym
+    (residual-rest (terms (g .conditions .now) (g .weights .now)) (g .state) (marks (g .sure .now) (g .never .now) (queue (g .nodes .now) (g .ring))) (g .gcds .now)
+    (sym (e .before .contradicts .ensures ∙ ap contradicts (e .before .before .threshold-residual-check .ensures)) ∙ e .if1 .left)
+    (sym (c .before .nothing-forced .ensures) ∙ c .if2 .taken))
+
+prepare-suffix-requires : tie.Need-prepare-suffix-requires
+prepare-suffix-requires c κs = let s = c .before .before .before .before .before .before .before .before .before .before .before .before .before .before .before .before .before .before in (s .pre .0, s .pre .1 .0)
+
+interval-of-requires : tie.Need-interval-of-requires
+interval-of-requires c κs = tt
+
+force-from-requires : tie.Need-force-from-requires
+force-from-requires c κs =
+    let s = c .before .before .before .before .before .before .before .before .before .before .before .before .before .before .before .before .before .before .before .before .before .before .before .before .before .before in
+    let g = s .args in
+    let f : SFits w64 (g .state .known) = search needs in
+    let k = natural-small (g .state .known) f in
+    let i = ap (λ (x : Interval). x .known) (c .before .before .before .interval-of .ensures) in
+    let n = c .before .before .before .before .before .before .before .prepare-suffix .kept .1 .1 .1 .1 .0 in
+    (s .pre .0, (omega (arith, s .pre .1 .0, n), omega (arith, i, k), s .pre .1 .1, s .pre .1 .2))
+
+same-length-5 : tie.Need-same-length-5
+same-length-5 c = c .before .before .before .before .before .before .force-from .kept .1 .1 .1 .1 .0
+
+same-length-6 : tie.Need-same-length-6
+same-length-6 c = c .before .before .before .before .before .before .force-from .kept .1 .1 .1 .1 .1 .0
+
+same-length-7 : tie.Need-same-length-7
+same-length-7 c = c .before .before .before .before .before .before .force-from .kept .1 .1 .1 .1 .1 .1 .0
+
+same-length-8 : tie.Need-same-length-8
+same-length-8 c = c .before .before .before .before .before .before .before .before .before .before .before .before .before .before .prepare-suffix .kept .1 .1 .1 .1 .0
+
+returns-3 : tie.Need-returns-3
+returns-3 c =
+    let g = c .before .before .before .before .before .before .before .before .before .before .before .before .before .before .before .before .before .before .before .before .before .before .before .before .before .before .before .before .before .before .before .before .before .args in
+    let f = c .before .before .before .before .before .before .force-from in
+    let s = c .before .before .before .before .before .before .before .before .before .before .before .before .before .before .prepare-suffix in
+    let e = c .before .before .before .before .before .before .before .before .before .before .before .before .before .before .before .before .before .before .before .before .before .before in
+    let l = f .last .1 .1 .1 .1 in
+    residual-forced (terms (g .conditions .now) (g .weights .now)) (g .state) (marks (g .sure .now) (g .never .now) (queue (g .nodes .now) (g .ring))) (g .gcds .now)
+    (sym (e .before .contradicts .ensures ∙ ap contradicts (e .before .before .threshold-residual-check .ensures)) ∙ e .if1 .left)
+    (sym (c .before .before .before .before .before .before .before .before .before .before .before .before .before .before .before .before .before .before .before .nothing-forced .ensures) ∙ c .before .before .before .before .before .before .before .before .before .before .before .before .before .before .before .before .before .before .if2 .left)
+    (decided (marks (l .0) (l .1 .0) (queue (l .1 .1 .0) (f .result .ring))) (f .result .step)) (s .last .1 .1 .1 .1 .0) (s .ensures)
+    (f .ensures
+    ∙ ap (λ (i : Interval). forceFrom i (s .last .1 .1 .1 .1 .0) (terms (g .conditions .now) (g .weights .now)) 0 (marks (g .sure .now) (g .never .now) (queue (g .nodes .now) (g .ring))) Unchanged)
+    (c .before .before .before .before .before .before .before .before .before .before .interval-of .ensures))
+
+pub threshold-residual-spec : {M : Type 1} → statement M
+threshold-residual-spec =
+    tie.close
+    (tie.spec
+    threshold-residual-check-requires
+    contradicts-requires
+    same-length
+    same-length-2
+    returns
+    nothing-forced-requires
+    same-length-3
+    same-length-4
+    returns-2
+    prepare-suffix-requires
+    interval-of-requires
+    force-from-requires
+    same-length-5
+    same-length-6
+    same-length-7
+    same-length-8
+    returns-3)

@@ -1,0 +1,60 @@
+-- `thresholds::is_marked` meets its contract. Assumes nothing.
+use Rattle.thresholds.specs.RawLaws.{list-is, prints-differ}
+use Rattle.thresholds.specs.Raw.{raw, startOf, endOf, listAt}
+use Rattle.row.specs.Terms.{sameTerms}
+use mathlib.Core.Path.{_≡_, sym, ap₂, _∙_}
+use mathlib.Core.List.{[]}
+use Prim.Native.Nat.{_%_}
+use native.Mathlib.Omega.{arith}
+use borrow.Author.Needs.{needs}
+use Rattle.thresholds.proofs.is_marked.Statement.{statement}
+use Rattle.thresholds.proofs.is_marked.Tie as tie
+
+returns : tie.Need-returns
+returns c = let g = c .before .before .before .args in
+    let p = c .before .before .before .pre in
+    let r = raw (g .conditions .now) (g .weights .now) (g .thresholds .now) in
+    sym (prints-differ r [] (listAt r (g .t)) (g .mark) (p .3) (λ e. c .if1 .taken (e ∙ sym (p .4))))
+
+start-of-requires : tie.Need-start-of-requires
+start-of-requires c κs = search needs
+
+end-of-requires : tie.Need-end-of-requires
+end-of-requires c κs = search needs
+
+start-of-requires-2 : tie.Need-start-of-requires-2
+start-of-requires-2 c κs = search needs
+
+end-of-requires-2 : tie.Need-end-of-requires-2
+end-of-requires-2 c κs = search needs
+
+same-stretch-requires : tie.Need-same-stretch-requires
+same-stretch-requires c κs = let g = c .before .before .before .before .before .before .before .args in
+    let p = c .before .before .before .before .before .before .before .pre in
+    let f = g .mark % 1024 in
+    let ts = g .thresholds .now in
+    let a : c .before .before .before .start-of .result ≡ startOf ts f = c .before .before .before .start-of .ensures in
+    let e : c .before .before .end-of .result ≡ endOf ts f = c .before .before .end-of .ensures in
+    let b : c .before .start-of2 .result ≡ startOf ts (g .t) = c .before .start-of2 .ensures in
+    let d : c .end-of2 .result ≡ endOf ts (g .t) = c .end-of2 .ensures in
+    let l = p .0 in
+    (omega (arith, l .rising f (p .2)), omega (arith, l .rising (g .t) (p .1)), omega (arith, l .inside f (p .2)), omega (arith, l .inside (g .t) (p .1)), l .weighed)
+
+returns-2 : tie.Need-returns-2
+returns-2 c = let g = c .before .before .before .before .before .before .before .before .args in
+    let r = raw (g .conditions .now) (g .weights .now) (g .thresholds .now) in
+    c .same-stretch .ensures
+    ∙ ap₂ sameTerms (list-is r (g .mark % 1024) (c .before .before .before .before .start-of .result) (c .before .before .before .end-of .result) (c .before .before .before .before .start-of .ensures) (c .before .before .before .end-of .ensures))
+    (list-is r (g .t) (c .before .before .start-of2 .result) (c .before .end-of2 .result) (c .before .before .start-of2 .ensures) (c .before .end-of2 .ensures))
+
+pub is-marked-spec : {M : Type 1} → statement M
+is-marked-spec =
+    tie.close
+    (tie.spec
+    returns
+    start-of-requires
+    end-of-requires
+    start-of-requires-2
+    end-of-requires-2
+    same-stretch-requires
+    returns-2)

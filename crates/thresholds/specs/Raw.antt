@@ -1,0 +1,76 @@
+-- The raw lists of a job as the lent buffers hold them: all terms one behind the other, and for each threshold its node and where its terms end.
+use Prim.Native.Nat.{ℕ, zero, suc, _+_, _-_, _*_, _/_, _%_, _<_, _≤_}
+use mathlib.Core.Path.{_≡_}
+use mathlib.Core.Bool.{Bool, true, false, cond}
+use mathlib.Core.List.{List, [], _∷_, map}
+use lib.ListN.{length, take, drop, getD}
+use lib.Dec.{ltb}
+use lib.IntN.{ℤ, pos}
+use Rattle.numeric.specs.Threshold.{Term, Threshold, terms}
+use Rattle.row.specs.Terms.{sameTerms}
+use Rattle.thresholds.specs.declared.Found.{Found}
+use Rattle.thresholds.specs.declared.Found.the-variants.{At, Nothing}
+
+pub record Raw : Type 0 where
+  pub conditions : List ℕ
+  pub weights : List ℕ
+  pub thresholds : List (List ℕ)
+
+abbrev pub raw : List ℕ → List ℕ → List (List ℕ) → Raw
+raw cs ws ts = record { conditions = cs; weights = ws; thresholds = ts }
+
+-- Where the terms of threshold t end; where they begin: there the ones before end.
+abbrev pub endOf : List (List ℕ) → ℕ → ℕ
+endOf ts t = getD (getD ts t []) 1 0
+
+unfoldable pub startOf : List (List ℕ) → ℕ → ℕ
+startOf ts zero = 0
+startOf ts (suc t) = endOf ts t
+
+-- A stretch of a list.
+abbrev pub stretch : {X : Type 0} → ℕ → ℕ → List X → List X
+stretch a e l = take (e - a) (drop a l)
+
+-- The raw list of threshold t.
+unfoldable pub listAt : Raw → ℕ → List Term
+listAt r t =
+    terms (stretch (startOf (r .thresholds) t) (endOf (r .thresholds) t) (r .conditions))
+    (stretch (startOf (r .thresholds) t) (endOf (r .thresholds) t) (r .weights))
+
+-- A number made of a raw list: lists with different numbers differ.
+unfoldable pub mixed : ℕ → List Term → ℕ
+mixed h [] = h
+mixed h (t ∷ ts) = mixed ((h * 65599 + t .condition * 257 + t .weight) % 4294967296) ts
+
+unfoldable pub fingerprint : List Term → ℕ
+fingerprint ts = mixed (length ts) ts
+
+-- A row is marked by one word: the fingerprint of its raw list, and the first threshold that has it.
+abbrev pub mark : ℕ → ℕ → ℕ
+mark print t = print * 1024 + t
+
+abbrev pub markedList : Raw → ℕ → List Term
+markedList r m = listAt r (m % 1024)
+
+-- The place of a raw list among others, their number if it is not there.
+unfoldable pub numberIn : List (List Term) → List Term → ℕ
+numberIn [] x = 0
+numberIn (l ∷ ls) x = elim (sameTerms l x) [ true ↦ 0 | false ↦ 1 + numberIn ls x ]
+
+abbrev pub foundOf : ℕ → ℕ → Found
+foundOf n rows = cond (ltb n rows) (At n) Nothing
+
+-- The lists of so many thresholds stand one behind the other inside the two slices, none longer than 1,024 terms.
+pub record Lists (r : Raw) (count : ℕ) : Type 0 where
+  pub many : count ≤ 1024
+  pub held : count ≤ length (r .thresholds)
+  pub wide : (t : ℕ) → t < count → length (getD (r .thresholds) t []) ≡ 2
+  pub rising : (t : ℕ) → t < count → startOf (r .thresholds) t ≤ endOf (r .thresholds) t
+  pub short : (t : ℕ) → t < count → endOf (r .thresholds) t ≤ startOf (r .thresholds) t + 1024
+  pub inside : (t : ℕ) → t < count → endOf (r .thresholds) t ≤ length (r .conditions)
+  pub weighed : length (r .weights) ≡ length (r .conditions)
+
+-- Each mark names a threshold and the fingerprint of its list.
+pub record Marked (r : Raw) (count : ℕ) (marks : List ℕ) : Type 0 where
+  pub first : (k : ℕ) → k < length marks → getD marks k 0 % 1024 < count
+  pub print : (k : ℕ) → k < length marks → getD marks k 0 / 1024 ≡ fingerprint (markedList r (getD marks k 0))

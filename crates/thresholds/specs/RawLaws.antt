@@ -1,0 +1,197 @@
+-- Laws of raw lists in two parallel slices, read place by place, and of the search among lists.
+use Prim.Native.Nat.{ℕ, zero, suc, _+_, _-_, _*_, _/_, _%_, _<_, _≤_}
+use native.Mathlib.Nat.{not-suc-le-zero, add-assoc, zero-add, mod-lt, le-refl}
+use native.Mathlib.Numerals.{add-one}
+use native.Mathlib.Omega.{arith}
+use mathlib.Core.Path.{_≡_, refl, sym, ap, ap₂, _∙_, subst}
+use mathlib.Core.Bool.{Bool, true, false, _&&_, cond}
+use mathlib.Core.List.{List, [], _∷_, _++_, map}
+use lib.ListN.{length, take, drop, getD, drop-of-length-le, length-take, length-drop}
+use lib.Seq.{drop-cons, drop-length}
+use lib.Dec.{eqb, ltb, lit<}
+use borrow.Author.Tests.{eqb-true, eq-eqb, ne-eqb, lt-ltb, le-ltb}
+use Rattle.numeric.specs.Threshold.{Term, term, terms}
+use Rattle.row.specs.Terms.{sameTerms, total}
+use Rattle.thresholds.specs.Rows.{Row, rowNumber, hasNonunit}
+use Rattle.thresholds.specs.declared.Found.{Found}
+use Rattle.thresholds.specs.declared.Found.the-variants.{At, Nothing}
+use Rattle.thresholds.specs.Raw.{Raw, endOf, startOf, stretch, listAt, mixed, fingerprint, numberIn, Lists, Marked, markedList, foundOf}
+
+pub start-next : (ts : List (List ℕ)) (t : ℕ) → 0 < t → endOf ts (t - 1) ≡ startOf ts t
+unfolding startOf
+start-next ts zero h = absurd (not-suc-le-zero h)
+start-next ts (suc t) h = ap (endOf ts) (omega arith)
+
+pub start-zero : (ts : List (List ℕ)) (t : ℕ) → t ≡ 0 → 0 ≡ startOf ts t
+unfolding startOf
+start-zero ts t e = rw (e, startOf)
+
+pub start-suc : (ts : List (List ℕ)) (t : ℕ) → startOf ts (t + 1) ≡ endOf ts t
+unfolding startOf
+start-suc ts t = rw (add-one, startOf)
+
+module _ (cs ws : List ℕ) where
+  pub terms-next : (i : ℕ) → i < length cs → i < length ws
+      → terms (drop i cs) (drop i ws) ≡ term (getD cs i 0) (getD ws i 0) ∷ terms (drop (i + 1) cs) (drop (i + 1) ws)
+  unfolding terms
+  terms-next i h k = rw (drop-cons cs i 0, drop-cons ws i 0, add-one, terms)
+
+  pub terms-done : (i : ℕ) → length cs ≤ i → terms (drop i cs) (drop i ws) ≡ []
+  unfolding terms
+  terms-done i h = rw (drop-of-length-le cs h, terms)
+
+pub length-terms : (cs ws : List ℕ) → length ws ≡ length cs → length (terms cs ws) ≡ length cs
+unfolding terms
+length-terms [] ws h = refl
+length-terms (c ∷ cs) [] h = absurd (let z : length cs + 1 ≡ 0 = omega arith in omega arith)
+length-terms (c ∷ cs) (w ∷ ws) h = ap suc (length-terms cs ws (omega arith))
+
+-- ---- two lists compared
+
+module _ (l v r w : List ℕ) where
+  abbrev pub sameFrom : ℕ → Bool
+  sameFrom i = sameTerms (terms (drop i l) (drop i v)) (terms (drop i r) (drop i w))
+
+  pub same-next : (i : ℕ) → i < length l → i < length v → i < length r → i < length w
+      → sameFrom i ≡ (eqb (getD l i 0) (getD r i 0) && eqb (getD v i 0) (getD w i 0) && sameFrom (i + 1))
+  unfolding sameTerms
+  same-next i a b c d = rw (terms-next l v i a b, terms-next r w i c d, sameTerms)
+
+  pub same-equal : (i : ℕ) → i < length l → i < length v → i < length r → i < length w
+      → getD l i 0 ≡ getD r i 0 → getD v i 0 ≡ getD w i 0 → sameFrom i ≡ sameFrom (i + 1)
+  same-equal i a b c d e f =
+      same-next i a b c d ∙ rw (eq-eqb (getD l i 0) (getD r i 0) e, eq-eqb (getD v i 0) (getD w i 0) f)
+
+  pub same-left : (i : ℕ) → i < length l → i < length v → i < length r → i < length w
+      → (getD l i 0 ≡ getD r i 0 → ⊥) → sameFrom i ≡ false
+  same-left i a b c d e = same-next i a b c d ∙ rw (ne-eqb (getD l i 0) (getD r i 0) e)
+
+  pub same-right : (i : ℕ) → i < length l → i < length v → i < length r → i < length w
+      → getD l i 0 ≡ getD r i 0 → (getD v i 0 ≡ getD w i 0 → ⊥) → sameFrom i ≡ false
+  same-right i a b c d e f =
+      same-next i a b c d ∙ rw (eq-eqb (getD l i 0) (getD r i 0) e, ne-eqb (getD v i 0) (getD w i 0) f)
+
+  pub same-done : (i : ℕ) → length l ≤ i → length r ≤ i → sameFrom i ≡ true
+  unfolding sameTerms
+  same-done i h k = rw (terms-done l v i h, terms-done r w i k, sameTerms)
+
+-- Lists of different lengths differ.
+pub same-lengths : (xs ys : List Term) → (length xs ≡ length ys → ⊥) → sameTerms xs ys ≡ false
+unfolding sameTerms
+same-lengths [] [] h = absurd (h refl)
+same-lengths [] (y ∷ ys) h = refl
+same-lengths (x ∷ xs) [] h = refl
+same-lengths (x ∷ xs) (y ∷ ys) h =
+    rw (same-lengths xs ys (λ e. h (ap suc e))) (never (eqb (x .condition) (y .condition)) (eqb (x .weight) (y .weight)))
+  where
+    never : (s t : Bool) → (s && t && false) ≡ false
+    never true true = refl
+    never true false = refl
+    never false t = refl
+
+-- Two lists are the same exactly if they are equal.
+and-left : (s t : Bool) → (s && t) ≡ true → s ≡ true
+and-left true t h = refl
+and-left false t h = h
+
+and-right : (s t : Bool) → (s && t) ≡ true → t ≡ true
+and-right true t h = h
+and-right false t h = absurd (let z : _≡_ {A = ℕ} 0 1 = cc in omega arith)
+
+pub same-is : (xs ys : List Term) → sameTerms xs ys ≡ true → xs ≡ ys
+unfolding sameTerms
+same-is [] [] h = refl
+same-is [] (y ∷ ys) h = absurd (let z : _≡_ {A = ℕ} 0 1 = cc in omega arith)
+same-is (x ∷ xs) [] h = absurd (let z : _≡_ {A = ℕ} 0 1 = cc in omega arith)
+same-is (x ∷ xs) (y ∷ ys) h =
+    let a = eqb (x .condition) (y .condition) in
+    let b = eqb (x .weight) (y .weight) in
+    let c = sameTerms xs ys in
+    let h1 = and-left (a && b) c h in
+    let p = eqb-true (x .condition) (y .condition) (and-left a b h1) in
+    let q = eqb-true (x .weight) (y .weight) (and-right a b h1) in
+    let s = same-is xs ys (and-right (a && b) c h) in
+    ap₂ _∷_ (λ i. record { condition = p i; weight = q i }) s
+
+pub same-refl : (xs : List Term) → sameTerms xs xs ≡ true
+unfolding sameTerms
+same-refl [] = refl
+same-refl (x ∷ xs) = rw (eq-eqb (x .condition) (x .condition) refl, eq-eqb (x .weight) (x .weight) refl) (same-refl xs)
+
+-- ---- fingerprints
+
+pub mixed-next : (cs ws : List ℕ) (h i : ℕ) → i < length cs → i < length ws
+    → mixed h (terms (drop i cs) (drop i ws)) ≡ mixed ((h * 65599 + getD cs i 0 * 257 + getD ws i 0) % 4294967296) (terms (drop (i + 1) cs) (drop (i + 1) ws))
+unfolding mixed
+mixed-next cs ws h i a b = rw (terms-next cs ws i a b, mixed)
+
+pub mixed-done : (cs ws : List ℕ) (h i : ℕ) → length cs ≤ i → h ≡ mixed h (terms (drop i cs) (drop i ws))
+unfolding mixed
+mixed-done cs ws h i a = rw (terms-done cs ws i a, mixed)
+
+pub fingerprint-of : (cs ws : List ℕ) → length ws ≡ length cs → mixed (length cs) (terms cs ws) ≡ fingerprint (terms cs ws)
+unfolding fingerprint
+fingerprint-of cs ws h = ap (λ (n : ℕ). mixed n (terms cs ws)) (sym (length-terms cs ws h))
+
+-- ---- the search among marked rows
+
+module _ (r : Raw) (marks : List ℕ) (x : List Term) where
+  abbrev pub numberFrom : ℕ → ℕ
+  numberFrom k = numberIn (map (markedList r) (drop k marks)) x
+
+  pub number-here : (k : ℕ) → k < length marks → sameTerms (markedList r (getD marks k 0)) x ≡ true → numberFrom k ≡ 0
+  unfolding numberIn
+  number-here k h e = rw (drop-cons marks k 0, e, numberIn)
+
+  pub number-on : (k : ℕ) → k < length marks → sameTerms (markedList r (getD marks k 0)) x ≡ false → numberFrom k ≡ 1 + numberFrom (k + 1)
+  unfolding numberIn
+  number-on k h e = rw (drop-cons marks k 0, e, add-one, numberIn)
+
+  pub number-done : (k : ℕ) → length marks ≤ k → numberFrom k ≡ 0
+  unfolding numberIn
+  number-done k h = rw (drop-of-length-le marks h, numberIn)
+
+  -- A list with another fingerprint is another list.
+  pub prints-differ : (m : ℕ) → m / 1024 ≡ fingerprint (markedList r m) → (m / 1024 ≡ fingerprint x → ⊥) → sameTerms (markedList r m) x ≡ false
+  prints-differ m e n = by (sameTerms (markedList r m) x) refl
+    where
+      by : (b : Bool) → sameTerms (markedList r m) x ≡ b → sameTerms (markedList r m) x ≡ false
+      by true q = absurd (n (e ∙ ap fingerprint (same-is (markedList r m) x q)))
+      by false q = q
+
+pub found-at : (n k m : ℕ) → n ≡ k → k < m → foundOf n m ≡ At k
+found-at n k m e h = rw (e, lt-ltb k m h)
+
+pub found-nothing : (n m : ℕ) → n ≡ m → foundOf n m ≡ Nothing
+found-nothing n m e = rw (e, le-ltb m m (le-refl m))
+
+-- The parts of the two slices that hold a raw list are equally long.
+pub stretch-length : {X : Type 0} (a e : ℕ) (l : List X) → e ≤ length l → length (stretch a e l) ≡ e - a
+stretch-length a e l h = length-take (e - a) (drop a l) ∙ rw (length-drop a l) (omega arith)
+
+pub nonunit-none : (cs ws : List ℕ) → length ws ≡ length cs → length ws ≡ 0 → false ≡ hasNonunit (terms cs ws)
+unfolding hasNonunit terms
+nonunit-none [] ws h e = refl
+nonunit-none (c ∷ cs) ws h e = absurd (omega arith)
+
+pub nonunit-first : (cs ws : List ℕ) → length ws ≡ length cs → (length ws ≡ 0 → ⊥) → ltb 1 (getD ws 0 0) ≡ hasNonunit (terms cs ws)
+unfolding hasNonunit terms
+nonunit-first cs [] h n = absurd (n refl)
+nonunit-first [] (w ∷ ws) h n = absurd (omega arith)
+nonunit-first (c ∷ cs) (w ∷ ws) h n = refl
+
+-- ---- totals
+
+pub total-next : (cs ws : List ℕ) (s i : ℕ) → i < length cs → i < length ws
+    → s + total (terms (drop i cs) (drop i ws)) ≡ s + getD ws i 0 + total (terms (drop (i + 1) cs) (drop (i + 1) ws))
+unfolding total
+total-next cs ws s i a b = rw (terms-next cs ws i a b, total) (sym (add-assoc s (getD ws i 0) (total (terms (drop (i + 1) cs) (drop (i + 1) ws)))))
+
+pub total-done : (cs ws : List ℕ) (s i : ℕ) → length cs ≤ i → s ≡ s + total (terms (drop i cs) (drop i ws))
+unfolding total
+total-done cs ws s i a = rw (terms-done cs ws i a, total) (omega arith)
+
+pub list-is : (r : Raw) (t a e : ℕ) → a ≡ startOf (r .thresholds) t → e ≡ endOf (r .thresholds) t
+    → terms (stretch a e (r .conditions)) (stretch a e (r .weights)) ≡ listAt r t
+unfolding listAt
+list-is r t a e p q = rw (p, q, listAt)
