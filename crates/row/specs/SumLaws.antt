@@ -1,6 +1,6 @@
 -- Sums of a row's terms: under every layout those of its raw list. And what a row's terms are is settled by these sums.
 -- Assumes nothing.
-use Prim.Native.Nat.{ℕ, zero, suc, _+_, _*_, _≤_, _<_}
+use Prim.Native.Nat.{ℕ, _+_, _*_, _≤_, _<_}
 use native.Mathlib.Decide.{ℕ-discrete}
 use native.Mathlib.Omega.{arith}
 use mathlib.Core.Path.{_≡_, refl, sym, ap, ap₂, _∙_}
@@ -10,11 +10,11 @@ use mathlib.Core.List.{List, [], _∷_, map}
 use lib.IntN.{ℤ, pos, _+ℤ_}
 use lib.Dec.{eqb}
 use lib.ListN.{length}
-use borrow.Author.Tests.{eqb-true, eqb-false, eq-eqb, ne-eqb}
+use borrow.Author.Tests.{eqb-true, eq-eqb, ne-eqb}
 use Rattle.numeric.specs.Threshold.{Term, term}
 use Rattle.numeric.specs.Layout.{value, weighted}
 use Rattle.row.specs.Terms.{before, merge, merged, insert, sorted, rowTerms, total, sumOf}
-use Rattle.row.specs.TermsLaws.{All, Distinct, Positive, Ordered, either, before-true, Before, row-ordered, distinct, positive}
+use Rattle.row.specs.TermsLaws.{All, Distinct, Positive, Ordered, either, before-true, Before}
 
 -- What a term adds.
 abbrev pub share : (ℕ → Bool) → Term → ℕ
