@@ -4,3 +4,5 @@ pub mod Raw
 pub mod RawLaws
 pub mod Incidents
 pub mod IncidentsLaws
+pub mod Guards
+pub mod GuardsLaws
