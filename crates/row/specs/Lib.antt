@@ -3,3 +3,5 @@ pub mod TermsLaws
 pub mod SumLaws
 pub mod Keys
 pub mod KeysLaws
+pub mod LoopLaws
+pub mod RowLaws
