@@ -6,3 +6,6 @@ pub mod Incidents
 pub mod IncidentsLaws
 pub mod Guards
 pub mod GuardsLaws
+pub mod Placed
+pub mod PlacedLaws
+pub mod RowsLaws
