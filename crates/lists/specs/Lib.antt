@@ -4,3 +4,4 @@ pub mod DealLaws
 pub mod Columns
 pub mod ColumnsLaws
 pub mod TallyLaws
+pub mod IndexLaws

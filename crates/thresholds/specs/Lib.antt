@@ -4,3 +4,8 @@ pub mod Raw
 pub mod RawLaws
 pub mod Incidents
 pub mod IncidentsLaws
+pub mod Guards
+pub mod GuardsLaws
+pub mod Placed
+pub mod PlacedLaws
+pub mod RowsLaws

@@ -1,0 +1,57 @@
+-- The rows as they grow: the raw lists of the rows after so many thresholds, and what the buffers hold then.
+use Prim.Native.Nat.{ℕ, zero, suc, _+_, _-_, _<_, _≤_}
+use mathlib.Core.Path.{_≡_}
+use mathlib.Core.Bool.{Bool, true, false, cond}
+use mathlib.Core.List.{List, [], _∷_, _++_, map}
+use lib.ListN.{length, take, drop, getD, set, replicate}
+use lib.Dec.{ltb}
+use Rattle.lists.specs.Laid.{over, joinAll, ends}
+use Rattle.numeric.specs.Threshold.{Term}
+use Rattle.row.specs.Terms.{rowTerms}
+use Rattle.row.specs.Keys.{laid, conditionsOf, weightsOf}
+use Rattle.thresholds.specs.Raw.{Raw, listAt, markedList, numberIn, Marked}
+use Rattle.thresholds.specs.Guards.{nodeAt}
+
+-- A list with another in the place of m of its elements, from a on.
+abbrev pub spliced : {X : Type 0} → ℕ → ℕ → List X → List X → List X
+spliced a m l x = take a l ++ (x ++ drop m (drop a l))
+
+-- A raw list that is not there yet comes last.
+abbrev pub joined : List (List Term) → List Term → List (List Term)
+joined ls x = cond (ltb (numberIn ls x) (length ls)) ls (ls ++ (x ∷ []))
+
+unfoldable pub rawsTo : Raw → ℕ → List (List Term)
+rawsTo r zero = []
+rawsTo r (suc t) = joined (rawsTo r t) (listAt r t)
+
+-- The row of threshold t.
+abbrev pub rowTo : Raw → ℕ → ℕ
+rowTo r t = numberIn (rawsTo r t) (listAt r t)
+
+-- The terms of the rows.
+abbrev pub termsTo : Raw → ℕ → List (List Term)
+termsTo r t = map (λ (l : List Term). rowTerms l) (rawsTo r t)
+
+-- A row with the end of its terms.
+abbrev pub rowEntry : ℕ → List ℕ
+rowEntry e = e ∷ 0 ∷ 0 ∷ []
+
+abbrev pub nodeEntry : ℕ → ℕ → List ℕ
+nodeEntry t row = (t + 1) ∷ row ∷ 0 ∷ []
+
+-- The nodes after t thresholds.
+unfoldable pub nodesTo : Raw → List (List ℕ) → ℕ → List (List ℕ)
+nodesTo r nodes zero = nodes
+nodesTo r nodes (suc t) = set (nodesTo r nodes t) (nodeAt (r .thresholds) t) (nodeEntry t (rowTo r t))
+
+-- The terms of the rows in their two arrays.
+pub record Terms (r : Raw) (t : ℕ) (cs ws : List ℕ) : Type 0 where
+  pub conditions : cs ≡ laid (length cs) (conditionsOf (joinAll (termsTo r t)))
+  pub weights : ws ≡ laid (length ws) (weightsOf (joinAll (termsTo r t)))
+
+-- The marks of the rows; behind them the scratch is zero.
+pub record Marks (r : Raw) (t rows : ℕ) (scratch : List ℕ) : Type 0 where
+  pub many : rows ≡ length (rawsTo r t)
+  pub marked : Marked r (length (r .thresholds)) (take rows scratch)
+  pub named : map (markedList r) (take rows scratch) ≡ rawsTo r t
+  pub clear : drop rows scratch ≡ replicate (length scratch - rows) 0
