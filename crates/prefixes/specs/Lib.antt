@@ -8,3 +8,5 @@ pub mod Merge
 pub mod MergeLaws
 pub mod LaidLaws
 pub mod SortLaws
+pub mod Pass
+pub mod PassLaws
