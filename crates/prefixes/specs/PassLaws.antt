@@ -1,23 +1,29 @@
 -- Laws of the pass over the order. Assumes nothing.
 use Prim.Native.Nat.{ℕ, zero, suc, _+_, _-_, _<_, _≤_}
 use native.Mathlib.Numerals.{add-one}
-use native.Mathlib.Decide.{ℕ-discrete}
+use native.Mathlib.Decide.{ℕ-discrete, decLt}
 use native.Mathlib.Omega.{arith}
 use mathlib.Core.Path.{_≡_, refl, sym, ap, ap₂, _∙_, subst}
 use mathlib.Core.Logic.{_⊎_, inl, inr}
 use mathlib.Core.Bool.{Bool, true, false}
-use mathlib.Core.List.{List, [], _∷_, _++_, append-assoc, append-nil, List·Memᴰ, List·Memᴰ·head, List·Memᴰ·tail, List·Memᴰ·cases-cons, List·Memᴰ·not-nil}
+use mathlib.Core.List.{List, [], _∷_, _++_, map, append-assoc, append-nil, List·Memᴰ, List·Memᴰ·head, List·Memᴰ·tail, List·Memᴰ·cases-cons, List·Memᴰ·not-nil}
 use borrow.Author.Tests.{lt-ltb, le-ltb, eq-eqb, ne-eqb}
 use lib.Dec.{eqb, ltb}
-use lib.ListN.{length, getD, set, drop, length-set, drop-of-length-le}
+use lib.ListN.{length, getD, set, drop, length-set, drop-of-length-le, length-replicate, getD-replicate}
 use lib.Seq.{drop-cons, getD-set-same, getD-set-other}
 use Rattle.numeric.specs.Threshold.{Term}
 use Rattle.thresholds.specs.Rows.{Row}
 use Rattle.prefixes.specs.Links.{Link, termsAt, common, orderFrom, ancestors, stacked, linked, linksFrom, links}
 use Rattle.prefixes.specs.LinksLaws.{link}
+use Rattle.prefixes.specs.WordsLaws.{common-right}
 use Rattle.prefixes.specs.OrderLaws.{Distinct, order-distinct, order-length, order-range}
 use Rattle.prefixes.specs.Held.{beginAt, endAt, heldTerms, heldRows, HeldRow, Held}
-use Rattle.prefixes.specs.HeldLaws.{held-terms, held-length, stretch-length}
+use Rattle.prefixes.specs.HeldLaws.{held-terms, held-length, stretch-length, length-numbers}
+use Rattle.lists.specs.Laid.{numbers}
+use Rattle.prefixes.specs.Merge.{orderBy, laid}
+use Rattle.prefixes.specs.MergeLaws.{order-by}
+use Rattle.prefixes.specs.LaidLaws.{laid-none, laid-length, laid-below, laid-at, laid-behind, same-words}
+use Rattle.prefixes.specs.SortLaws.{zeros}
 use Rattle.prefixes.specs.Pass.{Chain, lengthAt, keptBy, underBy, depth, Falling, Rises, named, linkWord, headWord, Popped, Under}
 
 -- ---- popping
@@ -287,6 +293,14 @@ pub record Ordered (rs : List Row) (n : ℕ) (s : List ℕ) : Type 0 where
   pub no-links : (x : ℕ) → x < n → getD s (1024 + x) 0 ≡ 0
   pub no-ancestors : (x : ℕ) → x < n → getD s (2048 + x) 0 ≡ 0
 
+-- The words as it leaves them; what stands where ancestors went is left open, and cleared next.
+pub record Linked (rs : List Row) (n : ℕ) (s₀ s : List ℕ) : Type 0 where
+  pub sized : length s ≡ length s₀
+  pub front : (x : ℕ) → x < 1024 → getD s x 0 ≡ getD s₀ x 0
+  pub words : (x : ℕ) → x < n → getD s (1024 + x) 0 ≡ linkWord x (links rs)
+  pub between : (x : ℕ) → 1024 + n ≤ x → x < 2048 → getD s x 0 ≡ getD s₀ x 0
+  pub far : (x : ℕ) → 2048 + n ≤ x → getD s x 0 ≡ getD s₀ x 0
+
 module _ (rows : List (List ℕ)) (cs ws : List ℕ) where
   -- The words after i rows of the order, with the last of them named by top.
   pub record Passing (s₀ s : List ℕ) (i top : ℕ) : Type 0 where
@@ -516,3 +530,150 @@ module _ (rows : List (List ℕ)) (cs ws : List ℕ) where
             ap (λ (l : List ℕ). linksFrom (heldRows rows cs ws (length rows)) l (named (termsAt (heldRows rows cs ws (length rows))) top) (p .stack))
             (drop-of-length-le (orderFrom (heldRows rows cs ws (length rows)) 0 (heldRows rows cs ws (length rows))) {i = i} (omega arith))
             ∙ links-over (heldRows rows cs ws (length rows)) (named (termsAt (heldRows rows cs ws (length rows))) top) (p .stack)
+
+    pub passing-linked : (s : List ℕ) (i top : ℕ) → Passing s₀ s i top → i ≡ length rows → Linked (heldRows rows cs ws (length rows)) (length rows) s₀ s
+    passing-linked s i top p e = record { sized = p .sized; front = p .front; words = passing-end s i top p e; between = p .between; far = p .far }
+
+    module _ (s : List ℕ) (i top : ℕ) (p : Passing s₀ s i top) (more : i < length rows) where
+      -- what a row on the stack may hold of terms
+      pub short-enough : (shared t : ℕ) → shared ≡ common (named (heldTerms rows cs ws) top) (heldTerms rows cs ws (getD s i 0)) → Popped rows s top shared t
+          → depth rows t ≤ lengthAt rows (getD s i 0) + 1
+      short-enough shared t e q =
+          let z = next-small s i top p more in
+          let k = common-right (named (heldTerms rows cs ws) top) (heldTerms rows cs ws (getD s i 0)) in
+          let l = row-length-is (getD s i 0) z ∙ ap length (held-terms rows cs ws (length rows) (getD s i 0) z) in
+          omega (arith, q .short)
+
+-- ---- sort, pass and clearing together
+
+-- The link words of all rows.
+abbrev pub linkWords : List Row → List ℕ
+linkWords rs = map (λ (x : ℕ). linkWord x (links rs)) (numbers 0 (length rs))
+
+-- The scratch words with the order and the link words in them.
+abbrev pub withLinks : List Row → List ℕ → List ℕ
+withLinks rs s = laid (laid s 0 (orderFrom rs 0 rs)) 1024 (linkWords rs)
+
+-- Scratch words that are all zero.
+abbrev pub Clear : List ℕ → Type 0
+Clear s = (3072 ≤ length s) × ((x : ℕ) → x < 3072 → getD s x 0 ≡ 0)
+
+length-mapped : {A B : Type 0} (f : A → B) (l : List A) → length (map f l) ≡ length l
+length-mapped f [] = refl
+length-mapped f (x ∷ l) = ap suc (length-mapped f l)
+
+mapped-at : (f : ℕ → ℕ) (n k i : ℕ) → i < k → getD (map f (numbers n k)) i 0 ≡ f (n + i)
+unfolding numbers
+mapped-at f n zero i h = absurd (omega arith)
+mapped-at f n (suc k) zero h = let e : n ≡ n + 0 = omega arith in ap f e
+mapped-at f n (suc k) (suc i) h = let e : n + 1 + i ≡ n + suc i = omega arith in mapped-at f (n + 1) k i (omega arith) ∙ ap f e
+
+module _ (rs : List Row) (s₀ : List ℕ) (clear : Clear s₀) (small : length rs ≤ 1024) where
+  words-length : length (linkWords rs) ≡ length rs
+  words-length = length-mapped (λ (x : ℕ). linkWord x (links rs)) (numbers 0 (length rs)) ∙ length-numbers 0 (length rs)
+
+  word-of : (x : ℕ) → x < length rs → getD (linkWords rs) x 0 ≡ linkWord x (links rs)
+  word-of x h = let e : 0 + x ≡ x = omega arith in mapped-at (λ (y : ℕ). linkWord y (links rs)) 0 (length rs) x h ∙ ap (λ (y : ℕ). linkWord y (links rs)) e
+
+  order-room : 0 + length (orderFrom rs 0 rs) ≤ length s₀
+  order-room = omega (arith, order-length rs 0 rs, clear .0)
+
+  laid-order-length : length (laid s₀ 0 (orderFrom rs 0 rs)) ≡ length s₀
+  laid-order-length = laid-length s₀ 0 (orderFrom rs 0 rs) order-room
+
+  words-room : 1024 + length (linkWords rs) ≤ length (laid s₀ 0 (orderFrom rs 0 rs))
+  words-room = omega (arith, words-length, laid-order-length, clear .0)
+
+  -- the sort makes the words ready for the pass
+  pub sorted-ready : (s₁ : List ℕ) → s₁ ≡ laid s₀ 0 (orderFrom rs 0 rs) → Ordered rs (length rs) s₁
+  sorted-ready s₁ e =
+      record {
+        room = omega (arith, ap length e ∙ laid-order-length, clear .0);
+        small = small;
+        order = λ k h.
+            let q : k - 0 ≡ k = omega arith in
+            ap (λ (w : List ℕ). getD w k 0) e ∙ laid-at s₀ 0 (orderFrom rs 0 rs) order-room k (omega arith) (omega (arith, order-length rs 0 rs)) ∙ ap (λ (x : ℕ). getD (orderFrom rs 0 rs) x 0) q;
+        no-links = λ x h. ap (λ (w : List ℕ). getD w (1024 + x) 0) e ∙ behind (1024 + x) (omega arith) (omega arith);
+        no-ancestors = λ x h. ap (λ (w : List ℕ). getD w (2048 + x) 0) e ∙ behind (2048 + x) (omega arith) (omega arith);
+      }
+    where
+      behind : (x : ℕ) → 1024 ≤ x → x < 3072 → getD (laid s₀ 0 (orderFrom rs 0 rs)) x 0 ≡ 0
+      behind x h l = laid-behind s₀ 0 (orderFrom rs 0 rs) order-room x (omega (arith, order-length rs 0 rs)) ∙ clear .1 x l
+
+  pub linked-length : (s₁ s₂ : List ℕ) → s₁ ≡ laid s₀ 0 (orderFrom rs 0 rs) → Linked rs (length rs) s₁ s₂ → 3072 ≤ length s₂
+  linked-length s₁ s₂ e l = omega (arith, l .sized, ap length e ∙ laid-order-length, clear .0)
+
+  -- cleared behind, the words are the order and the links
+  pub linked-end : (s₁ s₂ s₃ : List ℕ) → s₁ ≡ laid s₀ 0 (orderFrom rs 0 rs) → Linked rs (length rs) s₁ s₂ → s₃ ≡ laid s₂ 2048 (zeros (2048 + length rs - 2048)) → s₃ ≡ withLinks rs s₀
+  linked-end s₁ s₂ s₃ e l q =
+      q ∙ same-words (laid s₂ 2048 (zeros (2048 + length rs - 2048))) (withLinks rs s₀)
+      (laid-length s₂ 2048 (zeros (2048 + length rs - 2048)) zroom ∙ l .sized ∙ ap length e ∙ sym (laid-length (laid s₀ 0 (orderFrom rs 0 rs)) 1024 (linkWords rs) words-room))
+      (λ x. by x (decLt x 1024) (decLt x (1024 + length rs)) (decLt x 2048) (decLt x (2048 + length rs)))
+    where
+      zlength : length (zeros (2048 + length rs - 2048)) ≡ length rs
+      zlength = length-replicate (2048 + length rs - 2048) 0 ∙ omega arith
+
+      zroom : 2048 + length (zeros (2048 + length rs - 2048)) ≤ length s₂
+      zroom = omega (arith, zlength, linked-length s₁ s₂ e l)
+
+      behind : (x : ℕ) → 1024 + length rs ≤ x → getD (withLinks rs s₀) x 0 ≡ getD (laid s₀ 0 (orderFrom rs 0 rs)) x 0
+      behind x h = laid-behind (laid s₀ 0 (orderFrom rs 0 rs)) 1024 (linkWords rs) words-room x (omega (arith, words-length))
+
+      by : (x : ℕ) → Dec (x < 1024) → Dec (x < 1024 + length rs) → Dec (x < 2048) → Dec (x < 2048 + length rs)
+          → getD (laid s₂ 2048 (zeros (2048 + length rs - 2048))) x 0 ≡ getD (withLinks rs s₀) x 0
+      by x (yes a) b c d =
+          laid-below s₂ 2048 (zeros (2048 + length rs - 2048)) zroom x (omega arith) ∙ l .front x a ∙ ap (λ (w : List ℕ). getD w x 0) e
+          ∙ sym (laid-below (laid s₀ 0 (orderFrom rs 0 rs)) 1024 (linkWords rs) words-room x a)
+      by x (no a) (yes b) c d =
+          let f : x ≡ 1024 + (x - 1024) = omega arith in
+          laid-below s₂ 2048 (zeros (2048 + length rs - 2048)) zroom x (omega arith) ∙ ap (λ (y : ℕ). getD s₂ y 0) f ∙ l .words (x - 1024) (omega arith)
+          ∙ sym (word-of (x - 1024) (omega arith)) ∙ sym (laid-at (laid s₀ 0 (orderFrom rs 0 rs)) 1024 (linkWords rs) words-room x (omega arith) (omega (arith, words-length)))
+      by x (no a) (no b) (yes c) d =
+          laid-below s₂ 2048 (zeros (2048 + length rs - 2048)) zroom x c ∙ l .between x (omega arith) c ∙ ap (λ (w : List ℕ). getD w x 0) e ∙ sym (behind x (omega arith))
+      by x (no a) (no b) (no c) (yes d) =
+          laid-at s₂ 2048 (zeros (2048 + length rs - 2048)) zroom x (omega arith) (omega (arith, zlength))
+          ∙ getD-replicate (2048 + length rs - 2048) (x - 2048) 0 0 (omega arith) ∙ sym (clear .1 x (omega arith))
+          ∙ sym (laid-behind s₀ 0 (orderFrom rs 0 rs) order-room x (omega (arith, order-length rs 0 rs))) ∙ sym (behind x (omega arith))
+      by x (no a) (no b) (no c) (no d) =
+          laid-behind s₂ 2048 (zeros (2048 + length rs - 2048)) zroom x (omega (arith, zlength)) ∙ l .far x (omega arith) ∙ ap (λ (w : List ℕ). getD w x 0) e ∙ sym (behind x (omega arith))
+
+-- the sort's order is the definition's
+pub sorted-order : (rows : List (List ℕ)) (cs ws : List ℕ) (n : ℕ) → n ≡ length rows
+    → orderBy (heldTerms rows cs ws) 0 (n - 0) ≡ orderFrom (heldRows rows cs ws (length rows)) 0 (heldRows rows cs ws (length rows))
+sorted-order rows cs ws n e =
+    let q : n - 0 ≡ length rows = omega arith in
+    let m = held-length rows cs ws (length rows) in
+    ap (orderBy (heldTerms rows cs ws) 0) (q ∙ sym m)
+    ∙ sym (order-by (heldTerms rows cs ws) (heldRows rows cs ws (length rows)) 0 (heldRows rows cs ws (length rows)) (λ x h l. sym (held-terms rows cs ws (length rows) x (omega arith))))
+
+links-none : (rs : List Row) (s : List ℕ) → length rs ≡ 0 → s ≡ withLinks rs s
+unfolding orderFrom numbers
+links-none [] s e = sym (laid-none (laid s 0 []) 1024 ∙ laid-none s 0)
+links-none (r ∷ rs) s e = absurd (omega arith)
+
+module _ (rows : List (List ℕ)) (cs ws : List ℕ) (s₀ : List ℕ) (clear : Clear s₀) (small : length rows ≤ 1024) where
+  is-held : length (heldRows rows cs ws (length rows)) ≡ length rows
+  is-held = held-length rows cs ws (length rows)
+
+  fits : length (heldRows rows cs ws (length rows)) ≤ 1024
+  fits = omega (arith, is-held)
+
+  pub held-none : length rows ≡ 0 → s₀ ≡ withLinks (heldRows rows cs ws (length rows)) s₀
+  held-none e = links-none (heldRows rows cs ws (length rows)) s₀ (is-held ∙ e)
+
+  module _ (s₁ : List ℕ) (e : s₁ ≡ laid s₀ 0 (orderBy (heldTerms rows cs ws) 0 (length rows - 0))) where
+    in-order : s₁ ≡ laid s₀ 0 (orderFrom (heldRows rows cs ws (length rows)) 0 (heldRows rows cs ws (length rows)))
+    in-order = e ∙ ap (laid s₀ 0) (sorted-order rows cs ws (length rows) refl)
+
+    pub held-ready : Ordered (heldRows rows cs ws (length rows)) (length rows) s₁
+    held-ready =
+        subst (λ (k : ℕ). Ordered (heldRows rows cs ws (length rows)) k s₁) is-held (sorted-ready (heldRows rows cs ws (length rows)) s₀ clear fits s₁ in-order)
+
+    pub held-end : (s₂ s₃ : List ℕ) → Linked (heldRows rows cs ws (length rows)) (length rows) s₁ s₂ → s₃ ≡ laid s₂ 2048 (zeros (2048 + length rows - 2048))
+        → s₃ ≡ withLinks (heldRows rows cs ws (length rows)) s₀
+    held-end s₂ s₃ l q =
+        linked-end (heldRows rows cs ws (length rows)) s₀ clear fits s₁ s₂ s₃ in-order (subst (λ (k : ℕ). Linked (heldRows rows cs ws (length rows)) k s₁ s₂) (sym is-held) l)
+        (q ∙ ap (λ (k : ℕ). laid s₂ 2048 (zeros (2048 + k - 2048))) (sym is-held))
+
+    pub held-room : (s₂ : List ℕ) → Linked (heldRows rows cs ws (length rows)) (length rows) s₁ s₂ → 3072 ≤ length s₂
+    held-room s₂ l = omega (arith, held-ready .room, l .sized)
