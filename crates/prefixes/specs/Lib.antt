@@ -10,3 +10,5 @@ pub mod LaidLaws
 pub mod SortLaws
 pub mod Pass
 pub mod PassLaws
+pub mod Neighbours
+pub mod NeighboursLaws

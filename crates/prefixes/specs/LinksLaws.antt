@@ -493,15 +493,15 @@ module _ (rs : List Row) where
 -- ---- neighbours
 
 -- how the neighbours of a row go on at one link
-neighbours-prefix : (r : ℕ) (l : Link) (ls : List Link) → l .prefix ≡ r → neighbours r (l ∷ ls) ≡ l .extension ∷ neighbours r ls
+pub neighbours-prefix : (r : ℕ) (l : Link) (ls : List Link) → l .prefix ≡ r → neighbours r (l ∷ ls) ≡ l .extension ∷ neighbours r ls
 unfolding neighbours
 neighbours-prefix r l ls e = rw (eq-eqb (l .prefix) r e, neighbours)
 
-neighbours-extension : (r : ℕ) (l : Link) (ls : List Link) → (l .prefix ≡ r → ⊥) → l .extension ≡ r → neighbours r (l ∷ ls) ≡ l .prefix ∷ neighbours r ls
+pub neighbours-extension : (r : ℕ) (l : Link) (ls : List Link) → (l .prefix ≡ r → ⊥) → l .extension ≡ r → neighbours r (l ∷ ls) ≡ l .prefix ∷ neighbours r ls
 unfolding neighbours
 neighbours-extension r l ls n e = rw (ne-eqb (l .prefix) r n, eq-eqb (l .extension) r e, neighbours)
 
-neighbours-other : (r : ℕ) (l : Link) (ls : List Link) → (l .prefix ≡ r → ⊥) → (l .extension ≡ r → ⊥) → neighbours r (l ∷ ls) ≡ neighbours r ls
+pub neighbours-other : (r : ℕ) (l : Link) (ls : List Link) → (l .prefix ≡ r → ⊥) → (l .extension ≡ r → ⊥) → neighbours r (l ∷ ls) ≡ neighbours r ls
 unfolding neighbours
 neighbours-other r l ls n m = rw (ne-eqb (l .prefix) r n, ne-eqb (l .extension) r m, neighbours)
 
