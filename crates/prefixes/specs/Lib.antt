@@ -12,3 +12,4 @@ pub mod Pass
 pub mod PassLaws
 pub mod Neighbours
 pub mod NeighboursLaws
+pub mod PrepareLaws

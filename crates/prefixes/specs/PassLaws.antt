@@ -155,15 +155,15 @@ module _ (rows : List (List ℕ)) (s : List ℕ) (t r : ℕ) where
 
 -- ---- link words
 
-word-here : (x : ℕ) (l : Link) (ls : List Link) → l .extension ≡ x → linkWord x (l ∷ ls) ≡ l .prefix + 1
+pub word-here : (x : ℕ) (l : Link) (ls : List Link) → l .extension ≡ x → linkWord x (l ∷ ls) ≡ l .prefix + 1
 unfolding linkWord
 word-here x l ls e = rw (eq-eqb (l .extension) x e, linkWord)
 
-word-later : (x : ℕ) (l : Link) (ls : List Link) → (l .extension ≡ x → ⊥) → linkWord x (l ∷ ls) ≡ linkWord x ls
+pub word-later : (x : ℕ) (l : Link) (ls : List Link) → (l .extension ≡ x → ⊥) → linkWord x (l ∷ ls) ≡ linkWord x ls
 unfolding linkWord
 word-later x l ls n = rw (ne-eqb (l .extension) x n, linkWord)
 
-word-behind : (x : ℕ) (ls ms : List Link) → linkWord x ls ≡ 0 → linkWord x (ls ++ ms) ≡ linkWord x ms
+pub word-behind : (x : ℕ) (ls ms : List Link) → linkWord x ls ≡ 0 → linkWord x (ls ++ ms) ≡ linkWord x ms
 unfolding linkWord
 word-behind x [] ms e = refl
 word-behind x (l ∷ ls) ms e = by (ℕ-discrete (l .extension) x) (λ q. word-behind x ls ms q)
@@ -172,7 +172,7 @@ word-behind x (l ∷ ls) ms e = by (ℕ-discrete (l .extension) x) (λ q. word-b
     by (yes h) ih = absurd (omega (arith, word-here x l ls h))
     by (no h) ih = word-later x l (ls ++ ms) h ∙ ih (sym (word-later x l ls h) ∙ e)
 
-word-first : (x : ℕ) (ls ms : List Link) → linkWord x ms ≡ 0 → linkWord x (ls ++ ms) ≡ linkWord x ls
+pub word-first : (x : ℕ) (ls ms : List Link) → linkWord x ms ≡ 0 → linkWord x (ls ++ ms) ≡ linkWord x ls
 unfolding linkWord
 word-first x [] ms e = e
 word-first x (l ∷ ls) ms e = by (ℕ-discrete (l .extension) x) (word-first x ls ms e)
@@ -181,12 +181,12 @@ word-first x (l ∷ ls) ms e = by (ℕ-discrete (l .extension) x) (word-first x 
     by (yes h) ih = word-here x l (ls ++ ms) h ∙ sym (word-here x l ls h)
     by (no h) ih = word-later x l (ls ++ ms) h ∙ ih ∙ sym (word-later x l ls h)
 
-word-linked : (r : ℕ) (kept : List ℕ) → linkWord r (linked r kept) ≡ headWord kept
+pub word-linked : (r : ℕ) (kept : List ℕ) → linkWord r (linked r kept) ≡ headWord kept
 unfolding linked headWord linkWord
 word-linked r [] = refl
 word-linked r (a ∷ more) = word-here r (link a r) [] refl
 
-word-unlinked : (x r : ℕ) (kept : List ℕ) → (x ≡ r → ⊥) → linkWord x (linked r kept) ≡ 0
+pub word-unlinked : (x r : ℕ) (kept : List ℕ) → (x ≡ r → ⊥) → linkWord x (linked r kept) ≡ 0
 unfolding linked linkWord
 word-unlinked x r [] n = refl
 word-unlinked x r (a ∷ more) n = word-later x (link a r) [] (λ e. n (sym e))
@@ -264,7 +264,7 @@ distinct-at (x ∷ l) d (suc i) (suc k) h j e = distinct-at l (d .1) i k (omega 
 
 -- ---- the loop
 
-links-step : (rs : List Row) (r : ℕ) (more : List ℕ) (p : List Term) (st : List ℕ)
+pub links-step : (rs : List Row) (r : ℕ) (more : List ℕ) (p : List Term) (st : List ℕ)
     → linksFrom rs (r ∷ more) p st ≡ linked r (ancestors rs (common p (termsAt rs r)) st) ++ linksFrom rs more (termsAt rs r) (stacked rs r (ancestors rs (common p (termsAt rs r)) st))
 unfolding linksFrom
 links-step rs r more p st = refl
