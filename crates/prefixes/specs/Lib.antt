@@ -8,3 +8,8 @@ pub mod Merge
 pub mod MergeLaws
 pub mod LaidLaws
 pub mod SortLaws
+pub mod Pass
+pub mod PassLaws
+pub mod Neighbours
+pub mod NeighboursLaws
+pub mod PrepareLaws

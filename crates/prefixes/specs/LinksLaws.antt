@@ -79,7 +79,7 @@ module _ (rs : List Row) (ls : List Link) where
       by ih true e = rw (pop c a more e) ih
       by ih false e = rw (keep c a more e) t
 
-  kept-from : (c b : ℕ) (st : List ℕ) → List·Memᴰ b (ancestors rs c st) → List·Memᴰ b st
+  pub kept-from : (c b : ℕ) (st : List ℕ) → List·Memᴰ b (ancestors rs c st) → List·Memᴰ b st
   unfolding ancestors
   kept-from c b [] i = i
   kept-from c b (a ∷ more) i = by (λ j. kept-from c b more j) (ltb c (length (termsAt rs a))) refl
@@ -398,7 +398,7 @@ module _ (rs : List Row) where
   abbrev pub extensions : List Link → List ℕ
   extensions ls = map (λ (l : Link). l .extension) ls
 
-  stacked-from : (r b : ℕ) (kept : List ℕ) → List·Memᴰ b (stacked rs r kept) → (b ≡ r) ⊎ List·Memᴰ b kept
+  pub stacked-from : (r b : ℕ) (kept : List ℕ) → List·Memᴰ b (stacked rs r kept) → (b ≡ r) ⊎ List·Memᴰ b kept
   unfolding stacked
   stacked-from r b [] i = List·Memᴰ·cases-cons i
   stacked-from r b (a ∷ more) i = by (eqb (length (termsAt rs a)) (length (termsAt rs r))) refl
@@ -454,7 +454,7 @@ module _ (rs : List Row) where
   mem-linked x r [] more i = inr i
   mem-linked x r (a ∷ as′) more i = List·Memᴰ·cases-cons i
 
-  from-mem : (order : List ℕ) (previous : List Term) (st : List ℕ) (x : ℕ) → List·Memᴰ x (extensions (linksFrom rs order previous st)) → List·Memᴰ x order
+  pub from-mem : (order : List ℕ) (previous : List Term) (st : List ℕ) (x : ℕ) → List·Memᴰ x (extensions (linksFrom rs order previous st)) → List·Memᴰ x order
   unfolding linksFrom
   from-mem [] previous st x i = absurd (List·Memᴰ·not-nil i)
   from-mem (r ∷ more) previous st x i =
@@ -493,15 +493,15 @@ module _ (rs : List Row) where
 -- ---- neighbours
 
 -- how the neighbours of a row go on at one link
-neighbours-prefix : (r : ℕ) (l : Link) (ls : List Link) → l .prefix ≡ r → neighbours r (l ∷ ls) ≡ l .extension ∷ neighbours r ls
+pub neighbours-prefix : (r : ℕ) (l : Link) (ls : List Link) → l .prefix ≡ r → neighbours r (l ∷ ls) ≡ l .extension ∷ neighbours r ls
 unfolding neighbours
 neighbours-prefix r l ls e = rw (eq-eqb (l .prefix) r e, neighbours)
 
-neighbours-extension : (r : ℕ) (l : Link) (ls : List Link) → (l .prefix ≡ r → ⊥) → l .extension ≡ r → neighbours r (l ∷ ls) ≡ l .prefix ∷ neighbours r ls
+pub neighbours-extension : (r : ℕ) (l : Link) (ls : List Link) → (l .prefix ≡ r → ⊥) → l .extension ≡ r → neighbours r (l ∷ ls) ≡ l .prefix ∷ neighbours r ls
 unfolding neighbours
 neighbours-extension r l ls n e = rw (ne-eqb (l .prefix) r n, eq-eqb (l .extension) r e, neighbours)
 
-neighbours-other : (r : ℕ) (l : Link) (ls : List Link) → (l .prefix ≡ r → ⊥) → (l .extension ≡ r → ⊥) → neighbours r (l ∷ ls) ≡ neighbours r ls
+pub neighbours-other : (r : ℕ) (l : Link) (ls : List Link) → (l .prefix ≡ r → ⊥) → (l .extension ≡ r → ⊥) → neighbours r (l ∷ ls) ≡ neighbours r ls
 unfolding neighbours
 neighbours-other r l ls n m = rw (ne-eqb (l .prefix) r n, ne-eqb (l .extension) r m, neighbours)
 

@@ -1,0 +1,64 @@
+-- The one pass over the order, as the scratch words hold it: link words from 1,024 on (the prefix's number and 1, or 0 for none)
+-- and the ancestors as a chain through the words from 2,048 on (below row a on the stack stands the row of word a, less 1; 0 ends it).
+use Prim.Native.Nat.{ℕ, zero, suc, _+_, _-_, _<_, _≤_}
+use mathlib.Core.Path.{_≡_}
+use mathlib.Core.Bool.{Bool, true, false}
+use mathlib.Core.List.{List, [], _∷_}
+use lib.Dec.{eqb, ltb}
+use lib.ListN.{length, getD}
+use Rattle.numeric.specs.Threshold.{Term}
+use Rattle.prefixes.specs.Links.{Link}
+use Rattle.prefixes.specs.Held.{beginAt, endAt}
+
+-- The stack that begins at word t.
+abbrev pub Chain : List ℕ → ℕ → List ℕ → Type 0
+Chain s t [] = t ≡ 0
+Chain s t (a ∷ more) = (t ≡ a + 1) × Chain s (getD s (2048 + a) 0) more
+
+-- How many terms a row has, and so the ancestors that are kept, and what stands below a new row.
+abbrev pub lengthAt : List (List ℕ) → ℕ → ℕ
+lengthAt rows r = endAt rows r - beginAt rows r
+
+unfoldable pub keptBy : (ℕ → ℕ) → ℕ → List ℕ → List ℕ
+keptBy L shared [] = []
+keptBy L shared (a ∷ more) = elim (ltb shared (L a)) [ true ↦ keptBy L shared more | false ↦ a ∷ more ]
+
+unfoldable pub underBy : (ℕ → ℕ) → ℕ → List ℕ → List ℕ
+underBy L r [] = []
+underBy L r (a ∷ more) = elim (eqb (L a) (L r)) [ true ↦ more | false ↦ a ∷ more ]
+
+-- One more than the length of the row that a word names; 0 for none. It falls along a chain.
+unfoldable pub depth : List (List ℕ) → ℕ → ℕ
+depth rows zero = 0
+depth rows (suc a) = suc (lengthAt rows a)
+
+abbrev pub Falling : List (List ℕ) → List ℕ → Type 0
+Falling rows s = (a : ℕ) → a < length rows → (getD s (2048 + a) 0 ≤ length rows) × (depth rows (getD s (2048 + a) 0) < depth rows (a + 1))
+
+abbrev pub Rises : List (List ℕ) → Type 0
+Rises rows = (r : ℕ) → r < length rows → beginAt rows r ≤ endAt rows r
+
+-- The terms of the row that a word names.
+unfoldable pub named : (ℕ → List Term) → ℕ → List Term
+named T zero = []
+named T (suc a) = T a
+
+-- The link word of row x.
+unfoldable pub linkWord : ℕ → List Link → ℕ
+linkWord x [] = 0
+linkWord x (l ∷ ls) = elim (eqb (l .extension) x) [ true ↦ l .prefix + 1 | false ↦ linkWord x ls ]
+
+unfoldable pub headWord : List ℕ → ℕ
+headWord [] = 0
+headWord (a ∷ more) = a + 1
+
+-- What popping gives, and what goes below row r.
+pub record Popped (rows : List (List ℕ)) (s : List ℕ) (top shared t : ℕ) : Type 0 where
+  pub row : t ≤ length rows
+  pub short : depth rows t ≤ shared + 1
+  pub chain : (st : List ℕ) → Chain s top st → Chain s t (keptBy (lengthAt rows) shared st)
+
+pub record Under (rows : List (List ℕ)) (s : List ℕ) (t r u : ℕ) : Type 0 where
+  pub row : u ≤ length rows
+  pub falls : depth rows u < depth rows (r + 1)
+  pub chain : (st : List ℕ) → Chain s t st → Chain s u (underBy (lengthAt rows) r st)
