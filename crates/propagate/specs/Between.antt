@@ -59,13 +59,16 @@ pub record Did : Type 0 where
 abbrev pub did : Live → Step → Did
 did v k = record { live = v; step = k }
 
+-- A row that wants a residual waits for it.
+abbrev pub residualQueued : Row → State → Rows → ℕ → Rows
+residualQueued row s q r = cond (wantsResidual row s) (queueRow q r) q
+
 -- A row run once, and stored.
 unfoldable pub runRow : Index → Live → ℕ → Did
 runRow x v r =
     let row = getD (x .rows) r noRow in
     let a = thresholdRow row (stateAt v r) (v .marks) in
-    did (live (set (v .states) r (a .state)) (a .marks) (v .dirty) (cond (wantsResidual row (stateAt v r)) (queueRow (v .residuals) r) (v .residuals)))
-    (a .step)
+    did (live (set (v .states) r (a .state)) (a .marks) (v .dirty) (residualQueued row (stateAt v r) (v .residuals) r)) (a .step)
 
 -- The row that holds a moved bound runs, and waits to hand the bound on if it has links.
 unfoldable pub bounded : Index → Live → ℕ → State → Did

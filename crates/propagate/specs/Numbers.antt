@@ -1,5 +1,6 @@
 -- Row states as the buffers hold them: four figures, and four cursors with a flag for the upper.
-use Prim.Native.Nat.{ℕ, _≤_}
+use Prim.Native.Nat.{ℕ, zero, suc, _≤_, _<_}
+use native.Mathlib.Nat.{not-suc-le-zero, le-of-suc-le-suc}
 use mathlib.Core.Path.{_≡_, refl, ap, _∙_}
 use mathlib.Core.Bool.{cond}
 use mathlib.Core.List.{List, [], _∷_}
@@ -9,11 +10,8 @@ use lib.IntN.{ℤ, pos}
 use Rattle.state.specs.declared.State.{State}
 use Rattle.state.specs.declared.Upper.{Upper}
 use Rattle.state.specs.declared.Upper.the-variants.{Open, Under}
-use Rattle.state.specs.declared.Step.{Step}
-use Rattle.state.specs.State.{stateOf, limit, limited}
-use Rattle.queues.specs.Marks.{Marks}
+use Rattle.state.specs.State.{stateOf, noState, limit, limited}
 use Rattle.propagate.specs.Shape.{Figures}
-use Rattle.propagate.specs.Row.{Ran, ran}
 
 abbrev pub figuresOf : State → List ℤ
 figuresOf s = s .known ∷ s .possible ∷ s .lower ∷ limit (s .upper) ∷ []
@@ -43,21 +41,30 @@ pub record Runs (s : State) (bounds : List ℤ) : Type 0 where
   pub figures : Figures s
   pub inside : s .«never_guard» ≤ length bounds
 
--- The buffers after a run: the row's state written at its place, the marks and the answer as the run gave them.
-pub record WasRun (a : Ran) (fs : List (List ℤ)) (cs : List (List ℕ)) (row : ℕ) (fs′ : List (List ℤ)) (cs′ : List (List ℕ)) (m : Marks) (k : Step) : Type 0 where
-  pub figures : fs′ ≡ set fs row (figuresOf (a .state))
-  pub cursors : cs′ ≡ set cs row (cursorsOf (a .state))
-  pub marks : m ≡ a .marks
-  pub step : k ≡ a .step
-
-pub was-run : (a : Ran) (fs : List (List ℤ)) (cs : List (List ℕ)) (row : ℕ) (fs′ : List (List ℤ)) (cs′ : List (List ℕ)) (m : Marks) (k : Step) (t : State)
-    → ran t m k ≡ a → fs′ ≡ set fs row (figuresOf t) → cs′ ≡ set cs row (cursorsOf t) → WasRun a fs cs row fs′ cs′ m k
-was-run a fs cs row fs′ cs′ m k t e f g = record {
-  figures = f ∙ ap (λ (x : Ran). set fs row (figuresOf (x .state))) e;
-  cursors = g ∙ ap (λ (x : Ran). set cs row (cursorsOf (x .state))) e;
-  marks = ap (λ (x : Ran). x .marks) e;
-  step = ap (λ (x : Ran). x .step) e;
-}
-
 pub runs-by : (s t : State) (bounds : List ℤ) → s ≡ t → Runs t bounds → Runs s bounds
 runs-by s t bounds e r = rw e r
+
+-- All states that the buffers hold.
+unfoldable pub statesOf : List (List ℤ) → List (List ℕ) → List State
+statesOf [] cs = []
+statesOf (f ∷ fs) [] = []
+statesOf (f ∷ fs) (c ∷ cs) = rowState f c ∷ statesOf fs cs
+
+pub states-at : (fs : List (List ℤ)) (cs : List (List ℕ)) (r : ℕ) → r < length fs → r < length cs → getD (statesOf fs cs) r noState ≡ rowState (getD fs r []) (getD cs r [])
+unfolding statesOf
+states-at [] cs r h k = absurd (not-suc-le-zero h)
+states-at (f ∷ fs) [] r h k = absurd (not-suc-le-zero k)
+states-at (f ∷ fs) (c ∷ cs) zero h k = refl
+states-at (f ∷ fs) (c ∷ cs) (suc r) h k = states-at fs cs r (le-of-suc-le-suc h) (le-of-suc-le-suc k)
+
+-- A state that is stored in both is stored among them.
+pub states-set : (fs fs′ : List (List ℤ)) (cs cs′ : List (List ℕ)) (r : ℕ) (s : State) → r < length fs → r < length cs
+    → fs′ ≡ set fs r (figuresOf s) → cs′ ≡ set cs r (cursorsOf s) → statesOf fs′ cs′ ≡ set (statesOf fs cs) r s
+unfolding statesOf
+states-set fs fs′ cs cs′ r s h k e f = ap (λ (y : List (List ℤ)). statesOf y cs′) e ∙ ap (statesOf (set fs r (figuresOf s))) f ∙ go fs cs r h k
+  where
+    go : (gs : List (List ℤ)) (ds : List (List ℕ)) (i : ℕ) → i < length gs → i < length ds → statesOf (set gs i (figuresOf s)) (set ds i (cursorsOf s)) ≡ set (statesOf gs ds) i s
+    go [] ds i a b = absurd (not-suc-le-zero a)
+    go (g ∷ gs) [] i a b = absurd (not-suc-le-zero b)
+    go (g ∷ gs) (d ∷ ds) zero a b = ap (λ (y : State). y ∷ statesOf gs ds) (stored-read s)
+    go (g ∷ gs) (d ∷ ds) (suc i) a b = ap (λ (y : List State). rowState g d ∷ y) (go gs ds i (le-of-suc-le-suc a) (le-of-suc-le-suc b))

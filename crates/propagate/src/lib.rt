@@ -8,13 +8,13 @@ ghost use lib.Signed.{ltZ};
 ghost use Rattle.numeric.specs.Threshold.{Term, terms};
 ghost use Rattle.words.specs.Mask.{inEither};
 ghost use Rattle.state.specs.State.{reached, limit, limited};
-ghost use Rattle.queues.specs.Queue.{queue};
+ghost use Rattle.queues.specs.Queue.{queue, Held, Rows, rows};
 ghost use Rattle.queues.specs.Marks.{Marks, marks, isDecided, decided, decide};
 ghost use Rattle.queues.specs.MarksLaws.{Waits};
-ghost use Rattle.thresholds.specs.Rows.{Guard, rowOf};
+ghost use Rattle.thresholds.specs.Rows.{Guard, noRow, rowOf};
 ghost use Rattle.propagate.specs.Scan.{scanned, turn as turnOf, turned, force};
-ghost use Rattle.propagate.specs.Between.{guardState, movedLower, movedUpper, movedState};
-ghost use Rattle.propagate.specs.Numbers.{figuresOf, cursorsOf, rowState, Runs, WasRun};
+ghost use Rattle.propagate.specs.Between.{Index, live, did, residualQueued, runRow, guardState, movedLower, movedUpper, movedState};
+ghost use Rattle.propagate.specs.Numbers.{figuresOf, cursorsOf, rowState, statesOf, Runs};
 ghost use Rattle.propagate.specs.Shape.{Below, TermSlices, GuardSlices, Figures};
 ghost use Rattle.propagate.specs.Guards.{guards};
 ghost use Rattle.propagate.specs.Row.{ran as ranOf, reachable, sureGuards, neverGuards, thresholdGuards, light, forced, trueTerms, falseTerms, rowTerms, thresholdRow, wantsResidual};
@@ -667,10 +667,31 @@ pub fn store(figures: &mut [[i64; 4]], cursors: &mut [[usize; 5]], row: usize, s
     cursors[row] = c;
 }
 
-// A row's answer and the queue of nodes after it.
+// A row that wants a residual waits for it.
+fn queue_residual(
+    conditions: &[u16],
+    weights: &[u64],
+    state: State,
+    items: &mut [u16],
+    pending: &mut [u8],
+    ring: Ring,
+    row: usize,
+) -> Ring
+    requires { ⌜ (length (now conditions) ≡ length (now weights)) × Held 1024 (queue (now items) ring) × (row < 1024) × (row < length (now pending)) ⌝ }
+    ensures { λ r. ⌜ ((raw : List Term) (gs : List Guard) → rows (queue (now (items .exit)) r) (now (pending .exit))
+        ≡ residualQueued (rowOf raw (terms (now (conditions .entry)) (now (weights .entry))) gs) state (rows (queue (now (items .entry)) ring) (now (pending .entry))) row) ⌝ }
+{
+    if wants_residual(conditions, weights, state) {
+        return queues::queue_row(items, pending, ring, row);
+    }
+    ring
+}
+
+// A row's answer, and the queues of nodes and of residuals after it.
 pub struct Answer {
     pub step: Step,
     pub ring: Ring,
+    pub residuals: Ring,
 }
 
 // One row, read from the buffers, run once and written back. The terms and the guards are the row's own.
@@ -686,14 +707,19 @@ pub fn run_row(
     never: &mut [u64],
     nodes: &mut [u16],
     ring: Ring,
+    items: &mut [u16],
+    pending: &mut [u8],
+    residuals: Ring,
 ) -> Answer
     requires { ⌜ (row < length (now figures)) × (row < length (now cursors)) × TermSlices (now conditions) (now weights) × GuardSlices (now bounds) (now names) ⌝ }
     requires { ⌜ Runs (rowState (getD (now figures) row []) (getD (now cursors) row [])) (now bounds) × Waits (marks (now sure) (now never) (queue (now nodes) ring)) ⌝ }
-    ensures { λ r. ⌜ ((raw : List Term) → WasRun (thresholdRow (rowOf raw (terms (now (conditions .entry)) (now (weights .entry))) (guards (now (bounds .entry)) (now (names .entry))))
-        (rowState (getD (now (figures .entry)) row []) (getD (now (cursors .entry)) row [])) (marks (now (sure .entry)) (now (never .entry)) (queue (now (nodes .entry)) ring)))
-        (now (figures .entry)) (now (cursors .entry)) row (now (figures .exit)) (now (cursors .exit)) (marks (now (sure .exit)) (now (never .exit)) (queue (now (nodes .exit)) (r .ring))) (r .step)) ⌝ }
+    requires { ⌜ Held 1024 (queue (now items) residuals) × (row < 1024) × (row < length (now pending)) ⌝ }
+    ensures { λ r. ⌜ ((x : Index) (d : Rows) (raw : List Term) → getD (x .rows) row noRow ≡ rowOf raw (terms (now (conditions .entry)) (now (weights .entry))) (guards (now (bounds .entry)) (now (names .entry)))
+        → did (live (statesOf (now (figures .exit)) (now (cursors .exit))) (marks (now (sure .exit)) (now (never .exit)) (queue (now (nodes .exit)) (r .ring))) d (rows (queue (now (items .exit)) (r .residuals)) (now (pending .exit)))) (r .step)
+        ≡ runRow x (live (statesOf (now (figures .entry)) (now (cursors .entry))) (marks (now (sure .entry)) (now (never .entry)) (queue (now (nodes .entry)) ring)) d (rows (queue (now (items .entry)) residuals) (now (pending .entry)))) row) ⌝ }
 {
     let state = load(figures, cursors, row);
+    let left = queue_residual(conditions, weights, state, items, pending, residuals, row);
     let ran = threshold_row(
         conditions,
         weights,
@@ -712,5 +738,6 @@ pub fn run_row(
     Answer {
         step: step,
         ring: next,
+        residuals: left,
     }
 }
