@@ -59,13 +59,16 @@ pub record Did : Type 0 where
 abbrev pub did : Live → Step → Did
 did v k = record { live = v; step = k }
 
+-- A row that wants a residual waits for it.
+abbrev pub residualQueued : Row → State → Rows → ℕ → Rows
+residualQueued row s q r = cond (wantsResidual row s) (queueRow q r) q
+
 -- A row run once, and stored.
 unfoldable pub runRow : Index → Live → ℕ → Did
 runRow x v r =
     let row = getD (x .rows) r noRow in
     let a = thresholdRow row (stateAt v r) (v .marks) in
-    did (live (set (v .states) r (a .state)) (a .marks) (v .dirty) (cond (wantsResidual row (stateAt v r)) (queueRow (v .residuals) r) (v .residuals)))
-    (a .step)
+    did (live (set (v .states) r (a .state)) (a .marks) (v .dirty) (residualQueued row (stateAt v r) (v .residuals) r)) (a .step)
 
 -- The row that holds a moved bound runs, and waits to hand the bound on if it has links.
 unfoldable pub bounded : Index → Live → ℕ → State → Did
@@ -74,7 +77,7 @@ bounded x v r s =
     runRow x (cond (eqb (length (neighbours r (x .links))) 0) moved (withDirty moved r)) r
 
 -- `threshold_guard`: a sure guard raises its row's lower to its bound, a never one lowers its upper.
-unfoldable pub guardState : State → Bool → ℤ → Tightened
+abbrev pub guardState : State → Bool → ℤ → Tightened
 guardState s true b = elim (leZ b (s .lower)) [ true ↦ tight s false | false ↦ tight (withLower s b) true ]
 guardState s false b = elim (upperAtMost (s .upper) b) [ true ↦ tight s false | false ↦ tight (withUpper s (Under b)) true ]
 
@@ -101,14 +104,14 @@ thresholdCondition x v node = conditionFrom x (bit (v .marks .sure) node) (edges
 
 -- The longer row has at least the shorter's lower, the shorter at most the longer's upper; equal rows both. The numbers are
 -- those of the terms of the row that hands on and of the one that takes.
-unfoldable pub movedLower : State → State → ℕ → ℕ → Tightened
+abbrev pub movedLower : State → State → ℕ → ℕ → Tightened
 movedLower source s n k = cond (leb n k && ltZ (s .lower) (source .lower)) (tight (withLower s (source .lower)) true) (tight s false)
 
 abbrev pub under : Upper → Upper → Bool
 under Open u = false
 under (Under a) u = not (upperAtMost u a)
 
-unfoldable pub movedUpper : State → Tightened → ℕ → ℕ → Tightened
+abbrev pub movedUpper : State → Tightened → ℕ → ℕ → Tightened
 movedUpper source t n k = cond (leb k n && under (source .upper) (t .state .upper)) (tight (withUpper (t .state) (source .upper)) true) t
 
 abbrev pub movedState : State → State → ℕ → ℕ → Tightened

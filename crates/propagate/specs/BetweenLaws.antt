@@ -2,64 +2,80 @@
 use Prim.Native.Nat.{ℕ, _≤_, _<_}
 use mathlib.Core.Path.{_≡_, refl, sym, ap, _∙_}
 use mathlib.Core.Bool.{Bool, true, false, not}
+use mathlib.Core.List.{List}
+use lib.ListN.{getD, set}
 use lib.IntN.{ℤ}
 use lib.Signed.{leZ}
 use borrow.Author.Tests.{le-leb, lt-leb, not-true, not-false}
 use Rattle.number.specs.Signed.{nle-ltZ, leZ-nlt}
 use Rattle.state.specs.declared.State.{State}
 use Rattle.state.specs.declared.Upper.the-variants.{Open, Under}
-use Rattle.state.specs.State.{upperAtMost, withLower, withUpper}
+use Rattle.state.specs.State.{noState, upperAtMost, withLower, withUpper}
+use Rattle.state.specs.declared.Step.{Step}
+use Rattle.queues.specs.Queue.{Rows, queueRow}
+use Rattle.queues.specs.Marks.{Marks}
+use Rattle.thresholds.specs.Rows.{Row, noRow}
 use Rattle.propagate.specs.declared.Tightened.{Tightened}
-use Rattle.propagate.specs.Between.{tight, guardState, movedLower, movedUpper, under}
+use Rattle.propagate.specs.Between.{tight, guardState, movedLower, movedUpper, under, Index, live, did, residualQueued, runRow}
+use Rattle.propagate.specs.Row.{Ran, ran, thresholdRow, wantsResidual}
 
 -- A guard's bound: new, or not.
 module _ (s : State) (value : Bool) (b : ℤ) where
   pub guard-raises : value ≡ true → not (leZ b (s .lower)) ≡ true → (t : State) → t ≡ withLower s b → tight t true ≡ guardState s value b
-  unfolding guardState
   guard-raises v h t e = rw (v, guardState, not-true (leZ b (s .lower)) h) (ap (λ (x : State). tight x true) e)
 
   pub guard-reached : value ≡ true → not (leZ b (s .lower)) ≡ false → tight s false ≡ guardState s value b
-  unfolding guardState
   guard-reached v h = rw (v, guardState, not-false (leZ b (s .lower)) h)
 
   pub guard-lowers : value ≡ false → upperAtMost (s .upper) b ≡ false → (t : State) → t ≡ withUpper s (Under b) → tight t true ≡ guardState s value b
-  unfolding guardState
   guard-lowers v h t e = rw (v, guardState, h) (ap (λ (x : State). tight x true) e)
 
   pub guard-limited : value ≡ false → upperAtMost (s .upper) b ≡ true → tight s false ≡ guardState s value b
-  unfolding guardState
   guard-limited v h = rw (v, guardState, h)
 
 -- A neighbour's lower and upper: new, not new, or not for this row.
 module _ (source s : State) (n k : ℕ) where
   pub lower-moves : n ≤ k → not (leZ (source .lower) (s .lower)) ≡ true → (t : State) → t ≡ withLower s (source .lower) → tight t true ≡ movedLower source s n k
-  unfolding movedLower
   lower-moves h g t e =
       rw (le-leb n k h, nle-ltZ (s .lower) (source .lower) (not-true (leZ (source .lower) (s .lower)) g)) (ap (λ (x : State). tight x true) e)
 
   pub lower-stays : n ≤ k → not (leZ (source .lower) (s .lower)) ≡ false → tight s false ≡ movedLower source s n k
-  unfolding movedLower
   lower-stays h g = rw (le-leb n k h, leZ-nlt (s .lower) (source .lower) (not-false (leZ (source .lower) (s .lower)) g))
 
   pub lower-not : k < n → tight s false ≡ movedLower source s n k
-  unfolding movedLower
   lower-not h = rw (lt-leb n k h)
 
 module _ (source : State) (t : Tightened) (n k : ℕ) where
   pub upper-not : n < k → t ≡ movedUpper source t n k
-  unfolding movedUpper
   upper-not h = rw (lt-leb k n h)
 
   module _ (h : k ≤ n) where
     pub upper-none : source .upper ≡ Open → t ≡ movedUpper source t n k
-    unfolding movedUpper
     upper-none e = rw (le-leb k n h, e)
 
     pub upper-stays : (b : ℤ) → source .upper ≡ Under b → upperAtMost (t .state .upper) b ≡ true → t ≡ movedUpper source t n k
-    unfolding movedUpper
     upper-stays b e g = rw (le-leb k n h, e, g)
 
     pub upper-moves : (b : ℤ) → source .upper ≡ Under b → upperAtMost (t .state .upper) b ≡ false
         → (u : State) → u ≡ withUpper (t .state) (Under b) → tight u true ≡ movedUpper source t n k
-    unfolding movedUpper
     upper-moves b e g u f = rw (le-leb k n h, e, g) (ap (λ (x : State). tight x true) f)
+
+-- A residual is queued, or not.
+pub residual-waits : (row : Row) (s : State) (q : Rows) (r : ℕ) → wantsResidual row s ≡ true → queueRow q r ≡ residualQueued row s q r
+residual-waits row s q r h = rw h
+
+pub residual-not : (row : Row) (s : State) (q : Rows) (r : ℕ) → wantsResidual row s ≡ false → q ≡ residualQueued row s q r
+residual-not row s q r h = rw h
+
+-- A run, from the row's parts and what its run gave.
+pub run-made : (x : Index) (ss : List State) (m : Marks) (d q : Rows) (r : ℕ) (row : Row) → getD (x .rows) r noRow ≡ row
+    → (s : State) → getD ss r noState ≡ s → (ss′ : List State) (m′ : Marks) (q′ : Rows) (t : State) (k : Step)
+    → ran t m′ k ≡ thresholdRow row s m → q′ ≡ residualQueued row s q r → ss′ ≡ set ss r t
+    → did (live ss′ m′ d q′) k ≡ runRow x (live ss m d q) r
+unfolding runRow
+run-made x ss m d q r row e s f ss′ m′ q′ t k g h i =
+    let u = g ∙ ap (λ (y : State). thresholdRow row y m) (sym f) ∙ ap (λ (y : Row). thresholdRow y (getD ss r noState) m) (sym e) in
+    let v = h ∙ ap (λ (y : State). residualQueued row y q r) (sym f) ∙ ap (λ (y : Row). residualQueued y (getD ss r noState) q r) (sym e) in
+    ap (λ (y : List State). did (live y m′ d q′) k) i
+    ∙ ap (λ (y : Ran). did (live (set ss r (y .state)) (y .marks) d q′) (y .step)) u
+    ∙ ap (λ (y : Rows). did (live (set ss r (thresholdRow (getD (x .rows) r noRow) (getD ss r noState) m .state)) (thresholdRow (getD (x .rows) r noRow) (getD ss r noState) m .marks) d y) (thresholdRow (getD (x .rows) r noRow) (getD ss r noState) m .step)) v

@@ -6,3 +6,4 @@ pub mod Row
 pub mod RowLaws
 pub mod Between
 pub mod BetweenLaws
+pub mod Numbers

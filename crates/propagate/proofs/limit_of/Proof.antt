@@ -1,0 +1,26 @@
+-- `propagate::limit_of` meets its contract.
+use mathlib.Core.Path.{_≡_, sym, ap, _∙_}
+use mir.Syntax.{w64}
+use mir.Val.{toZ, ofZ}
+use Rattle.state.specs.State.{limit}
+use borrow.Author.Needs.{needs}
+use Rattle.propagate.proofs.limit_of.Statement.{statement}
+use Rattle.propagate.proofs.limit_of.Tie as tie
+
+enum-told : tie.Need-enum-told
+enum-told c = search needs
+
+enum-known-upper : tie.Need-enum-known-upper
+enum-known-upper c = search needs
+
+returns : tie.Need-returns
+returns c = sym (ap limit (c .enum-told .given .1))
+
+returns-2 : tie.Need-returns-2
+returns-2 c =
+    let u = c .before .upper .given in
+    let hu : toZ w64 (ofZ w64 (u .0 .0)) ≡ u .0 .0 = search needs in
+    hu ∙ sym (ap limit (u .1))
+
+pub limit-of-spec : {M : Type 1} → statement M
+limit-of-spec = tie.close (tie.spec enum-told enum-known-upper returns returns-2)

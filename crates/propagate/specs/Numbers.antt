@@ -1,0 +1,70 @@
+-- Row states as the buffers hold them: four figures, and four cursors with a flag for the upper.
+use Prim.Native.Nat.{ℕ, zero, suc, _≤_, _<_}
+use native.Mathlib.Nat.{not-suc-le-zero, le-of-suc-le-suc}
+use mathlib.Core.Path.{_≡_, refl, ap, _∙_}
+use mathlib.Core.Bool.{cond}
+use mathlib.Core.List.{List, [], _∷_}
+use lib.ListN.{length, getD, set}
+use lib.Dec.{eqb}
+use lib.IntN.{ℤ, pos}
+use Rattle.state.specs.declared.State.{State}
+use Rattle.state.specs.declared.Upper.{Upper}
+use Rattle.state.specs.declared.Upper.the-variants.{Open, Under}
+use Rattle.state.specs.State.{stateOf, noState, limit, limited}
+use Rattle.propagate.specs.Shape.{Figures}
+
+abbrev pub figuresOf : State → List ℤ
+figuresOf s = s .known ∷ s .possible ∷ s .lower ∷ limit (s .upper) ∷ []
+
+abbrev pub cursorsOf : State → List ℕ
+cursorsOf s = s .«sure_guard» ∷ s .«never_guard» ∷ s .«true_term» ∷ s .«false_term» ∷ cond (limited (s .upper)) 1 0 ∷ []
+
+abbrev pub upperOf : ℕ → ℤ → Upper
+upperOf flag z = cond (eqb flag 1) (Under z) Open
+
+unfoldable pub rowState : List ℤ → List ℕ → State
+rowState f c =
+    stateOf (getD f 0 (pos 0)) (getD f 1 (pos 0)) (getD f 2 (pos 0)) (upperOf (getD c 4 0) (getD f 3 (pos 0))) (getD c 0 0) (getD c 1 0) (getD c 2 0) (getD c 3 0)
+
+-- What is stored is what is read again.
+pub stored-read : (s : State) → rowState (figuresOf s) (cursorsOf s) ≡ s
+unfolding rowState
+stored-read s = by (s .upper)
+  where
+    by : (u : Upper) → rowState (s .known ∷ s .possible ∷ s .lower ∷ limit u ∷ []) (s .«sure_guard» ∷ s .«never_guard» ∷ s .«true_term» ∷ s .«false_term» ∷ cond (limited u) 1 0 ∷ [])
+        ≡ stateOf (s .known) (s .possible) (s .lower) u (s .«sure_guard») (s .«never_guard») (s .«true_term») (s .«false_term»)
+    by Open = refl
+    by (Under b) = refl
+
+-- A state that can be run: its figures' differences fit, and its cursor from above stands in the list.
+pub record Runs (s : State) (bounds : List ℤ) : Type 0 where
+  pub figures : Figures s
+  pub inside : s .«never_guard» ≤ length bounds
+
+pub runs-by : (s t : State) (bounds : List ℤ) → s ≡ t → Runs t bounds → Runs s bounds
+runs-by s t bounds e r = rw e r
+
+-- All states that the buffers hold.
+unfoldable pub statesOf : List (List ℤ) → List (List ℕ) → List State
+statesOf [] cs = []
+statesOf (f ∷ fs) [] = []
+statesOf (f ∷ fs) (c ∷ cs) = rowState f c ∷ statesOf fs cs
+
+pub states-at : (fs : List (List ℤ)) (cs : List (List ℕ)) (r : ℕ) → r < length fs → r < length cs → getD (statesOf fs cs) r noState ≡ rowState (getD fs r []) (getD cs r [])
+unfolding statesOf
+states-at [] cs r h k = absurd (not-suc-le-zero h)
+states-at (f ∷ fs) [] r h k = absurd (not-suc-le-zero k)
+states-at (f ∷ fs) (c ∷ cs) zero h k = refl
+states-at (f ∷ fs) (c ∷ cs) (suc r) h k = states-at fs cs r (le-of-suc-le-suc h) (le-of-suc-le-suc k)
+
+-- A state that is stored in both is stored among them.
+pub states-set : (fs fs′ : List (List ℤ)) (cs cs′ : List (List ℕ)) (r : ℕ) (s : State) → r < length fs → r < length cs
+    → fs′ ≡ set fs r (figuresOf s) → cs′ ≡ set cs r (cursorsOf s) → statesOf fs′ cs′ ≡ set (statesOf fs cs) r s
+unfolding statesOf
+states-set fs fs′ cs cs′ r s h k e f = ap (λ (y : List (List ℤ)). statesOf y cs′) e ∙ ap (statesOf (set fs r (figuresOf s))) f ∙ go fs cs r h k
+  where
+    go : (gs : List (List ℤ)) (ds : List (List ℕ)) (i : ℕ) → i < length gs → i < length ds → statesOf (set gs i (figuresOf s)) (set ds i (cursorsOf s)) ≡ set (statesOf gs ds) i s
+    go [] ds i a b = absurd (not-suc-le-zero a)
+    go (g ∷ gs) [] i a b = absurd (not-suc-le-zero b)
+    go (g ∷ gs) (d ∷ ds) zero a b = ap (λ (y : State). y ∷ statesOf gs ds) (stored-read s)
+    go (g ∷ gs) (d ∷ ds) (suc i) a b = ap (λ (y : List State). rowState g d ∷ y) (go gs ds i (le-of-suc-le-suc a) (le-of-suc-le-suc b))
