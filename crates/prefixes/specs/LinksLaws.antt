@@ -63,11 +63,11 @@ module _ (rs : List Row) (ls : List Link) where
   Tower [] = Unit {0}
   Tower (a ∷ more) = ((b : ℕ) → List·Memᴰ b more → (length (termsAt rs b) < length (termsAt rs a)) × Climbs rs ls b a) × Tower more
 
-  pop : (c a : ℕ) (more : List ℕ) → ltb c (length (termsAt rs a)) ≡ true → ancestors rs c (a ∷ more) ≡ ancestors rs c more
+  pub pop : (c a : ℕ) (more : List ℕ) → ltb c (length (termsAt rs a)) ≡ true → ancestors rs c (a ∷ more) ≡ ancestors rs c more
   unfolding ancestors
   pop c a more e = rw (e, ancestors)
 
-  keep : (c a : ℕ) (more : List ℕ) → ltb c (length (termsAt rs a)) ≡ false → ancestors rs c (a ∷ more) ≡ a ∷ more
+  pub keep : (c a : ℕ) (more : List ℕ) → ltb c (length (termsAt rs a)) ≡ false → ancestors rs c (a ∷ more) ≡ a ∷ more
   unfolding ancestors
   keep c a more e = rw (e, ancestors)
 
@@ -166,11 +166,11 @@ module _ (rs : List Row) (ls : List Link) where
       by c (inl e) = rw e top
       by c (inr i) = onward (k .tower .0 c i .1) top
 
-  replaced : (r a : ℕ) (more : List ℕ) → eqb (length (termsAt rs a)) (length (termsAt rs r)) ≡ true → stacked rs r (a ∷ more) ≡ r ∷ more
+  pub replaced : (r a : ℕ) (more : List ℕ) → eqb (length (termsAt rs a)) (length (termsAt rs r)) ≡ true → stacked rs r (a ∷ more) ≡ r ∷ more
   unfolding stacked
   replaced r a more e = rw (e, stacked)
 
-  topped : (r a : ℕ) (more : List ℕ) → eqb (length (termsAt rs a)) (length (termsAt rs r)) ≡ false → stacked rs r (a ∷ more) ≡ r ∷ a ∷ more
+  pub topped : (r a : ℕ) (more : List ℕ) → eqb (length (termsAt rs a)) (length (termsAt rs r)) ≡ false → stacked rs r (a ∷ more) ≡ r ∷ a ∷ more
   unfolding stacked
   topped r a more e = rw (e, stacked)
 
@@ -420,7 +420,7 @@ module _ (rs : List Row) where
       rw (ap (λ (l : Link). l .prefix) q, ap (λ (l : Link). l .extension) q) (f a (List·Memᴰ·head refl), h)
 
   -- what holds of the rows and of the stack holds of both ends of each link
-  from-range : (P : ℕ → Type 0) (order : List ℕ) (previous : List Term) (st : List ℕ) → ((x : ℕ) → List·Memᴰ x order → P x) → ((x : ℕ) → List·Memᴰ x st → P x)
+  pub from-range : (P : ℕ → Type 0) (order : List ℕ) (previous : List Term) (st : List ℕ) → ((x : ℕ) → List·Memᴰ x order → P x) → ((x : ℕ) → List·Memᴰ x st → P x)
       → (p e : ℕ) → List·Memᴰ (link p e) (linksFrom rs order previous st) → P p × P e
   unfolding linksFrom
   from-range P [] previous st f g p e i = absurd (List·Memᴰ·not-nil i)
