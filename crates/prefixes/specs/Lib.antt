@@ -13,3 +13,4 @@ pub mod PassLaws
 pub mod Neighbours
 pub mod NeighboursLaws
 pub mod PrepareLaws
+pub mod ChainLaws

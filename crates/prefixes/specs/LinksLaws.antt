@@ -3,18 +3,19 @@
 use Prim.Native.Nat.{ℕ, suc, _+_, _-_, _<_, _≤_}
 use native.Mathlib.Omega.{arith}
 use native.Mathlib.Decide.{ℕ-discrete}
-use mathlib.Core.Path.{_≡_, refl, sym, ap, _∙_}
+use mathlib.Core.Path.{_≡_, refl, sym, ap, ap₂, _∙_}
 use mathlib.Core.Logic.{_⊎_, _↔_, inl, inr, ⊎-elim}
 use mathlib.Core.Bool.{Bool, true, false}
 use mathlib.Core.List.{List, [], _∷_, _++_, map, List·Memᴰ, List·Memᴰ·head, List·Memᴰ·tail, List·Memᴰ·cases-cons, List·Memᴰ·not-nil, List·Memᴰ·append-cases, List·Memᴰ·eq-of-singleton, Memᴰ·append-left, Memᴰ·append-right}
 use borrow.Author.Tests.{ltb-true, ltb-false, eqb-true, eqb-false, eq-eqb, ne-eqb}
 use lib.Dec.{eqb, ltb}
 use lib.ListN.{length, length-append}
+use Rattle.lists.specs.Laid.{numbers}
 use Rattle.numeric.specs.Threshold.{Term}
 use Rattle.thresholds.specs.Rows.{Row}
-use Rattle.prefixes.specs.Links.{termsAt, notAfter, orderFrom, common, Link, ancestors, stacked, linked, linksFrom, links, neighbours}
+use Rattle.prefixes.specs.Links.{termsAt, notAfter, orderFrom, common, Link, ancestors, stacked, linked, linksFrom, links, neighbours, neighbourLists}
 use Rattle.prefixes.specs.WordsLaws.{Starts, starts-common, common-starts, common-sym, common-left, common-right, common-through, common-between, common-back, common-self, notAfter-refl, notAfter-trans}
-use Rattle.prefixes.specs.OrderLaws.{Rising, Distinct, order-rising, order-has, order-range, order-length, order-distinct}
+use Rattle.prefixes.specs.OrderLaws.{Rising, Distinct, order-rising, order-has, order-range, order-length, order-distinct, order-same}
 
 abbrev pub link : ℕ → ℕ → Link
 link p e = record { prefix = p; extension = e }
@@ -62,11 +63,11 @@ module _ (rs : List Row) (ls : List Link) where
   Tower [] = Unit {0}
   Tower (a ∷ more) = ((b : ℕ) → List·Memᴰ b more → (length (termsAt rs b) < length (termsAt rs a)) × Climbs rs ls b a) × Tower more
 
-  pop : (c a : ℕ) (more : List ℕ) → ltb c (length (termsAt rs a)) ≡ true → ancestors rs c (a ∷ more) ≡ ancestors rs c more
+  pub pop : (c a : ℕ) (more : List ℕ) → ltb c (length (termsAt rs a)) ≡ true → ancestors rs c (a ∷ more) ≡ ancestors rs c more
   unfolding ancestors
   pop c a more e = rw (e, ancestors)
 
-  keep : (c a : ℕ) (more : List ℕ) → ltb c (length (termsAt rs a)) ≡ false → ancestors rs c (a ∷ more) ≡ a ∷ more
+  pub keep : (c a : ℕ) (more : List ℕ) → ltb c (length (termsAt rs a)) ≡ false → ancestors rs c (a ∷ more) ≡ a ∷ more
   unfolding ancestors
   keep c a more e = rw (e, ancestors)
 
@@ -165,11 +166,11 @@ module _ (rs : List Row) (ls : List Link) where
       by c (inl e) = rw e top
       by c (inr i) = onward (k .tower .0 c i .1) top
 
-  replaced : (r a : ℕ) (more : List ℕ) → eqb (length (termsAt rs a)) (length (termsAt rs r)) ≡ true → stacked rs r (a ∷ more) ≡ r ∷ more
+  pub replaced : (r a : ℕ) (more : List ℕ) → eqb (length (termsAt rs a)) (length (termsAt rs r)) ≡ true → stacked rs r (a ∷ more) ≡ r ∷ more
   unfolding stacked
   replaced r a more e = rw (e, stacked)
 
-  topped : (r a : ℕ) (more : List ℕ) → eqb (length (termsAt rs a)) (length (termsAt rs r)) ≡ false → stacked rs r (a ∷ more) ≡ r ∷ a ∷ more
+  pub topped : (r a : ℕ) (more : List ℕ) → eqb (length (termsAt rs a)) (length (termsAt rs r)) ≡ false → stacked rs r (a ∷ more) ≡ r ∷ a ∷ more
   unfolding stacked
   topped r a more e = rw (e, stacked)
 
@@ -419,7 +420,7 @@ module _ (rs : List Row) where
       rw (ap (λ (l : Link). l .prefix) q, ap (λ (l : Link). l .extension) q) (f a (List·Memᴰ·head refl), h)
 
   -- what holds of the rows and of the stack holds of both ends of each link
-  from-range : (P : ℕ → Type 0) (order : List ℕ) (previous : List Term) (st : List ℕ) → ((x : ℕ) → List·Memᴰ x order → P x) → ((x : ℕ) → List·Memᴰ x st → P x)
+  pub from-range : (P : ℕ → Type 0) (order : List ℕ) (previous : List Term) (st : List ℕ) → ((x : ℕ) → List·Memᴰ x order → P x) → ((x : ℕ) → List·Memᴰ x st → P x)
       → (p e : ℕ) → List·Memᴰ (link p e) (linksFrom rs order previous st) → P p × P e
   unfolding linksFrom
   from-range P [] previous st f g p e i = absurd (List·Memᴰ·not-nil i)
@@ -570,3 +571,54 @@ neighbours-both r q ls i = let j = neighbours-joined r q ls i in joined-neighbou
     turned : (l : Link) → Joined r q l → Joined q r l
     turned l (downward e f) = upward f e
     turned l (upward e f) = downward f e
+
+-- ---- rows with the same terms have the same links: raw lists and guards play no part
+
+module _ (rs rs′ : List Row) (same : (r : ℕ) → termsAt rs r ≡ termsAt rs′ r) where
+  long : (a : ℕ) → length (termsAt rs a) ≡ length (termsAt rs′ a)
+  long a = ap length (same a)
+
+  ancestors-same : (c : ℕ) (st : List ℕ) → ancestors rs c st ≡ ancestors rs′ c st
+  unfolding ancestors
+  ancestors-same c [] = refl
+  ancestors-same c (a ∷ more) = by (ancestors-same c more) (ltb c (length (termsAt rs a))) refl
+    where
+      by : ancestors rs c more ≡ ancestors rs′ c more → (b : Bool) → ltb c (length (termsAt rs a)) ≡ b → ancestors rs c (a ∷ more) ≡ ancestors rs′ c (a ∷ more)
+      by ih true e = pop rs [] c a more e ∙ ih ∙ sym (pop rs′ [] c a more (ap (ltb c) (sym (long a)) ∙ e))
+      by ih false e = keep rs [] c a more e ∙ sym (keep rs′ [] c a more (ap (ltb c) (sym (long a)) ∙ e))
+
+  stacked-same : (r : ℕ) (st : List ℕ) → stacked rs r st ≡ stacked rs′ r st
+  unfolding stacked
+  stacked-same r [] = refl
+  stacked-same r (a ∷ more) = by (eqb (length (termsAt rs a)) (length (termsAt rs r))) refl
+    where
+      moved : eqb (length (termsAt rs′ a)) (length (termsAt rs′ r)) ≡ eqb (length (termsAt rs a)) (length (termsAt rs r))
+      moved = ap₂ eqb (sym (long a)) (sym (long r))
+
+      by : (b : Bool) → eqb (length (termsAt rs a)) (length (termsAt rs r)) ≡ b → stacked rs r (a ∷ more) ≡ stacked rs′ r (a ∷ more)
+      by true e = replaced rs [] r a more e ∙ sym (replaced rs′ [] r a more (moved ∙ e))
+      by false e = topped rs [] r a more e ∙ sym (topped rs′ [] r a more (moved ∙ e))
+
+  from-same : (order : List ℕ) (p : List Term) (st : List ℕ) → linksFrom rs order p st ≡ linksFrom rs′ order p st
+  unfolding linksFrom
+  from-same [] p st = refl
+  from-same (r ∷ more) p st =
+      ap₂ (λ (k : List ℕ) (l : List Link). linked r k ++ l) kept-same
+      (ap (λ (k : List ℕ). linksFrom rs more (termsAt rs r) k) (stacked-same r kept ∙ ap (stacked rs′ r) kept-same)
+      ∙ from-same more (termsAt rs r) (stacked rs′ r kept′) ∙ ap (λ (t : List Term). linksFrom rs′ more t (stacked rs′ r kept′)) (same r))
+    where
+      kept : List ℕ
+      kept = ancestors rs (common p (termsAt rs r)) st
+
+      kept′ : List ℕ
+      kept′ = ancestors rs′ (common p (termsAt rs′ r)) st
+
+      kept-same : kept ≡ kept′
+      kept-same = ancestors-same (common p (termsAt rs r)) st ∙ ap (λ (t : List Term). ancestors rs′ (common p t) st) (same r)
+
+  pub links-same : length rs ≡ length rs′ → links rs ≡ links rs′
+  unfolding links
+  links-same e = ap (λ (o : List ℕ). linksFrom rs o [] []) (order-same rs rs′ same 0 rs rs′ e) ∙ from-same (orderFrom rs′ 0 rs′) [] []
+
+  pub neighbourLists-same : length rs ≡ length rs′ → neighbourLists rs ≡ neighbourLists rs′
+  neighbourLists-same e = ap₂ (λ (ls : List Link) (n : ℕ). map (λ (r : ℕ). neighbours r ls) (numbers 0 n)) (links-same e) e

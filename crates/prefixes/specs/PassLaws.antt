@@ -9,8 +9,8 @@ use mathlib.Core.Bool.{Bool, true, false}
 use mathlib.Core.List.{List, [], _∷_, _++_, map, append-assoc, append-nil, List·Memᴰ, List·Memᴰ·head, List·Memᴰ·tail, List·Memᴰ·cases-cons, List·Memᴰ·not-nil}
 use borrow.Author.Tests.{lt-ltb, le-ltb, eq-eqb, ne-eqb}
 use lib.Dec.{eqb, ltb}
-use lib.ListN.{length, getD, set, drop, length-set, drop-of-length-le, length-replicate, getD-replicate}
-use lib.Seq.{drop-cons, getD-set-same, getD-set-other}
+use lib.ListN.{length, getD, set, take, drop, length-set, drop-of-length-le, length-replicate, getD-replicate}
+use lib.Seq.{drop-cons, getD-set-same, getD-set-other, getD-take}
 use Rattle.numeric.specs.Threshold.{Term}
 use Rattle.thresholds.specs.Rows.{Row}
 use Rattle.prefixes.specs.Links.{Link, termsAt, common, orderFrom, ancestors, stacked, linked, linksFrom, links}
@@ -22,7 +22,7 @@ use Rattle.prefixes.specs.HeldLaws.{held-terms, held-length, stretch-len
 use Rattle.lists.specs.Laid.{numbers}
 use Rattle.prefixes.specs.Merge.{orderBy, laid}
 use Rattle.prefixes.specs.MergeLaws.{order-by}
-use Rattle.prefixes.specs.LaidLaws.{laid-none, laid-length, laid-below, laid-at, laid-behind, same-words}
+use Rattle.prefixes.specs.LaidLaws.{laid-none, laid-length, laid-below, laid-at, laid-behind, slice-below, slice-laid, same-words}
 use Rattle.prefixes.specs.SortLaws.{zeros}
 use Rattle.prefixes.specs.Pass.{Chain, lengthAt, keptBy, underBy, depth, Falling, Rises, named, linkWord, headWord, Popped, Under}
 
@@ -251,7 +251,7 @@ module _ (rs : List Row) (L : ℕ → ℕ) where
 
 -- ---- distinct numbers, by place
 
-mem-at : (l : List ℕ) (i : ℕ) → i < length l → List·Memᴰ (getD l i 0) l
+pub mem-at : (l : List ℕ) (i : ℕ) → i < length l → List·Memᴰ (getD l i 0) l
 mem-at [] i h = absurd (omega arith)
 mem-at (x ∷ l) zero h = List·Memᴰ·head refl
 mem-at (x ∷ l) (suc i) h = List·Memᴰ·tail (mem-at l i (omega arith))
@@ -677,3 +677,33 @@ module _ (rows : List (List ℕ)) (cs ws : List ℕ) (s₀ : List ℕ) (clear : 
 
     pub held-room : (s₂ : List ℕ) → Linked (heldRows rows cs ws (length rows)) (length rows) s₁ s₂ → 3072 ≤ length s₂
     held-room s₂ l = omega (arith, held-ready .room, l .sized)
+
+-- ---- reading the words with links
+
+module _ (rs : List Row) (s₀ : List ℕ) (clear : Clear s₀) (small : length rs ≤ 1024) where
+  pub with-length : length (withLinks rs s₀) ≡ length s₀
+  with-length = laid-length (laid s₀ 0 (orderFrom rs 0 rs)) 1024 (linkWords rs) (words-room rs s₀ clear small) ∙ laid-order-length rs s₀ clear small
+
+  pub with-take : take (length rs) (withLinks rs s₀) ≡ orderFrom rs 0 rs
+  with-take =
+      slice-below (laid s₀ 0 (orderFrom rs 0 rs)) 1024 (linkWords rs) (words-room rs s₀ clear small) 0 (length rs) small
+      ∙ slice-laid s₀ 0 (orderFrom rs 0 rs) (order-room rs s₀ clear small) (length rs) (omega (arith, order-length rs 0 rs))
+
+  pub with-order : (k : ℕ) → k < length rs → getD (withLinks rs s₀) k 0 ≡ getD (orderFrom rs 0 rs) k 0
+  with-order k h = sym (getD-take (length rs) (withLinks rs s₀) k 0 h) ∙ ap (λ (l : List ℕ). getD l k 0) with-take
+
+  pub with-row : (k : ℕ) → k < length rs → getD (withLinks rs s₀) k 0 < length rs
+  with-row k h =
+      let m = order-range rs 0 rs (getD (orderFrom rs 0 rs) k 0) (mem-at (orderFrom rs 0 rs) k (omega (arith, order-length rs 0 rs))) in
+      omega (arith, with-order k h)
+
+  pub with-word : (x : ℕ) → x < length rs → getD (withLinks rs s₀) (1024 + x) 0 ≡ linkWord x (links rs)
+  with-word x h =
+      let e : 1024 + x - 1024 ≡ x = omega arith in
+      laid-at (laid s₀ 0 (orderFrom rs 0 rs)) 1024 (linkWords rs) (words-room rs s₀ clear small) (1024 + x) (omega arith) (omega (arith, words-length rs s₀ clear small))
+      ∙ ap (λ (n : ℕ). getD (linkWords rs) n 0) e ∙ word-of rs s₀ clear small x h
+
+  pub with-behind : (x : ℕ) → 2048 ≤ x → getD (withLinks rs s₀) x 0 ≡ getD s₀ x 0
+  with-behind x h =
+      laid-behind (laid s₀ 0 (orderFrom rs 0 rs)) 1024 (linkWords rs) (words-room rs s₀ clear small) x (omega (arith, words-length rs s₀ clear small))
+      ∙ laid-behind s₀ 0 (orderFrom rs 0 rs) (order-room rs s₀ clear small) x (omega (arith, order-length rs 0 rs))
