@@ -9,7 +9,7 @@ use mathlib.Core.List.{List, [], _∷_, _++_, map}
 use lib.ListN.{length, take, drop, getD, drop-of-length-le, length-take, length-drop}
 use lib.Seq.{drop-cons, drop-length}
 use lib.Dec.{eqb, ltb, lit<}
-use borrow.Author.Tests.{eqb-true, eq-eqb, ne-eqb, lt-ltb, le-ltb}
+use borrow.Author.Tests.{eqb-true, eq-eqb, ne-eqb, lt-ltb, le-ltb, ltb-false}
 use Rattle.numeric.specs.Threshold.{Term, term, terms}
 use Rattle.row.specs.Terms.{sameTerms, total}
 use Rattle.thresholds.specs.Rows.{Row, rowNumber, hasNonunit}
@@ -195,3 +195,32 @@ pub list-is : (r : Raw) (t a e : ℕ) → a ≡ startOf (r .thresholds) t → e 
     → terms (stretch a e (r .conditions)) (stretch a e (r .weights)) ≡ listAt r t
 unfolding listAt
 list-is r t a e p q = rw (p, q, listAt)
+
+-- ---- what was found
+
+pub found-is : (n m k : ℕ) → foundOf n m ≡ At k → k ≡ n
+found-is n m k e = by (ltb n m) e
+  where
+    by : (b : Bool) → cond b (At n) Nothing ≡ At k → k ≡ n
+    by true q = cc
+    by false q = absurd (let z : _≡_ {A = ℕ} 0 1 = cc in omega arith)
+
+pub found-none : (n m : ℕ) → n ≤ m → foundOf n m ≡ Nothing → m ≡ n
+found-none n m h e = by (ltb n m) refl
+  where
+    by : (b : Bool) → ltb n m ≡ b → m ≡ n
+    by true q = absurd (let r = rw q at e in let z : _≡_ {A = ℕ} 0 1 = cc in omega arith)
+    by false q = let r = ltb-false n m q in omega arith
+
+pub number-most : (ls : List (List Term)) (x : List Term) → numberIn ls x ≤ length ls
+unfolding numberIn
+number-most [] x = omega arith
+number-most (l ∷ ls) x = by (number-most ls x) (sameTerms l x) refl
+  where
+    by : numberIn ls x ≤ length ls → (b : Bool) → sameTerms l x ≡ b → numberIn (l ∷ ls) x ≤ length (l ∷ ls)
+    by ih true e = rw (e, numberIn) (omega arith)
+    by ih false e = rw (e, numberIn) (omega arith)
+
+pub length-marked : (r : Raw) (marks : List ℕ) → length (map (markedList r) marks) ≡ length marks
+length-marked r [] = refl
+length-marked r (m ∷ marks) = ap suc (length-marked r marks)

@@ -127,3 +127,75 @@ guards-place f t (r ∷ rs) k = by (λ j. guards-place f t rs j) (sameTerms (r .
             go : (b : Bool) → eqb n m ≡ b → eqb (1 + n) (suc m) ≡ b
             go true q = eq-eqb (1 + n) (suc m) (let z = eqb-true n m q in omega arith)
             go false q = ne-eqb (1 + n) (suc m) (λ z. eqb-false n m q (omega arith))
+
+-- ---- a row keeps its number
+
+number-place : (t : Threshold) (rs : List Row) → rowNumber (place t rs) (t .terms) ≡ rowNumber rs (t .terms)
+unfolding place rowNumber
+number-place t [] = rw (same-refl (t .terms), rowNumber)
+number-place t (r ∷ rs) = by (number-place t rs) (sameTerms (r .raw) (t .terms)) refl
+  where
+    by : rowNumber (place t rs) (t .terms) ≡ rowNumber rs (t .terms) → (b : Bool) → sameTerms (r .raw) (t .terms) ≡ b
+        → rowNumber (place t (r ∷ rs)) (t .terms) ≡ rowNumber (r ∷ rs) (t .terms)
+    by ih true e = rw (e, place, rowNumber) (rw (e, rowNumber))
+    by ih false e = rw (e, place, rowNumber) (rw (e, rowNumber) (ap (λ (n : ℕ). 1 + n) ih))
+
+-- its threshold's row is there
+number-there : (t : Threshold) (rs : List Row) → rowNumber (place t rs) (t .terms) < length (place t rs)
+unfolding place rowNumber
+number-there t [] = rw (same-refl (t .terms), rowNumber) (omega arith)
+number-there t (r ∷ rs) = by (number-there t rs) (sameTerms (r .raw) (t .terms)) refl
+  where
+    by : rowNumber (place t rs) (t .terms) < length (place t rs) → (b : Bool) → sameTerms (r .raw) (t .terms) ≡ b
+        → rowNumber (place t (r ∷ rs)) (t .terms) < length (place t (r ∷ rs))
+    by ih true e = rw (e, place) (rw (e, rowNumber) (omega arith))
+    by ih false e = rw (e, place) (rw (e, rowNumber) (omega arith))
+
+number-kept : (t : Threshold) (rs : List Row) (x : List Term) → rowNumber rs x < length rs
+    → (rowNumber (place t rs) x ≡ rowNumber rs x) × (rowNumber (place t rs) x < length (place t rs))
+unfolding place rowNumber
+number-kept t [] x h = absurd (not-suc-le-zero h)
+number-kept t (r ∷ rs) x h = by (λ q. number-kept t rs x q) (sameTerms (r .raw) (t .terms)) refl (sameTerms (r .raw) x) refl
+  where
+    by : (rowNumber rs x < length rs → (rowNumber (place t rs) x ≡ rowNumber rs x) × (rowNumber (place t rs) x < length (place t rs)))
+        → (b : Bool) → sameTerms (r .raw) (t .terms) ≡ b → (d : Bool) → sameTerms (r .raw) x ≡ d
+        → (rowNumber (place t (r ∷ rs)) x ≡ rowNumber (r ∷ rs) x) × (rowNumber (place t (r ∷ rs)) x < length (place t (r ∷ rs)))
+    by ih true e true f = rw (e, place) (rw (f, rowNumber) (refl, omega arith))
+    by ih true e false f =
+        let g : 1 + rowNumber rs x < suc (length rs) = rw (f, rowNumber) at h in
+        rw (e, place) (rw (f, rowNumber) (refl, g))
+    by ih false e true f = rw (e, place) (rw (f, rowNumber) (refl, omega arith))
+    by ih false e false f =
+        let g : 1 + rowNumber rs x < suc (length rs) = rw (f, rowNumber) at h in
+        let q = ih (omega arith) in
+        rw (e, place) (rw (f, rowNumber) (ap (λ (n : ℕ). 1 + n) (q .0), (let z = q .1 in omega arith)))
+
+-- A ROW KEEPS ITS NUMBER, WHATEVER COMES AFTER.
+pub number-all : (ts : List Threshold) (rs : List Row) (x : List Term) → rowNumber rs x < length rs → rowNumber (placeAll ts rs) x ≡ rowNumber rs x
+unfolding placeAll
+number-all [] rs x h = refl
+number-all (t ∷ ts) rs x h =
+    let q = number-kept t rs x h in
+    number-all ts (place t rs) x (q .1) ∙ q .0
+
+-- What all thresholds add to row k.
+unfoldable pub shares : (Guard → ℕ) → ℕ → List Row → List Threshold → ℕ
+shares f k rs [] = 0
+shares f k rs (t ∷ ts) = share f k (rowNumber rs (t .terms)) t + shares f k rs ts
+
+pub guards-from : (f : Guard → ℕ) (ts : List Threshold) (rs : List Row) (k : ℕ)
+    → sumOf f (guardsAt (placeAll ts rs) k) ≡ shares f k (placeAll ts rs) ts + sumOf f (guardsAt rs k)
+unfolding placeAll shares
+guards-from f [] rs k = sym (zero-add (sumOf f (guardsAt rs k)))
+guards-from f (t ∷ ts) rs k =
+    let n = number-all ts (place t rs) (t .terms) (number-there t rs) ∙ number-place t rs in
+    let a = guards-from f ts (place t rs) k in
+    let b = guards-place f t rs k in
+    let c = ap (λ (m : ℕ). share f k m t) (sym n) in
+    omega arith
+
+-- EVERY THRESHOLD IS A GUARD OF THE ROW THAT IS NUMBERED BY ITS RAW LIST, ONCE, AND OF NO OTHER: by any measure of guards, those of
+-- row k are worth what the thresholds of row k are.
+pub guards-once : (f : Guard → ℕ) (ts : List Threshold) (k : ℕ) → sumOf f (guardsAt (placeAll ts []) k) ≡ shares f k (placeAll ts []) ts
+unfolding sumOf
+guards-once f ts k = guards-from f ts [] k ∙ add-zero (shares f k (placeAll ts []) ts)
