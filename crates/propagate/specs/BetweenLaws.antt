@@ -1,12 +1,14 @@
 -- What moves between rows, case by case as the code tells them apart. Assumes nothing.
 use Prim.Native.Nat.{ℕ, _≤_, _<_}
 use mathlib.Core.Path.{_≡_, refl, sym, ap, _∙_}
+use mathlib.Core.Logic.{_≢_}
 use mathlib.Core.Bool.{Bool, true, false, not}
 use mathlib.Core.List.{List}
-use lib.ListN.{getD, set}
+use lib.ListN.{length, getD, set}
+use Rattle.prefixes.specs.Links.{neighbours}
 use lib.IntN.{ℤ}
 use lib.Signed.{leZ}
-use borrow.Author.Tests.{le-leb, lt-leb, not-true, not-false}
+use borrow.Author.Tests.{eq-eqb, ne-eqb, le-leb, lt-leb, not-true, not-false}
 use Rattle.number.specs.Signed.{nle-ltZ, leZ-nlt}
 use Rattle.state.specs.declared.State.{State}
 use Rattle.state.specs.declared.Upper.the-variants.{Open, Under}
@@ -16,7 +18,7 @@ use Rattle.queues.specs.Queue.{Rows, queueRow}
 use Rattle.queues.specs.Marks.{Marks}
 use Rattle.thresholds.specs.Rows.{Row, noRow}
 use Rattle.propagate.specs.declared.Tightened.{Tightened}
-use Rattle.propagate.specs.Between.{tight, guardState, movedLower, movedUpper, under, Index, live, did, residualQueued, runRow}
+use Rattle.propagate.specs.Between.{tight, guardState, movedLower, movedUpper, under, Index, live, did, residualQueued, linkedQueued, Did, runRow, bounded}
 use Rattle.propagate.specs.Row.{Ran, ran, thresholdRow, wantsResidual}
 
 -- A guard's bound: new, or not.
@@ -79,3 +81,18 @@ run-made x ss m d q r row e s f ss′ m′ q′ t k g h i =
     ap (λ (y : List State). did (live y m′ d q′) k) i
     ∙ ap (λ (y : Ran). did (live (set ss r (y .state)) (y .marks) d q′) (y .step)) u
     ∙ ap (λ (y : Rows). did (live (set ss r (thresholdRow (getD (x .rows) r noRow) (getD ss r noState) m .state)) (thresholdRow (getD (x .rows) r noRow) (getD ss r noState) m .marks) d y) (thresholdRow (getD (x .rows) r noRow) (getD ss r noState) m .step)) v
+
+-- A row with links waits.
+pub linked-waits : (n : ℕ) (q : Rows) (r : ℕ) → n ≢ 0 → queueRow q r ≡ linkedQueued n q r
+linked-waits n q r h = rw (ne-eqb n 0 h)
+
+pub linked-not : (n : ℕ) (q : Rows) (r : ℕ) → n ≡ 0 → q ≡ linkedQueued n q r
+linked-not n q r h = rw (eq-eqb n 0 h)
+
+-- A moved bound: stored, handed on, and run.
+pub bounded-made : (x : Index) (ss ss′ : List State) (m : Marks) (d d′ q : Rows) (r : ℕ) (s : State) (n : ℕ) → length (neighbours r (x .links)) ≡ n
+    → ss′ ≡ set ss r s → d′ ≡ linkedQueued n d r → (o : Did) → o ≡ runRow x (live ss′ m d′ q) r → o ≡ bounded x (live ss m d q) r s
+unfolding bounded
+bounded-made x ss ss′ m d d′ q r s n e f g o h =
+    h ∙ ap (λ (y : List State). runRow x (live y m d′ q) r) f
+    ∙ ap (λ (y : Rows). runRow x (live (set ss r s) m y q) r) (g ∙ ap (λ (k : ℕ). linkedQueued k d r) (sym e))

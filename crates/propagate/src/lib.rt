@@ -12,8 +12,9 @@ ghost use Rattle.queues.specs.Queue.{queue, Held, Rows, rows};
 ghost use Rattle.queues.specs.Marks.{Marks, marks, isDecided, decided, decide};
 ghost use Rattle.queues.specs.MarksLaws.{Waits};
 ghost use Rattle.thresholds.specs.Rows.{Guard, noRow, rowOf};
+ghost use Rattle.prefixes.specs.Links.{neighbours};
 ghost use Rattle.propagate.specs.Scan.{scanned, turn as turnOf, turned, force};
-ghost use Rattle.propagate.specs.Between.{Index, live, did, residualQueued, runRow, guardState, movedLower, movedUpper, movedState};
+ghost use Rattle.propagate.specs.Between.{Index, live, did, residualQueued, linkedQueued, runRow, bounded as boundedRow, guardState, movedLower, movedUpper, movedState};
 ghost use Rattle.propagate.specs.Numbers.{figuresOf, cursorsOf, rowState, statesOf, Runs};
 ghost use Rattle.propagate.specs.Shape.{Below, TermSlices, GuardSlices, Figures};
 ghost use Rattle.propagate.specs.Guards.{guards};
@@ -739,5 +740,78 @@ pub fn run_row(
         step: step,
         ring: next,
         residuals: left,
+    }
+}
+
+// A row whose bounds moved waits to hand them on, if it has neighbours.
+fn queue_linked(items: &mut [u16], pending: &mut [u8], ring: Ring, row: usize, links: usize) -> Ring
+    requires { ⌜ Held 1024 (queue (now items) ring) × (row < 1024) × (row < length (now pending)) ⌝ }
+    ensures { λ r. ⌜ rows (queue (now (items .exit)) r) (now (pending .exit)) ≡ linkedQueued links (rows (queue (now (items .entry)) ring) (now (pending .entry))) row ⌝ }
+{
+    if links == 0 {
+        return ring;
+    }
+    queues::queue_row(items, pending, ring, row)
+}
+
+// A row's answer, and the queue of rows that wait to hand on their bounds.
+pub struct Handed {
+    pub answer: Answer,
+    pub dirty: Ring,
+}
+
+// A row whose bounds moved to this state: it is stored, waits to hand them on, and is run.
+fn bounded(
+    conditions: &[u16],
+    weights: &[u64],
+    bounds: &[i64],
+    names: &[u16],
+    figures: &mut [[i64; 4]],
+    cursors: &mut [[usize; 5]],
+    row: usize,
+    state: State,
+    sure: &mut [u64],
+    never: &mut [u64],
+    nodes: &mut [u16],
+    ring: Ring,
+    items: &mut [u16],
+    pending: &mut [u8],
+    residuals: Ring,
+    waiting: &mut [u16],
+    flags: &mut [u8],
+    dirty: Ring,
+    links: usize,
+) -> Handed
+    requires { ⌜ (row < length (now figures)) × (row < length (now cursors)) × TermSlices (now conditions) (now weights) × GuardSlices (now bounds) (now names) ⌝ }
+    requires { ⌜ Runs state (now bounds) × Waits (marks (now sure) (now never) (queue (now nodes) ring)) ⌝ }
+    requires { ⌜ Held 1024 (queue (now items) residuals) × (row < 1024) × (row < length (now pending)) × Held 1024 (queue (now waiting) dirty) × (row < length (now flags)) ⌝ }
+    ensures { λ r. ⌜ ((x : Index) (raw : List Term) → getD (x .rows) row noRow ≡ rowOf raw (terms (now (conditions .entry)) (now (weights .entry))) (guards (now (bounds .entry)) (now (names .entry)))
+        → length (neighbours row (x .links)) ≡ links
+        → did (live (statesOf (now (figures .exit)) (now (cursors .exit))) (marks (now (sure .exit)) (now (never .exit)) (queue (now (nodes .exit)) (r .answer .ring)))
+        (rows (queue (now (waiting .exit)) (r .dirty)) (now (flags .exit))) (rows (queue (now (items .exit)) (r .answer .residuals)) (now (pending .exit)))) (r .answer .step)
+        ≡ boundedRow x (live (statesOf (now (figures .entry)) (now (cursors .entry))) (marks (now (sure .entry)) (now (never .entry)) (queue (now (nodes .entry)) ring))
+        (rows (queue (now (waiting .entry)) dirty) (now (flags .entry))) (rows (queue (now (items .entry)) residuals) (now (pending .entry)))) row state) ⌝ }
+{
+    store(figures, cursors, row, state);
+    let left = queue_linked(waiting, flags, dirty, row, links);
+    let answer = run_row(
+        conditions,
+        weights,
+        bounds,
+        names,
+        figures,
+        cursors,
+        row,
+        sure,
+        never,
+        nodes,
+        ring,
+        items,
+        pending,
+        residuals,
+    );
+    Handed {
+        answer: answer,
+        dirty: left,
     }
 }
