@@ -70,11 +70,13 @@ runRow x v r =
     let a = thresholdRow row (stateAt v r) (v .marks) in
     did (live (set (v .states) r (a .state)) (a .marks) (v .dirty) (residualQueued row (stateAt v r) (v .residuals) r)) (a .step)
 
+-- A row with so many links waits to hand its bounds on, if there are any.
+abbrev pub linkedQueued : ℕ → Rows → ℕ → Rows
+linkedQueued n q r = cond (eqb n 0) q (queueRow q r)
+
 -- The row that holds a moved bound runs, and waits to hand the bound on if it has links.
 unfoldable pub bounded : Index → Live → ℕ → State → Did
-bounded x v r s =
-    let moved = withState v r s in
-    runRow x (cond (eqb (length (neighbours r (x .links))) 0) moved (withDirty moved r)) r
+bounded x v r s = runRow x (live (set (v .states) r s) (v .marks) (linkedQueued (length (neighbours r (x .links))) (v .dirty) r) (v .residuals)) r
 
 -- `threshold_guard`: a sure guard raises its row's lower to its bound, a never one lowers its upper.
 abbrev pub guardState : State → Bool → ℤ → Tightened

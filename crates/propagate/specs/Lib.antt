@@ -5,5 +5,5 @@ pub mod Guards
 pub mod Row
 pub mod RowLaws
 pub mod Between
-pub mod BetweenLaws
 pub mod Numbers
+pub mod BetweenLaws

@@ -5,6 +5,7 @@ use mathlib.Core.Path.{_≡_, refl, ap, _∙_}
 use mathlib.Core.Bool.{cond}
 use mathlib.Core.List.{List, [], _∷_}
 use lib.ListN.{length, getD, set}
+use lib.Seq.{getD-set-same}
 use lib.Dec.{eqb}
 use lib.IntN.{ℤ, pos}
 use Rattle.state.specs.declared.State.{State}
@@ -68,3 +69,11 @@ states-set fs fs′ cs cs′ r s h k e f = ap (λ (y : List (List ℤ)). statesO
     go (g ∷ gs) [] i a b = absurd (not-suc-le-zero b)
     go (g ∷ gs) (d ∷ ds) zero a b = ap (λ (y : State). y ∷ statesOf gs ds) (stored-read s)
     go (g ∷ gs) (d ∷ ds) (suc i) a b = ap (λ (y : List State). rowState g d ∷ y) (go gs ds i (le-of-suc-le-suc a) (le-of-suc-le-suc b))
+
+-- A state that was stored is the one that is read.
+pub stored-at : (fs fs′ : List (List ℤ)) (cs cs′ : List (List ℕ)) (r : ℕ) (s : State) → r < length fs → r < length cs
+    → fs′ ≡ set fs r (figuresOf s) → cs′ ≡ set cs r (cursorsOf s) → rowState (getD fs′ r []) (getD cs′ r []) ≡ s
+stored-at fs fs′ cs cs′ r s h k e f =
+    ap (λ (y : List ℤ). rowState y (getD cs′ r [])) (ap (λ (y : List (List ℤ)). getD y r []) e ∙ getD-set-same fs r (figuresOf s) [] h)
+    ∙ ap (rowState (figuresOf s)) (ap (λ (y : List (List ℕ)). getD y r []) f ∙ getD-set-same cs r (cursorsOf s) [] k)
+    ∙ stored-read s

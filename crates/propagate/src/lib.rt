@@ -4,16 +4,17 @@ ghost use mathlib.Core.Bool.{false, cond, not, _&&_};
 ghost use Prim.Native.Nat.{_+_, _<_, _≤_, _^_};
 ghost use lib.ListN.{length, getD, set, drop};
 ghost use mathlib.Core.List.{List, []};
-ghost use lib.Signed.{ltZ};
-ghost use Rattle.numeric.specs.Threshold.{Term, terms};
+ghost use lib.Signed.{ltZ, mag};
+ghost use Rattle.numeric.specs.Threshold.{Term, Threshold, terms};
 ghost use Rattle.words.specs.Mask.{inEither};
 ghost use Rattle.state.specs.State.{reached, limit, limited};
 ghost use Rattle.queues.specs.Queue.{queue, Held, Rows, rows};
 ghost use Rattle.queues.specs.Marks.{Marks, marks, isDecided, decided, decide};
 ghost use Rattle.queues.specs.MarksLaws.{Waits};
-ghost use Rattle.thresholds.specs.Rows.{Guard, noRow, rowOf};
+ghost use Rattle.thresholds.specs.Rows.{Guard, noRow, rowOf, rowNumber};
+ghost use Rattle.prefixes.specs.Links.{neighbours};
 ghost use Rattle.propagate.specs.Scan.{scanned, turn as turnOf, turned, force};
-ghost use Rattle.propagate.specs.Between.{Index, live, did, residualQueued, runRow, guardState, movedLower, movedUpper, movedState};
+ghost use Rattle.propagate.specs.Between.{Index, live, did, residualQueued, linkedQueued, runRow, bounded as boundedRow, thresholdGuard, guardState, movedLower, movedUpper, movedState};
 ghost use Rattle.propagate.specs.Numbers.{figuresOf, cursorsOf, rowState, statesOf, Runs};
 ghost use Rattle.propagate.specs.Shape.{Below, TermSlices, GuardSlices, Figures};
 ghost use Rattle.propagate.specs.Guards.{guards};
@@ -739,5 +740,149 @@ pub fn run_row(
         step: step,
         ring: next,
         residuals: left,
+    }
+}
+
+// A row whose bounds moved waits to hand them on, if it has neighbours.
+fn queue_linked(items: &mut [u16], pending: &mut [u8], ring: Ring, row: usize, links: usize) -> Ring
+    requires { ⌜ Held 1024 (queue (now items) ring) × (row < 1024) × (row < length (now pending)) ⌝ }
+    ensures { λ r. ⌜ rows (queue (now (items .exit)) r) (now (pending .exit)) ≡ linkedQueued links (rows (queue (now (items .entry)) ring) (now (pending .entry))) row ⌝ }
+{
+    if links == 0 {
+        return ring;
+    }
+    queues::queue_row(items, pending, ring, row)
+}
+
+// A row's answer, and the queue of rows that wait to hand on their bounds.
+pub struct Handed {
+    pub answer: Answer,
+    pub dirty: Ring,
+}
+
+// A row whose bounds moved to this state: it is stored, waits to hand them on, and is run.
+fn bounded(
+    conditions: &[u16],
+    weights: &[u64],
+    bounds: &[i64],
+    names: &[u16],
+    figures: &mut [[i64; 4]],
+    cursors: &mut [[usize; 5]],
+    row: usize,
+    state: State,
+    sure: &mut [u64],
+    never: &mut [u64],
+    nodes: &mut [u16],
+    ring: Ring,
+    items: &mut [u16],
+    pending: &mut [u8],
+    residuals: Ring,
+    waiting: &mut [u16],
+    flags: &mut [u8],
+    dirty: Ring,
+    links: usize,
+) -> Handed
+    requires { ⌜ (row < length (now figures)) × (row < length (now cursors)) × TermSlices (now conditions) (now weights) × GuardSlices (now bounds) (now names) ⌝ }
+    requires { ⌜ Runs state (now bounds) × Waits (marks (now sure) (now never) (queue (now nodes) ring)) ⌝ }
+    requires { ⌜ Held 1024 (queue (now items) residuals) × (row < 1024) × (row < length (now pending)) × Held 1024 (queue (now waiting) dirty) × (row < length (now flags)) ⌝ }
+    ensures { λ r. ⌜ ((x : Index) (raw : List Term) → getD (x .rows) row noRow ≡ rowOf raw (terms (now (conditions .entry)) (now (weights .entry))) (guards (now (bounds .entry)) (now (names .entry)))
+        → length (neighbours row (x .links)) ≡ links
+        → did (live (statesOf (now (figures .exit)) (now (cursors .exit))) (marks (now (sure .exit)) (now (never .exit)) (queue (now (nodes .exit)) (r .answer .ring)))
+        (rows (queue (now (waiting .exit)) (r .dirty)) (now (flags .exit))) (rows (queue (now (items .exit)) (r .answer .residuals)) (now (pending .exit)))) (r .answer .step)
+        ≡ boundedRow x (live (statesOf (now (figures .entry)) (now (cursors .entry))) (marks (now (sure .entry)) (now (never .entry)) (queue (now (nodes .entry)) ring))
+        (rows (queue (now (waiting .entry)) dirty) (now (flags .entry))) (rows (queue (now (items .entry)) residuals) (now (pending .entry)))) row state) ⌝ }
+{
+    store(figures, cursors, row, state);
+    let left = queue_linked(waiting, flags, dirty, row, links);
+    let answer = run_row(
+        conditions,
+        weights,
+        bounds,
+        names,
+        figures,
+        cursors,
+        row,
+        sure,
+        never,
+        nodes,
+        ring,
+        items,
+        pending,
+        residuals,
+    );
+    Handed {
+        answer: answer,
+        dirty: left,
+    }
+}
+
+// `threshold_guard`: a drained guard tells its row its bound.
+pub fn threshold_guard(
+    conditions: &[u16],
+    weights: &[u64],
+    bounds: &[i64],
+    names: &[u16],
+    figures: &mut [[i64; 4]],
+    cursors: &mut [[usize; 5]],
+    row: usize,
+    node: usize,
+    bound: i64,
+    sure: &mut [u64],
+    never: &mut [u64],
+    nodes: &mut [u16],
+    ring: Ring,
+    items: &mut [u16],
+    pending: &mut [u8],
+    residuals: Ring,
+    waiting: &mut [u16],
+    flags: &mut [u8],
+    dirty: Ring,
+    links: usize,
+) -> Handed
+    requires { ⌜ (row < length (now figures)) × (row < length (now cursors)) × TermSlices (now conditions) (now weights) × GuardSlices (now bounds) (now names) × (node < 4096) × (mag bound < 2 ^ 61) ⌝ }
+    requires { ⌜ Runs (rowState (getD (now figures) row []) (getD (now cursors) row [])) (now bounds) × Waits (marks (now sure) (now never) (queue (now nodes) ring)) ⌝ }
+    requires { ⌜ Held 1024 (queue (now items) residuals) × (row < 1024) × (row < length (now pending)) × Held 1024 (queue (now waiting) dirty) × (row < length (now flags)) ⌝ }
+    ensures { λ r. ⌜ ((x : Index) (raw : List Term) (t : Threshold) → getD (x .rows) row noRow ≡ rowOf raw (terms (now (conditions .entry)) (now (weights .entry))) (guards (now (bounds .entry)) (now (names .entry)))
+        → length (neighbours row (x .links)) ≡ links → rowNumber (x .rows) (t .terms) ≡ row → t .node ≡ node → t .bound ≡ bound
+        → did (live (statesOf (now (figures .exit)) (now (cursors .exit))) (marks (now (sure .exit)) (now (never .exit)) (queue (now (nodes .exit)) (r .answer .ring)))
+        (rows (queue (now (waiting .exit)) (r .dirty)) (now (flags .exit))) (rows (queue (now (items .exit)) (r .answer .residuals)) (now (pending .exit)))) (r .answer .step)
+        ≡ thresholdGuard x (live (statesOf (now (figures .entry)) (now (cursors .entry))) (marks (now (sure .entry)) (now (never .entry)) (queue (now (nodes .entry)) ring))
+        (rows (queue (now (waiting .entry)) dirty) (now (flags .entry))) (rows (queue (now (items .entry)) residuals) (now (pending .entry)))) t) ⌝ }
+{
+    let state = load(figures, cursors, row);
+    let value = words::bit(sure, node);
+    let told = guard_state(state, value, bound);
+    let moved = told.state;
+    if told.changed {
+        return bounded(
+            conditions,
+            weights,
+            bounds,
+            names,
+            figures,
+            cursors,
+            row,
+            moved,
+            sure,
+            never,
+            nodes,
+            ring,
+            items,
+            pending,
+            residuals,
+            waiting,
+            flags,
+            dirty,
+            links,
+        );
+    }
+    let answer = Answer {
+        step: Step::Unchanged,
+        ring: ring,
+        residuals: residuals,
+    };
+    Handed {
+        answer: answer,
+        dirty: dirty,
     }
 }
