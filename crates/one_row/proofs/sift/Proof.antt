@@ -1,4 +1,5 @@
 -- `one_row::sift` is safe: the masks keep their lengths.
+use mathlib.Core.Path.{refl}
 use native.Mathlib.Omega.{arith}
 use Prim.Native.Nat.{ℕ}
 use lib.ListN.{length-replicate}
@@ -10,10 +11,10 @@ wants-residual-requires : tie.Need-wants-residual-requires
 wants-residual-requires c κs = search needs
 
 returns : tie.Need-returns
-returns c = search needs
+returns c = tt
 
 slice-aggregate-threshold-residual : tie.Need-slice-aggregate-threshold-residual
-slice-aggregate-threshold-residual c = search needs
+slice-aggregate-threshold-residual c = refl
 
 threshold-residual-requires : tie.Need-threshold-residual-requires
 threshold-residual-requires c κs =
@@ -21,19 +22,19 @@ threshold-residual-requires c κs =
     (record { same = p .0 .same; below = p .0 .below; inSure = omega (arith, p .2 .sures); inNever = omega (arith, p .2 .nevers) }, (omega (arith, p .1, length-replicate {A = ℕ} 1025 0), p .0 .light, p .2))
 
 slice-aggregate-write : tie.Need-slice-aggregate-write
-slice-aggregate-write c = search needs
+slice-aggregate-write c = refl
 
 write-requires : tie.Need-write-requires
-write-requires c κs = search needs
+write-requires c κs = tt
 
 write-step-requires : tie.Need-write-step-requires
-write-step-requires c κs = search needs
+write-step-requires c κs = tt
 
 slice-aggregate-write-2 : tie.Need-slice-aggregate-write-2
-slice-aggregate-write-2 c = search needs
+slice-aggregate-write-2 c = refl
 
 write-requires-2 : tie.Need-write-requires-2
-write-requires-2 c κs = search needs
+write-requires-2 c κs = tt
 
 enum-told : tie.Need-enum-told
 enum-told c = search needs
@@ -60,7 +61,7 @@ same-length-3 : tie.Need-same-length-3
 same-length-3 c = search needs
 
 returns-2 : tie.Need-returns-2
-returns-2 c = search needs
+returns-2 c = tt
 
 same-length-4 : tie.Need-same-length-4
 same-length-4 c = search needs
@@ -72,7 +73,7 @@ same-length-6 : tie.Need-same-length-6
 same-length-6 c = search needs
 
 returns-3 : tie.Need-returns-3
-returns-3 c = search needs
+returns-3 c = tt
 
 same-length-7 : tie.Need-same-length-7
 same-length-7 c = search needs
@@ -84,7 +85,7 @@ same-length-9 : tie.Need-same-length-9
 same-length-9 c = search needs
 
 returns-4 : tie.Need-returns-4
-returns-4 c = search needs
+returns-4 c = tt
 
 pub sift-spec : {M : Type 1} → statement M
 sift-spec =
