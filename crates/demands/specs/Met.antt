@@ -73,13 +73,16 @@ true-or-false true = inl refl
 true-or-false false = inr refl
 
 -- the two ways of the call
+abbrev ways : List ℕ → Work → Bool → Out
+ways input w b = elim b [ true ↦ served (fileOf input) w | false ↦ untouched w ]
+
 served-when : (input : List ℕ) (w : Work) → fits input w ≡ true → whole input w ≡ served (fileOf input) w
 unfolding whole
-served-when input w e = rw e
+served-when input w e = ap (λ (b : Bool). ways input w b) e
 
 untouched-when : (input : List ℕ) (w : Work) → fits input w ≡ false → whole input w ≡ untouched w
 unfolding whole
-untouched-when input w e = rw e
+untouched-when input w e = ap (λ (b : Bool). ways input w b) e
 
 -- a file cut at the place of its refusal reads the same
 cut-file : (input : List ℕ) → fileOf input .refused ≢ 0
