@@ -10,7 +10,7 @@ use lib.ListN.{length, take, drop, take-append-drop, length-take, length-append,
 use lib.Seq.{take-add, take-append-seam, drop-append-seam}
 use lib.IntN.{ℤ, pos, _-ℤ_}
 use lib.Signed.{leZ, ltZ}
-use Rattle.number.specs.Signed.{leZ-refl, leZ-trans, leZ-nlt}
+use Rattle.signed.specs.Signed.{leZ-refl, leZ-trans, leZ-nlt}
 use Rattle.numeric.specs.Threshold.{Term}
 use Rattle.state.specs.declared.Step.{Step}
 use Rattle.state.specs.declared.Step.the-variants.{Unchanged, Changed, Contradiction}

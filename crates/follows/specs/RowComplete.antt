@@ -8,7 +8,7 @@ use mathlib.Core.Logic.{_⊎_, inl, inr, ⊎-elim}
 use lib.ListN.{length, take, drop}
 use lib.IntN.{ℤ, pos, _-ℤ_}
 use lib.Signed.{leZ, ltZ}
-use Rattle.number.specs.Signed.{leZ-trans, leZ-ltZ, leZ-pos}
+use Rattle.signed.specs.Signed.{leZ-trans, leZ-ltZ, leZ-pos}
 use borrow.Author.Tests.{le-leb}
 use Rattle.numeric.specs.Threshold.{Term}
 use Rattle.state.specs.declared.Step.{Step}

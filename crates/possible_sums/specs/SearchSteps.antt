@@ -12,7 +12,7 @@ use mir.Syntax.{w64}
 use mir.Val.{SFits}
 use borrow.Author.Tests.{le-leb, lt-leb, leb-true}
 use Rattle.numeric.specs.Threshold.{Term, term}
-use Rattle.number.specs.Signed.{natural, mag-minus, sub-sfits}
+use Rattle.signed.specs.Signed.{natural, mag-minus, sub-sfits}
 use Rattle.state.specs.declared.State.{State}
 use Rattle.state.specs.declared.Upper.the-variants.{Open, Under}
 use Rattle.state.specs.State.{limit, upperAtMost, hasResidualInterval}

@@ -15,7 +15,7 @@ use mir.Syntax.{w64}
 use mir.Val.{SFits, Fits}
 use Rattle.numeric.specs.Threshold.{Term, term, terms}
 use Rattle.numeric.specs.TermsLaws.{down-terms, length-terms}
-use Rattle.number.specs.Signed.{natural}
+use Rattle.signed.specs.Signed.{natural}
 
 abbrev pub lastTerms : List ℕ → List ℕ → ℕ → List Term
 lastTerms cs ws left = reverse (take left (terms cs ws))

@@ -4,7 +4,7 @@ ghost use Prim.Native.Nat.{_+_, _-_, _/_, _<_, _≤_, min};
 ghost use mathlib.Core.List.{reverse};
 ghost use lib.ListN.{length, replicate, set};
 ghost use Rattle.numeric.specs.Threshold.{terms};
-ghost use Rattle.number.specs.Signed.{natural as naturalOf};
+ghost use Rattle.signed.specs.Signed.{natural as naturalOf};
 ghost use Rattle.words.specs.Mask.{inEither};
 ghost use Rattle.possible_sums.specs.Shape.{Shape, Figures, Zeros, Prepared};
 ghost use Rattle.possible_sums.specs.Search.{plan, searchFrom, search, searchStep, searchVisits};

@@ -11,7 +11,7 @@ use lib.Signed.{mag, leZ}
 use Rattle.numeric.specs.Threshold.{Threshold}
 use Rattle.words.specs.Mask.{bit}
 use borrow.Author.Tests.{eq-eqb, ne-eqb, le-leb, lt-leb, not-true, not-false}
-use Rattle.number.specs.Signed.{nle-ltZ, leZ-nlt}
+use Rattle.signed.specs.Signed.{nle-ltZ, leZ-nlt}
 use Rattle.state.specs.declared.State.{State}
 use Rattle.state.specs.declared.Upper.the-variants.{Open, Under}
 use Rattle.state.specs.State.{noState, upperAtMost, withLower, withUpper}

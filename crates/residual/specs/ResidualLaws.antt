@@ -12,7 +12,7 @@ use lib.Dec.{eqb, leb}
 use lib.IntN.{ℤ, pos}
 use lib.Signed.{leZ, ltZ}
 use borrow.Author.Tests.{ne-eqb, le-leb}
-use Rattle.number.specs.Signed.{natural, leZ-trans, ltZ-nle, max-least}
+use Rattle.signed.specs.Signed.{natural, leZ-trans, ltZ-nle, max-least}
 use Rattle.numeric.specs.Threshold.{Term}
 use Rattle.state.specs.declared.Step.the-variants.{Unchanged, Contradiction}
 use Rattle.state.specs.declared.Upper.{Upper}

@@ -12,7 +12,7 @@ use lib.Dec.{eqb, leb, ltb}
 use lib.IntN.{ℤ, pos, negsuc}
 use lib.Signed.{leZ, ltZ, _≤ℤ_, _<ℤ_, ≤ℤ-refl, clashℤ}
 use borrow.Author.Tests.{eqb-true, le-leb, lt-ltb}
-use Rattle.number.specs.Signed.{leZ-pos, ltZ-pos, nle-ltZ, max-least}
+use Rattle.signed.specs.Signed.{leZ-pos, ltZ-pos, nle-ltZ, max-least}
 use Rattle.numeric.specs.Threshold.{Term, term, Threshold, Job}
 use Rattle.numeric.specs.Layout.{Layout, IsLayout, satisfied, constraint, weighted, value}
 use Rattle.state.specs.declared.Upper.{Upper}

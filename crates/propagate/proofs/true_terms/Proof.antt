@@ -9,7 +9,7 @@ use mir.Syntax.{w64}
 use mir.Val.{toZ, ofZ}
 use mir.Facts.{toZ-ofZ}
 use borrow.Author.Needs.{needs}
-use Rattle.number.specs.Signed.{sub-sfits}
+use Rattle.signed.specs.Signed.{sub-sfits}
 use Rattle.numeric.specs.Threshold.{terms}
 use Rattle.numeric.specs.TermsLaws.{length-terms}
 use Rattle.state.specs.declared.Upper.{Upper}

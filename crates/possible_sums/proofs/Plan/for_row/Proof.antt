@@ -13,7 +13,7 @@ use borrow.Author.Needs.{needs}
 use borrow.Author.Tests.{not-true, not-false}
 use Rattle.numeric.specs.Threshold.{terms}
 use Rattle.numeric.specs.TermsLaws.{length-terms}
-use Rattle.number.specs.Signed.{natural, leZ-nlt, nle-ltZ}
+use Rattle.signed.specs.Signed.{natural, leZ-nlt, nle-ltZ}
 use Rattle.state.specs.declared.Upper.{Upper}
 use Rattle.state.specs.State.{limit, hasResidualInterval}
 use Rattle.thresholds.specs.Rows.{hasNonunit}
