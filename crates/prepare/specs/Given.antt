@@ -1,0 +1,20 @@
+-- The job that the raw buffers hold, read back threshold by threshold, and the rows that it makes.
+use Prim.Native.Nat.{ℕ}
+use mathlib.Core.List.{List, [], map}
+use lib.ListN.{length, getD}
+use lib.IntN.{ℤ, pos}
+use Rattle.lists.specs.Laid.{numbers}
+use Rattle.numeric.specs.Threshold.{Threshold}
+use Rattle.thresholds.specs.Raw.{Raw, listAt}
+use Rattle.thresholds.specs.Guards.{nodeAt}
+use Rattle.thresholds.specs.Rows.{Row, placeAll}
+
+abbrev pub thresholdAt : Raw → List ℤ → ℕ → Threshold
+thresholdAt r bounds t = record { node = nodeAt (r .thresholds) t; bound = getD bounds t (pos 0); terms = listAt r t }
+
+-- All of them; the buffers are cut to their number.
+abbrev pub given : Raw → List ℤ → List Threshold
+given r bounds = map (thresholdAt r bounds) (numbers 0 (length (r .thresholds)))
+
+abbrev pub givenRows : Raw → List ℤ → List Row
+givenRows r bounds = placeAll (given r bounds) []
