@@ -1,21 +1,13 @@
--- The terms of a row from the light end, where all are left, where some are, and where none is; figures as natural numbers.
+-- The terms of a row from the light end, where all are left, where some are, and where none is.
 use Prim.Native.Nat.{ℕ, zero, suc, _-_, _<_, _≤_}
 use native.Mathlib.Nat.{not-suc-le-zero}
 use native.Mathlib.Omega.{arith}
 use mathlib.Core.Path.{_≡_, refl, ap}
-use mathlib.Core.Bool.{true, false}
 use mathlib.Core.List.{List, [], _∷_, reverse}
 use lib.ListN.{length, getD, take}
 use lib.Seq.{take-all}
-use lib.Dec.{T}
-use lib.IntN.{ℤ, pos, negsuc, natAbs}
-use lib.Signed.{nonNeg, ltZ}
-use borrow.Author.Tests.{ltb-true}
-use mir.Syntax.{w64}
-use mir.Val.{SFits, Fits}
 use Rattle.numeric.specs.Threshold.{Term, term, terms}
 use Rattle.numeric.specs.TermsLaws.{down-terms, length-terms}
-use Rattle.signed.specs.Signed.{natural}
 
 abbrev pub lastTerms : List ℕ → List ℕ → ℕ → List Term
 lastTerms cs ws left = reverse (take left (terms cs ws))
@@ -32,19 +24,3 @@ last-next cs ws (suc left) h f g =
 
 pub last-none : (cs ws : List ℕ) (left : ℕ) → left ≡ 0 → lastTerms cs ws left ≡ []
 last-none cs ws left e = ap (λ (k : ℕ). reverse (take k (terms cs ws))) e
-
-clash : true ≡ false → ⊥
-clash h = let z : _≡_ {A = ℕ} 0 1 = cc in omega arith
-
--- A figure as a natural number.
-pub natural-below : (z : ℤ) → ltZ z (pos 0) ≡ true → 0 ≡ natural z
-natural-below (pos n) h = omega (arith, ltb-true n 0 h)
-natural-below (negsuc n) h = refl
-
-pub natural-cast : (z : ℤ) → ltZ z (pos 0) ≡ false → SFits w64 z → T (nonNeg z) × Fits w64 (natAbs z)
-natural-cast (pos n) h f = (tt, record { fits = omega (arith, f .sfits) })
-natural-cast (negsuc n) h f = absurd (clash h)
-
-pub natural-same : (z : ℤ) → ltZ z (pos 0) ≡ false → natAbs z ≡ natural z
-natural-same (pos n) h = refl
-natural-same (negsuc n) h = absurd (clash h)
