@@ -8,7 +8,7 @@ use lib.Dec.{eqb, ltb}
 use lib.ListN.{length, getD}
 use Rattle.numeric.specs.Threshold.{Term}
 use Rattle.prefixes.specs.Links.{Link}
-use Rattle.prefixes.specs.Held.{beginAt, endAt}
+use Rattle.thresholds.specs.Incidents.{rowStart, rowEnd}
 
 -- The stack that begins at word t.
 abbrev pub Chain : List ℕ → ℕ → List ℕ → Type 0
@@ -17,7 +17,7 @@ Chain s t (a ∷ more) = (t ≡ a + 1) × Chain s (getD s (2048 + a) 0) more
 
 -- How many terms a row has, and so the ancestors that are kept, and what stands below a new row.
 abbrev pub lengthAt : List (List ℕ) → ℕ → ℕ
-lengthAt rows r = endAt rows r - beginAt rows r
+lengthAt rows r = rowEnd rows r - rowStart rows r
 
 unfoldable pub keptBy : (ℕ → ℕ) → ℕ → List ℕ → List ℕ
 keptBy L shared [] = []
@@ -36,7 +36,7 @@ abbrev pub Falling : List (List ℕ) → List ℕ → Type 0
 Falling rows s = (a : ℕ) → a < length rows → (getD s (2048 + a) 0 ≤ length rows) × (depth rows (getD s (2048 + a) 0) < depth rows (a + 1))
 
 abbrev pub Rises : List (List ℕ) → Type 0
-Rises rows = (r : ℕ) → r < length rows → beginAt rows r ≤ endAt rows r
+Rises rows = (r : ℕ) → r < length rows → rowStart rows r ≤ rowEnd rows r
 
 -- The terms of the row that a word names.
 unfoldable pub named : (ℕ → List Term) → ℕ → List Term

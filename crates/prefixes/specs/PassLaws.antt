@@ -17,7 +17,8 @@ use Rattle.prefixes.specs.Links.{Link, termsAt, common, orderFrom, ances
 use Rattle.prefixes.specs.LinksLaws.{link}
 use Rattle.prefixes.specs.WordsLaws.{common-right}
 use Rattle.prefixes.specs.OrderLaws.{Distinct, order-distinct, order-length, order-range}
-use Rattle.prefixes.specs.Held.{beginAt, endAt, heldTerms, heldRows, HeldRow, Held}
+use Rattle.prefixes.specs.Held.{heldTerms, heldRows, HeldRow, Held}
+use Rattle.thresholds.specs.Incidents.{rowStart, rowEnd}
 use Rattle.prefixes.specs.HeldLaws.{held-terms, held-length, stretch-length, length-numbers}
 use Rattle.lists.specs.Laid.{numbers}
 use Rattle.prefixes.specs.Merge.{orderBy, laid}
@@ -350,7 +351,7 @@ module _ (rows : List (List ℕ)) (cs ws : List ℕ) where
     pub row-length-is : (a : ℕ) → a < length rows → lengthAt rows a ≡ length (termsAt (heldRows rows cs ws (length rows)) a)
     row-length-is a h =
         let r = held a h in
-        sym (ap length (held-terms rows cs ws (length rows) a h) ∙ stretch-length cs ws (beginAt rows a) (endAt rows a) (r .conditions) (r .weights))
+        sym (ap length (held-terms rows cs ws (length rows) a h) ∙ stretch-length cs ws (rowStart rows a) (rowEnd rows a) (r .conditions) (r .weights))
 
     pub passing-start : Passing s₀ s₀ 0 0
     unfolding linkWord links

@@ -13,7 +13,8 @@ use lib.Seq.{getD-append-add, length-take-le, ext-getD, getD-take}
 use Rattle.lists.specs.Laid.{numbers, joinAll, ends, over}
 use Rattle.numeric.specs.Threshold.{Term}
 use Rattle.thresholds.specs.Rows.{Row, rowOf}
-use Rattle.prefixes.specs.Held.{stretch, beginAt, endAt, heldTerms, heldRows, HeldRow, Held}
+use Rattle.prefixes.specs.Held.{stretch, heldTerms, heldRows, HeldRow, Held}
+use Rattle.thresholds.specs.Incidents.{rowStart, rowEnd}
 use Rattle.prefixes.specs.HeldLaws.{held-length}
 use Rattle.prefixes.specs.Links.{Link, termsAt, common, orderFrom, ancestors, stacked, linked, linksFrom, links, neighbours, neighbourLists}
 use Rattle.prefixes.specs.OrderLaws.{Distinct, order-distinct, order-range}
@@ -384,11 +385,11 @@ module _ (rows : List (List ℕ)) (cs ws : List ℕ) (n : ℕ) (fits : n ≤ len
   pub front-length : length (take n rows) ≡ n
   front-length = length-take-le n rows fits
 
-  end-same : (r : ℕ) → r < n → endAt (take n rows) r ≡ endAt rows r
+  end-same : (r : ℕ) → r < n → rowEnd (take n rows) r ≡ rowEnd rows r
   end-same r h = ap (λ (l : List ℕ). getD l 0 0) (getD-take n rows r [] h)
 
-  begin-same : (r : ℕ) → r < n → beginAt (take n rows) r ≡ beginAt rows r
-  unfolding beginAt
+  begin-same : (r : ℕ) → r < n → rowStart (take n rows) r ≡ rowStart rows r
+  unfolding rowStart
   begin-same zero h = refl
   begin-same (suc r) h = end-same r (omega arith)
 
