@@ -3,11 +3,14 @@
 use Prim.Native.Nat.{ℕ, zero, suc, _+_, _-_, _<_, _≤_}
 use mathlib.Core.Path.{_≡_}
 use mathlib.Core.Bool.{Bool, true, false}
-use mathlib.Core.List.{List, [], _∷_}
+use mathlib.Core.List.{List, [], _∷_, map}
 use lib.Dec.{eqb, ltb}
 use lib.ListN.{length, getD}
 use Rattle.numeric.specs.Threshold.{Term}
-use Rattle.prefixes.specs.Links.{Link}
+use Rattle.lists.specs.Laid.{numbers}
+use Rattle.thresholds.specs.Rows.{Row}
+use Rattle.prefixes.specs.Links.{Link, links, orderFrom}
+use Rattle.prefixes.specs.Merge.{laid}
 use Rattle.thresholds.specs.Incidents.{rowStart, rowEnd}
 
 -- The stack that begins at word t.
@@ -62,3 +65,31 @@ pub record Under (rows : List (List ℕ)) (s : List ℕ) (t r u : ℕ) : Type 0 
   pub row : u ≤ length rows
   pub falls : depth rows u < depth rows (r + 1)
   pub chain : (st : List ℕ) → Chain s t st → Chain s u (underBy (lengthAt rows) r st)
+
+-- The words as the pass finds them: the order in front, zeros where links and ancestors go.
+pub record Ordered (rs : List Row) (n : ℕ) (s : List ℕ) : Type 0 where
+  pub room : 3072 ≤ length s
+  pub small : n ≤ 1024
+  pub order : (k : ℕ) → k < n → getD s k 0 ≡ getD (orderFrom rs 0 rs) k 0
+  pub no-links : (x : ℕ) → x < n → getD s (1024 + x) 0 ≡ 0
+  pub no-ancestors : (x : ℕ) → x < n → getD s (2048 + x) 0 ≡ 0
+
+-- The words as it leaves them; what stands where ancestors went is left open, and cleared next.
+pub record Linked (rs : List Row) (n : ℕ) (s₀ s : List ℕ) : Type 0 where
+  pub sized : length s ≡ length s₀
+  pub front : (x : ℕ) → x < 1024 → getD s x 0 ≡ getD s₀ x 0
+  pub words : (x : ℕ) → x < n → getD s (1024 + x) 0 ≡ linkWord x (links rs)
+  pub between : (x : ℕ) → 1024 + n ≤ x → x < 2048 → getD s x 0 ≡ getD s₀ x 0
+  pub far : (x : ℕ) → 2048 + n ≤ x → getD s x 0 ≡ getD s₀ x 0
+
+-- The link words of all rows.
+abbrev pub linkWords : List Row → List ℕ
+linkWords rs = map (λ (x : ℕ). linkWord x (links rs)) (numbers 0 (length rs))
+
+-- The scratch words with the order and the link words in them.
+abbrev pub withLinks : List Row → List ℕ → List ℕ
+withLinks rs s = laid (laid s 0 (orderFrom rs 0 rs)) 1024 (linkWords rs)
+
+-- Scratch words that are all zero.
+abbrev pub Clear : List ℕ → Type 0
+Clear s = (3072 ≤ length s) × ((x : ℕ) → x < 3072 → getD s x 0 ≡ 0)
