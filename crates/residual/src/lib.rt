@@ -6,6 +6,7 @@ ghost use mathlib.Core.List.{reverse};
 ghost use lib.ListN.{length};
 ghost use lib.Dec.{eqb, leb};
 ghost use Rattle.numeric.specs.Threshold.{term, terms};
+ghost use Rattle.numeric.specs.Slices.{Below, Shape};
 ghost use Rattle.signed.specs.Signed.{natural as naturalOf};
 ghost use Rattle.state.specs.State.{limit};
 ghost use Rattle.state.specs.Step.{joined};
@@ -15,7 +16,7 @@ ghost use Rattle.state.specs.declared.Step.the-variants.{Unchanged};
 ghost use Rattle.queues.specs.MarksLaws.{Waits};
 ghost use Rattle.queues.specs.Marks.{marks, decided as decidedOf};
 ghost use Rattle.residual.specs.Gcd.{gcd, misses, branchMisses};
-ghost use Rattle.residual.specs.Shape.{Below, Shape, Window};
+ghost use Rattle.residual.specs.Shape.{Window};
 ghost use Rattle.residual.specs.Residual.{
   interval,
   stopsAt,
