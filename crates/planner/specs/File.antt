@@ -14,7 +14,7 @@ use Rattle.state.specs.Step.{contradicts}
 use Rattle.state.specs.State.{noState}
 use Rattle.queues.specs.Queue.{queue, ring, rows}
 use Rattle.queues.specs.Marks.{marks}
-use Rattle.propagate.specs.Between.{Index, Live, live, Did}
+use Rattle.between.specs.Between.{Index, Live, live, Did}
 use Rattle.regions.specs.Drain as Drain
 use Rattle.regions.specs.Sift as Sift
 use Rattle.planner.specs.Record.{Kind, kindOf, bodyLength, Record, recordOf, header, opens, adds, areas, seal, mark, settle, sift, unknown}

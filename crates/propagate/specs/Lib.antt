@@ -4,6 +4,5 @@ pub mod Shape
 pub mod Guards
 pub mod Row
 pub mod RowLaws
-pub mod Between
-pub mod Numbers
-pub mod BetweenLaws
+pub mod Told
+pub mod ToldLaws

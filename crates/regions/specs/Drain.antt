@@ -1,35 +1,19 @@
 -- Seal, mark and settle: rows are run once, nodes are decided, and what waits is drained, in the order of document 01.
-use Prim.Native.Nat.{ℕ, zero, suc, _+_, _^_}
+use Prim.Native.Nat.{ℕ, zero, suc, _^_}
 use mathlib.Core.Bool.{Bool, true, false, _&&_}
-use mathlib.Core.List.{List, [], _∷_}
-use lib.ListN.{set}
-use lib.Dec.{eqb}
-use Rattle.numeric.specs.Threshold.{Threshold, Job}
+use Rattle.numeric.specs.Threshold.{Job}
 use Rattle.state.specs.declared.Step.{Step}
-use Rattle.state.specs.declared.Step.the-variants.{Unchanged, Changed, Contradiction}
-use Rattle.state.specs.declared.State.{State}
+use Rattle.state.specs.declared.Step.the-variants.{Unchanged}
 use Rattle.state.specs.Step.{joined, contradicts}
 use Rattle.queues.specs.Queue.{Rows, isEmpty, oldest, popped, nextRow}
 use Rattle.queues.specs.Marks.{Marks, marks, decide}
-use Rattle.thresholds.specs.Rows.{Row, rowsOf, stateOfRow}
+use Rattle.thresholds.specs.Rows.{rowsOf}
 use Rattle.prefixes.specs.Links.{links}
-use Rattle.propagate.specs.Between.{Index, Live, live, Did, did, runRow, thresholdGuard, thresholdCondition, thresholdPrefixes}
+use Rattle.between.specs.Between.{Index, Live, live, Did, did, firstStates, seedFrom, guardOf, thresholdCondition, thresholdPrefixes}
 
 -- What a seal builds of a job.
 abbrev pub indexOf : Job → Index
 indexOf j = record { thresholds = j .thresholds; rows = rowsOf j; links = links (rowsOf j) }
-
--- The first state of each row, from row r on.
-unfoldable pub firstStates : ℕ → List Row → List State → List State
-firstStates r [] ss = ss
-firstStates r (x ∷ xs) ss = firstStates (r + 1) xs (set ss r (stateOfRow x))
-
--- `seed_thresholds`: each row is run once, in order, up to the first contradiction.
-unfoldable pub seedFrom : Index → ℕ → List Row → Live → Step → Did
-seedFrom x r [] v k = did v k
-seedFrom x r (_ ∷ rs) v k =
-    elim (contradicts (runRow x v r .step))
-    [ true ↦ did (runRow x v r .live) Contradiction | false ↦ seedFrom x (r + 1) rs (runRow x v r .live) (joined k (runRow x v r .step)) ]
 
 unfoldable pub seal : Index → Live → Did
 seal x v = seedFrom x 0 (x .rows) (live (firstStates 0 (x .rows) (v .states)) (v .marks) (v .dirty) (v .residuals)) Unchanged
@@ -40,11 +24,6 @@ withMarks v m = live (v .states) m (v .dirty) (v .residuals)
 -- A mark only decides its node, which then waits.
 unfoldable pub mark : Live → ℕ → Bool → Did
 mark v n value = did (withMarks v (decide value (v .marks) n .marks)) (decide value (v .marks) n .step)
-
--- The guard of a node that is a threshold; nothing for any other.
-unfoldable pub guardOf : Index → Live → List Threshold → ℕ → Did
-guardOf x v [] n = did v Unchanged
-guardOf x v (t ∷ ts) n = elim (eqb (t .node) n) [ true ↦ thresholdGuard x v t | false ↦ guardOf x v ts n ]
 
 -- The oldest node is taken: its guard, then, unless that contradicts, its condition.
 unfoldable pub takeNode : Index → Live → Did

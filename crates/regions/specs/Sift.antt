@@ -12,7 +12,7 @@ use Rattle.queues.specs.Marks.{isDecided}
 use Rattle.thresholds.specs.Rows.{noRow}
 use Rattle.residual.specs.Residual.{Residual, thresholdResidual}
 use Rattle.possible_sums.specs.Search.{search, searchStep, searchVisits}
-use Rattle.propagate.specs.Between.{Index, Live, live, stateAt}
+use Rattle.between.specs.Between.{Index, Live, live, stateAt}
 use Rattle.regions.specs.Drain.{settle, turns}
 
 -- A sift's state: the visits are those of its last search, 0 if it had none.

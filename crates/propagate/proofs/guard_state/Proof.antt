@@ -3,7 +3,7 @@ use mathlib.Core.Path.{_≡_, sym, ap, _∙_}
 use mir.Syntax.{w64}
 use mir.Val.{toZ, ofZ}
 use borrow.Author.Needs.{needs}
-use Rattle.propagate.specs.BetweenLaws.{guard-raises, guard-reached, guard-lowers, guard-limited}
+use Rattle.propagate.specs.ToldLaws.{guard-raises, guard-reached, guard-lowers, guard-limited}
 use Rattle.propagate.proofs.guard_state.Statement.{statement}
 use Rattle.propagate.proofs.guard_state.Tie as tie
 

@@ -3,7 +3,7 @@ use mathlib.Core.Path.{_≡_, sym, ap, _∙_}
 use mir.Syntax.{w64}
 use mir.Val.{toZ, ofZ}
 use borrow.Author.Needs.{needs}
-use Rattle.propagate.specs.BetweenLaws.{lower-moves, lower-stays, lower-not}
+use Rattle.propagate.specs.ToldLaws.{lower-moves, lower-stays, lower-not}
 use Rattle.propagate.proofs.moved_lower.Statement.{statement}
 use Rattle.propagate.proofs.moved_lower.Tie as tie
 

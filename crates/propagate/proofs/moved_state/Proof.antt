@@ -2,7 +2,7 @@
 use mathlib.Core.Path.{ap, _∙_}
 use borrow.Author.Needs.{needs}
 use Rattle.propagate.specs.declared.Tightened.{Tightened}
-use Rattle.propagate.specs.Between.{movedUpper}
+use Rattle.propagate.specs.Told.{movedUpper}
 use Rattle.propagate.proofs.moved_state.Statement.{statement}
 use Rattle.propagate.proofs.moved_state.Tie as tie
 

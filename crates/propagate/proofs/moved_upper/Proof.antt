@@ -3,7 +3,7 @@ use mathlib.Core.Path.{_≡_, sym, ap, _∙_}
 use mir.Syntax.{w64}
 use mir.Val.{toZ, ofZ}
 use borrow.Author.Needs.{needs}
-use Rattle.propagate.specs.BetweenLaws.{upper-not, upper-none, upper-stays, upper-moves}
+use Rattle.propagate.specs.ToldLaws.{upper-not, upper-none, upper-stays, upper-moves}
 use Rattle.propagate.proofs.moved_upper.Statement.{statement}
 use Rattle.propagate.proofs.moved_upper.Tie as tie
 

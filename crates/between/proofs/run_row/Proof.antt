@@ -1,4 +1,4 @@
--- `propagate::run_row` meets its contract: the state is read, run and written back, and the row waits for a residual if it wants one.
+-- `between::run_row` meets its contract: the state is read, run and written back, and the row waits for a residual if it wants one.
 use mathlib.Core.Path.{_≡_, sym, ap, _∙_}
 use mathlib.Core.List.{[]}
 use lib.ListN.{getD}
@@ -8,11 +8,11 @@ use Rattle.state.specs.declared.State.{State}
 use Rattle.queues.specs.Queue.{queue, rows}
 use Rattle.queues.specs.Marks.{marks}
 use Rattle.thresholds.specs.Rows.{rowOf}
 use Rattle.propagate.specs.Guards.{guards}
-use Rattle.propagate.specs.Numbers.{rowState, statesOf, runs-by, states-at, states-set}
-use Rattle.propagate.specs.BetweenLaws.{run-made}
-use Rattle.propagate.proofs.run_row.Statement.{statement}
-use Rattle.propagate.proofs.run_row.Tie as tie
+use Rattle.between.specs.Numbers.{rowState, statesOf, runs-by, states-at, states-set}
+use Rattle.between.specs.BetweenLaws.{run-made}
+use Rattle.between.proofs.run_row.Statement.{statement}
+use Rattle.between.proofs.run_row.Tie as tie
 
 load-requires : tie.Need-load-requires
 load-requires c κs = search needs

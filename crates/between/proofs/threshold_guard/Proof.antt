@@ -1,4 +1,4 @@
--- `propagate::threshold_guard` meets its contract: the bound is nothing new, or it moves the row.
+-- `between::threshold_guard` meets its contract: the bound is nothing new, or it moves the row.
 use mathlib.Core.Path.{_≡_, sym, ap, _∙_}
 use mathlib.Core.List.{[]}
 use lib.ListN.{getD}
@@ -8,13 +8,14 @@ use mir.Val.{toZ, ofZ}
 use borrow.Author.Needs.{needs}
 use Rattle.queues.specs.Queue.{queue, rows}
 use Rattle.queues.specs.Marks.{marks}
 use Rattle.propagate.specs.declared.Tightened.{Tightened}
 use Rattle.propagate.specs.Shape.{signed}
-use Rattle.propagate.specs.Between.{did, live, guardState}
-use Rattle.propagate.specs.Numbers.{rowState, statesOf, runs-by, states-at}
-use Rattle.propagate.specs.BetweenLaws.{guard-runs, guard-moves, guard-tells-nothing}
-use Rattle.propagate.proofs.threshold_guard.Statement.{statement}
-use Rattle.propagate.proofs.threshold_guard.Tie as tie
+use Rattle.propagate.specs.Told.{guardState}
+use Rattle.between.specs.Between.{did, live}
+use Rattle.between.specs.Numbers.{rowState, statesOf, runs-by, states-at}
+use Rattle.between.specs.BetweenLaws.{guard-runs, guard-moves, guard-tells-nothing}
+use Rattle.between.proofs.threshold_guard.Statement.{statement}
+use Rattle.between.proofs.threshold_guard.Tie as tie
 
 load-requires : tie.Need-load-requires
 load-requires c κs = search needs

@@ -1,10 +1,10 @@
--- `propagate::queue_linked` meets its contract.
+-- `between::queue_linked` meets its contract.
 use mathlib.Core.Path.{_∙_}
 use borrow.Author.Needs.{needs}
 use Rattle.queues.specs.Queue.{queue, rows}
-use Rattle.propagate.specs.BetweenLaws.{linked-waits, linked-not}
-use Rattle.propagate.proofs.queue_linked.Statement.{statement}
-use Rattle.propagate.proofs.queue_linked.Tie as tie
+use Rattle.between.specs.BetweenLaws.{linked-waits, linked-not}
+use Rattle.between.proofs.queue_linked.Statement.{statement}
+use Rattle.between.proofs.queue_linked.Tie as tie
 
 returns : tie.Need-returns
 returns c =

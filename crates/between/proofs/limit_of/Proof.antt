@@ -1,11 +1,11 @@
--- `propagate::limit_of` meets its contract.
+-- `between::limit_of` meets its contract.
 use mathlib.Core.Path.{_≡_, sym, ap, _∙_}
 use mir.Syntax.{w64}
 use mir.Val.{toZ, ofZ}
 use Rattle.state.specs.State.{limit}
 use borrow.Author.Needs.{needs}
-use Rattle.propagate.proofs.limit_of.Statement.{statement}
-use Rattle.propagate.proofs.limit_of.Tie as tie
+use Rattle.between.proofs.limit_of.Statement.{statement}
+use Rattle.between.proofs.limit_of.Tie as tie
 
 enum-told : tie.Need-enum-told
 enum-told c = search needs

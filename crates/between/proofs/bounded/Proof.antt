@@ -1,4 +1,4 @@
--- `propagate::bounded` meets its contract: stored, handed on, and run.
+-- `between::bounded` meets its contract: stored, handed on, and run.
 use native.Mathlib.Omega.{arith}
 use mathlib.Core.Path.{_≡_, _∙_}
 use mathlib.Core.List.{[]}
@@ -6,11 +6,11 @@ use lib.ListN.{getD}
 use borrow.Author.Needs.{needs}
 use Rattle.queues.specs.Queue.{queue, rows}
 use Rattle.queues.specs.Marks.{marks}
-use Rattle.propagate.specs.Between.{did, live}
-use Rattle.propagate.specs.Numbers.{rowState, statesOf, runs-by, states-set, stored-at}
-use Rattle.propagate.specs.BetweenLaws.{bounded-made}
-use Rattle.propagate.proofs.bounded.Statement.{statement}
-use Rattle.propagate.proofs.bounded.Tie as tie
+use Rattle.between.specs.Between.{did, live}
+use Rattle.between.specs.Numbers.{rowState, statesOf, runs-by, states-set, stored-at}
+use Rattle.between.specs.BetweenLaws.{bounded-made}
+use Rattle.between.proofs.bounded.Statement.{statement}
+use Rattle.between.proofs.bounded.Tie as tie
 
 store-requires : tie.Need-store-requires
 store-requires c κs = let p = c .before .before .before .before .before .before .before .before .before .before .before .before .pre in (p .0 .0, p .0 .1)

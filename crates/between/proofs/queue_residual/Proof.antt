@@ -1,12 +1,12 @@
--- `propagate::queue_residual` meets its contract.
+-- `between::queue_residual` meets its contract.
 use mathlib.Core.Path.{sym, _∙_}
 use borrow.Author.Needs.{needs}
 use Rattle.numeric.specs.Threshold.{terms}
 use Rattle.queues.specs.Queue.{queue, rows}
 use Rattle.thresholds.specs.Rows.{rowOf}
-use Rattle.propagate.specs.BetweenLaws.{residual-waits, residual-not}
-use Rattle.propagate.proofs.queue_residual.Statement.{statement}
-use Rattle.propagate.proofs.queue_residual.Tie as tie
+use Rattle.between.specs.BetweenLaws.{residual-waits, residual-not}
+use Rattle.between.proofs.queue_residual.Statement.{statement}
+use Rattle.between.proofs.queue_residual.Tie as tie
 
 wants-residual-requires : tie.Need-wants-residual-requires
 wants-residual-requires c κs = search needs

@@ -1,31 +1,23 @@
 -- What moves between rows: a drained guard, a drained condition, bounds over prefix links. propagate.rs and
 -- `threshold_prefixes` on values.
-use Prim.Native.Nat.{ℕ}
-use mathlib.Core.Bool.{Bool, true, false, cond, _&&_, not}
+use Prim.Native.Nat.{ℕ, _+_}
+use mathlib.Core.Bool.{Bool, true, false, cond}
 use mathlib.Core.List.{List, [], _∷_}
 use lib.ListN.{length, getD, set}
-use lib.IntN.{ℤ}
-use lib.Dec.{leb, eqb}
-use lib.Signed.{leZ, ltZ}
-use Rattle.numeric.specs.Threshold.{Term, Threshold}
+use lib.Dec.{eqb}
+use Rattle.numeric.specs.Threshold.{Threshold}
 use Rattle.state.specs.declared.Step.{Step}
 use Rattle.state.specs.declared.Step.the-variants.{Unchanged, Changed, Contradiction}
 use Rattle.state.specs.declared.State.{State}
-use Rattle.state.specs.declared.Upper.{Upper}
-use Rattle.state.specs.declared.Upper.the-variants.{Open, Under}
 use Rattle.state.specs.Step.{joined, contradicts}
-use Rattle.state.specs.State.{noState, upperAtMost, withLower, withUpper, drained}
+use Rattle.state.specs.State.{noState, drained}
 use Rattle.words.specs.Mask.{bit}
 use Rattle.queues.specs.Queue.{Rows, queueRow}
 use Rattle.queues.specs.Marks.{Marks}
-use Rattle.thresholds.specs.Rows.{Row, noRow, Edge, edgesOf, rowNumber}
+use Rattle.thresholds.specs.Rows.{Row, noRow, Edge, edgesOf, rowNumber, stateOfRow}
 use Rattle.prefixes.specs.Links.{Link, neighbours}
-use Rattle.propagate.specs.declared.Tightened.{Tightened}
-use Rattle.propagate.specs.Row.{Ran, thresholdRow, wantsResidual}
-
--- A row's state after what another row or a guard told it, and whether that is anything new.
-abbrev pub tight : State → Bool → Tightened
-tight s c = record { state = s; changed = c }
+use Rattle.propagate.specs.Row.{thresholdRow, wantsResidual}
+use Rattle.propagate.specs.Told.{guardState, movedState}
 
 -- What the seal built and nothing changes after: thresholds, rows, prefix links.
 pub record Index : Type 0 where
@@ -78,16 +70,17 @@ linkedQueued n q r = cond (eqb n 0) q (queueRow q r)
 unfoldable pub bounded : Index → Live → ℕ → State → Did
 bounded x v r s = runRow x (live (set (v .states) r s) (v .marks) (linkedQueued (length (neighbours r (x .links))) (v .dirty) r) (v .residuals)) r
 
--- `threshold_guard`: a sure guard raises its row's lower to its bound, a never one lowers its upper.
-abbrev pub guardState : State → Bool → ℤ → Tightened
-guardState s true b = elim (leZ b (s .lower)) [ true ↦ tight s false | false ↦ tight (withLower s b) true ]
-guardState s false b = elim (upperAtMost (s .upper) b) [ true ↦ tight s false | false ↦ tight (withUpper s (Under b)) true ]
-
+-- `threshold_guard`: a drained guard tells its row its bound.
 unfoldable pub thresholdGuard : Index → Live → Threshold → Did
 thresholdGuard x v t =
     let r = rowNumber (x .rows) (t .terms) in
     let g = guardState (stateAt v r) (bit (v .marks .sure) (t .node)) (t .bound) in
     elim (g .changed) [ true ↦ bounded x v r (g .state) | false ↦ did v Unchanged ]
+
+-- The guard of a node that is a threshold; nothing for any other.
+unfoldable pub guardOf : Index → Live → List Threshold → ℕ → Did
+guardOf x v [] n = did v Unchanged
+guardOf x v (t ∷ ts) n = elim (eqb (t .node) n) [ true ↦ thresholdGuard x v t | false ↦ guardOf x v ts n ]
 
 -- `threshold_condition`: the rows in which the node stands, in order.
 unfoldable pub conditionFrom : Index → Bool → List Edge → Live → Did
@@ -104,21 +97,7 @@ conditionFrom x value (e ∷ es) v =
 unfoldable pub thresholdCondition : Index → Live → ℕ → Did
 thresholdCondition x v node = conditionFrom x (bit (v .marks .sure) node) (edgesOf (x .rows) node) v
 
--- The longer row has at least the shorter's lower, the shorter at most the longer's upper; equal rows both. The numbers are
--- those of the terms of the row that hands on and of the one that takes.
-abbrev pub movedLower : State → State → ℕ → ℕ → Tightened
-movedLower source s n k = cond (leb n k && ltZ (s .lower) (source .lower)) (tight (withLower s (source .lower)) true) (tight s false)
-
-abbrev pub under : Upper → Upper → Bool
-under Open u = false
-under (Under a) u = not (upperAtMost u a)
-
-abbrev pub movedUpper : State → Tightened → ℕ → ℕ → Tightened
-movedUpper source t n k = cond (leb k n && under (source .upper) (t .state .upper)) (tight (withUpper (t .state) (source .upper)) true) t
-
-abbrev pub movedState : State → State → ℕ → ℕ → Tightened
-movedState source s n k = movedUpper source (movedLower source s n k) n k
-
+-- How many terms a row has.
 abbrev pub termCount : Index → ℕ → ℕ
 termCount x r = length (getD (x .rows) r noRow .terms)
 
@@ -141,3 +120,15 @@ prefixesFrom x row source (r ∷ rs) v =
 -- `threshold_prefixes`: the row hands its bounds on to its neighbours, in order.
 unfoldable pub thresholdPrefixes : Index → Live → ℕ → Did
 thresholdPrefixes x v row = prefixesFrom x row (stateAt v row) (neighbours row (x .links)) v
+
+-- The first state of each row, from row r on.
+unfoldable pub firstStates : ℕ → List Row → List State → List State
+firstStates r [] ss = ss
+firstStates r (x ∷ xs) ss = firstStates (r + 1) xs (set ss r (stateOfRow x))
+
+-- `seed_thresholds`: each row is run once, in order, up to the first contradiction.
+unfoldable pub seedFrom : Index → ℕ → List Row → Live → Step → Did
+seedFrom x r [] v k = did v k
+seedFrom x r (_ ∷ rs) v k =
+    elim (contradicts (runRow x v r .step))
+    [ true ↦ did (runRow x v r .live) Contradiction | false ↦ seedFrom x (r + 1) rs (runRow x v r .live) (joined k (runRow x v r .step)) ]

@@ -1,10 +1,10 @@
--- `propagate::store` meets its contract.
+-- `between::store` meets its contract.
 use mathlib.Core.Path.{_≡_}
 use mir.Syntax.{w64}
 use mir.Val.{toZ, ofZ}
 use borrow.Author.Needs.{needs}
-use Rattle.propagate.proofs.store.Statement.{statement}
-use Rattle.propagate.proofs.store.Tie as tie
+use Rattle.between.proofs.store.Statement.{statement}
+use Rattle.between.proofs.store.Tie as tie
 
 limit-of-requires : tie.Need-limit-of-requires
 limit-of-requires c κs = search needs

@@ -1,14 +1,14 @@
--- `propagate::make` meets its contract.
+-- `between::make` meets its contract.
 use mathlib.Core.Path.{_≡_}
 use mir.Syntax.{w64}
 use mir.Val.{toZ, ofZ}
 use lib.ListN.{getD}
 use lib.IntN.{pos}
 use borrow.Author.Tests.{eq-eqb, ne-eqb}
-use Rattle.propagate.specs.Numbers.{rowState}
+use Rattle.between.specs.Numbers.{rowState}
 use borrow.Author.Needs.{needs}
-use Rattle.propagate.proofs.make.Statement.{statement}
-use Rattle.propagate.proofs.make.Tie as tie
+use Rattle.between.proofs.make.Statement.{statement}
+use Rattle.between.proofs.make.Tie as tie
 
 array-copy-out-known : tie.Need-array-copy-out-known
 array-copy-out-known c = search needs

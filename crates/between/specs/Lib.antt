@@ -1,0 +1,3 @@
+pub mod Between
+pub mod Numbers
+pub mod BetweenLaws
