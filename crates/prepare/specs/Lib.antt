@@ -1,2 +1,5 @@
 pub mod Given
 pub mod RowsGiven
+pub mod RowsGivenLaid
+pub mod RowsGivenHeld
+pub mod EdgesGiven
