@@ -3,3 +3,4 @@ pub mod RowsGiven
 pub mod RowsGivenLaid
 pub mod RowsGivenHeld
 pub mod EdgesGiven
+pub mod RowsGivenTerms
