@@ -4,3 +4,4 @@ pub mod RowsGivenLaid
 pub mod RowsGivenHeld
 pub mod EdgesGiven
 pub mod RowsGivenTerms
+pub mod NodesGiven
