@@ -5,3 +5,4 @@ pub mod RowsGivenHeld
 pub mod EdgesGiven
 pub mod RowsGivenTerms
 pub mod NodesGiven
+pub mod RowsGivenLinks

@@ -4,7 +4,7 @@ use native.Mathlib.Nat.{zero-add}
 use native.Mathlib.Numerals.{add-one}
 use native.Mathlib.Omega.{arith}
 use mathlib.Core.Path.{_≡_, refl, sym, ap, ap₂, _∙_, subst}
-use mathlib.Core.List.{List, [], _∷_, map}
+use mathlib.Core.List.{List, [], _∷_, _++_, map, append-nil}
 use lib.ListN.{length, drop, getD, length-map, drop-of-length-le}
 use lib.Seq.{drop-cons}
 use Rattle.lists.specs.Laid.{joinAll, ends}
@@ -15,7 +15,7 @@ use Rattle.thresholds.specs.Raw.{stretch}
 use Rattle.thresholds.specs.Laid.{conditions, weights}
 use Rattle.thresholds.specs.Incidents.{incidentsFrom, rowStart, rowEnd, heldTerms, heldLists, heldItems, Ends}
 use Rattle.thresholds.specs.IncidentsLaws.{keys-from}
-use Rattle.prepare.specs.RowsGivenLaid.{startIn, laid-long, laid-rising, laid-inside, laid-figures}
+use Rattle.prepare.specs.RowsGivenLaid.{startIn, over-figures, laid-long, laid-rising, laid-inside}
 
 -- A row begins where its first column says.
 pub row-start : (rows : List (List ℕ)) (k : ℕ) → rowStart rows k ≡ startIn 0 rows k
@@ -29,17 +29,25 @@ unfolding terms
 terms-back [] = refl
 terms-back (t ∷ ts) = ap (λ (l : List Term). t ∷ l) (terms-back ts)
 
+-- THE TERMS OF ROW k ARE LIST k, in whole buffers, whatever stands behind.
+pub held-over : (cs ws : List ℕ) (rows : List (List ℕ)) (ls : List (List Term)) (cmore wmore more : List ℕ)
+    → cs ≡ conditions (joinAll ls) ++ cmore → ws ≡ weights (joinAll ls) ++ wmore → column 0 rows ≡ ends 0 ls ++ more
+    → (k : ℕ) → k < length ls → heldTerms cs ws rows k ≡ getD ls k []
+held-over cs ws rows ls cmore wmore more c w e k h =
+    let a = startIn 0 rows k in
+    let b = rowEnd rows k in
+    ap (λ (s : ℕ). terms (stretch s b cs) (stretch s b ws)) (row-start rows k)
+    ∙ ap₂ (λ (x y : List ℕ). terms (stretch a b x) (stretch a b y)) c w
+    ∙ ap₂ terms (over-figures 0 rows ls more e k h (λ (t : Term). t .condition) cmore) (over-figures 0 rows ls more e k h (λ (t : Term). t .weight) wmore)
+    ∙ terms-back (getD ls k [])
+
+-- In buffers cut to what they hold.
 module _ (cs ws : List ℕ) (rows : List (List ℕ)) (ls : List (List Term))
     (c : cs ≡ conditions (joinAll ls)) (w : ws ≡ weights (joinAll ls)) (e : column 0 rows ≡ ends 0 ls) where
   -- THE TERMS OF ROW k ARE LIST k.
   pub held-terms : (k : ℕ) → k < length ls → heldTerms cs ws rows k ≡ getD ls k []
-  held-terms k h =
-      let a = rowStart rows k in
-      let b = rowEnd rows k in
-      ap₂ (λ (x y : List ℕ). terms (stretch a b x) (stretch a b y)) c w
-      ∙ ap (λ (s : ℕ). terms (stretch s b (conditions (joinAll ls))) (stretch s b (weights (joinAll ls)))) (row-start rows k)
-      ∙ ap₂ terms (laid-figures 0 rows ls e k h (λ (t : Term). t .condition)) (laid-figures 0 rows ls e k h (λ (t : Term). t .weight))
-      ∙ terms-back (getD ls k [])
+  held-terms =
+      held-over cs ws rows ls [] [] [] (c ∙ sym (append-nil (conditions (joinAll ls)))) (w ∙ sym (append-nil (weights (joinAll ls)))) (e ∙ sym (append-nil (ends 0 ls)))
 
   held-from : (n k : ℕ) → n + k ≡ length ls → heldLists cs ws rows n k ≡ drop n ls
   unfolding heldLists
