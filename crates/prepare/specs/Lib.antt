@@ -1,1 +1,4 @@
 pub mod Given
+pub mod GuardOrderPicked
+pub mod GuardOrderKeys
+pub mod GuardOrderRows
