@@ -1,4 +1,5 @@
 pub mod Given
-pub mod GuardOrderPicked
-pub mod GuardOrderKeys
-pub mod GuardOrderRows
+pub mod GuardOrderPickedLaws
+pub mod GuardOrderKeysLaws
+pub mod GuardOrderRowsLaws
+pub mod GuardOrderLaws

@@ -19,9 +19,9 @@ use Rattle.thresholds.specs.RawLaws.{same-refl}
 use Rattle.thresholds.specs.Rows.{Row, Guard, guard, insertGuard, place, placeAll, rowNumber, noRow}
 use Rattle.thresholds.specs.RowsLaws.{number-all}
 use Rattle.thresholds.specs.Guards.{Bounds, guardKeys, nodeAt}
-use Rattle.prepare.specs.Given.{thresholdAt, given, givenRows}
-use Rattle.prepare.specs.GuardOrderPicked.{picked, picked-same, picked-other, picked-sorted, putAll, put-sorted, all-put}
-use Rattle.prepare.specs.GuardOrderKeys.{guardAt, keyAt, keyGuard, Before, keys-are, picked-keys, insert-key}
+use Rattle.prepare.specs.Given.{thresholdAt, givenRows}
+use Rattle.prepare.specs.GuardOrderPickedLaws.{picked, picked-same, picked-other, picked-sorted, putAll, put-sorted, all-put}
+use Rattle.prepare.specs.GuardOrderKeysLaws.{guardAt, keyAt, keyGuard, Before, keys-are, picked-keys, insert-key}
 
 abbrev pub guardsAt : List Row → ℕ → List Guard
 guardsAt rs k = getD rs k noRow .guards

@@ -8,7 +8,7 @@ use mathlib.Core.Bool.{Bool, true, false, _&&_, _||_}
 use mathlib.Core.List.{List, [], _∷_, map}
 use lib.ListN.{length, getD}
 use lib.Dec.{eqb, leb, ltb}
-use lib.IntN.{ℤ, pos, _+ℤ_}
+use lib.IntN.{ℤ, pos}
 use lib.Signed.{leZ, ltZ}
 use borrow.Author.Tests.{ltb-true, ltb-false, leb-true, leb-false, le-leb, lt-leb, le-ltb, eqb-true, eqb-false}
 use Rattle.lists.specs.Laid.{numbers}
@@ -18,7 +18,7 @@ use Rattle.sort.specs.SortedLaws.{All, put-before, put-behind}
 use Rattle.thresholds.specs.Rows.{Guard, guard, below, insertGuard}
 use Rattle.thresholds.specs.Guards.{Bound, Bounds, raised, guardKey, guardKeys, nodeAt}
 use Rattle.thresholds.specs.GuardsLaws.{raised-pos}
-use Rattle.prepare.specs.GuardOrderPicked.{picked, picked-same, picked-other}
+use Rattle.prepare.specs.GuardOrderPickedLaws.{picked, picked-same, picked-other}
 
 -- ---- keys as numbers
 
@@ -93,31 +93,47 @@ keys-from bounds a (b ∷ bs) h =
 pub keys-are : (bounds : List ℤ) → guardKeys 0 bounds ≡ map (keyAt bounds) (numbers 0 (length bounds))
 keys-are bounds = keys-from bounds 0 bounds (λ i h. ap (λ (j : ℕ). getD bounds j (pos 0)) (omega arith))
 
--- Keys whose thresholds are of row k.
-pub picked-keys : (row : ℕ → ℕ) (bounds : List ℤ) (k m a : ℕ) → a + m ≤ 1024
-    → picked (λ (x : ℕ). row (x % 1024)) k (map (keyAt bounds) (numbers a m)) ≡ map (keyAt bounds) (picked row k (numbers a m))
-unfolding numbers picked
-picked-keys row bounds k zero a h = refl
-picked-keys row bounds k (suc m) a h = by (picked-keys row bounds k m (a + 1) (omega arith)) (eqb (row a) k) refl
-  where
-    same : row (keyAt bounds a % 1024) ≡ row a
-    same = ap row (key-number (raised (getD bounds a (pos 0))) a (omega arith))
+-- The keys whose thresholds are of row k are the keys of the thresholds of row k.
+module _ (row : ℕ → ℕ) (bounds : List ℤ) (k : ℕ) where
+  abbrev rowNamed : ℕ → ℕ
+  rowNamed x = row (x % 1024)
 
-    by : picked (λ (x : ℕ). row (x % 1024)) k (map (keyAt bounds) (numbers (a + 1) m)) ≡ map (keyAt bounds) (picked row k (numbers (a + 1) m)) → (b : Bool)
-        → eqb (row a) k ≡ b → picked (λ (x : ℕ). row (x % 1024)) k (map (keyAt bounds) (numbers a (suc m))) ≡ map (keyAt bounds) (picked row k (numbers a (suc m)))
-    by ih true e =
-        let q = eqb-true (row a) k e in
-        picked-same (λ (x : ℕ). row (x % 1024)) k (keyAt bounds a) (map (keyAt bounds) (numbers (a + 1) m)) (same ∙ q)
-        ∙ ap (λ (l : List ℕ). keyAt bounds a ∷ l) ih ∙ sym (ap (map (keyAt bounds)) (picked-same row k a (numbers (a + 1) m) q))
-    by ih false e =
-        let q = eqb-false (row a) k e in
-        picked-other (λ (x : ℕ). row (x % 1024)) k (keyAt bounds a) (map (keyAt bounds) (numbers (a + 1) m)) (λ z. q (sym same ∙ z)) ∙ ih
-        ∙ sym (ap (map (keyAt bounds)) (picked-other row k a (numbers (a + 1) m) q))
+  pub picked-keys : (m a : ℕ) → a + m ≤ 1024 → picked rowNamed k (map (keyAt bounds) (numbers a m)) ≡ map (keyAt bounds) (picked row k (numbers a m))
+  unfolding numbers picked
+  picked-keys zero a h = refl
+  picked-keys (suc m) a h = by (picked-keys m (a + 1) (omega arith)) (eqb (row a) k) refl
+    where
+      key : ℕ → ℕ
+      key = keyAt bounds
+
+      rest : List ℕ
+      rest = numbers (a + 1) m
+
+      same : row (keyAt bounds a % 1024) ≡ row a
+      same = ap row (key-number (raised (getD bounds a (pos 0))) a (omega arith))
+
+      by : picked rowNamed k (map key rest) ≡ map key (picked row k rest) → (b : Bool) → eqb (row a) k ≡ b
+          → picked rowNamed k (map key (a ∷ rest)) ≡ map key (picked row k (a ∷ rest))
+      by ih true e =
+          let q = eqb-true (row a) k e in
+          picked-same rowNamed k (key a) (map key rest) (same ∙ q) ∙ ap (λ (l : List ℕ). key a ∷ l) ih ∙ sym (ap (map key) (picked-same row k a rest q))
+      by ih false e =
+          let q = eqb-false (row a) k e in
+          picked-other rowNamed k (key a) (map key rest) (λ z. q (sym same ∙ z)) ∙ ih ∙ sym (ap (map key) (picked-other row k a rest q))
 
 module _ (ths : List (List ℕ)) (bounds : List ℤ) (many : length bounds ≤ 1024) (good : Bounds bounds)
     (up : (t : ℕ) → t + 1 < length bounds → nodeAt ths t < nodeAt ths (t + 1)) where
+  abbrev key : ℕ → ℕ
+  key = keyAt bounds
+
+  abbrev own : ℕ → Guard
+  own = guardAt ths bounds
+
+  abbrev named : ℕ → Guard
+  named = keyGuard ths bounds
+
   -- A LATER THRESHOLD'S GUARD IS BELOW AN EARLIER ONE'S EXACTLY IF ITS KEY IS.
-  pub below-key : (s t : ℕ) → s < t → t < length bounds → below (guardAt ths bounds t) (guardAt ths bounds s) ≡ leb (keyAt bounds t) (keyAt bounds s)
+  pub below-key : (s t : ℕ) → s < t → t < length bounds → below (own t) (own s) ≡ leb (key t) (key s)
   below-key s t h k =
       ap (λ (b : Bool). ltZ x y || (leZ x y && b)) (le-ltb (nodeAt ths t) (nodeAt ths s) (let q = rises (nodeAt ths) (length bounds) up s t h k in omega arith))
       ∙ only (ltZ x y) (leZ x y) ∙ raised-order x y (good t k) (good s (omega arith)) ∙ key-order (raised x) (raised y) s t h (omega arith)
@@ -133,31 +149,27 @@ module _ (ths : List (List ℕ)) (bounds : List ℤ) (many : length bounds ≤ 1
       only false true = refl
       only false false = refl
 
-  pub key-guard : (t : ℕ) → t < length bounds → keyGuard ths bounds (keyAt bounds t) ≡ guardAt ths bounds t
-  key-guard t h = ap (guardAt ths bounds) (key-number (raised (getD bounds t (pos 0))) t (omega arith))
+  named-own : (t : ℕ) → t < length bounds → named (key t) ≡ own t
+  named-own t h = ap own (key-number (raised (getD bounds t (pos 0))) t (omega arith))
 
   -- A GUARD IS INSERTED AS ITS KEY IS PUT IN.
-  pub insert-key : (t : ℕ) → t < length bounds → (l : List ℕ) → All (Before bounds t) l
-      → insertGuard (guardAt ths bounds t) (map (keyGuard ths bounds) l) ≡ map (keyGuard ths bounds) (put (keyAt bounds t) l)
+  pub insert-key : (t : ℕ) → t < length bounds → (l : List ℕ) → All (Before bounds t) l → insertGuard (own t) (map named l) ≡ map named (put (key t) l)
   unfolding insertGuard put
-  insert-key t h [] a = ap (λ (g : Guard). g ∷ []) (sym (key-guard t h))
-  insert-key t h (x ∷ l) a = by (insert-key t h l (a .1)) (leb (keyAt bounds t) x) refl
+  insert-key t h [] a = ap (λ (g : Guard). g ∷ []) (sym (named-own t h))
+  insert-key t h (x ∷ l) a = by (insert-key t h l (a .1)) (leb (key t) x) refl
     where
-      test : below (guardAt ths bounds t) (keyGuard ths bounds x) ≡ leb (keyAt bounds t) x
+      test : below (own t) (named x) ≡ leb (key t) x
       test =
           let s = a .0 .0 in
           let q = a .0 .1 in
           let e = a .0 .2 in
-          ap (λ (z : ℕ). below (guardAt ths bounds t) (keyGuard ths bounds z)) e
-          ∙ ap (λ (z : Guard). below (guardAt ths bounds t) z) (key-guard s (omega arith)) ∙ below-key s t q h ∙ ap (leb (keyAt bounds t)) (sym e)
+          ap (λ (z : ℕ). below (own t) (named z)) e ∙ ap (below (own t)) (named-own s (omega arith)) ∙ below-key s t q h ∙ ap (leb (key t)) (sym e)
 
-      by : insertGuard (guardAt ths bounds t) (map (keyGuard ths bounds) l) ≡ map (keyGuard ths bounds) (put (keyAt bounds t) l) → (b : Bool) → leb (keyAt bounds t) x ≡ b
-          → insertGuard (guardAt ths bounds t) (map (keyGuard ths bounds) (x ∷ l)) ≡ map (keyGuard ths bounds) (put (keyAt bounds t) (x ∷ l))
+      by : insertGuard (own t) (map named l) ≡ map named (put (key t) l) → (b : Bool) → leb (key t) x ≡ b
+          → insertGuard (own t) (map named (x ∷ l)) ≡ map named (put (key t) (x ∷ l))
       by ih true e =
-          insert-before (guardAt ths bounds t) (keyGuard ths bounds x) (map (keyGuard ths bounds) l) (test ∙ e)
-          ∙ ap (λ (z : Guard). z ∷ keyGuard ths bounds x ∷ map (keyGuard ths bounds) l) (sym (key-guard t h))
-          ∙ sym (ap (map (keyGuard ths bounds)) (put-before (keyAt bounds t) x l (leb-true (keyAt bounds t) x e)))
+          insert-before (own t) (named x) (map named l) (test ∙ e) ∙ ap (λ (g : Guard). g ∷ named x ∷ map named l) (sym (named-own t h))
+          ∙ sym (ap (map named) (put-before (key t) x l (leb-true (key t) x e)))
       by ih false e =
-          insert-behind (guardAt ths bounds t) (keyGuard ths bounds x) (map (keyGuard ths bounds) l) (test ∙ e)
-          ∙ ap (λ (z : List Guard). keyGuard ths bounds x ∷ z) ih
-          ∙ sym (ap (map (keyGuard ths bounds)) (put-behind (keyAt bounds t) x l (leb-false (keyAt bounds t) x e)))
+          insert-behind (own t) (named x) (map named l) (test ∙ e) ∙ ap (λ (gs : List Guard). named x ∷ gs) ih
+          ∙ sym (ap (map named) (put-behind (key t) x l (leb-false (key t) x e)))
