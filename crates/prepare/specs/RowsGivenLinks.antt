@@ -11,24 +11,17 @@ use Rattle.lists.specs.ColumnsLaws.{length-column}
 use Rattle.numeric.specs.Threshold.{Term}
 use Rattle.thresholds.specs.Rows.{Row, noRow}
 use Rattle.thresholds.specs.Laid.{conditions, weights, termLists}
-use Rattle.thresholds.specs.Incidents.{rowStart}
-use Rattle.thresholds.specs.Incidents.{heldTerms as rowTermsHeld}
+use Rattle.thresholds.specs.Incidents.{rowEnd, heldTerms as rowTermsHeld}
 use Rattle.prefixes.specs.Links.{termsAt, neighbourLists}
 use Rattle.prefixes.specs.LinksLaws.{neighbourLists-same}
-use Rattle.prefixes.specs.Held.{stretch, beginAt, endAt, heldTerms, heldRows, Held}
+use Rattle.prefixes.specs.Held.{stretch, heldTerms, heldRows, Held}
 use Rattle.prefixes.specs.HeldLaws.{held-terms, held-length}
-use Rattle.prepare.specs.RowsGivenLaid.{startIn, length-ends, over-rising, over-inside}
-use Rattle.prepare.specs.RowsGivenHeld.{held-over}
-
-same-begin : (rows : List (List ℕ)) (k : ℕ) → beginAt rows k ≡ startIn 0 rows k
-unfolding beginAt startIn
-same-begin rows zero = refl
-same-begin rows (suc k) = refl
+use Rattle.prepare.specs.RowsGivenLaid.{length-ends, over-rising, over-inside}
+use Rattle.prepare.specs.RowsGivenHeld.{row-start, held-over}
 
 same-terms : (rows : List (List ℕ)) (cs ws : List ℕ) (k : ℕ) → heldTerms rows cs ws k ≡ rowTermsHeld cs ws rows k
-unfolding stretch beginAt rowStart
-same-terms rows cs ws zero = refl
-same-terms rows cs ws (suc k) = refl
+unfolding stretch
+same-terms rows cs ws k = refl
 
 module _ (cs ws : List ℕ) (rows : List (List ℕ)) (ls : List (List Term)) (cmore wmore more : List ℕ)
     (c : cs ≡ conditions (joinAll ls) ++ cmore) (w : ws ≡ weights (joinAll ls) ++ wmore) (e : column 0 rows ≡ ends 0 ls ++ more) where
@@ -36,7 +29,7 @@ module _ (cs ws : List ℕ) (rows : List (List ℕ)) (ls : List (List Term)) (cm
   pub held-given : Held rows cs ws (length ls)
   held-given k h = record {
     listed = let p = ap length e ∙ length-append (ends 0 ls) more in let q = length-column 0 rows in let u = length-ends 0 ls in omega arith;
-    rising = subst (λ (a : ℕ). a ≤ endAt rows k) (sym (same-begin rows k)) (over-rising 0 rows ls more e k h);
+    rising = subst (λ (a : ℕ). a ≤ rowEnd rows k) (sym (row-start rows k)) (over-rising 0 rows ls more e k h);
     conditions =
         let p = ap length c ∙ length-append (conditions (joinAll ls)) cmore in
         let q = length-map (joinAll ls) (λ (t : Term). t .condition) in
