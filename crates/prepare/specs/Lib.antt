@@ -1,3 +1,10 @@
 pub mod Given
 pub mod Place
 pub mod PlaceLaws
+pub mod RowsGiven
+pub mod RowsGivenLaid
+pub mod RowsGivenHeld
+pub mod EdgesGiven
+pub mod RowsGivenTerms
+pub mod NodesGiven
+pub mod RowsGivenLinks
