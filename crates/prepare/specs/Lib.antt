@@ -8,3 +8,7 @@ pub mod EdgesGiven
 pub mod RowsGivenTerms
 pub mod NodesGiven
 pub mod RowsGivenLinks
+pub mod GuardOrderPickedLaws
+pub mod GuardOrderKeysLaws
+pub mod GuardOrderRowsLaws
+pub mod GuardOrderLaws
