@@ -1,0 +1,68 @@
+-- `prepare::place_all` meets its contract. Assumes nothing.
+use native.Mathlib.Omega.{arith}
+use Rattle.thresholds.specs.Raw.{raw}
+use Rattle.prepare.specs.PlaceLaws.{marks-few}
+use Rattle.prepare.specs.PrepareLaws.{marks-cleared}
+use mathlib.Core.Path.{_≡_, _∙_, refl, sym, ap}
+use borrow.Author.Needs.{needs}
+use Rattle.prepare.proofs.place_all.Statement.{statement}
+use Rattle.prepare.proofs.place_all.Tie as tie
+
+place-rows-requires : tie.Need-place-rows-requires
+place-rows-requires c κs = let p = c .before .before .before .before .before .before .before .before .before .before .pre in
+    (p .0, p .1, p .2, p .3, p .4)
+
+clear-first-requires : tie.Need-clear-first-requires
+clear-first-requires c κs = let g = c .before .before .before .before .before .before .before .before .before .before .before .before .before .before .before .before .before .before .before .before .args in
+    let p = c .before .before .before .before .before .before .before .before .before .before .before .before .before .before .before .before .before .before .before .before .pre in
+    let s = c .before .before .before .before .before .before .before .before .before .place-rows .ensures .0 .marks in
+    let few = marks-few (raw (g .conditions .now) (g .weights .now) (g .thresholds .now)) _ _ _ s in
+    let many = p .0 .lists .many in
+    let words = p .0 .words in
+    let k = c .before .before .before .before .before .before .before .before .before .place-rows .kept .1 .1 .1 .1 .1 .1 .1 .0 in
+    omega arith
+
+same-length : tie.Need-same-length
+same-length c = c .before .before .before .before .before .before .before .before .before .before .before .before .place-rows .kept .1 .1 .1 .0
+
+same-length-2 : tie.Need-same-length-2
+same-length-2 c = c .before .before .before .before .before .before .before .before .before .before .before .before .place-rows .kept .1 .1 .1 .1 .0
+
+same-length-3 : tie.Need-same-length-3
+same-length-3 c = c .before .before .before .before .before .before .before .before .before .before .before .before .place-rows .kept .1 .1 .1 .1 .1 .0
+
+same-length-4 : tie.Need-same-length-4
+same-length-4 c = c .before .before .before .before .before .before .before .before .before .before .before .before .place-rows .kept .1 .1 .1 .1 .1 .1 .0
+
+same-length-5 : tie.Need-same-length-5
+same-length-5 c = c .before .before .clear-first .kept .0 ∙ c .before .before .before .before .before .before .before .before .before .before .before .before .place-rows .kept .1 .1 .1 .1 .1 .1 .1 .0
+
+returns : tie.Need-returns
+returns c = let g = c .before .before .before .before .before .before .before .before .before .before .before .before .before .before .before .before .before .before .before .before .before .before .before .args in
+    let p = c .before .before .before .before .before .before .before .before .before .before .before .before .before .before .before .before .before .before .before .before .before .before .before .pre in
+    let r = raw (g .conditions .now) (g .weights .now) (g .thresholds .now) in
+    let s = c .before .before .before .before .before .before .before .before .before .before .before .before .place-rows .ensures in
+    let k = c .before .before .before .before .before .before .before .before .before .before .before .before .place-rows .kept .1 .1 .1 .1 .1 .1 .1 .0 in
+    let few = marks-few r _ _ _ (s .0 .marks) in
+    let many = p .0 .lists .many in
+    let words = p .0 .words in (
+      s .0 .marks .many,
+      s .0 .end,
+      s .0 .terms,
+      s .1,
+      s .2,
+      c .before .before .clear-first .ensures ∙ marks-cleared r _ (c .before .before .before .before .before .before .before .before .before .before .before .before .place-rows .result .rows) (g .scratch .now) _ (p .4) k (omega arith) (s .0 .marks),
+    )
+
+pub place-all-spec : {M : Type 1} → statement M
+place-all-spec =
+    tie.close
+    (tie.spec
+    place-rows-requires
+    clear-first-requires
+    same-length
+    same-length-2
+    same-length-3
+    same-length-4
+    same-length-5
+    returns)
