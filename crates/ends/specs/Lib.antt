@@ -1,3 +1,5 @@
 pub mod Left
 pub mod Rooms
 pub mod Keeps
+pub mod Turns
+pub mod Settles
