@@ -3,3 +3,5 @@ pub mod Rooms
 pub mod Keeps
 pub mod Turns
 pub mod Settles
+pub mod Built
+pub mod Files
