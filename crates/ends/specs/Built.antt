@@ -2,7 +2,7 @@
 use Prim.Native.Nat.{ℕ, zero, suc, _+_, _≤_, _<_}
 use native.Mathlib.Nat.{not-suc-le-zero}
 use native.Mathlib.Omega.{arith}
-use mathlib.Core.Path.{_≡_, refl, sym, ap, _∙_, subst}
+use mathlib.Core.Path.{_≡_, refl, _∙_}
 use mathlib.Core.Bool.{Bool, true, false}
 use mathlib.Core.List.{List, [], _∷_, _++_, List·Memᴰ, List·Memᴰ·head, List·Memᴰ·tail}
 use lib.ListN.{length, getD, set, length-set}
@@ -15,7 +15,7 @@ use Rattle.state.specs.Step.{joined, contradicts}
 use Rattle.row.specs.Terms.{rowTerms, merged, sameTerms, total}
 use Rattle.row.specs.TermsLaws.{All as Every, conditions-merged, all-sorted}
 use Rattle.thresholds.specs.Guards.{Bound}
-use Rattle.thresholds.specs.Rows.{Row, rowOf, noRow, Guard, guard, below, insertGuard, place, placeAll, rowsOf, rowNumber, stateOfRow, Edge, edge, edgesIn, edgesFrom, edgesOf}
+use Rattle.thresholds.specs.Rows.{Row, rowOf, noRow, Guard, guard, below, insertGuard, place, placeAll, rowsOf, rowNumber, stateOfRow, Edge, edge, edgesIn, edgesFrom}
 use Rattle.thresholds.specs.RawLaws.{same-refl}
 use Rattle.prefixes.specs.Links.{Link, links, neighbours}
 use Rattle.prefixes.specs.LinksLaws.{links-range, Joined, downward, upward, neighbours-joined}
@@ -191,6 +191,9 @@ linked-rows rs n r h = every-mem (λ (q : ℕ). q < n) (neighbours r (links rs))
     by q l i (downward e f) = let k = links-range rs (l .prefix) (l .extension) i .1 in omega arith
     by q l i (upward e f) = let k = links-range rs (l .prefix) (l .extension) i .0 in omega arith
 
+rows-few : (j : Job) → Fits j → length (rowsOf j) ≤ 1024
+rows-few j f = omega (arith, all-few (j .thresholds) [], f .few)
+
 -- WHAT A SEAL BUILDS
 pub indexed : (j : Job) → Fits j → Indexed (indexOf j)
 indexed j f = record {
@@ -205,10 +208,7 @@ indexed j f = record {
     fit = every-at RowFits noRow (rowsOf j) (tt, tt) (all-fit (j .thresholds) [] (f .each) tt)
 
     few : length (rowsOf j) ≤ 1024
-    few = omega (arith, all-few (j .thresholds) [], f .few)
-
-pub rows-few : (j : Job) → Fits j → length (rowsOf j) ≤ 1024
-rows-few j f = omega (arith, all-few (j .thresholds) [], f .few)
+    few = rows-few j f
 
 -- ---- the seal
 

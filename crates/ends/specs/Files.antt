@@ -1,10 +1,10 @@
 -- DEMAND 1, its last two lines: in every file a settle or a sift that does not contradict ends because nothing waits any more.
 -- Records that are not refused keep the job within the limits and the values sound. Assumes nothing.
-use Prim.Native.Nat.{ℕ, zero, suc, _+_, _≤_, _<_}
+use Prim.Native.Nat.{ℕ, zero, suc, _+_, _<_}
 use native.Mathlib.Omega.{arith}
 use mathlib.Core.Path.{_≡_, refl, sym, ap, _∙_, subst}
 use mathlib.Core.Bool.{Bool, true, false, cond, _||_}
-use mathlib.Core.List.{List, [], _∷_, _++_, append-assoc}
+use mathlib.Core.List.{List, [], _∷_, _++_}
 use mathlib.Core.Logic.{_⊎_, inl, inr}
 use lib.ListN.{length, getD, drop, replicate, length-replicate}
 use lib.Dec.{eqb, ltb, leb}
@@ -13,29 +13,24 @@ use lib.Signed.{ltZ}
 use borrow.Author.Tests.{ltb-false, leb-false, eqb-true}
 use Rattle.signed.specs.Signed.{nlt-leZ}
 use Rattle.numeric.specs.Area.{weightOfArea}
-use Rattle.numeric.specs.Threshold.{Term, term, Threshold, Job}
-use Rattle.state.specs.declared.Step.{Step}
+use Rattle.numeric.specs.Threshold.{Term, term, Threshold}
 use Rattle.state.specs.declared.State.{State}
-use Rattle.state.specs.Step.{contradicts}
 use Rattle.state.specs.State.{noState}
 use Rattle.queues.specs.Queue.{isEmpty}
 use Rattle.queues.specs.RowsLaws.{flags-none}
 use Rattle.queues.specs.MarksLaws.{waits-none, waits-decide}
 use Rattle.row.specs.TermsLaws.{All as Every}
 use Rattle.thresholds.specs.Guards.{Bound}
-use Rattle.between.specs.Between.{Live}
+use Rattle.propagate.specs.ScanLaws.{clash}
 use Rattle.regions.specs.Drain as Drain
 use Rattle.regions.specs.Drain.{atRest}
 use Rattle.regions.specs.Sift as Sift
-use Rattle.planner.specs.Record.{Kind, kindOf, bodyLength, Record, recordOf, header, opens, adds, areas, seal, mark, settle, sift, unknown}
-use Rattle.planner.specs.File.{File, begun, cleared, Check, check, first, refusal, wrongTurn, noSuchNode, notRising, badBound, badValue, tooMany, addTerm, apply, settledFile, siftedFile, Outcome, outcome, recordAt, unknownKind, cutBody, refusalAt, readFrom, fileOf, planned, after}
+use Rattle.planner.specs.Record.{kindOf, bodyLength, Record, header, opens, adds, areas, seal, mark, settle, sift, unknown}
+use Rattle.planner.specs.File.{File, begun, Check, check, first, refusal, wrongTurn, noSuchNode, notRising, badBound, badValue, tooMany, addTerm, apply, settledFile, siftedFile, Outcome, outcome, recordAt, unknownKind, cutBody, refusalAt, readFrom, fileOf, planned, after}
 use Rattle.ends.specs.Rooms.{Bounded, none-bounded}
 use Rattle.ends.specs.Turns.{Sound}
 use Rattle.ends.specs.Settles.{settle-stays, settle-ends, sift-keeps, sift-ends as sift-rests}
 use Rattle.ends.specs.Built.{Fit, Fits, indexed, seal-sound}
-
-clash : {A : Type 0} → true ≡ false → A
-clash h = absurd (let z : _≡_ {A = ℕ} 0 1 = cc in omega arith)
 
 -- A file within the limits.
 pub record Good (f : File) : Type 0 where

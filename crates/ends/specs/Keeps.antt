@@ -1,24 +1,22 @@
 -- What every decision of a node keeps, a row that is run once and a residual keep too. Assumes nothing.
 use Prim.Native.Nat.{ℕ, _+_, _-_, _<_}
-use mathlib.Core.Path.{_≡_, refl}
 use mathlib.Core.Bool.{Bool, true, false, cond}
 use mathlib.Core.List.{List, [], _∷_, reverse}
 use lib.ListN.{take, drop}
 use lib.IntN.{pos, _-ℤ_}
 use lib.Signed.{leZ, ltZ}
 use Rattle.numeric.specs.Threshold.{Term}
-use Rattle.state.specs.declared.Step.{Step}
-use Rattle.state.specs.declared.Step.the-variants.{Unchanged, Changed, Contradiction}
+use Rattle.state.specs.declared.Step.the-variants.{Unchanged, Contradiction}
 use Rattle.state.specs.declared.State.{State}
 use Rattle.state.specs.Step.{joined, contradicts}
 use Rattle.state.specs.State.{limited, limit, conflict, withGuards, withTerms}
 use Rattle.queues.specs.Marks.{Marks, isDecided, Decided, decided, decide}
 use Rattle.thresholds.specs.Rows.{Row, Guard}
-use Rattle.propagate.specs.Scan.{Scanned, scan, force}
+use Rattle.propagate.specs.Scan.{Scanned, force}
 use Rattle.propagate.specs.ScanLaws.{All, all-drop, all-take, all-reverse, scan-keeps}
 use Rattle.propagate.specs.Guards.{Node, Condition}
 use Rattle.propagate.specs.Row.{Ran, ran, decides, sureWaits, sureGuards, neverWaits, neverGuards, thresholdGuards, termWaits, forces, forced, trueTerms, falseTerms, rowTerms, scans, thresholdRow}
-use Rattle.residual.specs.Residual.{thresholdResidual, forceTerm}
+use Rattle.residual.specs.Residual.{thresholdResidual}
 use Rattle.residual.specs.declared.Interval.{Interval}
 use Rattle.residual.specs.ForceLaws.{Each, force-cases, residual-keeping}
 

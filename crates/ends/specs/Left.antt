@@ -1,18 +1,18 @@
 -- How much the nodes leave to do: those that are not decided yet and those that wait. Deciding a node never adds to it.
 -- Assumes nothing.
-use Prim.Native.Nat.{ℕ, zero, suc, _+_, _-_, _*_, _/_, _≤_, _<_}
+use Prim.Native.Nat.{ℕ, zero, suc, _+_, _*_, _≤_, _<_}
 use native.Mathlib.Nat.{le-refl, not-suc-le-zero}
 use native.Mathlib.Decide.{ℕ-discrete}
 use native.Mathlib.Omega.{arith}
-use mathlib.Core.Path.{_≡_, refl, sym, ap, ap₂, _∙_, subst}
+use mathlib.Core.Path.{_≡_, refl, sym, ap, ap₂, _∙_}
 use mathlib.Core.Bool.{Bool, true, false, cond, not, _||_, or-true}
 use mathlib.Core.Logic.{_≢_}
 use lib.ListN.{length}
 use Rattle.state.specs.declared.Step.{Step}
-use Rattle.state.specs.declared.Step.the-variants.{Unchanged, Changed, Contradiction}
+use Rattle.state.specs.declared.Step.the-variants.{Changed, Contradiction}
 use Rattle.words.specs.Mask.{bit}
-use Rattle.queues.specs.Queue.{Queue, push, popped, poppedRing}
-use Rattle.queues.specs.Marks.{Marks, marks, isDecided, Decided, decided, decide, waiting}
+use Rattle.queues.specs.Queue.{Queue, push, popped}
+use Rattle.queues.specs.Marks.{Marks, marks, isDecided, Decided, decide, waiting}
 use Rattle.queues.specs.MarksLaws.{mask, Waits, decide-there, decide-clash, decide-new, decide-waits, decide-has, decide-other}
 
 -- How many of the first n nodes are not decided.

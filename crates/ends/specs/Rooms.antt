@@ -3,21 +3,22 @@
 use Prim.Native.Nat.{ℕ, zero, suc, _+_, _-_, _*_, _≤_, _<_}
 use native.Mathlib.Nat.{le-refl, not-suc-le-zero, le-of-suc-le-suc}
 use native.Mathlib.Omega.{arith}
-use mathlib.Core.Path.{_≡_, refl, sym, ap, ap₂, _∙_, subst}
-use mathlib.Core.Bool.{Bool, true, false, cond, not, _&&_}
+use mathlib.Core.Path.{_≡_, refl, sym, ap₂, _∙_}
+use mathlib.Core.Bool.{Bool, true, false, cond, _&&_}
 use mathlib.Core.List.{List, [], _∷_}
 use lib.ListN.{length, getD, set}
-use lib.Dec.{leb, ltb}
-use lib.IntN.{ℤ, pos, negsuc, _+ℤ_}
+use lib.Dec.{leb}
+use lib.IntN.{ℤ, pos}
 use lib.Signed.{leZ, ltZ}
 use borrow.Author.Tests.{ltb-true, not-true}
 use Rattle.signed.specs.Signed.{nle-ltZ, ltZ-nle, ltZ-add, ltZ-pos}
 use Rattle.state.specs.declared.State.{State}
 use Rattle.state.specs.declared.Upper.{Upper}
 use Rattle.state.specs.declared.Upper.the-variants.{Open, Under}
-use Rattle.state.specs.State.{limit, upperAtMost, withLower, withUpper, noState, firstState, stateOf}
+use Rattle.state.specs.State.{limit, upperAtMost, withLower, withUpper, noState, firstState}
 use Rattle.thresholds.specs.Guards.{Bound, raised}
 use Rattle.thresholds.specs.GuardsLaws.{raised-pos, raised-small}
+use Rattle.propagate.specs.ScanLaws.{clash}
 use Rattle.propagate.specs.declared.Tightened.{Tightened}
 use Rattle.propagate.specs.Told.{tight, guardState, movedLower, under, movedUpper, movedState}
 
@@ -79,11 +80,8 @@ pub record Tells (s : State) (t : Tightened) : Type 0 where
   pub most : room (t .state) ≤ room s
   pub less : t .changed ≡ true → room (t .state) < room s
 
-clash : {A : Type 0} → false ≡ true → A
-clash h = absurd (let z : _≡_ {A = ℕ} 0 1 = cc in omega arith)
-
 tells-not : (s : State) → Bounded s → Tells s (tight s false)
-tells-not s h = record { bounded = h; most = le-refl (room s); less = λ e. clash e }
+tells-not s h = record { bounded = h; most = le-refl (room s); less = λ e. clash (sym e) }
 
 tells-less : (s t : State) → Bounded t → room t < room s → Tells s (tight t true)
 tells-less s t h k = record { bounded = h; most = omega arith; less = λ e. k }
@@ -102,7 +100,7 @@ tells-guard s false b h k = by (upperAtMost (s .upper) b) refl
 
 and-right : (a b : Bool) → (a && b) ≡ true → b ≡ true
 and-right true b h = h
-and-right false b h = clash h
+and-right false b h = clash (sym h)
 
 tells-lower : (source s : State) (n k : ℕ) → Bounded source → Bounded s → Tells s (movedLower source s n k)
 tells-lower source s n k o h = by (leb n k && ltZ (s .lower) (source .lower)) refl
@@ -120,7 +118,7 @@ tells-upper : (source s : State) (t : Tightened) (n k : ℕ) → Bounded source 
 tells-upper source s t n k o h = by (leb k n && under (source .upper) (t .state .upper)) refl
   where
     one : (u : Upper) → Bound (limit u) → under u (t .state .upper) ≡ true → Tells s (tight (withUpper (t .state) u) true)
-    one Open b e = clash e
+    one Open b e = clash (sym e)
     one (Under a) b e =
         tells-then s t (withUpper (t .state) (Under a)) h (bounded-upper (t .state) (Under a) (h .bounded) b)
         (room-upper (t .state) a (h .bounded) b (not-true (upperAtMost (t .state .upper) a) e))

@@ -1,16 +1,16 @@
 -- A SETTLING ENDS because nothing waits any more, or in a contradiction, and so does a sifting: each of their turns leaves less to do.
 -- Assumes nothing.
-use Prim.Native.Nat.{ℕ, zero, suc, _+_, _-_, _*_, _^_, _≤_, _<_}
+use Prim.Native.Nat.{ℕ, zero, suc, _≤_, _<_}
 use native.Mathlib.Nat.{le-refl, not-suc-le-zero}
 use native.Mathlib.Omega.{arith}
-use mathlib.Core.Path.{_≡_, refl, sym, ap, _∙_}
+use mathlib.Core.Path.{_≡_, refl, sym, _∙_}
 use mathlib.Core.Bool.{Bool, true, false, _&&_}
 use mathlib.Core.List.{List}
 use lib.ListN.{getD}
 use borrow.Author.Tests.{eqb-false}
 use Rattle.numeric.specs.Threshold.{Term}
 use Rattle.state.specs.declared.Step.{Step}
-use Rattle.state.specs.declared.Step.the-variants.{Unchanged, Changed, Contradiction}
+use Rattle.state.specs.declared.Step.the-variants.{Unchanged, Contradiction}
 use Rattle.state.specs.Step.{joined, contradicts, isUnchanged}
 use Rattle.queues.specs.Queue.{isEmpty, oldest, popped, nextRow}
 use Rattle.queues.specs.RowsLaws.{flags-next}
@@ -18,6 +18,7 @@ use Rattle.queues.specs.Marks.{Marks, marks, isDecided}
 use Rattle.queues.specs.MarksLaws.{Waits, waits-popped}
 use Rattle.thresholds.specs.Rows.{noRow}
 use Rattle.prefixes.specs.Links.{neighbours}
+use Rattle.propagate.specs.ScanLaws.{clash}
 use Rattle.residual.specs.Residual.{Residual, thresholdResidual}
 use Rattle.possible_sums.specs.Search.{search, searchStep, searchVisits}
 use Rattle.between.specs.Between.{Index, Live, live, Did, did, stateAt, guardOf, thresholdCondition, thresholdPrefixes}
@@ -26,9 +27,6 @@ use Rattle.regions.specs.Sift.{Sifted, sifted, tryRow, siftFrom, sift}
 use Rattle.ends.specs.Left.{load, load-popped}
 use Rattle.ends.specs.Keeps.{keeps-residual}
 use Rattle.ends.specs.Turns.{Indexed, Sound, core, left, left-most, Then, then, less-decide, run-guards, run-condition, run-prefixes}
-
-clash : {A : Type 0} → true ≡ false → A
-clash h = absurd (let z : _≡_ {A = ℕ} 0 1 = cc in omega arith)
 
 -- One came of the other, and has less left to do; or no more.
 abbrev pub Falls : Live → Live → Type 0

@@ -1,16 +1,15 @@
 -- A row that is run, a drained guard, a drained condition and bounds that a row hands on leave no more to do than before.
 -- Assumes nothing.
-use Prim.Native.Nat.{ℕ, zero, suc, _+_, _-_, _*_, _^_, _≤_, _<_}
+use Prim.Native.Nat.{ℕ, _+_, _*_, _^_, _≤_, _<_}
 use native.Mathlib.Nat.{le-refl}
 use native.Mathlib.Decide.{ℕ-discrete}
 use native.Mathlib.Omega.{arith}
-use mathlib.Core.Path.{_≡_, refl, sym, ap, _∙_}
+use mathlib.Core.Path.{_≡_, refl, _∙_}
 use mathlib.Core.Bool.{Bool, true, false, cond}
 use mathlib.Core.List.{List, [], _∷_}
 use lib.ListN.{length, getD, set, length-set}
 use lib.Dec.{eqb}
 use Rattle.numeric.specs.Threshold.{Threshold}
-use Rattle.state.specs.declared.Step.{Step}
 use Rattle.state.specs.declared.Step.the-variants.{Unchanged, Changed, Contradiction}
 use Rattle.state.specs.declared.State.{State}
 use Rattle.state.specs.Step.{joined, contradicts}
@@ -31,7 +30,7 @@ use Rattle.propagate.specs.declared.Tightened.{Tightened}
 use Rattle.propagate.specs.Told.{guardState, movedState}
 use Rattle.propagate.specs.Row.{Ran, thresholdRow, wantsResidual}
 use Rattle.propagate.specs.RowLaws.{Kept, kept-row}
-use Rattle.between.specs.Between.{Index, Live, live, Did, did, stateAt, withState, withDirty, residualQueued, runRow, linkedQueued, bounded, thresholdGuard, guardOf, conditionFrom, thresholdCondition, termCount, prefixesFrom, thresholdPrefixes}
+use Rattle.between.specs.Between.{Index, Live, live, Did, did, stateAt, withState, withDirty, residualQueued, runRow, linkedQueued, bounded, thresholdGuard, guardOf, conditionFrom, thresholdCondition, termCount, prefixesFrom}
 use Rattle.ends.specs.Left.{load, load-decide, load-most}
 use Rattle.ends.specs.Rooms.{Bounded, room, rooms, rooms-set, rooms-most, AllBounded, set-bounded, bounded-same, room-same, Tells, tells-guard, tells-moved}
 use Rattle.ends.specs.Keeps.{keeps-row}
