@@ -4,7 +4,7 @@ use native.Mathlib.Omega.{arith}
 use lib.ListN.{length, length-set}
 use Rattle.sort.specs.Runs.{cleared}
 use Rattle.prepare.specs.PlaceLaws.{cleared-next}
-use mathlib.Core.Path.{_≡_, _∙_, refl, sym, ap}
+use mathlib.Core.Path.{_≡_, _∙_, refl, ap}
 use borrow.Author.Needs.{needs}
 use Rattle.prepare.proofs.clear_first.Statement.{statement}
 use Rattle.prepare.proofs.clear_first.Tie as tie

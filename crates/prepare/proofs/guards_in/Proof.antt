@@ -10,7 +10,7 @@ use Rattle.lists.specs.Columns.{withColumn}
 use Rattle.lists.specs.TallyLaws.{mapped-long}
 use Rattle.thresholds.specs.Guards.{boundItem, nodeItem, boundItems, nodeItems}
 use Rattle.prepare.specs.PrepareParts.{grouped-part}
-use mathlib.Core.Path.{_≡_, _∙_, refl, sym, ap}
+use mathlib.Core.Path.{_∙_, sym, ap}
 use borrow.Author.Needs.{needs}
 use Rattle.prepare.proofs.guards_in.Statement.{statement}
 use Rattle.prepare.proofs.guards_in.Tie as tie
@@ -77,10 +77,12 @@ returns c = let g = c .before .before .before .before .before .before .before .b
     let n = length-take-le (g .count) (g .rows .now) (p .0) in
     let x = mapped-long (boundItem (g .thresholds .now) (g .nodes .now) (g .bounds .now)) ks in
     let y = mapped-long (nodeItem (g .thresholds .now) (g .nodes .now)) ks in (
-      ap (λ (l : List (List ℕ)). l ++ drop (g .count) (g .rows .now))
-          (s .0 ∙ ap (λ (m : ℕ). withColumn 1 (take (g .count) (g .rows .now)) (ends 0 (grouped 0 m (boundItems (g .thresholds .now) (g .nodes .now) (g .bounds .now) ks)))) n),
-      grouped-part (boundItems (g .thresholds .now) (g .nodes .now) (g .bounds .now) ks) _ (g .count) (g .guard-bounds .now) _ (length (g .bounds .now)) n (omega arith) (p .1) (s .1),
-      grouped-part (nodeItems (g .thresholds .now) (g .nodes .now) ks) _ (g .count) (g .guard-nodes .now) _ (length (g .bounds .now)) n (omega arith) (p .2) (s .2),
+      record {
+        entries = ap (λ (l : List (List ℕ)). l ++ drop (g .count) (g .rows .now))
+            (s .0 ∙ ap (λ (m : ℕ). withColumn 1 (take (g .count) (g .rows .now)) (ends 0 (grouped 0 m (boundItems (g .thresholds .now) (g .nodes .now) (g .bounds .now) ks)))) n);
+        limits = grouped-part (boundItems (g .thresholds .now) (g .nodes .now) (g .bounds .now) ks) _ (g .count) (g .guard-bounds .now) _ (length (g .bounds .now)) n (omega arith) (p .1) (s .1);
+        names = grouped-part (nodeItems (g .thresholds .now) (g .nodes .now) ks) _ (g .count) (g .guard-nodes .now) _ (length (g .bounds .now)) n (omega arith) (p .2) (s .2);
+      },
       c .before .before .clear-first .ensures,
     )
 

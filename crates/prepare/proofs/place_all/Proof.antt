@@ -1,10 +1,14 @@
 -- `prepare::place_all` meets its contract. Assumes nothing.
 use native.Mathlib.Omega.{arith}
+use lib.ListN.{length}
+use Rattle.lists.specs.Laid.{joinAll}
+use Rattle.row.specs.Keys.{conditionsOf, weightsOf}
 use Rattle.thresholds.specs.Raw.{raw}
+use Rattle.thresholds.specs.Placed.{termsTo}
 use Rattle.prepare.specs.PlaceLaws.{marks-few}
+use Rattle.prepare.specs.PrepareParts.{laid-over}
 use Rattle.prepare.specs.PrepareLaws.{marks-cleared}
-use mathlib.Core.Path.{_≡_, _∙_, refl, sym, ap}
-use borrow.Author.Needs.{needs}
+use mathlib.Core.Path.{_∙_}
 use Rattle.prepare.proofs.place_all.Statement.{statement}
 use Rattle.prepare.proofs.place_all.Tie as tie
 
@@ -42,15 +46,19 @@ returns c = let g = c .before .before .before .before .before .before .before .b
     let p = c .before .before .before .before .before .before .before .before .before .before .before .before .before .before .before .before .before .before .before .before .before .before .before .pre in
     let r = raw (g .conditions .now) (g .weights .now) (g .thresholds .now) in
     let s = c .before .before .before .before .before .before .before .before .before .before .before .before .place-rows .ensures in
+    let J = joinAll (termsTo r (length (g .thresholds .now))) in
     let k = c .before .before .before .before .before .before .before .before .before .before .before .before .place-rows .kept .1 .1 .1 .1 .1 .1 .1 .0 in
     let few = marks-few r _ _ _ (s .0 .marks) in
     let many = p .0 .lists .many in
     let words = p .0 .words in (
-      s .0 .marks .many,
-      s .0 .end,
-      s .0 .terms,
-      s .1,
-      s .2,
+      record {
+        many = s .0 .marks .many;
+        end = s .0 .end;
+        conditions = laid-over (g .row-conditions .now) _ (conditionsOf J) (p .2) (c .before .before .before .before .before .before .before .before .before .before .before .before .place-rows .kept .1 .1 .1 .0) (s .0 .terms .conditions);
+        weights = laid-over (g .row-weights .now) _ (weightsOf J) (p .3) (c .before .before .before .before .before .before .before .before .before .before .before .before .place-rows .kept .1 .1 .1 .1 .0) (s .0 .terms .weights);
+        entries = s .1;
+        named = s .2;
+      },
       c .before .before .clear-first .ensures ∙ marks-cleared r _ (c .before .before .before .before .before .before .before .before .before .before .before .before .place-rows .result .rows) (g .scratch .now) _ (p .4) k (omega arith) (s .0 .marks),
     )
 
