@@ -5,7 +5,7 @@ use native.Mathlib.Omega.{arith}
 use mathlib.Core.Path.{_≡_, refl, sym, ap, ap₂, _∙_, subst}
 use mathlib.Core.Bool.{Bool, true, false, cond}
 use mathlib.Core.List.{List, [], _∷_, _++_, map, map-append, append-assoc, append-nil}
-use lib.ListN.{length, take, drop, getD, set, replicate, length-append, length-set, length-map, length-replicate, replicate-append-replicate}
+use lib.ListN.{length, take, drop, getD, set, replicate, length-append, length-set, length-map}
 use lib.Seq.{drop-cons, set-at, drop-drop, drop-set-lt, take-suc-set}
 use lib.Dec.{ltb}
 use borrow.Author.Tests.{ltb-true, ltb-false, lt-ltb, le-ltb}
@@ -13,7 +13,6 @@ use Rattle.lists.specs.Laid.{over, joinAll, ends}
 use Rattle.numeric.specs.Threshold.{Term}
 use Rattle.row.specs.Terms.{rowTerms}
 use Rattle.row.specs.Keys.{laid, conditionsOf, weightsOf}
-use Rattle.sort.specs.Runs.{cleared}
 use Rattle.thresholds.specs.declared.Found.the-variants.{At, Nothing}
 use Rattle.thresholds.specs.Raw.{Raw, startOf, endOf, stretch, listAt, mixed, fingerprint, markedList, numberIn, foundOf, Lists, Marked}
 use Rattle.thresholds.specs.RawLaws.{stretch-length, length-terms, number-most, length-marked, found-is, found-none}
@@ -297,14 +296,7 @@ ready-by r cs ws rows scratch cs′ ws′ rows′ scratch′ a b c d q =
     let q4 = q .words in
     record { lists = q .lists; below = q .below; few = q .few; room = omega arith; even = omega arith; many = omega arith; words = omega arith }
 
--- ---- single words
-
-pub cleared-next : (b words : List ℕ) (i : ℕ) → words ≡ cleared i b → i < length b → set words i 0 ≡ cleared (i + 1) b
-cleared-next b words i e h =
-    ap (λ (l : List ℕ). set l i 0) e ∙ ap (λ (t : List ℕ). set (replicate i 0 ++ t) i 0) (drop-cons b i 0 h)
-    ∙ set-at (replicate i 0) (getD b i 0) (drop (suc i) b) 0 i (length-replicate i 0)
-    ∙ sym (append-assoc (replicate i 0) (0 ∷ []) (drop (suc i) b))
-    ∙ ap₂ (λ (l : List ℕ) (k : ℕ). l ++ drop k b) (replicate-append-replicate i 1 0) (sym (add-one i))
+-- ---- marks as words
 
 -- A print is below 2 ^ 32, so that a mark fits its word and is taken apart again.
 mixed-small : (h : ℕ) (ts : List Term) → h < 4294967296 → mixed h ts < 4294967296

@@ -59,6 +59,10 @@ grouped-part {X} xs m k b ys n e h i q =
 pub keys-over : (b keys ys : List ℕ) (n : ℕ) → ys ≡ keys → length keys ≡ n → ys ++ drop n b ≡ over keys b
 keys-over b keys ys n e l = ap₂ (λ (y : List ℕ) (m : ℕ). y ++ drop m b) e (sym l)
 
+-- A part cleared.
+pub cleared-part : (b ys : List ℕ) (n : ℕ) → n ≤ length b → ys ≡ replicate (length (take n b)) 0 → ys ++ drop n b ≡ cleared n b
+cleared-part b ys n h e = ap (λ (y : List ℕ). y ++ drop n b) (e ∙ ap (λ (k : ℕ). replicate k 0) (length-take-le n b h))
+
 -- Zeros lent as a spare and cleared.
 pub spare-kept : (ws ys : List ℕ) (n k : ℕ) → Blank ws → n ≤ length ws → k ≡ n → ys ≡ cleared k (take n ws) → ys ++ drop n ws ≡ ws
 spare-kept ws ys n k e h q p =

@@ -11,6 +11,7 @@ ghost use Rattle.thresholds.specs.Raw.{raw, listAt, fingerprint};
 ghost use Rattle.thresholds.specs.Placed.{rowTo, rowEntry, nodeEntry, nodesTo};
 ghost use Rattle.prepare.specs.Prepare.{lent, Sound, Ample, Prepared, Placeable, Rowed, Dealable, Guarded, Indexable, Edged};
 ghost use Rattle.prepare.specs.Place.{Placing, Ready, Blank, rowEnds, nodesNext, rowsNext};
+use sort::clear;
 use thresholds::Found;
 use thresholds::build_at;
 use thresholds::end_of;
@@ -167,18 +168,6 @@ fn place_rows(
     so
 }
 
-// The first words zero again.
-fn clear_first(words: &mut [u64], count: usize)
-    requires { ⌜ count ≤ length (now words) ⌝ }
-    ensures { λ _. ⌜ now (words .exit) ≡ cleared count (now (words .entry)) ⌝ }
-{
-    let mut i: usize = 0;
-    while i < count {
-        words[i] = 0;
-        i += 1;
-    }
-}
-
 // The same with the marks cleared again.
 fn place_all(
     conditions: &[u16],
@@ -208,7 +197,7 @@ fn place_all(
         scratch,
     );
     let count = so.rows;
-    clear_first(scratch, count);
+    clear(&mut scratch[..count]);
     so
 }
 
@@ -279,7 +268,7 @@ fn guards_in(
         &mut guard_bounds[..keys],
         &mut guard_nodes[..keys],
     );
-    clear_first(scratch, keys);
+    clear(&mut scratch[..keys]);
 }
 
 // The edges of every node, from the first `count` rows, whose terms end at `end`.
