@@ -6,7 +6,7 @@ use mathlib.Core.List.{List, map}
 use lib.ListN.{length, getD, set, replicate}
 use lib.Dec.{ltb}
 use Rattle.lists.specs.Laid.{joinAll, ends}
-use Rattle.thresholds.specs.Raw.{Raw, startOf, Lists}
+use Rattle.thresholds.specs.Raw.{Raw, Lists}
 use Rattle.thresholds.specs.Guards.{nodeAt}
 use Rattle.thresholds.specs.Placed.{rawsTo, rowTo, termsTo, rowEntry, nodeEntry, Terms, Marks}
 use Rattle.prepare.specs.declared.Extent.{Extent}
@@ -14,7 +14,6 @@ use Rattle.prepare.specs.declared.Extent.{Extent}
 -- After t thresholds: where the terms end, the terms in their two arrays, the marks in the scratch.
 pub record Placing (r : Raw) (t : ℕ) (so : Extent) (cs ws scratch : List ℕ) : Type 0 where
   pub end : so .end ≡ length (joinAll (termsTo r t))
-  pub before : so .end ≤ startOf (r .thresholds) t
   pub terms : Terms r t cs ws
   pub marks : Marks r t (so .rows) scratch
 

@@ -1,26 +1,26 @@
 -- Laws of rows placed threshold by threshold.
 use Prim.Native.Nat.{ℕ, zero, suc, _+_, _-_, _*_, _/_, _%_, _<_, _≤_}
-use native.Mathlib.Nat.{not-suc-le-zero}
 use native.Mathlib.Numerals.{add-one}
 use native.Mathlib.Omega.{arith}
 use mathlib.Core.Path.{_≡_, refl, sym, ap, ap₂, _∙_, subst}
 use mathlib.Core.Bool.{Bool, true, false, cond}
 use mathlib.Core.List.{List, [], _∷_, _++_, map, map-append, append-assoc, append-nil}
-use lib.ListN.{length, take, drop, getD, set, replicate, length-append, length-set, length-map, length-replicate, replicate-append-replicate}
-use lib.Seq.{drop-cons, set-at, drop-drop, drop-set-lt, take-suc-set, length-take-le}
+use lib.ListN.{length, take, drop, getD, set, replicate, length-append, length-set, length-map}
+use lib.Seq.{drop-cons, set-at, drop-drop, drop-set-lt, take-suc-set}
 use lib.Dec.{ltb}
 use borrow.Author.Tests.{ltb-true, ltb-false, lt-ltb, le-ltb}
 use Rattle.lists.specs.Laid.{over, joinAll, ends}
 use Rattle.numeric.specs.Threshold.{Term}
 use Rattle.row.specs.Terms.{rowTerms}
 use Rattle.row.specs.Keys.{laid, conditionsOf, weightsOf}
-use Rattle.sort.specs.Runs.{cleared}
 use Rattle.thresholds.specs.declared.Found.the-variants.{At, Nothing}
 use Rattle.thresholds.specs.Raw.{Raw, startOf, endOf, stretch, listAt, mixed, fingerprint, markedList, numberIn, foundOf, Lists, Marked}
-use Rattle.thresholds.specs.RawLaws.{stretch-length, length-terms, start-suc, number-most, length-marked, found-is, found-none}
-use Rattle.thresholds.specs.Placed.{spliced, rawsTo, rowTo, termsTo, rowEntry, nodeEntry, nodesTo, Terms, Marks}
+use Rattle.thresholds.specs.RawLaws.{stretch-length, length-terms, number-most, length-marked, found-is, found-none}
+use Rattle.thresholds.specs.Placed.{spliced, rawsTo, rowTo, termsTo, rowEntry, nodesTo, Marks}
 use Rattle.thresholds.specs.PlacedLaws.{laid-behind, drop-replicate}
 use Rattle.prepare.specs.declared.Extent.{Extent}
+use Rattle.prepare.specs.RowsGivenLaid.{length-ends}
+use Rattle.prepare.specs.RowsGivenTerms.{terms-room}
 use Rattle.prepare.specs.Place.{Placing, Ready, Blank, rowEnds, rowsNext, nodesNext}
 
 -- ---- one list more
@@ -37,11 +37,6 @@ ends-one n (x ∷ ls) l =
     let q = length-append x (joinAll ls) in
     ap (λ (t : List ℕ). (n + length x) ∷ t) (ends-one (n + length x) ls l ∙ ap (λ (k : ℕ). ends (n + length x) ls ++ (k ∷ []))
     (let e : n + length x + length (joinAll ls) + length l ≡ n + length (x ++ joinAll ls) + length l = omega arith in e))
-
-pub length-ends : {X : Type 0} (n : ℕ) (ls : List (List X)) → length (ends n ls) ≡ length ls
-unfolding ends
-length-ends n [] = refl
-length-ends n (l ∷ ls) = ap suc (length-ends (n + length l) ls)
 
 over-one : {X : Type 0} (l b : List X) (n : ℕ) (x : X) → length l ≡ n → n < length b → set (over l b) n x ≡ over (l ++ (x ∷ [])) b
 over-one {X} l b n x e h =
@@ -155,12 +150,8 @@ module _ (r : Raw) (t : ℕ) (so : Extent) (cs ws scratch : List ℕ) (p : Placi
   pub placing-old : rowTo r t < length (rawsTo r t) → Placing r (t + 1) so cs ws scratch
   placing-old n =
       let e = sym (raws-old r t n) in
-      let rising = l .rising t h in
-      let s = start-suc (r .thresholds) t in
-      let b = p .before in
       record {
         end = p .end ∙ ap (λ (ls : List (List Term)). length (joinAll (map (λ (l : List Term). rowTerms l) ls))) e;
-        before = omega arith;
         terms = record {
           conditions = p .terms .conditions ∙ ap (λ (ls : List (List Term)). laid (length cs) (conditionsOf (joinAll (map (λ (l : List Term). rowTerms l) ls)))) e;
           weights = p .terms .weights ∙ ap (λ (ls : List (List Term)). laid (length ws) (weightsOf (joinAll (map (λ (l : List Term). rowTerms l) ls)))) e;
@@ -174,11 +165,11 @@ module _ (r : Raw) (t : ℕ) (so : Extent) (cs ws scratch : List ℕ) (p : Placi
     new : rowTo r t ≡ length (rawsTo r t)
     new = n ∙ p .marks .many
 
-    laid-new : (f : Term → ℕ) (b b′ : List ℕ) → b ≡ laid (length b) (map f (joinAll (termsTo r t))) → e ≤ length b → length b′ ≡ length b
+    laid-new : (f : Term → ℕ) (b b′ : List ℕ) → b ≡ laid (length b) (map f (joinAll (termsTo r t))) → length (r .conditions) ≤ length b → length b′ ≡ length b
         → b′ ≡ spliced (so .end) (e - a) b (laid (e - a) (map f (rowTerms x))) → b′ ≡ laid (length b′) (map f (joinAll (termsTo r (t + 1))))
-    laid-new f b b′ q room k s =
-        let rising = l .rising t h in
-        let before = p .before in
+    laid-new f b b′ q long k s =
+        let room = terms-room r (length (r .thresholds)) t l h in
+        let end = p .end in
         let le = p .end ∙ sym (length-map (joinAll (termsTo r t)) f) in
         let lx = length-map (rowTerms x) f in
         s ∙ laid-behind b (so .end) (e - a) (map f (joinAll (termsTo r t))) (map f (rowTerms x)) q le (omega arith) (omega arith)
@@ -188,25 +179,37 @@ module _ (r : Raw) (t : ℕ) (so : Extent) (cs ws scratch : List ℕ) (p : Placi
     end-new : so .end + length (rowTerms x) ≡ length (joinAll (termsTo r (t + 1)))
     end-new = ap₂ _+_ (p .end) (ap (λ (y : List Term). length (rowTerms y)) ex) ∙ sym (long-new r t new)
 
-    pub placing-new : (end m : ℕ) (cs′ ws′ scratch′ : List ℕ) → e ≤ length cs → length ws ≡ length cs → so .rows < length scratch
+    pub placing-new : (end m : ℕ) (cs′ ws′ scratch′ : List ℕ) → length (r .conditions) ≤ length cs → length ws ≡ length cs → so .rows < length scratch
         → end ≡ so .end + length (rowTerms x)
         → length cs′ ≡ length cs → cs′ ≡ spliced (so .end) (e - a) cs (laid (e - a) (conditionsOf (rowTerms x)))
         → length ws′ ≡ length ws → ws′ ≡ spliced (so .end) (e - a) ws (laid (e - a) (weightsOf (rowTerms x)))
         → m % 1024 ≡ t → m / 1024 ≡ fingerprint (listAt r t) → scratch′ ≡ scratch
         → Placing r (t + 1) (extent (so .rows + 1) end) cs′ ws′ (set scratch′ (so .rows) m)
     placing-new end m cs′ ws′ scratch′ room even some q kc ec kw ew mt mp es =
-        let rising = l .rising t h in
-        let before = p .before in
-        let s = start-suc (r .thresholds) t in
         record {
           end = q ∙ end-new;
-          before = omega arith;
           terms = record {
             conditions = laid-new (λ (t : Term). t .condition) cs cs′ (p .terms .conditions) room kc ec;
             weights = laid-new (λ (t : Term). t .weight) ws ws′ (p .terms .weights) (omega arith) kw ew;
           };
           marks = subst (λ (z : List ℕ). Marks r (t + 1) (so .rows + 1) (set z (so .rows) m)) (sym es) (marks-new r t (so .rows) scratch (p .marks) m some mt mp h n);
         }
+
+-- Where a next row would go there is room, in the rows and among the marks.
+pub record Within (r : Raw) (t : ℕ) (so : Extent) (rows : List (List ℕ)) (scratch : List ℕ) : Type 0 where
+  pub turn : t < 1024
+  pub few : so .rows ≤ t
+  pub row : so .rows < length rows
+  pub word : so .rows < length scratch
+
+pub within : (r : Raw) (t : ℕ) (so : Extent) (cs ws : List ℕ) (rows : List (List ℕ)) (scratch : List ℕ) → Ready r cs ws rows scratch → Placing r t so cs ws scratch
+    → t < length (r .thresholds) → Within r t so rows scratch
+within r t so cs ws rows scratch q p h =
+    let few = marks-few r t (so .rows) scratch (p .marks) in
+    let many = q .lists .many in
+    let row = q .many in
+    let word = q .words in
+    record { turn = omega arith; few = few; row = omega arith; word = omega arith }
 
 -- ---- rows and nodes
 
@@ -257,10 +260,9 @@ nodes-next r t nodes₀ nodes nodes′ e s = s ∙ ap (λ (l : List (List ℕ)).
 -- ---- before the first
 
 pub placing-start : (r : Raw) (cs ws scratch : List ℕ) → Blank cs → Blank ws → Blank scratch → Placing r 0 (extent 0 0) cs ws scratch
-unfolding rawsTo joinAll startOf
+unfolding rawsTo joinAll
 placing-start r cs ws scratch a b c = record {
   end = refl;
-  before = omega arith;
   terms = record { conditions = blank cs a; weights = blank ws b };
   marks = record { many = refl; marked = record { first = λ k h. absurd (omega arith); print = λ k h. absurd (omega arith) }; named = refl; clear = blank scratch c };
 }
@@ -294,14 +296,7 @@ ready-by r cs ws rows scratch cs′ ws′ rows′ scratch′ a b c d q =
     let q4 = q .words in
     record { lists = q .lists; below = q .below; few = q .few; room = omega arith; even = omega arith; many = omega arith; words = omega arith }
 
--- ---- single words
-
-pub cleared-next : (b words : List ℕ) (i : ℕ) → words ≡ cleared i b → i < length b → set words i 0 ≡ cleared (i + 1) b
-cleared-next b words i e h =
-    ap (λ (l : List ℕ). set l i 0) e ∙ ap (λ (t : List ℕ). set (replicate i 0 ++ t) i 0) (drop-cons b i 0 h)
-    ∙ set-at (replicate i 0) (getD b i 0) (drop (suc i) b) 0 i (length-replicate i 0)
-    ∙ sym (append-assoc (replicate i 0) (0 ∷ []) (drop (suc i) b))
-    ∙ ap₂ (λ (l : List ℕ) (k : ℕ). l ++ drop k b) (replicate-append-replicate i 1 0) (sym (add-one i))
+-- ---- marks as words
 
 -- A print is below 2 ^ 32, so that a mark fits its word and is taken apart again.
 mixed-small : (h : ℕ) (ts : List Term) → h < 4294967296 → mixed h ts < 4294967296

@@ -1,20 +1,22 @@
 -- `prepare` on lent buffers: what the job and the buffers must be, and what stands in them afterwards.
 use Prim.Native.Nat.{ℕ, _-_, _%_, _<_, _≤_}
 use mathlib.Core.Path.{_≡_}
-use mathlib.Core.List.{List, map}
-use lib.ListN.{length, getD, drop, replicate}
+use mathlib.Core.List.{List, _++_, map}
+use lib.ListN.{length, getD, take, drop, replicate}
 use lib.IntN.{ℤ}
 use Rattle.lists.specs.Laid.{over, joinAll, ends, triples, numbers}
-use Rattle.lists.specs.Deal.{Keyed}
-use Rattle.lists.specs.Columns.{column, Wide}
+use Rattle.lists.specs.Deal.{Keyed, grouped}
+use Rattle.lists.specs.Columns.{column, withColumn, Wide}
+use Rattle.row.specs.Keys.{conditionsOf, weightsOf}
 use Rattle.thresholds.specs.Raw.{Raw, Lists}
-use Rattle.thresholds.specs.Guards.{Bounds, nodeAt, rowAt, NodesIn}
+use Rattle.thresholds.specs.Guards.{Bounds, nodeAt, rowAt, NodesIn, boundItems, nodeItems}
+use Rattle.thresholds.specs.Placed.{rawsTo, termsTo, nodesTo}
 use Rattle.thresholds.specs.Incidents.{heldItems, Ends}
 use Rattle.thresholds.specs.Laid.{conditions, weights, termLists, guardLists, guardBounds, guardNodes, thresholdOf, rowOfNode, edgeLists, edgeRow}
 use Rattle.prepare.specs.declared.Extent.{Extent}
 use Rattle.prepare.specs.Given.{given, givenRows}
 use Rattle.prepare.specs.NodesGiven.{NodesRise}
-use Rattle.prepare.specs.Place.{Blank}
+use Rattle.prepare.specs.Place.{Blank, rowEnds}
 
 -- The buffers that `prepare` writes.
 pub record Lent : Type 0 where
@@ -51,7 +53,7 @@ pub record Sound (r : Raw) (bounds : List ℤ) (nodes : ℕ) : Type 0 where
   pub short : length (r .conditions) < 65536
 
 -- Room for so many raw terms and thresholds; terms, nodes and scratch are zero.
-pub record Room (total count : ℕ) (b : Lent) : Type 0 where
+pub record Ample (total count : ℕ) (b : Lent) : Type 0 where
   pub conditions : total ≤ length (b .row-conditions)
   pub weights : total ≤ length (b .row-weights)
   pub spare : count ≤ length (b .row-weights)
@@ -79,10 +81,10 @@ pub record Prepared (r : Raw) (bounds : List ℤ) (so : Extent) (b a : Lent) : T
   pub edges : a .edges ≡ over (map edgeRow (joinAll (edgeLists (length (b .nodes)) (givenRows r bounds)))) (b .edges)
   pub scratch : a .scratch ≡ b .scratch
 
--- ---- what its steps ask
+-- ---- what its steps ask and leave
 
 -- Rows can be placed: the raw lists are as they must be, terms and marks start from zero.
-pub record Open (r : Raw) (cs ws : List ℕ) (rows nodes : List (List ℕ)) (scratch : List ℕ) : Type 0 where
+pub record Placeable (r : Raw) (cs ws : List ℕ) (rows nodes : List (List ℕ)) (scratch : List ℕ) : Type 0 where
   pub lists : Lists r (length (r .thresholds))
   pub below : (i : ℕ) → getD (r .conditions) i 0 < 4096
   pub few : length (r .conditions) < 65536
@@ -95,8 +97,17 @@ pub record Open (r : Raw) (cs ws : List ℕ) (rows nodes : List (List ℕ)) (scr
   pub words : 3072 ≤ length scratch
   pub words-clear : drop 1024 scratch ≡ replicate (length scratch - 1024) 0
 
+-- Rows placed: their number, where their terms end, the terms, the end of each, and each threshold and its row at its node.
+pub record Rowed (r : Raw) (so : Extent) (cs ws : List ℕ) (rows nodes : List (List ℕ)) (cs′ ws′ : List ℕ) (rows′ nodes′ : List (List ℕ)) : Type 0 where
+  pub many : so .rows ≡ length (rawsTo r (length (r .thresholds)))
+  pub end : so .end ≡ length (joinAll (termsTo r (length (r .thresholds))))
+  pub conditions : cs′ ≡ over (conditionsOf (joinAll (termsTo r (length (r .thresholds))))) cs
+  pub weights : ws′ ≡ over (weightsOf (joinAll (termsTo r (length (r .thresholds))))) ws
+  pub entries : rows′ ≡ over (rowEnds r (length (r .thresholds))) rows
+  pub named : nodes′ ≡ nodesTo r nodes (length (r .thresholds))
+
 -- Guards can be dealt to rows by their keys.
-pub record Dealt (ths : List (List ℕ)) (bounds : List ℤ) (nodes : List (List ℕ)) (keys : List ℕ) (rows : List (List ℕ)) : Type 0 where
+pub record Dealable (ths : List (List ℕ)) (bounds : List ℤ) (nodes : List (List ℕ)) (keys : List ℕ) (rows : List (List ℕ)) : Type 0 where
   pub even : length bounds ≡ length ths
   pub inside : NodesIn ths nodes
   pub wide : Wide 1 rows
@@ -105,8 +116,15 @@ pub record Dealt (ths : List (List ℕ)) (bounds : List ℤ) (nodes : List (List
   pub clear : column 1 rows ≡ replicate (length rows) 0
   pub few : length bounds ≤ 1024
 
+-- Guards dealt to so many rows: where those of each row end, their bounds and their nodes.
+pub record Guarded (ths : List (List ℕ)) (bounds : List ℤ) (nodes : List (List ℕ)) (keys : List ℕ) (count : ℕ) (rows : List (List ℕ)) (gb : List ℤ) (gn : List ℕ)
+    (rows′ : List (List ℕ)) (gb′ : List ℤ) (gn′ : List ℕ) : Type 0 where
+  pub entries : rows′ ≡ withColumn 1 (take count rows) (ends 0 (grouped 0 count (boundItems ths nodes bounds keys))) ++ drop count rows
+  pub limits : gb′ ≡ over (joinAll (grouped 0 count (boundItems ths nodes bounds keys))) gb
+  pub names : gn′ ≡ over (joinAll (grouped 0 count (nodeItems ths nodes keys))) gn
+
 -- Edges can be listed by condition.
-pub record Indexed (cs ws : List ℕ) (rows nodes edges : List (List ℕ)) : Type 0 where
+pub record Indexable (cs ws : List ℕ) (rows nodes edges : List (List ℕ)) : Type 0 where
   pub inside : Ends rows (length cs)
   pub even : length ws ≡ length cs
   pub keys : cs ≡ map (λ (x : Keyed (List ℕ)). x .key) (heldItems cs ws rows)
@@ -115,3 +133,8 @@ pub record Indexed (cs ws : List ℕ) (rows nodes edges : List (List ℕ)) : Typ
   pub below : (i : ℕ) → i < length cs → getD cs i 0 < length nodes
   pub wide : Wide 2 nodes
   pub clear : column 2 nodes ≡ replicate (length nodes) 0
+
+-- Edges listed: where those of each node end, and each with its row and weight.
+pub record Edged (items : List (Keyed (List ℕ))) (nodes edges nodes′ edges′ : List (List ℕ)) : Type 0 where
+  pub entries : nodes′ ≡ withColumn 2 nodes (ends 0 (grouped 0 (length nodes) items))
+  pub listed : edges′ ≡ over (joinAll (grouped 0 (length nodes) items)) edges

@@ -1,5 +1,5 @@
 -- The steps of `prepare` joined: what each asks follows from what the ones before it left, and at the end stand the rows of the job.
-use Prim.Native.Nat.{ℕ, zero, suc, _+_, _-_, _%_, _<_, _≤_}
+use Prim.Native.Nat.{ℕ, zero, _-_, _%_, _<_, _≤_}
 use native.Mathlib.Omega.{arith}
 use native.Mathlib.Decide.{decLt}
 use mathlib.Core.Path.{_≡_, refl, sym, ap, ap₂, _∙_, subst}
@@ -18,18 +18,18 @@ use Rattle.sort.specs.Runs.{cleared}
 use Rattle.thresholds.specs.Raw.{Raw, listAt, stretch}
 use Rattle.thresholds.specs.Rows.{Row, rowNumber}
 use Rattle.thresholds.specs.Laid.{conditions, weights, termLists, guardLists, guardBounds, guardNodes, thresholdOf, rowOfNode, edgeLists, edgeRow}
-use Rattle.thresholds.specs.Guards.{nodeAt, rowAt, NodesIn, guardKeys, boundItems, nodeItems}
-use Rattle.thresholds.specs.Incidents.{heldItems, Ends}
-use Rattle.thresholds.specs.Placed.{rawsTo, termsTo, nodesTo, rowEntry, Marks}
+use Rattle.thresholds.specs.Guards.{rowAt, NodesIn, guardKeys, boundItems, nodeItems}
+use Rattle.thresholds.specs.Incidents.{heldItems}
+use Rattle.thresholds.specs.Placed.{termsTo, rowEntry, Marks}
 use Rattle.prefixes.specs.HeldLaws.{length-numbers}
 use Rattle.prepare.specs.declared.Extent.{Extent}
 use Rattle.prepare.specs.Given.{given, givenRows}
 use Rattle.prepare.specs.Place.{Ready, Blank, rowEnds}
-use Rattle.prepare.specs.PlaceLaws.{rowEnds-long, raws-few, length-ends}
-use Rattle.prepare.specs.Prepare.{Lent, lent, Sound, Room, Prepared, Open, Dealt, Indexed}
+use Rattle.prepare.specs.PlaceLaws.{rowEnds-long, raws-few}
+use Rattle.prepare.specs.Prepare.{Lent, lent, Sound, Ample, Prepared, Placeable, Rowed, Dealable, Guarded, Indexable, Edged}
 use Rattle.prepare.specs.PrepareParts.{blank-take, blank-drop, cleared-back, over-long, tail-long, tail-blank, keys-front, keys-behind}
 use Rattle.prepare.specs.RowsGiven.{terms-given, rows-given}
-use Rattle.prepare.specs.RowsGivenLaid.{entries-ends, entries-clear, entries-wide}
+use Rattle.prepare.specs.RowsGivenLaid.{length-ends, entries-ends, entries-clear, entries-wide}
 use Rattle.prepare.specs.RowsGivenHeld.{held-ends, held-even, held-keys}
 use Rattle.prepare.specs.RowsGivenTerms.{conditions-given, terms-most}
 use Rattle.prepare.specs.EdgesGiven.{edges-joined, edges-ends}
@@ -38,7 +38,7 @@ use Rattle.prepare.specs.GuardOrderLaws.{order-length, order-names, orde
 
 -- ---- placing, in parts of the buffers
 
-pub open-ready : (r : Raw) (cs ws : List ℕ) (rows nodes : List (List ℕ)) (scratch : List ℕ) → Open r cs ws rows nodes scratch
+pub open-ready : (r : Raw) (cs ws : List ℕ) (rows nodes : List (List ℕ)) (scratch : List ℕ) → Placeable r cs ws rows nodes scratch
     → Ready r (take (length (r .conditions)) cs) (take (length (r .conditions)) ws) rows (stretch 1024 (length scratch) scratch)
     × NodesIn (r .thresholds) nodes × Blank (take (length (r .conditions)) cs) × Blank (take (length (r .conditions)) ws) × Blank (stretch 1024 (length scratch) scratch)
 open-ready r cs ws rows nodes scratch o =
@@ -66,16 +66,9 @@ unfolding triples
 entry-triples [] = refl
 entry-triples (e ∷ es) = ap (λ (t : List (List ℕ)). (e ∷ 0 ∷ 0 ∷ []) ∷ t) (entry-triples es)
 
-length-triples : (xs ys zs : List ℕ) → length ys ≡ length xs → length zs ≡ length xs → length (triples xs ys zs) ≡ length xs
-unfolding triples
-length-triples [] ys zs a b = refl
-length-triples (x ∷ xs) [] zs a b = absurd (omega arith)
-length-triples (x ∷ xs) (y ∷ ys) [] a b = absurd (omega arith)
-length-triples (x ∷ xs) (y ∷ ys) (z ∷ zs) a b = ap suc (length-triples xs ys zs (omega arith) (omega arith))
-
 -- ---- the job
 
-module _ (r : Raw) (bounds : List ℤ) (b : Lent) (s : Sound r bounds (length (b .nodes))) (m : Room (length (r .conditions)) (length (r .thresholds)) b) where
+module _ (r : Raw) (bounds : List ℤ) (b : Lent) (s : Sound r bounds (length (b .nodes))) (m : Ample (length (r .conditions)) (length (r .thresholds)) b) where
   abbrev n : ℕ
   n = length (r .thresholds)
 
@@ -103,7 +96,7 @@ module _ (r : Raw) (bounds : List ℤ) (b : Lent) (s : Sound r bounds (length (b
     long-words : length sc₁ ≡ length (b .scratch)
     long-words = ap length es ∙ over-long keys (b .scratch) (let k = length-keys in let h = few-bounds in let w = m .words in omega arith)
 
-    pub opened : Open r (b .row-conditions) ws₁ (b .rows) (b .nodes) sc₁
+    pub opened : Placeable r (b .row-conditions) ws₁ (b .rows) (b .nodes) sc₁
     opened = record {
       lists = s .lists;
       below = below;
@@ -120,11 +113,8 @@ module _ (r : Raw) (bounds : List ℤ) (b : Lent) (s : Sound r bounds (length (b
     }
 
     -- The rows are placed.
-    module _ (so : Extent) (cs₁ ws₂ : List ℕ) (rows₁ nodes₁ : List (List ℕ)) (sc₂ : List ℕ) (e₀ : so .rows ≡ length (rawsTo r (length (r .thresholds))))
-        (e₁ : so .end ≡ length (joinAll (termsTo r (length (r .thresholds)))))
-        (ec : cs₁ ≡ over (conditionsOf (joinAll (termsTo r (length (r .thresholds))))) (b .row-conditions))
-        (ev : ws₂ ≡ over (weightsOf (joinAll (termsTo r (length (r .thresholds))))) ws₁)
-        (er : rows₁ ≡ over (rowEnds r (length (r .thresholds))) (b .rows)) (en : nodes₁ ≡ nodesTo r (b .nodes) (length (r .thresholds))) (et : sc₂ ≡ sc₁) where
+    module _ (so : Extent) (cs₁ ws₂ : List ℕ) (rows₁ nodes₁ : List (List ℕ)) (sc₂ : List ℕ)
+        (q : Rowed r so (b .row-conditions) ws₁ (b .rows) (b .nodes) cs₁ ws₂ rows₁ nodes₁) (et : sc₂ ≡ sc₁) where
       abbrev k : ℕ
       k = so .rows
 
@@ -132,29 +122,29 @@ module _ (r : Raw) (bounds : List ℤ) (b : Lent) (s : Sound r bounds (length (b
       E = rowEnds r n
 
       many : k ≡ length rs
-      many = e₀ ∙ rows-given r bounds
+      many = q .many ∙ rows-given r bounds
 
       few-rows : k ≤ n
-      few-rows = let q = raws-few r n in let e = e₀ in omega arith
+      few-rows = let u = raws-few r n in let e = q .many in omega arith
 
       long-E : length E ≡ k
-      long-E = rowEnds-long r n ∙ sym e₀
+      long-E = rowEnds-long r n ∙ sym (q .many)
 
       keys-there : take (length bounds) sc₂ ≡ keys
       keys-there = ap (take (length bounds)) (et ∙ es) ∙ keys-front keys (b .scratch) (length bounds) length-keys
 
       front : take k rows₁ ≡ E
-      front = ap (take k) er ∙ take-at E (drop (length E) (b .rows)) k long-E
+      front = ap (take k) (q .entries) ∙ take-at E (drop (length E) (b .rows)) k long-E
 
       long-rows : length rows₁ ≡ length (b .rows)
-      long-rows = ap length er ∙ over-long E (b .rows) (let a = long-E in let c = few-rows in let d = m .rows in omega arith)
+      long-rows = ap length (q .entries) ∙ over-long E (b .rows) (let a = long-E in let c = few-rows in let d = m .rows in omega arith)
 
       long-nodes : length nodes₁ ≡ length (b .nodes)
-      long-nodes = ap length en ∙ length-nodes r (b .nodes) n
+      long-nodes = ap length (q .named) ∙ length-nodes r (b .nodes) n
 
       row-at : (t : ℕ) → t < n → rowAt (r .thresholds) nodes₁ t ≡ rowNumber rs (listAt r t)
       row-at t h =
-          ap (λ (l : List (List ℕ)). rowAt (r .thresholds) l t) en ∙ nodes-row-at r bounds (b .nodes) (length (b .nodes)) (m .nodes-clear) (s .inside) (s .rising) t h
+          ap (λ (l : List (List ℕ)). rowAt (r .thresholds) l t) (q .named) ∙ nodes-row-at r bounds (b .nodes) (length (b .nodes)) (m .nodes-clear) (s .inside) (s .rising) t h
 
       wide-E : Wide 1 E
       wide-E i h = let q = entries-wide (ends 0 (termsTo r n)) i h in omega arith
@@ -165,7 +155,7 @@ module _ (r : Raw) (bounds : List ℤ) (b : Lent) (s : Sound r bounds (length (b
       long-front : length rs ≡ length (take k rows₁)
       long-front = sym (ap length front ∙ long-E ∙ many)
 
-      dealt : Dealt (r .thresholds) bounds nodes₁ (take (length bounds) sc₂) (take k rows₁)
+      dealt : Dealable (r .thresholds) bounds nodes₁ (take (length bounds) sc₂) (take k rows₁)
       dealt = record {
         even = s .even;
         inside = λ t h. let p = s .inside t h in let q = long-nodes in omega arith;
@@ -178,7 +168,7 @@ module _ (r : Raw) (bounds : List ℤ) (b : Lent) (s : Sound r bounds (length (b
       }
 
       pub guards-ready : (so .rows ≤ length rows₁) × (length bounds ≤ length (b .guard-bounds)) × (length bounds ≤ length (b .guard-nodes)) × (length bounds ≤ length sc₂)
-          × Dealt (r .thresholds) bounds nodes₁ (take (length bounds) sc₂) (take (so .rows) rows₁)
+          × Dealable (r .thresholds) bounds nodes₁ (take (length bounds) sc₂) (take (so .rows) rows₁)
       guards-ready =
           let a = few-rows in
           let c = m .rows in
@@ -194,28 +184,26 @@ module _ (r : Raw) (bounds : List ℤ) (b : Lent) (s : Sound r bounds (length (b
 
       -- The guards are dealt.
       module _ (rows₂ : List (List ℕ)) (gb : List ℤ) (gn sc₃ : List ℕ)
-          (fr : rows₂ ≡ withColumn 1 (take (so .rows) rows₁) (ends 0 (grouped 0 (so .rows) (boundItems (r .thresholds) nodes₁ bounds (take (length bounds) sc₂)))) ++ drop (so .rows) rows₁)
-          (fb : gb ≡ over (joinAll (grouped 0 (so .rows) (boundItems (r .thresholds) nodes₁ bounds (take (length bounds) sc₂)))) (b .guard-bounds))
-          (fn : gn ≡ over (joinAll (grouped 0 (so .rows) (nodeItems (r .thresholds) nodes₁ (take (length bounds) sc₂)))) (b .guard-nodes))
+          (f : Guarded (r .thresholds) bounds nodes₁ (take (length bounds) sc₂) (so .rows) rows₁ (b .guard-bounds) (b .guard-nodes) rows₂ gb gn)
           (fs : sc₃ ≡ cleared (length bounds) sc₂) where
         abbrev guardEnds : List ℕ
         guardEnds = ends 0 (grouped 0 k (boundItems (r .thresholds) nodes₁ bounds (take (length bounds) sc₂)))
 
         front₂ : take k rows₂ ≡ withColumn 1 (take k rows₁) guardEnds
-        front₂ = ap (take k) fr ∙ take-at (withColumn 1 (take k rows₁) guardEnds) (drop k rows₁) k (length-with 1 (take k rows₁) guardEnds ∙ ap length front ∙ long-E)
+        front₂ = ap (take k) (f .entries) ∙ take-at (withColumn 1 (take k rows₁) guardEnds) (drop k rows₁) k (length-with 1 (take k rows₁) guardEnds ∙ ap length front ∙ long-E)
 
         cs-held : take (so .end) cs₁ ≡ conditions (joinAll (termLists rs))
         cs-held =
-            ap (take (so .end)) ec
+            ap (take (so .end)) (q .conditions)
             ∙ take-at (conditionsOf (joinAll (termsTo r n))) (drop (length (conditionsOf (joinAll (termsTo r n)))) (b .row-conditions)) (so .end)
-            (length-map (joinAll (termsTo r n)) (λ (t : Term). t .condition) ∙ sym e₁)
+            (length-map (joinAll (termsTo r n)) (λ (t : Term). t .condition) ∙ sym (q .end))
             ∙ ap (λ (ls : List (List Term)). conditions (joinAll ls)) (terms-given r bounds)
 
         ws-held : take (so .end) ws₂ ≡ weights (joinAll (termLists rs))
         ws-held =
-            ap (take (so .end)) ev
+            ap (take (so .end)) (q .weights)
             ∙ take-at (weightsOf (joinAll (termsTo r n))) (drop (length (weightsOf (joinAll (termsTo r n)))) ws₁) (so .end)
-            (length-map (joinAll (termsTo r n)) (λ (t : Term). t .weight) ∙ sym e₁)
+            (length-map (joinAll (termsTo r n)) (λ (t : Term). t .weight) ∙ sym (q .end))
             ∙ ap (λ (ls : List (List Term)). weights (joinAll ls)) (terms-given r bounds)
 
         rows-held : column 0 (take k rows₂) ≡ ends 0 (termLists rs)
@@ -224,7 +212,7 @@ module _ (r : Raw) (bounds : List ℤ) (b : Lent) (s : Sound r bounds (length (b
             ∙ entries-ends (ends 0 (termsTo r n)) ∙ ap (ends 0) (terms-given r bounds)
 
         end-is : so .end ≡ length (joinAll (termLists rs))
-        end-is = e₁ ∙ ap (λ (ls : List (List Term)). length (joinAll ls)) (terms-given r bounds)
+        end-is = q .end ∙ ap (λ (ls : List (List Term)). length (joinAll ls)) (terms-given r bounds)
 
         end-few : so .end ≤ length (r .conditions)
         end-few = let p = end-is in let q = terms-most r bounds (s .lists) in omega arith
@@ -232,7 +220,7 @@ module _ (r : Raw) (bounds : List ℤ) (b : Lent) (s : Sound r bounds (length (b
         long-cs : length (take (so .end) cs₁) ≡ so .end
         long-cs = ap length cs-held ∙ length-map (joinAll (termLists rs)) (λ (t : Term). t .condition) ∙ sym end-is
 
-        indexed : Indexed (take (so .end) cs₁) (take (so .end) ws₂) (take k rows₂) nodes₁ (b .edges)
+        indexed : Indexable (take (so .end) cs₁) (take (so .end) ws₂) (take k rows₂) nodes₁ (b .edges)
         indexed = record {
           inside = held-ends (take (so .end) cs₁) (take (so .end) ws₂) (take k rows₂) (termLists rs) cs-held ws-held rows-held;
           even = held-even (take (so .end) cs₁) (take (so .end) ws₂) (take k rows₂) (termLists rs) cs-held ws-held rows-held;
@@ -240,25 +228,25 @@ module _ (r : Raw) (bounds : List ℤ) (b : Lent) (s : Sound r bounds (length (b
           short = let p = long-cs in let q = end-few in let h = s .short in omega arith;
           room = let p = long-cs in let q = end-few in let h = m .edges in omega arith;
           below = λ i h. let p = conditions-given r bounds (length (b .nodes)) (take (so .end) cs₁) cs-held (s .below) i h in let q = long-nodes in omega arith;
-          wide = subst (λ (l : List (List ℕ)). Wide 2 l) (sym en) (nodes-wide r bounds (b .nodes) (length (b .nodes)) (m .nodes-clear) (s .inside) (s .rising));
-          clear = ap (column 2) en ∙ nodes-clear r bounds (b .nodes) (length (b .nodes)) (m .nodes-clear) (s .inside) (s .rising) ∙ ap (λ (k : ℕ). replicate k 0) (sym long-nodes);
+          wide = subst (λ (l : List (List ℕ)). Wide 2 l) (sym (q .named)) (nodes-wide r bounds (b .nodes) (length (b .nodes)) (m .nodes-clear) (s .inside) (s .rising));
+          clear = ap (column 2) (q .named) ∙ nodes-clear r bounds (b .nodes) (length (b .nodes)) (m .nodes-clear) (s .inside) (s .rising) ∙ ap (λ (k : ℕ). replicate k 0) (sym long-nodes);
         }
 
         long-conditions : length cs₁ ≡ length (b .row-conditions)
         long-conditions =
-            ap length ec ∙ over-long (conditionsOf (joinAll (termsTo r n))) (b .row-conditions)
-            (let p = length-map (joinAll (termsTo r n)) (λ (t : Term). t .condition) in let q = end-few in let e = e₁ in let h = m .conditions in omega arith)
+            ap length (q .conditions) ∙ over-long (conditionsOf (joinAll (termsTo r n))) (b .row-conditions)
+            (let p = length-map (joinAll (termsTo r n)) (λ (t : Term). t .condition) in let u = end-few in let e = q .end in let h = m .conditions in omega arith)
 
         long-weights : length ws₂ ≡ length (b .row-weights)
         long-weights =
-            ap length (ev ∙ ap (over (weightsOf (joinAll (termsTo r n)))) ew) ∙ over-long (weightsOf (joinAll (termsTo r n))) (b .row-weights)
-            (let p = length-map (joinAll (termsTo r n)) (λ (t : Term). t .weight) in let q = end-few in let e = e₁ in let h = m .weights in omega arith)
+            ap length (q .weights ∙ ap (over (weightsOf (joinAll (termsTo r n)))) ew) ∙ over-long (weightsOf (joinAll (termsTo r n))) (b .row-weights)
+            (let p = length-map (joinAll (termsTo r n)) (λ (t : Term). t .weight) in let u = end-few in let e = q .end in let h = m .weights in omega arith)
 
         rows-fit : (rows : List (List ℕ)) → length rows ≡ length rows₁ → so .rows ≤ length rows
         rows-fit rows e = let a = few-rows in let c = m .rows in let d = long-rows in omega arith
 
         pub edges-ready : length rows₂ ≡ length rows₁ → (so .end ≤ length cs₁) × (so .end ≤ length ws₂) × (so .rows ≤ length rows₂)
-            × Indexed (take (so .end) cs₁) (take (so .end) ws₂) (take (so .rows) rows₂) nodes₁ (b .edges)
+            × Indexable (take (so .end) cs₁) (take (so .end) ws₂) (take (so .rows) rows₂) nodes₁ (b .edges)
         edges-ready e =
             let a = long-conditions in
             let c = long-weights in
@@ -300,14 +288,11 @@ module _ (r : Raw) (bounds : List ℤ) (b : Lent) (s : Sound r bounds (length (b
             ∙ ap (λ (k : ℕ). triples (ends 0 (termLists rs)) (ends 0 (guardLists rs)) (replicate k 0)) long-termEnds
 
         long-rowWords : length rowWords ≡ length rs
-        long-rowWords =
-            length-triples (ends 0 (termLists rs)) (ends 0 (guardLists rs)) (replicate (length rs) 0) (long-guardEnds ∙ sym long-termEnds)
-            (length-replicate (length rs) 0 ∙ sym long-termEnds)
-            ∙ long-termEnds
+        long-rowWords = ap length (sym rows-front) ∙ length-with 1 (take k rows₁) guardEnds ∙ sym long-front
 
         rows-behind : drop k rows₁ ≡ drop (length rowWords) (b .rows)
         rows-behind =
-            ap (drop k) er ∙ drop-at E (drop (length E) (b .rows)) k long-E ∙ ap (λ (k : ℕ). drop k (b .rows)) (long-E ∙ many ∙ sym long-rowWords)
+            ap (drop k) (q .entries) ∙ drop-at E (drop (length E) (b .rows)) k long-E ∙ ap (λ (k : ℕ). drop k (b .rows)) (long-E ∙ many ∙ sym long-rowWords)
 
         words-back : sc₃ ≡ b .scratch
         words-back =
@@ -316,8 +301,7 @@ module _ (r : Raw) (bounds : List ℤ) (b : Lent) (s : Sound r bounds (length (b
 
         -- The edges are listed: THE WHOLE.
         module _ (nodes₂ edges₁ : List (List ℕ))
-            (gn₂ : nodes₂ ≡ withColumn 2 nodes₁ (ends 0 (grouped 0 (length nodes₁) (heldItems (take (so .end) cs₁) (take (so .end) ws₂) (take (so .rows) rows₂)))))
-            (ge : edges₁ ≡ over (joinAll (grouped 0 (length nodes₁) (heldItems (take (so .end) cs₁) (take (so .end) ws₂) (take (so .rows) rows₂)))) (b .edges)) where
+            (g : Edged (heldItems (take (so .end) cs₁) (take (so .end) ws₂) (take (so .rows) rows₂)) nodes₁ (b .edges) nodes₂ edges₁) where
           abbrev j : ℕ
           j = length (b .nodes)
 
@@ -342,15 +326,15 @@ module _ (r : Raw) (bounds : List ℤ) (b : Lent) (s : Sound r bounds (length (b
           prepared = record {
             many = many;
             end = end-is;
-            conditions = ec ∙ ap (λ (ls : List (List Term)). over (conditions (joinAll ls)) (b .row-conditions)) (terms-given r bounds);
-            weights = ev ∙ ap₂ (λ (ls : List (List Term)) (l : List ℕ). over (weights (joinAll ls)) l) (terms-given r bounds) ew;
-            rows = fr ∙ ap₂ (λ (x y : List (List ℕ)). x ++ y) rows-front rows-behind;
-            guard-bounds = fb ∙ ap (λ (l : List ℤ). over l (b .guard-bounds)) bounds-given;
-            guard-nodes = fn ∙ ap (λ (l : List ℕ). over l (b .guard-nodes)) guards-given;
-            nodes = gn₂ ∙ ap₂ (withColumn 2) (en ∙ nodes-given r bounds (b .nodes) j (m .nodes-clear) (s .inside) (s .rising)) edge-ends
+            conditions = q .conditions ∙ ap (λ (ls : List (List Term)). over (conditions (joinAll ls)) (b .row-conditions)) (terms-given r bounds);
+            weights = q .weights ∙ ap₂ (λ (ls : List (List Term)) (l : List ℕ). over (weights (joinAll ls)) l) (terms-given r bounds) ew;
+            rows = f .entries ∙ ap₂ (λ (x y : List (List ℕ)). x ++ y) rows-front rows-behind;
+            guard-bounds = f .limits ∙ ap (λ (l : List ℤ). over l (b .guard-bounds)) bounds-given;
+            guard-nodes = f .names ∙ ap (λ (l : List ℕ). over l (b .guard-nodes)) guards-given;
+            nodes = g .entries ∙ ap₂ (withColumn 2) (q .named ∙ nodes-given r bounds (b .nodes) j (m .nodes-clear) (s .inside) (s .rising)) edge-ends
                 ∙ with-last (map (thresholdOf 0 (given r bounds)) (numbers 0 j)) (map (rowOfNode rs (given r bounds)) (numbers 0 j)) (replicate j 0) (ends 0 (edgeLists j rs))
                 (long-mapped (rowOfNode rs (given r bounds)) ∙ sym (long-mapped (thresholdOf 0 (given r bounds))))
                 (length-replicate j 0 ∙ sym (long-mapped (thresholdOf 0 (given r bounds)))) (long-edgeEnds ∙ sym (long-mapped (thresholdOf 0 (given r bounds))));
-            edges = ge ∙ ap (λ (l : List (List ℕ)). over l (b .edges)) edge-words;
+            edges = g .listed ∙ ap (λ (l : List (List ℕ)). over l (b .edges)) edge-words;
             scratch = words-back;
           }

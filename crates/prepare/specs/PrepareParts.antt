@@ -1,11 +1,11 @@
 -- Parts of buffers lent on: what is written into a part stands in the whole, and zeros come back as zeros.
-use Prim.Native.Nat.{ℕ, zero, suc, _+_, _-_, _<_, _≤_}
+use Prim.Native.Nat.{ℕ, zero, suc, _+_, _-_, _≤_}
 use native.Mathlib.Nat.{not-suc-le-zero}
 use native.Mathlib.Omega.{arith}
-use mathlib.Core.Path.{_≡_, refl, sym, ap, ap₂, _∙_, subst}
-use mathlib.Core.List.{List, [], _∷_, _++_, append-assoc}
-use lib.ListN.{length, take, drop, replicate, length-append, length-drop, length-replicate, replicate-append-replicate, take-append-drop}
-use lib.Seq.{length-take-le, take-at, drop-at, take-all, drop-append-le, drop-append-add, drop-drop}
+use mathlib.Core.Path.{_≡_, refl, sym, ap, ap₂, _∙_}
+use mathlib.Core.List.{List, _∷_, _++_, append-assoc}
+use lib.ListN.{length, take, drop, replicate, length-append, length-drop, take-append-drop}
+use lib.Seq.{length-take-le, take-at, take-all, drop-append-le, drop-append-add, drop-drop}
 use Rattle.lists.specs.Laid.{over, joinAll}
 use Rattle.lists.specs.Deal.{Keyed, grouped}
 use Rattle.lists.specs.TallyLaws.{count-most}
@@ -40,15 +40,10 @@ cleared-back k l b e h q = ap₂ (λ (x y : List ℕ). x ++ y) (sym (front-zeros
 pub over-long : {X : Type 0} (l b : List X) → length l ≤ length b → length (over l b) ≡ length b
 over-long l b h = let p = length-append l (drop (length l) b) in let q = length-drop (length l) b in omega arith
 
-pub laid-over : (cs ys l : List ℕ) (n : ℕ) → Blank cs → n ≤ length cs → length l ≤ n → length ys ≡ n → ys ≡ laid (length ys) l → ys ++ drop n cs ≡ over l cs
-laid-over cs ys l n e h k q p =
-    ap (λ (y : List ℕ). y ++ drop n cs) (p ∙ ap (λ (m : ℕ). laid m l) q)
-    ∙ append-assoc l (replicate (n - length l) 0) (drop n cs)
-    ∙ ap (λ (t : List ℕ). l ++ t)
-    (ap (λ (t : List ℕ). replicate (n - length l) 0 ++ t) (blank-drop n cs e) ∙ replicate-append-replicate (n - length l) (length cs - n) 0
-    ∙ ap (λ (m : ℕ). replicate m 0) (let u : n - length l + (length cs - n) ≡ length cs - length l = omega arith in u) ∙ sym (blank-drop (length l) cs e))
+pub laid-over : (cs cs′ l : List ℕ) → Blank cs → length cs′ ≡ length cs → cs′ ≡ laid (length cs′) l → cs′ ≡ over l cs
+laid-over cs cs′ l e q p = p ∙ ap (λ (m : ℕ). laid m l) q ∙ ap (λ (t : List ℕ). l ++ t) (sym (blank-drop (length l) cs e))
 
-over-part : {X : Type 0} (l b : List X) (n : ℕ) → length l ≤ n → n ≤ length b → over l (take n b) ++ drop n b ≡ over l b
+pub over-part : {X : Type 0} (l b : List X) (n : ℕ) → length l ≤ n → n ≤ length b → over l (take n b) ++ drop n b ≡ over l b
 over-part {X} l b n h k =
     let t = length-take-le n b k in
     append-assoc l (drop (length l) (take n b)) (drop n b)
@@ -63,6 +58,10 @@ grouped-part {X} xs m k b ys n e h i q =
 
 pub keys-over : (b keys ys : List ℕ) (n : ℕ) → ys ≡ keys → length keys ≡ n → ys ++ drop n b ≡ over keys b
 keys-over b keys ys n e l = ap₂ (λ (y : List ℕ) (m : ℕ). y ++ drop m b) e (sym l)
+
+-- A part cleared.
+pub cleared-part : (b ys : List ℕ) (n : ℕ) → n ≤ length b → ys ≡ replicate (length (take n b)) 0 → ys ++ drop n b ≡ cleared n b
+cleared-part b ys n h e = ap (λ (y : List ℕ). y ++ drop n b) (e ∙ ap (λ (k : ℕ). replicate k 0) (length-take-le n b h))
 
 -- Zeros lent as a spare and cleared.
 pub spare-kept : (ws ys : List ℕ) (n k : ℕ) → Blank ws → n ≤ length ws → k ≡ n → ys ≡ cleared k (take n ws) → ys ++ drop n ws ≡ ws

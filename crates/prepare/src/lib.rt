@@ -1,20 +1,17 @@
 // `prepare` of thresholds.rs: from the raw lists of a job to its rows, their guards and the edges of every node.
 ghost use mathlib.Core.Path.{_≡_};
 ghost use Prim.Native.Nat.{_+_, _<_, _≤_};
-ghost use mathlib.Core.List.{_++_};
-ghost use lib.ListN.{length, take, drop, set};
-ghost use Rattle.lists.specs.Laid.{over, joinAll, ends};
-ghost use Rattle.lists.specs.Deal.{grouped};
-ghost use Rattle.lists.specs.Columns.{withColumn};
-ghost use Rattle.row.specs.Keys.{conditionsOf, weightsOf};
+ghost use lib.ListN.{length, take, set};
+ghost use Rattle.lists.specs.Laid.{over};
 ghost use Rattle.sort.specs.Sorted.{sorted};
 ghost use Rattle.sort.specs.Runs.{cleared};
-ghost use Rattle.thresholds.specs.Guards.{Bounds, guardKeys, nodeAt, NodesIn, boundItems, nodeItems};
+ghost use Rattle.thresholds.specs.Guards.{Bounds, guardKeys, nodeAt, NodesIn};
 ghost use Rattle.thresholds.specs.Incidents.{heldItems};
 ghost use Rattle.thresholds.specs.Raw.{raw, listAt, fingerprint};
-ghost use Rattle.thresholds.specs.Placed.{rawsTo, rowTo, termsTo, rowEntry, nodeEntry, nodesTo, Terms};
-ghost use Rattle.prepare.specs.Prepare.{Open, Dealt, Indexed, lent, Sound, Room, Prepared};
+ghost use Rattle.thresholds.specs.Placed.{rowTo, rowEntry, nodeEntry, nodesTo};
+ghost use Rattle.prepare.specs.Prepare.{lent, Sound, Ample, Prepared, Placeable, Rowed, Dealable, Guarded, Indexable, Edged};
 ghost use Rattle.prepare.specs.Place.{Placing, Ready, Blank, rowEnds, nodesNext, rowsNext};
+use sort::clear;
 use thresholds::Found;
 use thresholds::build_at;
 use thresholds::end_of;
@@ -171,18 +168,6 @@ fn place_rows(
     so
 }
 
-// The first words zero again.
-fn clear_first(words: &mut [u64], count: usize)
-    requires { ⌜ count ≤ length (now words) ⌝ }
-    ensures { λ _. ⌜ now (words .exit) ≡ cleared count (now (words .entry)) ⌝ }
-{
-    let mut i: usize = 0;
-    while i < count {
-        words[i] = 0;
-        i += 1;
-    }
-}
-
 // The same with the marks cleared again.
 fn place_all(
     conditions: &[u16],
@@ -196,11 +181,9 @@ fn place_all(
 ) -> Extent
     requires { ⌜ (Ready (raw (now conditions) (now weights) (now thresholds)) (now «row_conditions») (now «row_weights») (now rows) (now scratch))
         × (NodesIn (now thresholds) (now nodes)) × (Blank (now «row_conditions»)) × (Blank (now «row_weights»)) × (Blank (now scratch)) ⌝ }
-    ensures { λ r. ⌜ (r .rows ≡ length (rawsTo (raw (now (conditions .entry)) (now (weights .entry)) (now (thresholds .entry))) (length (now (thresholds .entry)))))
-        × (r .end ≡ length (joinAll (termsTo (raw (now (conditions .entry)) (now (weights .entry)) (now (thresholds .entry))) (length (now (thresholds .entry))))))
-        × (Terms (raw (now (conditions .entry)) (now (weights .entry)) (now (thresholds .entry))) (length (now (thresholds .entry))) (now («row_conditions» .exit)) (now («row_weights» .exit)))
-        × (now (rows .exit) ≡ over (rowEnds (raw (now (conditions .entry)) (now (weights .entry)) (now (thresholds .entry))) (length (now (thresholds .entry)))) (now (rows .entry)))
-        × (now (nodes .exit) ≡ nodesTo (raw (now (conditions .entry)) (now (weights .entry)) (now (thresholds .entry))) (now (nodes .entry)) (length (now (thresholds .entry))))
+    ensures { λ r. ⌜ (Rowed (raw (now (conditions .entry)) (now (weights .entry)) (now (thresholds .entry))) r
+        (now («row_conditions» .entry)) (now («row_weights» .entry)) (now (rows .entry)) (now (nodes .entry))
+        (now («row_conditions» .exit)) (now («row_weights» .exit)) (now (rows .exit)) (now (nodes .exit)))
         × (now (scratch .exit) ≡ now (scratch .entry)) ⌝ }
 {
     let so = place_rows(
@@ -214,7 +197,7 @@ fn place_all(
         scratch,
     );
     let count = so.rows;
-    clear_first(scratch, count);
+    clear(&mut scratch[..count]);
     so
 }
 
@@ -229,13 +212,10 @@ fn place_in(
     nodes: &mut [[u16; 3]],
     scratch: &mut [u64],
 ) -> Extent
-    requires { ⌜ Open (raw (now conditions) (now weights) (now thresholds)) (now «row_conditions») (now «row_weights») (now rows) (now nodes) (now scratch) ⌝ }
-    ensures { λ r. ⌜ (r .rows ≡ length (rawsTo (raw (now (conditions .entry)) (now (weights .entry)) (now (thresholds .entry))) (length (now (thresholds .entry)))))
-        × (r .end ≡ length (joinAll (termsTo (raw (now (conditions .entry)) (now (weights .entry)) (now (thresholds .entry))) (length (now (thresholds .entry))))))
-        × (now («row_conditions» .exit) ≡ over (conditionsOf (joinAll (termsTo (raw (now (conditions .entry)) (now (weights .entry)) (now (thresholds .entry))) (length (now (thresholds .entry)))))) (now («row_conditions» .entry)))
-        × (now («row_weights» .exit) ≡ over (weightsOf (joinAll (termsTo (raw (now (conditions .entry)) (now (weights .entry)) (now (thresholds .entry))) (length (now (thresholds .entry)))))) (now («row_weights» .entry)))
-        × (now (rows .exit) ≡ over (rowEnds (raw (now (conditions .entry)) (now (weights .entry)) (now (thresholds .entry))) (length (now (thresholds .entry)))) (now (rows .entry)))
-        × (now (nodes .exit) ≡ nodesTo (raw (now (conditions .entry)) (now (weights .entry)) (now (thresholds .entry))) (now (nodes .entry)) (length (now (thresholds .entry))))
+    requires { ⌜ Placeable (raw (now conditions) (now weights) (now thresholds)) (now «row_conditions») (now «row_weights») (now rows) (now nodes) (now scratch) ⌝ }
+    ensures { λ r. ⌜ (Rowed (raw (now (conditions .entry)) (now (weights .entry)) (now (thresholds .entry))) r
+        (now («row_conditions» .entry)) (now («row_weights» .entry)) (now (rows .entry)) (now (nodes .entry))
+        (now («row_conditions» .exit)) (now («row_weights» .exit)) (now (rows .exit)) (now (nodes .exit)))
         × (now (scratch .exit) ≡ now (scratch .entry)) ⌝ }
 {
     let total = conditions.len();
@@ -273,13 +253,9 @@ fn guards_in(
     scratch: &mut [u64],
 )
     requires { ⌜ (count ≤ length (now rows)) × (length (now bounds) ≤ length (now «guard_bounds»)) × (length (now bounds) ≤ length (now «guard_nodes»)) × (length (now bounds) ≤ length (now scratch))
-        × (Dealt (now thresholds) (now bounds) (now nodes) (take (length (now bounds)) (now scratch)) (take count (now rows))) ⌝ }
-    ensures { λ _. ⌜ (now (rows .exit) ≡ withColumn 1 (take count (now (rows .entry))) (ends 0 (grouped 0 count
-        (boundItems (now (thresholds .entry)) (now (nodes .entry)) (now (bounds .entry)) (take (length (now (bounds .entry))) (now (scratch .entry)))))) ++ drop count (now (rows .entry)))
-        × (now («guard_bounds» .exit) ≡ over (joinAll (grouped 0 count
-        (boundItems (now (thresholds .entry)) (now (nodes .entry)) (now (bounds .entry)) (take (length (now (bounds .entry))) (now (scratch .entry)))))) (now («guard_bounds» .entry)))
-        × (now («guard_nodes» .exit) ≡ over (joinAll (grouped 0 count
-        (nodeItems (now (thresholds .entry)) (now (nodes .entry)) (take (length (now (bounds .entry))) (now (scratch .entry)))))) (now («guard_nodes» .entry)))
+        × (Dealable (now thresholds) (now bounds) (now nodes) (take (length (now bounds)) (now scratch)) (take count (now rows))) ⌝ }
+    ensures { λ _. ⌜ (Guarded (now (thresholds .entry)) (now (bounds .entry)) (now (nodes .entry)) (take (length (now (bounds .entry))) (now (scratch .entry))) count
+        (now (rows .entry)) (now («guard_bounds» .entry)) (now («guard_nodes» .entry)) (now (rows .exit)) (now («guard_bounds» .exit)) (now («guard_nodes» .exit)))
         × (now (scratch .exit) ≡ cleared (length (now (bounds .entry))) (now (scratch .entry))) ⌝ }
 {
     let keys = bounds.len();
@@ -292,7 +268,7 @@ fn guards_in(
         &mut guard_bounds[..keys],
         &mut guard_nodes[..keys],
     );
-    clear_first(scratch, keys);
+    clear(&mut scratch[..keys]);
 }
 
 // The edges of every node, from the first `count` rows, whose terms end at `end`.
@@ -306,11 +282,9 @@ fn edges_in(
     edges: &mut [[u64; 2]],
 )
     requires { ⌜ (end ≤ length (now «row_conditions»)) × (end ≤ length (now «row_weights»)) × (count ≤ length (now rows))
-        × (Indexed (take end (now «row_conditions»)) (take end (now «row_weights»)) (take count (now rows)) (now nodes) (now edges)) ⌝ }
-    ensures { λ _. ⌜ (now (nodes .exit) ≡ withColumn 2 (now (nodes .entry)) (ends 0 (grouped 0 (length (now (nodes .entry)))
-        (heldItems (take end (now («row_conditions» .entry))) (take end (now («row_weights» .entry))) (take count (now (rows .entry)))))))
-        × (now (edges .exit) ≡ over (joinAll (grouped 0 (length (now (nodes .entry)))
-        (heldItems (take end (now («row_conditions» .entry))) (take end (now («row_weights» .entry))) (take count (now (rows .entry)))))) (now (edges .entry))) ⌝ }
+        × (Indexable (take end (now «row_conditions»)) (take end (now «row_weights»)) (take count (now rows)) (now nodes) (now edges)) ⌝ }
+    ensures { λ _. ⌜ Edged (heldItems (take end (now («row_conditions» .entry))) (take end (now («row_weights» .entry))) (take count (now (rows .entry))))
+        (now (nodes .entry)) (now (edges .entry)) (now (nodes .exit)) (now (edges .exit)) ⌝ }
 {
     index_edges(
         &row_conditions[..end],
@@ -337,7 +311,7 @@ pub fn prepare(
     scratch: &mut [u64],
 ) -> Extent
     requires { ⌜ (Sound (raw (now «raw_conditions») (now «raw_weights») (now thresholds)) (now bounds) (length (now nodes)))
-        × (Room (length (now «raw_conditions»)) (length (now thresholds))
+        × (Ample (length (now «raw_conditions»)) (length (now thresholds))
         (lent (now «row_conditions») (now «row_weights») (now rows) (now «guard_bounds») (now «guard_nodes») (now nodes) (now edges) (now scratch))) ⌝ }
     ensures { λ r. ⌜ Prepared (raw (now («raw_conditions» .entry)) (now («raw_weights» .entry)) (now (thresholds .entry))) (now (bounds .entry)) r
         (lent (now («row_conditions» .entry)) (now («row_weights» .entry)) (now (rows .entry)) (now («guard_bounds» .entry)) (now («guard_nodes» .entry)) (now (nodes .entry)) (now (edges .entry)) (now (scratch .entry)))

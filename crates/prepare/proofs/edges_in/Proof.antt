@@ -1,6 +1,6 @@
 -- `prepare::edges_in` meets its contract. Assumes nothing.
 use lib.Seq.{length-take-le}
-use mathlib.Core.Path.{_≡_, _∙_, refl, sym, ap}
+use mathlib.Core.Path.{sym}
 use borrow.Author.Needs.{needs}
 use Rattle.prepare.proofs.edges_in.Statement.{statement}
 use Rattle.prepare.proofs.edges_in.Tie as tie
@@ -29,7 +29,7 @@ same-length-2 c = search needs
 
 returns : tie.Need-returns
 returns c = let s = c .before .before .index-edges .ensures in
-    (s .0, s .1)
+    record { entries = s .0; listed = s .1 }
 
 pub edges-in-spec : {M : Type 1} → statement M
 edges-in-spec =

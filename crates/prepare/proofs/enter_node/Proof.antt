@@ -2,7 +2,7 @@
 use Prim.Native.Nat.{ℕ}
 use lib.ListN.{set}
 use Rattle.thresholds.specs.Placed.{nodeEntry}
-use mathlib.Core.Path.{_≡_, _∙_, refl, sym, ap}
+use mathlib.Core.Path.{ap}
 use borrow.Author.Needs.{needs}
 use Rattle.prepare.proofs.enter_node.Statement.{statement}
 use Rattle.prepare.proofs.enter_node.Tie as tie

@@ -9,8 +9,8 @@ use Rattle.lists.specs.Deal.{grouped}
 use Rattle.lists.specs.Columns.{withColumn}
 use Rattle.lists.specs.TallyLaws.{mapped-long}
 use Rattle.thresholds.specs.Guards.{boundItem, nodeItem, boundItems, nodeItems}
-use Rattle.prepare.specs.PrepareParts.{grouped-part}
-use mathlib.Core.Path.{_≡_, _∙_, refl, sym, ap}
+use Rattle.prepare.specs.PrepareParts.{grouped-part, cleared-part}
+use mathlib.Core.Path.{_∙_, sym, ap}
 use borrow.Author.Needs.{needs}
 use Rattle.prepare.proofs.guards_in.Statement.{statement}
 use Rattle.prepare.proofs.guards_in.Tie as tie
@@ -53,8 +53,15 @@ index-guards-requires c κs = let g = c .before .before .before .before .before 
     let b = length-take-le (length (g .bounds .now)) (g .guard-nodes .now) (p .2) in
     (d .even, d .inside, d .wide, d .names, d .placed, d .clear, omega arith, omega arith, omega arith)
 
-clear-first-requires : tie.Need-clear-first-requires
-clear-first-requires c κs = search needs
+slice-relend-prefix-clear : tie.Need-slice-relend-prefix-clear
+slice-relend-prefix-clear c = search needs
+
+slice-aggregate-clear : tie.Need-slice-aggregate-clear
+slice-aggregate-clear c = let g = c .before .before .before .before .before .before .before .before .before .before .before .before .args in
+    sym (length-take-le (length (g .bounds .now)) (g .scratch .now) (c .before .before .before .before .before .before .before .before .before .before .before .before .pre .3))
+
+clear-requires : tie.Need-clear-requires
+clear-requires c κs = search needs
 
 same-length : tie.Need-same-length
 same-length c = search needs
@@ -77,11 +84,13 @@ returns c = let g = c .before .before .before .before .before .before .before .b
     let n = length-take-le (g .count) (g .rows .now) (p .0) in
     let x = mapped-long (boundItem (g .thresholds .now) (g .nodes .now) (g .bounds .now)) ks in
     let y = mapped-long (nodeItem (g .thresholds .now) (g .nodes .now)) ks in (
-      ap (λ (l : List (List ℕ)). l ++ drop (g .count) (g .rows .now))
-          (s .0 ∙ ap (λ (m : ℕ). withColumn 1 (take (g .count) (g .rows .now)) (ends 0 (grouped 0 m (boundItems (g .thresholds .now) (g .nodes .now) (g .bounds .now) ks)))) n),
-      grouped-part (boundItems (g .thresholds .now) (g .nodes .now) (g .bounds .now) ks) _ (g .count) (g .guard-bounds .now) _ (length (g .bounds .now)) n (omega arith) (p .1) (s .1),
-      grouped-part (nodeItems (g .thresholds .now) (g .nodes .now) ks) _ (g .count) (g .guard-nodes .now) _ (length (g .bounds .now)) n (omega arith) (p .2) (s .2),
-      c .before .before .clear-first .ensures,
+      record {
+        entries = ap (λ (l : List (List ℕ)). l ++ drop (g .count) (g .rows .now))
+            (s .0 ∙ ap (λ (m : ℕ). withColumn 1 (take (g .count) (g .rows .now)) (ends 0 (grouped 0 m (boundItems (g .thresholds .now) (g .nodes .now) (g .bounds .now) ks)))) n);
+        limits = grouped-part (boundItems (g .thresholds .now) (g .nodes .now) (g .bounds .now) ks) _ (g .count) (g .guard-bounds .now) _ (length (g .bounds .now)) n (omega arith) (p .1) (s .1);
+        names = grouped-part (nodeItems (g .thresholds .now) (g .nodes .now) ks) _ (g .count) (g .guard-nodes .now) _ (length (g .bounds .now)) n (omega arith) (p .2) (s .2);
+      },
+      cleared-part (g .scratch .now) _ (length (g .bounds .now)) (p .3) (c .before .before .clear .ensures),
     )
 
 pub guards-in-spec : {M : Type 1} → statement M
@@ -97,7 +106,9 @@ guards-in-spec =
     slice-relend-prefix-index-guards-3
     slice-aggregate-index-guards-4
     index-guards-requires
-    clear-first-requires
+    slice-relend-prefix-clear
+    slice-aggregate-clear
+    clear-requires
     same-length
     same-length-2
     same-length-3

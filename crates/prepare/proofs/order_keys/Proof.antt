@@ -1,13 +1,13 @@
 -- `prepare::order_keys` meets its contract. Assumes nothing.
 use native.Mathlib.Omega.{arith}
-use lib.ListN.{length, take}
+use lib.ListN.{length}
 use lib.Seq.{length-take-le}
 use Rattle.sort.specs.Sorted.{sorted}
 use Rattle.sort.specs.SortedLaws.{length-sorted}
 use Rattle.thresholds.specs.Guards.{guardKeys}
 use Rattle.thresholds.specs.GuardsLaws.{length-keys}
 use Rattle.prepare.specs.PrepareParts.{keys-over, spare-kept}
-use mathlib.Core.Path.{_≡_, _∙_, refl, sym, ap}
+use mathlib.Core.Path.{_∙_, sym}
 use borrow.Author.Needs.{needs}
 use Rattle.prepare.proofs.order_keys.Statement.{statement}
 use Rattle.prepare.proofs.order_keys.Tie as tie

@@ -1,7 +1,8 @@
 -- `prepare::place_in` meets its contract. Assumes nothing.
 use Prim.Native.Nat.{ℕ}
 use native.Mathlib.Omega.{arith}
-use lib.ListN.{length, take, length-map}
+use mathlib.Core.List.{List, _++_}
+use lib.ListN.{length, drop, length-map}
 use lib.Seq.{length-take-le}
 use Rattle.lists.specs.Laid.{joinAll}
 use Rattle.numeric.specs.Threshold.{Term}
@@ -9,9 +10,9 @@ use Rattle.row.specs.Keys.{conditionsOf, weightsOf}
 use Rattle.thresholds.specs.Raw.{raw}
 use Rattle.thresholds.specs.Placed.{termsTo}
 use Rattle.prepare.specs.RowsGivenTerms.{terms-fit}
-use Rattle.prepare.specs.PrepareParts.{laid-over, tail-kept}
+use Rattle.prepare.specs.PrepareParts.{over-part, tail-kept}
 use Rattle.prepare.specs.PrepareLaws.{open-ready}
-use mathlib.Core.Path.{_≡_, _∙_, refl, sym, ap}
+use mathlib.Core.Path.{_∙_, sym, ap}
 use borrow.Author.Needs.{needs}
 use Rattle.prepare.proofs.place_in.Statement.{statement}
 use Rattle.prepare.proofs.place_in.Tie as tie
@@ -67,16 +68,18 @@ returns c = let g = c .before .before .before .before .before .before .before .b
     let J = joinAll (termsTo r (length (g .thresholds .now))) in
     let fit = terms-fit r (length (g .thresholds .now)) (p .lists) in
     let lc = length-map J (λ (t : Term). t .condition) in
-    let lw = length-map J (λ (t : Term). t .weight) in
-    let kc = c .before .before .before .before .before .before .before .before .place-all .kept .1 .1 .1 .0 ∙ length-take-le (length (g .conditions .now)) (g .row-conditions .now) (p .conditions) in
-    let kw = c .before .before .before .before .before .before .before .before .place-all .kept .1 .1 .1 .1 .0 ∙ length-take-le (length (g .conditions .now)) (g .row-weights .now) (p .weights) in (
-      s .0,
-      s .1,
-      laid-over (g .row-conditions .now) _ (conditionsOf J) (length (g .conditions .now)) (p .conditions-clear) (p .conditions) (omega arith) kc (s .2 .conditions),
-      laid-over (g .row-weights .now) _ (weightsOf J) (length (g .conditions .now)) (p .weights-clear) (p .weights) (omega arith) kw (s .2 .weights),
-      s .3,
-      s .4,
-      tail-kept (g .scratch .now) _ 1024 (s .5),
+    let lw = length-map J (λ (t : Term). t .weight) in (
+      record {
+        many = s .0 .many;
+        end = s .0 .end;
+        conditions = ap (λ (l : List ℕ). l ++ drop (length (g .conditions .now)) (g .row-conditions .now)) (s .0 .conditions)
+            ∙ over-part (conditionsOf J) (g .row-conditions .now) (length (g .conditions .now)) (omega arith) (p .conditions);
+        weights = ap (λ (l : List ℕ). l ++ drop (length (g .conditions .now)) (g .row-weights .now)) (s .0 .weights)
+            ∙ over-part (weightsOf J) (g .row-weights .now) (length (g .conditions .now)) (omega arith) (p .weights);
+        entries = s .0 .entries;
+        named = s .0 .named;
+      },
+      tail-kept (g .scratch .now) _ 1024 (s .1),
     )
 
 pub place-in-spec : {M : Type 1} → statement M

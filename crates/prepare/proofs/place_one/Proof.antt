@@ -1,13 +1,13 @@
 -- `prepare::place_one` meets its contract. Assumes nothing.
-use Prim.Native.Nat.{ℕ, _+_, _≤_, _<_}
+use Prim.Native.Nat.{ℕ}
 use native.Mathlib.Omega.{arith}
-use lib.ListN.{length, take, set}
+use lib.ListN.{take, set}
 use lib.Seq.{length-take-le}
 use Rattle.thresholds.specs.Guards.{nodeAt}
 use Rattle.thresholds.specs.Raw.{raw}
 use Rattle.thresholds.specs.Placed.{nodeEntry}
-use Rattle.prepare.specs.PlaceLaws.{marks-few, found-old, found-new, placing-old, rows-old, rows-new}
-use mathlib.Core.Path.{_≡_, _∙_, refl, sym, ap}
+use Rattle.prepare.specs.PlaceLaws.{within, found-old, found-new, placing-old, rows-old, rows-new}
+use mathlib.Core.Path.{_∙_, sym, ap}
 use borrow.Author.Needs.{needs}
 use Rattle.prepare.proofs.place_one.Statement.{statement}
 use Rattle.prepare.proofs.place_one.Tie as tie
@@ -18,19 +18,13 @@ print-of-requires c κs = search needs
 slice-reshare-prefix-find-row : tie.Need-slice-reshare-prefix-find-row
 slice-reshare-prefix-find-row c = let g = c .before .before .before .before .before .before .args in
     let p = c .before .before .before .before .before .before .pre in
-    let few = marks-few (raw (g .conditions .now) (g .weights .now) (g .thresholds .now)) (g .t) (g .so .rows) (g .scratch .now) (p .3 .marks) in
-    let many = p .0 .lists .many in
-    let words = p .0 .words in
-    let h = p .1 in
+    let w = within (raw (g .conditions .now) (g .weights .now) (g .thresholds .now)) (g .t) (g .so) (g .row-conditions .now) (g .row-weights .now) (g .rows .now) (g .scratch .now) (p .0) (p .3) (p .1) in
     omega arith
 
 slice-aggregate-find-row : tie.Need-slice-aggregate-find-row
 slice-aggregate-find-row c = let g = c .before .before .before .before .before .before .before .args in
     let p = c .before .before .before .before .before .before .before .pre in
-    let few = marks-few (raw (g .conditions .now) (g .weights .now) (g .thresholds .now)) (g .t) (g .so .rows) (g .scratch .now) (p .3 .marks) in
-    let many = p .0 .lists .many in
-    let words = p .0 .words in
-    let h = p .1 in
+    let w = within (raw (g .conditions .now) (g .weights .now) (g .thresholds .now)) (g .t) (g .so) (g .row-conditions .now) (g .row-weights .now) (g .rows .now) (g .scratch .now) (p .0) (p .3) (p .1) in
     sym (length-take-le (g .so .rows) (g .scratch .now) (omega arith))
 
 find-row-requires : tie.Need-find-row-requires
@@ -45,12 +39,10 @@ enter-node-requires c κs = let g = c .before .before .before .before .before .b
     let p = c .before .before .before .before .before .before .before .before .before .before .before .before .pre in
     let r = raw (g .conditions .now) (g .weights .now) (g .thresholds .now) in
     let f = found-old r (g .t) (take (g .so .rows) (g .scratch .now)) (p .3 .marks .named) _ (sym (c .before .before .before .before .find-row .ensures) ∙ c .before .before .found .given .1) in
-    let few = marks-few r (g .t) (g .so .rows) (g .scratch .now) (p .3 .marks) in
+    let w = within r (g .t) (g .so) (g .row-conditions .now) (g .row-weights .now) (g .rows .now) (g .scratch .now) (p .0) (p .3) (p .1) in
     let a = f .0 in
     let b = f .1 in
     let m = p .3 .marks .many in
-    let many = p .0 .lists .many in
-    let h = p .1 in
     (p .1, omega arith, omega arith, p .2)
 
 enum-told : tie.Need-enum-told
@@ -59,9 +51,7 @@ enum-told c = search needs
 enter-node-requires-2 : tie.Need-enter-node-requires-2
 enter-node-requires-2 c κs = let g = c .before .before .before .before .before .before .before .before .before .before .before .args in
     let p = c .before .before .before .before .before .before .before .before .before .before .before .pre in
-    let few = marks-few (raw (g .conditions .now) (g .weights .now) (g .thresholds .now)) (g .t) (g .so .rows) (g .scratch .now) (p .3 .marks) in
-    let many = p .0 .lists .many in
-    let h = p .1 in
+    let w = within (raw (g .conditions .now) (g .weights .now) (g .thresholds .now)) (g .t) (g .so) (g .row-conditions .now) (g .row-weights .now) (g .rows .now) (g .scratch .now) (p .0) (p .3) (p .1) in
     (p .1, omega arith, omega arith, p .2)
 
 add-row-requires : tie.Need-add-row-requires

@@ -1,5 +1,5 @@
 -- `prepare::place_rows` meets its contract. Assumes nothing.
-use Prim.Native.Nat.{ℕ, _+_, _-_, _≤_, _<_}
+use Prim.Native.Nat.{_-_, _≤_}
 use native.Mathlib.Omega.{arith}
 use lib.ListN.{length}
 use Rattle.lists.specs.Laid.{over}
@@ -7,7 +7,7 @@ use Rattle.thresholds.specs.Raw.{raw}
 use Rattle.thresholds.specs.Placed.{nodesTo}
 use Rattle.prepare.specs.Place.{Placing, rowEnds}
 use Rattle.prepare.specs.PlaceLaws.{Same, ready-by, placing-start, rows-start, nodes-start, raws-few, rows-next, nodes-next, placed-end}
-use mathlib.Core.Path.{_≡_, _∙_, refl, sym, ap}
+use mathlib.Core.Path.{_≡_, _∙_, refl}
 use borrow.Author.Needs.{needs}
 use Rattle.prepare.proofs.place_rows.Statement.{statement}
 use Rattle.prepare.proofs.place_rows.Tie as tie

@@ -3,8 +3,7 @@ use native.Mathlib.Omega.{arith}
 use Rattle.thresholds.specs.Raw.{raw}
 use Rattle.prepare.specs.Prepare.{lent}
 use Rattle.prepare.specs.PrepareLaws.{opened, guards-ready, edges-ready, prepared}
-use mathlib.Core.Path.{_≡_, _∙_, refl, sym, ap}
-use borrow.Author.Needs.{needs}
+use mathlib.Core.Path.{_∙_}
 use Rattle.prepare.proofs.prepare.Statement.{statement}
 use Rattle.prepare.proofs.prepare.Tie as tie
 
@@ -31,7 +30,7 @@ guards-in-requires c κs = let g = c .before .before .before .before .before .be
     let b = lent (g .row-conditions .now) (g .row-weights .now) (g .rows .now) (g .guard-bounds .now) (g .guard-nodes .now) (g .nodes .now) (g .edges .now) (g .scratch .now) in
     let o = c .before .before .before .before .before .before .before .before .before .before .before .before .before .before .before .before .before .before .before .before .before .before .before .order-keys .ensures in
     let q = c .before .before .before .before .before .before .before .before .before .before .before .before .before .place-in .ensures in
-    guards-ready r (g .bounds .now) b (p .0) (p .1) _ _ (o .0) (o .1) (c .before .before .before .before .before .before .before .before .before .before .before .before .before .place-in .result) _ _ _ _ _ (q .0) (q .1) (q .2) (q .3) (q .4) (q .5) (q .6)
+    guards-ready r (g .bounds .now) b (p .0) (p .1) _ _ (o .0) (o .1) (c .before .before .before .before .before .before .before .before .before .before .before .before .before .place-in .result) _ _ _ _ _ (q .0) (q .1)
 
 edges-in-requires : tie.Need-edges-in-requires
 edges-in-requires c κs = let g = c .before .before .before .before .before .before .before .before .before .before .before .before .before .before .before .before .before .before .before .before .before .before .before .before .before .before .before .before .before .before .before .before .before .before .before .before .before .before .before .before .before .before .before .before .args in
@@ -41,7 +40,7 @@ edges-in-requires c κs = let g = c .before .before .before .before .before .bef
     let o = c .before .before .before .before .before .before .before .before .before .before .before .before .before .before .before .before .before .before .before .before .before .before .before .before .before .before .before .before .before .before .before .before .before .before .before .order-keys .ensures in
     let q = c .before .before .before .before .before .before .before .before .before .before .before .before .before .before .before .before .before .before .before .before .before .before .before .before .before .place-in .ensures in
     let h = c .before .before .before .before .before .before .before .before .before .before .before .guards-in .ensures in
-    edges-ready r (g .bounds .now) b (p .0) (p .1) _ _ (o .0) (o .1) (c .before .before .before .before .before .before .before .before .before .before .before .before .before .before .before .before .before .before .before .before .before .before .before .before .before .place-in .result) _ _ _ _ _ (q .0) (q .1) (q .2) (q .3) (q .4) (q .5) (q .6) _ _ _ _ (h .0) (h .1) (h .2) (h .3) (c .before .before .before .before .before .before .before .before .before .before .before .guards-in .kept .1 .1 .1 .1 .0)
+    edges-ready r (g .bounds .now) b (p .0) (p .1) _ _ (o .0) (o .1) (c .before .before .before .before .before .before .before .before .before .before .before .before .before .before .before .before .before .before .before .before .before .before .before .before .before .place-in .result) _ _ _ _ _ (q .0) (q .1) _ _ _ _ (h .0) (h .1) (c .before .before .before .before .before .before .before .before .before .before .before .guards-in .kept .1 .1 .1 .1 .0)
 
 same-length : tie.Need-same-length
 same-length c = c .before .before .before .before .before .before .before .before .before .before .before .before .before .before .before .before .before .before .before .before .before .before .before .before .before .before .before .before .place-in .kept .1 .1 .1 .0
@@ -75,8 +74,7 @@ returns c = let g = c .before .before .before .before .before .before .before .b
     let o = c .before .before .before .before .before .before .before .before .before .before .before .before .before .before .before .before .before .before .before .before .before .before .before .before .before .before .before .before .before .before .before .before .before .before .before .before .before .before .order-keys .ensures in
     let q = c .before .before .before .before .before .before .before .before .before .before .before .before .before .before .before .before .before .before .before .before .before .before .before .before .before .before .before .before .place-in .ensures in
     let h = c .before .before .before .before .before .before .before .before .before .before .before .before .before .before .guards-in .ensures in
-    let k = c .before .before .edges-in .ensures in
-    let z = prepared r (g .bounds .now) b (p .0) (p .1) _ _ (o .0) (o .1) (c .before .before .before .before .before .before .before .before .before .before .before .before .before .before .before .before .before .before .before .before .before .before .before .before .before .before .before .before .place-in .result) _ _ _ _ _ (q .0) (q .1) (q .2) (q .3) (q .4) (q .5) (q .6) _ _ _ _ (h .0) (h .1) (h .2) (h .3) _ _ (k .0) (k .1) in
+    let z = prepared r (g .bounds .now) b (p .0) (p .1) _ _ (o .0) (o .1) (c .before .before .before .before .before .before .before .before .before .before .before .before .before .before .before .before .before .before .before .before .before .before .before .before .before .before .before .before .place-in .result) _ _ _ _ _ (q .0) (q .1) _ _ _ _ (h .0) (h .1) _ _ (c .before .before .edges-in .ensures) in
     z
 
 pub prepare-spec : {M : Type 1} → statement M
