@@ -3,3 +3,5 @@ pub mod Row
 pub mod Complete
 pub mod RowComplete
 pub mod Cursors
+pub mod Stands
+pub mod Moves
