@@ -5,3 +5,5 @@ pub mod RowComplete
 pub mod Cursors
 pub mod Stands
 pub mod Moves
+pub mod Edges
+pub mod Drained
