@@ -7,3 +7,4 @@ pub mod Stands
 pub mod Moves
 pub mod Edges
 pub mod Drained
+pub mod Built
