@@ -8,3 +8,4 @@ pub mod Moves
 pub mod Edges
 pub mod Drained
 pub mod Built
+pub mod Layouts
