@@ -9,3 +9,4 @@ pub mod Edges
 pub mod Drained
 pub mod Built
 pub mod Layouts
+pub mod Keeps
