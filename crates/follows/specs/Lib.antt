@@ -10,3 +10,4 @@ pub mod Drained
 pub mod Built
 pub mod Layouts
 pub mod Keeps
+pub mod Rest

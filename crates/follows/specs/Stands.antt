@@ -175,9 +175,12 @@ module _ (rows : List Row) (s : Table) (drained : ℕ → ℕ → Bool) (v : Liv
       subst (λ (z : ℤ). possibleOf rows (tableAt v) r ≤ℤ z) (sym (h .possible r i))
       (pos-≤ℤ (possible-down (among (drained r) (v .marks .never)) (bit (v .marks .never)) (termsOf rows r) (λ n e. and-right (drained r n) (bit (v .marks .never) n) e)))
 
-  -- and they are just that once every decided node is drained
-  all-in : (r : ℕ) → ((n : ℕ) → isDecided (v .marks) n ≡ true → drained r n ≡ true) → (value : Bool) (n : ℕ) → among (drained r) (mask value (v .marks)) n ≡ bit (mask value (v .marks)) n
-  all-in r all value n = by (bit (mask value (v .marks)) n) refl
+  -- and they are just that once every decided term of the row is drained
+  abbrev pub AllDrained : ℕ → Type 0
+  AllDrained r = (t : Term) → List·Memᴰ t (termsOf rows r) → isDecided (v .marks) (t .condition) ≡ true → drained r (t .condition) ≡ true
+
+  all-in : (r n : ℕ) → (isDecided (v .marks) n ≡ true → drained r n ≡ true) → (value : Bool) → among (drained r) (mask value (v .marks)) n ≡ bit (mask value (v .marks)) n
+  all-in r n all value = by (bit (mask value (v .marks)) n) refl
     where
       is : (value : Bool) → bit (mask value (v .marks)) n ≡ true → isDecided (v .marks) n ≡ true
       is true e = sure-decided (v .marks) n e
@@ -188,14 +191,14 @@ module _ (rows : List Row) (s : Table) (drained : ℕ → ℕ → Bool) (v : Liv
       none false = refl
 
       by : (b : Bool) → bit (mask value (v .marks)) n ≡ b → (drained r n && b) ≡ b
-      by true e = ap (λ (d : Bool). d && true) (all n (is value e))
+      by true e = ap (λ (d : Bool). d && true) (all (is value e))
       by false e = none (drained r n)
 
-  pub known-exact : (r : ℕ) → IsRow rows r → ((n : ℕ) → isDecided (v .marks) n ≡ true → drained r n ≡ true) → stateAt v r .known ≡ knownOf rows (tableAt v) r
-  known-exact r i all = h .known r i ∙ ap pos (known-same _ _ (termsOf rows r) (λ t j. all-in r all true (t .condition)))
+  pub known-exact : (r : ℕ) → IsRow rows r → AllDrained r → stateAt v r .known ≡ knownOf rows (tableAt v) r
+  known-exact r i all = h .known r i ∙ ap pos (known-same _ _ (termsOf rows r) (λ t j. all-in r (t .condition) (all t j) true))
 
-  pub possible-exact : (r : ℕ) → IsRow rows r → ((n : ℕ) → isDecided (v .marks) n ≡ true → drained r n ≡ true) → stateAt v r .possible ≡ possibleOf rows (tableAt v) r
-  possible-exact r i all = h .possible r i ∙ ap pos (possible-same _ _ (termsOf rows r) (λ t j. all-in r all false (t .condition)))
+  pub possible-exact : (r : ℕ) → IsRow rows r → AllDrained r → stateAt v r .possible ≡ possibleOf rows (tableAt v) r
+  possible-exact r i all = h .possible r i ∙ ap pos (possible-same _ _ (termsOf rows r) (λ t j. all-in r (t .condition) (all t j) false))
 
   -- The state itself as the start of what comes next.
   pub restart : Stands rows (tableAt v) drained v
