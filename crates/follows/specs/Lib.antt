@@ -11,3 +11,4 @@ pub mod Built
 pub mod Layouts
 pub mod Keeps
 pub mod Rest
+pub mod Done
