@@ -12,3 +12,5 @@ pub mod Layouts
 pub mod Keeps
 pub mod Rest
 pub mod Done
+pub mod Bounds
+pub mod Told
