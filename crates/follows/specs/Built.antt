@@ -6,7 +6,7 @@ use native.Mathlib.Omega.{arith}
 use mathlib.Core.Path.{_≡_, refl, sym, ap, _∙_, subst}
 use mathlib.Core.Bool.{Bool, true, false, _&&_, _||_}
 use mathlib.Core.List.{List, [], _∷_, _++_, List·Memᴰ, List·Memᴰ·head, List·Memᴰ·tail, List·Memᴰ·cases-cons, List·Memᴰ·not-nil}
-use mathlib.Core.Logic.{_⊎_, inl, inr, ⊎-elim}
+use mathlib.Core.Logic.{_⊎_, inl, inr, ⊎-elim, _≢_}
 use lib.ListN.{length, getD}
 use lib.Signed.{leZ, ltZ}
 use Rattle.signed.specs.Signed.{leZ-refl, leZ-trans, ltZ-weaken, nlt-leZ}
@@ -18,6 +18,7 @@ use Rattle.thresholds.specs.Rows.{Row, rowOf, noRow, Guard, guard, below, inser
 use Rattle.thresholds.specs.RawLaws.{same-refl}
 use Rattle.prefixes.specs.Links.{Link, links, neighbours}
 use Rattle.prefixes.specs.LinksLaws.{link, link-starts, links-range, Joined, downward, upward, neighbours-joined}
+use Rattle.prefixes.specs.PrepareLaws.{links-apart}
 use Rattle.propagate.specs.Between.{Index}
 use Rattle.table.specs.Table.{IsRow, termsOf, Guards, IsPrefix}
 use Rattle.table.specs.LayoutLaws.{Made, row-made}
@@ -27,6 +28,7 @@ use Rattle.follows.specs.RowComplete.{Ordered}
 
 pub record Built (j : Job) (x : Index) : Type 0 where
   pub rows : x .rows ≡ rowsOf j
+  pub links : x .links ≡ links (x .rows)
   pub guards : (t : Threshold) → List·Memᴰ t (x .thresholds) → Guards (x .rows) (rowNumber (x .rows) (t .terms)) (guard (t .bound) (t .node))
   pub linked : (r q : ℕ) → List·Memᴰ q (neighbours r (x .links)) → IsPrefix (x .rows) r q ⊎ IsPrefix (x .rows) q r
   pub distinct : (r : ℕ) → IsRow (x .rows) r → Distinct (termsOf (x .rows) r)
@@ -145,10 +147,19 @@ neighbours-prefix rs r q m = let a = neighbours-joined r q (links rs) m in by (a
     by l i (downward e f) = inl (subst (λ (y : ℕ). IsPrefix rs r y) f (subst (λ (y : ℕ). IsPrefix rs y (l .extension)) e (ends (l .prefix) (l .extension) i)))
     by l i (upward e f) = inr (subst (λ (y : ℕ). IsPrefix rs q y) e (subst (λ (y : ℕ). IsPrefix rs y (l .extension)) f (ends (l .prefix) (l .extension) i)))
 
+-- and no row is its own neighbour
+pub neighbours-apart : (rs : List Row) (r q : ℕ) → List·Memᴰ q (neighbours r (links rs)) → q ≢ r
+neighbours-apart rs r q m e = let a = neighbours-joined r q (links rs) m in by (a .0) (a .1) (a .2)
+  where
+    by : (l : Link) → List·Memᴰ l (links rs) → Joined r q l → ⊥
+    by l i (downward f g) = links-apart rs (l .prefix) (l .extension) i (f ∙ sym e ∙ sym g)
+    by l i (upward f g) = links-apart rs (l .prefix) (l .extension) i (g ∙ e ∙ sym f)
+
 -- WHAT THE SEAL BUILDS
 pub built : (j : Job) (x : Index) → x .thresholds ≡ j .thresholds → x .rows ≡ rowsOf j → x .links ≡ links (rowsOf j) → Built j x
 built j x e f g = record {
   rows = f;
+  links = g ∙ ap links (sym f);
   guards = λ t m. subst (λ (rs : List Row). Guards rs (rowNumber rs (t .terms)) (guard (t .bound) (t .node))) (sym f) (guard-placed j t (subst (λ (l : List Threshold). List·Memᴰ t l) e m));
   linked = λ r q m. subst (λ (rs : List Row). IsPrefix rs r q ⊎ IsPrefix rs q r) (sym f) (neighbours-prefix (rowsOf j) r q (subst (λ (l : List Link). List·Memᴰ q (neighbours r l)) g m));
   distinct = λ r i. subst (λ (rs : List Row). IsRow rs r → Distinct (termsOf rs r)) (sym f)

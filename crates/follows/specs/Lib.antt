@@ -14,3 +14,4 @@ pub mod Rest
 pub mod Done
 pub mod Bounds
 pub mod Told
+pub mod Handed
