@@ -10,7 +10,7 @@ use lib.ListN.{length, getD, set, take, drop, length-set}
 use lib.Dec.{eqb, leb}
 use lib.IntN.{ℤ, pos, _-ℤ_}
 use lib.Signed.{leZ, ltZ}
-use borrow.Author.Tests.{eq-eqb, ne-eqb}
+use borrow.Author.Tests.{eq-eqb}
 use Rattle.numeric.specs.Threshold.{Term, Threshold}
 use Rattle.state.specs.declared.Step.{Step}
 use Rattle.state.specs.declared.Step.the-variants.{Unchanged, Changed, Contradiction}
@@ -31,7 +31,7 @@ use Rattle.table.specs.Table.{IsRow}
 use Rattle.follows.specs.Row.{or-true}
 use Rattle.follows.specs.Complete.{Wide, Has, wide-decide, has-stays}
 use Rattle.follows.specs.RowComplete.{Ordered, Passed, Complete, SameFigures, row-complete}
-use Rattle.follows.specs.Stands.{true-false, clash, and-right, put-state}
+use Rattle.follows.specs.Stands.{also, also-before, also-other, clash, and-right, put-state}
 use Rattle.follows.specs.Keeps.{run-keeps}
 use Rattle.follows.specs.Edges.{edge-term}
 
@@ -154,9 +154,6 @@ moved-cursors source st n k = upper (leb k n && under (source .upper) (movedLowe
     upper false t e = e
 
 module _ (x : Index) (ordered : (r : ℕ) → IsRow (x .rows) r → Ordered (getD (x .rows) r noRow)) where
-  abbrev also : ℕ → (ℕ → Bool) → ℕ → Bool
-  also r ran q = eqb q r || ran q
-
   -- what a run does to the marks: they grow
   run-grows : (v : Live) (r : ℕ) → Wide (v .marks) → Grows (v .marks) (runRow x v r .live .marks) × Wide (runRow x v r .live .marks)
   run-grows v r w =
@@ -193,7 +190,7 @@ module _ (x : Index) (ordered : (r : ℕ) → IsRow (x .rows) r → Ordered (get
       g = run-grows v r (h .passed r i .wide)
 
       other : (q : ℕ) → q ≢ r → also r ran q ≡ true → ran q ≡ true
-      other q e n = sym (ap (λ (b : Bool). b || ran q) (ne-eqb q r e)) ∙ n
+      other q e n = sym (also-other r ran q e) ∙ n
 
   -- FIGURES PUT ANEW, AND THE ROW RUN
   pub put-run-done : (ran : ℕ → Bool) (v : Live) (r : ℕ) (st : State) (d q : Rows) → IsRow (x .rows) r → SameCursors st (stateAt v r) → Done (x .rows) ran v
@@ -224,9 +221,9 @@ module _ (x : Index) (ordered : (r : ℕ) → IsRow (x .rows) r → Ordered (get
             (λ j n. absurd (never n)) (λ k f j n. h .free k j (and-right (not (eqb k r)) (ran k) n));
       }
 
-      more : (k : ℕ) (b : Bool) → eqb k r ≡ b → (b || ran k) ≡ true → (eqb k r || (not (eqb k r) && ran k)) ≡ true
-      more k true f n = ap (λ (b : Bool). b || (not b && ran k)) f
-      more k false f n = ap (λ (b : Bool). b || (not b && ran k)) f ∙ n
+      more : (k : ℕ) (b : Bool) → eqb k r ≡ b → cond b true (ran k) ≡ true → cond (eqb k r) true (not (eqb k r) && ran k) ≡ true
+      more k true f n = ap (λ (b : Bool). cond b true (not b && ran k)) f
+      more k false f n = ap (λ (b : Bool). cond b true (not b && ran k)) f ∙ n
 
   -- What each function keeps where it does not contradict.
   abbrev pub StillDone : (ℕ → Bool) → Did → Type 0
@@ -234,11 +231,7 @@ module _ (x : Index) (ordered : (r : ℕ) → IsRow (x .rows) r → Ordered (get
 
   one-done : (ran : ℕ → Bool) (v : Live) (r : ℕ) (st : State) (d q : Rows) → IsRow (x .rows) r → SameCursors st (stateAt v r) → Done (x .rows) ran v
       → StillDone ran (runRow x (live (set (v .states) r st) (v .marks) d q) r)
-  one-done ran v r st d q i e h c = done-fewer (x .rows) (also r ran) ran _ (λ k n. ap (λ (b : Bool). eqb k r || b) n ∙ right (eqb k r)) (put-run-done ran v r st d q i e h c)
-    where
-      right : (b : Bool) → (b || true) ≡ true
-      right true = refl
-      right false = refl
+  one-done ran v r st d q i e h c = done-fewer (x .rows) (also r ran) ran _ (λ k n. also-before r ran k n) (put-run-done ran v r st d q i e h c)
 
   joined-right : (a b : Step) → contradicts (joined a b) ≡ false → contradicts b ≡ false
   joined-right Unchanged b h = h

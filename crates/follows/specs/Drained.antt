@@ -29,7 +29,7 @@ use Rattle.table.specs.Table.{Table, IsRow, termsOf, known, possible}
 use Rattle.table.specs.Order.{UpLe, up-refl}
 use Rattle.table.specs.TableLaws.{Le, le-then, Follows}
 use Rattle.follows.specs.Decide.{Broken}
-use Rattle.follows.specs.Stands.{tableAt, among, Apart, Stands, true-false, clash, known-same, possible-same, put-state, restart}
+use Rattle.follows.specs.Stands.{tableAt, among, also, Apart, Stands, true-false, clash, known-same, possible-same, put-state, restart}
 use Rattle.follows.specs.Moves.{Kept, run-stands, joined-which}
 use Rattle.follows.specs.Edges.{leadsTo, OnceEach, leads-not, leads-here, leads-other, edge-term, term-edge, edges-once}
 
@@ -196,7 +196,7 @@ drainedBut c es into r n = cond (eqb n c) (not (leadsTo r es)) (into r n)
 
 -- The node is drained into every row.
 abbrev pub drainedAll : ℕ → (ℕ → ℕ → Bool) → ℕ → ℕ → Bool
-drainedAll c into r n = cond (eqb n c) true (into r n)
+drainedAll c into r = also c (into r)
 
 module _ (x : Index) (s : Table) where
   -- What a drained condition keeps: all that is decided follows, whether it contradicts or not; if not, the node is drained everywhere.

@@ -15,3 +15,4 @@ pub mod Done
 pub mod Bounds
 pub mod Told
 pub mod Handed
+pub mod Waiting

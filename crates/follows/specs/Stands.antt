@@ -10,8 +10,10 @@ use mathlib.Core.List.{List, [], _∷_, List·Memᴰ, List·Memᴰ·head, List·
 use mathlib.Core.Logic.{_⊎_, inl, inr, ⊎-elim, _≢_}
 use lib.ListN.{length, getD, set, length-set}
 use lib.Seq.{getD-set-same, getD-set-other}
+use lib.Dec.{eqb}
 use lib.IntN.{ℤ, pos}
 use lib.Signed.{_≤ℤ_, ≤ℤ-refl}
+use borrow.Author.Tests.{eq-eqb, ne-eqb, eqb-true}
 use Rattle.numeric.specs.Threshold.{Term}
 use Rattle.state.specs.declared.State.{State}
 use Rattle.state.specs.declared.Upper.{Upper}
@@ -34,6 +36,30 @@ tableAt v = tableOf (v .marks) (λ (r : ℕ). stateAt v r .lower) (λ (r : ℕ).
 -- The nodes of a mask that were drained.
 abbrev pub among : (ℕ → Bool) → List ℕ → ℕ → Bool
 among drained m n = drained n && bit m n
+
+-- One number more than those before.
+abbrev pub also : ℕ → (ℕ → Bool) → ℕ → Bool
+also n before k = cond (eqb k n) true (before k)
+
+pub also-which : (n : ℕ) (before : ℕ → Bool) (k : ℕ) → also n before k ≡ true → (k ≡ n) ⊎ (before k ≡ true)
+also-which n before k h = by (eqb k n) refl h
+  where
+    by : (b : Bool) → eqb k n ≡ b → cond b true (before k) ≡ true → (k ≡ n) ⊎ (before k ≡ true)
+    by true e g = inl (eqb-true k n e)
+    by false e g = inr g
+
+pub also-before : (n : ℕ) (before : ℕ → Bool) (k : ℕ) → before k ≡ true → also n before k ≡ true
+also-before n before k h = by (eqb k n)
+  where
+    by : (b : Bool) → cond b true (before k) ≡ true
+    by true = refl
+    by false = h
+
+pub also-other : (n : ℕ) (before : ℕ → Bool) (k : ℕ) → k ≢ n → also n before k ≡ before k
+also-other n before k h = ap (λ (b : Bool). cond b true (before k)) (ne-eqb k n h)
+
+pub also-this : (n : ℕ) (before : ℕ → Bool) (k : ℕ) → k ≡ n → also n before k ≡ true
+also-this n before k h = ap (λ (b : Bool). cond b true (before k)) (eq-eqb k n h)
 
 -- No node is in both masks.
 abbrev pub Apart : Marks → Type 0

@@ -1,7 +1,6 @@
 -- RULE 1 STAYS DONE: a drained guard's bound is in its row, and whatever comes later keeps it there.
 use Prim.Native.Nat.{ℕ, zero, suc, _+_, _≤_, _<_}
 use native.Mathlib.Nat.{not-suc-le-zero, le-of-suc-le-suc}
-use native.Mathlib.Decide.{ℕ-discrete}
 use native.Mathlib.Omega.{arith}
 use mathlib.Core.Path.{_≡_, refl, sym, ap, _∙_, subst}
 use mathlib.Core.Bool.{Bool, true, false, _||_}
@@ -9,10 +8,8 @@ use mathlib.Core.List.{List, [], _∷_, List·Memᴰ}
 use mathlib.Core.Logic.{_⊎_, inl, inr, ⊎-elim, _≢_}
 use lib.ListN.{length, getD, set}
 use lib.Seq.{getD-set-same}
-use lib.Dec.{eqb}
 use lib.IntN.{ℤ}
 use lib.Signed.{leZ, _≤ℤ_, ≤ℤ-refl}
-use borrow.Author.Tests.{ne-eqb}
 use Rattle.numeric.specs.Threshold.{Term, Threshold, Job}
 use Rattle.row.specs.Terms.{sameTerms}
 use Rattle.state.specs.declared.Step.the-variants.{Unchanged}
@@ -31,7 +28,7 @@ use Rattle.table.specs.Table.{Table, IsRow, Guards}
 use Rattle.table.specs.Order.{le, ≤ℤ-trans, UpLe, up-refl, up-trans}
 use Rattle.table.specs.TableLaws.{Le}
 use Rattle.table.specs.LayoutLaws.{row-made}
-use Rattle.follows.specs.Stands.{tableAt, Apart, Stands, true-false, clash, Stay, stay-decided, restart}
+use Rattle.follows.specs.Stands.{tableAt, also, also-which, Apart, Stands, true-false, clash, Stay, stay-decided, restart}
 use Rattle.follows.specs.Bounds.{SameBounds, put-here}
 use Rattle.follows.specs.Moves.{Kept, run-stands, guard-stands}
 
@@ -72,24 +69,13 @@ told-stays rows told drained v w h t = record {
     stay : Stay (v .marks) (w .marks)
     stay = later-stay v w (h .above) (h .apart)
 
--- One more node is told.
-abbrev pub alsoTold : ℕ → (ℕ → Bool) → ℕ → Bool
-alsoTold n told m = eqb m n || told m
-
-also-which : (n m : ℕ) (told : ℕ → Bool) → alsoTold n told m ≡ true → (m ≡ n) ⊎ (told m ≡ true)
-also-which n m told h = by (ℕ-discrete m n)
-  where
-    by : Dec (m ≡ n) → (m ≡ n) ⊎ (told m ≡ true)
-    by (yes e) = inl e
-    by (no e) = inr (sym (ap (λ (b : Bool). b || told m) (ne-eqb m n e)) ∙ h)
-
 -- a node that is no guard has nothing to tell
 pub told-none : (rows : List Row) (told : ℕ → Bool) (v : Live) (n : ℕ) → isDecided (v .marks) n ≡ true → ((r : ℕ) (g : Guard) → Guards rows r g → g .node ≢ n)
-    → Told rows told v → Told rows (alsoTold n told) v
+    → Told rows told v → Told rows (also n told) v
 told-none rows told v n d none t = record {
-  decided = λ m e. ⊎-elim (λ (q : m ≡ n). subst (λ (i : ℕ). isDecided (v .marks) i ≡ true) (sym q) d) (λ q. t .decided m q) (also-which n m told e);
-  sure = λ r g i e s. ⊎-elim (λ (q : g .node ≡ n). absurd (none r g i q)) (λ q. t .sure r g i q s) (also-which n (g .node) told e);
-  never = λ r g i e s. ⊎-elim (λ (q : g .node ≡ n). absurd (none r g i q)) (λ q. t .never r g i q s) (also-which n (g .node) told e);
+  decided = λ m e. ⊎-elim (λ (q : m ≡ n). subst (λ (i : ℕ). isDecided (v .marks) i ≡ true) (sym q) d) (λ q. t .decided m q) (also-which n told m e);
+  sure = λ r g i e s. ⊎-elim (λ (q : g .node ≡ n). absurd (none r g i q)) (λ q. t .sure r g i q s) (also-which n told (g .node) e);
+  never = λ r g i e s. ⊎-elim (λ (q : g .node ≡ n). absurd (none r g i q)) (λ q. t .never r g i q s) (also-which n told (g .node) e);
 }
 
 -- No node guards twice.
@@ -145,22 +131,22 @@ module _ (x : Index) (drained : ℕ → ℕ → Bool) (s : Table) (v : Live) (t 
       by false e = ((λ k. absurd (clash false k refl)), λ _. lowered (upperAtMost (st .upper) (t .bound)) refl)
 
   -- A DRAINED GUARD IS TOLD
-  pub guard-told : (told : ℕ → Bool) → Single (x .rows) → Told (x .rows) told v → Told (x .rows) (alsoTold (t .node) told) after
+  pub guard-told : (told : ℕ → Bool) → Single (x .rows) → Told (x .rows) told v → Told (x .rows) (also (t .node) told) after
   guard-told told single k = record {
-    decided = λ m e. ⊎-elim (λ (q : m ≡ t .node). subst (λ (i : ℕ). isDecided (after .marks) i ≡ true) (sym q) (stay-decided (v .marks) (after .marks) stay (t .node) d)) (λ q. old .decided m q) (also-which (t .node) m told e);
+    decided = λ m e. ⊎-elim (λ (q : m ≡ t .node). subst (λ (i : ℕ). isDecided (after .marks) i ≡ true) (sym q) (stay-decided (v .marks) (after .marks) stay (t .node) d)) (λ q. old .decided m q) (also-which (t .node) told m e);
     sure = λ r g i e a. ⊎-elim
         (λ (q : g .node ≡ t .node).
         let o = single r number g (guard (t .bound) (t .node)) i is q in
         let b : bit (v .marks .sure) (t .node) ≡ true = sym (stay (t .node) d true) ∙ subst (λ (m : ℕ). bit (after .marks .sure) m ≡ true) q a in
         subst (λ (y : ℕ). g .bound ≤ℤ stateAt after y .lower) (sym (o .0)) (subst (λ (y : Guard). y .bound ≤ℤ stateAt after number .lower) (sym (o .1)) (guard-tells .0 b)))
-        (λ q. old .sure r g i q a) (also-which (t .node) (g .node) told e);
+        (λ q. old .sure r g i q a) (also-which (t .node) told (g .node) e);
     never = λ r g i e a. ⊎-elim
         (λ (q : g .node ≡ t .node).
         let o = single r number g (guard (t .bound) (t .node)) i is q in
         let b : bit (v .marks .never) (t .node) ≡ true = sym (stay (t .node) d false) ∙ subst (λ (m : ℕ). bit (after .marks .never) m ≡ true) q a in
         let f : bit (v .marks .sure) (t .node) ≡ false = ⊎-elim (λ (c : bit (v .marks .sure) (t .node) ≡ true). absurd (h .apart (t .node) c b)) (λ c. c) (true-false (bit (v .marks .sure) (t .node))) in
         subst (λ (y : ℕ). UpLe (stateAt after y .upper) (Under (g .bound))) (sym (o .0)) (subst (λ (y : Guard). UpLe (stateAt after number .upper) (Under (y .bound))) (sym (o .1)) (guard-tells .1 f)))
-        (λ q. old .never r g i q a) (also-which (t .node) (g .node) told e);
+        (λ q. old .never r g i q a) (also-which (t .node) told (g .node) e);
   }
     where
       stay : Stay (v .marks) (after .marks)
