@@ -24,7 +24,7 @@ use Rattle.state.specs.Step.{joined, contradicts}
 use Rattle.state.specs.State.{noState, upperAtMost, withLower, withUpper, drained, withKnown, withPossible}
 use Rattle.words.specs.Mask.{bit}
 use Rattle.queues.specs.Marks.{isDecided}
-use Rattle.queues.specs.Queue.{Rows, queueRow}
+use Rattle.queues.specs.Queue.{Rows, oldest, queueRow, nextRow}
 use Rattle.queues.specs.QueueLaws.{row-waits, row-new}
 use Rattle.thresholds.specs.Rows.{Row, noRow, Guard, guard, Edge, edgesOf, rowNumber}
 use Rattle.prefixes.specs.Links.{Link, links, neighbours}
@@ -409,6 +409,18 @@ module _ (x : Index) where
           → (r q : ℕ) → List·Memᴰ q (neighbours r (x .links)) → waiting w r ≡ false → Dec (r ≡ row) → HandedOn x w r q
       by o r q m f (yes e) = subst (λ (i : ℕ). HandedOn x w i q) (sym e) (o .2 q (subst (λ (i : ℕ). List·Memᴰ q (neighbours i (x .links))) e m))
       by o r q m f (no e) = o .0 .handed r q m (ne-eqb r row e) f
+
+  -- THE OLDEST ROW IS TAKEN: it waits no more, and is excepted until it has handed on its bounds
+  pub taken-handed : (v : Live) → Handed x (λ (r : ℕ). false) v → Handed x (λ (r : ℕ). eqb r (oldest (v .dirty .queue))) (live (v .states) (v .marks) (nextRow (v .dirty)) (v .residuals))
+  unfolding nextRow
+  taken-handed v h = record {
+    sized = h .sized;
+    flags = let z = h .flags in let e = length-set (v .dirty .pending) (oldest (v .dirty .queue)) 0 in omega arith;
+    handed = λ r q m e f. h .handed r q m refl (sym (ap (λ (n : ℕ). eqb n 1) (getD-set-other (v .dirty .pending) (oldest (v .dirty .queue)) r 0 0 (apart r e))) ∙ f);
+  }
+    where
+      apart : (r : ℕ) → eqb r (oldest (v .dirty .queue)) ≡ false → r ≢ oldest (v .dirty .queue)
+      apart r e q = clash (eqb r (oldest (v .dirty .queue))) (eq-eqb r (oldest (v .dirty .queue)) q) e
 
   -- WHERE NO ROW WAITS rule 6 is done
   module _ (linked : x .links ≡ links (x .rows)) (v : Live) (h : Handed x (λ (r : ℕ). false) v) (idle : (r : ℕ) → waiting v r ≡ false) where

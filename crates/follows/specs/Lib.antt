@@ -16,3 +16,4 @@ pub mod Bounds
 pub mod Told
 pub mod Handed
 pub mod Waiting
+pub mod Settled
