@@ -64,7 +64,7 @@ module _ (l : ℕ → ℤ) (u : ℕ → Upper) where
       by (yes e) = at-same n k (bit (mask value m)) e
       by (no d) = at-kept n k (bit (mask value m)) (sym (decide-other value m n value k d) ∙ h)
 
-  decided-below : (value : Bool) (m : Marks) (n : ℕ) → Le (tableOf (decide value m n .marks) l u) (decideAs value (tableOf m l u) n)
+  pub decided-below : (value : Bool) (m : Marks) (n : ℕ) → Le (tableOf (decide value m n .marks) l u) (decideAs value (tableOf m l u) n)
   decided-below true m n = record {
     sure = adds-only true m n;
     never = λ k h. ap (λ (x : List ℕ). bit x k) (sym (decide-opposite true m n)) ∙ h;
@@ -79,9 +79,9 @@ module _ (l : ℕ → ℤ) (u : ℕ → Upper) where
   }
 
   -- a node decided against the other mask is in conflict
-  clash : (rows : List Row) (value : Bool) (m : Marks) (n : ℕ) → bit (mask (not value) m) n ≡ true → Conflict rows (decideAs value (tableOf m l u) n)
-  clash rows true m n h = both n (at-same n n (bit (m .sure)) refl) h
-  clash rows false m n h = both n h (at-same n n (bit (m .never)) refl)
+  pub against : (rows : List Row) (value : Bool) (m : Marks) (n : ℕ) → bit (mask (not value) m) n ≡ true → Conflict rows (decideAs value (tableOf m l u) n)
+  against rows true m n h = both n (at-same n n (bit (m .sure)) refl) h
+  against rows false m n h = both n h (at-same n n (bit (m .never)) refl)
 
 module _ (rows : List Row) (s : Table) (l : ℕ → ℤ) (u : ℕ → Upper) where
   -- What is kept along a scan: the masks follow from the start.
@@ -103,7 +103,7 @@ module _ (rows : List Row) (s : Table) (l : ℕ → ℤ) (u : ℕ → Upper) whe
       new e =
           let d = follows-step rows s (tableOf m l u) (decideAs value (tableOf m l u) n) f (gives e) in (
             follows-below rows s (tableOf (decide value m n .marks) l u) (decideAs value (tableOf m l u) n) d (decided-below l u value m n),
-            λ c. ⊎-elim (λ (o : bit (mask (not value) m) n ≡ true). (decideAs value (tableOf m l u) n, d, clash l u rows value m n o))
+            λ c. ⊎-elim (λ (o : bit (mask (not value) m) n ≡ true). (decideAs value (tableOf m l u) n, d, against l u rows value m n o))
                 (λ (o : bit (mask (not value) m) n ≡ false). absurd (let q = decide-new value m n e o in let z : _≡_ {A = ℕ} 0 1 = cc (q, c) in omega arith))
                 (true-false (bit (mask (not value) m) n)),
           )

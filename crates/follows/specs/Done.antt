@@ -58,7 +58,7 @@ grows-decided m m′ g n d =
     right true = refl
     right false = refl
 
-passed-up : (row : Row) (st : State) (m m′ : Marks) → Grows m m′ → Wide m′ → Passed row st m → Passed row st m′
+pub passed-up : (row : Row) (st : State) (m m′ : Marks) → Grows m m′ → Wide m′ → Passed row st m → Passed row st m′
 passed-up row st m m′ g w p = record {
   wide = w;
   inside = p .inside;
@@ -68,7 +68,7 @@ passed-up row st m m′ g w p = record {
   false-terms = λ t i. grows-decided m m′ g (t .condition) (p .false-terms t i);
 }
 
-complete-up : (row : Row) (st : State) (m m′ : Marks) → Grows m m′ → Complete row st m → Complete row st m′
+pub complete-up : (row : Row) (st : State) (m m′ : Marks) → Grows m m′ → Complete row st m → Complete row st m′
 complete-up row st m m′ g c = record {
   reached = λ y i e. g true (y .node) (c .reached y i e);
   out-of-reach = λ y i e. g false (y .node) (c .out-of-reach y i e);

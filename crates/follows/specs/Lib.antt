@@ -17,3 +17,4 @@ pub mod Told
 pub mod Handed
 pub mod Waiting
 pub mod Settled
+pub mod Start
