@@ -4,12 +4,12 @@ use Prim.Native.Nat.{ℕ, zero, suc, _+_, _≤_, _<_}
 use native.Mathlib.Nat.{not-suc-le-zero, le-of-suc-le-suc}
 use native.Mathlib.Omega.{arith}
 use mathlib.Core.Path.{_≡_, refl, sym, ap, _∙_, subst}
-use mathlib.Core.Bool.{Bool, true, false, _&&_, _||_}
-use mathlib.Core.List.{List, [], _∷_, _++_, List·Memᴰ, List·Memᴰ·head, List·Memᴰ·tail, List·Memᴰ·cases-cons, List·Memᴰ·not-nil}
+use mathlib.Core.Bool.{Bool, true, false}
+use mathlib.Core.List.{List, [], _∷_, List·Memᴰ, List·Memᴰ·head, List·Memᴰ·tail, List·Memᴰ·cases-cons, List·Memᴰ·not-nil}
 use mathlib.Core.Logic.{_⊎_, inl, inr, ⊎-elim, _≢_}
 use lib.ListN.{length, getD}
 use lib.Signed.{leZ, ltZ}
-use Rattle.signed.specs.Signed.{leZ-refl, leZ-trans, ltZ-weaken, nlt-leZ}
+use Rattle.signed.specs.Signed.{leZ-trans, ltZ-weaken, nlt-leZ}
 use Rattle.numeric.specs.Threshold.{Term, Threshold, Job}
 use Rattle.row.specs.Terms.{rowTerms, merged, sameTerms}
 use Rattle.row.specs.TermsLaws as TermsLaws
@@ -21,8 +21,8 @@ use Rattle.prefixes.specs.LinksLaws.{link, link-starts, links-range, Joined, do
 use Rattle.prefixes.specs.PrepareLaws.{links-apart}
 use Rattle.propagate.specs.Between.{Index}
 use Rattle.table.specs.Table.{IsRow, termsOf, Guards, IsPrefix}
-use Rattle.table.specs.LayoutLaws.{Made, row-made}
-use Rattle.follows.specs.Row.{or-true}
+use Rattle.table.specs.LayoutLaws.{row-made}
+use Rattle.follows.specs.Answers.{and-left, or-true, or-false}
 use Rattle.follows.specs.Complete.{All, Rising, Falling}
 use Rattle.follows.specs.RowComplete.{Ordered}
 
@@ -168,20 +168,12 @@ built j x e f g = record {
 
 -- ROWS ARE ORDERED: guards by rising bounds, terms by falling weights, all nodes in range
 
-and-left : (a b : Bool) → (a && b) ≡ true → a ≡ true
-and-left true b h = refl
-and-left false b h = h
-
-or-false : (a b : Bool) → (a || b) ≡ false → a ≡ false
-or-false true b h = h
-or-false false b h = refl
-
 below-le : (g h : Guard) → below g h ≡ true → leZ (g .bound) (h .bound) ≡ true
 below-le g h e =
     ⊎-elim (λ (a : ltZ (g .bound) (h .bound) ≡ true). ltZ-weaken (g .bound) (h .bound) a) (λ a. and-left (leZ (g .bound) (h .bound)) _ a) (or-true (ltZ (g .bound) (h .bound)) _ e)
 
 not-below : (g h : Guard) → below g h ≡ false → leZ (h .bound) (g .bound) ≡ true
-not-below g h e = nlt-leZ (g .bound) (h .bound) (or-false (ltZ (g .bound) (h .bound)) _ e)
+not-below g h e = nlt-leZ (g .bound) (h .bound) (or-false (ltZ (g .bound) (h .bound)) _ e .0)
 
 insert-rises : (g : Guard) (gs : List Guard) → Rising gs → Rising (insertGuard g gs)
 unfolding insertGuard

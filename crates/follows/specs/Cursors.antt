@@ -2,21 +2,17 @@
 -- not. What the cursors pass is decided: `row-complete` of RowComplete. Assumes nothing.
 use Prim.Native.Nat.{ℕ, _+_, _-_, _≤_}
 use native.Mathlib.Omega.{arith}
-use mathlib.Core.Path.{_≡_, refl, _∙_}
+use mathlib.Core.Path.{refl, _∙_}
 use mathlib.Core.Bool.{Bool, true, false, cond}
-use mathlib.Core.List.{List}
 use lib.ListN.{length, drop}
-use lib.IntN.{ℤ, pos, _-ℤ_}
+use lib.IntN.{pos, _-ℤ_}
 use lib.Signed.{leZ, ltZ}
-use Rattle.numeric.specs.Threshold.{Term}
-use Rattle.state.specs.declared.Step.{Step}
-use Rattle.state.specs.declared.Step.the-variants.{Unchanged, Changed, Contradiction}
+use Rattle.state.specs.declared.Step.the-variants.{Unchanged, Contradiction}
 use Rattle.state.specs.declared.State.{State}
-use Rattle.state.specs.declared.Upper.{Upper}
 use Rattle.state.specs.Step.{joined, contradicts}
 use Rattle.state.specs.State.{limited, limit, conflict, withGuards, withTerms}
 use Rattle.queues.specs.Marks.{Marks}
-use Rattle.thresholds.specs.Rows.{Row, Guard}
+use Rattle.thresholds.specs.Rows.{Row}
 use Rattle.propagate.specs.Scan.{Scanned}
 use Rattle.propagate.specs.Row.{Ran, ran, sureGuards, neverGuards, thresholdGuards, forced, trueTerms, falseTerms, scans, thresholdRow}
 use Rattle.propagate.specs.RowLaws.{Moved, sure-within, forced-within}

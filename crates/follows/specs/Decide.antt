@@ -5,13 +5,13 @@ use native.Mathlib.Decide.{ℕ-discrete}
 use mathlib.Core.Path.{_≡_, refl, sym, ap, _∙_, subst}
 use mathlib.Core.Bool.{Bool, true, false, not, cond}
 use mathlib.Core.List.{List, [], _∷_, List·Memᴰ, List·Memᴰ·head, List·Memᴰ·tail}
-use mathlib.Core.Logic.{_⊎_, inl, inr, ⊎-elim}
+use mathlib.Core.Logic.{_⊎_, ⊎-elim}
 use lib.Dec.{eqb}
 use lib.IntN.{ℤ}
 use lib.Signed.{≤ℤ-refl}
 use borrow.Author.Tests.{eq-eqb}
 use Rattle.state.specs.declared.Step.{Step}
-use Rattle.state.specs.declared.Step.the-variants.{Unchanged, Changed, Contradiction}
+use Rattle.state.specs.declared.Step.the-variants.{Contradiction}
 use Rattle.state.specs.declared.Upper.{Upper}
 use Rattle.state.specs.Step.{joined, contradicts}
 use Rattle.words.specs.Mask.{bit}
@@ -23,6 +23,7 @@ use Rattle.table.specs.Table as T
 use Rattle.table.specs.Table.{Table, decideSure, decideNever, Conflict, both}
 use Rattle.table.specs.Order.{up-refl}
 use Rattle.table.specs.TableLaws.{Le, le-then, Follows, follows-step}
+use Rattle.follows.specs.Answers.{true-false, joined-fine}
 
 -- The nodes of the masks, with lowers and uppers of rows, as a state of the table.
 abbrev pub tableOf : Marks → (ℕ → ℤ) → (ℕ → Upper) → Table
@@ -50,10 +51,6 @@ at-kept n k f h = by (eqb k n)
     by : (b : Bool) → cond b true (f k) ≡ true
     by true = refl
     by false = h
-
-true-false : (b : Bool) → (b ≡ true) ⊎ (b ≡ false)
-true-false true = inl refl
-true-false false = inr refl
 
 module _ (l : ℕ → ℤ) (u : ℕ → Upper) where
   -- a decision adds no more than its node
@@ -120,13 +117,6 @@ scan-keeps P C waits act (x ∷ xs) h n m k p c =
   where
     Goal : Scanned → Type 0
     Goal r = P (r .marks) × (contradicts (r .step) ≡ true → C)
-
-    joined-fine : (a b : Step) → contradicts a ≡ false → contradicts b ≡ false → contradicts (joined a b) ≡ false
-    joined-fine Unchanged b e f = f
-    joined-fine Changed Unchanged e f = refl
-    joined-fine Changed Changed e f = refl
-    joined-fine Changed Contradiction e f = f
-    joined-fine Contradiction b e f = e
 
     acted : ((n : ℕ) (m : Marks) (k : Step) → P m → contradicts k ≡ false → Goal (scan waits act xs n m k)) → waits x m ≡ false
         → (b : Bool) → contradicts (act x m .step) ≡ b

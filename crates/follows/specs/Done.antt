@@ -3,35 +3,35 @@
 use Prim.Native.Nat.{ℕ, _≤_, _<_}
 use native.Mathlib.Omega.{arith}
 use mathlib.Core.Path.{_≡_, refl, sym, ap, ap₂, _∙_, subst}
+use mathlib.Core.Bool as B
 use mathlib.Core.Bool.{Bool, true, false, not, cond, _&&_, _||_}
 use mathlib.Core.List.{List, [], _∷_, List·Memᴰ, List·Memᴰ·head, List·Memᴰ·tail}
-use mathlib.Core.Logic.{_⊎_, inl, inr, ⊎-elim, _≢_}
+use mathlib.Core.Logic.{_⊎_, ⊎-elim, _≢_}
 use lib.ListN.{length, getD, set, take, drop, length-set}
 use lib.Dec.{eqb, leb}
 use lib.IntN.{ℤ, pos, _-ℤ_}
 use lib.Signed.{leZ, ltZ}
 use borrow.Author.Tests.{eq-eqb}
-use Rattle.numeric.specs.Threshold.{Term, Threshold}
-use Rattle.state.specs.declared.Step.{Step}
+use Rattle.numeric.specs.Threshold.{Threshold}
 use Rattle.state.specs.declared.Step.the-variants.{Unchanged, Changed, Contradiction}
 use Rattle.state.specs.declared.State.{State}
 use Rattle.state.specs.declared.Upper.{Upper}
-use Rattle.state.specs.declared.Upper.the-variants.{Open, Under}
+use Rattle.state.specs.declared.Upper.the-variants.{Under}
 use Rattle.state.specs.Step.{joined, contradicts}
 use Rattle.state.specs.State.{maxZ, reached, upperAtMost, conflict, withLower, withUpper, drained, withKnown, withPossible}
 use Rattle.words.specs.Mask.{bit}
-use Rattle.queues.specs.Marks.{Marks, isDecided, decide}
+use Rattle.queues.specs.Marks.{Marks, isDecided}
 use Rattle.queues.specs.Queue.{Rows}
-use Rattle.thresholds.specs.Rows.{Row, noRow, Guard, Edge, edgesOf, rowNumber}
+use Rattle.thresholds.specs.Rows.{Row, noRow, Edge, edgesOf, rowNumber}
 use Rattle.prefixes.specs.Links.{neighbours}
 use Rattle.propagate.specs.declared.Tightened.{Tightened}
-use Rattle.propagate.specs.Row.{Ran, ran, reachable, scans, thresholdRow}
-use Rattle.propagate.specs.Between.{Index, Live, live, stateAt, withState, withDirty, Did, did, runRow, bounded, tight, guardState, thresholdGuard, conditionFrom, thresholdCondition, movedLower, movedUpper, movedState, under, termCount, prefixesFrom, thresholdPrefixes}
+use Rattle.propagate.specs.Row.{Ran, ran, scans, thresholdRow}
+use Rattle.propagate.specs.Between.{Index, Live, live, stateAt, withState, withDirty, Did, did, runRow, bounded, tight, guardState, thresholdGuard, conditionFrom, thresholdCondition, movedLower, movedState, under, termCount, prefixesFrom, thresholdPrefixes}
 use Rattle.table.specs.Table.{IsRow}
-use Rattle.follows.specs.Row.{or-true}
+use Rattle.follows.specs.Answers.{clash, and-right, or-true, joined-right}
 use Rattle.follows.specs.Complete.{Wide, Has, wide-decide, has-stays}
 use Rattle.follows.specs.RowComplete.{Ordered, Passed, Complete, SameFigures, row-complete}
-use Rattle.follows.specs.Stands.{also, also-before, also-other, clash, and-right, put-state}
+use Rattle.follows.specs.Stands.{also, also-before, also-other, put-state}
 use Rattle.follows.specs.Keeps.{run-keeps}
 use Rattle.follows.specs.Edges.{edge-term}
 
@@ -52,11 +52,7 @@ Grows m m′ = (b : Bool) (n : ℕ) → Has b n m → Has b n m′
 grows-decided : (m m′ : Marks) → Grows m m′ → (n : ℕ) → isDecided m n ≡ true → isDecided m′ n ≡ true
 grows-decided m m′ g n d =
     ⊎-elim (λ (e : bit (m .sure) n ≡ true). ap (λ (b : Bool). b || bit (m′ .never) n) (g true n e))
-    (λ (e : bit (m .never) n ≡ true). ap (λ (b : Bool). bit (m′ .sure) n || b) (g false n e) ∙ right (bit (m′ .sure) n)) (or-true (bit (m .sure) n) (bit (m .never) n) d)
-  where
-    right : (b : Bool) → (b || true) ≡ true
-    right true = refl
-    right false = refl
+    (λ (e : bit (m .never) n ≡ true). ap (λ (b : Bool). bit (m′ .sure) n || b) (g false n e) ∙ B.or-true (bit (m′ .sure) n)) (or-true (bit (m .sure) n) (bit (m .never) n) d)
 
 pub passed-up : (row : Row) (st : State) (m m′ : Marks) → Grows m m′ → Wide m′ → Passed row st m → Passed row st m′
 passed-up row st m m′ g w p = record {
@@ -232,13 +228,6 @@ module _ (x : Index) (ordered : (r : ℕ) → IsRow (x .rows) r → Ordered (get
   one-done : (ran : ℕ → Bool) (v : Live) (r : ℕ) (st : State) (d q : Rows) → IsRow (x .rows) r → SameCursors st (stateAt v r) → Done (x .rows) ran v
       → StillDone ran (runRow x (live (set (v .states) r st) (v .marks) d q) r)
   one-done ran v r st d q i e h c = done-fewer (x .rows) (also r ran) ran _ (λ k n. also-before r ran k n) (put-run-done ran v r st d q i e h c)
-
-  joined-right : (a b : Step) → contradicts (joined a b) ≡ false → contradicts b ≡ false
-  joined-right Unchanged b h = h
-  joined-right Changed Unchanged h = refl
-  joined-right Changed Changed h = refl
-  joined-right Changed Contradiction h = h
-  joined-right Contradiction b h = absurd (clash true refl h)
 
   -- A DRAINED GUARD
   pub guard-done : (ran : ℕ → Bool) (v : Live) (t : Threshold) → IsRow (x .rows) (rowNumber (x .rows) (t .terms)) → Done (x .rows) ran v → StillDone ran (thresholdGuard x v t)

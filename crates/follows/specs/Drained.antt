@@ -4,33 +4,34 @@ use Prim.Native.Nat.{ℕ, _+_, _-_, _≤_, _<_}
 use native.Mathlib.Decide.{ℕ-discrete}
 use native.Mathlib.Omega.{arith}
 use mathlib.Core.Path.{_≡_, refl, sym, ap, ap₂, _∙_, subst}
+use mathlib.Core.Bool as B
 use mathlib.Core.Bool.{Bool, true, false, not, cond, _&&_, _||_}
-use mathlib.Core.List.{List, [], _∷_, _++_, List·Memᴰ, List·Memᴰ·head, List·Memᴰ·tail, List·Memᴰ·cases-cons, List·Memᴰ·not-nil}
+use mathlib.Core.List.{List, [], _∷_, List·Memᴰ, List·Memᴰ·head, List·Memᴰ·tail, List·Memᴰ·cases-cons, List·Memᴰ·not-nil}
 use mathlib.Core.Logic.{_⊎_, inl, inr, ⊎-elim, _≢_}
-use lib.ListN.{length, getD, set, length-set}
+use lib.ListN.{length, length-set}
 use lib.Dec.{eqb}
 use lib.IntN.{ℤ, pos, _+ℤ_, _-ℤ_, pos-+ℤ-pos}
 use lib.Signed.{_≤ℤ_, ≤ℤ-refl}
 use borrow.Author.Tests.{eq-eqb, ne-eqb}
 use Rattle.signed.specs.Signed.{pos-minus}
 use Rattle.numeric.specs.Threshold.{Term, term}
-use Rattle.state.specs.declared.Step.{Step}
-use Rattle.state.specs.declared.Step.the-variants.{Unchanged, Changed, Contradiction}
+use Rattle.state.specs.declared.Step.the-variants.{Contradiction}
 use Rattle.state.specs.declared.State.{State}
 use Rattle.state.specs.declared.Upper.{Upper}
 use Rattle.state.specs.Step.{joined, contradicts}
 use Rattle.state.specs.State.{drained, withKnown, withPossible}
 use Rattle.words.specs.Mask.{bit}
-use Rattle.queues.specs.Marks.{Marks, isDecided}
+use Rattle.queues.specs.Marks.{isDecided}
 use Rattle.row.specs.TermsLaws.{All, Distinct}
-use Rattle.thresholds.specs.Rows.{Row, noRow, Edge, edgesOf}
+use Rattle.thresholds.specs.Rows.{Row, Edge, edgesOf}
 use Rattle.propagate.specs.Between.{Index, Live, live, stateAt, withState, Did, did, runRow, conditionFrom, thresholdCondition}
 use Rattle.table.specs.Table.{Table, IsRow, termsOf, known, possible}
 use Rattle.table.specs.Order.{UpLe, up-refl}
-use Rattle.table.specs.TableLaws.{Le, le-then, Follows}
+use Rattle.table.specs.TableLaws.{le-then}
+use Rattle.follows.specs.Answers.{true-false, clash, joined-which, joined-right}
 use Rattle.follows.specs.Decide.{Broken}
-use Rattle.follows.specs.Stands.{tableAt, among, also, Apart, Stands, true-false, clash, known-same, possible-same, put-state, restart}
-use Rattle.follows.specs.Moves.{Kept, run-stands, joined-which}
+use Rattle.follows.specs.Stands.{tableAt, among, also, Stands, known-same, possible-same, put-state, restart}
+use Rattle.follows.specs.Moves.{Kept, run-stands}
 use Rattle.follows.specs.Edges.{leadsTo, OnceEach, leads-not, leads-here, leads-other, edge-term, term-edge, edges-once}
 
 -- ONE TERM of a row whose conditions are distinct, counted now and not before
@@ -235,16 +236,12 @@ module _ (x : Index) (s : Table) where
           k : Stands (x .rows) (tableAt stepped) (drainedBut c es into) (ran .live)
           k = run-stands x (drainedBut c es into) (tableAt stepped) stepped (e .row) (is .0) (restart (x .rows) u (drainedBut c es into) stepped (edge-stands u h)) .0
 
-          or-right : (b : Bool) → (b || true) ≡ true
-          or-right true = refl
-          or-right false = refl
-
           by : (bit (v .marks .sure) c ≡ true) ⊎ (bit (v .marks .sure) c ≡ false) → (bit (ran .live .marks .sure) c ≡ value) × (isDecided (ran .live .marks) c ≡ true)
           by (inl t) = let g = k .above .sure c t in (g ∙ sym t ∙ has, ap (λ (b : Bool). b || bit (ran .live .marks .never) c) g)
           by (inr f) =
               let g = k .above .never c (ap (λ (b : Bool). b || bit (v .marks .never) c) (sym f) ∙ done) in (
                 ⊎-elim (λ (t : bit (ran .live .marks .sure) c ≡ true). absurd (k .apart c t g)) (λ (n : bit (ran .live .marks .sure) c ≡ false). n ∙ sym f ∙ has) (true-false (bit (ran .live .marks .sure) c)),
-                ap (λ (b : Bool). bit (ran .live .marks .sure) c || b) g ∙ or-right (bit (ran .live .marks .sure) c),
+                ap (λ (b : Bool). bit (ran .live .marks .sure) c || b) g ∙ B.or-true (bit (ran .live .marks .sure) c),
               )
 
     conditions-from : (value : Bool) (es : List Edge) → ((e : Edge) → List·Memᴰ e es → IsRow (x .rows) (e .row) × List·Memᴰ (term c (e .weight)) (termsOf (x .rows) (e .row)))
@@ -271,13 +268,6 @@ module _ (x : Index) (s : Table) where
         ends : Bool → Did
         ends b = elim b [ true ↦ did (d .live) Contradiction | false ↦ did (conditionFrom x value es (d .live) .live) (joined (d .step) (conditionFrom x value es (d .live) .step)) ]
 
-        right : (a b : Step) → contradicts a ≡ false → contradicts (joined a b) ≡ false → contradicts b ≡ false
-        right Unchanged b e h = h
-        right Changed Unchanged e h = refl
-        right Changed Changed e h = refl
-        right Changed Contradiction e h = h
-        right Contradiction b e h = absurd (clash true refl e)
-
         by : Later → (b : Bool) → contradicts (d .step) ≡ b → Drains (drainedBut c [] into) (ends b)
         by later true q = record { stands = (drainedBut c es into, o .0); everywhere = λ k. absurd (clash true refl k); broken = λ _. o .1 q }
         by later false q =
@@ -285,7 +275,7 @@ module _ (x : Index) (s : Table) where
             let m = later (d .live) (y .0) (y .1) (o .0) in
             record {
               stands = m .stands;
-              everywhere = λ k. m .everywhere (right (d .step) (conditionFrom x value es (d .live) .step) q k);
+              everywhere = λ k. m .everywhere (joined-right (d .step) (conditionFrom x value es (d .live) .step) k);
               broken = λ k. m .broken (joined-which (d .step) (conditionFrom x value es (d .live) .step) q k);
             }
 

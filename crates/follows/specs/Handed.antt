@@ -1,11 +1,11 @@
 -- RULE 6 STAYS DONE: each row that does not wait to hand on its bounds has handed them on to all its neighbours; whatever moves a
 -- bound later makes its row wait. Where no row waits, rule 6 is done for all rows of which one starts the other.
-use Prim.Native.Nat.{ℕ, _+_, _≤_, _<_}
+use Prim.Native.Nat.{ℕ, _≤_, _<_}
 use native.Mathlib.Decide.{ℕ-discrete}
 use native.Mathlib.Omega.{arith}
 use mathlib.Core.Path.{_≡_, refl, sym, ap, _∙_, subst}
-use mathlib.Core.Bool.{Bool, true, false, not, cond, _&&_, _||_}
-use mathlib.Core.List.{List, [], _∷_, _++_, List·Memᴰ, List·Memᴰ·head, List·Memᴰ·tail, List·Memᴰ·cases-cons, List·Memᴰ·not-nil}
+use mathlib.Core.Bool.{Bool, true, false, not, cond, _&&_}
+use mathlib.Core.List.{List, [], _∷_, List·Memᴰ, List·Memᴰ·head, List·Memᴰ·tail, List·Memᴰ·cases-cons, List·Memᴰ·not-nil}
 use mathlib.Core.Logic.{_⊎_, inl, inr, ⊎-elim, _≢_}
 use lib.ListN.{length, getD, set, length-set, length-append}
 use lib.Seq.{getD-set-same, getD-set-other}
@@ -14,27 +14,25 @@ use lib.IntN.{ℤ}
 use lib.Signed.{leZ, ltZ, _≤ℤ_, ≤ℤ-refl}
 use borrow.Author.Tests.{eq-eqb, ne-eqb, eqb-true, le-leb}
 use Rattle.signed.specs.Signed.{nlt-leZ, nle-ltZ}
-use Rattle.numeric.specs.Threshold.{Term, Threshold}
-use Rattle.state.specs.declared.Step.{Step}
+use Rattle.numeric.specs.Threshold.{Threshold}
 use Rattle.state.specs.declared.Step.the-variants.{Unchanged, Changed, Contradiction}
 use Rattle.state.specs.declared.State.{State}
 use Rattle.state.specs.declared.Upper.{Upper}
 use Rattle.state.specs.declared.Upper.the-variants.{Open, Under}
 use Rattle.state.specs.Step.{joined, contradicts}
-use Rattle.state.specs.State.{noState, upperAtMost, withLower, withUpper, drained, withKnown, withPossible}
+use Rattle.state.specs.State.{upperAtMost, withLower, withUpper, drained, withKnown, withPossible}
 use Rattle.words.specs.Mask.{bit}
-use Rattle.queues.specs.Marks.{isDecided}
 use Rattle.queues.specs.Queue.{Rows, oldest, queueRow, nextRow}
 use Rattle.queues.specs.QueueLaws.{row-waits, row-new}
-use Rattle.thresholds.specs.Rows.{Row, noRow, Guard, guard, Edge, edgesOf, rowNumber}
+use Rattle.thresholds.specs.Rows.{Edge, edgesOf, rowNumber}
 use Rattle.prefixes.specs.Links.{Link, links, neighbours}
-use Rattle.prefixes.specs.LinksLaws.{link, link-starts, links-range, Climbs, stay, up, across, onward, climbs-exactly, downward, upward, joined-neighbours}
+use Rattle.prefixes.specs.LinksLaws.{link, link-starts, Climbs, stay, up, across, onward, climbs-exactly, downward, upward, joined-neighbours}
 use Rattle.propagate.specs.declared.Tightened.{Tightened}
-use Rattle.propagate.specs.Between.{Index, Live, live, stateAt, withState, withDirty, Did, did, runRow, bounded, linkedQueued, tight, guardState, thresholdGuard, conditionFrom, thresholdCondition, movedLower, movedUpper, movedState, under, termCount, prefixesFrom, thresholdPrefixes}
-use Rattle.table.specs.Table.{Table, IsRow, termsOf, Guards, IsPrefix}
+use Rattle.propagate.specs.Between.{Index, Live, live, stateAt, withState, withDirty, Did, did, runRow, bounded, tight, guardState, thresholdGuard, conditionFrom, thresholdCondition, movedLower, movedState, under, termCount, prefixesFrom, thresholdPrefixes}
+use Rattle.table.specs.Table.{Table, IsRow, termsOf, IsPrefix}
 use Rattle.table.specs.Order.{le, lt, ≤ℤ-trans, <ℤ-≤ℤ, UpLe, up-refl, up-trans}
-use Rattle.table.specs.TableLaws.{Le}
-use Rattle.follows.specs.Stands.{tableAt, Stands, true-false, clash, restart}
+use Rattle.follows.specs.Answers.{clash, and-one, joined-right}
+use Rattle.follows.specs.Stands.{Stands}
 use Rattle.follows.specs.Bounds.{SameBounds, same-bounds, run-bounds, put-here, put-there}
 use Rattle.follows.specs.Moves.{neighbour-stands, moved-tighter}
 use Rattle.follows.specs.Edges.{edge-term}
@@ -243,10 +241,6 @@ module _ (x : Index) where
     abbrev last : Tightened
     last = movedState source st n k
 
-    and-one : (a b : Bool) → a ≡ true → (a && b) ≡ false → b ≡ false
-    and-one true b e h = h
-    and-one false b e h = absurd (clash false e refl)
-
     -- the upper's part leaves the lower
     lower-last : last .state .lower ≡ first .state .lower
     unfolding withUpper
@@ -313,13 +307,6 @@ module _ (x : Index) where
     Hands rs v d =
         contradicts (d .step) ≡ false
         → Handed x only (d .live) × SameBounds (stateAt (d .live) row) source × ((q : ℕ) → List·Memᴰ q rs → HandedOn x (d .live) row q) × ((q : ℕ) → HandedOn x v row q → HandedOn x (d .live) row q)
-
-    joined-right : (a b : Step) → contradicts (joined a b) ≡ false → contradicts b ≡ false
-    joined-right Unchanged b h = h
-    joined-right Changed Unchanged h = refl
-    joined-right Changed Changed h = refl
-    joined-right Changed Contradiction h = h
-    joined-right Contradiction b h = absurd (clash true refl h)
 
     prefixes-from : (rs : List ℕ) → ((r : ℕ) → List·Memᴰ r rs → (r ≢ row) × (IsPrefix (x .rows) row r ⊎ IsPrefix (x .rows) r row))
         → (v : Live) → Stands (x .rows) s drained v → SameBounds (stateAt v row) source → Handed x only v → Hands rs v (prefixesFrom x row source rs v)

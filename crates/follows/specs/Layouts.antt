@@ -2,28 +2,29 @@
 -- condition or handed-on bounds make of it, and where one of these contradicts there was no such layout.
 use Prim.Native.Nat.{ℕ, suc}
 use native.Mathlib.Omega.{arith}
-use mathlib.Core.Path.{_≡_, refl, sym, ap, _∙_, subst}
+use mathlib.Core.Path.{_≡_, sym, ap, subst}
 use mathlib.Core.Bool.{Bool, true, false, not}
 use mathlib.Core.List.{List, List·Memᴰ}
-use lib.IntN.{ℤ, pos}
-use lib.Signed.{_≤ℤ_, ≤ℤ-refl}
+use lib.IntN.{pos}
+use lib.Signed.{_≤ℤ_}
 use Rattle.numeric.specs.Threshold.{Threshold, Job}
 use Rattle.numeric.specs.Layout.{Layout, IsLayout}
-use Rattle.state.specs.declared.Upper.the-variants.{Open, Under}
+use Rattle.state.specs.declared.Upper.the-variants.{Under}
 use Rattle.state.specs.Step.{contradicts}
 use Rattle.words.specs.Mask.{bit}
 use Rattle.queues.specs.Marks.{isDecided}
 use Rattle.row.specs.Terms.{sumOf}
-use Rattle.thresholds.specs.Rows.{Row, rowsOf}
+use Rattle.thresholds.specs.Rows.{Row}
 use Rattle.propagate.specs.Between.{Index, Live, stateAt, Did, runRow, thresholdGuard, thresholdCondition, thresholdPrefixes}
 use Rattle.table.specs.Table.{Table, start, IsRow, termsOf}
 use Rattle.table.specs.Order.{UpLe, pos-≤ℤ}
 use Rattle.table.specs.TableLaws.{Le, Follows}
 use Rattle.table.specs.LayoutLaws.{ofLayout, layout-agrees, no-layout}
+use Rattle.follows.specs.Answers.{not-true}
 use Rattle.follows.specs.Decide.{Broken}
 use Rattle.follows.specs.Stands.{tableAt, Stands, restart}
 use Rattle.follows.specs.Moves.{Kept, run-stands, guard-stands, prefixes-stand}
-use Rattle.follows.specs.Drained.{Drains, condition-stands}
+use Rattle.follows.specs.Drained.{condition-stands}
 use Rattle.follows.specs.Built.{Built}
 
 -- A layout agrees with a live state: with every decided node, and each row's sum is at least its lower and below its upper.
@@ -32,10 +33,6 @@ pub record Agrees (rows : List Row) (w : Layout) (v : Live) : Type 0 where
   pub never : (n : ℕ) → bit (v .marks .never) n ≡ true → w n ≡ false
   pub lower : (r : ℕ) → stateAt v r .lower ≤ℤ pos (sumOf w (termsOf rows r))
   pub upper : (r : ℕ) → UpLe (Under (pos (suc (sumOf w (termsOf rows r))))) (stateAt v r .upper)
-
-not-true : (b : Bool) → not b ≡ true → b ≡ false
-not-true true h = sym h
-not-true false h = refl
 
 module _ (rows : List Row) (w : Layout) (v : Live) where
   pub agrees-le : Agrees rows w v → Le (tableAt v) (ofLayout rows w)

@@ -2,18 +2,17 @@
 -- keep the invariant of Stands, and where one of them contradicts, a conflict follows from the start.
 use Prim.Native.Nat.{ℕ, _+_, _≤_, _<_}
 use native.Mathlib.Omega.{arith}
-use mathlib.Core.Path.{_≡_, refl, sym, ap, ap₂, _∙_, subst}
+use mathlib.Core.Path.{_≡_, refl, sym, ap, _∙_, subst}
 use mathlib.Core.Bool.{Bool, true, false, not, cond, _&&_, _||_}
 use mathlib.Core.List.{List, [], _∷_, _++_, append-nil, List·Memᴰ, List·Memᴰ·head, List·Memᴰ·tail}
-use mathlib.Core.Logic.{_⊎_, inl, inr, ⊎-elim, _≢_}
+use mathlib.Core.Logic.{_⊎_, inl, inr, ⊎-elim}
 use lib.ListN.{length, getD, set, length-append}
 use lib.Dec.{leb}
-use lib.IntN.{ℤ, pos}
+use lib.IntN.{ℤ}
 use lib.Signed.{leZ, ltZ, _≤ℤ_, _<ℤ_, ≤ℤ-refl}
 use borrow.Author.Tests.{leb-true}
 use Rattle.signed.specs.Signed.{nle-ltZ}
 use Rattle.numeric.specs.Threshold.{Term, Threshold}
-use Rattle.state.specs.declared.Step.{Step}
 use Rattle.state.specs.declared.Step.the-variants.{Unchanged, Changed, Contradiction}
 use Rattle.state.specs.declared.State.{State}
 use Rattle.state.specs.declared.Upper.{Upper}
@@ -29,12 +28,13 @@ use Rattle.propagate.specs.declared.Tightened.{Tightened}
 use Rattle.propagate.specs.Row.{Ran, thresholdRow}
 use Rattle.propagate.specs.Between.{Index, Live, live, stateAt, withState, withDirty, Did, did, runRow, bounded, tight, guardState, thresholdGuard, movedLower, movedUpper, movedState, under, termCount, prefixesFrom, thresholdPrefixes}
 use Rattle.table.specs.Table.{Table, IsRow, termsOf, Guards, IsPrefix, raiseLower, lowerUpper, AtRest, sure-guard, never-guard, longer-lower, shorter-upper}
-use Rattle.table.specs.Order.{le, lt, ≤ℤ-trans, <ℤ-≤ℤ, ≤ℤ-or-<ℤ, UpLe, up-refl, up-trans, le-or-below}
-use Rattle.table.specs.TableLaws.{Le, Follows}
+use Rattle.table.specs.Order.{lt, ≤ℤ-trans, <ℤ-≤ℤ, ≤ℤ-or-<ℤ, UpLe, up-refl, up-trans, le-or-below}
+use Rattle.table.specs.TableLaws.{Le}
+use Rattle.follows.specs.Answers.{clash, and-left, and-right, joined-which}
 use Rattle.follows.specs.Decide.{tableOf, Broken, follows-below}
-use Rattle.follows.specs.Row.{Along, Fine, row-fine}
+use Rattle.follows.specs.Row.{Fine, row-fine}
 use Rattle.follows.specs.Cursors.{row-goes}
-use Rattle.follows.specs.Stands.{tableAt, Apart, Stands, true-false, clash, and-left, and-right, Stay, stay-same, stay-decide, stay-le, apart-decide, put-state, known-inside, possible-inside, restart, put-stands}
+use Rattle.follows.specs.Stands.{tableAt, Apart, Stands, Stay, stay-same, stay-decide, stay-le, apart-decide, put-state, known-inside, possible-inside, restart, put-stands}
 
 -- WHAT EVERY REST HAS by rules 1 and 6
 module _ (rows : List Row) (u : Table) (rest : AtRest rows u) where
@@ -69,14 +69,6 @@ prefix-by rows r q (inr i) h = (i .1, i .0, ([], same (i .2 .0) (i .2 .1)))
         let k : length (termsOf rows r) ≡ length (termsOf rows q ++ rest) = ap length e in
         let n = none rest (omega arith) in
         sym (e ∙ ap (λ (xs : List Term). termsOf rows q ++ xs) n ∙ append-nil (termsOf rows q)) ∙ sym (append-nil (termsOf rows r))
-
--- from the answer of the rest to the answer of the whole
-pub joined-which : (a b : Step) → contradicts a ≡ false → contradicts (joined a b) ≡ true → contradicts b ≡ true
-joined-which Unchanged b e h = h
-joined-which Changed Unchanged e h = h
-joined-which Changed Changed e h = h
-joined-which Changed Contradiction e h = refl
-joined-which Contradiction b e h = absurd (clash true refl e)
 
 no-contradiction : {A : Type 0} → contradicts Unchanged ≡ true → A
 no-contradiction h = absurd (clash true refl (sym h))

@@ -3,9 +3,10 @@
 use Prim.Native.Nat.{ℕ, _+_, _-_, _≤_}
 use native.Mathlib.Omega.{arith}
 use mathlib.Core.Path.{_≡_, refl, sym, ap, ap₂, _∙_, subst}
+use mathlib.Core.Bool as B
 use mathlib.Core.Bool.{Bool, true, false, not, cond, _&&_, _||_}
 use mathlib.Core.List.{List, [], _∷_, List·Memᴰ, List·Memᴰ·cases-cons, List·Memᴰ·not-nil}
-use mathlib.Core.Logic.{_⊎_, inl, inr, ⊎-elim}
+use mathlib.Core.Logic.{_⊎_, inl, inr}
 use lib.ListN.{getD}
 use lib.IntN.{ℤ, pos, _-ℤ_}
 use lib.Signed.{leZ, ltZ, _≤ℤ_, _<ℤ_, ≤ℤ-refl, clashℤ}
@@ -21,8 +22,9 @@ use Rattle.propagate.specs.Row.{reachable}
 use Rattle.propagate.specs.Between.{Live, stateAt}
 use Rattle.table.specs.Table.{Table, IsRow, termsOf, known, possible, Guards, HasTerm, knownOf, possibleOf, reachedOf, Undecided, AtMost, IsPrefix, Step, sure-guard, never-guard, bound-reached, bound-out-of-reach, term-needed, term-too-heavy, longer-lower, shorter-upper, Conflict, both, lower-above, upper-reached, AtRest, Below}
 use Rattle.table.specs.Order.{le, of-le, of-lt, ≤ℤ-trans, pos-≤ℤ, sub-up, UpLe}
+use Rattle.follows.specs.Answers.{true-false, clash, or-false}
 use Rattle.follows.specs.RowComplete.{Complete}
-use Rattle.follows.specs.Stands.{tableAt, Stands, AllDrained, true-false, clash, known-exact, possible-exact}
+use Rattle.follows.specs.Stands.{tableAt, Stands, AllDrained, known-exact, possible-exact}
 
 -- No rule of 2 to 5, and no conflict, is left for the row.
 pub record RowRests (rows : List Row) (t : Table) (r : ℕ) : Type 0 where
@@ -59,10 +61,6 @@ room-left sure never (t ∷ ts) u apart m a b = by (λ k. room-left sure never t
         omega arith
     by ih (inr k) = let i = ih k in let o = one (sure (t .condition)) (never (t .condition)) (t .weight) (apart (t .condition)) in omega arith
 
-or-false : (a b : Bool) → (a || b) ≡ false → (a ≡ false) × (b ≡ false)
-or-false true b h = absurd (clash true refl h)
-or-false false b h = (refl, h)
-
 at-most : (y : Upper) (z : ℤ) → AtMost y z → upperAtMost y z ≡ true
 at-most Open z h = absurd h
 at-most (Under b) z h = of-le h
@@ -85,11 +83,7 @@ module _ (rows : List Row) (s : Table) (drained : ℕ → ℕ → Bool) (v : Liv
   unreachable : (b : ℤ) → (possibleOf rows (tableAt v) r <ℤ b) ⊎ AtMost (stateAt v r .upper) b → reachable (stateAt v r) b ≡ false
   unreachable b (inl a) =
       ap (λ (x : Bool). x && not (upperAtMost (stateAt v r .upper) b)) (ltZ-nle (stateAt v r .possible) b (ap (λ (z : ℤ). ltZ z b) is-possible ∙ of-lt a))
-  unreachable b (inr a) = ap (λ (x : Bool). leZ b (stateAt v r .possible) && not x) (at-most (stateAt v r .upper) b a) ∙ none (leZ b (stateAt v r .possible))
-    where
-      none : (x : Bool) → (x && false) ≡ false
-      none true = refl
-      none false = refl
+  unreachable b (inr a) = ap (λ (x : Bool). leZ b (stateAt v r .possible) && not x) (at-most (stateAt v r .upper) b a) ∙ B.and-false (leZ b (stateAt v r .possible))
 
   undecided : (n : ℕ) → Undecided rows (tableAt v) n → isDecided (v .marks) n ≡ true → ⊥
   undecided n u d = clash (isDecided (v .marks) n) d (ap₂ (λ (x y : Bool). x || y) (u .0) (u .1))

@@ -5,6 +5,7 @@ use Prim.Native.Nat.{ℕ, _+_, _≤_, _<_}
 use native.Mathlib.Decide.{ℕ-discrete}
 use native.Mathlib.Omega.{arith}
 use mathlib.Core.Path.{_≡_, refl, sym, ap, ap₂, _∙_, subst}
+use mathlib.Core.Bool as B
 use mathlib.Core.Bool.{Bool, true, false, not, cond, _&&_, _||_}
 use mathlib.Core.List.{List, [], _∷_, List·Memᴰ, List·Memᴰ·head, List·Memᴰ·tail}
 use mathlib.Core.Logic.{_⊎_, inl, inr, ⊎-elim, _≢_}
@@ -24,9 +25,10 @@ use Rattle.queues.specs.MarksLaws.{mask, decide-there, decide-clash, decide-oth
 use Rattle.queues.specs.Queue.{Rows}
 use Rattle.thresholds.specs.Rows.{Row}
 use Rattle.propagate.specs.Between.{Live, live, stateAt}
-use Rattle.table.specs.Table.{Table, IsRow, termsOf, known, possible, knownOf, possibleOf, AtRest}
-use Rattle.table.specs.Order.{pos-≤ℤ, UpLe, up-refl}
+use Rattle.table.specs.Table.{Table, IsRow, termsOf, known, possible, knownOf, possibleOf}
+use Rattle.table.specs.Order.{pos-≤ℤ, up-refl}
 use Rattle.table.specs.TableLaws.{Le, le-same, le-then, Follows, follows-start, known-up, possible-down}
+use Rattle.follows.specs.Answers.{true-false, clash, and-right}
 use Rattle.follows.specs.Decide.{tableOf}
 
 -- The nodes of the masks and the bounds of the row states, as a state of the table.
@@ -77,23 +79,6 @@ pub record Stands (rows : List Row) (s : Table) (drained : ℕ → ℕ → Bool)
   pub decided : (r n : ℕ) → drained r n ≡ true → isDecided (v .marks) n ≡ true
   pub known : (r : ℕ) → IsRow rows r → stateAt v r .known ≡ pos (known (among (drained r) (v .marks .sure)) (termsOf rows r))
   pub possible : (r : ℕ) → IsRow rows r → stateAt v r .possible ≡ pos (possible (among (drained r) (v .marks .never)) (termsOf rows r))
-
--- BOOLEANS
-
-pub true-false : (b : Bool) → (b ≡ true) ⊎ (b ≡ false)
-true-false true = inl refl
-true-false false = inr refl
-
-pub clash : (b : Bool) → b ≡ true → b ≡ false → ⊥
-clash b h k = let z : _≡_ {A = ℕ} 0 1 = cc in omega arith
-
-pub and-left : (a b : Bool) → (a && b) ≡ true → a ≡ true
-and-left true b h = refl
-and-left false b h = h
-
-pub and-right : (a b : Bool) → (a && b) ≡ true → b ≡ true
-and-right true b h = h
-and-right false b h = absurd (clash false h refl)
 
 -- SUMS go by the conditions of their terms alone.
 pub known-same : (f g : ℕ → Bool) (ts : List Term) → ((t : Term) → List·Memᴰ t ts → f (t .condition) ≡ g (t .condition)) → known f ts ≡ known g ts
@@ -212,13 +197,9 @@ module _ (rows : List Row) (s : Table) (drained : ℕ → ℕ → Bool) (v : Liv
       is true e = sure-decided (v .marks) n e
       is false e = never-decided (v .marks) n e
 
-      none : (b : Bool) → (b && false) ≡ false
-      none true = refl
-      none false = refl
-
       by : (b : Bool) → bit (mask value (v .marks)) n ≡ b → (drained r n && b) ≡ b
       by true e = ap (λ (d : Bool). d && true) (all (is value e))
-      by false e = none (drained r n)
+      by false e = B.and-false (drained r n)
 
   pub known-exact : (r : ℕ) → IsRow rows r → AllDrained r → stateAt v r .known ≡ knownOf rows (tableAt v) r
   known-exact r i all = h .known r i ∙ ap pos (known-same _ _ (termsOf rows r) (λ t j. all-in r (t .condition) (all t j) true))

@@ -27,11 +27,12 @@ use Rattle.propagate.specs.Between.{Index, Live, live, stateAt, did}
 use Rattle.table.specs.Table.{Table, start, IsRow, termsOf, known, possible}
 use Rattle.table.specs.Order.{UpLe, up-refl}
 use Rattle.table.specs.TableLaws.{Le, le-then, Follows, follows-more}
-use Rattle.follows.specs.Decide.{tableOf, Broken, decideAs, decided-below, against}
+use Rattle.follows.specs.Answers.{true-false, clash}
+use Rattle.follows.specs.Decide.{tableOf, decideAs, decided-below, against}
 use Rattle.follows.specs.Row.{decide-grows}
 use Rattle.follows.specs.Complete.{Wide, wide-decide}
 use Rattle.follows.specs.RowComplete.{Passed}
-use Rattle.follows.specs.Stands.{tableAt, among, also, also-this, also-before, also-which, Apart, Stands, true-false, clash, known-same, possible-same, Stay, stay-same, stay-decide, stay-decided, stay-le, apart-decide}
+use Rattle.follows.specs.Stands.{tableAt, among, also, also-this, also-before, also-which, Apart, Stands, known-same, possible-same, Stay, stay-same, stay-decide, stay-decided, stay-le, apart-decide}
 use Rattle.follows.specs.Done.{Done, Grows, passed-up, complete-up}
 use Rattle.follows.specs.Told.{Told}
 use Rattle.follows.specs.Handed.{Handed, taken-handed}

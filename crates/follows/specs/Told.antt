@@ -1,13 +1,13 @@
 -- RULE 1 STAYS DONE: a drained guard's bound is in its row, and whatever comes later keeps it there.
-use Prim.Native.Nat.{ℕ, zero, suc, _+_, _≤_, _<_}
+use Prim.Native.Nat.{ℕ, zero, suc, _≤_, _<_}
 use native.Mathlib.Nat.{not-suc-le-zero, le-of-suc-le-suc}
 use native.Mathlib.Omega.{arith}
 use mathlib.Core.Path.{_≡_, refl, sym, ap, _∙_, subst}
+use mathlib.Core.Bool as B
 use mathlib.Core.Bool.{Bool, true, false, _||_}
 use mathlib.Core.List.{List, [], _∷_, List·Memᴰ}
 use mathlib.Core.Logic.{_⊎_, inl, inr, ⊎-elim, _≢_}
-use lib.ListN.{length, getD, set}
-use lib.Seq.{getD-set-same}
+use lib.ListN.{length, getD}
 use lib.IntN.{ℤ}
 use lib.Signed.{leZ, _≤ℤ_, ≤ℤ-refl}
 use Rattle.numeric.specs.Threshold.{Term, Threshold, Job}
@@ -16,21 +16,21 @@ use Rattle.state.specs.declared.Step.the-variants.{Unchanged}
 use Rattle.state.specs.declared.State.{State}
 use Rattle.state.specs.declared.Upper.{Upper}
 use Rattle.state.specs.declared.Upper.the-variants.{Open, Under}
-use Rattle.state.specs.State.{noState, upperAtMost, withLower, withUpper}
+use Rattle.state.specs.State.{upperAtMost, withLower, withUpper}
 use Rattle.words.specs.Mask.{bit}
-use Rattle.queues.specs.Marks.{Marks, isDecided}
-use Rattle.queues.specs.MarksLaws.{mask}
+use Rattle.queues.specs.Marks.{isDecided}
 use Rattle.thresholds.specs.Rows.{Row, rowOf, noRow, Guard, guard, insertGuard, place, placeAll, rowsOf, rowNumber}
 use Rattle.thresholds.specs.RawLaws.{same-refl}
 use Rattle.propagate.specs.declared.Tightened.{Tightened}
-use Rattle.propagate.specs.Between.{Index, Live, live, stateAt, Did, did, runRow, bounded, tight, guardState, thresholdGuard}
-use Rattle.table.specs.Table.{Table, IsRow, Guards}
+use Rattle.propagate.specs.Between.{Index, Live, live, stateAt, Did, did, bounded, tight, guardState, thresholdGuard}
+use Rattle.table.specs.Table.{Table, Guards}
 use Rattle.table.specs.Order.{le, ≤ℤ-trans, UpLe, up-refl, up-trans}
 use Rattle.table.specs.TableLaws.{Le}
 use Rattle.table.specs.LayoutLaws.{row-made}
-use Rattle.follows.specs.Stands.{tableAt, also, also-which, Apart, Stands, true-false, clash, Stay, stay-decided, restart}
+use Rattle.follows.specs.Answers.{true-false, clash}
+use Rattle.follows.specs.Stands.{tableAt, also, also-which, Apart, Stands, Stay, stay-decided, restart}
 use Rattle.follows.specs.Bounds.{SameBounds, put-here}
-use Rattle.follows.specs.Moves.{Kept, run-stands, guard-stands}
+use Rattle.follows.specs.Moves.{guard-stands}
 
 -- The guards of the nodes that are told: a sure one's bound is at most its row's lower, a never one's at least its upper.
 pub record Told (rows : List Row) (told : ℕ → Bool) (v : Live) : Type 0 where
@@ -48,14 +48,10 @@ later-stay v w l apart n d true = by (true-false (bit (v .marks .sure) n))
         ⊎-elim (λ (k : bit (w .marks .sure) n ≡ true). absurd (apart n k (l .never n (ap (λ (b : Bool). b || bit (v .marks .never) n) (sym e) ∙ d)))) (λ k. k ∙ sym e) (true-false (bit (w .marks .sure) n))
 later-stay v w l apart n d false = by (true-false (bit (v .marks .never) n))
   where
-    none : (b : Bool) → (b || false) ≡ b
-    none true = refl
-    none false = refl
-
     by : (bit (v .marks .never) n ≡ true) ⊎ (bit (v .marks .never) n ≡ false) → bit (w .marks .never) n ≡ bit (v .marks .never) n
     by (inl e) = l .never n e ∙ sym e
     by (inr e) =
-        let s : bit (v .marks .sure) n ≡ true = sym (none (bit (v .marks .sure) n)) ∙ ap (λ (b : Bool). bit (v .marks .sure) n || b) (sym e) ∙ d in
+        let s : bit (v .marks .sure) n ≡ true = sym (B.or-false (bit (v .marks .sure) n)) ∙ ap (λ (b : Bool). bit (v .marks .sure) n || b) (sym e) ∙ d in
         ⊎-elim (λ (k : bit (w .marks .never) n ≡ true). absurd (apart n (l .sure n s) k)) (λ k. k ∙ sym e) (true-false (bit (w .marks .never) n))
 
 -- WHAT IS TOLD STAYS TOLD, whatever else follows
