@@ -256,11 +256,11 @@ from-at all (x ∷ xs) zero h k = h .0
 from-at all (x ∷ xs) (suc r) h k = from-at all xs r (h .1) (le-of-suc-le-suc k)
 
 -- All nodes that a job names have a place in the masks.
-pub record Ranged (j : Job) : Type 0 where
+pub record InRange (j : Job) : Type 0 where
   pub nodes : (t : Threshold) → List·Memᴰ t (j .thresholds) → t .node < 4096
   pub conditions : (t : Threshold) → List·Memᴰ t (j .thresholds) → All (λ (u : Term). u .condition < 4096) (t .terms)
 
-pub rows-ordered : (j : Job) → Ranged j → (r : ℕ) → IsRow (rowsOf j) r → Ordered (getD (rowsOf j) r noRow)
+pub rows-ordered : (j : Job) → InRange j → (r : ℕ) → IsRow (rowsOf j) r → Ordered (getD (rowsOf j) r noRow)
 rows-ordered j ok r i =
     let m = row-made j r i in
     let from = from-at (j .thresholds) (rowsOf j) r (all-from (j .thresholds) (j .thresholds) [] (λ t k. k) tt) i in

@@ -1,18 +1,17 @@
--- EVERY RUN OF THE TABLE CAN GO ON TO ITS END, and none is longer than some number: each step decides a node that stands in a row, or
--- moves a bound on to that of a guard. So what follows from a start is below the end of a run of the rules, or a run ends in a conflict.
-use Prim.Native.Nat.{ℕ, zero, suc, _+_, _≤_, _<_}
+-- EVERY RUN OF THE TABLE CAN GO ON TO ITS END. So what follows from a start lies below the end of a run of the rules, or that run ends
+-- in a conflict; and where a conflict follows, a run reaches one.
+use Prim.Native.Nat.{ℕ, zero, suc, _≤_, _<_}
 use native.Mathlib.Nat.{not-suc-le-zero}
 use native.Mathlib.Decide.{ℕ-discrete, decLt, decLe}
 use native.Mathlib.Omega.{arith}
 use mathlib.Core.Path.{_≡_, refl, sym, ap, _∙_, subst}
 use mathlib.Core.Bool.{Bool, true, false, cond}
-use mathlib.Core.List.{List, [], _∷_, _++_, List·Memᴰ, List·Memᴰ·head, List·Memᴰ·tail, List·Memᴰ·cases-cons, List·Memᴰ·not-nil}
-use mathlib.Core.Logic.{_⊎_, inl, inr, ⊎-elim, _≢_}
+use mathlib.Core.List.{List, [], _∷_, List·Memᴰ, List·Memᴰ·head, List·Memᴰ·tail, List·Memᴰ·cases-cons, List·Memᴰ·not-nil}
+use mathlib.Core.Logic.{_⊎_, inl, inr, ⊎-elim}
 use lib.ListN.{length, getD}
-use lib.Dec.{eqb}
 use lib.IntN.{ℤ, pos, _-ℤ_}
-use lib.Signed.{ltZ, _≤ℤ_, _<ℤ_, ≤ℤ-refl, <ℤ-≤ℤ-trans, clashℤ}
-use borrow.Author.Tests.{eq-eqb, ne-eqb}
+use lib.Signed.{_≤ℤ_, _<ℤ_, clashℤ}
+use borrow.Author.Tests.{ne-eqb}
 use Rattle.numeric.specs.Threshold.{Term}
 use Rattle.state.specs.declared.Upper.{Upper}
 use Rattle.state.specs.declared.Upper.the-variants.{Open, Under}
@@ -20,263 +19,230 @@ use Rattle.thresholds.specs.Rows.{Row, noRow, Guard}
 use Rattle.prefixes.specs.Links.{common}
 use Rattle.prefixes.specs.WordsLaws.{Starts, starts-common, common-starts}
 use Rattle.table.specs.Table as T
-use Rattle.table.specs.Table.{Table, start, AtMost, Below, decideSure, decideNever, raiseLower, lowerUpper, IsRow, termsOf, Guards, HasTerm, knownOf, possibleOf, reachedOf, Undecided, IsPrefix, Step, sure-guard, never-guard, bound-reached, bound-out-of-reach, term-needed, term-too-heavy, longer-lower, shorter-upper, Conflict, both, lower-above, upper-reached, Run, done, more, steps, AtRest, Ended}
-use Rattle.table.specs.Order.{lt, of-lt, ≤ℤ-trans, <ℤ-≤ℤ, ≤ℤ-or-<ℤ, UpLe, le-or-below}
-use Rattle.table.specs.TableLaws.{Le, Follows, run-above}
-use Rattle.follows.specs.Answers.{true-false, clash}
+use Rattle.table.specs.Table.{Table, AtMost, Below, decideSure, decideNever, raiseLower, lowerUpper, termsOf, Guards, HasTerm, knownOf, possibleOf, reachedOf, Undecided, Step, sure-guard, never-guard, bound-reached, bound-out-of-reach, term-needed, term-too-heavy, longer-lower, shorter-upper, Conflict, both, lower-above, upper-reached, Run, done, more, ReachesConflict, AtRest, Ended}
+use Rattle.table.specs.Order.{≤ℤ-or-<ℤ}
+use Rattle.table.specs.TableLaws.{Le, Follows, run-above, only-conflict}
+use Rattle.follows.specs.Answers.{clash}
 use Rattle.follows.specs.Decide.{Broken}
+use Rattle.follows.specs.Measure.{measure, Ranged, step-falls, step-ranged}
 
--- SUMS over a list and over the numbers below a bound
-unfoldable sumOver : {X : Type 0} → (X → ℕ) → List X → ℕ
-sumOver f [] = 0
-sumOver f (x ∷ xs) = f x + sumOver f xs
+-- DECIDING what a state of the table has
 
-unfoldable sumTo : (ℕ → ℕ) → ℕ → ℕ
-sumTo f zero = 0
-sumTo f (suc n) = f n + sumTo f n
+dec-both : {A B : Type 0} → Dec A → Dec B → Dec (A × B)
+dec-both (yes a) (yes b) = yes (a, b)
+dec-both (yes a) (no b) = no (λ (p : _ × _). b (p .1))
+dec-both (no a) b = no (λ (p : _ × _). a (p .0))
 
-module _ {X : Type 0} (f g : X → ℕ) (less : (x : X) → f x ≤ g x) where
-  over-le : (xs : List X) → sumOver f xs ≤ sumOver g xs
-  unfolding sumOver
-  over-le [] = omega arith
-  over-le (x ∷ xs) = let h = over-le xs in let k = less x in omega arith
+dec-either : {A B : Type 0} → Dec A → Dec B → Dec (A ⊎ B)
+dec-either (yes a) b = yes (inl a)
+dec-either (no a) (yes b) = yes (inr b)
+dec-either (no a) (no b) = no (λ p. ⊎-elim a b p)
 
-  over-lt : (xs : List X) (y : X) → List·Memᴰ y xs → f y < g y → sumOver f xs < sumOver g xs
-  unfolding sumOver
-  over-lt [] y m k = absurd (List·Memᴰ·not-nil m)
-  over-lt (x ∷ xs) y m k = by (λ i. over-lt xs y i k) (List·Memᴰ·cases-cons m)
-    where
-      by : (List·Memᴰ y xs → sumOver f xs < sumOver g xs) → (y ≡ x) ⊎ List·Memᴰ y xs → f x + sumOver f xs < g x + sumOver g xs
-      by ih (inl e) = let a = subst (λ (z : X). f z < g z) e k in let b = over-le xs in omega arith
-      by ih (inr i) = let a = ih i in let b = less x in omega arith
+dec-bool : (a b : Bool) → Dec (a ≡ b)
+dec-bool true true = yes refl
+dec-bool true false = no (λ e. clash true refl e)
+dec-bool false true = no (λ e. clash true refl (sym e))
+dec-bool false false = yes refl
 
-module _ (f g : ℕ → ℕ) (less : (n : ℕ) → f n ≤ g n) where
-  to-le : (n : ℕ) → sumTo f n ≤ sumTo g n
-  unfolding sumTo
-  to-le zero = omega arith
-  to-le (suc n) = let h = to-le n in let k = less n in omega arith
+dec-lt : (a b : ℤ) → Dec (a <ℤ b)
+dec-lt a b = ⊎-elim (λ (h : b ≤ℤ a). no (λ k. clashℤ k h)) (λ (h : a <ℤ b). yes h) (≤ℤ-or-<ℤ b a)
 
-  to-lt : (n y : ℕ) → y < n → f y < g y → sumTo f n < sumTo g n
-  unfolding sumTo
-  to-lt zero y i k = absurd (not-suc-le-zero i)
-  to-lt (suc n) y i k = by (λ j. to-lt n y j k) (ℕ-discrete y n)
-    where
-      by : (y < n → sumTo f n < sumTo g n) → Dec (y ≡ n) → f n + sumTo f n < g n + sumTo g n
-      by ih (yes e) = let a = subst (λ (z : ℕ). f z < g z) e k in let b = to-le n in omega arith
-      by ih (no e) = let a = ih (omega arith) in let b = less n in omega arith
+dec-le : (a b : ℤ) → Dec (a ≤ℤ b)
+dec-le a b = ⊎-elim (λ (h : a ≤ℤ b). yes h) (λ (h : b <ℤ a). no (λ k. clashℤ h k)) (≤ℤ-or-<ℤ a b)
 
--- A function changed at one place.
-at-this : {X : Type 0} (n : ℕ) (x : X) (f : ℕ → X) → T.at n x f n ≡ x
-at-this n x f = ap (λ (b : Bool). cond b x (f n)) (eq-eqb n n refl)
+dec-below : (a b : Upper) → Dec (Below a b)
+dec-below Open b = no (λ k. k)
+dec-below (Under a) Open = yes tt
+dec-below (Under a) (Under b) = dec-lt a b
 
-at-all : {X : Type 0} (P : ℕ → X → Type 0) (n : ℕ) (x : X) (f : ℕ → X) → P n x → ((m : ℕ) → P m (f m)) → (m : ℕ) → P m (T.at n x f m)
-at-all P n x f p k m = by (ℕ-discrete m n)
+dec-at-most : (y : Upper) (z : ℤ) → Dec (AtMost y z)
+dec-at-most Open z = no (λ k. k)
+dec-at-most (Under b) z = dec-le b z
+
+dec-starts : (a b : List Term) → Dec (Starts a b)
+dec-starts a b = by (decLe (length a) (common a b))
   where
-    by : Dec (m ≡ n) → P m (T.at n x f m)
-    by (yes e) = subst (λ (i : ℕ). P i (T.at n x f i)) (sym e) (subst (P n) (sym (at-this n x f)) p)
-    by (no e) = subst (P m) (sym (ap (λ (b : Bool). cond b x (f m)) (ne-eqb m n e))) (k m)
+    by : Dec (length a ≤ common a b) → Dec (Starts a b)
+    by (yes h) = yes (common-starts a b h)
+    by (no h) = no (λ k. h (starts-common a b k))
 
--- the bound lies beneath the upper
-abbrev beneath : Upper → ℤ → Bool
-beneath Open b = true
-beneath (Under a) b = ltZ b a
+-- one of a list, or of the numbers below a bound
+find : {X : Type 0} (P : X → Type 0) → ((x : X) → Dec (P x)) → (xs : List X) → Dec ((x : X) × List·Memᴰ x xs × P x)
+find P d [] = no (λ k. List·Memᴰ·not-nil (k .1))
+find {X} P d (x ∷ xs) = by (d x) (find P d xs)
+  where
+    by : Dec (P x) → Dec ((y : X) × List·Memᴰ y xs × P y) → Dec ((y : X) × List·Memᴰ y (x ∷ xs) × P y)
+    by (yes p) r = yes (x, List·Memᴰ·head refl, p)
+    by (no p) (yes r) = yes (r .0, List·Memᴰ·tail (r .1), r .2)
+    by (no p) (no r) = no (λ k. ⊎-elim (λ (e : k .0 ≡ x). p (subst P e (k .2))) (λ i. r (k .0, i, k .2)) (List·Memᴰ·cases-cons (k .1)))
 
-abbrev one : Bool → ℕ
-one b = cond b 1 0
+findTo : (P : ℕ → Type 0) → ((n : ℕ) → Dec (P n)) → (k : ℕ) → Dec ((n : ℕ) × (n < k) × P n)
+findTo P d zero = no (λ h. not-suc-le-zero (h .1))
+findTo P d (suc k) = by (d k) (findTo P d k)
+  where
+    by : Dec (P k) → Dec ((n : ℕ) × (n < k) × P n) → Dec ((n : ℕ) × (n < suc k) × P n)
+    by (yes p) r = yes (k, omega arith, p)
+    by (no p) (yes r) = let i = r .1 in yes (r .0, omega arith, r .2)
+    by (no p) (no r) = no (λ h. last h (ℕ-discrete (h .0) k))
+      where
+        last : (h : (n : ℕ) × (n < suc k) × P n) → Dec (h .0 ≡ k) → ⊥
+        last h (yes e) = p (subst P e (h .2))
+        last h (no e) = r (h .0, (let i = h .1 in omega arith), h .2)
 
-abbrev lacks : Bool → ℕ
-lacks b = cond b 0 1
+module _ (rows : List Row) (t : Table) where
+  abbrev Sure : ℕ → Guard → Type 0
+  Sure r g = (t .sure (g .node) ≡ true) × (t .lower r <ℤ g .bound)
 
-module _ (rows : List Row) where
-  abbrev guardsOf : ℕ → List Guard
-  guardsOf r = getD rows r noRow .guards
+  abbrev Never : ℕ → Guard → Type 0
+  Never r g = (t .never (g .node) ≡ true) × Below (Under (g .bound)) (t .upper r)
 
-  -- THE MEASURE: nodes in rows that could still be decided, and guards' bounds that rows' bounds could still move on to
-  abbrev free : Table → ℕ → ℕ
-  free t n = lacks (t .sure n) + lacks (t .never n)
+  abbrev Reached : ℕ → Guard → Type 0
+  Reached r g = (g .bound ≤ℤ reachedOf rows t r) × (t .sure (g .node) ≡ false)
 
-  unfoldable nodesLeft : Table → ℕ
-  nodesLeft t = sumTo (λ r. sumOver (λ (g : Guard). free t (g .node)) (guardsOf r) + sumOver (λ (x : Term). free t (x .condition)) (termsOf rows r)) (length rows)
+  abbrev Beyond : ℕ → Guard → Type 0
+  Beyond r g = ((possibleOf rows t r <ℤ g .bound) ⊎ AtMost (t .upper r) (g .bound)) × (t .never (g .node) ≡ false)
 
-  unfoldable higher : ℤ → ℕ
-  higher z = sumTo (λ r. sumOver (λ (g : Guard). one (ltZ z (g .bound))) (guardsOf r)) (length rows)
+  abbrev Needed : ℕ → Term → Type 0
+  Needed r x = Undecided rows t (x .condition) × ((possibleOf rows t r -ℤ t .lower r) <ℤ pos (x .weight))
 
-  unfoldable lesser : Upper → ℕ
-  lesser u = sumTo (λ r. sumOver (λ (g : Guard). one (beneath u (g .bound))) (guardsOf r)) (length rows)
+  abbrev Heavy : ℕ → Term → Type 0
+  Heavy r x = Undecided rows t (x .condition) × ((b : ℤ) × (t .upper r ≡ Under b) × ((b -ℤ knownOf rows t r) ≤ℤ pos (x .weight)))
 
-  unfoldable measure : Table → ℕ
-  measure t = nodesLeft t + sumTo (λ r. higher (t .lower r)) (length rows) + sumTo (λ r. lesser (t .upper r)) (length rows)
+  dec-undecided : (n : ℕ) → Dec (Undecided rows t n)
+  dec-undecided n = dec-both (dec-bool (t .sure n) false) (dec-bool (t .never n) false)
 
-  -- what moves is a guard's bound
-  abbrev IsBound : ℤ → Type 0
-  IsBound z = (r : ℕ) × (g : Guard) × Guards rows r g × (g .bound ≡ z)
-
-  -- Bounds of rows are those of the start or guards' bounds.
-  pub record Ranged (t : Table) : Type 0 where
-    pub lower : (r : ℕ) → (t .lower r ≡ pos 0) ⊎ IsBound (t .lower r)
-    pub least : (r : ℕ) → pos 0 ≤ℤ t .lower r
-    pub upper : (r : ℕ) (u : ℤ) → t .upper r ≡ Under u → IsBound u
-
-  pub start-ranged : (sure never : ℕ → Bool) → Ranged (start sure never)
-  start-ranged sure never = record { lower = λ r. inl refl; least = λ r. ≤ℤ-refl (pos 0); upper = λ r u e. absurd (let z : _≡_ {A = ℕ} 0 1 = cc in omega arith) }
-
-  one-le : (a b : Bool) → (a ≡ true → b ≡ true) → one a ≤ one b
-  one-le true b h = subst (λ (c : Bool). 1 ≤ one c) (sym (h refl)) (omega arith)
-  one-le false b h = omega arith
-
-  -- A HIGHER LOWER leaves fewer bounds above it
-  higher-falls : (z w : ℤ) → z <ℤ w → IsBound w → higher w < higher z
-  unfolding higher
-  higher-falls z w h (r, g, i, e) =
-      to-lt _ _ (λ q. over-le _ _ each (guardsOf q)) (length rows) r (i .0)
-      (over-lt _ _ each (guardsOf r) g (i .1)
-      (let a : one (ltZ w (g .bound)) ≡ 0 = ap one (subst (λ (b : ℤ). ltZ w b ≡ false) (sym e) (irrefl w)) in
-      let b : one (ltZ z (g .bound)) ≡ 1 = ap one (subst (λ (b : ℤ). ltZ z b ≡ true) (sym e) (of-lt h)) in omega arith))
+  dec-heavy : (r w : ℕ) → Dec ((b : ℤ) × (t .upper r ≡ Under b) × ((b -ℤ knownOf rows t r) ≤ℤ pos w))
+  dec-heavy r w = by (t .upper r) refl
     where
-      irrefl : (y : ℤ) → ltZ y y ≡ false
-      irrefl y = ⊎-elim (λ (k : ltZ y y ≡ true). absurd (clashℤ (lt k) (≤ℤ-refl y))) (λ k. k) (true-false (ltZ y y))
+      by : (y : Upper) → t .upper r ≡ y → Dec ((b : ℤ) × (t .upper r ≡ Under b) × ((b -ℤ knownOf rows t r) ≤ℤ pos w))
+      by Open e = no (λ k. let z : Open ≡ Under (k .0) = sym e ∙ k .1 in let y : _≡_ {A = ℕ} 0 1 = cc in omega arith)
+      by (Under b) e = at-test (dec-le (b -ℤ knownOf rows t r) (pos w))
+        where
+          at-test : Dec ((b -ℤ knownOf rows t r) ≤ℤ pos w) → Dec ((c : ℤ) × (t .upper r ≡ Under c) × ((c -ℤ knownOf rows t r) ≤ℤ pos w))
+          at-test (yes h) = yes (b, e, h)
+          at-test (no h) = no (λ k. h (subst (λ (c : ℤ). (c -ℤ knownOf rows t r) ≤ℤ pos w) (let q : Under b ≡ Under (k .0) = sym e ∙ k .1 in let z : k .0 ≡ b = cc in z) (k .2)))
 
-      each : (x : Guard) → one (ltZ w (x .bound)) ≤ one (ltZ z (x .bound))
-      each x = one-le (ltZ w (x .bound)) (ltZ z (x .bound)) (λ k. of-lt (<ℤ-≤ℤ-trans h (<ℤ-≤ℤ (lt k))))
+  abbrev Some : (ℕ → Type 0) → Type 0
+  Some P = (r : ℕ) × (r < length rows) × P r
 
-  -- A LOWER UPPER leaves fewer bounds beneath it
-  lesser-falls : (u : Upper) (w : ℤ) → Below (Under w) u → IsBound w → lesser (Under w) < lesser u
-  unfolding lesser
-  lesser-falls u w h (r, g, i, e) =
-      to-lt _ _ (λ q. over-le _ _ each (guardsOf q)) (length rows) r (i .0)
-      (over-lt _ _ each (guardsOf r) g (i .1)
-      (let a : one (ltZ (g .bound) w) ≡ 0 = ap one (subst (λ (b : ℤ). ltZ b w ≡ false) (sym e) (irrefl w)) in
-      let b : one (beneath u (g .bound)) ≡ 1 = ap one (subst (λ (b : ℤ). beneath u b ≡ true) (sym e) (under u h)) in omega arith))
+  guard-step : (P : ℕ → Guard → Type 0) → ((r : ℕ) (g : Guard) → Dec (P r g)) → Dec (Some (λ r. (g : Guard) × List·Memᴰ g (getD rows r noRow .guards) × P r g))
+  guard-step P d = findTo (λ r. (g : Guard) × List·Memᴰ g (getD rows r noRow .guards) × P r g) (λ r. find (P r) (d r) (getD rows r noRow .guards)) (length rows)
+
+  term-step : (P : ℕ → Term → Type 0) → ((r : ℕ) (x : Term) → Dec (P r x)) → Dec (Some (λ r. (x : Term) × List·Memᴰ x (termsOf rows r) × P r x))
+  term-step P d = findTo (λ r. (x : Term) × List·Memᴰ x (termsOf rows r) × P r x) (λ r. find (P r) (d r) (termsOf rows r)) (length rows)
+
+  abbrev Pair : (ℕ → ℕ → Type 0) → Type 0
+  Pair P = Some (λ r. Some (λ q. Starts (termsOf rows r) (termsOf rows q) × P r q))
+
+  pair-step : (P : ℕ → ℕ → Type 0) → ((r q : ℕ) → Dec (P r q)) → Dec (Pair P)
+  pair-step P d =
+      findTo (λ r. Some (λ q. Starts (termsOf rows r) (termsOf rows q) × P r q))
+      (λ r. findTo (λ q. Starts (termsOf rows r) (termsOf rows q) × P r q) (λ q. dec-both (dec-starts (termsOf rows r) (termsOf rows q)) (d r q)) (length rows)) (length rows)
+
+  -- A STEP IS LEFT, OR NONE IS
+  pub dec-step : Dec ((u : Table) × Step rows t u)
+  dec-step = by
+      (guard-step Sure (λ r g. dec-both (dec-bool (t .sure (g .node)) true) (dec-lt (t .lower r) (g .bound))))
+      (guard-step Never (λ r g. dec-both (dec-bool (t .never (g .node)) true) (dec-below (Under (g .bound)) (t .upper r))))
+      (guard-step Reached (λ r g. dec-both (dec-le (g .bound) (reachedOf rows t r)) (dec-bool (t .sure (g .node)) false)))
+      (guard-step Beyond (λ r g. dec-both (dec-either (dec-lt (possibleOf rows t r) (g .bound)) (dec-at-most (t .upper r) (g .bound))) (dec-bool (t .never (g .node)) false)))
+      (term-step Needed (λ r x. dec-both (dec-undecided (x .condition)) (dec-lt (possibleOf rows t r -ℤ t .lower r) (pos (x .weight)))))
+      (term-step Heavy (λ r x. dec-both (dec-undecided (x .condition)) (dec-heavy r (x .weight))))
+      (pair-step (λ r q. t .lower q <ℤ t .lower r) (λ r q. dec-lt (t .lower q) (t .lower r)))
+      (pair-step (λ r q. Below (t .upper q) (t .upper r)) (λ r q. dec-below (t .upper q) (t .upper r)))
     where
-      irrefl : (y : ℤ) → ltZ y y ≡ false
-      irrefl y = ⊎-elim (λ (k : ltZ y y ≡ true). absurd (clashℤ (lt k) (≤ℤ-refl y))) (λ k. k) (true-false (ltZ y y))
+      by : Dec (Some (λ r. (g : Guard) × List·Memᴰ g (getD rows r noRow .guards) × Sure r g)) → Dec (Some (λ r. (g : Guard) × List·Memᴰ g (getD rows r noRow .guards) × Never r g))
+          → Dec (Some (λ r. (g : Guard) × List·Memᴰ g (getD rows r noRow .guards) × Reached r g)) → Dec (Some (λ r. (g : Guard) × List·Memᴰ g (getD rows r noRow .guards) × Beyond r g))
+          → Dec (Some (λ r. (x : Term) × List·Memᴰ x (termsOf rows r) × Needed r x)) → Dec (Some (λ r. (x : Term) × List·Memᴰ x (termsOf rows r) × Heavy r x))
+          → Dec (Pair (λ r q. t .lower q <ℤ t .lower r)) → Dec (Pair (λ r q. Below (t .upper q) (t .upper r))) → Dec ((u : Table) × Step rows t u)
+      by (yes (r, i, (g, m, (e, k)))) b c d e′ f h l = yes (raiseLower t r (g .bound), sure-guard r g (i, m) e k)
+      by (no a) (yes (r, i, (g, m, (e, k)))) c d e′ f h l = yes (lowerUpper t r (Under (g .bound)), never-guard r g (i, m) e k)
+      by (no a) (no b) (yes (r, i, (g, m, (k, e)))) d e′ f h l = yes (decideSure t (g .node), bound-reached r g (i, m) k e)
+      by (no a) (no b) (no c) (yes (r, i, (g, m, (k, e)))) e′ f h l = yes (decideNever t (g .node), bound-out-of-reach r g (i, m) k e)
+      by (no a) (no b) (no c) (no d) (yes (r, i, (x, m, (n, k)))) f h l = yes (decideSure t (x .condition), term-needed r x (i, m) n k)
+      by (no a) (no b) (no c) (no d) (no e′) (yes (r, i, (x, m, (n, (z, e, k))))) h l = yes (decideNever t (x .condition), term-too-heavy r x z (i, m) n e k)
+      by (no a) (no b) (no c) (no d) (no e′) (no f) (yes (r, i, (q, j, (p, k)))) l = yes (raiseLower t q (t .lower r), longer-lower r q (i, j, p) k)
+      by (no a) (no b) (no c) (no d) (no e′) (no f) (no h) (yes (r, i, (q, j, (p, k)))) = yes (lowerUpper t r (t .upper q), shorter-upper r q (i, j, p) k)
+      by (no a) (no b) (no c) (no d) (no e′) (no f) (no h) (no l) = no (λ p. none (p .0) (p .1))
+        where
+          none : (u : Table) → Step rows t u → ⊥
+          none u (sure-guard r g i e k) = a (r, i .0, (g, i .1, (e, k)))
+          none u (never-guard r g i e k) = b (r, i .0, (g, i .1, (e, k)))
+          none u (bound-reached r g i k e) = c (r, i .0, (g, i .1, (k, e)))
+          none u (bound-out-of-reach r g i k e) = d (r, i .0, (g, i .1, (k, e)))
+          none u (term-needed r x i n k) = e′ (r, i .0, (x, i .1, (n, k)))
+          none u (term-too-heavy r x z i n e k) = f (r, i .0, (x, i .1, (n, (z, e, k))))
+          none u (longer-lower r q i k) = h (r, i .0, (q, i .1, (i .2, k)))
+          none u (shorter-upper r q i k) = l (r, i .0, (q, i .1, (i .2, k)))
 
-      under : (y : Upper) → Below (Under w) y → beneath y w ≡ true
-      under Open k = refl
-      under (Under a) k = of-lt k
+-- ALL NODES of the rows, and all sure ones, are below some number.
+module _ (rows : List Row) (nodes : ℕ) (guards : (r : ℕ) (g : Guard) → Guards rows r g → g .node < nodes) (terms : (r : ℕ) (x : Term) → HasTerm rows r x → x .condition < nodes) where
+  abbrev pub Small : Table → Type 0
+  Small t = (n : ℕ) → nodes ≤ n → t .sure n ≡ false
 
-      down : (y : Upper) (b : ℤ) → Below (Under w) y → ltZ b w ≡ true → beneath y b ≡ true
-      down Open b k j = refl
-      down (Under a) b k j = of-lt {a = b} {b = a} (<ℤ-≤ℤ-trans (lt {a = b} {b = w} j) (<ℤ-≤ℤ {a = w} {b = a} k))
+  small-sure : (t : Table) (n : ℕ) → n < nodes → Small t → Small (decideSure t n)
+  small-sure t n h k m i = ap (λ (b : Bool). cond b true (t .sure m)) (ne-eqb m n (λ e. omega arith)) ∙ k m i
 
-      each : (x : Guard) → one (ltZ (x .bound) w) ≤ one (beneath u (x .bound))
-      each x = one-le (ltZ (x .bound) w) (beneath u (x .bound)) (down u (x .bound) h)
+  step-small : (t u : Table) → Small t → Step rows t u → Small u
+  step-small t u k (sure-guard r g i e h) = k
+  step-small t u k (never-guard r g i e h) = k
+  step-small t u k (bound-reached r g i h e) = small-sure t (g .node) (guards r g i) k
+  step-small t u k (bound-out-of-reach r g i h e) = k
+  step-small t u k (term-needed r x i d h) = small-sure t (x .condition) (terms r x i) k
+  step-small t u k (term-too-heavy r x b i d e h) = k
+  step-small t u k (longer-lower r q i h) = k
+  step-small t u k (shorter-upper r q i h) = k
 
-  -- A NODE DECIDED is free in one way less
-  module _ (s t : Table) (grown : (n : ℕ) → free t n ≤ free s n) where
-    nodes-guard : (r : ℕ) (g : Guard) → Guards rows r g → free t (g .node) < free s (g .node) → nodesLeft t < nodesLeft s
-    unfolding nodesLeft
-    nodes-guard r g i k =
-        to-lt _ _ (λ q. let a = over-le _ _ (λ (x : Guard). grown (x .node)) (guardsOf q) in let b = over-le _ _ (λ (x : Term). grown (x .condition)) (termsOf rows q) in omega arith) (length rows) r (i .0)
-        (let a = over-lt _ _ (λ (x : Guard). grown (x .node)) (guardsOf r) g (i .1) k in let b = over-le _ _ (λ (x : Term). grown (x .condition)) (termsOf rows r) in omega arith)
-
-    nodes-term : (r : ℕ) (x : Term) → HasTerm rows r x → free t (x .condition) < free s (x .condition) → nodesLeft t < nodesLeft s
-    unfolding nodesLeft
-    nodes-term r x i k =
-        to-lt _ _ (λ q. let a = over-le _ _ (λ (x : Guard). grown (x .node)) (guardsOf q) in let b = over-le _ _ (λ (x : Term). grown (x .condition)) (termsOf rows q) in omega arith) (length rows) r (i .0)
-        (let a = over-lt _ _ (λ (x : Term). grown (x .condition)) (termsOf rows r) x (i .1) k in let b = over-le _ _ (λ (x : Guard). grown (x .node)) (guardsOf r) in omega arith)
-
-  decided-less : (a b : Bool) → (a ≡ true → b ≡ true) → lacks b ≤ lacks a
-  decided-less true b h = subst (λ (c : Bool). lacks c ≤ 0) (sym (h refl)) (omega arith)
-  decided-less false true h = omega arith
-  decided-less false false h = omega arith
-
-  kept-at : (n : ℕ) (f : ℕ → Bool) (m : ℕ) → f m ≡ true → T.at n true f m ≡ true
-  kept-at n f = at-all (λ (m : ℕ) (b : Bool). f m ≡ true → b ≡ true) n true f (λ _. refl) (λ m h. h)
-
-  free-sure : (t : Table) (n m : ℕ) → free (decideSure t n) m ≤ free t m
-  free-sure t n m = let a = decided-less (t .sure m) (T.at n true (t .sure) m) (kept-at n (t .sure) m) in omega arith
-
-  free-never : (t : Table) (n m : ℕ) → free (decideNever t n) m ≤ free t m
-  free-never t n m = let a = decided-less (t .never m) (T.at n true (t .never) m) (kept-at n (t .never) m) in omega arith
-
-  less-sure : (t : Table) (n : ℕ) → t .sure n ≡ false → free (decideSure t n) n < free t n
-  less-sure t n e =
-      let a : lacks (T.at n true (t .sure) n) ≡ 0 = ap lacks (at-this n true (t .sure)) in
-      let b : lacks (t .sure n) ≡ 1 = ap lacks e in
-      omega arith
-
-  less-never : (t : Table) (n : ℕ) → t .never n ≡ false → free (decideNever t n) n < free t n
-  less-never t n e =
-      let a : lacks (T.at n true (t .never) n) ≡ 0 = ap lacks (at-this n true (t .never)) in
-      let b : lacks (t .never n) ≡ 1 = ap lacks e in
-      omega arith
-
-  -- EACH STEP TAKES FROM THE MEASURE
-  lower-falls : (t : Table) (r : ℕ) (b : ℤ) → IsRow rows r → t .lower r <ℤ b → IsBound b → measure (raiseLower t r b) < measure t
-  unfolding measure nodesLeft
-  lower-falls t r b i k z =
-      let f = higher-falls (t .lower r) b k z in
-      let a = to-lt (λ q. higher (T.at r b (t .lower) q)) (λ q. higher (t .lower q)) (at-all (λ (q : ℕ) (y : ℤ). higher y ≤ higher (t .lower q)) r b (t .lower) (omega arith) (λ q. omega arith)) (length rows) r i
-      (subst (λ (y : ℤ). higher y < higher (t .lower r)) (sym (at-this r b (t .lower))) f) in
-      omega arith
-
-  upper-falls : (t : Table) (r : ℕ) (b : ℤ) → IsRow rows r → Below (Under b) (t .upper r) → IsBound b → measure (lowerUpper t r (Under b)) < measure t
-  unfolding measure nodesLeft
-  upper-falls t r b i k z =
-      let f = lesser-falls (t .upper r) b k z in
-      let a = to-lt (λ q. lesser (T.at r (Under b) (t .upper) q)) (λ q. lesser (t .upper q)) (at-all (λ (q : ℕ) (y : Upper). lesser y ≤ lesser (t .upper q)) r (Under b) (t .upper) (omega arith) (λ q. omega arith)) (length rows) r i
-      (subst (λ (y : Upper). lesser y < lesser (t .upper r)) (sym (at-this r (Under b) (t .upper))) f) in
-      omega arith
-
-  -- the upper that a longer row hands on
-  has-bound : (t : Table) → Ranged t → (q : ℕ) (y : Upper) → Below (t .upper q) y → (b : ℤ) × (t .upper q ≡ Under b) × Below (Under b) y × IsBound b
-  has-bound t h q y k = by (t .upper q) refl k
+  -- A CONFLICT, OR NONE
+  dec-conflict : (t : Table) → Small t → Dec (Conflict rows t)
+  dec-conflict t k = by
+      (findTo (λ n. (t .sure n ≡ true) × (t .never n ≡ true)) (λ n. dec-both (dec-bool (t .sure n) true) (dec-bool (t .never n) true)) nodes)
+      (findTo (λ r. possibleOf rows t r <ℤ t .lower r) (λ r. dec-lt (possibleOf rows t r) (t .lower r)) (length rows))
+      (findTo (λ r. AtMost (t .upper r) (reachedOf rows t r)) (λ r. dec-at-most (t .upper r) (reachedOf rows t r)) (length rows))
     where
-      by : (u : Upper) → t .upper q ≡ u → Below u y → (b : ℤ) × (t .upper q ≡ Under b) × Below (Under b) y × IsBound b
-      by Open e j = absurd j
-      by (Under b) e j = (b, e, j, h .upper q b e)
+      by : Dec ((n : ℕ) × (n < nodes) × ((t .sure n ≡ true) × (t .never n ≡ true))) → Dec ((r : ℕ) × (r < length rows) × (possibleOf rows t r <ℤ t .lower r))
+          → Dec ((r : ℕ) × (r < length rows) × AtMost (t .upper r) (reachedOf rows t r)) → Dec (Conflict rows t)
+      by (yes (n, i, (a, b))) p q = yes (both n a b)
+      by (no o) (yes (r, i, h)) q = yes (lower-above r i h)
+      by (no o) (no p) (yes (r, i, h)) = yes (upper-reached r i h)
+      by (no o) (no p) (no q) = no none
+        where
+          none : Conflict rows t → ⊥
+          none (both n a b) = at-node (decLt n nodes)
+            where
+              at-node : Dec (n < nodes) → ⊥
+              at-node (yes i) = o (n, i, (a, b))
+              at-node (no i) = clash (t .sure n) a (k n (omega arith))
+          none (lower-above r i h) = p (r, i, h)
+          none (upper-reached r i h) = q (r, i, h)
 
-  -- the lower that a shorter row hands on
-  lower-bound : (t : Table) → Ranged t → (r q : ℕ) → t .lower q <ℤ t .lower r → IsBound (t .lower r)
-  lower-bound t h r q k =
-      ⊎-elim (λ (e : t .lower r ≡ pos 0). absurd (clashℤ (subst (λ (z : ℤ). t .lower q <ℤ z) e k) (h .least q))) (λ b. b) (h .lower r)
+  -- EVERY STATE HAS A RUN THAT GOES ON TO ITS END
+  one-more : (t : Table) → Ranged rows t → Small t → ((u : Table) → Step rows t u → (w : Table) × Ended rows u w) → (w : Table) × Ended rows t w
+  one-more t a k later = by (dec-conflict t k) (dec-step rows t)
+    where
+      by : Dec (Conflict rows t) → Dec ((u : Table) × Step rows t u) → (w : Table) × Ended rows t w
+      by (yes c) d = (t, (done, inl c))
+      by (no c) (no d) = (t, (done, inr (c, λ u e. d (u, e))))
+      by (no c) (yes d) = let w = later (d .0) (d .1) in (w .0, (more c (d .1) (w .1 .0), w .1 .1))
 
-  step-falls : (t u : Table) → Ranged t → Step rows t u → measure u < measure t
-  unfolding measure
-  step-falls t u h (sure-guard r g i e k) = lower-falls t r (g .bound) (i .0) k (r, g, i, refl)
-  step-falls t u h (never-guard r g i e k) = upper-falls t r (g .bound) (i .0) k (r, g, i, refl)
-  step-falls t u h (bound-reached r g i k e) = let a = nodes-guard t (decideSure t (g .node)) (free-sure t (g .node)) r g i (less-sure t (g .node) e) in omega arith
-  step-falls t u h (bound-out-of-reach r g i k e) = let a = nodes-guard t (decideNever t (g .node)) (free-never t (g .node)) r g i (less-never t (g .node) e) in omega arith
-  step-falls t u h (term-needed r x i d k) = let a = nodes-term t (decideSure t (x .condition)) (free-sure t (x .condition)) r x i (less-sure t (x .condition) (d .0)) in omega arith
-  step-falls t u h (term-too-heavy r x b i d e k) = let a = nodes-term t (decideNever t (x .condition)) (free-never t (x .condition)) r x i (less-never t (x .condition) (d .1)) in omega arith
-  step-falls t u h (longer-lower r q i k) = lower-falls t q (t .lower r) (i .1) k (lower-bound t h r q k)
-  step-falls t u h (shorter-upper r q i k) =
-      let b = has-bound t h q (t .upper r) k in
-      subst (λ (y : Upper). measure (lowerUpper t r y) < measure t) (sym (b .1)) (upper-falls t r (b .0) (i .0) (b .2) (b .3))
+  ends-in : (fuel : ℕ) (t : Table) → measure rows t ≤ fuel → Ranged rows t → Small t → (w : Table) × Ended rows t w
+  ends-in zero t h a k = one-more t a k (λ u e. absurd (let f = step-falls rows t u a e in omega arith))
+  ends-in (suc n) t h a k = one-more t a k (λ u e. ends-in n u (let f = step-falls rows t u a e in omega arith) (step-ranged rows t u a e) (step-small t u k e))
 
-  -- AND KEEPS BOUNDS IN RANGE
-  lower-ranged : (t : Table) (r : ℕ) (b : ℤ) → t .lower r <ℤ b → IsBound b → Ranged t → Ranged (raiseLower t r b)
-  lower-ranged t r b k z h = record {
-    lower = at-all (λ (q : ℕ) (y : ℤ). (y ≡ pos 0) ⊎ IsBound y) r b (t .lower) (inr z) (h .lower);
-    least = at-all (λ (q : ℕ) (y : ℤ). pos 0 ≤ℤ y) r b (t .lower) (≤ℤ-trans (h .least r) (<ℤ-≤ℤ k)) (h .least);
-    upper = h .upper;
-  }
+  pub some-end : (t : Table) → Ranged rows t → Small t → (w : Table) × Ended rows t w
+  some-end t a k = ends-in (measure rows t) t (omega arith) a k
 
-  upper-ranged : (t : Table) (r : ℕ) (b : ℤ) → IsBound b → Ranged t → Ranged (lowerUpper t r (Under b))
-  upper-ranged t r b z h = record {
-    lower = h .lower;
-    least = h .least;
-    upper = at-all (λ (q : ℕ) (y : Upper). (u : ℤ) → y ≡ Under u → IsBound u) r (Under b) (t .upper) (λ u e. subst IsBound (let w : b ≡ u = cc in w) z) (h .upper);
-  }
+  -- and each run from such a state leads to such states
+  pub run-ranged : {s t : Table} → Run rows s t → Ranged rows s → Small s → Ranged rows t × Small t
+  run-ranged done a k = (a, k)
+  run-ranged (more {s} {t} {u} n e r) a k = run-ranged r (step-ranged rows s t a e) (step-small s t k e)
 
-  pub step-ranged : (t u : Table) → Ranged t → Step rows t u → Ranged u
-  step-ranged t u h (sure-guard r g i e k) = lower-ranged t r (g .bound) k (r, g, i, refl) h
-  step-ranged t u h (never-guard r g i e k) = upper-ranged t r (g .bound) (r, g, i, refl) h
-  step-ranged t u h (bound-reached r g i k e) = record { lower = h .lower; least = h .least; upper = h .upper }
-  step-ranged t u h (bound-out-of-reach r g i k e) = record { lower = h .lower; least = h .least; upper = h .upper }
-  step-ranged t u h (term-needed r x i d k) = record { lower = h .lower; least = h .least; upper = h .upper }
-  step-ranged t u h (term-too-heavy r x b i d e k) = record { lower = h .lower; least = h .least; upper = h .upper }
-  step-ranged t u h (longer-lower r q i k) = lower-ranged t q (t .lower r) k (lower-bound t h r q k) h
-  step-ranged t u h (shorter-upper r q i k) =
-      let b = has-bound t h q (t .upper r) k in
-      subst (λ (y : Upper). Ranged (lowerUpper t r y)) (sym (b .1)) (upper-ranged t r (b .0) (b .3) h)
+  -- WHAT FOLLOWS, FOLLOWS BY THE RULES: it lies below the end of a run, unless that run ends in a conflict
+  pub derived : (s t : Table) → Ranged rows s → Small s → Follows rows s t → (w : Table) × Run rows s w × (Conflict rows w ⊎ Le t w)
+  derived s t a k f =
+      let e = some-end s a k in
+      (e .0, e .1 .0, ⊎-elim (λ (c : Conflict rows (e .0)). inl c) (λ (rest : AtRest rows (e .0)). inr (f (e .0) (run-above rows (e .1 .0)) rest)) (e .1 .1))
 
-  run-falls : {s t : Table} → Ranged s → (r : Run rows s t) → steps rows r + measure t ≤ measure s
-  unfolding steps
-  run-falls h done = omega arith
-  run-falls h (more {s} {t} {u} n a r) = let k = run-falls (step-ranged s t h a) r in let f = step-falls s t h a in omega arith
-
-  -- NO RUN IS LONGER THAN SOME NUMBER
-  pub bounded : (s : Table) → Ranged s → (n : ℕ) × ((t : Table) (r : Run rows s t) → steps rows r ≤ n)
-  bounded s h = (measure s, λ t r. let k = run-falls h r in omega arith)
+  -- WHERE A CONFLICT FOLLOWS, a run reaches one
+  pub reaches : (s : Table) → Ranged rows s → Small s → Broken rows s → ReachesConflict rows s
+  reaches s a k b = let e = some-end s a k in (e .0, e .1 .0, only-conflict rows (b .1) (b .2) (e .1))

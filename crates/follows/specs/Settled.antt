@@ -15,16 +15,16 @@ use Rattle.queues.specs.Marks.{isDecided}
 use Rattle.thresholds.specs.Rows.{Row, noRow, guard, rowNumber}
 use Rattle.prefixes.specs.Links.{Link, neighbours}
 use Rattle.propagate.specs.Between.{Index, Live, stateAt, Did, runRow, thresholdGuard, thresholdCondition, thresholdPrefixes}
-use Rattle.table.specs.Table.{Table, IsRow, IsPrefix, Guards, knownOf, possibleOf, Conflict, AtRest, Ended}
-use Rattle.table.specs.TableLaws.{only-end, only-conflict}
+use Rattle.table.specs.Table.{Table, IsRow, IsPrefix, Guards, knownOf, possibleOf, Conflict, ReachesConflict, AtRest, Ended}
+use Rattle.table.specs.TableLaws.{conflict-up, run-below, only-end, only-conflict}
 use Rattle.follows.specs.Decide.{Broken}
 use Rattle.follows.specs.RowComplete.{Ordered}
-use Rattle.follows.specs.Stands.{tableAt, also, Stands, known-exact, possible-exact, restart}
+use Rattle.follows.specs.Stands.{tableAt, also, also-this, Stands, AllDrained, known-exact, possible-exact, restart}
 use Rattle.follows.specs.Moves.{Kept, run-stands, guard-stands, prefixes-stand}
 use Rattle.follows.specs.Drained.{drainedAll, condition-stands}
 use Rattle.follows.specs.Built.{Built, neighbours-apart}
 use Rattle.follows.specs.Keeps.{run-keeps, guard-keeps, condition-keeps, prefixes-keeps}
-use Rattle.follows.specs.Rest.{row-rests, at-rest}
+use Rattle.follows.specs.Rest.{RowRests, row-rests, at-rest}
 use Rattle.follows.specs.Done.{Done, run-done, guard-done, condition-done, prefixes-done}
 use Rattle.follows.specs.Told.{Told, Single, told-stays, guard-told}
 use Rattle.follows.specs.Handed.{Handed, waiting, run-handed, guard-handed, condition-handed, prefixes-handed, all-handed}
@@ -161,11 +161,23 @@ module _ (j : Job) (x : Index) (b : Built j x) (ordered : (r : ℕ) → IsRow (x
     pub every-end : {u : Table} → Ended (x .rows) s u → u ≡ tableAt v
     every-end e = only-end (x .rows) (h .stands .follows) (h .stands .above) rests e
 
+    -- and none reached a conflict
+    pub none-reached : ReachesConflict (x .rows) s → ⊥
+    none-reached (u, r, c) = rests .0 (conflict-up (x .rows) u (tableAt v) (run-below (x .rows) (tableAt v) r (h .stands .above) rests) c)
+
     pub known-is : (r : ℕ) → IsRow (x .rows) r → stateAt v r .known ≡ knownOf (x .rows) (tableAt v) r
     known-is r i = known-exact (x .rows) s (l .drained) v (h .stands) r i (λ t m d. all-drained r (t .condition) (taken (t .condition) d))
 
     pub possible-is : (r : ℕ) → IsRow (x .rows) r → stateAt v r .possible ≡ possibleOf (x .rows) (tableAt v) r
     possible-is r i = possible-exact (x .rows) s (l .drained) v (h .stands) r i (λ t m d. all-drained r (t .condition) (taken (t .condition) d))
+
+-- NO RULE IS LEFT UNDONE FOR A ROW that was run without a contradiction, all its decided terms drained
+pub run-rests : (x : Index) → ((r : ℕ) → IsRow (x .rows) r → Ordered (getD (x .rows) r noRow)) → (s : Table) (drained : ℕ → ℕ → Bool) (ran : ℕ → Bool) (v : Live) (r : ℕ) (i : IsRow (x .rows) r)
+    → (h : Stands (x .rows) s drained v) → Done (x .rows) ran v → contradicts (runRow x v r .step) ≡ false
+    → AllDrained (x .rows) s drained (runRow x v r .live) (run-stands x drained s v r i h .0) r → RowRests (x .rows) (tableAt (runRow x v r .live)) r
+run-rests x ordered s drained ran v r i h d c all =
+    let k = run-done x ordered ran v r i d c in
+    row-rests (x .rows) s drained (runRow x v r .live) (run-stands x drained s v r i h .0) r i all (k .complete r i (also-this r ran r refl)) (k .free r i (also-this r ran r refl))
 
 -- WHERE A CONFLICT FOLLOWS every run that went on to its end ended in one
 pub every-conflict : (rows : List Row) (s : Table) → Broken rows s → {u : Table} → Ended rows s u → Conflict rows u
