@@ -27,6 +27,7 @@ use Rattle.follows.specs.Complete.{All, Rising, Falling}
 use Rattle.follows.specs.RowComplete.{Ordered}
 
 pub record Built (j : Job) (x : Index) : Type 0 where
+  pub thresholds : x .thresholds ≡ j .thresholds
   pub rows : x .rows ≡ rowsOf j
   pub links : x .links ≡ links (x .rows)
   pub guards : (t : Threshold) → List·Memᴰ t (x .thresholds) → Guards (x .rows) (rowNumber (x .rows) (t .terms)) (guard (t .bound) (t .node))
@@ -158,6 +159,7 @@ neighbours-apart rs r q m e = let a = neighbours-joined r q (links rs) m in by (
 -- WHAT THE SEAL BUILDS
 pub built : (j : Job) (x : Index) → x .thresholds ≡ j .thresholds → x .rows ≡ rowsOf j → x .links ≡ links (rowsOf j) → Built j x
 built j x e f g = record {
+  thresholds = e;
   rows = f;
   links = g ∙ ap links (sym f);
   guards = λ t m. subst (λ (rs : List Row). Guards rs (rowNumber rs (t .terms)) (guard (t .bound) (t .node))) (sym f) (guard-placed j t (subst (λ (l : List Threshold). List·Memᴰ t l) e m));
@@ -165,6 +167,13 @@ built j x e f g = record {
   distinct = λ r i. subst (λ (rs : List Row). IsRow rs r → Distinct (termsOf rs r)) (sym f)
       (λ k. let m = row-made j r k in subst Distinct (sym (m .terms)) (distinct (getD (rowsOf j) r noRow .raw))) i;
 }
+
+-- EVERY GUARD IS A THRESHOLD'S
+pub guard-threshold : (j : Job) (x : Index) → Built j x → (r : ℕ) (g : Guard) → Guards (x .rows) r g → (t : Threshold) × List·Memᴰ t (x .thresholds) × (g .node ≡ t .node)
+guard-threshold j x b r g i =
+    let k = subst (λ (rs : List Row). Guards rs r g) (b .rows) i in
+    let o = row-made j r (k .0) .guards g (k .1) in
+    (o .0, subst (λ (l : List Threshold). List·Memᴰ (o .0) l) (sym (b .thresholds)) (o .1), ap (λ (y : Guard). y .node) (o .3))
 
 -- ROWS ARE ORDERED: guards by rising bounds, terms by falling weights, all nodes in range
 

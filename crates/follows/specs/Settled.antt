@@ -1,7 +1,7 @@
 -- THE WHOLE INVARIANT of draining, and what it comes to. Each function keeps it or contradicts; a contradiction means that every run
 -- of the table from the start ends in a conflict; where nothing waits, every run ends in just the nodes and figures that are there.
 use Prim.Native.Nat.{ℕ}
-use mathlib.Core.Path.{_≡_, refl, ap, subst}
+use mathlib.Core.Path.{_≡_, refl, sym, ap, _∙_, subst}
 use mathlib.Core.Bool.{Bool, true, false, _||_}
 use mathlib.Core.List.{List, List·Memᴰ}
 use mathlib.Core.Logic.{_⊎_, ⊎-elim, _≢_}
@@ -22,11 +22,11 @@ use Rattle.follows.specs.RowComplete.{Ordered}
 use Rattle.follows.specs.Stands.{tableAt, also, also-this, Stands, AllDrained, known-exact, possible-exact, restart}
 use Rattle.follows.specs.Moves.{Kept, run-stands, guard-stands, prefixes-stand}
 use Rattle.follows.specs.Drained.{drainedAll, condition-stands}
-use Rattle.follows.specs.Built.{Built, neighbours-apart}
+use Rattle.follows.specs.Built.{Built, neighbours-apart, guard-threshold}
 use Rattle.follows.specs.Keeps.{run-keeps, guard-keeps, condition-keeps, prefixes-keeps}
 use Rattle.follows.specs.Rest.{RowRests, row-rests, at-rest}
 use Rattle.follows.specs.Done.{Done, run-done, guard-done, condition-done, prefixes-done}
-use Rattle.follows.specs.Told.{Told, Single, told-stays, guard-told}
+use Rattle.follows.specs.Told.{Told, Single, told-stays, told-none, guard-told}
 use Rattle.follows.specs.Handed.{Handed, waiting, run-handed, guard-handed, condition-handed, prefixes-handed, all-handed}
 use Rattle.follows.specs.Waiting.{Queued, queued-decide, none-left}
 
@@ -92,6 +92,17 @@ module _ (j : Job) (x : Index) (b : Built j x) (ordered : (r : ℕ) → IsRow (x
 
       k : Kept x (l .drained) s (thresholdGuard x v t)
       k = guard-stands x (l .drained) s v t i d (h .stands)
+
+  -- A node that is no threshold has nothing to tell
+  pub plain-told : (n : ℕ) → isDecided (v .marks) n ≡ true → ((t : Threshold) → List·Memᴰ t (x .thresholds) → t .node ≢ n)
+      → Sound x s (record { drained = l .drained; told = also n (l .told); taken = l .taken; ran = l .ran; handing = l .handing }) v
+  plain-told n d none = record {
+    stands = h .stands;
+    done = h .done;
+    told = told-none (x .rows) (l .told) v n d (λ r g i e. let t = guard-threshold j x b r g i in none (t .0) (t .1) (sym (t .2) ∙ e)) (h .told);
+    handed = h .handed;
+    queued = h .queued;
+  }
 
   -- A DRAINED CONDITION is drained into every row
   pub condition-leads : (n : ℕ) → isDecided (v .marks) n ≡ true → ((r : ℕ) → l .drained r n ≡ false)
