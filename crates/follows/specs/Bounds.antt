@@ -9,7 +9,7 @@ use Rattle.state.specs.declared.State.{State}
 use Rattle.state.specs.State.{noState}
 use Rattle.queues.specs.Queue.{Rows}
 use Rattle.thresholds.specs.Rows.{noRow}
-use Rattle.propagate.specs.Between.{Index, Live, live, stateAt, runRow}
+use Rattle.between.specs.Between.{Index, Live, live, stateAt, runRow}
 use Rattle.follows.specs.Cursors.{row-goes}
 use Rattle.follows.specs.Stands.{put-state}
 

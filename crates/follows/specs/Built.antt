@@ -19,7 +19,7 @@ use Rattle.thresholds.specs.RawLaws.{same-refl}
 use Rattle.prefixes.specs.Links.{Link, links, neighbours}
 use Rattle.prefixes.specs.LinksLaws.{link, link-starts, links-range, Joined, downward, upward, neighbours-joined}
 use Rattle.prefixes.specs.PrepareLaws.{links-apart}
-use Rattle.propagate.specs.Between.{Index}
+use Rattle.between.specs.Between.{Index}
 use Rattle.table.specs.Table.{IsRow, termsOf, Guards, IsPrefix}
 use Rattle.table.specs.LayoutLaws.{row-made}
 use Rattle.follows.specs.Answers.{and-left, or-true, or-false}

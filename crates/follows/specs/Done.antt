@@ -26,7 +26,8 @@ use Rattle.thresholds.specs.Rows.{Row, noRow, Edge, edgesOf, rowNumber}
 use Rattle.prefixes.specs.Links.{neighbours}
 use Rattle.propagate.specs.declared.Tightened.{Tightened}
 use Rattle.propagate.specs.Row.{Ran, ran, scans, thresholdRow}
-use Rattle.propagate.specs.Between.{Index, Live, live, stateAt, withState, withDirty, Did, did, runRow, bounded, tight, guardState, thresholdGuard, conditionFrom, thresholdCondition, movedLower, movedState, under, termCount, prefixesFrom, thresholdPrefixes}
+use Rattle.propagate.specs.Told.{tight, guardState, movedLower, movedState, under}
+use Rattle.between.specs.Between.{Index, Live, live, stateAt, withState, withDirty, Did, did, runRow, bounded, thresholdGuard, conditionFrom, thresholdCondition, termCount, prefixesFrom, thresholdPrefixes}
 use Rattle.table.specs.Table.{IsRow}
 use Rattle.follows.specs.Answers.{clash, and-right, or-true, joined-right}
 use Rattle.follows.specs.Complete.{Wide, Has, wide-decide, has-stays}

@@ -24,7 +24,7 @@ use Rattle.words.specs.Mask.{bit}
 use Rattle.queues.specs.Marks.{isDecided}
 use Rattle.row.specs.TermsLaws.{All, Distinct}
 use Rattle.thresholds.specs.Rows.{Row, Edge, edgesOf}
-use Rattle.propagate.specs.Between.{Index, Live, live, stateAt, withState, Did, did, runRow, conditionFrom, thresholdCondition}
+use Rattle.between.specs.Between.{Index, Live, live, stateAt, withState, Did, did, runRow, conditionFrom, thresholdCondition}
 use Rattle.table.specs.Table.{Table, IsRow, termsOf, known, possible}
 use Rattle.table.specs.Order.{UpLe, up-refl}
 use Rattle.table.specs.TableLaws.{le-then}

@@ -28,7 +28,8 @@ use Rattle.thresholds.specs.Rows.{Edge, edgesOf, rowNumber}
 use Rattle.prefixes.specs.Links.{Link, links, neighbours}
 use Rattle.prefixes.specs.LinksLaws.{link, link-starts, Climbs, stay, up, across, onward, climbs-exactly, downward, upward, joined-neighbours}
 use Rattle.propagate.specs.declared.Tightened.{Tightened}
-use Rattle.propagate.specs.Between.{Index, Live, live, stateAt, withState, withDirty, Did, did, runRow, bounded, tight, guardState, thresholdGuard, conditionFrom, thresholdCondition, movedLower, movedState, under, termCount, prefixesFrom, thresholdPrefixes}
+use Rattle.propagate.specs.Told.{tight, guardState, movedLower, movedState, under}
+use Rattle.between.specs.Between.{Index, Live, live, stateAt, withState, withDirty, Did, did, runRow, bounded, thresholdGuard, conditionFrom, thresholdCondition, termCount, prefixesFrom, thresholdPrefixes}
 use Rattle.table.specs.Table.{Table, IsRow, termsOf, IsPrefix}
 use Rattle.table.specs.Order.{le, lt, ≤ℤ-trans, <ℤ-≤ℤ, UpLe, up-refl, up-trans}
 use Rattle.follows.specs.Answers.{clash, and-one, joined-right}

@@ -23,7 +23,8 @@ use Rattle.propagate.specs.declared.Tightened.{Tightened}
 use Rattle.propagate.specs.Scan.{Scanned, scan}
 use Rattle.propagate.specs.ScanLaws.{All, scan-keeps}
 use Rattle.propagate.specs.Row.{Ran, ran, sureWaits, decides, sureGuards, neverWaits, neverGuards, thresholdGuards, termWaits, forces, forced, trueTerms, falseTerms, scans, thresholdRow}
-use Rattle.propagate.specs.Between.{Index, Live, live, stateAt, withState, withDirty, Did, did, runRow, bounded, guardState, thresholdGuard, conditionFrom, thresholdCondition, movedState, termCount, prefixesFrom, thresholdPrefixes}
+use Rattle.propagate.specs.Told.{guardState, movedState}
+use Rattle.between.specs.Between.{Index, Live, live, stateAt, withState, withDirty, Did, did, runRow, bounded, thresholdGuard, conditionFrom, thresholdCondition, termCount, prefixesFrom, thresholdPrefixes}
 use Rattle.follows.specs.Row.{mem-drop, mem-take, mem-reverse}
 use Rattle.follows.specs.RowComplete.{Ordered}
 

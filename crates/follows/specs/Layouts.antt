@@ -15,7 +15,7 @@ use Rattle.words.specs.Mask.{bit}
 use Rattle.queues.specs.Marks.{isDecided}
 use Rattle.row.specs.Terms.{sumOf}
 use Rattle.thresholds.specs.Rows.{Row}
-use Rattle.propagate.specs.Between.{Index, Live, stateAt, Did, runRow, thresholdGuard, thresholdCondition, thresholdPrefixes}
+use Rattle.between.specs.Between.{Index, Live, stateAt, Did, runRow, thresholdGuard, thresholdCondition, thresholdPrefixes}
 use Rattle.table.specs.Table.{Table, start, IsRow, termsOf}
 use Rattle.table.specs.Order.{UpLe, pos-≤ℤ}
 use Rattle.table.specs.TableLaws.{Le, Follows}

@@ -26,7 +26,8 @@ use Rattle.thresholds.specs.Rows.{Row, noRow, Guard, guard, rowNumber}
 use Rattle.prefixes.specs.Links.{neighbours}
 use Rattle.propagate.specs.declared.Tightened.{Tightened}
 use Rattle.propagate.specs.Row.{Ran, thresholdRow}
-use Rattle.propagate.specs.Between.{Index, Live, live, stateAt, withState, withDirty, Did, did, runRow, bounded, tight, guardState, thresholdGuard, movedLower, movedUpper, movedState, under, termCount, prefixesFrom, thresholdPrefixes}
+use Rattle.propagate.specs.Told.{tight, guardState, movedLower, movedUpper, movedState, under}
+use Rattle.between.specs.Between.{Index, Live, live, stateAt, withState, withDirty, Did, did, runRow, bounded, thresholdGuard, termCount, prefixesFrom, thresholdPrefixes}
 use Rattle.table.specs.Table.{Table, IsRow, termsOf, Guards, IsPrefix, raiseLower, lowerUpper, AtRest, sure-guard, never-guard, longer-lower, shorter-upper}
 use Rattle.table.specs.Order.{lt, ≤ℤ-trans, <ℤ-≤ℤ, ≤ℤ-or-<ℤ, UpLe, up-refl, up-trans, le-or-below}
 use Rattle.table.specs.TableLaws.{Le}

@@ -19,7 +19,7 @@ use Rattle.words.specs.Mask.{bit}
 use Rattle.queues.specs.Marks.{isDecided}
 use Rattle.thresholds.specs.Rows.{Row, noRow, Guard}
 use Rattle.propagate.specs.Row.{reachable}
-use Rattle.propagate.specs.Between.{Live, stateAt}
+use Rattle.between.specs.Between.{Live, stateAt}
 use Rattle.table.specs.Table.{Table, IsRow, termsOf, known, possible, Guards, HasTerm, knownOf, possibleOf, reachedOf, Undecided, AtMost, IsPrefix, Step, sure-guard, never-guard, bound-reached, bound-out-of-reach, term-needed, term-too-heavy, longer-lower, shorter-upper, Conflict, both, lower-above, upper-reached, AtRest, Below}
 use Rattle.table.specs.Order.{le, of-le, of-lt, ≤ℤ-trans, pos-≤ℤ, sub-up, UpLe}
 use Rattle.follows.specs.Answers.{true-false, clash, or-false}

@@ -14,7 +14,7 @@ use Rattle.queues.specs.Queue.{isEmpty}
 use Rattle.queues.specs.Marks.{isDecided}
 use Rattle.thresholds.specs.Rows.{Row, noRow, guard, rowNumber}
 use Rattle.prefixes.specs.Links.{Link, neighbours}
-use Rattle.propagate.specs.Between.{Index, Live, stateAt, Did, runRow, thresholdGuard, thresholdCondition, thresholdPrefixes}
+use Rattle.between.specs.Between.{Index, Live, stateAt, Did, runRow, thresholdGuard, thresholdCondition, thresholdPrefixes}
 use Rattle.table.specs.Table.{Table, IsRow, IsPrefix, Guards, knownOf, possibleOf, Conflict, ReachesConflict, AtRest, Ended}
 use Rattle.table.specs.TableLaws.{conflict-up, run-below, only-end, only-conflict}
 use Rattle.follows.specs.Decide.{Broken}

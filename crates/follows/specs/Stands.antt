@@ -24,7 +24,7 @@ use Rattle.queues.specs.Marks.{Marks, isDecided, Decided, decide}
 use Rattle.queues.specs.MarksLaws.{mask, decide-there, decide-clash, decide-other, decide-opposite}
 use Rattle.queues.specs.Queue.{Rows}
 use Rattle.thresholds.specs.Rows.{Row}
-use Rattle.propagate.specs.Between.{Live, live, stateAt}
+use Rattle.between.specs.Between.{Live, live, stateAt}
 use Rattle.table.specs.Table.{Table, IsRow, termsOf, known, possible, knownOf, possibleOf}
 use Rattle.table.specs.Order.{pos-≤ℤ, up-refl}
 use Rattle.table.specs.TableLaws.{Le, le-same, le-then, Follows, follows-start, known-up, possible-down}

@@ -23,7 +23,7 @@ use Rattle.queues.specs.Marks.{Marks, marks, isDecided, Decided, decide}
 use Rattle.queues.specs.MarksLaws.{mask, Waits, decide-has, decide-there, decide-new}
 use Rattle.row.specs.Terms.{total}
 use Rattle.thresholds.specs.Rows.{Row, noRow, Guard, stateOfRow}
-use Rattle.propagate.specs.Between.{Index, Live, live, stateAt, did}
+use Rattle.between.specs.Between.{Index, Live, live, stateAt, did}
 use Rattle.table.specs.Table.{Table, start, IsRow, termsOf, known, possible}
 use Rattle.table.specs.Order.{UpLe, up-refl}
 use Rattle.table.specs.TableLaws.{Le, le-then, Follows, follows-more}

@@ -22,7 +22,8 @@ use Rattle.queues.specs.Marks.{isDecided}
 use Rattle.thresholds.specs.Rows.{Row, rowOf, noRow, Guard, guard, insertGuard, place, placeAll, rowsOf, rowNumber}
 use Rattle.thresholds.specs.RawLaws.{same-refl}
 use Rattle.propagate.specs.declared.Tightened.{Tightened}
-use Rattle.propagate.specs.Between.{Index, Live, live, stateAt, Did, did, bounded, tight, guardState, thresholdGuard}
+use Rattle.propagate.specs.Told.{tight, guardState}
+use Rattle.between.specs.Between.{Index, Live, live, stateAt, Did, did, bounded, thresholdGuard}
 use Rattle.table.specs.Table.{Table, Guards}
 use Rattle.table.specs.Order.{le, ≤ℤ-trans, UpLe, up-refl, up-trans}
 use Rattle.table.specs.TableLaws.{Le}
