@@ -19,5 +19,4 @@ pub mod Handed
 pub mod Waiting
 pub mod Settled
 pub mod Start
-pub mod Measure
 pub mod Ends
