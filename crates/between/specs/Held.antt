@@ -10,7 +10,7 @@ use Rattle.thresholds.specs.Rows.{Row, rowOf, noRow, Guard, Edge, edge, edgesOf
 use Rattle.thresholds.specs.Raw.{stretch}
 use Rattle.thresholds.specs.Laid.{edgeRow, thresholdOf, rowOfNode}
 use Rattle.prefixes.specs.Links.{neighbours}
-use Rattle.propagate.specs.Shape.{Below}
+use Rattle.numeric.specs.Slices.{Below}
 use Rattle.propagate.specs.Guards.{guards}
 use Rattle.between.specs.Between.{Index}
 

@@ -12,7 +12,8 @@ use Rattle.thresholds.specs.Rows.{Row, rowOf, noRow, Guard, Edge}
 use Rattle.thresholds.specs.Raw.{stretch}
 use Rattle.thresholds.specs.RawLaws.{stretch-length}
 use Rattle.thresholds.specs.Laid.{edgeRow}
-use Rattle.propagate.specs.Shape.{Below, TermSlices, GuardSlices}
+use Rattle.numeric.specs.Slices.{Below}
+use Rattle.propagate.specs.Shape.{TermSlices, GuardSlices}
 use Rattle.propagate.specs.Guards.{guards}
 use Rattle.propagate.specs.Row.{Ran, thresholdRow, wantsResidual}
 use Rattle.propagate.specs.RowLaws.{row-raw}

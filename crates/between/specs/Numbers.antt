@@ -12,8 +12,7 @@ use lib.IntN.{ℤ, pos}
 use Rattle.state.specs.declared.State.{State}
 use Rattle.state.specs.declared.Upper.{Upper}
 use Rattle.state.specs.declared.Upper.the-variants.{Open, Under}
-use Rattle.state.specs.State.{stateOf, noState, limit, limited}
-use Rattle.propagate.specs.Shape.{Figures}
+use Rattle.state.specs.State.{Figures, stateOf, noState, limit, limited}
 
 abbrev pub figuresOf : State → List ℤ
 figuresOf s = s .known ∷ s .possible ∷ s .lower ∷ limit (s .upper) ∷ []

@@ -21,7 +21,6 @@ use Rattle.queues.specs.Marks.{Marks}
 use Rattle.thresholds.specs.Rows.{Row}
 use Rattle.thresholds.specs.Raw.{stretch}
 use Rattle.thresholds.specs.RawLaws.{stretch-length}
-use Rattle.propagate.specs.Shape.{Figures}
 use Rattle.propagate.specs.Guards.{all-guards, all-terms}
 use Rattle.propagate.specs.Row.{wantsResidual, thresholdRow}
 use Rattle.propagate.specs.RowLaws.{Moved, kept-row}

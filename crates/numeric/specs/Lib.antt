@@ -1,4 +1,5 @@
 pub mod Area
 pub mod Threshold
 pub mod Layout
+pub mod Slices
 pub mod TermsLaws

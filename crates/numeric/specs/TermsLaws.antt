@@ -1,11 +1,11 @@
 -- Laws of terms in two parallel slices: how a loop over their places, up or down, goes along the list.
-use Prim.Native.Nat.{ℕ, zero, suc, _+_, _<_, _≤_, min}
+use Prim.Native.Nat.{ℕ, zero, suc, _+_, _-_, _<_, _≤_, min}
 use native.Mathlib.Nat.{not-suc-le-zero, le-of-suc-le-suc}
 use native.Mathlib.Omega.{arith}
 use mathlib.Core.Path.{_≡_, refl, sym, ap, _∙_}
 use mathlib.Core.List.{List, [], _∷_, _++_, reverse, reverseAux, reverseAux-eq, append-assoc}
 use lib.ListN.{length, getD, take, drop}
-use lib.Seq.{take-suc, drop-cons}
+use lib.Seq.{take-suc, take-all, drop-cons}
 use Rattle.numeric.specs.Threshold.{Term, term, terms}
 
 abbrev pub noTerm : Term
@@ -46,3 +46,20 @@ down-terms cs ws i h k =
     ap reverse (take-suc (terms cs ws) i noTerm (omega (arith, length-terms cs ws)))
     ∙ reverse-snoc (take i (terms cs ws)) (getD (terms cs ws) i noTerm)
     ∙ ap (λ (t : Term). t ∷ reverse (take i (terms cs ws))) (getD-terms cs ws i h k)
+
+-- The first terms from the light end, where all are left, where some are, and where none is.
+abbrev pub lastTerms : List ℕ → List ℕ → ℕ → List Term
+lastTerms cs ws left = reverse (take left (terms cs ws))
+
+pub last-all : (cs ws : List ℕ) → length cs ≡ length ws → lastTerms cs ws (length ws) ≡ reverse (terms cs ws)
+last-all cs ws e = ap reverse (take-all (length ws) (terms cs ws) (omega (arith, length-terms cs ws)))
+
+pub last-next : (cs ws : List ℕ) (left : ℕ) → 0 < left → left ≤ length cs → left ≤ length ws
+    → lastTerms cs ws left ≡ term (getD cs (left - 1) 0) (getD ws (left - 1) 0) ∷ lastTerms cs ws (left - 1)
+last-next cs ws zero h f g = absurd (not-suc-le-zero h)
+last-next cs ws (suc left) h f g =
+    let e : suc left - 1 ≡ left = omega arith in
+    rw e (down-terms cs ws left f g)
+
+pub last-none : (cs ws : List ℕ) (left : ℕ) → left ≡ 0 → lastTerms cs ws left ≡ []
+last-none cs ws left e = ap (λ (k : ℕ). reverse (take k (terms cs ws))) e

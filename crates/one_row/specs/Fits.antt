@@ -47,9 +47,6 @@ pub waits-taken : (sure never items : List ℕ) (r next : Ring) → Waits (marks
 unfolding popped
 waits-taken sure never items r next w h e = rw e (waits-popped (marks sure never (queue items r)) w h)
 
-pub waits-ring : (sure never items : List ℕ) (r next : Ring) → Waits (marks sure never (queue items r)) → next ≡ r → Waits (marks sure never (queue items next))
-waits-ring sure never items r next w e = rw e w
-
 -- Fresh words are zero.
 pub zeros : (n i : ℕ) → _≡_ {A = ℕ} (getD (replicate n 0) i 0) 0
 zeros zero i = refl

@@ -3,15 +3,13 @@ use Prim.Native.Nat.{ℕ, _+_}
 use mathlib.Core.Bool.{Bool, true, false, cond}
 use mathlib.Core.List.{List, [], _∷_, map}
 use lib.ListN.{length}
-use lib.IntN.{ℤ}
 use Rattle.lists.specs.Laid.{over, joinAll, ends, pairs, triples, numbers}
 use Rattle.numeric.specs.Threshold.{Term, Threshold, Job}
-use Rattle.state.specs.declared.State.{State}
 use Rattle.state.specs.Step.{stepNumber}
-use Rattle.state.specs.State.{limit, limited}
 use Rattle.thresholds.specs.Rows.{rowsOf}
 use Rattle.thresholds.specs.Laid.{conditions, weights, termLists, guardLists, guardBounds, guardNodes, thresholdOf, rowOfNode, edgeLists, edgeRow}
 use Rattle.prefixes.specs.Links.{neighbourLists}
+use Rattle.between.specs.Numbers.{figuresOf, cursorsOf}
 use Rattle.memory.specs.Buffers.{Raw, Built, Kept, Work, fits, cleared}
 use Rattle.planner.specs.File.{File, Answer, settled, sifted, Outcome, fileOf}
 
@@ -41,12 +39,6 @@ builtOf j w =
       links = over (joinAll (neighbourLists rs)) (w .links);
       scratch = w .scratch;
     }
-
-abbrev pub figuresOf : State → List ℤ
-figuresOf s = s .known ∷ s .possible ∷ s .lower ∷ limit (s .upper) ∷ []
-
-abbrev pub cursorsOf : State → List ℕ
-cursorsOf s = s .«sure_guard» ∷ s .«never_guard» ∷ s .«true_term» ∷ s .«false_term» ∷ cond (limited (s .upper)) 1 0 ∷ []
 
 -- An answer as a byte: the number of its step, and 4 more for a sift.
 abbrev pub answerNumber : Answer → ℕ

@@ -13,7 +13,7 @@ use Rattle.state.specs.declared.State.{State}
 use Rattle.state.specs.declared.Upper.{Upper}
 use Rattle.state.specs.declared.Upper.the-variants.{Open, Under}
 use Rattle.state.specs.State.{noState}
-use Rattle.words.specs.Mask.{bit}
+use Rattle.words.specs.Mask.{bit, count}
 use Rattle.thresholds.specs.Rows.{Row, rowsOf}
 use Rattle.planner.specs.File.{File, Answer, settled, sifted, Outcome}
 
@@ -69,11 +69,6 @@ figures s = decimalZ (s .known) ++ text " " ++ decimalZ (s .possible) ++ text " 
 unfoldable pub rowLines : File → List Row → ℕ → List ℕ
 rowLines f [] r = []
 rowLines f (x ∷ xs) r = text "row " ++ decimal r ++ text " " ++ figures (getD (f .live .states) r noState) ++ text "\n" ++ rowLines f xs (r + 1)
-
--- How many of the nodes below n a mask has.
-unfoldable pub count : List ℕ → ℕ → ℕ
-count mask zero = 0
-count mask (suc n) = count mask n + cond (bit mask n) 1 0
 
 abbrev pub stateLines : File → List ℕ
 stateLines f = cond (f .sealed) (nodeLines f (f .job .nodes) 0 ++ rowLines f (rowsOf (f .job)) 0) []

@@ -1,6 +1,5 @@
 pub mod Search
 pub mod Shape
-pub mod TermsLaws
 pub mod ZerosLaws
 pub mod SearchSteps
 pub mod RowLaws

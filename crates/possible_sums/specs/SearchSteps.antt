@@ -15,7 +15,7 @@ use Rattle.numeric.specs.Threshold.{Term, term}
 use Rattle.signed.specs.Signed.{natural, mag-minus, sub-sfits}
 use Rattle.state.specs.declared.State.{State}
 use Rattle.state.specs.declared.Upper.the-variants.{Open, Under}
-use Rattle.state.specs.State.{limit, upperAtMost, hasResidualInterval}
+use Rattle.state.specs.State.{Figures, limit, upperAtMost, hasResidualInterval}
 use Rattle.words.specs.declared.Ended.the-variants.{Hit, Complete, Stopped}
 use Rattle.words.specs.Shift.{Shifted, unionShifted}
 use Rattle.words.specs.ShiftLaws.{Outcome, completes, hits, stops, outcome, readable}
@@ -24,8 +24,8 @@ use Rattle.possible_sums.specs.declared.Window.{Window}
 use Rattle.possible_sums.specs.declared.Plan.the-variants.{Unplanned, Planned}
 use Rattle.possible_sums.specs.declared.Search.the-variants.{Skipped, Fits, Nothing, Cut}
 use Rattle.possible_sums.specs.Search.{window, plan, searchFrom, search}
-use Rattle.possible_sums.specs.Shape.{Figures, Prepared}
-use Rattle.possible_sums.specs.TermsLaws.{lastTerms, last-next, last-none}
+use Rattle.possible_sums.specs.Shape.{Prepared}
+use Rattle.numeric.specs.TermsLaws.{lastTerms, last-next, last-none}
 
 -- ---- one turn
 

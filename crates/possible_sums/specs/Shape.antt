@@ -1,25 +1,9 @@
--- What a search asks of its row, of the masks, of the row's figures and of the words that it is lent.
-use Prim.Native.Nat.{ℕ, _+_, _/_, _<_, _≤_, _^_}
+-- What a search asks of its plan and of the words that it is lent.
+use Prim.Native.Nat.{ℕ, _+_, _/_, _≤_}
 use mathlib.Core.Path.{_≡_}
 use mathlib.Core.List.{List}
-use lib.ListN.{length, getD}
-use lib.Signed.{mag}
-use Rattle.state.specs.declared.State.{State}
-use Rattle.state.specs.State.{limit}
+use lib.ListN.{getD}
 use Rattle.possible_sums.specs.declared.Window.{Window}
-
--- As many weights as conditions, every condition inside both masks.
-pub record Shape (conditions weights sure never : List ℕ) : Type 0 where
-  pub same : length conditions ≡ length weights
-  pub below : (i : ℕ) → i < length conditions → getD conditions i 0 < 4096
-  pub inSure : 64 ≤ length sure
-  pub inNever : 64 ≤ length never
-
--- Figures so far inside 64 bits that their differences stay inside.
-pub record Figures (s : State) : Type 0 where
-  pub known : mag (s .known) < 2 ^ 61
-  pub lower : mag (s .lower) < 2 ^ 61
-  pub upper : mag (limit (s .upper)) < 2 ^ 61
 
 -- Every word is zero.
 abbrev pub Zeros : List ℕ → Type 0

@@ -4,9 +4,10 @@ ghost use Prim.Native.Nat.{_+_, _-_, _/_, _<_, _≤_, min};
 ghost use mathlib.Core.List.{reverse};
 ghost use lib.ListN.{length, replicate, set};
 ghost use Rattle.numeric.specs.Threshold.{terms};
-ghost use Rattle.signed.specs.Signed.{natural as naturalOf};
+ghost use Rattle.numeric.specs.Slices.{Shape};
+ghost use Rattle.state.specs.State.{Figures};
 ghost use Rattle.words.specs.Mask.{inEither};
-ghost use Rattle.possible_sums.specs.Shape.{Shape, Figures, Zeros, Prepared};
+ghost use Rattle.possible_sums.specs.Shape.{Zeros, Prepared};
 ghost use Rattle.possible_sums.specs.Search.{plan, searchFrom, search, searchStep, searchVisits};
 use state::State;
 use state::Step;
@@ -66,16 +67,6 @@ impl Search {
     }
 }
 
-// A figure that is not negative as it is, any other as 0.
-fn natural(figure: i64) -> usize
-    ensures { λ r. ⌜ r ≡ naturalOf figure ⌝ }
-{
-    if figure < 0 {
-        return 0;
-    }
-    figure as usize
-}
-
 fn smaller(a: usize, b: usize) -> usize
     ensures { λ r. ⌜ r ≡ min a b ⌝ }
 {
@@ -83,18 +74,6 @@ fn smaller(a: usize, b: usize) -> usize
         return a;
     }
     b
-}
-
-// Whether a node is in one of the masks.
-fn decided(sure: &[u64], never: &[u64], node: u16) -> bool
-    requires { ⌜ (node < 4096) × (64 ≤ length (now sure)) × (64 ≤ length (now never)) ⌝ }
-    ensures { λ r. ⌜ r ≡ inEither (now (sure .entry)) (now (never .entry)) node ⌝ }
-{
-    let n = node as usize;
-    if words::bit(sure, n) {
-        return true;
-    }
-    words::bit(never, n)
 }
 
 impl Plan {
@@ -118,8 +97,8 @@ impl Plan {
         if limit <= known {
             return Plan::Unplanned;
         }
-        let lower = natural(state.lower - known);
-        let maximum = natural(limit - known - 1);
+        let lower = signed::natural(state.lower - known) as usize;
+        let maximum = signed::natural(limit - known - 1) as usize;
         let words = maximum / 64 + 1;
         // The reference build has 32 bytes for a term, and a visit for each 8 of them.
         let visits = 4 * weights.len();
@@ -189,7 +168,7 @@ fn search_from(
             let used = visits - left;
             return Search::Nothing(used);
         }
-        if decided(sure, never, conditions[count]) {
+        if words::decided(sure, never, conditions[count]) {
             continue;
         }
         let ended = union_shifted_until_hit(words, maximum / 64 + 1, weight, w.lower, limit, left);

@@ -3,12 +3,15 @@
 use Prim.Native.Nat.{ℕ, zero, suc, _+_, _-_, _<_, _≤_}
 use mathlib.Core.Path.{_≡_}
 use mathlib.Core.Bool.{Bool, true, false}
-use mathlib.Core.List.{List, [], _∷_}
+use mathlib.Core.List.{List, [], _∷_, map}
 use lib.Dec.{eqb, ltb}
 use lib.ListN.{length, getD}
 use Rattle.numeric.specs.Threshold.{Term}
-use Rattle.prefixes.specs.Links.{Link}
-use Rattle.prefixes.specs.Held.{beginAt, endAt}
+use Rattle.lists.specs.Laid.{numbers}
+use Rattle.thresholds.specs.Rows.{Row}
+use Rattle.prefixes.specs.Links.{Link, links, orderFrom}
+use Rattle.prefixes.specs.Merge.{laid}
+use Rattle.thresholds.specs.Incidents.{rowStart, rowEnd}
 
 -- The stack that begins at word t.
 abbrev pub Chain : List ℕ → ℕ → List ℕ → Type 0
@@ -17,7 +20,7 @@ Chain s t (a ∷ more) = (t ≡ a + 1) × Chain s (getD s (2048 + a) 0) more
 
 -- How many terms a row has, and so the ancestors that are kept, and what stands below a new row.
 abbrev pub lengthAt : List (List ℕ) → ℕ → ℕ
-lengthAt rows r = endAt rows r - beginAt rows r
+lengthAt rows r = rowEnd rows r - rowStart rows r
 
 unfoldable pub keptBy : (ℕ → ℕ) → ℕ → List ℕ → List ℕ
 keptBy L shared [] = []
@@ -36,7 +39,7 @@ abbrev pub Falling : List (List ℕ) → List ℕ → Type 0
 Falling rows s = (a : ℕ) → a < length rows → (getD s (2048 + a) 0 ≤ length rows) × (depth rows (getD s (2048 + a) 0) < depth rows (a + 1))
 
 abbrev pub Rises : List (List ℕ) → Type 0
-Rises rows = (r : ℕ) → r < length rows → beginAt rows r ≤ endAt rows r
+Rises rows = (r : ℕ) → r < length rows → rowStart rows r ≤ rowEnd rows r
 
 -- The terms of the row that a word names.
 unfoldable pub named : (ℕ → List Term) → ℕ → List Term
@@ -62,3 +65,31 @@ pub record Under (rows : List (List ℕ)) (s : List ℕ) (t r u : ℕ) : Type 0 
   pub row : u ≤ length rows
   pub falls : depth rows u < depth rows (r + 1)
   pub chain : (st : List ℕ) → Chain s t st → Chain s u (underBy (lengthAt rows) r st)
+
+-- The words as the pass finds them: the order in front, zeros where links and ancestors go.
+pub record Ordered (rs : List Row) (n : ℕ) (s : List ℕ) : Type 0 where
+  pub room : 3072 ≤ length s
+  pub small : n ≤ 1024
+  pub order : (k : ℕ) → k < n → getD s k 0 ≡ getD (orderFrom rs 0 rs) k 0
+  pub no-links : (x : ℕ) → x < n → getD s (1024 + x) 0 ≡ 0
+  pub no-ancestors : (x : ℕ) → x < n → getD s (2048 + x) 0 ≡ 0
+
+-- The words as it leaves them; what stands where ancestors went is left open, and cleared next.
+pub record Linked (rs : List Row) (n : ℕ) (s₀ s : List ℕ) : Type 0 where
+  pub sized : length s ≡ length s₀
+  pub front : (x : ℕ) → x < 1024 → getD s x 0 ≡ getD s₀ x 0
+  pub words : (x : ℕ) → x < n → getD s (1024 + x) 0 ≡ linkWord x (links rs)
+  pub between : (x : ℕ) → 1024 + n ≤ x → x < 2048 → getD s x 0 ≡ getD s₀ x 0
+  pub far : (x : ℕ) → 2048 + n ≤ x → getD s x 0 ≡ getD s₀ x 0
+
+-- The link words of all rows.
+abbrev pub linkWords : List Row → List ℕ
+linkWords rs = map (λ (x : ℕ). linkWord x (links rs)) (numbers 0 (length rs))
+
+-- The scratch words with the order and the link words in them.
+abbrev pub withLinks : List Row → List ℕ → List ℕ
+withLinks rs s = laid (laid s 0 (orderFrom rs 0 rs)) 1024 (linkWords rs)
+
+-- Scratch words that are all zero.
+abbrev pub Clear : List ℕ → Type 0
+Clear s = (3072 ≤ length s) × ((x : ℕ) → x < 3072 → getD s x 0 ≡ 0)

@@ -17,14 +17,14 @@ use Rattle.prefixes.specs.Links.{Link, termsAt, common, orderFrom, ances
 use Rattle.prefixes.specs.LinksLaws.{link}
 use Rattle.prefixes.specs.WordsLaws.{common-right}
 use Rattle.prefixes.specs.OrderLaws.{Distinct, order-distinct, order-length, order-range}
-use Rattle.prefixes.specs.Held.{beginAt, endAt, heldTerms, heldRows, HeldRow, Held}
+use Rattle.prefixes.specs.Held.{heldTerms, heldRows, HeldRow, Held}
+use Rattle.thresholds.specs.Incidents.{rowStart, rowEnd}
 use Rattle.prefixes.specs.HeldLaws.{held-terms, held-length, stretch-length, length-numbers}
 use Rattle.lists.specs.Laid.{numbers}
-use Rattle.prefixes.specs.Merge.{orderBy, laid}
+use Rattle.prefixes.specs.Merge.{orderBy, laid, zeros}
 use Rattle.prefixes.specs.MergeLaws.{order-by}
 use Rattle.prefixes.specs.LaidLaws.{laid-none, laid-length, laid-below, laid-at, laid-behind, slice-below, slice-laid, same-words}
-use Rattle.prefixes.specs.SortLaws.{zeros}
-use Rattle.prefixes.specs.Pass.{Chain, lengthAt, keptBy, underBy, depth, Falling, Rises, named, linkWord, headWord, Popped, Under}
+use Rattle.prefixes.specs.Pass.{Chain, lengthAt, keptBy, underBy, depth, Falling, Rises, named, linkWord, headWord, Popped, Under, Ordered, Linked, linkWords, withLinks, Clear}
 
 -- ---- popping
 
@@ -285,22 +285,6 @@ unfolding named
 named-same T U zero n h f = refl
 named-same T U (suc a) n h f = f a h
 
--- The words as the pass finds them: the order in front, zeros where links and ancestors go.
-pub record Ordered (rs : List Row) (n : ℕ) (s : List ℕ) : Type 0 where
-  pub room : 3072 ≤ length s
-  pub small : n ≤ 1024
-  pub order : (k : ℕ) → k < n → getD s k 0 ≡ getD (orderFrom rs 0 rs) k 0
-  pub no-links : (x : ℕ) → x < n → getD s (1024 + x) 0 ≡ 0
-  pub no-ancestors : (x : ℕ) → x < n → getD s (2048 + x) 0 ≡ 0
-
--- The words as it leaves them; what stands where ancestors went is left open, and cleared next.
-pub record Linked (rs : List Row) (n : ℕ) (s₀ s : List ℕ) : Type 0 where
-  pub sized : length s ≡ length s₀
-  pub front : (x : ℕ) → x < 1024 → getD s x 0 ≡ getD s₀ x 0
-  pub words : (x : ℕ) → x < n → getD s (1024 + x) 0 ≡ linkWord x (links rs)
-  pub between : (x : ℕ) → 1024 + n ≤ x → x < 2048 → getD s x 0 ≡ getD s₀ x 0
-  pub far : (x : ℕ) → 2048 + n ≤ x → getD s x 0 ≡ getD s₀ x 0
-
 module _ (rows : List (List ℕ)) (cs ws : List ℕ) where
   -- The words after i rows of the order, with the last of them named by top.
   pub record Passing (s₀ s : List ℕ) (i top : ℕ) : Type 0 where
@@ -350,7 +334,7 @@ module _ (rows : List (List ℕ)) (cs ws : List ℕ) where
     pub row-length-is : (a : ℕ) → a < length rows → lengthAt rows a ≡ length (termsAt (heldRows rows cs ws (length rows)) a)
     row-length-is a h =
         let r = held a h in
-        sym (ap length (held-terms rows cs ws (length rows) a h) ∙ stretch-length cs ws (beginAt rows a) (endAt rows a) (r .conditions) (r .weights))
+        sym (ap length (held-terms rows cs ws (length rows) a h) ∙ stretch-length cs ws (rowStart rows a) (rowEnd rows a) (r .conditions) (r .weights))
 
     pub passing-start : Passing s₀ s₀ 0 0
     unfolding linkWord links
@@ -545,18 +529,6 @@ module _ (rows : List (List ℕ)) (cs ws : List ℕ) where
           omega (arith, q .short)
 
 -- ---- sort, pass and clearing together
-
--- The link words of all rows.
-abbrev pub linkWords : List Row → List ℕ
-linkWords rs = map (λ (x : ℕ). linkWord x (links rs)) (numbers 0 (length rs))
-
--- The scratch words with the order and the link words in them.
-abbrev pub withLinks : List Row → List ℕ → List ℕ
-withLinks rs s = laid (laid s 0 (orderFrom rs 0 rs)) 1024 (linkWords rs)
-
--- Scratch words that are all zero.
-abbrev pub Clear : List ℕ → Type 0
-Clear s = (3072 ≤ length s) × ((x : ℕ) → x < 3072 → getD s x 0 ≡ 0)
 
 length-mapped : {A B : Type 0} (f : A → B) (l : List A) → length (map f l) ≡ length l
 length-mapped f [] = refl

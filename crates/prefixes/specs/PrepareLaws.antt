@@ -13,17 +13,17 @@ use lib.Seq.{getD-append-add, length-take-le, ext-getD, getD-take}
 use Rattle.lists.specs.Laid.{numbers, joinAll, ends, over}
 use Rattle.numeric.specs.Threshold.{Term}
 use Rattle.thresholds.specs.Rows.{Row, rowOf}
-use Rattle.prefixes.specs.Held.{stretch, beginAt, endAt, heldTerms, heldRows, HeldRow, Held}
+use Rattle.prefixes.specs.Held.{stretch, heldTerms, heldRows, HeldRow, Held}
+use Rattle.thresholds.specs.Incidents.{rowStart, rowEnd}
 use Rattle.prefixes.specs.HeldLaws.{held-length}
 use Rattle.prefixes.specs.Links.{Link, termsAt, common, orderFrom, ancestors, stacked, linked, linksFrom, links, neighbours, neighbourLists}
 use Rattle.prefixes.specs.OrderLaws.{Distinct, order-distinct, order-range}
 use Rattle.prefixes.specs.LinksLaws.{link, links-range, links-few, from-mem, extensions, stacked-from, kept-from, neighbours-prefix, neighbours-extension, neighbours-other}
-use Rattle.prefixes.specs.Pass.{linkWord, headWord}
-use Rattle.prefixes.specs.PassLaws.{word-here, word-later, word-behind, word-first, word-linked, word-unlinked, links-step, Clear, withLinks, with-length, with-take, with-row, with-word, with-behind}
-use Rattle.prefixes.specs.Merge.{laid}
-use Rattle.prefixes.specs.SortLaws.{zeros}
+use Rattle.prefixes.specs.Pass.{linkWord, headWord, Clear, withLinks}
+use Rattle.prefixes.specs.PassLaws.{word-here, word-later, word-behind, word-first, word-linked, word-unlinked, links-step, with-length, with-take, with-row, with-word, with-behind}
+use Rattle.prefixes.specs.Merge.{laid, zeros}
 use Rattle.prefixes.specs.LaidLaws.{laid-length, laid-at, laid-behind, same-words}
-use Rattle.prefixes.specs.Neighbours.{wordLink, wordLinks, linksIn, sumTo, Holds, Counted, Summed, Places, Filled}
+use Rattle.prefixes.specs.Neighbours.{wordLink, wordLinks, linksIn, sumTo, Holds, Counted, Summed, Places, Filled, Prepared}
 use Rattle.prefixes.specs.NeighboursLaws.{sum-next, sum-none, sum-grows}
 
 -- ---- link words give back the links
@@ -384,11 +384,11 @@ module _ (rows : List (List ℕ)) (cs ws : List ℕ) (n : ℕ) (fits : n ≤ len
   pub front-length : length (take n rows) ≡ n
   front-length = length-take-le n rows fits
 
-  end-same : (r : ℕ) → r < n → endAt (take n rows) r ≡ endAt rows r
+  end-same : (r : ℕ) → r < n → rowEnd (take n rows) r ≡ rowEnd rows r
   end-same r h = ap (λ (l : List ℕ). getD l 0 0) (getD-take n rows r [] h)
 
-  begin-same : (r : ℕ) → r < n → beginAt (take n rows) r ≡ beginAt rows r
-  unfolding beginAt
+  begin-same : (r : ℕ) → r < n → rowStart (take n rows) r ≡ rowStart rows r
+  unfolding rowStart
   begin-same zero h = refl
   begin-same (suc r) h = end-same r (omega arith)
 
@@ -413,14 +413,6 @@ module _ (rows : List (List ℕ)) (cs ws : List ℕ) (n : ℕ) (fits : n ≤ len
 
   pub front-many : length (heldRows (take n rows) cs ws (length (take n rows))) ≡ n
   front-many = held-length (take n rows) cs ws (length (take n rows)) ∙ front-length
-
--- WHAT `prepare` LEAVES: each row says where its neighbours end, the buffer holds them row by row, and the scratch words are as they were.
-pub record Prepared (rs : List Row) (count : ℕ) (rows₀ rows : List (List ℕ)) (links₀ out scratch₀ scratch : List ℕ) : Type 0 where
-  pub rows-sized : length rows ≡ length rows₀
-  pub ends : (r : ℕ) → r < count → getD rows r [] ≡ set (getD rows₀ r []) 2 (getD (ends 0 (neighbourLists rs)) r 0)
-  pub other : (r : ℕ) → count ≤ r → getD rows r [] ≡ getD rows₀ r []
-  pub neighbours : out ≡ over (joinAll (neighbourLists rs)) links₀
-  pub cleared : scratch ≡ scratch₀
 
 module _ (rs : List Row) (n : ℕ) (many : length rs ≡ n) (s₀ : List ℕ) (clear : Clear s₀) (small : n ≤ 1024) (s₁ : List ℕ) (e₁ : s₁ ≡ withLinks rs s₀) where
   tiny : length rs ≤ 1024

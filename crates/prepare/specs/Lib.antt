@@ -1,1 +1,17 @@
 pub mod Given
+pub mod Place
+pub mod PlaceLaws
+pub mod Prepare
+pub mod PrepareParts
+pub mod PrepareLaws
+pub mod RowsGiven
+pub mod RowsGivenLaid
+pub mod RowsGivenHeld
+pub mod EdgesGiven
+pub mod RowsGivenTerms
+pub mod NodesGiven
+pub mod RowsGivenLinks
+pub mod GuardOrderPickedLaws
+pub mod GuardOrderKeysLaws
+pub mod GuardOrderRowsLaws
+pub mod GuardOrderLaws

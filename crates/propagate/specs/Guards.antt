@@ -10,7 +10,7 @@ use lib.Seq.{take-suc, drop-cons}
 use lib.IntN.{ℤ, pos}
 use Rattle.numeric.specs.Threshold.{Term, terms}
 use Rattle.thresholds.specs.Rows.{Guard, guard}
-use Rattle.propagate.specs.Shape.{Below}
+use Rattle.numeric.specs.Slices.{Below}
 use Rattle.propagate.specs.ScanLaws.{All}
 
 unfoldable pub guards : List ℤ → List ℕ → List Guard

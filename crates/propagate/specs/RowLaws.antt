@@ -14,13 +14,12 @@ use Rattle.state.specs.declared.Step.{Step}
 use Rattle.state.specs.declared.Step.the-variants.{Unchanged, Changed, Contradiction}
 use Rattle.state.specs.declared.State.{State}
 use Rattle.state.specs.Step.{joined, contradicts}
-use Rattle.state.specs.State.{limit, limited, conflict, hasResidualInterval, withGuards, withTerms}
+use Rattle.state.specs.State.{Figures, limit, limited, conflict, hasResidualInterval, withGuards, withTerms}
 use Rattle.queues.specs.Marks.{Marks}
 use Rattle.queues.specs.MarksLaws.{Waits, waits-decide}
 use Rattle.thresholds.specs.Rows.{Row, rowOf, Guard, hasNonunit}
 use Rattle.propagate.specs.Scan.{Scanned, scan}
 use Rattle.propagate.specs.ScanLaws.{All, all-drop, all-take, all-reverse, scan-keeps, scan-within, force-keeps}
-use Rattle.propagate.specs.Shape.{Figures}
 use Rattle.propagate.specs.Guards.{Node, Condition}
 use Rattle.propagate.specs.Row.{Ran, ran, decides, sureWaits, sureGuards, neverWaits, neverGuards, thresholdGuards, light, cut, termWaits, forces, forced, trueTerms, falseTerms, rowTerms, scans, thresholdRow, wantsResidual}
 
@@ -280,18 +279,6 @@ row-raw raw raw′ ts gs s m = by (conflict s) refl
     by false e = rw (thresholdRow, e, scans)
 
 -- Whether a row wants a residual, from its slices.
-pub nonunit-none : (cs ws : List ℕ) → length ws ≡ 0 → hasNonunit (terms cs ws) ≡ false
-unfolding hasNonunit terms
-nonunit-none [] ws e = refl
-nonunit-none (c ∷ cs) [] e = refl
-nonunit-none (c ∷ cs) (w ∷ ws) e = absurd (let h : length (w ∷ ws) ≡ 0 = e in omega arith)
-
-pub nonunit-first : (cs ws : List ℕ) → 0 < length cs → 0 < length ws → hasNonunit (terms cs ws) ≡ ltb 1 (getD ws 0 0)
-unfolding hasNonunit terms
-nonunit-first [] ws h k = absurd (not-suc-le-zero h)
-nonunit-first (c ∷ cs) [] h k = absurd (not-suc-le-zero k)
-nonunit-first (c ∷ cs) (w ∷ ws) h k = refl
-
 module _ (r : Row) (s : State) where
   pub wants-conflict : conflict s ≡ true → wantsResidual r s ≡ false
   unfolding wantsResidual

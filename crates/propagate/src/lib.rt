@@ -7,14 +7,14 @@ ghost use mathlib.Core.List.{List};
 ghost use lib.Signed.{ltZ};
 ghost use Rattle.numeric.specs.Threshold.{Term, terms};
 ghost use Rattle.words.specs.Mask.{inEither};
-ghost use Rattle.state.specs.State.{reached, limit};
+ghost use Rattle.state.specs.State.{Figures, reached, limit};
 ghost use Rattle.queues.specs.Queue.{queue};
 ghost use Rattle.queues.specs.Marks.{Marks, marks, isDecided, decided, decide};
 ghost use Rattle.queues.specs.MarksLaws.{Waits};
 ghost use Rattle.thresholds.specs.Rows.{Guard, rowOf};
 ghost use Rattle.propagate.specs.Scan.{scanned, turn as turnOf, turned, force};
 ghost use Rattle.propagate.specs.Told.{guardState, movedLower, movedUpper, movedState};
-ghost use Rattle.propagate.specs.Shape.{TermSlices, GuardSlices, Figures};
+ghost use Rattle.propagate.specs.Shape.{TermSlices, GuardSlices};
 ghost use Rattle.propagate.specs.Guards.{guards};
 ghost use Rattle.propagate.specs.Row.{ran as ranOf, reachable, sureGuards, neverGuards, thresholdGuards, light, forced, trueTerms, falseTerms, rowTerms, thresholdRow, wantsResidual};
 use queues::Decision;
@@ -102,18 +102,6 @@ fn guard_turn(
     passed_turn(scan, made)
 }
 
-// In one mask or the other.
-fn decided(sure: &[u64], never: &[u64], node: u16) -> bool
-    requires { ⌜ (node < 4096) × (64 ≤ length (now sure)) × (64 ≤ length (now never)) ⌝ }
-    ensures { λ r. ⌜ r ≡ inEither (now (sure .entry)) (now (never .entry)) node ⌝ }
-{
-    let n = node as usize;
-    if words::bit(sure, n) {
-        return true;
-    }
-    words::bit(never, n)
-}
-
 // A term that is decided is passed as it is; any other waits, or is forced.
 fn term_turn(
     value: bool,
@@ -131,7 +119,7 @@ fn term_turn(
         (scanned (scan .passed) (marks (now (sure .entry)) (now (never .entry)) (queue (now (nodes .entry)) (scan .ring))) (scan .step)) ⌝ }
 {
     let ring = scan.ring;
-    if decided(sure, never, node) {
+    if words::decided(sure, never, node) {
         let made = Decision {
             step: Step::Unchanged,
             ring: ring,
@@ -483,10 +471,7 @@ pub fn wants_residual(conditions: &[u16], weights: &[u64], state: State) -> bool
     if state.conflict() {
         return false;
     }
-    if weights.len() == 0 {
-        return false;
-    }
-    if weights[0] <= 1 {
+    if !thresholds::has_nonunit(conditions, weights) {
         return false;
     }
     state.has_residual_interval()

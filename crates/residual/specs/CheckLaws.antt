@@ -12,7 +12,7 @@ use lib.Dec.{eqb, leb}
 use lib.Signed.{ltZ}
 use borrow.Author.Tests.{eq-eqb, ne-eqb}
 use Rattle.numeric.specs.Threshold.{Term, term, terms}
-use Rattle.numeric.specs.TermsLaws.{down-terms, length-terms}
+use Rattle.numeric.specs.TermsLaws.{lastTerms, last-next}
 use Rattle.state.specs.declared.Step.the-variants.{Unchanged, Contradiction}
 use Rattle.state.specs.declared.State.{State}
 use Rattle.state.specs.State.{reached, upperAtMost, hasResidualInterval}
@@ -20,23 +20,6 @@ use Rattle.thresholds.specs.Rows.{hasNonunit}
 use Rattle.residual.specs.declared.Interval.{Interval}
 use Rattle.residual.specs.Gcd.{gcd, misses}
 use Rattle.residual.specs.Residual.{interval, stopsAt, checkFrom, residualCheck}
-
--- The terms that are left, from the light end, where all of them are, where some are, and where none is.
-abbrev pub lastTerms : List ℕ → List ℕ → ℕ → List Term
-lastTerms cs ws left = reverse (take left (terms cs ws))
-
-pub last-all : (cs ws : List ℕ) → length cs ≡ length ws → lastTerms cs ws (length ws) ≡ reverse (terms cs ws)
-last-all cs ws e = ap reverse (take-all (length ws) (terms cs ws) (omega (arith, length-terms cs ws)))
-
-pub last-next : (cs ws : List ℕ) (left : ℕ) → 0 < left → left ≤ length cs → left ≤ length ws
-    → lastTerms cs ws left ≡ term (getD cs (left - 1) 0) (getD ws (left - 1) 0) ∷ lastTerms cs ws (left - 1)
-last-next cs ws zero h f g = absurd (not-suc-le-zero h)
-last-next cs ws (suc left) h f g =
-    let e : suc left - 1 ≡ left = omega arith in
-    rw e (down-terms cs ws left f g)
-
-pub last-none : (cs ws : List ℕ) (left : ℕ) → left ≡ 0 → lastTerms cs ws left ≡ []
-last-none cs ws left e = ap (λ (k : ℕ). reverse (take k (terms cs ws))) e
 
 module _ (i : Interval) (d : ℕ → Bool) (t : Term) (ts : List Term) (divisor : ℕ) where
   pub check-skip : d (t .condition) ≡ true → checkFrom i d (t ∷ ts) divisor ≡ checkFrom i d ts divisor

@@ -11,7 +11,7 @@ use Rattle.thresholds.specs.Rows.{hasNonunit}
 use Rattle.residual.specs.declared.Interval.{Interval}
 use Rattle.residual.specs.Gcd.{gcd}
 use Rattle.residual.specs.Residual.{interval, tooWide, bothFit, fitsFrom, nothingForced}
-use Rattle.residual.specs.CheckLaws.{lastTerms, last-next, last-none}
+use Rattle.numeric.specs.TermsLaws.{lastTerms, last-next, last-none}
 
 module _ (i : Interval) (d : ℕ → Bool) (t : Term) (ts : List Term) (fitting : Bool) (complement : ℕ) where
   wide : tooWide i fitting (t .weight) ≡ true → fitsFrom i d (t ∷ ts) fitting complement ≡ false

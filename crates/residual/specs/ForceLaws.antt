@@ -22,7 +22,7 @@ use Rattle.queues.specs.Marks.{Marks, marks, isDecided, Decided, decided, decid
 use Rattle.residual.specs.declared.Interval.{Interval}
 use Rattle.residual.specs.Gcd.{gcd}
 use Rattle.residual.specs.MissesLaws.{clash}
-use Rattle.residual.specs.Shape.{Below}
+use Rattle.numeric.specs.Slices.{Below}
 use Rattle.residual.specs.SuffixLaws.{length-suffix}
 use Rattle.residual.specs.Residual.{
   interval,

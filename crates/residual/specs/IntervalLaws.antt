@@ -18,18 +18,6 @@ use Rattle.residual.specs.MissesLaws.{clash}
 use Rattle.residual.specs.Residual.{interval}
 use Rattle.residual.specs.Shape.{Window}
 
-pub natural-below : (z : ℤ) → ltZ z (pos 0) ≡ true → 0 ≡ natural z
-natural-below (pos n) h = omega (arith, ltb-true n 0 h)
-natural-below (negsuc n) h = refl
-
-pub natural-cast : (z : ℤ) → ltZ z (pos 0) ≡ false → SFits w64 z → T (nonNeg z) × Fits w64 (natAbs z)
-natural-cast (pos n) h f = (tt, record { fits = omega (arith, f .sfits) })
-natural-cast (negsuc n) h f = absurd (clash h)
-
-pub natural-same : (z : ℤ) → ltZ z (pos 0) ≡ false → natAbs z ≡ natural z
-natural-same (pos n) h = refl
-natural-same (negsuc n) h = absurd (clash h)
-
 pub natural-small : (z : ℤ) → SFits w64 z → natural z < 2 ^ 63
 natural-small (pos n) f = omega (arith, f .sfits)
 natural-small (negsuc n) f = omega arith

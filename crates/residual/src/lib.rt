@@ -6,6 +6,7 @@ ghost use mathlib.Core.List.{reverse};
 ghost use lib.ListN.{length};
 ghost use lib.Dec.{eqb, leb};
 ghost use Rattle.numeric.specs.Threshold.{term, terms};
+ghost use Rattle.numeric.specs.Slices.{Below, Shape};
 ghost use Rattle.signed.specs.Signed.{natural as naturalOf};
 ghost use Rattle.state.specs.State.{limit};
 ghost use Rattle.state.specs.Step.{joined};
@@ -15,7 +16,7 @@ ghost use Rattle.state.specs.declared.Step.the-variants.{Unchanged};
 ghost use Rattle.queues.specs.MarksLaws.{Waits};
 ghost use Rattle.queues.specs.Marks.{marks, decided as decidedOf};
 ghost use Rattle.residual.specs.Gcd.{gcd, misses, branchMisses};
-ghost use Rattle.residual.specs.Shape.{Below, Shape, Window};
+ghost use Rattle.residual.specs.Shape.{Window};
 ghost use Rattle.residual.specs.Residual.{
   interval,
   stopsAt,
@@ -119,18 +120,6 @@ fn smaller(a: u64, b: u64) -> u64
     b
 }
 
-// Whether a node is in one of the masks.
-fn decided(sure: &[u64], never: &[u64], node: u16) -> bool
-    requires { ⌜ (node < 4096) × (64 ≤ length (now sure)) × (64 ≤ length (now never)) ⌝ }
-    ensures { λ r. ⌜ r ≡ inEither (now (sure .entry)) (now (never .entry)) node ⌝ }
-{
-    let n = node as usize;
-    if words::bit(sure, n) {
-        return true;
-    }
-    words::bit(never, n)
-}
-
 // The gcd with one weight more, which a decided term leaves out.
 fn reduce(skip: bool, divisor: u64, weight: u64) -> u64
     ensures { λ r. ⌜ r ≡ cond skip divisor (gcd divisor weight) ⌝ }
@@ -160,20 +149,10 @@ pub fn prepare_suffix(
     while left > 0 {
         gcds[count - left] = suffix;
         left -= 1;
-        let skip = decided(sure, never, conditions[left]);
+        let skip = words::decided(sure, never, conditions[left]);
         suffix = reduce(skip, suffix, weights[left]);
     }
     gcds[count] = suffix;
-}
-
-// A figure that is not negative as it is, any other as 0.
-fn natural(figure: i64) -> u64
-    ensures { λ r. ⌜ r ≡ naturalOf figure ⌝ }
-{
-    if figure < 0 {
-        return 0;
-    }
-    figure as u64
 }
 
 // A difference, 0 where it would be negative.
@@ -191,7 +170,7 @@ fn limit_of(upper: Upper) -> u64
 {
     match upper {
         Upper::Open => 0,
-        Upper::Under(bound) => natural(bound),
+        Upper::Under(bound) => signed::natural(bound),
     }
 }
 
@@ -201,10 +180,10 @@ pub fn interval_of(state: State) -> Interval
 {
     let upper = state.upper;
     let limit = limit_of(upper);
-    let lower = natural(state.lower);
+    let lower = signed::natural(state.lower);
     Interval {
-        known: natural(state.known),
-        possible: natural(state.possible),
+        known: signed::natural(state.known),
+        possible: signed::natural(state.possible),
         lower: lower,
         upper: minus(limit, 1),
         width: minus(limit, lower),
@@ -252,7 +231,7 @@ fn check_from(conditions: &[u16], weights: &[u64], i: Interval, sure: &[u64], ne
     let mut divisor: u64 = 0;
     while remaining > 0 {
         remaining -= 1;
-        if decided(sure, never, conditions[remaining]) {
+        if words::decided(sure, never, conditions[remaining]) {
             continue;
         }
         let weight = weights[remaining];
@@ -343,7 +322,7 @@ fn fits_from(conditions: &[u16], weights: &[u64], i: Interval, sure: &[u64], nev
         if too_wide(i, fitting, weight) {
             return false;
         }
-        if decided(sure, never, conditions[unread]) {
+        if words::decided(sure, never, conditions[unread]) {
             continue;
         }
         if fitting {
@@ -454,7 +433,7 @@ fn force_from(
     };
     while position < weights.len() {
         let node = conditions[position];
-        if decided(sure, never, node) {
+        if words::decided(sure, never, node) {
             position += 1;
             continue;
         }

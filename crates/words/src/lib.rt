@@ -1,8 +1,8 @@
 // Bits of 64-bit words: words.rs, region.rs, and `bit` and `learn` of regions.rs.
 ghost use mathlib.Core.Path.{_≡_};
-ghost use Prim.Native.Nat.{_+_, _-_, _*_, _/_, _^_, _<_, min};
+ghost use Prim.Native.Nat.{_+_, _-_, _*_, _/_, _^_, _<_, _≤_, min};
 ghost use lib.ListN.{length};
-ghost use Rattle.words.specs.Mask.{bit as isSet, count as nodes, learn as learnt};
+ghost use Rattle.words.specs.Mask.{bit as isSet, inEither, count as nodes, learn as learnt};
 ghost use Rattle.words.specs.Shift.{meets as inside, shiftWord, wordHits, unionShifted};
 use state::Step;
 
@@ -32,6 +32,18 @@ pub fn bit(mask: &[u64], n: usize) -> bool
     ensures { λ r. ⌜ r ≡ isSet (now (mask .entry)) n ⌝ }
 {
     (mask[n / 64] >> (n % 64)) % 2 == 1
+}
+
+// Whether a node is in one of the masks.
+pub fn decided(sure: &[u64], never: &[u64], node: u16) -> bool
+    requires { ⌜ (node < 4096) × (64 ≤ length (now sure)) × (64 ≤ length (now never)) ⌝ }
+    ensures { λ r. ⌜ r ≡ inEither (now (sure .entry)) (now (never .entry)) node ⌝ }
+{
+    let n = node as usize;
+    if bit(sure, n) {
+        return true;
+    }
+    bit(never, n)
 }
 
 // Node n is put into the mask; nothing new if it is there already, a contradiction if the opposite mask has it.

@@ -27,7 +27,7 @@ threshold-possible-sums-requires : tie.Need-threshold-possible-sums-requires
 threshold-possible-sums-requires c κs =
     let p = c .before .before .before .before .before .before .before .pre in
     let f = c .before .before .state-fits .ensures (not-false (c .before .before .state-fits .result) (c .before .if1 .left)) .0 in
-    ((p .0, p .1, record { known = f .known; lower = f .lower; upper = f .upper }), (omega (arith, length-replicate {A = ℕ} 4096 0), zeros 4096))
+    ((p .0, p .1, f), (omega (arith, length-replicate {A = ℕ} 4096 0), zeros 4096))
 
 slice-aggregate-write-2 : tie.Need-slice-aggregate-write-2
 slice-aggregate-write-2 c = refl

@@ -3,7 +3,7 @@ use borrow.Author.Needs.{needs}
 use mathlib.Core.Path.{refl, _≡_}
 use mir.Syntax.{w64}
 use mir.Val.{toZ, ofZ}
-use Rattle.residual.specs.IntervalLaws.{natural-cast}
+use Rattle.signed.specs.Signed.{natural-cast}
 use Rattle.one_row.proofs.write_figure.Statement.{statement}
 use Rattle.one_row.proofs.write_figure.Tie as tie
 

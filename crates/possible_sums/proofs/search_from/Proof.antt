@@ -13,7 +13,7 @@ use Rattle.words.specs.Mask.{inEither}
 use Rattle.words.specs.Shift.{unionShifted}
 use Rattle.words.specs.ShiftLaws.{union-length, complete-visits}
 use Rattle.possible_sums.specs.Search.{searchFrom}
-use Rattle.possible_sums.specs.TermsLaws.{lastTerms, last-all}
+use Rattle.numeric.specs.TermsLaws.{lastTerms, last-all}
 use Rattle.possible_sums.specs.SearchSteps.{
   lastTerm,
   turn,

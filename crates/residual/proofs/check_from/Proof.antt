@@ -5,13 +5,11 @@ use mathlib.Core.Path.{_≡_, sym, ap, _∙_}
 use mathlib.Core.List.{List, reverse}
 use lib.ListN.{length}
 use Rattle.numeric.specs.Threshold.{Term, terms}
+use Rattle.numeric.specs.TermsLaws.{lastTerms, last-all, last-none}
 use Rattle.words.specs.Mask.{inEither}
 use Rattle.residual.specs.Gcd.{misses}
 use Rattle.residual.specs.Residual.{checkFrom}
 use Rattle.residual.specs.CheckLaws.{
-  lastTerms,
-  last-all,
-  last-none,
   turn-skip,
   turn-stop,
   turn-more,

@@ -1,8 +1,8 @@
--- `possible_sums::decided` meets its contract: the two masks are asked in turn.
+-- `words::decided` meets its contract: the two masks are asked in turn.
 use mathlib.Core.Path.{sym}
 use borrow.Author.Needs.{needs}
-use Rattle.possible_sums.proofs.decided.Statement.{statement}
-use Rattle.possible_sums.proofs.decided.Tie as tie
+use Rattle.words.proofs.decided.Statement.{statement}
+use Rattle.words.proofs.decided.Tie as tie
 
 bit-requires : tie.Need-bit-requires
 bit-requires c κs = search needs

@@ -1,0 +1,252 @@
+-- What a seal builds of a job within the limits meets what the laws of turns ask, and the seal leaves sound values. Assumes nothing.
+use Prim.Native.Nat.{ℕ, zero, suc, _+_, _≤_, _<_}
+use native.Mathlib.Nat.{not-suc-le-zero}
+use native.Mathlib.Omega.{arith}
+use mathlib.Core.Path.{_≡_, refl, _∙_}
+use mathlib.Core.Bool.{Bool, true, false}
+use mathlib.Core.List.{List, [], _∷_, _++_, List·Memᴰ, List·Memᴰ·head, List·Memᴰ·tail}
+use lib.ListN.{length, getD, set, length-set}
+use lib.Dec.{eqb}
+use Rattle.numeric.specs.Threshold.{Term, Threshold, Job}
+use Rattle.state.specs.declared.Step.{Step}
+use Rattle.state.specs.declared.Step.the-variants.{Unchanged, Contradiction}
+use Rattle.state.specs.declared.State.{State}
+use Rattle.state.specs.Step.{joined, contradicts}
+use Rattle.row.specs.Terms.{rowTerms, merged, sameTerms, total}
+use Rattle.row.specs.TermsLaws.{All as Every, conditions-merged, all-sorted}
+use Rattle.thresholds.specs.Guards.{Bound}
+use Rattle.thresholds.specs.Rows.{Row, rowOf, noRow, Guard, guard, below, insertGuard, place, placeAll, rowsOf, rowNumber, stateOfRow, Edge, edge, edgesIn, edgesFrom}
+use Rattle.thresholds.specs.RawLaws.{same-refl}
+use Rattle.prefixes.specs.Links.{Link, links, neighbours}
+use Rattle.prefixes.specs.LinksLaws.{links-range, Joined, downward, upward, neighbours-joined}
+use Rattle.propagate.specs.ScanLaws.{All}
+use Rattle.propagate.specs.Guards.{Node, Condition}
+use Rattle.between.specs.Between.{Index, Live, live, Did, did, runRow, firstStates, seedFrom}
+use Rattle.regions.specs.Drain.{indexOf, seal}
+use Rattle.ends.specs.Rooms.{AllBounded, set-bounded, first-bounded}
+use Rattle.ends.specs.Turns.{Indexed, Sound, run-row}
+
+-- A threshold and a job within the limits.
+pub record Fit (t : Threshold) : Type 0 where
+  pub node : t .node < 4096
+  pub bound : Bound (t .bound)
+  pub conditions : Every (λ (u : Term). u .condition < 4096) (t .terms)
+
+pub record Fits (j : Job) : Type 0 where
+  pub nodes : j .nodes ≤ 4096
+  pub few : length (j .thresholds) ≤ 1024
+  pub each : Every Fit (j .thresholds)
+
+-- ---- lists
+
+every-append : {X : Type 0} (P : X → Type 0) (xs ys : List X) → Every P xs → Every P ys → Every P (xs ++ ys)
+every-append P [] ys a b = b
+every-append P (x ∷ xs) ys a b = (a .0, every-append P xs ys (a .1) b)
+
+every-mem : {X : Type 0} (P : X → Type 0) (xs : List X) → ((x : X) → List·Memᴰ x xs → P x) → Every P xs
+every-mem P [] f = tt
+every-mem P (x ∷ xs) f = (f x (List·Memᴰ·head refl), every-mem P xs (λ y m. f y (List·Memᴰ·tail m)))
+
+every-at : {X : Type 0} (P : X → Type 0) (d : X) (xs : List X) → P d → Every P xs → (i : ℕ) → P (getD xs i d)
+every-at P d [] p a i = p
+every-at P d (x ∷ xs) p a zero = a .0
+every-at P d (x ∷ xs) p a (suc i) = every-at P d xs p (a .1) i
+
+every-all : {X : Type 0} (P : X → Type 0) (xs : List X) → Every P xs → All P xs
+unfolding All
+every-all P [] a = tt
+every-all P (x ∷ xs) a = (a .0, every-all P xs (a .1))
+
+-- ---- rows name nodes
+
+abbrev RowFits : Row → Type 0
+RowFits r = Every Node (r .guards) × Every Condition (r .terms)
+
+insert-fits : (g : Guard) (gs : List Guard) → Node g → Every Node gs → Every Node (insertGuard g gs)
+unfolding insertGuard
+insert-fits g [] n a = (n, tt)
+insert-fits g (h ∷ hs) n a = by (insert-fits g hs n (a .1)) (below g h)
+  where
+    by : Every Node (insertGuard g hs) → (b : Bool) → Every Node (elim b [ true ↦ g ∷ h ∷ hs | false ↦ h ∷ insertGuard g hs ])
+    by ih true = (n, a)
+    by ih false = (a .0, ih)
+
+terms-fit : (raw : List Term) → Every Condition raw → Every Condition (rowTerms raw)
+terms-fit raw h = all-sorted Condition (merged raw) (conditions-merged (λ (n : ℕ). n < 4096) raw h)
+
+place-fits : (t : Threshold) (rs : List Row) → Fit t → Every RowFits rs → Every RowFits (place t rs)
+unfolding place
+place-fits t [] f a = (((f .node, tt), terms-fit (t .terms) (f .conditions)), tt)
+place-fits t (r ∷ rs) f a = by (place-fits t rs f (a .1)) (sameTerms (r .raw) (t .terms))
+  where
+    by : Every RowFits (place t rs) → (b : Bool)
+        → Every RowFits (elim b [ true ↦ rowOf (r .raw) (r .terms) (insertGuard (guard (t .bound) (t .node)) (r .guards)) ∷ rs | false ↦ r ∷ place t rs ])
+    by ih true = ((insert-fits (guard (t .bound) (t .node)) (r .guards) (f .node) (a .0 .0), a .0 .1), a .1)
+    by ih false = (a .0, ih)
+
+all-fit : (ts : List Threshold) (rs : List Row) → Every Fit ts → Every RowFits rs → Every RowFits (placeAll ts rs)
+unfolding placeAll
+all-fit [] rs f a = a
+all-fit (t ∷ ts) rs f a = all-fit ts (place t rs) (f .1) (place-fits t rs (f .0) a)
+
+-- ---- no more rows than thresholds
+
+place-few : (t : Threshold) (rs : List Row) → length (place t rs) ≤ length rs + 1
+unfolding place
+place-few t [] = omega arith
+place-few t (r ∷ rs) = by (place-few t rs) (sameTerms (r .raw) (t .terms))
+  where
+    by : length (place t rs) ≤ length rs + 1 → (b : Bool)
+        → length {A = Row} (elim b [ true ↦ rowOf (r .raw) (r .terms) (insertGuard (guard (t .bound) (t .node)) (r .guards)) ∷ rs | false ↦ r ∷ place t rs ]) ≤ length (r ∷ rs) + 1
+    by ih true = omega arith
+    by ih false = omega arith
+
+all-few : (ts : List Threshold) (rs : List Row) → length (placeAll ts rs) ≤ length rs + length ts
+unfolding placeAll
+all-few [] rs = omega arith
+all-few (t ∷ ts) rs = omega (arith, all-few ts (place t rs), place-few t rs)
+
+-- ---- a threshold's row is one of the rows
+
+abbrev There : List Term → List Row → Type 0
+There raw rs = rowNumber rs raw < length rs
+
+number-first : (r : Row) (rs : List Row) (raw : List Term) → sameTerms (r .raw) raw ≡ true → There raw (r ∷ rs)
+unfolding rowNumber
+number-first r rs raw e = rw (e, rowNumber) (omega arith)
+
+number-next : (r : Row) (rs : List Row) (raw : List Term) → There raw rs → There raw (r ∷ rs)
+unfolding rowNumber
+number-next r rs raw h = by (sameTerms (r .raw) raw)
+  where
+    by : (b : Bool) → let n : ℕ = elim b [ true ↦ 0 | false ↦ 1 + rowNumber rs raw ] in n < length (r ∷ rs)
+    by true = omega arith
+    by false = omega arith
+
+place-there : (t : Threshold) (rs : List Row) → There (t .terms) (place t rs)
+unfolding place
+place-there t [] = number-first (rowOf (t .terms) (rowTerms (t .terms)) (guard (t .bound) (t .node) ∷ [])) [] (t .terms) (same-refl (t .terms))
+place-there t (r ∷ rs) = by (place-there t rs) (sameTerms (r .raw) (t .terms)) refl
+  where
+    by : There (t .terms) (place t rs) → (b : Bool) → sameTerms (r .raw) (t .terms) ≡ b
+        → There (t .terms) (elim b [ true ↦ rowOf (r .raw) (r .terms) (insertGuard (guard (t .bound) (t .node)) (r .guards)) ∷ rs | false ↦ r ∷ place t rs ])
+    by ih true e = number-first (rowOf (r .raw) (r .terms) (insertGuard (guard (t .bound) (t .node)) (r .guards))) rs (t .terms) e
+    by ih false e = number-next r (place t rs) (t .terms) ih
+
+there-behind : (r : Row) (rs : List Row) (raw : List Term) → sameTerms (r .raw) raw ≡ false → There raw (r ∷ rs) → There raw rs
+unfolding rowNumber
+there-behind r rs raw e h = let k : 1 + rowNumber rs raw < suc (length rs) = rw (e, rowNumber) at h in omega arith
+
+place-keeps : (t : Threshold) (rs : List Row) (raw : List Term) → There raw rs → There raw (place t rs)
+unfolding place
+place-keeps t [] raw h = absurd (not-suc-le-zero h)
+place-keeps t (r ∷ rs) raw h = by (λ k. place-keeps t rs raw k) (sameTerms (r .raw) (t .terms)) (sameTerms (r .raw) raw) refl
+  where
+    s : Row
+    s = rowOf (r .raw) (r .terms) (insertGuard (guard (t .bound) (t .node)) (r .guards))
+
+    by : (There raw rs → There raw (place t rs)) → (b c : Bool) → sameTerms (r .raw) raw ≡ c → There raw (elim b [ true ↦ s ∷ rs | false ↦ r ∷ place t rs ])
+    by ih true true e = number-first s rs raw e
+    by ih true false e = number-next s rs raw (there-behind r rs raw e h)
+    by ih false true e = number-first r (place t rs) raw e
+    by ih false false e = number-next r (place t rs) raw (ih (there-behind r rs raw e h))
+
+all-keep : (ts : List Threshold) (rs : List Row) (raw : List Term) → There raw rs → There raw (placeAll ts rs)
+unfolding placeAll
+all-keep [] rs raw h = h
+all-keep (t ∷ ts) rs raw h = all-keep ts (place t rs) raw (place-keeps t rs raw h)
+
+all-there : (ts : List Threshold) (rs : List Row) → Every (λ (t : Threshold). There (t .terms) (placeAll ts rs)) ts
+unfolding placeAll
+all-there [] rs = tt
+all-there (t ∷ ts) rs = (all-keep ts (place t rs) (t .terms) (place-there t rs), all-there ts (place t rs))
+
+placed : (rs : List Row) (ts : List Threshold) → length rs ≤ 1024 → Every Fit ts → Every (λ (t : Threshold). There (t .terms) rs) ts
+    → Every (λ (t : Threshold). Bound (t .bound) × (rowNumber rs (t .terms) < 1024)) ts
+placed rs [] h f a = tt
+placed rs (t ∷ ts) h f a = ((f .0 .bound, (let k = a .0 in omega arith)), placed rs ts h (f .1) (a .1))
+
+-- ---- edges and links lead to rows
+
+edges-in : (c r : ℕ) (ts : List Term) (n : ℕ) → r < n → Every (λ (e : Edge). e .row < n) (edgesIn c r ts)
+unfolding edgesIn
+edges-in c r [] n h = tt
+edges-in c r (t ∷ ts) n h = by (edges-in c r ts n h) (eqb (t .condition) c)
+  where
+    by : Every (λ (e : Edge). e .row < n) (edgesIn c r ts) → (b : Bool)
+        → Every (λ (e : Edge). e .row < n) (elim b [ true ↦ edge r (t .weight) ∷ edgesIn c r ts | false ↦ edgesIn c r ts ])
+    by ih true = (h, ih)
+    by ih false = ih
+
+edges-from : (c k : ℕ) (rs : List Row) (n : ℕ) → k + length rs ≤ n → Every (λ (e : Edge). e .row < n) (edgesFrom c k rs)
+unfolding edgesFrom
+edges-from c k [] n h = tt
+edges-from c k (r ∷ rs) n h =
+    every-append (λ (e : Edge). e .row < n) (edgesIn c k (r .terms)) (edgesFrom c (k + 1) rs) (edges-in c k (r .terms) n (omega arith)) (edges-from c (k + 1) rs n (omega arith))
+
+linked-rows : (rs : List Row) (n r : ℕ) → length rs ≤ n → Every (λ (q : ℕ). q < n) (neighbours r (links rs))
+linked-rows rs n r h = every-mem (λ (q : ℕ). q < n) (neighbours r (links rs)) (λ q m. let a = neighbours-joined r q (links rs) m in by q (a .0) (a .1) (a .2))
+  where
+    by : (q : ℕ) (l : Link) → List·Memᴰ l (links rs) → Joined r q l → q < n
+    by q l i (downward e f) = let k = links-range rs (l .prefix) (l .extension) i .1 in omega arith
+    by q l i (upward e f) = let k = links-range rs (l .prefix) (l .extension) i .0 in omega arith
+
+rows-few : (j : Job) → Fits j → length (rowsOf j) ≤ 1024
+rows-few j f = omega (arith, all-few (j .thresholds) [], f .few)
+
+-- WHAT A SEAL BUILDS
+pub indexed : (j : Job) → Fits j → Indexed (indexOf j)
+indexed j f = record {
+  nodes = λ r. every-all Node (getD (rowsOf j) r noRow .guards) (fit r .0);
+  conditions = λ r. every-all Condition (getD (rowsOf j) r noRow .terms) (fit r .1);
+  thresholds = placed (rowsOf j) (j .thresholds) few (f .each) (all-there (j .thresholds) []);
+  edges = λ n. edges-from n 0 (rowsOf j) 1024 (omega (arith, few));
+  linked = λ r. linked-rows (rowsOf j) 1024 r few;
+}
+  where
+    fit : (r : ℕ) → RowFits (getD (rowsOf j) r noRow)
+    fit = every-at RowFits noRow (rowsOf j) (tt, tt) (all-fit (j .thresholds) [] (f .each) tt)
+
+    few : length (rowsOf j) ≤ 1024
+    few = rows-few j f
+
+-- ---- the seal
+
+first-states : (r : ℕ) (rs : List Row) (ss : List State) → AllBounded ss → AllBounded (firstStates r rs ss)
+unfolding firstStates
+first-states r [] ss h = h
+first-states r (x ∷ xs) ss h =
+    first-states (r + 1) xs (set ss r (stateOfRow x)) (set-bounded ss r (stateOfRow x) h (first-bounded (total (x .terms)) (length (x .guards))))
+
+first-long : (r : ℕ) (rs : List Row) (ss : List State) → length (firstStates r rs ss) ≡ length ss
+unfolding firstStates
+first-long r [] ss = refl
+first-long r (x ∷ xs) ss = first-long (r + 1) xs (set ss r (stateOfRow x)) ∙ length-set ss r (stateOfRow x)
+
+seed-sound : (x : Index) → Indexed x → (r : ℕ) (rs : List Row) (v : Live) (k : Step) → r + length rs ≤ 1024 → Sound v → Sound (seedFrom x r rs v k .live)
+unfolding seedFrom
+seed-sound x ix r [] v k h s = s
+seed-sound x ix r (y ∷ rs) v k h s =
+    by (seed-sound x ix (r + 1) rs (runRow x v r .live) (joined k (runRow x v r .step)) (omega arith) after) (contradicts (runRow x v r .step))
+  where
+    after : Sound (runRow x v r .live)
+    after = run-row x ix v r s (omega arith) .go .sound
+
+    by : Sound (seedFrom x (r + 1) rs (runRow x v r .live) (joined k (runRow x v r .step)) .live) → (b : Bool)
+        → let d : Did = elim b [ true ↦ did (runRow x v r .live) Contradiction | false ↦ seedFrom x (r + 1) rs (runRow x v r .live) (joined k (runRow x v r .step)) ] in Sound (d .live)
+    by ih true = after
+    by ih false = ih
+
+-- A SEAL LEAVES SOUND VALUES
+pub seal-sound : (j : Job) → Fits j → (v : Live) → Sound v → Sound (seal (indexOf j) v .live)
+unfolding seal
+seal-sound j f v s =
+    seed-sound (indexOf j) (indexed j f) 0 (rowsOf j) (live (firstStates 0 (rowsOf j) (v .states)) (v .marks) (v .dirty) (v .residuals)) Unchanged
+    (omega (arith, rows-few j f))
+    (record {
+      long = first-long 0 (rowsOf j) (v .states) ∙ s .long;
+      states = first-states 0 (rowsOf j) (v .states) (s .states);
+      waits = s .waits;
+      dirty = s .dirty;
+      residuals = s .residuals;
+    })

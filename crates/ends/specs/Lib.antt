@@ -1,0 +1,7 @@
+pub mod Left
+pub mod Rooms
+pub mod Keeps
+pub mod Turns
+pub mod Settles
+pub mod Built
+pub mod Files

@@ -1,0 +1,1 @@
+// A settling and a sifting end because nothing waits any more: theorems, no code.
