@@ -1,2 +1,4 @@
 pub mod Turns
 pub mod Tried
+pub mod Sifts
+pub mod Seals
