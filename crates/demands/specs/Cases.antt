@@ -1,8 +1,8 @@
 -- The cases P1 to P12 of document 01, rows of one table under one theorem, proved by computing the definitions.
 use Prim.Native.Nat.{ℕ, zero, suc, _+_, _-_, _/_, _%_, _^_}
 use Prim.Native.String.{String}
-use mathlib.Core.Path.{_≡_, refl, sym, ap, _∙_, subst⁻¹}
-use mathlib.Core.Bool.{Bool, true, false, cond}
+use mathlib.Core.Path.{_≡_, refl, subst⁻¹}
+use mathlib.Core.Bool.{Bool, true, false}
 use mathlib.Core.List.{List, [], _∷_, _++_, List·Memᴰ, List·Memᴰ·cases-cons, List·Memᴰ·not-nil}
 use mathlib.Core.Logic.{_⊎_, ⊎-elim}
 use lib.IntN.{ℤ, pos, negsuc}
@@ -12,7 +12,6 @@ use Rattle.state.specs.declared.Step.{Step}
 use Rattle.state.specs.declared.Step.the-variants.{Unchanged, Changed, Contradiction}
 use Rattle.state.specs.declared.State.{State}
 use Rattle.state.specs.declared.Upper.the-variants.{Open, Under}
-use Rattle.state.specs.Step as Steps
 use Rattle.state.specs.State as States
 use Rattle.words.specs.Mask as Mask
 use Rattle.words.specs.Shift as Shift
@@ -24,7 +23,7 @@ use Rattle.prefixes.specs.Links as Links
 use Rattle.residual.specs.Gcd as Gcd
 use Rattle.residual.specs.Residual as Residuals
 use Rattle.possible_sums.specs.declared.Search.{Search}
-use Rattle.possible_sums.specs.declared.Search.the-variants.{Skipped, Fits, Nothing, Cut}
+use Rattle.possible_sums.specs.declared.Search.the-variants.{Cut}
 use Rattle.possible_sums.specs.Search as Searches
 use Rattle.propagate.specs.Scan as Scan
 use Rattle.propagate.specs.Row as Row

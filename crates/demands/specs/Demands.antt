@@ -1,16 +1,16 @@
 -- THE DEMANDS of the mission, and the clauses a and c of document 01, as statements over the definitions.
 -- They are what the proofs of this repository are for. A statement is met when a term of its type stands in a crate.
-use Prim.Native.Nat.{ℕ, _+_, _*_, _<_, _≤_}
+use Prim.Native.Nat.{ℕ, _+_, _*_, _≤_}
 use mathlib.Core.Path.{_≡_}
-use mathlib.Core.Bool.{Bool, true, false, cond, not}
+use mathlib.Core.Bool.{Bool, true, false}
 use mathlib.Core.List.{List, [], _∷_, _++_, List·Memᴰ}
 use mathlib.Core.Logic.{_⊎_, _≢_, _↔_}
 use lib.ListN.{length, take}
 use lib.Dec.{eqb}
-use Rattle.numeric.specs.Threshold.{Term, Job}
+use Rattle.numeric.specs.Threshold.{Term}
 use Rattle.numeric.specs.Layout.{Layout, IsLayout}
 use Rattle.state.specs.declared.Step.{Step}
-use Rattle.state.specs.declared.Step.the-variants.{Unchanged, Changed, Contradiction}
+use Rattle.state.specs.declared.Step.the-variants.{Unchanged, Contradiction}
 use Rattle.state.specs.declared.State.{State}
 use Rattle.words.specs.Mask.{bit}
 use Rattle.queues.specs.Queue.{isEmpty}
@@ -18,15 +18,15 @@ use Rattle.row.specs.Terms.{rowTerms}
 use Rattle.thresholds.specs.Rows.{Row, rowsOf}
 use Rattle.possible_sums.specs.declared.Window.{Window}
 use Rattle.possible_sums.specs.declared.Plan.the-variants.{Planned}
-use Rattle.possible_sums.specs.declared.Search.the-variants.{Skipped, Fits, Nothing, Cut}
+use Rattle.possible_sums.specs.declared.Search.the-variants.{Fits, Nothing, Cut}
 use Rattle.possible_sums.specs.Search.{plan, search, searchStep, Lands}
 use Rattle.table.specs.Table.{Table, Conflict, Run, steps, ReachesConflict, AtRest, Ended}
 use Rattle.regions.specs.Drain.{atRest}
 use Rattle.planner.specs.Record.{Record, seal, mark, settle, sift}
-use Rattle.planner.specs.File.{File, Answer, settled, sifted, begun, apply, after, refusal, planned}
+use Rattle.planner.specs.File.{File, sifted, begun, apply, after, planned}
 use Rattle.memory.specs.Buffers.{Work, fits}
-use Rattle.planner.specs.Contents.{Out, whole}
-use Rattle.demands.specs.Reading.{Marked, SameMarks, Agrees, NoSift, decidedIn, decidedAnd, marksOnly, SameEnd, SameFigures, Decoded, records, decoded, plainlyAll, Passes}
+use Rattle.planner.specs.Contents.{whole}
+use Rattle.demands.specs.Reading.{SameMarks, Agrees, NoSift, decidedIn, decidedAnd, marksOnly, SameEnd, SameFigures, records, decoded, plainlyAll, Passes}
 
 -- DEMAND 1. The program as a whole takes each record or refuses it by one of ten numbers, and always ends. After a refused
 -- record all lent memory is as if the file had ended just before it. (That it makes every check itself is the public call's

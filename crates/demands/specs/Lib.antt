@@ -3,4 +3,8 @@ pub mod Reading
 pub mod Demands
 pub mod RefusalLaws
 pub mod ShutOutLaws
+pub mod MemoryLaws
+pub mod SizeLaws
+pub mod KeptLaws
+pub mod LengthLaws
 pub mod Met

@@ -16,8 +16,10 @@ use Rattle.possible_sums.specs.Search.{plan, search, searchStep, Lands}
 use Rattle.possible_sums.specs.SearchLaws as SearchLaws
 use Rattle.planner.specs.Record.{settle}
 use Rattle.ends.specs.Files as Files
-use Rattle.demands.specs.Demands.{Demand1, ClauseC}
+use Rattle.demands.specs.Demands.{Demand1, ClauseA, ClauseC}
 use Rattle.demands.specs.RefusalLaws as Refusals
+use Rattle.demands.specs.MemoryLaws as Memory
+use Rattle.demands.specs.LengthLaws as Lengths
 use Rattle.demands.specs.ShutOutLaws as ShutOut
 
 -- DEMAND 1, whole
@@ -31,6 +33,10 @@ demand1 = record {
   ends = Files.ends;
   sift-ends = Files.sift-ends;
 }
+
+-- CLAUSE A, whole
+pub clauseA : ClauseA
+clauseA = record { memory = Memory.memory; lengths = Lengths.lengths }
 
 -- CLAUSE C, whole
 pub clauseC : ClauseC
