@@ -7,7 +7,7 @@ use mathlib.Core.List.{List, [], _∷_, _++_, List·Memᴰ}
 use mathlib.Core.Logic.{_⊎_, _≢_, _↔_}
 use lib.ListN.{length, take}
 use lib.Dec.{eqb}
-use Rattle.numeric.specs.Threshold.{Term}
+use Rattle.numeric.specs.Threshold.{Term, Threshold}
 use Rattle.numeric.specs.Layout.{Layout, IsLayout}
 use Rattle.state.specs.declared.Step.{Step}
 use Rattle.state.specs.declared.Step.the-variants.{Unchanged, Contradiction}
@@ -25,8 +25,12 @@ use Rattle.regions.specs.Drain.{atRest}
 use Rattle.planner.specs.Record.{Record, seal, mark, settle, sift}
 use Rattle.planner.specs.File.{File, sifted, begun, apply, after, planned}
 use Rattle.memory.specs.Buffers.{Work, fits}
-use Rattle.planner.specs.Contents.{whole}
-use Rattle.demands.specs.Reading.{SameMarks, Agrees, NoSift, decidedIn, decidedAnd, marksOnly, SameEnd, SameFigures, records, decoded, plainlyAll, Passes}
+use Rattle.planner.specs.Contents.{Out, served, whole}
+use Rattle.demands.specs.Reading.{Marked, SameMarks, Agrees, NoSift, decidedIn, decidedAnd, marksOnly, SameEnd, SameFigures, records, decoded, plainlyAll, Passes}
+
+-- What the call gave, but for its refusal.
+abbrev pub accepted : Out → Out
+accepted o = record { refused = 0; at = o .at; sealed = o .sealed; nodes = o .nodes; rows = o .rows; answered = o .answered; work = o .work }
 
 -- DEMAND 1. The program as a whole takes each record or refuses it by one of ten numbers, and always ends. After a refused
 -- record all lent memory is as if the file had ended just before it. (That it makes every check itself is the public call's
@@ -36,7 +40,7 @@ pub record Demand1 : Type 0 where
   pub numbers : (input : List ℕ) (w : Work) → whole input w .refused ≤ 10
   -- a refusal other than 10: everything but the refusal is that of the file cut at its offset, which is accepted
   pub refused : (input : List ℕ) (w : Work) → whole input w .refused ≢ 0 → whole input w .refused ≢ 10
-      → (whole (take (whole input w .at) input) w .refused ≡ 0) × (whole (take (whole input w .at) input) w .work ≡ whole input w .work)
+      → whole (take (whole input w .at) input) w ≡ accepted (whole input w)
   -- 10 is given exactly if a buffer is too short or the input too long; its offset is 0 and it touches nothing
   pub ten : (input : List ℕ) (w : Work) → (whole input w .refused ≡ 10) ↔ (fits input w ≡ false)
   pub ten-touches-nothing : (input : List ℕ) (w : Work) → whole input w .refused ≡ 10 → (whole input w .at ≡ 0) × (whole input w .work ≡ w)
@@ -138,24 +142,27 @@ pub record SameLengths (v w : Work) : Type 0 where
 pub record ClauseA : Type 0 where
   pub memory : (input : List ℕ) (v w : Work) → SameLengths v w → fits input v ≡ true → whole input v ≡ whole input w
   pub lengths : (input : List ℕ) (w : Work) → SameLengths (whole input w .work) w
+  -- what demands 2 and 3 say of a file they say of what the call gives and leaves in memory
+  pub files : (input : List ℕ) (w : Work) → fits input w ≡ true → whole input w ≡ served (planned input) w
 
 -- CLAUSE C. Planners that are shut out. Each line says what such a planner would do on all files, and that this one does not.
 pub record ClauseC : Type 0 where
   -- one that cuts each search short before a visit: no sift would have visits
   pub cuts-each-search : ((input : List ℕ) (k : Step) (n : ℕ) → List·Memᴰ (sifted k n) (planned input .file .answers) → n ≡ 0) → ⊥
-  -- one that invents visits: a search has no more than 4 for each term, and a sift's visits are 0 or those of a search
+  -- one that invents visits: a search has no more than 4 for each term, and a sift's visits are 0 or those of a search of a row
+  -- of its job
   pub invents-visits : (raw : List Term) (s : State) (d : ℕ → Bool) (n : ℕ)
       → (search (rowTerms raw) s d ≡ Fits n) ⊎ ((search (rowTerms raw) s d ≡ Nothing n) ⊎ (search (rowTerms raw) s d ≡ Cut n)) → n ≤ 4 * length (rowTerms raw)
   pub sift-visits : (input : List ℕ) (k : Step) (n : ℕ) → List·Memᴰ (sifted k n) (planned input .file .answers)
-      → (n ≡ 0) ⊎ ((raw : List Term) × (s : State) × (d : ℕ → Bool)
-      × ((search (rowTerms raw) s d ≡ Fits n) ⊎ ((search (rowTerms raw) s d ≡ Nothing n) ⊎ (search (rowTerms raw) s d ≡ Cut n))))
+      → (n ≡ 0) ⊎ ((t : Threshold) × List·Memᴰ t (planned input .file .job .thresholds) × (s : State) × (d : ℕ → Bool)
+      × ((search (rowTerms (t .terms)) s d ≡ Fits n) ⊎ ((search (rowTerms (t .terms)) s d ≡ Nothing n) ⊎ (search (rowTerms (t .terms)) s d ≡ Cut n))))
   -- one that drains a single node per settling: Demand 1's `ends`, at a file in which several wait
   pub drains-one-node : (input : List ℕ) (before later : List Record) → planned input .records ≡ before ++ (settle ∷ later)
       → after begun (before ++ (settle ∷ [])) .contradicted ≡ false → atRest (after begun (before ++ (settle ∷ [])) .live) ≡ true
-  -- one that leaves all nodes undecided
-  pub leaves-all-undecided : ((input : List ℕ) (n : ℕ) → bit (planned input .file .live .marks .sure) n ≡ false) → ⊥
+  -- one that leaves all nodes undecided: some node is sure that no mark made sure
+  pub leaves-all-undecided : ((input : List ℕ) (n : ℕ) → bit (planned input .file .live .marks .sure) n ≡ true → Marked (planned input .records) n true) → ⊥
   -- one that always contradicts
   pub always-contradicts : ((input : List ℕ) (before later : List Record) → planned input .records ≡ before ++ (settle ∷ later)
       → after begun (before ++ (settle ∷ [])) .contradicted ≡ true) → ⊥
-  -- one that refuses each file
-  pub refuses-each-file : ((input : List ℕ) → input ≢ [] → planned input .refused ≢ 0) → ⊥
+  -- one that refuses each file: over some memory one that is not empty is accepted
+  pub refuses-each-file : ((input : List ℕ) (w : Work) → input ≢ [] → whole input w .refused ≢ 0) → ⊥

@@ -36,7 +36,7 @@ demand1 = record {
 
 -- CLAUSE A, whole
 pub clauseA : ClauseA
-clauseA = record { memory = Memory.memory; lengths = Lengths.lengths }
+clauseA = record { memory = Memory.memory; lengths = Lengths.lengths; files = Refusals.files }
 
 -- CLAUSE C, whole
 pub clauseC : ClauseC

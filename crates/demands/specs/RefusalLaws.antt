@@ -9,11 +9,13 @@ use mathlib.Core.List.{List, []}
 use mathlib.Core.Logic.{_⊎_, inl, inr, ⊎-elim, _≢_, _↔_}
 use lib.ListN.{length, take, length-take}
 use lib.Dec.{ltb, leb}
-use borrow.Author.Tests.{leb-true, le-leb}
+use borrow.Author.Tests.{leb-true, le-leb, le-ltb}
 use Rattle.memory.specs.Buffers.{Work, fits, fitsRaw, fitsBuilt, fitsKept}
 use Rattle.planner.specs.File.{Outcome, outcome, fileOf, begun, after, planned, readFrom}
 use Rattle.planner.specs.FileLaws.{read-up-to, read-taken, read-enough, read-cut}
+use Rattle.memory.specs.Lengths.{fits-input}
 use Rattle.planner.specs.Contents.{Out, served, untouched, whole}
+use Rattle.demands.specs.Demands.{accepted}
 
 pub numbers : (input : List ℕ) (w : Work) → whole input w .refused ≤ 10
 unfolding whole fileOf
@@ -86,18 +88,28 @@ cut-file input h =
     read-enough (length (take a input)) (length input) 0 (take a input) begun [] (le-refl (length (take a input))) (omega arith)
     ∙ ap (λ (k : ℕ). readFrom (length input) 0 (take k input) begun []) (sym z) ∙ c .1
 
+-- A REFUSED RECORD LEAVES WHAT THE FILE CUT BEFORE IT LEAVES
 pub refused : (input : List ℕ) (w : Work) → whole input w .refused ≢ 0 → whole input w .refused ≢ 10
-    → (whole (take (whole input w .at) input) w .refused ≡ 0) × (whole (take (whole input w .at) input) w .work ≡ whole input w .work)
+    → whole (take (whole input w .at) input) w ≡ accepted (whole input w)
 refused input w h k =
     ⊎-elim
     (λ (e : fits input w ≡ true).
     let q = served-when input w e in
     let a = fileOf input .at in
-    let p : whole input w .at ≡ a = ap (λ (o : Out). o .at) q in
     let c = cut-file input (λ z. h (ap (λ (o : Out). o .refused) q ∙ z)) in
     let t = length-take a input in
-    let r = served-when (take a input) w (shorter-fits (take a input) input w (omega arith) e) ∙ ap (λ (o : Outcome). served o w) c in (
-      ap (λ (n : ℕ). whole (take n input) w .refused) p ∙ ap (λ (o : Out). o .refused) r,
-      ap (λ (n : ℕ). whole (take n input) w .work) p ∙ ap (λ (o : Out). o .work) r ∙ sym (ap (λ (o : Out). o .work) q),
-    ))
+    ap (λ (o : Out). whole (take (o .at) input) w) q
+    ∙ served-when (take a input) w (shorter-fits (take a input) input w (omega arith) e) ∙ ap (λ (o : Outcome). served o w) c
+    ∙ ap accepted (sym q))
     (λ (e : fits input w ≡ false). absurd (k (ap (λ (o : Out). o .refused) (untouched-when input w e)))) (true-or-false (fits input w))
+
+-- Over memory that fits, the file is read.
+pub planned-file : (input : List ℕ) → length input ≤ 65536 → planned input ≡ fileOf input
+unfolding planned
+planned-file input h = ap (λ (b : Bool). by b) (le-ltb 65536 (length input) h)
+  where
+    by : Bool → Outcome
+    by b = elim b [ true ↦ outcome begun [] 10 0 | false ↦ fileOf input ]
+
+pub files : (input : List ℕ) (w : Work) → fits input w ≡ true → whole input w ≡ served (planned input) w
+files input w e = served-when input w e ∙ ap (λ (o : Outcome). served o w) (sym (planned-file input (fits-input input w e)))

@@ -1,13 +1,14 @@
--- CLAUSE C: the planners that are shut out. A sift's visits are 0 or those of a search of some row; files A and B do the rest.
+-- CLAUSE C: the planners that are shut out. A sift's visits are 0 or those of a search of a row of its job; files A and B do the rest.
 use Prim.Native.Nat.{ℕ, zero, suc}
 use native.Mathlib.Omega.{arith}
 use mathlib.Core.Path.{_≡_, refl, sym, ap, _∙_, subst}
-use mathlib.Core.Bool.{Bool, true, false}
+use mathlib.Core.Bool.{Bool, true, false, _||_, not}
 use mathlib.Core.List.{List, [], _∷_, _++_, List·Memᴰ, List·Memᴰ·head, List·Memᴰ·tail, List·Memᴰ·cases-cons, List·Memᴰ·not-nil}
 use mathlib.Core.Logic.{_⊎_, inl, inr, ⊎-elim, _≢_}
-use lib.ListN.{length, getD}
+use lib.ListN.{length, getD, replicate}
+use lib.Dec.{eqb}
 use lib.IntN.{pos}
-use Rattle.numeric.specs.Threshold.{Term, Job}
+use Rattle.numeric.specs.Threshold.{Term, Threshold, Job}
 use Rattle.state.specs.declared.Step.{Step}
 use Rattle.state.specs.declared.Step.the-variants.{Unchanged, Changed, Contradiction}
 use Rattle.state.specs.declared.State.{State}
@@ -15,24 +16,51 @@ use Rattle.state.specs.Step.{joined, contradicts, isUnchanged}
 use Rattle.words.specs.Mask.{bit}
 use Rattle.queues.specs.Queue.{isEmpty, oldest, nextRow}
 use Rattle.queues.specs.Marks.{isDecided}
-use Rattle.row.specs.Terms.{merged, sorted, rowTerms}
+use Rattle.row.specs.Terms.{rowTerms, sameTerms}
 use Rattle.row.specs.TermsLaws.{All as Every}
-use Rattle.thresholds.specs.Rows.{Row, noRow, rowsOf}
-use Rattle.thresholds.specs.RowsLaws.{Made, all-made}
+use Rattle.thresholds.specs.Rows.{Row, rowOf, noRow, guard, insertGuard, place, placeAll, rowsOf, hasNonunit}
 use Rattle.residual.specs.Residual.{Residual, thresholdResidual}
 use Rattle.possible_sums.specs.declared.Search.{Search}
 use Rattle.possible_sums.specs.declared.Search.the-variants.{Skipped, Fits, Nothing, Cut}
-use Rattle.possible_sums.specs.Search.{search, searchStep, searchVisits}
+use Rattle.possible_sums.specs.Search.{plan, search, searchStep, searchVisits}
 use Rattle.between.specs.Between.{Live, live, Did, stateAt}
 use Rattle.regions.specs.Drain.{indexOf}
 use Rattle.regions.specs.Drain as Drain
 use Rattle.regions.specs.Sift.{Sifted, tryRow, siftFrom}
 use Rattle.regions.specs.Sift as Sift
 use Rattle.planner.specs.Record.{Record, header, opens, adds, areas, seal, mark, settle, sift, unknown}
-use Rattle.planner.specs.File.{File, Answer, settled, sifted, begun, apply, settledFile, siftedFile, after, planned}
-use Rattle.planner.specs.Contents.{answerVisits}
-use Rattle.demands.specs.RefusalLaws.{taken}
+use Rattle.planner.specs.File.{File, Answer, settled, sifted, begun, isEmptyList, wrongTurn, noSuchNode, notRising, badBound, badValue, tooMany, check, first, refusal, apply, settledFile, siftedFile, after, planned}
+use Rattle.memory.specs.Buffers.{Work, fits}
+use Rattle.planner.specs.Contents.{answerVisits, Out, whole}
+use Rattle.ends.specs.Files.{Passed, planned-passed}
+use Rattle.demands.specs.Reading.{Marked}
+use Rattle.demands.specs.RefusalLaws.{taken, files}
 use Rattle.demands.specs.Cases.{Right, takes, forces, file-A, file-B, writtenAll, written, bytes, shown-right}
+
+-- ---- THE ROWS OF A JOB: each has the terms of a threshold
+
+abbrev From : List Threshold → Row → Type 0
+From ts r = (t : Threshold) × List·Memᴰ t ts × (r .terms ≡ rowTerms (t .terms))
+
+place-from : (ts : List Threshold) (t : Threshold) (rs : List Row) → List·Memᴰ t ts → Every (From ts) rs → Every (From ts) (place t rs)
+unfolding place
+place-from ts t [] m a = ((t, m, refl), tt)
+place-from ts t (r ∷ rs) m a = by (place-from ts t rs m (a .1)) (sameTerms (r .raw) (t .terms))
+  where
+    by : Every (From ts) (place t rs) → (b : Bool)
+        → Every (From ts) (elim b [ true ↦ rowOf (r .raw) (r .terms) (insertGuard (guard (t .bound) (t .node)) (r .guards)) ∷ rs | false ↦ r ∷ place t rs ])
+    by ih true = (a .0, a .1)
+    by ih false = (a .0, ih)
+
+all-from : (ts us : List Threshold) (rs : List Row) → ((t : Threshold) → List·Memᴰ t us → List·Memᴰ t ts) → Every (From ts) rs → Every (From ts) (placeAll us rs)
+unfolding placeAll
+all-from ts [] rs m a = a
+all-from ts (t ∷ us) rs m a = all-from ts us (place t rs) (λ u i. m u (List·Memᴰ·tail i)) (place-from ts t rs (m t (List·Memᴰ·head refl)) a)
+
+from-at : (ts : List Threshold) (rs : List Row) → Every (From ts) rs → (r : ℕ) → (getD rs r noRow .terms ≡ []) ⊎ From ts (getD rs r noRow)
+from-at ts [] a r = inl refl
+from-at ts (x ∷ rs) a zero = inr (a .0)
+from-at ts (x ∷ rs) a (suc r) = from-at ts rs (a .1) r
 
 -- ---- THE VISITS OF A SIFT
 
@@ -40,47 +68,59 @@ use Rattle.demands.specs.Cases.{Right, takes, forces, file-A, file-B, wr
 abbrev Ended : Search → ℕ → Type 0
 Ended b n = (b ≡ Fits n) ⊎ ((b ≡ Nothing n) ⊎ (b ≡ Cut n))
 
-abbrev Visited : ℕ → Type 0
-Visited n = (n ≡ 0) ⊎ ((raw : List Term) × (s : State) × (d : ℕ → Bool) × Ended (search (rowTerms raw) s d) n)
+-- 0, or the visits of a search of one of the job's rows.
+abbrev Visited : Job → ℕ → Type 0
+Visited j n = (n ≡ 0) ⊎ ((t : Threshold) × List·Memᴰ t (j .thresholds) × (s : State) × (d : ℕ → Bool) × Ended (search (rowTerms (t .terms)) s d) n)
 
--- The terms of every row are those of a raw list.
-made-at : (rs : List Row) → Made rs → (r : ℕ) → getD rs r noRow .terms ≡ rowTerms (getD rs r noRow .raw)
-unfolding merged sorted
-made-at [] m r = refl
-made-at (x ∷ rs) m zero = m .0
-made-at (x ∷ rs) m (suc r) = made-at rs (m .1) r
-
-searched : (ts raw : List Term) → ts ≡ rowTerms raw → (s : State) (d : ℕ → Bool) (visits : ℕ) → Visited visits → Visited (searchVisits visits (search ts s d))
-searched ts raw e s d visits v = by (search ts s d) (ap (λ (l : List Term). search l s d) (sym e))
-  where
-    by : (b : Search) → search (rowTerms raw) s d ≡ b → Visited (searchVisits visits b)
-    by Skipped q = v
-    by (Fits n) q = inr (raw, s, d, inl q)
-    by (Nothing n) q = inr (raw, s, d, inr (inl q))
-    by (Cut n) q = inr (raw, s, d, inr (inr q))
+-- Where no terms are, none is begun.
+skipped : (s : State) (d : ℕ → Bool) → search [] s d ≡ Skipped
+unfolding search plan hasNonunit
+skipped s d = refl
 
 module _ (j : Job) where
-  tried : (v : Live) (gcds : List ℕ) (visits : ℕ) → Visited visits → Visited (tryRow (indexOf j) v gcds visits .visits)
+  searched : (ts : List Term) (t : Threshold) → List·Memᴰ t (j .thresholds) → ts ≡ rowTerms (t .terms) → (s : State) (d : ℕ → Bool) (visits : ℕ) → Visited j visits
+      → Visited j (searchVisits visits (search ts s d))
+  searched ts t m e s d visits v = by (search ts s d) (ap (λ (l : List Term). search l s d) (sym e))
+    where
+      by : (b : Search) → search (rowTerms (t .terms)) s d ≡ b → Visited j (searchVisits visits b)
+      by Skipped q = v
+      by (Fits n) q = inr (t, m, s, d, inl q)
+      by (Nothing n) q = inr (t, m, s, d, inr (inl q))
+      by (Cut n) q = inr (t, m, s, d, inr (inr q))
+
+  searched-row : (r : ℕ) (s : State) (d : ℕ → Bool) (visits : ℕ) → Visited j visits → Visited j (searchVisits visits (search (getD (rowsOf j) r noRow .terms) s d))
+  searched-row r s d visits v = by (from-at (j .thresholds) (rowsOf j) (all-from (j .thresholds) (j .thresholds) [] (λ t i. i) tt) r)
+    where
+      row : Row
+      row = getD (rowsOf j) r noRow
+
+      by : (row .terms ≡ []) ⊎ From (j .thresholds) row → Visited j (searchVisits visits (search (row .terms) s d))
+      by (inl e) = subst (λ (b : Search). Visited j (searchVisits visits b)) (sym (ap (λ (l : List Term). search l s d) e ∙ skipped s d)) v
+      by (inr (t, m, e)) = searched (row .terms) t m e s d visits v
+
+  tried : (v : Live) (gcds : List ℕ) (visits : ℕ) → Visited j visits → Visited j (tryRow (indexOf j) v gcds visits .visits)
   unfolding tryRow
   tried v gcds visits h = by (isUnchanged (a .step))
     where
       r : ℕ
       r = oldest (v .residuals .queue)
 
-      row : Row
-      row = getD (rowsOf j) r noRow
+      ts : List Term
+      ts = getD (rowsOf j) r noRow .terms
 
       a : Residual
-      a = thresholdResidual (row .terms) (stateAt v r) (v .marks) gcds
+      a = thresholdResidual ts (stateAt v r) (v .marks) gcds
 
       w : Live
       w = live (v .states) (a .marks) (v .dirty) (nextRow (v .residuals))
 
       b : Search
-      b = search (row .terms) (stateAt v r) (isDecided (a .marks))
+      b = search ts (stateAt v r) (isDecided (a .marks))
 
-      by : (c : Bool) → let d : Sifted = elim c [ true ↦ Sift.sifted w (a .gcds) (searchStep b) (searchVisits visits b) | false ↦ Sift.sifted w (a .gcds) (a .step) visits ] in Visited (d .visits)
-      by true = searched (row .terms) (row .raw) (made-at (rowsOf j) (all-made (j .thresholds) [] tt) r) (stateAt v r) (isDecided (a .marks)) visits h
+      by : (c : Bool)
+          → let d : Sifted = elim c [ true ↦ Sift.sifted w (a .gcds) (searchStep b) (searchVisits visits b) | false ↦ Sift.sifted w (a .gcds) (a .step) visits ] in
+          Visited j (d .visits)
+      by true = searched-row r (stateAt v r) (isDecided (a .marks)) visits h
       by false = h
 
   -- One turn of a sift: it ends, or goes on.
@@ -96,7 +136,7 @@ module _ (j : Job) where
         ]
       ]
 
-  sifting : (n : ℕ) (v : Live) (gcds : List ℕ) (k : Step) (visits : ℕ) → Visited visits → Visited (siftFrom n (indexOf j) v gcds k visits .visits)
+  sifting : (n : ℕ) (v : Live) (gcds : List ℕ) (k : Step) (visits : ℕ) → Visited j visits → Visited j (siftFrom n (indexOf j) v gcds k visits .visits)
   unfolding siftFrom
   sifting zero v gcds k visits h = h
   sifting (suc n) v gcds k visits h =
@@ -105,56 +145,108 @@ module _ (j : Job) where
       d : Did
       d = Drain.settle (indexOf j) v
 
-      by : ((u : Live) (g : List ℕ) (i : Step) (m : ℕ) → Visited m → Visited (siftFrom n (indexOf j) u g i m .visits)) → (a b c : Bool) → Visited (goes n v gcds k visits a b c .visits)
+      by : ((u : Live) (g : List ℕ) (i : Step) (m : ℕ) → Visited j m → Visited j (siftFrom n (indexOf j) u g i m .visits)) → (a b c : Bool)
+          → Visited j (goes n v gcds k visits a b c .visits)
       by ih true b c = h
       by ih false true c = h
       by ih false false true = tried (d .live) gcds visits h
       by ih false false false = ih _ _ _ _ (tried (d .live) gcds visits h)
 
--- All answers of a file.
-abbrev Honest : List Answer → Type 0
-Honest = Every (λ (a : Answer). Visited (answerVisits a))
+-- ---- all answers of a file: none before the seal; after it the job stays as it is
 
-honest-last : (xs : List Answer) (a : Answer) → Honest xs → Visited (answerVisits a) → Honest (xs ++ (a ∷ []))
-honest-last [] a h v = (v, tt)
-honest-last (x ∷ xs) a h v = (h .0, honest-last xs a (h .1) v)
+abbrev Honest : Job → List Answer → Type 0
+Honest j = Every (λ (a : Answer). Visited j (answerVisits a))
 
-honest-apply : (f : File) (r : Record) → Honest (f .answers) → Honest (apply f r .answers)
+honest-last : (j : Job) (xs : List Answer) (a : Answer) → Honest j xs → Visited j (answerVisits a) → Honest j (xs ++ (a ∷ []))
+honest-last j [] a h v = (v, tt)
+honest-last j (x ∷ xs) a h v = (h .0, honest-last j xs a (h .1) v)
+
+pub data Told (f : File) : Type 0 where
+  unsealed : f .sealed ≡ false → f .answers ≡ [] → Told f
+  sealed : f .started ≡ true → f .sealed ≡ true → Honest (f .job) (f .answers) → Told f
+
+clash : {A : Type 0} → true ≡ false → A
+clash e = absurd (let z : _≡_ {A = ℕ} 0 1 = cc in omega arith)
+
+-- The turn of a record that is not refused.
+in-turn : (f : File) (r : Record) → refusal f r ≡ 0 → wrongTurn f r ≡ false
+unfolding refusal first
+in-turn f r h = by (wrongTurn f r) h
+  where
+    by : (b : Bool) → first (check b 3 ∷ check (f .contradicted) 9 ∷ check (noSuchNode f r) 5 ∷ check (notRising f r) 6 ∷ check (badBound r) 7 ∷ check (badValue r) 8 ∷ check (tooMany f r) 4 ∷ []) ≡ 0
+        → b ≡ false
+    by true e = absurd (omega arith)
+    by false e = refl
+
+-- Once sealed, no record that changes the job has its turn.
+closed : {A : Type 0} (a b c : Bool) → b ≡ true → (a || b || c) ≡ false → A
+closed true true c e h = clash h
+closed false true c e h = clash h
+closed a false c e h = clash (sym e)
+
+closed-last : {A : Type 0} (a b : Bool) → b ≡ true → (a || b) ≡ false → A
+closed-last true true e h = clash h
+closed-last false true e h = clash h
+closed-last a false e h = clash (sym e)
+
+begins : (a b : Bool) → (not a || b) ≡ false → a ≡ true
+begins true b h = refl
+begins false b h = clash h
+
+open-job : {A : Type 0} (b : Bool) → b ≡ false → not b ≡ false → A
+open-job true e h = clash e
+open-job false e h = clash h
+
+told-apply : (f : File) (r : Record) → wrongTurn f r ≡ false → Told f → Told (apply f r)
 unfolding apply settledFile siftedFile
-honest-apply f (header n) h = h
-honest-apply f (opens n b) h = h
-honest-apply f (adds c w) h = h
-honest-apply f (areas c a) h = h
-honest-apply f seal h = h
-honest-apply f (mark n v) h = h
-honest-apply f settle h = honest-last (f .answers) (settled (Drain.settle (indexOf (f .job)) (f .live) .step)) h (inl refl)
-honest-apply f sift h =
-    let s = Sift.sift (indexOf (f .job)) (f .live) (f .gcds) in
-    honest-last (f .answers) (sifted (s .step) (s .visits)) h (sifting (f .job) Drain.turns (f .live) (f .gcds) Unchanged 0 (inl refl))
-honest-apply f unknown h = h
+told-apply f (header n) t (unsealed e a) = unsealed refl a
+told-apply f (header n) t (sealed s e a) = clash (sym s ∙ t)
+told-apply f (opens n b) t (unsealed e a) = unsealed e a
+told-apply f (opens n b) t (sealed s e a) = closed-last (not (f .started)) (f .sealed) e t
+told-apply f (adds c w) t (unsealed e a) = unsealed e a
+told-apply f (adds c w) t (sealed s e a) = closed (not (f .started)) (f .sealed) (isEmptyList (f .job .thresholds)) e t
+told-apply f (areas c w) t (unsealed e a) = unsealed e a
+told-apply f (areas c w) t (sealed s e a) = closed (not (f .started)) (f .sealed) (isEmptyList (f .job .thresholds)) e t
+told-apply f seal t (unsealed e a) = sealed (begins (f .started) (f .sealed) t) refl (subst (Honest (f .job)) (sym a) tt)
+told-apply f seal t (sealed s e a) = closed-last (not (f .started)) (f .sealed) e t
+told-apply f (mark n v) t (unsealed e a) = open-job (f .sealed) e t
+told-apply f (mark n v) t (sealed s e a) = sealed s refl a
+told-apply f settle t (unsealed e a) = open-job (f .sealed) e t
+told-apply f settle t (sealed s e a) =
+    sealed s refl (honest-last (f .job) (f .answers) (settled (Drain.settle (indexOf (f .job)) (f .live) .step)) a (inl refl))
+told-apply f sift t (unsealed e a) = open-job (f .sealed) e t
+told-apply f sift t (sealed s e a) =
+    let g = Sift.sift (indexOf (f .job)) (f .live) (f .gcds) in
+    sealed s refl
+    (honest-last (f .job) (f .answers) (sifted (g .step) (g .visits)) a (sifting (f .job) Drain.turns (f .live) (f .gcds) Unchanged 0 (inl refl)))
+told-apply f unknown t (unsealed e a) = unsealed e a
+told-apply f unknown t (sealed s e a) = sealed s e a
 
-honest-after : (f : File) (rs : List Record) → Honest (f .answers) → Honest (after f rs .answers)
+told-after : (f : File) (rs : List Record) → Passed f rs → Told f → Told (after f rs)
 unfolding after
-honest-after f [] h = h
-honest-after f (r ∷ rs) h = honest-after (apply f r) rs (honest-apply f r h)
+told-after f [] p t = t
+told-after f (r ∷ rs) p t = told-after (apply f r) rs (p .1) (told-apply f r (in-turn f r (p .0)) t)
 
-honest-begun : Honest (begun .answers)
+told-begun : Told begun
 unfolding begun
-honest-begun = tt
+told-begun = unsealed refl refl
 
-honest-mem : (xs : List Answer) → Honest xs → (k : Step) (n : ℕ) → List·Memᴰ (sifted k n) xs → Visited n
-honest-mem [] h k n m = absurd (List·Memᴰ·not-nil m)
-honest-mem (x ∷ xs) h k n m =
-    ⊎-elim (λ (e : sifted k n ≡ x). subst (λ (a : Answer). Visited (answerVisits a)) (sym e) (h .0)) (λ (i : List·Memᴰ (sifted k n) xs). honest-mem xs (h .1) k n i)
-    (List·Memᴰ·cases-cons m)
+honest-mem : (j : Job) (xs : List Answer) → Honest j xs → (k : Step) (n : ℕ) → List·Memᴰ (sifted k n) xs → Visited j n
+honest-mem j [] h k n m = absurd (List·Memᴰ·not-nil m)
+honest-mem j (x ∷ xs) h k n m =
+    ⊎-elim (λ (e : sifted k n ≡ x). subst (λ (a : Answer). Visited j (answerVisits a)) (sym e) (h .0))
+    (λ (i : List·Memᴰ (sifted k n) xs). honest-mem j xs (h .1) k n i) (List·Memᴰ·cases-cons m)
 
--- A SIFT'S VISITS ARE 0 OR THOSE OF A SEARCH OF SOME ROW
+told-mem : (f : File) → Told f → (k : Step) (n : ℕ) → List·Memᴰ (sifted k n) (f .answers) → Visited (f .job) n
+told-mem f (unsealed e a) k n m = absurd (List·Memᴰ·not-nil (subst (λ (l : List Answer). List·Memᴰ (sifted k n) l) a m))
+told-mem f (sealed s e a) k n m = honest-mem (f .job) (f .answers) a k n m
+
+-- A SIFT'S VISITS ARE 0 OR THOSE OF A SEARCH OF A ROW OF ITS JOB
 pub sift-visits : (input : List ℕ) (k : Step) (n : ℕ) → List·Memᴰ (sifted k n) (planned input .file .answers)
-    → (n ≡ 0) ⊎ ((raw : List Term) × (s : State) × (d : ℕ → Bool)
-    × ((search (rowTerms raw) s d ≡ Fits n) ⊎ ((search (rowTerms raw) s d ≡ Nothing n) ⊎ (search (rowTerms raw) s d ≡ Cut n))))
+    → (n ≡ 0) ⊎ ((t : Threshold) × List·Memᴰ t (planned input .file .job .thresholds) × (s : State) × (d : ℕ → Bool)
+    × ((search (rowTerms (t .terms)) s d ≡ Fits n) ⊎ ((search (rowTerms (t .terms)) s d ≡ Nothing n) ⊎ (search (rowTerms (t .terms)) s d ≡ Cut n))))
 sift-visits input k n m =
-    honest-mem (planned input .file .answers)
-    (subst (λ (f : File). Honest (f .answers)) (sym (taken input)) (honest-after begun (planned input .records) honest-begun)) k n m
+    told-mem (planned input .file) (subst Told (sym (taken input)) (told-after begun (planned input .records) (planned-passed input) told-begun)) k n m
 
 -- ---- FILES A AND B
 
@@ -167,9 +259,6 @@ b-taken = shown-right (takes file-B (settled Unchanged ∷ sifted Contradiction 
 a-forces : Right (forces file-A 0)
 a-forces = shown-right (forces file-A 0) (List·Memᴰ·tail (List·Memᴰ·tail (List·Memᴰ·head refl)))
 
-clash : {A : Type 0} → true ≡ false → A
-clash e = absurd (let z : _≡_ {A = ℕ} 0 1 = cc in omega arith)
-
 -- The last search of file B has 11 visits.
 pub cuts-each-search : ((input : List ℕ) (k : Step) (n : ℕ) → List·Memᴰ (sifted k n) (planned input .file .answers) → n ≡ 0) → ⊥
 cuts-each-search h =
@@ -177,9 +266,28 @@ cuts-each-search h =
     (subst (λ (l : List Answer). List·Memᴰ (sifted Contradiction 11) l) (sym (b-taken .2)) (List·Memᴰ·tail (List·Memᴰ·head refl))) in
     omega arith
 
--- File A forces node 0,
-pub leaves-all-undecided : ((input : List ℕ) (n : ℕ) → bit (planned input .file .live .marks .sure) n ≡ false) → ⊥
-leaves-all-undecided h = clash (sym a-forces ∙ h (writtenAll file-A) 0)
+-- File A forces node 0, which it does not mark,
+abbrev marksFirst : Record → Bool
+marksFirst (header n) = false
+marksFirst (opens n b) = false
+marksFirst (adds c w) = false
+marksFirst (areas c a) = false
+marksFirst seal = false
+marksFirst (mark n v) = eqb n 0
+marksFirst settle = false
+marksFirst sift = false
+marksFirst unknown = false
+
+unmarked : (rs : List Record) → Every (λ (r : Record). marksFirst r ≡ false) rs → Marked rs 0 true → ⊥
+unmarked [] h m = List·Memᴰ·not-nil m
+unmarked (r ∷ rs) h m =
+    ⊎-elim (λ (e : mark 0 1 ≡ r). clash (ap marksFirst e ∙ h .0)) (λ (i : List·Memᴰ (mark 0 1) rs). unmarked rs (h .1) i) (List·Memᴰ·cases-cons m)
+
+a-unmarked : Marked file-A 0 true → ⊥
+a-unmarked m = unmarked file-A (refl, (refl, (refl, (refl, (refl, (refl, (refl, (refl, tt)))))))) m
+
+pub leaves-all-undecided : ((input : List ℕ) (n : ℕ) → bit (planned input .file .live .marks .sure) n ≡ true → Marked (planned input .records) n true) → ⊥
+leaves-all-undecided h = a-unmarked (subst (λ (rs : List Record). Marked rs 0 true) (a-taken .1) (h (writtenAll file-A) 0 a-forces))
 
 -- its settle does not contradict,
 pub always-contradicts : ((input : List ℕ) (before later : List Record) → planned input .records ≡ before ++ (settle ∷ later)
@@ -195,6 +303,43 @@ a-written : writtenAll file-A ≢ []
 unfolding writtenAll written bytes
 a-written e = let z : _≡_ {A = ℕ} (length (writtenAll file-A)) 0 = ap length e in omega arith
 
--- and it is taken.
-pub refuses-each-file : ((input : List ℕ) → input ≢ [] → planned input .refused ≢ 0) → ⊥
-refuses-each-file h = h (writtenAll file-A) a-written (a-taken .0)
+-- Memory just long enough.
+abbrev lent : Work
+lent = record {
+  raw = record { raw-conditions = replicate 4096 0; raw-weights = replicate 4096 0; thresholds = replicate 1024 []; bounds = replicate 1024 (pos 0) };
+  built = record {
+    row-conditions = replicate 4096 0;
+    row-weights = replicate 4096 0;
+    rows = replicate 1024 [];
+    guard-bounds = replicate 1024 (pos 0);
+    guard-nodes = replicate 1024 0;
+    nodes = replicate 4096 [];
+    edges = replicate 4096 [];
+    links = replicate 2048 0;
+    scratch = replicate 3072 0;
+  };
+  kept = record {
+    figures = replicate 1024 [];
+    cursors = replicate 1024 [];
+    sure = replicate 64 0;
+    never = replicate 64 0;
+    search = replicate 4096 0;
+    gcds = replicate 1025 0;
+    node-queue = replicate 4096 0;
+    row-queue = replicate 1024 0;
+    residual-queue = replicate 1024 0;
+    row-pending = replicate 1024 0;
+    residual-pending = replicate 1024 0;
+    answers = replicate 64 0;
+    visits = replicate 64 0;
+  };
+}
+
+lent-fits : fits (writtenAll file-A) lent ≡ true
+unfolding fits writtenAll written bytes
+lent-fits = refl
+
+-- and it is accepted.
+pub refuses-each-file : ((input : List ℕ) (w : Work) → input ≢ [] → whole input w .refused ≢ 0) → ⊥
+refuses-each-file h =
+    h (writtenAll file-A) lent a-written (ap (λ (o : Out). o .refused) (files (writtenAll file-A) lent lent-fits) ∙ a-taken .0)
