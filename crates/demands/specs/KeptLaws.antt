@@ -27,7 +27,7 @@ use Rattle.propagate.specs.Row.{wantsResidual}
 use Rattle.residual.specs.Residual.{Residual, thresholdResidual}
 use Rattle.residual.specs.ForceLaws.{gcds-length}
 use Rattle.possible_sums.specs.Search.{search, searchStep, searchVisits}
-use Rattle.between.specs.Between.{Index, Live, live, Did, did, stateAt, withState, withDirty, residualQueued, runRow, linkedQueued, bounded, thresholdGuard, guardOf, conditionFrom, thresholdCondition, termCount, prefixesFrom, thresholdPrefixes, firstStates, seedFrom}
+use Rattle.between.specs.Between.{Index, Live, live, Did, did, stateAt, withState, withDirty, residualQueued, runWith, runRow, linkedQueued, bounded, thresholdGuard, guardOf, conditionFrom, thresholdCondition, termCount, prefixesFrom, thresholdPrefixes, firstStates, seedFrom}
 use Rattle.regions.specs.Drain.{indexOf, withMarks, takeNode, takeRow, turn, atRest, drain}
 use Rattle.regions.specs.Drain as Drain
 use Rattle.regions.specs.Sift.{Sifted, tryRow, siftFrom}
@@ -82,7 +82,7 @@ linked-long n q r = by (eqb n 0)
 
 module _ (x : Index) (ix : Indexed x) where
   long-run : (v : Live) (r : ℕ) → Long v → Long (runRow x v r .live)
-  unfolding runRow
+  unfolding runWith runRow
   long-run v r l =
       let row = getD (x .rows) r noRow in
       record {
