@@ -5,7 +5,7 @@ use mathlib.Core.Path.{_≡_}
 use mathlib.Core.Bool.{Bool, true, false}
 use mathlib.Core.List.{List, [], _∷_, _++_, List·Memᴰ}
 use mathlib.Core.Logic.{_⊎_, _≢_, _↔_}
-use lib.ListN.{length, take}
+use lib.ListN.{length, take, drop}
 use lib.Dec.{eqb}
 use Rattle.numeric.specs.Threshold.{Term, Threshold}
 use Rattle.numeric.specs.Layout.{Layout, IsLayout}
@@ -23,9 +23,10 @@ use Rattle.possible_sums.specs.Search.{plan, search, searchStep, Lands}
 use Rattle.table.specs.Table.{Table, Conflict, Run, steps, ReachesConflict, AtRest, Ended}
 use Rattle.regions.specs.Drain.{atRest}
 use Rattle.planner.specs.Record.{Record, seal, mark, settle, sift}
-use Rattle.planner.specs.File.{File, sifted, begun, apply, after, planned}
+use Rattle.planner.specs.File.{File, sifted, begun, apply, after, refusalAt, planned}
 use Rattle.memory.specs.Buffers.{Work, fits}
 use Rattle.planner.specs.Contents.{Out, served, whole}
+use Rattle.ends.specs.Files.{Passed}
 use Rattle.demands.specs.Reading.{Marked, SameMarks, Agrees, NoSift, decidedIn, decidedAnd, marksOnly, SameEnd, SameFigures, records, decoded, plainlyAll, Passes}
 
 -- What the call gave, but for its refusal.
@@ -44,8 +45,15 @@ pub record Demand1 : Type 0 where
   -- 10 is given exactly if a buffer is too short or the input too long; its offset is 0 and it touches nothing
   pub ten : (input : List ℕ) (w : Work) → (whole input w .refused ≡ 10) ↔ (fits input w ≡ false)
   pub ten-touches-nothing : (input : List ℕ) (w : Work) → whole input w .refused ≡ 10 → (whole input w .at ≡ 0) × (whole input w .work ≡ w)
-  -- what is not refused are the records that were taken, one after the other
+  -- the records that were taken are those that the bytes before the offset spell; one after the other they make the file, and
+  -- each passed all checks on what those before it left
+  pub spelled : (input : List ℕ) → decoded (take (planned input .at) input) ≡ records (planned input .records)
   pub taken : (input : List ℕ) → planned input .file ≡ after begun (planned input .records)
+  pub passed : (input : List ℕ) → Passed begun (planned input .records)
+  -- with no refusal all bytes were read; else the number is that of the first check that applies to the record at the offset
+  pub read-all : (input : List ℕ) → planned input .refused ≡ 0 → planned input .at ≡ length input
+  pub first-check : (input : List ℕ) → planned input .refused ≢ 0 → planned input .refused ≢ 10
+      → (kind : ℕ) × (rest : List ℕ) × (drop (planned input .at) input ≡ kind ∷ rest) × (planned input .refused ≡ refusalAt (planned input .file) kind rest)
   -- a settle or a sift that does not contradict ends because nothing waits any more, and not for want of turns
   pub ends : (input : List ℕ) (before later : List Record) (r : Record) → planned input .records ≡ before ++ (r ∷ later) → (r ≡ settle) ⊎ (r ≡ sift)
       → after begun (before ++ (r ∷ [])) .contradicted ≡ false → atRest (after begun (before ++ (r ∷ [])) .live) ≡ true

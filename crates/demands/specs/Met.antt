@@ -1,5 +1,6 @@
 -- WHICH DEMANDS ARE MET: a value of the type that states each. The proofs stand in the files named `Laws` beside this one, and in `ends`.
--- Not proved yet: of `Demand2` the fields `forced-sure`, `forced-never` and `no-layout`; all five fields of `Demand3`.
+-- Not proved yet: of `Demand2` the fields `forced-sure`, `forced-never` and `no-layout`; of `Demand3` all five, `seals`, `marks`, `settles`,
+-- `settles-from-marks` and `order-does-not-matter`.
 use Prim.Native.Nat.{ℕ}
 use mathlib.Core.Path.{_≡_, refl}
 use mathlib.Core.Bool.{Bool}
@@ -18,6 +19,7 @@ use Rattle.planner.specs.Record.{settle}
 use Rattle.ends.specs.Files as Files
 use Rattle.demands.specs.Demands.{Demand1, ClauseA, ClauseC}
 use Rattle.demands.specs.RefusalLaws as Refusals
+use Rattle.demands.specs.ReadLaws as Reads
 use Rattle.demands.specs.MemoryLaws as Memory
 use Rattle.demands.specs.LengthLaws as Lengths
 use Rattle.demands.specs.ShutOutLaws as ShutOut
@@ -29,7 +31,11 @@ demand1 = record {
   refused = Refusals.refused;
   ten = Refusals.ten;
   ten-touches-nothing = Refusals.ten-touches-nothing;
+  spelled = Reads.spelled;
   taken = Refusals.taken;
+  passed = Files.planned-passed;
+  read-all = Reads.read-all;
+  first-check = Reads.first-check;
   ends = Files.ends;
   sift-ends = Files.sift-ends;
 }
