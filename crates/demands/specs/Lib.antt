@@ -8,5 +8,5 @@ pub mod MemoryLaws
 pub mod SizeLaws
 pub mod KeptLaws
 pub mod LengthLaws
+pub mod ForcedLaws
 pub mod Met
-pub mod Demand2

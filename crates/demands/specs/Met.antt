@@ -1,25 +1,14 @@
 -- WHICH DEMANDS ARE MET: a value of the type that states each. The proofs stand in the files named `Laws` beside this one, and in `ends`.
--- Not proved yet: of `Demand2` the fields `forced-sure`, `forced-never` and `no-layout`; of `Demand3` all five, `seals`, `marks`, `settles`,
--- `settles-from-marks` and `order-does-not-matter`.
-use Prim.Native.Nat.{ℕ}
-use mathlib.Core.Path.{_≡_, refl}
-use mathlib.Core.Bool.{Bool}
-use mathlib.Core.List.{List}
-use mathlib.Core.Logic.{inl, _≢_, _↔_}
-use Rattle.numeric.specs.Threshold.{Term}
-use Rattle.state.specs.declared.Step.the-variants.{Unchanged, Contradiction}
-use Rattle.state.specs.declared.State.{State}
-use Rattle.row.specs.Terms.{rowTerms}
-use Rattle.possible_sums.specs.declared.Window.{Window}
-use Rattle.possible_sums.specs.declared.Plan.the-variants.{Planned}
-use Rattle.possible_sums.specs.declared.Search.the-variants.{Cut}
-use Rattle.possible_sums.specs.Search.{plan, search, searchStep, Lands}
+-- Not proved yet: `Demand3`, all five fields.
+use mathlib.Core.Path.{refl}
+use mathlib.Core.Logic.{inl}
 use Rattle.possible_sums.specs.SearchLaws as SearchLaws
 use Rattle.planner.specs.Record.{settle}
 use Rattle.ends.specs.Files as Files
-use Rattle.demands.specs.Demands.{Demand1, ClauseA, ClauseC}
+use Rattle.demands.specs.Demands.{Demand1, Demand2, ClauseA, ClauseC}
 use Rattle.demands.specs.RefusalLaws as Refusals
 use Rattle.demands.specs.ReadLaws as Reads
+use Rattle.demands.specs.ForcedLaws as Forced
 use Rattle.demands.specs.MemoryLaws as Memory
 use Rattle.demands.specs.LengthLaws as Lengths
 use Rattle.demands.specs.ShutOutLaws as ShutOut
@@ -40,6 +29,16 @@ demand1 = record {
   sift-ends = Files.sift-ends;
 }
 
+-- DEMAND 2, whole
+pub demand2 : Demand2
+demand2 = record {
+  forced-sure = Forced.forced-sure;
+  forced-never = Forced.forced-never;
+  no-layout = Forced.no-layout;
+  search-exact = SearchLaws.search-exact;
+  cut-short = SearchLaws.cut-short;
+}
+
 -- CLAUSE A, whole
 pub clauseA : ClauseA
 clauseA = record { memory = Memory.memory; lengths = Lengths.lengths; files = Refusals.files }
@@ -55,13 +54,3 @@ clauseC = record {
   always-contradicts = ShutOut.always-contradicts;
   refuses-each-file = ShutOut.refuses-each-file;
 }
-
--- DEMAND 2, its last two fields, in the words of `Demand2`
-pub search-exact : (raw : List Term) (s : State) (decided : ℕ → Bool) (w : Window) → plan (rowTerms raw) s ≡ Planned w
-    → ((n : ℕ) → search (rowTerms raw) s decided ≢ Cut n)
-    → (searchStep (search (rowTerms raw) s decided) ≡ Contradiction) ↔ ((choice : ℕ → Bool) → Lands w decided (rowTerms raw) choice → ⊥)
-search-exact = SearchLaws.search-exact
-
-pub cut-short : (raw : List Term) (s : State) (decided : ℕ → Bool) (n : ℕ) → search (rowTerms raw) s decided ≡ Cut n
-    → searchStep (search (rowTerms raw) s decided) ≡ Unchanged
-cut-short = SearchLaws.cut-short

@@ -1,5 +1,5 @@
--- DEMAND 2 IS MET: every layout of the job that agrees with the marks agrees with each forced node, and a contradiction is given only
--- if no such layout exists, for every input, sifts included.
+-- Demand 2: every layout of the job that agrees with the marks agrees with each forced node, and a contradiction is given only if no
+-- such layout exists, for every input, sifts included.
 use Prim.Native.Nat.{ℕ}
 use mathlib.Core.Path.{_≡_, sym, subst}
 use mathlib.Core.Bool.{true, false}
@@ -11,8 +11,7 @@ use Rattle.follows.specs.Answers.{clash}
 use Rattle.layouts.specs.Turns.{Fits}
 use Rattle.layouts.specs.Files.{file-layouts}
 use Rattle.demands.specs.Reading.{Agrees}
-use Rattle.demands.specs.Demands.{Demand2}
-use Rattle.demands.specs.Met.{taken, search-exact, cut-short}
+use Rattle.demands.specs.RefusalLaws.{taken}
 
 -- what the records left is what the file is
 agreed : (input : List ℕ) (v : Layout) → IsLayout (planned input .file .job) v → Agrees (planned input .records) v
@@ -31,7 +30,3 @@ forced-never input v is a n e = agreed input v is a .0 false n e
 pub no-layout : (input : List ℕ) → planned input .file .contradicted ≡ true
     → (v : Layout) → IsLayout (planned input .file .job) v → Agrees (planned input .records) v → ⊥
 no-layout input c v is a = clash (planned input .file .contradicted) c (agreed input v is a .1)
-
--- ALL OF IT
-pub demand2 : Demand2
-demand2 = record { forced-sure = forced-sure; forced-never = forced-never; no-layout = no-layout; search-exact = search-exact; cut-short = cut-short }
