@@ -10,3 +10,4 @@ pub mod Draining
 pub mod Handing
 pub mod Seeding
 pub mod GuardLaws
+pub mod KeptLaws
