@@ -35,11 +35,11 @@ pub record Runnable (h : Lent) (n : ℕ) (v : Live) : Type 0 where
   pub ready : ReadyLive h n v
   pub dirty : Flags (v .dirty)
 
-all-by : (h : Lent) (n : ℕ) (c d : Did) → c ≡ d → Runnable h n (d .live) → Runnable h n (c .live)
-all-by h n c d e a = rw e a
+pub runnable-by : (h : Lent) (n : ℕ) (c d : Did) → c ≡ d → Runnable h n (d .live) → Runnable h n (c .live)
+runnable-by h n c d e a = rw e a
 
-all-more : (h : Lent) (n k : ℕ) (v : Live) → n ≤ k → Runnable h n v → Runnable h k v
-all-more h n k v l a = record { ready = ready-more h n k (v .states) (v .marks) (v .residuals) l (a .ready); dirty = a .dirty }
+pub runnable-more : (h : Lent) (n k : ℕ) (v : Live) → n ≤ k → Runnable h n v → Runnable h k v
+runnable-more h n k v l a = record { ready = ready-more h n k (v .states) (v .marks) (v .residuals) l (a .ready); dirty = a .dirty }
 
 -- An edge to a row, light enough to be drained.
 pub record Light (h : Lent) (e : Edge) : Type 0 where
@@ -60,17 +60,17 @@ module _ (x : Index) (h : Lent) (z : Holds x h) (y : Shaped h) where
   pub kept-condition : (value : Bool) (es : List Edge) (n : ℕ) (v : Live) → All (Light h) es → Runnable h n v
       → Runnable h (n + length es * 35184372088832) (conditionFrom x value es v .live)
   unfolding All conditionFrom
-  kept-condition value [] n v l a = all-more h n (n + 0 * 35184372088832) v (omega arith) a
+  kept-condition value [] n v l a = runnable-more h n (n + 0 * 35184372088832) v (omega arith) a
   kept-condition value (e ∷ es) n v l a =
       let c : ℕ = 35184372088832 in
       let s = drained value (e .weight) (stateAt v (e .row)) in
       let f = fit-drained h n (e .row) (stateAt v (e .row)) value (e .weight) (l .0 .weight) (a .ready .fit (e .row) (l .0 .row)) in
-      let b = kept-run (n + c) (withState v (e .row) s) (e .row) (l .0 .row) (kept-store (n + c) v (e .row) s f (all-more h n (n + c) v (omega arith) a)) in
+      let b = kept-run (n + c) (withState v (e .row) s) (e .row) (l .0 .row) (kept-store (n + c) v (e .row) s f (runnable-more h n (n + c) v (omega arith) a)) in
       let d = turn x value e es v in
       let rest = kept-condition value es (n + c) (d .live) (l .1) b in
-      all-by h (n + length (e ∷ es) * c) (conditionFrom x value (e ∷ es) v) (both (conditionFrom x value es) d) (condition-both x value e es v)
-      (both-keeps (conditionFrom x value es) (Runnable h (n + length (e ∷ es) * c)) d (all-more h (n + c) (n + length (e ∷ es) * c) (d .live) (omega arith) b)
-      (all-more h (n + c + length es * c) (n + length (e ∷ es) * c) (conditionFrom x value es (d .live) .live) (omega arith) rest))
+      runnable-by h (n + length (e ∷ es) * c) (conditionFrom x value (e ∷ es) v) (both (conditionFrom x value es) d) (condition-both x value e es v)
+      (both-keeps (conditionFrom x value es) (Runnable h (n + length (e ∷ es) * c)) d (runnable-more h (n + c) (n + length (e ∷ es) * c) (d .live) (omega arith) b)
+      (runnable-more h (n + c + length es * c) (n + length (e ∷ es) * c) (conditionFrom x value es (d .live) .live) (omega arith) rest))
 
   -- A guard.
   flags-linked : (n : ℕ) (q : Rows) (r : ℕ) → r < 1024 → Flags q → Flags (linkedQueued n q r)
@@ -113,9 +113,9 @@ module _ (x : Index) (h : Lent) (z : Holds x h) (y : Shaped h) where
       let d = handedOn (getD (x .rows) r noRow) v r t in
       let e = sym (handed-held x h z v r (l .0) t) in
       let f = fit-prefix h n r source (stateAt v r) (termCount x row) (termCount x r) lo up (a .ready .fit r (l .0)) in
-      let b = all-by h n d _ e (record { ready = ready-handed h y n v (a .ready) r (l .0) t f; dirty = flags-handed h y n v (a .ready) r (l .0) t (a .dirty) }) in
+      let b = runnable-by h n d _ e (record { ready = ready-handed h y n v (a .ready) r (l .0) t f; dirty = flags-handed h y n v (a .ready) r (l .0) t (a .dirty) }) in
       let rest = kept-prefixes row source lo up rs n (d .live) (l .1) b in
-      all-by h n (prefixesFrom x row source (r ∷ rs) v) (both (prefixesFrom x row source rs) d) (prefix-both x row source r rs v)
+      runnable-by h n (prefixesFrom x row source (r ∷ rs) v) (both (prefixesFrom x row source rs) d) (prefix-both x row source r rs v)
       (both-keeps (prefixesFrom x row source rs) (Runnable h n) d b rest)
 
   -- The source's bounds are in range as any row's are.

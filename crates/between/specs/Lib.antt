@@ -11,3 +11,5 @@ pub mod Handing
 pub mod Seeding
 pub mod GuardLaws
 pub mod KeptLaws
+pub mod KeptHeld
+pub mod FirstLaws
