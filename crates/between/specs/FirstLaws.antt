@@ -21,12 +21,16 @@ use Rattle.thresholds.specs.Raw.{stretch}
 use Rattle.thresholds.specs.RawLaws.{stretch-length}
 use Rattle.propagate.specs.Guards.{guards, length-guards}
 use Rattle.between.specs.Between.{Index, firstStates}
-use Rattle.between.specs.Held.{Lent, lent, startBy, endBy, stretchBy, heldTerms, heldGuards, Shaped, Holds}
+use Rattle.between.specs.Held.{Lent, lent, startBy, endBy, stretchBy, heldGuards, Shaped, Holds}
 use Rattle.between.specs.Ready.{Fit, Ready}
 
 -- The first state of row r, as the buffers hold the row.
 abbrev pub firstAt : List ℕ → List ℕ → List (List ℕ) → ℕ → State
 firstAt cs ws rows r = firstState (total (terms (stretchBy 0 rows r cs) (stretchBy 0 rows r ws))) (endBy 1 rows r - startBy 1 rows r)
+
+-- Every row's total is below n.
+abbrev pub Totals : ℕ → List ℕ → List ℕ → List (List ℕ) → Type 0
+Totals n cs ws rows = (r : ℕ) → r < length rows → total (terms (stretchBy 0 rows r cs) (stretchBy 0 rows r ws)) < n
 
 -- As many guards as the stretch is long.
 guards-many : (h : Lent) → Shaped h → (r : ℕ) → r < length (h .rows) → length (heldGuards h r) ≡ endBy 1 (h .rows) r - startBy 1 (h .rows) r
@@ -35,6 +39,15 @@ guards-many h y r k =
     let e = endBy 1 (h .rows) r in
     length-guards (stretch a e (h .bounds)) (stretch a e (h .names))
     ∙ omega (arith, stretch-length a e (h .bounds) (y .guards .ends r k), stretch-length a e (h .names) (omega (arith, y .guards .ends r k, y .named)))
+
+-- The same, cut out of the buffers.
+pub first-cut : (cs ws : List ℕ) (rows : List (List ℕ)) (r a e g n : ℕ) → a ≡ startBy 0 rows r → e ≡ endBy 0 rows r
+    → n ≡ total (terms (stretch a e cs) (stretch a e ws)) → g ≡ endBy 1 rows r - startBy 1 rows r → firstState n g ≡ firstAt cs ws rows r
+first-cut cs ws rows r a e g n p q s t = ap₂ firstState (s ∙ (rw (p, q))) t
+
+pub small-cut : (cs ws : List ℕ) (rows : List (List ℕ)) (r a e n : ℕ) → a ≡ startBy 0 rows r → e ≡ endBy 0 rows r
+    → total (terms (stretchBy 0 rows r cs) (stretchBy 0 rows r ws)) < n → total (terms (stretch a e cs) (stretch a e ws)) < n
+small-cut cs ws rows r a e n p q h = rw (p, q) h
 
 first-held : (x : Index) (h : Lent) → Holds x h → Shaped h → (r : ℕ) → r < length (h .rows) → firstAt (h .conditions) (h .weights) (h .rows) r ≡ stateOfRow (getD (x .rows) r noRow)
 first-held x h z y r k =
@@ -91,7 +104,7 @@ first-there r (x ∷ rs) ss (suc i) h k =
     ∙ first-there (r + 1) rs (set ss r (stateOfRow x)) i (omega arith) (omega (arith, length-set ss r (stateOfRow x)))
 
 -- With every total in range, all is ready.
-pub ready-first : (x : Index) (h : Lent) → Holds x h → Shaped h → (n : ℕ) → ((r : ℕ) → r < length (h .rows) → total (heldTerms h r) < n)
+pub ready-first : (x : Index) (h : Lent) → Holds x h → Shaped h → (n : ℕ) → Totals n (h .conditions) (h .weights) (h .rows)
     → (ss : List State) → length (h .rows) ≤ length ss → (m : Marks) → Waits m → (q : Rows) → Flags q → Ready h n (firstStates 0 (x .rows) ss) m q
 unfolding firstState
 ready-first x h z y n small ss l m w q f = record {
