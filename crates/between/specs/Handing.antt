@@ -3,8 +3,8 @@ use Prim.Native.Nat.{ℕ, _+_, _-_, _<_, _≤_, _^_}
 use native.Mathlib.Omega.{arith}
 use mathlib.Core.Path.{_≡_, refl, sym, ap, _∙_}
 use mathlib.Core.Bool.{Bool, true, false, cond}
-use mathlib.Core.List.{List, [], _∷_}
-use lib.ListN.{length, getD, set}
+use mathlib.Core.List.{List, _∷_}
+use lib.ListN.{length, getD}
 use lib.Signed.{mag}
 use Rattle.numeric.specs.Threshold.{Term}
 use Rattle.numeric.specs.TermsLaws.{length-terms}
@@ -21,9 +21,9 @@ use Rattle.prefixes.specs.Links.{neighbours}
 use Rattle.propagate.specs.declared.Tightened.{Tightened}
 use Rattle.propagate.specs.Told.{movedState}
 use Rattle.between.specs.Between.{Index, Live, live, Did, did, stateAt, withState, withDirty, runWith, runRow, after, termCount, toldStep, handedOn, prefixesFrom, thresholdPrefixes}
-use Rattle.between.specs.Held.{Lent, startBy, endBy, stretchBy, heldTerms, heldRow, Shaped, LinksShaped, Holds, HoldsLinks}
+use Rattle.between.specs.Held.{Lent, startBy, endBy, heldRow, Shaped, LinksShaped, Holds, HoldsLinks}
 use Rattle.between.specs.HeldLaws.{stretch-cons, stretch-none, run-held}
-use Rattle.between.specs.Ready.{Fit, Ready, ReadyLive}
+use Rattle.between.specs.Ready.{Fit, ReadyLive}
 use Rattle.between.specs.ReadyLaws.{ready-set, ready-run, ready-by, fit-prefix}
 use Rattle.between.specs.LoopLaws.{prefix-next, prefix-stop, prefix-end}
 
@@ -46,7 +46,7 @@ module _ (row : Row) (v : Live) (r : ℕ) (t u : Tightened) (e : u ≡ t) where
       ∙ ap (handedOn row v r) e
 
 -- The row that the buffers hold is told what the row of the index is.
-handed-held : (x : Index) (h : Lent) → Holds x h → (v : Live) (r : ℕ) → r < length (h .rows) → (t : Tightened)
+pub handed-held : (x : Index) (h : Lent) → Holds x h → (v : Live) (r : ℕ) → r < length (h .rows) → (t : Tightened)
     → handedOn (heldRow h r) v r t ≡ handedOn (getD (x .rows) r noRow) v r t
 unfolding handedOn runRow
 handed-held x h y v r k t =
@@ -54,7 +54,7 @@ handed-held x h y v r k t =
 
 -- What is ready stays so.
 module _ (h : Lent) (y : Shaped h) (n : ℕ) (v : Live) (w : ReadyLive h n v) (r : ℕ) (k : r < length (h .rows)) (t : Tightened) where
-  ready-handed : Fit h n r (t .state) → ReadyLive h n (handedOn (heldRow h r) v r t .live)
+  pub ready-handed : Fit h n r (t .state) → ReadyLive h n (handedOn (heldRow h r) v r t .live)
   unfolding handedOn
   ready-handed f = by (t .changed)
     where
@@ -65,7 +65,7 @@ module _ (h : Lent) (y : Shaped h) (n : ℕ) (v : Live) (w : ReadyLive h n v) (r
       by true = ready-run h n y (withDirty (withState v r (t .state)) r) (ready-set h n (v .states) (v .marks) (v .residuals) w r (t .state) f) r k
       by false = w
 
-  flags-handed : Flags (v .dirty) → Flags (handedOn (heldRow h r) v r t .live .dirty)
+  pub flags-handed : Flags (v .dirty) → Flags (handedOn (heldRow h r) v r t .live .dirty)
   unfolding handedOn runWith
   flags-handed f = by (t .changed)
     where

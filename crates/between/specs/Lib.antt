@@ -10,3 +10,6 @@ pub mod Draining
 pub mod Handing
 pub mod Seeding
 pub mod GuardLaws
+pub mod KeptLaws
+pub mod KeptHeld
+pub mod FirstLaws

@@ -1,9 +1,8 @@
 -- Loops between rows: what was done so far joined with what is left is the whole. Assumes nothing.
-use Prim.Native.Nat.{ℕ, _+_, _<_}
+use Prim.Native.Nat.{ℕ, _+_}
 use mathlib.Core.Path.{_≡_, refl, sym, ap, _∙_}
 use mathlib.Core.Bool.{Bool, true, false, cond}
 use mathlib.Core.List.{List, [], _∷_}
-use native.Mathlib.Omega.{arith}
 use lib.ListN.{getD}
 use Rattle.state.specs.declared.Step.{Step}
 use Rattle.state.specs.declared.Step.the-variants.{Unchanged, Changed, Contradiction}
@@ -14,7 +13,7 @@ use Rattle.thresholds.specs.Rows.{Row, noRow, Edge}
 use Rattle.propagate.specs.declared.Tightened.{Tightened}
 use Rattle.propagate.specs.ScanLaws.{clash, joined-last}
 use Rattle.propagate.specs.Told.{movedState}
-use Rattle.between.specs.Between.{Index, Live, Did, did, stateAt, withState, withDirty, runWith, runRow, after, conditionFrom, termCount, toldStep, handedOn, prefixesFrom, seedFrom}
+use Rattle.between.specs.Between.{Index, Live, Did, did, stateAt, withState, withDirty, runWith, runRow, after, conditionFrom, termCount, handedOn, prefixesFrom, seedFrom}
 
 -- ---- answers
 
@@ -42,7 +41,7 @@ after-none v k = ap (did v) (sym (joined-last k))
 
 -- A turn and the rest: a contradiction ends, any other answer is joined.
 module _ (rest : Live → Did) where
-  abbrev both : Did → Did
+  abbrev pub both : Did → Did
   both d = cond (contradicts (d .step)) d (after (d .step) (rest (d .live)))
 
   both-next : (k : Step) (d : Did) → contradicts (d .step) ≡ false → after (joined k (d .step)) (rest (d .live)) ≡ after k (both d)
@@ -56,14 +55,22 @@ module _ (rest : Live → Did) where
       ap (did (d .live)) (e ∙ sym (joined-contradiction k) ∙ ap (joined k) (sym e))
       ∙ ap (λ (b : Bool). after k (cond b d (after (d .step) (rest (d .live))))) (sym h)
 
+  -- What the turn keeps and the rest keeps, both keep.
+  pub both-keeps : (P : Live → Type 0) (d : Did) → P (d .live) → P (rest (d .live) .live) → P (both d .live)
+  both-keeps P d a b = by (contradicts (d .step))
+    where
+      by : (c : Bool) → P (cond c d (after (d .step) (rest (d .live))) .live)
+      by true = a
+      by false = b
+
 -- ---- the rows of a drained condition
 
 module _ (x : Index) (value : Bool) (e : Edge) (es : List Edge) (v : Live) where
-  turn : Did
+  abbrev pub turn : Did
   turn = runRow x (withState v (e .row) (drained value (e .weight) (stateAt v (e .row)))) (e .row)
 
-  condition-both : conditionFrom x value (e ∷ es) v ≡ both (conditionFrom x value es) turn
-  unfolding conditionFrom turn
+  pub condition-both : conditionFrom x value (e ∷ es) v ≡ both (conditionFrom x value es) turn
+  unfolding conditionFrom
   condition-both = by (contradicts (turn .step)) refl
     where
       by : (b : Bool) → contradicts (turn .step) ≡ b → conditionFrom x value (e ∷ es) v ≡ both (conditionFrom x value es) turn
@@ -72,13 +79,11 @@ module _ (x : Index) (value : Bool) (e : Edge) (es : List Edge) (v : Live) where
 
   module _ (k : Step) (d : Did) (made : d ≡ runRow x (withState v (e .row) (drained value (e .weight) (stateAt v (e .row)))) (e .row)) where
     pub condition-next : contradicts (d .step) ≡ false → after (joined k (d .step)) (conditionFrom x value es (d .live)) ≡ after k (conditionFrom x value (e ∷ es) v)
-    unfolding turn
     condition-next h =
         both-next (conditionFrom x value es) k d h
         ∙ ap (λ (y : Did). after k (both (conditionFrom x value es) y)) made ∙ ap (after k) (sym condition-both)
 
     pub condition-stop : contradicts (d .step) ≡ true → d ≡ after k (conditionFrom x value (e ∷ es) v)
-    unfolding turn
     condition-stop h =
         both-stop (conditionFrom x value es) k d h
         ∙ ap (λ (y : Did). after k (both (conditionFrom x value es) y)) made ∙ ap (after k) (sym condition-both)
@@ -90,11 +95,12 @@ condition-end x value v k = after-none v k
 -- ---- the neighbours of a row
 
 module _ (x : Index) (row : ℕ) (source : State) (r : ℕ) (rs : List ℕ) (v : Live) where
-  moved : Tightened
+  abbrev moved : Tightened
   moved = movedState source (stateAt v r) (termCount x row) (termCount x r)
 
-  prefix-both : prefixesFrom x row source (r ∷ rs) v ≡ both (prefixesFrom x row source rs) (handedOn (getD (x .rows) r noRow) v r moved)
-  unfolding prefixesFrom moved handedOn runRow
+  pub prefix-both : prefixesFrom x row source (r ∷ rs) v
+      ≡ both (prefixesFrom x row source rs) (handedOn (getD (x .rows) r noRow) v r (movedState source (stateAt v r) (termCount x row) (termCount x r)))
+  unfolding prefixesFrom handedOn runRow
   prefix-both = by (moved .changed) refl (contradicts (ran .step)) refl
     where
       ran : Did
@@ -108,13 +114,11 @@ module _ (x : Index) (row : ℕ) (source : State) (r : ℕ) (rs : List ℕ) (v :
 
   module _ (k : Step) (d : Did) (made : d ≡ handedOn (getD (x .rows) r noRow) v r (movedState source (stateAt v r) (termCount x row) (termCount x r))) where
     pub prefix-next : contradicts (d .step) ≡ false → after (joined k (d .step)) (prefixesFrom x row source rs (d .live)) ≡ after k (prefixesFrom x row source (r ∷ rs) v)
-    unfolding moved
     prefix-next h =
         both-next (prefixesFrom x row source rs) k d h
         ∙ ap (λ (y : Did). after k (both (prefixesFrom x row source rs) y)) made ∙ ap (after k) (sym prefix-both)
 
     pub prefix-stop : contradicts (d .step) ≡ true → d ≡ after k (prefixesFrom x row source (r ∷ rs) v)
-    unfolding moved
     prefix-stop h =
         both-stop (prefixesFrom x row source rs) k d h
         ∙ ap (λ (y : Did). after k (both (prefixesFrom x row source rs) y)) made ∙ ap (after k) (sym prefix-both)

@@ -2,12 +2,13 @@
 // `threshold_prefixes` of prefixes.rs.
 ghost use mathlib.Core.Path.{_≡_};
 ghost use mathlib.Core.Bool.{cond};
-ghost use Prim.Native.Nat.{_-_, _<_, _≤_, _^_};
+ghost use Prim.Native.Nat.{ℕ, _-_, _<_, _≤_, _^_};
 ghost use lib.ListN.{length, getD, set};
 ghost use mathlib.Core.List.{List, []};
-ghost use lib.IntN.{pos};
+ghost use lib.IntN.{ℤ, pos};
 ghost use lib.Signed.{mag};
 ghost use Rattle.numeric.specs.Threshold.{Term, Threshold, terms};
+ghost use Rattle.row.specs.Terms.{total};
 ghost use Rattle.state.specs.State.{limit, limited, noState, drained};
 ghost use Rattle.queues.specs.Queue.{queue, Held, Rows, rows as queued};
 ghost use Rattle.queues.specs.Marks.{marks};
@@ -15,10 +16,11 @@ ghost use Rattle.queues.specs.MarksLaws.{Waits};
 ghost use Rattle.queues.specs.RowsLaws.{Flags};
 ghost use Rattle.thresholds.specs.Rows.{Guard, rowOf, rowNumber};
 ghost use Rattle.prefixes.specs.Links.{neighbours};
-ghost use Rattle.between.specs.Between.{Index, live, did, residualQueued, linkedQueued, runWith, thresholdCondition, thresholdGuard, guardOf, toldStep, handedOn, thresholdPrefixes, seedFrom};
+ghost use Rattle.between.specs.Between.{Index, live, did, firstStates, residualQueued, linkedQueued, runWith, thresholdCondition, thresholdGuard, guardOf, toldStep, handedOn, thresholdPrefixes, seedFrom};
 ghost use Rattle.between.specs.Numbers.{figuresOf, cursorsOf, rowState, statesOf, Runs, Tidy};
-ghost use Rattle.between.specs.Held.{lent, startBy, endBy, heldRow, edgeIn, Rising, Shaped, EdgesShaped, LinksShaped, GuardsShaped, Holds, HoldsEdges, HoldsLinks, CountsLinks, HoldsGuards};
+ghost use Rattle.between.specs.Held.{lent, startBy, endBy, stretchBy, heldRow, edgeIn, Inside, Rising, Shaped, EdgesShaped, LinksShaped, GuardsShaped, Holds, HoldsEdges, HoldsLinks, CountsLinks, HoldsGuards};
 ghost use Rattle.between.specs.Ready.{Fit, Ready};
+ghost use Rattle.between.specs.FirstLaws.{firstAt, Totals};
 ghost use Rattle.propagate.specs.Shape.{TermSlices, GuardSlices};
 ghost use Rattle.propagate.specs.Guards.{guards};
 ghost use Rattle.propagate.specs.Told.{movedState};
@@ -65,8 +67,8 @@ fn make(figures: [i64; 4], cursors: [usize; 5]) -> State
 
 // The state of a row, read from the buffers.
 pub fn load(figures: &[[i64; 4]], cursors: &[[usize; 5]], row: usize) -> State
-    requires { ⌜ (row < length (now figures)) × (row < length (now cursors)) ⌝ }
-    ensures { λ r. ⌜ r ≡ rowState (getD (now (figures .entry)) row []) (getD (now (cursors .entry)) row []) ⌝ }
+    requires { ⌜ row < length (statesOf (now figures) (now cursors)) ⌝ }
+    ensures { λ r. ⌜ r ≡ getD (statesOf (now (figures .entry)) (now (cursors .entry))) row noState ⌝ }
 {
     let f = figures[row];
     let c = cursors[row];
@@ -94,7 +96,7 @@ fn flag_of(upper: Upper) -> usize
 
 // The state of a row, written to the buffers.
 pub fn store(figures: &mut [[i64; 4]], cursors: &mut [[usize; 5]], row: usize, state: State)
-    requires { ⌜ (row < length (now figures)) × (row < length (now cursors)) ⌝ }
+    requires { ⌜ row < length (statesOf (now figures) (now cursors)) ⌝ }
     ensures { λ _. ⌜ (now (figures .exit) ≡ set (now (figures .entry)) row (figuresOf state)) × (now (cursors .exit) ≡ set (now (cursors .entry)) row (cursorsOf state)) ⌝ }
 {
     let upper = state.upper;
@@ -157,8 +159,8 @@ pub fn run_row(
     pending: &mut [u8],
     residuals: Ring,
 ) -> Answer
-    requires { ⌜ (row < length (now figures)) × (row < length (now cursors)) × TermSlices (now conditions) (now weights) × GuardSlices (now bounds) (now names) ⌝ }
-    requires { ⌜ Runs (rowState (getD (now figures) row []) (getD (now cursors) row [])) (now bounds) × Waits (marks (now sure) (now never) (queue (now nodes) ring)) ⌝ }
+    requires { ⌜ (row < length (statesOf (now figures) (now cursors))) × TermSlices (now conditions) (now weights) × GuardSlices (now bounds) (now names) ⌝ }
+    requires { ⌜ Runs (getD (statesOf (now figures) (now cursors)) row noState) (now bounds) × Waits (marks (now sure) (now never) (queue (now nodes) ring)) ⌝ }
     requires { ⌜ Held 1024 (queue (now items) residuals) × (row < 1024) × (row < length (now pending)) ⌝ }
     ensures { λ r. ⌜ ((d : Rows) → did (live (statesOf (now (figures .exit)) (now (cursors .exit))) (marks (now (sure .exit)) (now (never .exit)) (queue (now (nodes .exit)) (r .ring))) d (queued (queue (now (items .exit)) (r .residuals)) (now (pending .exit)))) (r .step)
         ≡ runWith (rowOf [] (terms (now (conditions .entry)) (now (weights .entry))) (guards (now (bounds .entry)) (now (names .entry)))) (live (statesOf (now (figures .entry)) (now (cursors .entry))) (marks (now (sure .entry)) (now (never .entry)) (queue (now (nodes .entry)) ring)) d (queued (queue (now (items .entry)) residuals) (now (pending .entry)))) row)
@@ -866,6 +868,42 @@ pub fn threshold_prefixes(
     Handed {
         answer: so_far,
         dirty: left,
+    }
+}
+
+// The first state of a row: nothing is drained and nothing required.
+fn first_at(conditions: &[u16], weights: &[u64], rows: &[[u16; 3]], row: usize) -> State
+    requires { ⌜ Inside 0 (now rows) (length (now conditions)) × (length (now weights) ≡ length (now conditions)) × Rising 1 (now rows) × (row < length (now rows))
+        × (total (terms (stretchBy 0 (now rows) row (now conditions)) (stretchBy 0 (now rows) row (now weights))) < 2 ^ 60) ⌝ }
+    ensures { λ r. ⌜ r ≡ firstAt (now (conditions .entry)) (now (weights .entry)) (now (rows .entry)) row ⌝ }
+{
+    let a = start_by(rows, 0, row);
+    let e = end_by(rows, 0, row);
+    let total = thresholds::total(&conditions[a..e], &weights[a..e]);
+    let guards = count_by(rows, 1, row);
+    State::first(total, guards)
+}
+
+// The first states of all rows.
+pub fn first_states(
+    conditions: &[u16],
+    weights: &[u64],
+    rows: &[[u16; 3]],
+    figures: &mut [[i64; 4]],
+    cursors: &mut [[usize; 5]],
+)
+    requires { ⌜ Inside 0 (now rows) (length (now conditions)) × (length (now weights) ≡ length (now conditions)) × Rising 1 (now rows) × (length (now rows) ≤ 1024)
+        × Totals (2 ^ 60) (now conditions) (now weights) (now rows) × (length (now rows) ≤ length (statesOf (now figures) (now cursors))) ⌝ }
+    ensures { λ _. ⌜ ((x : Index) (bs : List ℤ) (ns : List ℕ) → Shaped (lent (now (conditions .entry)) (now (weights .entry)) (now (rows .entry)) bs ns)
+        → Holds x (lent (now (conditions .entry)) (now (weights .entry)) (now (rows .entry)) bs ns)
+        → statesOf (now (figures .exit)) (now (cursors .exit)) ≡ firstStates 0 (x .rows) (statesOf (now (figures .entry)) (now (cursors .entry))))
+        × (Tidy (now (figures .entry)) (now (cursors .entry)) → Tidy (now (figures .exit)) (now (cursors .exit))) ⌝ }
+{
+    let mut at: usize = 0;
+    while at < rows.len() {
+        let state = first_at(conditions, weights, rows, at);
+        store(figures, cursors, at, state);
+        at += 1;
     }
 }
 

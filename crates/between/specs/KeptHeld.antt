@@ -1,0 +1,88 @@
+-- For callers: edges, neighbours and guards that the buffers hold are such as keep all ready. Assumes nothing.
+use Prim.Native.Nat.{ℕ, zero, suc, _+_, _-_, _*_, _<_, _≤_, _^_}
+use native.Mathlib.Decide.{ℕ-discrete}
+use native.Mathlib.Omega.{arith}
+use mathlib.Core.Path.{_≡_, refl, sym, ap, subst, _∙_}
+use mathlib.Core.List.{List, [], _∷_, map}
+use lib.ListN.{length, getD}
+use lib.IntN.{ℤ}
+use lib.Signed.{mag}
+use Rattle.words.specs.Mask.{bit}
+use Rattle.thresholds.specs.Rows.{Edge, edgesOf, rowNumber}
+use Rattle.thresholds.specs.Raw.{stretch}
+use Rattle.thresholds.specs.RawLaws.{stretch-length}
+use Rattle.thresholds.specs.Laid.{edgeRow}
+use Rattle.prefixes.specs.Links.{neighbours}
+use Rattle.propagate.specs.ScanLaws.{All}
+use Rattle.between.specs.Between.{Index, Live, guardOf, thresholdCondition, thresholdPrefixes}
+use Rattle.between.specs.Held.{Lent, startBy, endBy, edgeIn, edgesIn, Shaped, EdgesShaped, LinksShaped, GuardsShaped, Holds, HoldsEdges, HoldsLinks, HoldsGuards}
+use Rattle.between.specs.HeldLaws.{stretch-cons, stretch-none, edges-back}
+use Rattle.between.specs.GuardLaws.{noThreshold, guard-not, guard-is, guard-bound}
+use Rattle.between.specs.KeptLaws.{Runnable, runnable-by, Light, kept-condition, kept-guard, kept-row-prefixes}
+
+-- What holds at every place of a stretch holds of all in it.
+all-stretch : {X : Type 0} (P : X → Type 0) (d : X) (l : List X) (e : ℕ) → e ≤ length l → (m a : ℕ) → e - a ≡ m → ((i : ℕ) → a ≤ i → i < e → P (getD l i d)) → All P (stretch a e l)
+unfolding All
+all-stretch P d l e k zero a s f = rw (stretch-none l a e (omega arith)) Prim.tt
+all-stretch P d l e k (suc m) a s f =
+    rw (stretch-cons d l a e (omega arith) k)
+    (f a (omega arith) (omega arith), all-stretch P d l e k m (a + 1) (omega arith) (λ i g h. f i (omega arith) h))
+
+all-edges : (P : Edge → Type 0) (ls : List (List ℕ)) → All (λ (l : List ℕ). P (edgeIn l)) ls → All P (edgesIn ls)
+unfolding All
+all-edges P [] h = h
+all-edges P (l ∷ ls) h = (h .0, all-edges P ls (h .1))
+
+length-rows : (es : List Edge) → length (map edgeRow es) ≡ length es
+length-rows [] = refl
+length-rows (e ∷ es) = ap suc (length-rows es)
+
+module _ (x : Index) (h : Lent) (nodes edges : List (List ℕ)) (y : EdgesShaped h nodes edges) (z : HoldsEdges x nodes edges) (n : ℕ) (k : n < length nodes) where
+  pub edges-light : All (Light h) (edgesOf (x .rows) n)
+  edges-light =
+      let a = startBy 2 nodes n in
+      let e = endBy 2 nodes n in
+      let s = all-stretch (λ (l : List ℕ). Light h (edgeIn l)) [] edges e (y .inside .ends n k) (e - a) a refl (λ i f g. record { row = y .rows n i k f g; weight = y .light n i k f g }) in
+      subst (All (Light h)) (ap edgesIn (sym (z n k)) ∙ edges-back (edgesOf (x .rows) n)) (all-edges (Light h) (stretch a e edges) s)
+
+  -- As many edges as the stretch is long.
+  pub edges-many : length (edgesOf (x .rows) n) ≡ endBy 2 nodes n - startBy 2 nodes n
+  edges-many =
+      sym (length-rows (edgesOf (x .rows) n)) ∙ ap (λ (l : List (List ℕ)). length l) (z n k)
+      ∙ stretch-length (startBy 2 nodes n) (endBy 2 nodes n) edges (y .inside .ends n k)
+
+  pub kept-node : Holds x h → Shaped h → (m : ℕ) (v : Live) → Runnable h m v
+      → Runnable h (m + length (edgesOf (x .rows) n) * 35184372088832) (thresholdCondition x v n .live)
+  unfolding thresholdCondition
+  kept-node o s m v a = kept-condition x h o s (bit (v .marks .sure) n) (edgesOf (x .rows) n) m v edges-light a
+
+module _ (x : Index) (h : Lent) (links : List ℕ) (y : LinksShaped h links) (z : HoldsLinks x h links) (r : ℕ) (k : r < length (h .rows)) where
+  -- The rows tell how many neighbours each has.
+  pub counts-links : length (neighbours r (x .links)) ≡ endBy 2 (h .rows) r - startBy 2 (h .rows) r
+  counts-links = ap (λ (l : List ℕ). length l) (z r k) ∙ stretch-length (startBy 2 (h .rows) r) (endBy 2 (h .rows) r) links (y .inside .ends r k)
+
+  pub kept-links : Holds x h → Shaped h → (m : ℕ) (v : Live) → Runnable h m v → Runnable h m (thresholdPrefixes x v r .live)
+  kept-links o s m v a =
+      let p = startBy 2 (h .rows) r in
+      let e = endBy 2 (h .rows) r in
+      let w = all-stretch (λ (i : ℕ). i < length (h .rows)) 0 links e (y .inside .ends r k) (e - p) p refl (λ i f g. y .rows r i k f g) in
+      kept-row-prefixes x h o s m v r k (subst (All (λ (i : ℕ). i < length (h .rows))) (sym (z r k)) w) a
+
+-- The guard of a node.
+pub kept-guard-of : (x : Index) (h : Lent) (nodes : List (List ℕ)) (limits : List ℤ) → GuardsShaped h nodes limits → HoldsGuards x nodes limits → (n : ℕ) → n < length nodes
+    → Holds x h → Shaped h → (m : ℕ) (v : Live) → Runnable h m v → Runnable h m (guardOf x v (x .thresholds) n .live)
+kept-guard-of x h nodes limits y z n k o s m v a = by (ℕ-discrete t 0)
+  where
+    t : ℕ
+    t = endBy 0 nodes n
+
+    by : Dec (t ≡ 0) → Runnable h m (guardOf x v (x .thresholds) n .live)
+    by (yes e) = runnable-by h m _ _ (sym (guard-not x nodes limits z n k v t refl e)) a
+    by (no e) =
+        let p : 0 < t = omega arith in
+        let f = guard-is x nodes limits z n k v t refl p in
+        let g = getD (x .thresholds) (t - 1) noThreshold in
+        let b = guard-bound x nodes limits z n k v t refl in
+        let r : rowNumber (x .rows) (g .terms) < length (h .rows) = rw (f .row ∙ z .row n k) (y .rows n k p) in
+        let c : mag (g .bound) < 2 ^ 61 = rw b (y .small (t - 1) (omega (arith, y .inside n k))) in
+        runnable-by h m _ _ (sym (f .guard)) (kept-guard x h o s m v g r c a)
