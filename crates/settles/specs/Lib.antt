@@ -1,1 +1,5 @@
 pub mod Turned
+pub mod Jobs
+pub mod Seals
+pub mod Sifts
+pub mod Records

@@ -134,7 +134,7 @@ module _ (j : Job) (x : Index) (b : Built j x) (ordered : (r : ℕ) → IsRow (x
       by false q =
           let k = told .0 q in
           let a = condition-leads j x b ordered single s (tells n (takes n l)) (g .live) k n
-              (k .told .decided n (also-this n (l .told) n refl)) (λ r. e .fresh r n (taken-fresh x s l v h some)) in (
+          (k .told .decided n (also-this n (l .told) n refl)) (λ r. e .fresh r n (taken-fresh x s l v h some)) in (
             λ o. (all, even, a .0 (joined-right (g .step) (c .step) o)),
             λ o. a .1 (joined-which (g .step) (c .step) q o),
           )
