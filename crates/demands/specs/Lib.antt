@@ -3,3 +3,4 @@ pub mod Reading
 pub mod Demands
 pub mod Met
 pub mod Demand3
+pub mod Demand3Marks
