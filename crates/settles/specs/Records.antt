@@ -70,6 +70,7 @@ pub record Keeps (f : File) : Type 0 where
   pub rises : Rises (f .job .thresholds)
   pub unstarted : f .started ≡ false → f .sealed ≡ false
   pub untouched : f .sealed ≡ false → Untouched (f .live)
+  pub late : f .contradicted ≡ true → f .sealed ≡ true
   pub steady : From f (ownStart (f .live))
 
 none-at : (n i : ℕ) → getD (replicate n noState) i noState ≡ noState
@@ -84,6 +85,7 @@ keeps-begun = record {
   rises = tt;
   unstarted = λ e. refl;
   untouched = λ e. record { states = none-at 1024; bits = bits };
+  late = λ e. absurd (clash false e refl);
   steady = λ e. absurd (clash false e refl);
 }
   where
@@ -133,6 +135,7 @@ module _ (f : File) (k : Keeps f) where
     rises = tt;
     unstarted = λ e. refl;
     untouched = λ e. k .untouched (k .unstarted (t .turn));
+    late = λ e. absurd (clash false e refl);
     steady = λ e. absurd (clash false e refl);
   }
   kept (opens n b) h t g =
@@ -142,6 +145,7 @@ module _ (f : File) (k : Keeps f) where
         rises = rises-opens (f .job .thresholds) (record { node = n; bound = b; terms = [] }) (k .rises) (t .rising);
         unstarted = k .unstarted;
         untouched = k .untouched;
+        late = λ e. absurd (clash (f .contradicted) e (t .fine));
         steady = λ e. absurd (clash (f .sealed) e sealed);
       }
   kept (adds c w) h t g =
@@ -151,6 +155,7 @@ module _ (f : File) (k : Keeps f) where
         rises = rises-term (term c w) (f .job .thresholds) (k .rises);
         unstarted = k .unstarted;
         untouched = k .untouched;
+        late = λ e. absurd (clash (f .contradicted) e (t .fine));
         steady = λ e. absurd (clash (f .sealed) e sealed);
       }
   kept (areas c a) h t g =
@@ -160,6 +165,7 @@ module _ (f : File) (k : Keeps f) where
         rises = rises-term (term c (weightOfArea a)) (f .job .thresholds) (k .rises);
         unstarted = k .unstarted;
         untouched = k .untouched;
+        late = λ e. absurd (clash (f .contradicted) e (t .fine));
         steady = λ e. absurd (clash (f .sealed) e sealed);
       }
   kept seal h t g = record {
@@ -167,6 +173,7 @@ module _ (f : File) (k : Keeps f) where
     rises = k .rises;
     unstarted = λ e. absurd (clash (f .started) (not-false (f .started) (or-false (not (f .started)) (f .sealed) (t .turn) .0)) e);
     untouched = λ e. absurd (clash true refl e);
+    late = λ e. refl;
     steady = λ e c. steady-own (indexOf (f .job)) _ _ (apply f seal .live) (seal-from h .0 e c);
   }
   kept (mark n v) h t g = record {
@@ -174,6 +181,7 @@ module _ (f : File) (k : Keeps f) where
     rises = k .rises;
     unstarted = λ e. absurd (clash (f .sealed) (not-false (f .sealed) (t .turn)) (k .unstarted e));
     untouched = λ e. absurd (clash true refl e);
+    late = λ e. refl;
     steady = λ e c. own-marked (eqb v 1) n (f .live) (apply f (mark n v) .live) (mark-from n v (ownStart (f .live)) h (k .steady) .0 e c);
   }
   kept settle h t g = record {
@@ -181,6 +189,7 @@ module _ (f : File) (k : Keeps f) where
     rises = k .rises;
     unstarted = λ e. absurd (clash (f .sealed) (not-false (f .sealed) (t .turn)) (k .unstarted e));
     untouched = λ e. absurd (clash true refl e);
+    late = λ e. refl;
     steady = λ e c. steady-own (indexOf (f .job)) _ _ (apply f settle .live) (settle-from (ownStart (f .live)) h (k .steady) .0 e c);
   }
   kept sift h t g = record {
@@ -188,6 +197,7 @@ module _ (f : File) (k : Keeps f) where
     rises = k .rises;
     unstarted = λ e. absurd (clash (f .sealed) (not-false (f .sealed) (t .turn)) (k .unstarted e));
     untouched = λ e. absurd (clash true refl e);
+    late = λ e. refl;
     steady = λ e c. sift-keeps (f .job) (k .good .job) (k .rises) (f .live) (f .gcds) (k .steady (not-false (f .sealed) (t .turn)) (t .fine)) c;
   }
   kept unknown h t g = k
