@@ -5,3 +5,5 @@ pub mod Met
 pub mod Demand3
 pub mod Demand3Marks
 pub mod Demand3Reading
+pub mod Demand3Order
+pub mod Demand3Met
