@@ -12,11 +12,11 @@ use borrow.Author.Tests.{ne-eqb}
 use Rattle.words.specs.Mask.{bit}
 use Rattle.thresholds.specs.Rows.{Row, rowsOf}
 use Rattle.between.specs.Between.{Live}
-use Rattle.regions.specs.Drain.{indexOf, atRest}
 use Rattle.planner.specs.Record.{Record, seal, mark, settle}
 use Rattle.planner.specs.File.{File, begun, refusal, apply, settledFile, after, planned}
-use Rattle.ends.specs.Files.{Good, good-apply, rests-settle, Passed, planned-passed}
-use Rattle.table.specs.Table.{Table, start, ReachesConflict, AtRest, Ended}
+use Rattle.ends.specs.Files.{Passed, planned-passed}
+use Rattle.table.specs.Table.{Table, start, ReachesConflict, AtRest}
+use Rattle.table.specs.TableLaws.{run-below}
 use Rattle.table.specs.Ends.{Finite}
 use Rattle.table.specs.EndsLaws as Ends
 use Rattle.table.specs.EndsLaws.{start-finite}
@@ -25,10 +25,9 @@ use Rattle.follows.specs.Decide.{Broken, decideAs}
 use Rattle.follows.specs.Stands.{tableAt}
 use Rattle.follows.specs.Settled.{every-conflict}
 use Rattle.follows.specs.Ends.{reaches}
-use Rattle.settles.specs.Jobs.{job-built, job-ordered, job-single}
-use Rattle.settles.specs.Turned as Turned
 use Rattle.settles.specs.Seals.{bit-behind}
 use Rattle.settles.specs.Records.{From, Keeps, keeps-begun, keeps-after, seal-from, mark-from, settle-from}
+use Rattle.settles.specs.Still.{Still, rests, every-end, not-broken, known-is, possible-is, settle-still}
 use Rattle.demands.specs.Reading.{SameEnd, decidedIn, decidedAnd}
 use Rattle.demands.specs.Demands.{ExactlyTheTable}
 
@@ -90,10 +89,10 @@ pub exactly : (f : File) → Keeps f → refusal f settle ≡ 0 → (sure never 
     → ExactlyTheTable (rowsOf (f .job)) (start sure never) (apply f settle)
 unfolding apply settledFile
 exactly f k h sure never end from = record {
-  contradicts = λ c. reached rows sure never end (both .1 c);
+  contradicts = λ c. reached rows sure never end (broken c);
   only-then = λ r. ⊎-elim (λ (c : g .contradicted ≡ true). c) (λ (c : g .contradicted ≡ false). absurd (free c r)) (true-false (g .contradicted));
-  every-conflict = λ c t e. every-conflict rows s (both .1 c) e;
-  every-end = λ c t e. let q = ended c e in (subst (AtRest rows) (sym q) (rest c), subst (SameEnd g) (sym q) (same c));
+  every-conflict = λ c t e. every-conflict rows s (broken c) e;
+  every-end = λ c t e. let q = every-end (f .job) s (g .live) (still c) e in (subst (AtRest rows) (sym q) (rests (f .job) s (g .live) (still c)), subst (SameEnd g) (sym q) (same c));
   some-end = λ t r. Ends.some-end rows (end .0) s finite t r;
   bounded = Ends.bounded rows (end .0) s finite;
 }
@@ -110,38 +109,21 @@ exactly f k h sure never end from = record {
     finite : Finite rows (end .0) s
     finite = start-finite rows (end .0) sure never (end .1)
 
-    both : From g s × (g .contradicted ≡ true → Broken rows s)
-    both = settle-from f k s h from
+    broken : g .contradicted ≡ true → Broken rows s
+    broken = settle-from f k s h from .1
 
-    good : Good g
-    good = good-apply f (k .good) settle h
-
-    still : g .contradicted ≡ false → atRest (g .live) ≡ true
-    still c = rests-settle f (k .good) c
+    still : g .contradicted ≡ false → Still (f .job) s (g .live)
+    still c = settle-still f k h s from c
 
     free : g .contradicted ≡ false → ReachesConflict rows s → ⊥
-    free c r =
-        Turned.none-reached (f .job) (indexOf (f .job)) (job-built (f .job)) (job-ordered (f .job) (k .good .job)) (job-single (f .job) (k .rises)) s (g .live)
-        (both .0 refl c) (still c) (good .live .dirty) r
-
-    rest : g .contradicted ≡ false → AtRest rows (tableAt (g .live))
-    rest c =
-        Turned.rests (f .job) (indexOf (f .job)) (job-built (f .job)) (job-ordered (f .job) (k .good .job)) (job-single (f .job) (k .rises)) s (g .live)
-        (both .0 refl c) (still c) (good .live .dirty)
-
-    ended : g .contradicted ≡ false → {t : Table} → Ended rows s t → t ≡ tableAt (g .live)
-    ended c e =
-        Turned.every-end (f .job) (indexOf (f .job)) (job-built (f .job)) (job-ordered (f .job) (k .good .job)) (job-single (f .job) (k .rises)) s (g .live)
-        (both .0 refl c) (still c) (good .live .dirty) e
+    free c (u, r, e) = not-broken (f .job) s (g .live) (still c) (u, (λ w up rest. run-below rows w r up rest), e)
 
     same : g .contradicted ≡ false → SameEnd g (tableAt (g .live))
     same c = record {
       sure = λ n. refl;
       never = λ n. refl;
-      known = λ r i. Turned.known-is (f .job) (indexOf (f .job)) (job-built (f .job)) (job-ordered (f .job) (k .good .job)) (job-single (f .job) (k .rises)) s (g .live)
-          (both .0 refl c) (still c) (good .live .dirty) r i;
-      possible = λ r i. Turned.possible-is (f .job) (indexOf (f .job)) (job-built (f .job)) (job-ordered (f .job) (k .good .job)) (job-single (f .job) (k .rises)) s (g .live)
-          (both .0 refl c) (still c) (good .live .dirty) r i;
+      known = known-is (f .job) s (g .live) (still c);
+      possible = possible-is (f .job) s (g .live) (still c);
       lower = λ r i. refl;
       upper = λ r i. refl;
     }

@@ -1,27 +1,25 @@
 -- DEMAND 3, from the marks alone: with no sifting, what a file decided stands by the rules from its marks, and a settling is exactly
 -- the table from them.
-use Prim.Native.Nat.{ℕ, _+_, _≤_}
+use Prim.Native.Nat.{ℕ, _+_}
 use native.Mathlib.Decide.{ℕ-discrete}
 use native.Mathlib.Omega.{arith}
 use mathlib.Core.Path.{_≡_, refl, sym, ap, ap₂, _∙_, subst}
 use mathlib.Core.Bool as B
 use mathlib.Core.Bool.{Bool, true, false, cond, not, _||_, _&&_}
-use mathlib.Core.List.{List, [], _∷_, _++_, append-assoc, append-nil, List·Memᴰ, List·Memᴰ·head, List·Memᴰ·tail}
-use mathlib.Core.Logic.{_⊎_, inl, inr}
+use mathlib.Core.List.{List, [], _∷_, _++_, append-assoc, append-nil, List·Memᴰ·head, List·Memᴰ·tail}
 use lib.Dec.{eqb, ltb}
 use borrow.Author.Tests.{eq-eqb, ne-eqb, ltb-false}
 use Rattle.thresholds.specs.Rows.{rowsOf}
 use Rattle.planner.specs.Record.{Record, header, opens, adds, areas, seal, mark, settle, sift, unknown}
 use Rattle.planner.specs.File.{File, begun, refusal, isEmptyList, apply, settledFile, after, planned}
 use Rattle.ends.specs.Files.{Passed}
-use Rattle.table.specs.Table.{Table, start}
-use Rattle.follows.specs.Answers.{clash, or-false, not-false}
+use Rattle.follows.specs.Answers.{clash, or-false}
 use Rattle.follows.specs.Decide.{decideAs}
 use Rattle.settles.specs.Seals.{ownStart}
 use Rattle.settles.specs.Records.{Taken, taken, From, Breaks, Keeps, keeps-begun, keeps-apply, seal-from, mark-from, settle-from}
 use Rattle.demands.specs.Reading.{NoSift, markedNode, marksOnly}
 use Rattle.demands.specs.Demands.{ExactlyTheTable}
-use Rattle.demands.specs.Demand3.{start-same, Ending, exactly, Stood, stood}
+use Rattle.demands.specs.Demand3.{start-same, Ending, exactly, stood}
 
 -- ---- marked nodes
 

@@ -5,37 +5,28 @@ use native.Mathlib.Omega.{arith}
 use mathlib.Core.Path.{_≡_, refl, sym, ap, ap₂, _∙_, subst}
 use mathlib.Core.Bool.{Bool, true, false, cond, _||_, _&&_}
 use mathlib.Core.List.{List, [], _∷_, _++_, List·Memᴰ, List·Memᴰ·head, List·Memᴰ·tail, List·Memᴰ·cases-cons, List·Memᴰ·not-nil, Memᴰ·append-left, List·Memᴰ·append-cases, List·Memᴰ·eq-of-singleton}
-use mathlib.Core.Logic.{_⊎_, inl, inr, ⊎-elim, _↔_}
-use lib.ListN.{length, getD}
+use mathlib.Core.Logic.{_⊎_, inl, inr, ⊎-elim}
+use lib.ListN.{length}
 use lib.Dec.{eqb}
 use lib.IntN.{pos}
 use lib.Signed.{≤ℤ-refl}
 use borrow.Author.Tests.{eq-eqb, eqb-true}
 use Rattle.numeric.specs.Threshold.{Job}
-use Rattle.state.specs.State.{noState}
-use Rattle.words.specs.Mask.{bit}
-use Rattle.queues.specs.RowsLaws.{Flags}
 use Rattle.thresholds.specs.Rows.{Row, rowsOf}
-use Rattle.between.specs.Between.{Live, stateAt}
-use Rattle.regions.specs.Drain.{indexOf, atRest}
 use Rattle.planner.specs.Record.{Record, header, opens, adds, areas, seal, mark, settle, sift, unknown}
-use Rattle.planner.specs.File.{File, begun, refusal, apply, settledFile, after, planned}
-use Rattle.ends.specs.Built.{Fits}
-use Rattle.ends.specs.Files.{Passed, planned-passed, rests-settle}
-use Rattle.table.specs.Table.{Table, start, knownOf, possibleOf, AtRest}
-use Rattle.table.specs.TableLaws.{Le, le-both, follows-more, conflict-up}
+use Rattle.planner.specs.File.{File, begun, apply, settledFile, after, planned}
+use Rattle.ends.specs.Files.{Passed, planned-passed}
+use Rattle.table.specs.Table.{Table, knownOf, possibleOf}
+use Rattle.table.specs.TableLaws.{Le, follows-more}
 use Rattle.follows.specs.Answers.{true-false, clash, and-left, and-right, or-true}
 use Rattle.follows.specs.Decide.{Broken}
-use Rattle.follows.specs.Stands.{tableAt}
-use Rattle.settles.specs.Jobs.{Rises, job-built, job-ordered, job-single}
-use Rattle.settles.specs.Turned as Turned
-use Rattle.settles.specs.Turned.{Steady}
-use Rattle.settles.specs.Records.{Keeps, keeps-begun, keeps-after}
+use Rattle.settles.specs.Records.{keeps-begun, keeps-after}
+use Rattle.settles.specs.Still.{Still, not-broken, known-is, possible-is, one-table, settle-still}
 use Rattle.demands.specs.Reading.{Marked, SameMarks, NoSift, markedNode, marksOnly, SameFigures, records, decoded, plainly, plainlyAll, Passes}
 use Rattle.demands.specs.Met as Met
 use Rattle.demands.specs.Demand3.{passed-here, start-same}
-use Rattle.demands.specs.Demand3Marks.{marked-append, marks-same, Marking, marking}
-use Rattle.demands.specs.Demand3Reading.{Over, planned-over, Level, level-same, level-after, job-stays, plainly-append, passes-split}
+use Rattle.demands.specs.Demand3Marks.{marked-append, marks-same, marking}
+use Rattle.demands.specs.Demand3Reading.{Over, planned-over, level-same, level-after, job-stays, plainly-append, passes-split}
 
 -- ---- THE TABLE KNOWS ONLY THE SET OF MARKS
 
@@ -99,44 +90,18 @@ more-marks rows rs qs (t, f, c) = (t, follows-more rows (marksOnly rs) (marksOnl
 
 -- ---- TWO ENDS OF ONE START
 
--- Nothing waits, and all stands by the rules from the start.
-record Still (j : Job) (s : Table) (v : Live) : Type 0 where
-  pub fits : Fits j
-  pub rises : Rises (j .thresholds)
-  pub steady : Steady (indexOf j) s v
-  pub rest : atRest v ≡ true
-  pub flags : Flags (v .dirty)
-
-module _ (j : Job) (s : Table) where
-  rests : (v : Live) → Still j s v → AtRest (rowsOf j) (tableAt v)
-  rests v h = Turned.rests j (indexOf j) (job-built j) (job-ordered j (h .fits)) (job-single j (h .rises)) s v (h .steady) (h .rest) (h .flags)
-
-  known-is : (v : Live) → Still j s v → (r : ℕ) → r < length (rowsOf j) → stateAt v r .known ≡ knownOf (rowsOf j) (tableAt v) r
-  known-is v h r i = Turned.known-is j (indexOf j) (job-built j) (job-ordered j (h .fits)) (job-single j (h .rises)) s v (h .steady) (h .rest) (h .flags) r i
-
-  possible-is : (v : Live) → Still j s v → (r : ℕ) → r < length (rowsOf j) → stateAt v r .possible ≡ possibleOf (rowsOf j) (tableAt v) r
-  possible-is v h r i = Turned.possible-is j (indexOf j) (job-built j) (job-ordered j (h .fits)) (job-single j (h .rises)) s v (h .steady) (h .rest) (h .flags) r i
-
-  not-broken : (v : Live) → Still j s v → Broken (rowsOf j) s → ⊥
-  not-broken v h (t, f, c) = rests v h .0 (conflict-up (rowsOf j) t (tableAt v) (f (tableAt v) (h .steady .2 .stands .above) (rests v h)) c)
-
-  one-table : (v w : Live) → Still j s v → Still j s w → tableAt v ≡ tableAt w
-  one-table v w h k =
-      le-both (tableAt v) (tableAt w) (h .steady .2 .stands .follows (tableAt w) (k .steady .2 .stands .above) (rests w k))
-      (k .steady .2 .stands .follows (tableAt v) (h .steady .2 .stands .above) (rests v h))
-
-  same-figures : (f g : File) → f .job ≡ j → Still j s (f .live) → Still j s (g .live) → SameFigures f g
-  same-figures f g e h k =
-      let q = one-table (f .live) (g .live) h k in
-      let is : (r : ℕ) → r < length (rowsOf (f .job)) → r < length (rowsOf j) = λ r i. subst (λ (y : Job). r < length (rowsOf y)) e i in
-      record {
-        sure = λ n. ap (λ (t : Table). t .sure n) q;
-        never = λ n. ap (λ (t : Table). t .never n) q;
-        known = λ r i. known-is (f .live) h r (is r i) ∙ ap (λ (t : Table). knownOf (rowsOf j) t r) q ∙ sym (known-is (g .live) k r (is r i));
-        possible = λ r i. possible-is (f .live) h r (is r i) ∙ ap (λ (t : Table). possibleOf (rowsOf j) t r) q ∙ sym (possible-is (g .live) k r (is r i));
-        lower = λ r i. ap (λ (t : Table). t .lower r) q;
-        upper = λ r i. ap (λ (t : Table). t .upper r) q;
-      }
+same-figures : (j : Job) (s : Table) (f g : File) → f .job ≡ j → Still j s (f .live) → Still j s (g .live) → SameFigures f g
+same-figures j s f g e h k =
+    let q = one-table j s (f .live) (g .live) h k in
+    let is : (r : ℕ) → r < length (rowsOf (f .job)) → r < length (rowsOf j) = λ r i. subst (λ (y : Job). r < length (rowsOf y)) e i in
+    record {
+      sure = λ n. ap (λ (t : Table). t .sure n) q;
+      never = λ n. ap (λ (t : Table). t .never n) q;
+      known = λ r i. known-is j s (f .live) h r (is r i) ∙ ap (λ (t : Table). knownOf (rowsOf j) t r) q ∙ sym (known-is j s (g .live) k r (is r i));
+      possible = λ r i. possible-is j s (f .live) h r (is r i) ∙ ap (λ (t : Table). possibleOf (rowsOf j) t r) q ∙ sym (possible-is j s (g .live) k r (is r i));
+      lower = λ r i. ap (λ (t : Table). t .lower r) q;
+      upper = λ r i. ap (λ (t : Table). t .upper r) q;
+    }
 
 -- ---- ONE FILE
 
@@ -192,24 +157,14 @@ module _ (rs : List Record) (passes : Passes begun (rs ++ (settle ∷ []))) (pla
   stayed : Passed begun all → after begun all .contradicted ≡ false → (after begun all .job ≡ job) × Still job (marksOnly rs) (after begun all .live)
   unfolding apply settledFile
   stayed h c =
-      let f = after begun all in
-      let k = keeps-after begun all keeps-begun h in
+      let f = after begun rs in
       let b = passed-here begun rs settle [] h in
       let e = after-snoc begun rs settle in
-      let q : f .job ≡ job = level-after begun begun all (level-same begun) passes .job ∙ last-job in
-      let sealed : f .sealed ≡ true = ap (λ (y : File). y .sealed) e in
-      let still : atRest (f .live) ≡ true =
-      ap (λ (y : File). atRest (y .live)) e
-      ∙ rests-settle (after begun rs) (keeps-after begun rs keeps-begun (b .0) .good) (ap (λ (y : File). y .contradicted) (sym e) ∙ c) in (
+      let q : f .job ≡ job = level-after begun begun rs (level-same begun) (passes-split begun rs (settle ∷ []) passes .0) .job in
+      subst (λ (y : File). (y .job ≡ job) × Still job (marksOnly rs) (y .live)) (sym e) (
         q,
-        record {
-          fits = subst Fits q (k .good .job);
-          rises = subst (λ (y : Job). Rises (y .thresholds)) q (k .rises);
-          steady = subst (λ (y : Job). Steady (indexOf y) (marksOnly rs) (f .live)) q
-              (subst (λ (t : Table). Steady (indexOf (f .job)) t (f .live)) all-marks (marking all h no-sift .from sealed c));
-          rest = still;
-          flags = k .good .live .dirty;
-        },
+        subst (λ (y : Job). Still y (marksOnly rs) (apply f settle .live)) q
+            (settle-still f (keeps-after begun rs keeps-begun (b .0)) (b .1) (marksOnly rs) (marking rs (b .0) plain .from) (ap (λ (y : File). y .contradicted) (sym e) ∙ c)),
       )
 
   side : (x : List ℕ) → decoded x ≡ records all → (planned x .refused ≡ 0) ⊎ (planned x .refused ≡ 9) → Side (planned x .file) job (marksOnly rs)

@@ -2,18 +2,18 @@
 -- where one of them contradicted. The job of a sealed file is the one that is read on to the end.
 use Prim.Native.Nat.{ℕ, zero, suc, _+_}
 use native.Mathlib.Omega.{arith}
-use mathlib.Core.Path.{_≡_, refl, sym, ap, ap₂, _∙_, subst}
+use mathlib.Core.Path.{_≡_, refl, sym, ap, _∙_}
 use mathlib.Core.Bool.{Bool, true, false, cond, not, _||_}
 use mathlib.Core.List.{List, [], _∷_, _++_, append-assoc, append-nil}
 use mathlib.Core.Logic.{_⊎_, inl, inr, ⊎-elim, _≢_}
 use lib.ListN.{length, drop}
 use lib.Dec.{eqb, ltb}
 use borrow.Author.Tests.{eqb-false}
-use Rattle.numeric.specs.Threshold.{Term, term, Threshold, Job}
+use Rattle.numeric.specs.Threshold.{term, Threshold, Job}
 use Rattle.numeric.specs.Area.{weightOfArea}
 use Rattle.planner.specs.Record.{Record, header, opens, adds, areas, seal, mark, settle, sift, unknown, kindOf, bodyLength}
 use Rattle.planner.specs.File.{File, begun, Check, check, first, refusal, wrongTurn, noSuchNode, notRising, badBound, badValue, tooMany, isEmptyList, addTerm, apply, settledFile, siftedFile, Outcome, outcome, recordAt, unknownKind, cutBody, refusalAt, readFrom, fileOf, planned, after}
-use Rattle.follows.specs.Answers.{true-false, clash, or-false, not-false}
+use Rattle.follows.specs.Answers.{clash, or-false, not-false}
 use Rattle.settles.specs.Records.{Taken, taken}
 use Rattle.demands.specs.Reading.{Decoded, records, damaged, decodeFrom, decoded, plainly, plainlyAll, Passes}
 

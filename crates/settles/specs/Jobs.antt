@@ -1,6 +1,6 @@
 -- A JOB OF A FILE meets what the invariant of draining asks: its nodes are in range, and as the nodes of its thresholds rise, none
 -- guards twice.
-use Prim.Native.Nat.{ℕ, suc, _+_, _≤_, _<_}
+use Prim.Native.Nat.{ℕ, _+_, _≤_, _<_}
 use native.Mathlib.Nat.{le-refl}
 use native.Mathlib.Omega.{arith}
 use mathlib.Core.Path.{_≡_, refl, sym, ap, _∙_, subst}
@@ -11,7 +11,7 @@ use lib.ListN.{length, getD}
 use lib.Dec.{leb}
 use borrow.Author.Tests.{leb-false}
 use Rattle.numeric.specs.Threshold.{Term, Threshold, Job}
-use Rattle.row.specs.Terms.{rowTerms, sameTerms}
+use Rattle.row.specs.Terms.{sameTerms}
 use Rattle.row.specs.TermsLaws.{All as Every, all-map}
 use Rattle.thresholds.specs.Rows.{Row, rowOf, noRow, guard, insertGuard, place, placeAll, rowsOf}
 use Rattle.regions.specs.Drain.{indexOf}
@@ -19,7 +19,7 @@ use Rattle.planner.specs.File.{lastNode, isEmptyList, addTerm}
 use Rattle.ends.specs.Built.{Fit, Fits}
 use Rattle.table.specs.Table.{IsRow}
 use Rattle.follows.specs.RowComplete.{Ordered}
-use Rattle.follows.specs.Built.{Built, built, InRange, rows-ordered}
+use Rattle.follows.specs.Built.{Built, built, rows-ordered}
 use Rattle.follows.specs.Told.{Single, rows-single}
 
 -- ---- lists

@@ -3,3 +3,4 @@ pub mod Jobs
 pub mod Seals
 pub mod Sifts
 pub mod Records
+pub mod Still

@@ -2,15 +2,14 @@
 -- a seal, a mark or a settling that contradicts shows that a conflict follows from its start.
 use Prim.Native.Nat.{ℕ, zero, suc, _<_}
 use native.Mathlib.Omega.{arith}
-use mathlib.Core.Path.{_≡_, refl, sym, ap, _∙_, subst}
-use mathlib.Core.Bool.{Bool, true, false, not, _||_, _&&_}
-use mathlib.Core.List.{List, [], _∷_, _++_}
+use mathlib.Core.Path.{_≡_, refl}
+use mathlib.Core.Bool.{Bool, true, false, not, _||_}
+use mathlib.Core.List.{List, [], _∷_}
 use lib.ListN.{getD, replicate}
 use lib.Dec.{eqb, leb}
 use borrow.Author.Tests.{leb-false}
 use Rattle.numeric.specs.Area.{weightOfArea}
-use Rattle.numeric.specs.Threshold.{Term, term, Threshold, Job}
-use Rattle.state.specs.declared.State.{State}
+use Rattle.numeric.specs.Threshold.{term}
 use Rattle.state.specs.State.{noState}
 use Rattle.words.specs.Mask.{bit}
 use Rattle.queues.specs.MarksLaws.{mask}
@@ -18,15 +17,14 @@ use Rattle.thresholds.specs.Rows.{rowsOf}
 use Rattle.between.specs.Between.{Live}
 use Rattle.regions.specs.Drain as Drain
 use Rattle.regions.specs.Drain.{indexOf}
-use Rattle.regions.specs.Sift as Sift
 use Rattle.planner.specs.Record.{Record, header, opens, adds, areas, seal, mark, settle, sift, unknown}
-use Rattle.planner.specs.File.{File, begun, Check, check, first, refusal, wrongTurn, noSuchNode, notRising, badBound, badValue, tooMany, isEmptyList, addTerm, apply, settledFile, siftedFile, after}
+use Rattle.planner.specs.File.{File, begun, Check, check, first, refusal, wrongTurn, noSuchNode, notRising, badBound, badValue, isEmptyList, apply, settledFile, siftedFile, after}
 use Rattle.ends.specs.Files.{Good, good-begun, good-apply, Passed}
 use Rattle.table.specs.Table.{Table, start}
 use Rattle.follows.specs.Answers.{clash, or-false, not-false}
 use Rattle.follows.specs.Decide.{Broken, decideAs}
 use Rattle.settles.specs.Jobs.{Rises, rises-opens, rises-term, job-built, job-ordered, job-single}
-use Rattle.settles.specs.Turned.{Steady, Goes, settle-goes}
+use Rattle.settles.specs.Turned.{Steady, settle-goes}
 use Rattle.settles.specs.Seals.{ownStart, bit-none, Untouched, seal-goes}
 use Rattle.settles.specs.Sifts.{mark-goes, steady-own, sift-keeps}
 

@@ -2,10 +2,9 @@
 use Prim.Native.Nat.{ℕ, zero, suc, _+_, _*_, _/_, _%_, _≤_, _<_}
 use native.Mathlib.Nat.{not-suc-le-zero}
 use native.Mathlib.Omega.{arith}
-use mathlib.Core.Path.{_≡_, refl, sym, ap, ap₂, _∙_, subst}
+use mathlib.Core.Path.{_≡_, refl, ap, ap₂, _∙_}
 use mathlib.Core.Bool.{Bool, true, false, _||_}
 use mathlib.Core.List.{List, [], _∷_}
-use mathlib.Core.Logic.{_≢_}
 use lib.ListN.{length, getD, set, length-set, replicate, List·getD-eq-default}
 use lib.Seq.{getD-set-same, getD-set-other}
 use lib.Dec.{eqb}
@@ -15,16 +14,15 @@ use Rattle.state.specs.declared.State.{State}
 use Rattle.state.specs.State.{noState}
 use Rattle.words.specs.Mask.{bit, digit}
 use Rattle.words.specs.Digits.{digit-high}
-use Rattle.queues.specs.Marks.{Marks, isDecided}
+use Rattle.queues.specs.Marks.{isDecided}
 use Rattle.queues.specs.MarksLaws.{mask}
 use Rattle.thresholds.specs.Rows.{Row, noRow, rowsOf, stateOfRow}
 use Rattle.between.specs.Between.{Index, Live, live, stateAt, firstStates}
 use Rattle.regions.specs.Drain.{indexOf, seal}
 use Rattle.ends.specs.Turns as Turns
 use Rattle.ends.specs.Built.{Fits}
-use Rattle.table.specs.Table.{Table, start, IsRow}
+use Rattle.table.specs.Table.{Table, start}
 use Rattle.follows.specs.Answers.{clash}
-use Rattle.follows.specs.Waiting.{Queued}
 use Rattle.follows.specs.Start.{first-sound}
 use Rattle.settles.specs.Jobs.{Rises, rows-few, job-built, job-ordered, job-single}
 use Rattle.settles.specs.Turned.{Goes, seeds-go}

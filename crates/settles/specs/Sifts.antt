@@ -1,7 +1,6 @@
 -- A MARK keeps the invariant with one node more in its start, and A SIFTING keeps it from the nodes that are decided after it: what
 -- it decides beyond the rules is a start like any other.
 use Prim.Native.Nat.{ℕ, zero, suc, _<_}
-use native.Mathlib.Omega.{arith}
 use mathlib.Core.Path.{_≡_, refl, sym, ap, _∙_, subst}
 use mathlib.Core.Bool as B
 use mathlib.Core.Bool.{Bool, true, false, not, _||_}
@@ -29,10 +28,9 @@ use Rattle.table.specs.Table.{Table, start}
 use Rattle.follows.specs.Answers.{true-false, clash}
 use Rattle.follows.specs.Decide.{decideAs}
 use Rattle.follows.specs.Stands.{decide-nothing}
-use Rattle.follows.specs.Settled.{Ledger, Sound}
 use Rattle.follows.specs.Start.{mark-leads, restarted}
 use Rattle.settles.specs.Jobs.{Rises, job-built, job-ordered, job-single}
-use Rattle.settles.specs.Turned.{Even, Steady, Goes, settle-goes}
+use Rattle.settles.specs.Turned.{Steady, Goes, settle-goes}
 use Rattle.settles.specs.Seals.{ownStart}
 
 -- A MARK

@@ -4,7 +4,7 @@ use Prim.Native.Nat.{ℕ, zero, suc, _+_, _<_}
 use native.Mathlib.Omega.{arith}
 use native.Mathlib.Decide.{ℕ-discrete}
 use mathlib.Core.Path.{_≡_, refl, sym, ap, _∙_, subst}
-use mathlib.Core.Bool.{Bool, true, false, _&&_}
+use mathlib.Core.Bool.{Bool, true, false}
 use mathlib.Core.List.{List, [], _∷_, List·Memᴰ, List·Memᴰ·head, List·Memᴰ·tail, List·Memᴰ·cases-cons, List·Memᴰ·not-nil}
 use mathlib.Core.Logic.{_⊎_, ⊎-elim, _≢_}
 use lib.ListN.{length, getD}
@@ -18,12 +18,12 @@ use Rattle.queues.specs.Queue.{isEmpty, oldest, popped, nextRow}
 use Rattle.queues.specs.QueueLaws.{empty-none}
 use Rattle.queues.specs.Once.{times, times-none}
 use Rattle.queues.specs.RowsLaws.{Flags}
-use Rattle.queues.specs.Marks.{Marks, marks, isDecided}
+use Rattle.queues.specs.Marks.{marks, isDecided}
 use Rattle.thresholds.specs.Rows.{Row, noRow}
 use Rattle.between.specs.Between.{Index, Live, live, Did, did, stateAt, runRow, thresholdGuard, guardOf, thresholdCondition, seedFrom}
 use Rattle.regions.specs.Drain.{withMarks, takeNode, takeRow, turn, atRest, drain, turns, settle}
-use Rattle.table.specs.Table.{Table, IsRow, knownOf, possibleOf, ReachesConflict, AtRest, Ended}
-use Rattle.follows.specs.Answers.{true-false, clash, and-left, and-right, joined-fine, joined-which, joined-right}
+use Rattle.table.specs.Table.{Table, IsRow, knownOf, possibleOf, AtRest}
+use Rattle.follows.specs.Answers.{clash, and-left, and-right, joined-fine, joined-which, joined-right}
 use Rattle.follows.specs.Decide.{Broken}
 use Rattle.follows.specs.RowComplete.{Ordered}
 use Rattle.follows.specs.Stands.{tableAt, also, also-this, also-other, also-before}
@@ -225,7 +225,7 @@ module _ (j : Job) (x : Index) (b : Built j x) (ordered : (r : ℕ) → IsRow (x
   pub seeds-go : (v : Live) → Sound x s (seeded (λ (r : ℕ). false)) v → Goes x s (seedFrom x 0 (x .rows) v Unchanged)
   seeds-go v h = seed-goes 0 (x .rows) v Unchanged (λ (r : ℕ). false) (omega arith) (λ q i. absurd (omega arith)) refl h
 
-  -- NOTHING WAITS: the nodes and figures are a rest of the table, and every run from the start that went on to its end ended in them
+  -- NOTHING WAITS: the nodes and figures are a rest of the table
   module _ (v : Live) (h : Steady x s v) (rest : atRest v ≡ true) (flags : Flags (v .dirty)) where
     empty : isEmpty (v .marks .nodes) ≡ true
     empty = and-left (isEmpty (v .marks .nodes)) (isEmpty (v .dirty .queue)) rest
@@ -239,12 +239,6 @@ module _ (j : Job) (x : Index) (b : Built j x) (ordered : (r : ℕ) → IsRow (x
 
     pub rests : AtRest (x .rows) (tableAt v)
     rests = Settled.rests j x b ordered single s (h .0) v (h .2) empty idle (h .1 .drained) (h .1 .told) (h .1 .ran) (h .1 .none)
-
-    pub every-end : {u : Table} → Ended (x .rows) s u → u ≡ tableAt v
-    every-end e = Settled.every-end j x b ordered single s (h .0) v (h .2) empty idle (h .1 .drained) (h .1 .told) (h .1 .ran) (h .1 .none) e
-
-    pub none-reached : ReachesConflict (x .rows) s → ⊥
-    none-reached e = Settled.none-reached j x b ordered single s (h .0) v (h .2) empty idle (h .1 .drained) (h .1 .told) (h .1 .ran) (h .1 .none) e
 
     pub known-is : (r : ℕ) → IsRow (x .rows) r → stateAt v r .known ≡ knownOf (x .rows) (tableAt v) r
     known-is r i = Settled.known-is j x b ordered single s (h .0) v (h .2) empty idle (h .1 .drained) (h .1 .told) (h .1 .ran) (h .1 .none) r i
