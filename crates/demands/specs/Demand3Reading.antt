@@ -143,7 +143,7 @@ module _ (f g : File) (l : Level f g) where
   with-thresholds : (List Threshold → List Threshold) → Job → Job
   with-thresholds go j = record { nodes = j .nodes; thresholds = go (j .thresholds) }
 
-  level-apply : (r : Record) → Taken g r → Level (apply f r) (plainly g r)
+  pub level-apply : (r : Record) → Taken g r → Level (apply f r) (plainly g r)
   unfolding apply settledFile siftedFile plainly with-thresholds
   level-apply (header n) t = record { job = refl; started = refl; sealed = refl }
   level-apply (opens n b) t = record {

@@ -7,3 +7,4 @@ pub mod Demand3Marks
 pub mod Demand3Reading
 pub mod Demand3Order
 pub mod Demand3Met
+pub mod Demand3Passes
