@@ -19,8 +19,9 @@ use Rattle.queues.specs.Queue.{Rows, queueRow}
 use Rattle.queues.specs.Marks.{Marks}
 use Rattle.thresholds.specs.Rows.{Row, noRow, rowNumber}
 use Rattle.propagate.specs.declared.Tightened.{Tightened}
-use Rattle.between.specs.Between.{Index, live, did, residualQueued, linkedQueued, Did, Live, stateAt, runRow, bounded, thresholdGuard}
-use Rattle.between.specs.Numbers.{Runs}
+use Rattle.between.specs.Between.{Index, live, did, residualQueued, linkedQueued, Did, Live, stateAt, runWith, bounded, thresholdGuard}
+use Rattle.between.specs.Held.{Lent, Holds, heldRow}
+use Rattle.between.specs.HeldLaws.{run-held}
 use Rattle.propagate.specs.Told.{guardState}
 use Rattle.propagate.specs.Row.{Ran, ran, thresholdRow, wantsResidual}
 
@@ -31,18 +32,19 @@ residual-waits row s q r h = rw h
 pub residual-not : (row : Row) (s : State) (q : Rows) (r : ℕ) → wantsResidual row s ≡ false → q ≡ residualQueued row s q r
 residual-not row s q r h = rw h
 
--- A run, from the row's parts and what its run gave.
-pub run-made : (x : Index) (ss : List State) (m : Marks) (d q : Rows) (r : ℕ) (row : Row) → getD (x .rows) r noRow ≡ row
-    → (s : State) → getD ss r noState ≡ s → (ss′ : List State) (m′ : Marks) (q′ : Rows) (t : State) (k : Step)
+-- A run, from the row's state and what its run gave.
+pub run-made : (row : Row) (ss : List State) (m : Marks) (d q : Rows) (r : ℕ) (s : State) → getD ss r noState ≡ s
+    → (ss′ : List State) (m′ : Marks) (q′ : Rows) (t : State) (k : Step)
     → ran t m′ k ≡ thresholdRow row s m → q′ ≡ residualQueued row s q r → ss′ ≡ set ss r t
-    → did (live ss′ m′ d q′) k ≡ runRow x (live ss m d q) r
-unfolding runRow
-run-made x ss m d q r row e s f ss′ m′ q′ t k g h i =
-    let u = g ∙ ap (λ (y : State). thresholdRow row y m) (sym f) ∙ ap (λ (y : Row). thresholdRow y (getD ss r noState) m) (sym e) in
-    let v = h ∙ ap (λ (y : State). residualQueued row y q r) (sym f) ∙ ap (λ (y : Row). residualQueued y (getD ss r noState) q r) (sym e) in
+    → did (live ss′ m′ d q′) k ≡ runWith row (live ss m d q) r
+unfolding runWith
+run-made row ss m d q r s f ss′ m′ q′ t k g h i =
+    let u = g ∙ ap (λ (y : State). thresholdRow row y m) (sym f) in
+    let v = h ∙ ap (λ (y : State). residualQueued row y q r) (sym f) in
+    let o = thresholdRow row (getD ss r noState) m in
     ap (λ (y : List State). did (live y m′ d q′) k) i
     ∙ ap (λ (y : Ran). did (live (set ss r (y .state)) (y .marks) d q′) (y .step)) u
-    ∙ ap (λ (y : Rows). did (live (set ss r (thresholdRow (getD (x .rows) r noRow) (getD ss r noState) m .state)) (thresholdRow (getD (x .rows) r noRow) (getD ss r noState) m .marks) d y) (thresholdRow (getD (x .rows) r noRow) (getD ss r noState) m .step)) v
+    ∙ ap (λ (y : Rows). did (live (set ss r (o .state)) (o .marks) d y) (o .step)) v
 
 -- A row with links waits.
 pub linked-waits : (n : ℕ) (q : Rows) (r : ℕ) → n ≢ 0 → queueRow q r ≡ linkedQueued n q r
@@ -51,13 +53,21 @@ linked-waits n q r h = rw (ne-eqb n 0 h)
 pub linked-not : (n : ℕ) (q : Rows) (r : ℕ) → n ≡ 0 → q ≡ linkedQueued n q r
 linked-not n q r h = rw (eq-eqb n 0 h)
 
--- A moved bound: stored, handed on, and run.
-pub bounded-made : (x : Index) (ss ss′ : List State) (m : Marks) (d d′ q : Rows) (r : ℕ) (s : State) (n : ℕ) → length (neighbours r (x .links)) ≡ n
-    → ss′ ≡ set ss r s → d′ ≡ linkedQueued n d r → (o : Did) → o ≡ runRow x (live ss′ m d′ q) r → o ≡ bounded x (live ss m d q) r s
+-- A state is stored, and the row run; a moved bound waits to be handed on in between.
+pub store-run : (row : Row) (ss ss′ : List State) (m : Marks) (d q : Rows) (r : ℕ) (s : State) → ss′ ≡ set ss r s
+    → runWith row (live ss′ m d q) r ≡ runWith row (live (set ss r s) m d q) r
+store-run row ss ss′ m d q r s f = ap (λ (y : List State). runWith row (live y m d q) r) f
+
+pub linked-run : (row : Row) (ss : List State) (m : Marks) (d d′ q : Rows) (r n : ℕ) → d′ ≡ linkedQueued n d r
+    → runWith row (live ss m d′ q) r ≡ runWith row (live ss m (linkedQueued n d r) q) r
+linked-run row ss m d d′ q r n g = ap (λ (y : Rows). runWith row (live ss m y q) r) g
+
+pub bounded-held : (x : Index) (h : Lent) → Holds x h → (v : Live) (r : ℕ) (s : State) (n : ℕ) → r < length (h .rows) → length (neighbours r (x .links)) ≡ n
+    → runWith (heldRow h r) (live (set (v .states) r s) (v .marks) (linkedQueued n (v .dirty) r) (v .residuals)) r ≡ bounded x v r s
 unfolding bounded
-bounded-made x ss ss′ m d d′ q r s n e f g o h =
-    h ∙ ap (λ (y : List State). runRow x (live y m d′ q) r) f
-    ∙ ap (λ (y : Rows). runRow x (live (set ss r s) m y q) r) (g ∙ ap (λ (k : ℕ). linkedQueued k d r) (sym e))
+bounded-held x h y v r s n k e =
+    ap (λ (j : ℕ). runWith (heldRow h r) (live (set (v .states) r s) (v .marks) (linkedQueued j (v .dirty) r) (v .residuals)) r) (sym e)
+    ∙ run-held x h y (live (set (v .states) r s) (v .marks) (linkedQueued (length (neighbours r (x .links))) (v .dirty) r) (v .residuals)) r k
 
 -- A drained guard: its bound is new, or not.
 module _ (x : Index) (v : Live) (t : Threshold) (r : ℕ) (row : rowNumber (x .rows) (t .terms) ≡ r) (s : State) (at : stateAt v r ≡ s) (n : ℕ) (node : t .node ≡ n)
@@ -83,19 +93,3 @@ module _ (x : Index) (v : Live) (t : Threshold) (r : ℕ) (row : rowNumber (x .r
   pub guard-tells-nothing : g .changed ≡ false → did v Unchanged ≡ thresholdGuard x v t
   unfolding whole
   guard-tells-nothing h = sym (as-whole ∙ rw (whole, h))
-
--- A bound in range leaves figures in range.
-pub guard-runs : (s : State) (value : Bool) (b : ℤ) (bounds : List ℤ) → mag b < 2 ^ 61 → Runs s bounds → Runs (guardState s value b .state) bounds
-unfolding withLower withUpper
-guard-runs s true b bounds h r = by (leZ b (s .lower)) refl
-  where
-    by : (c : Bool) → leZ b (s .lower) ≡ c → Runs (guardState s true b .state) bounds
-    by true e = rw (guardState, e) r
-    by false e = rw (guardState, e)
-        (record { figures = record { known = r .figures .known; possible = r .figures .possible; lower = h; upper = r .figures .upper }; inside = r .inside })
-guard-runs s false b bounds h r = by (upperAtMost (s .upper) b) refl
-  where
-    by : (c : Bool) → upperAtMost (s .upper) b ≡ c → Runs (guardState s false b .state) bounds
-    by true e = rw (guardState, e) r
-    by false e = rw (guardState, e)
-        (record { figures = record { known = r .figures .known; possible = r .figures .possible; lower = r .figures .lower; upper = h }; inside = r .inside })

@@ -1,3 +1,12 @@
 pub mod Between
 pub mod Numbers
+pub mod Held
+pub mod HeldLaws
 pub mod BetweenLaws
+pub mod Ready
+pub mod ReadyLaws
+pub mod LoopLaws
+pub mod Draining
+pub mod Handing
+pub mod Seeding
+pub mod GuardLaws

@@ -1,9 +1,10 @@
 -- Row states as the buffers hold them: four figures, and four cursors with a flag for the upper.
 use Prim.Native.Nat.{ℕ, zero, suc, _≤_, _<_}
 use native.Mathlib.Nat.{not-suc-le-zero, le-of-suc-le-suc}
-use mathlib.Core.Path.{_≡_, refl, ap, _∙_}
+use native.Mathlib.Omega.{arith}
+use mathlib.Core.Path.{_≡_, refl, sym, ap, _∙_}
 use mathlib.Core.Bool.{cond}
-use mathlib.Core.List.{List, [], _∷_}
+use mathlib.Core.List.{List, [], _∷_, map}
 use lib.ListN.{length, getD, set}
 use lib.Seq.{getD-set-same}
 use lib.Dec.{eqb}
@@ -76,3 +77,60 @@ stored-at fs fs′ cs cs′ r s h k e f =
     ap (λ (y : List ℤ). rowState y (getD cs′ r [])) (ap (λ (y : List (List ℤ)). getD y r []) e ∙ getD-set-same fs r (figuresOf s) [] h)
     ∙ ap (rowState (figuresOf s)) (ap (λ (y : List (List ℕ)). getD y r []) f ∙ getD-set-same cs r (cursorsOf s) [] k)
     ∙ stored-read s
+
+-- As many states as both have rows.
+pub states-figures : (fs : List (List ℤ)) (cs : List (List ℕ)) → length (statesOf fs cs) ≤ length fs
+unfolding statesOf
+states-figures [] cs = omega arith
+states-figures (f ∷ fs) [] = omega arith
+states-figures (f ∷ fs) (c ∷ cs) = omega (arith, states-figures fs cs)
+
+pub states-cursors : (fs : List (List ℤ)) (cs : List (List ℕ)) → length (statesOf fs cs) ≤ length cs
+unfolding statesOf
+states-cursors [] cs = omega arith
+states-cursors (f ∷ fs) [] = omega arith
+states-cursors (f ∷ fs) (c ∷ cs) = omega (arith, states-cursors fs cs)
+
+-- Every word of the two buffers is that of the state they hold. It is kept by what stores states, so that the states tell the words.
+pub record Tidy (fs : List (List ℤ)) (cs : List (List ℕ)) : Type 0 where
+  pub figures : fs ≡ map figuresOf (statesOf fs cs)
+  pub cursors : cs ≡ map cursorsOf (statesOf fs cs)
+
+map-set : {A B : Type 0} (f : A → B) (l : List A) (r : ℕ) (a : A) → map f (set l r a) ≡ set (map f l) r (f a)
+map-set f [] r a = refl
+map-set f (x ∷ l) zero a = refl
+map-set {B = B} f (x ∷ l) (suc r) a = ap (λ (m : List B). f x ∷ m) (map-set f l r a)
+
+pub tidy-store : (fs fs′ : List (List ℤ)) (cs cs′ : List (List ℕ)) (r : ℕ) (s : State) → r < length fs → r < length cs
+    → fs′ ≡ set fs r (figuresOf s) → cs′ ≡ set cs r (cursorsOf s) → Tidy fs cs → Tidy fs′ cs′
+tidy-store fs fs′ cs cs′ r s h k e f t =
+    let g = sym (states-set fs fs′ cs cs′ r s h k e f) in record {
+      figures =
+          e ∙ ap (λ (l : List (List ℤ)). set l r (figuresOf s)) (t .figures)
+          ∙ sym (map-set figuresOf (statesOf fs cs) r s) ∙ ap (λ (l : List State). map figuresOf l) g;
+      cursors =
+          f ∙ ap (λ (l : List (List ℕ)). set l r (cursorsOf s)) (t .cursors)
+          ∙ sym (map-set cursorsOf (statesOf fs cs) r s) ∙ ap (λ (l : List State). map cursorsOf l) g;
+    }
+
+-- The buffers of a run are as long as they were.
+pub record Same (fs₀ fs : List (List ℤ)) (cs₀ cs : List (List ℕ)) (s₀ s n₀ n l₀ l i₀ i p₀ p : List ℕ) : Type 0 where
+  pub figures : length fs ≡ length fs₀
+  pub cursors : length cs ≡ length cs₀
+  pub sure : length s ≡ length s₀
+  pub never : length n ≡ length n₀
+  pub nodes : length l ≡ length l₀
+  pub items : length i ≡ length i₀
+  pub pending : length p ≡ length p₀
+
+-- So are those of a run with the rows that wait to hand on their bounds.
+pub record SameAll (fs₀ fs : List (List ℤ)) (cs₀ cs : List (List ℕ)) (s₀ s n₀ n l₀ l i₀ i p₀ p w₀ w f₀ f : List ℕ) : Type 0 where
+  pub figures : length fs ≡ length fs₀
+  pub cursors : length cs ≡ length cs₀
+  pub sure : length s ≡ length s₀
+  pub never : length n ≡ length n₀
+  pub nodes : length l ≡ length l₀
+  pub items : length i ≡ length i₀
+  pub pending : length p ≡ length p₀
+  pub waiting : length w ≡ length w₀
+  pub flags : length f ≡ length f₀

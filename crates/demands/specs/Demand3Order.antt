@@ -23,7 +23,7 @@ use Rattle.follows.specs.Decide.{Broken}
 use Rattle.settles.specs.Records.{keeps-begun, keeps-after}
 use Rattle.settles.specs.Still.{Still, not-broken, known-is, possible-is, one-table, settle-still}
 use Rattle.demands.specs.Reading.{Marked, SameMarks, NoSift, markedNode, marksOnly, SameFigures, records, decoded, plainly, plainlyAll, Passes}
-use Rattle.demands.specs.Met as Met
+use Rattle.demands.specs.RefusalLaws.{taken}
 use Rattle.demands.specs.Demand3.{passed-here, start-same}
 use Rattle.demands.specs.Demand3Marks.{marked-append, marks-same, marking}
 use Rattle.demands.specs.Demand3Reading.{Over, planned-over, level-same, level-after, job-stays, plainly-append, passes-split}
@@ -174,7 +174,7 @@ module _ (rs : List Record) (passes : Passes begun (rs ++ (settle ∷ []))) (pla
       p = planned x .records
 
       is : planned x .file ≡ after begun p
-      is = Met.taken x
+      is = taken x
 
       o : Over all (planned x)
       o = planned-over x all d (λ e. ⊎-elim (λ (k : planned x .refused ≡ 0). absurd (omega arith)) (λ (k : planned x .refused ≡ 9). absurd (omega arith)) r)

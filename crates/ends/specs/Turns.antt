@@ -30,7 +30,7 @@ use Rattle.propagate.specs.declared.Tightened.{Tightened}
 use Rattle.propagate.specs.Told.{guardState, movedState}
 use Rattle.propagate.specs.Row.{Ran, thresholdRow, wantsResidual}
 use Rattle.propagate.specs.RowLaws.{Kept, kept-row}
-use Rattle.between.specs.Between.{Index, Live, live, Did, did, stateAt, withState, withDirty, residualQueued, runRow, linkedQueued, bounded, thresholdGuard, guardOf, conditionFrom, thresholdCondition, termCount, prefixesFrom}
+use Rattle.between.specs.Between.{Index, Live, live, Did, did, stateAt, withState, withDirty, residualQueued, runWith, runRow, linkedQueued, bounded, thresholdGuard, guardOf, conditionFrom, thresholdCondition, termCount, prefixesFrom}
 use Rattle.ends.specs.Left.{load, load-decide, load-most}
 use Rattle.ends.specs.Rooms.{Bounded, room, rooms, rooms-set, rooms-most, AllBounded, set-bounded, bounded-same, room-same, Tells, tells-guard, tells-moved}
 use Rattle.ends.specs.Keeps.{keeps-row}
@@ -130,7 +130,7 @@ pub record Run (v w : Live) : Type 0 where
 
 module _ (x : Index) (ix : Indexed x) where
   pub run-row : (v : Live) (r : ℕ) → Sound v → r < 1024 → Run v (runRow x v r .live)
-  unfolding runRow
+  unfolding runWith runRow
   run-row v r s h = record {
     go = record {
       sound = record {

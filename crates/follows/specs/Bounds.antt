@@ -9,7 +9,7 @@ use Rattle.state.specs.declared.State.{State}
 use Rattle.state.specs.State.{noState}
 use Rattle.queues.specs.Queue.{Rows}
 use Rattle.thresholds.specs.Rows.{noRow}
-use Rattle.between.specs.Between.{Index, Live, live, stateAt, runRow}
+use Rattle.between.specs.Between.{Index, Live, live, stateAt, runRow, runWith}
 use Rattle.follows.specs.Cursors.{row-goes}
 use Rattle.follows.specs.Stands.{put-state}
 
@@ -23,13 +23,13 @@ same-bounds a = record { lower = refl; upper = refl }
 
 module _ (x : Index) (v : Live) (r : ℕ) (room : r < length (v .states)) where
   pub run-bounds : (q : ℕ) → SameBounds (stateAt (runRow x v r .live) q) (stateAt v q)
-  unfolding runRow
+  unfolding runRow runWith
   run-bounds =
       put-state (λ (q : ℕ) (t : State). SameBounds t (stateAt v q)) (v .states) r _ room
       (let g = row-goes (getD (x .rows) r noRow) (stateAt v r) (v .marks) .0 in record { lower = g .lower; upper = g .upper }) (λ q e. same-bounds (stateAt v q))
 
   pub run-dirty : runRow x v r .live .dirty ≡ v .dirty
-  unfolding runRow
+  unfolding runRow runWith
   run-dirty = refl
 
 -- A STATE PUT ANEW, AND ITS ROW RUN: the row has the new bounds, all others have theirs

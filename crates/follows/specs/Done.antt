@@ -27,7 +27,7 @@ use Rattle.prefixes.specs.Links.{neighbours}
 use Rattle.propagate.specs.declared.Tightened.{Tightened}
 use Rattle.propagate.specs.Row.{Ran, ran, scans, thresholdRow}
 use Rattle.propagate.specs.Told.{tight, guardState, movedLower, movedState, under}
-use Rattle.between.specs.Between.{Index, Live, live, stateAt, withState, withDirty, Did, did, runRow, bounded, thresholdGuard, conditionFrom, thresholdCondition, termCount, prefixesFrom, thresholdPrefixes}
+use Rattle.between.specs.Between.{Index, Live, live, stateAt, withState, withDirty, Did, did, runRow, runWith, bounded, thresholdGuard, conditionFrom, thresholdCondition, termCount, prefixesFrom, thresholdPrefixes}
 use Rattle.table.specs.Table.{IsRow}
 use Rattle.follows.specs.Answers.{clash, and-right, or-true, joined-right}
 use Rattle.follows.specs.Complete.{Wide, Has, wide-decide, has-stays}
@@ -159,7 +159,7 @@ module _ (x : Index) (ordered : (r : ℕ) → IsRow (x .rows) r → Ordered (get
 
   -- A ROW RUN
   pub run-done : (ran : ℕ → Bool) (v : Live) (r : ℕ) → IsRow (x .rows) r → Done (x .rows) ran v → contradicts (runRow x v r .step) ≡ false → Done (x .rows) (also r ran) (runRow x v r .live)
-  unfolding runRow
+  unfolding runRow runWith
   run-done ran v r i h c = record {
     sized = subst (λ (n : ℕ). length (x .rows) ≤ n) (sym (length-set (v .states) r (a .state))) (h .sized);
     passed = put-state (λ (q : ℕ) (t : State). IsRow (x .rows) q → Passed (getD (x .rows) q noRow) t (a .marks)) (v .states) r (a .state) room (λ _. k .0)

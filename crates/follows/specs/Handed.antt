@@ -29,7 +29,7 @@ use Rattle.prefixes.specs.Links.{Link, links, neighbours}
 use Rattle.prefixes.specs.LinksLaws.{link, link-starts, Climbs, stay, up, across, onward, climbs-exactly, downward, upward, joined-neighbours}
 use Rattle.propagate.specs.declared.Tightened.{Tightened}
 use Rattle.propagate.specs.Told.{tight, guardState, movedLower, movedState, under}
-use Rattle.between.specs.Between.{Index, Live, live, stateAt, withState, withDirty, Did, did, runRow, bounded, thresholdGuard, conditionFrom, thresholdCondition, termCount, prefixesFrom, thresholdPrefixes}
+use Rattle.between.specs.Between.{Index, Live, live, stateAt, withState, withDirty, Did, did, runRow, runWith, bounded, thresholdGuard, conditionFrom, thresholdCondition, termCount, prefixesFrom, thresholdPrefixes}
 use Rattle.table.specs.Table.{Table, IsRow, termsOf, IsPrefix}
 use Rattle.table.specs.Order.{le, lt, ≤ℤ-trans, <ℤ-≤ℤ, UpLe, up-refl, up-trans}
 use Rattle.follows.specs.Answers.{clash, and-one, joined-right}
@@ -104,7 +104,7 @@ module _ (x : Index) where
 
   -- A ROW RUN
   pub run-handed : (but : ℕ → Bool) (v : Live) (r : ℕ) → IsRow (x .rows) r → Handed x but v → Handed x but (runRow x v r .live)
-  unfolding runRow AsBefore
+  unfolding runRow runWith AsBefore
   run-handed but v r i h =
       step-handed but v (runRow x v r .live) (sym (length-set (v .states) r _)) refl
       (λ q. let s = same q in (subst (λ (z : ℤ). stateAt v q .lower ≤ℤ z) (sym (s .lower)) (≤ℤ-refl (stateAt v q .lower)), subst (λ (z : Upper). UpLe z (stateAt v q .upper)) (sym (s .upper)) (up-refl (stateAt v q .upper))))
@@ -137,7 +137,7 @@ module _ (x : Index) where
 
     put-run-handed : ((k : ℕ) → List·Memᴰ k (neighbours r (x .links)) → ⊥) ⊎ ((eqb (getD (d .pending) r 0) 1 ≡ true) ⊎ (SameBounds st (stateAt v r) × (getD (d .pending) r 0 ≡ getD (v .dirty .pending) r 0)))
         → Handed x but ended
-    unfolding runRow AsBefore
+    unfolding runRow runWith AsBefore
     put-run-handed here =
         step-handed but v ended (sym (length-set (v .states) r st) ∙ sym (length-set (set (v .states) r st) r _)) long put-grown (λ k. by k (ℕ-discrete k r)) h
       where

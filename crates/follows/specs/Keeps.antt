@@ -24,7 +24,7 @@ use Rattle.propagate.specs.Scan.{Scanned, scan}
 use Rattle.propagate.specs.ScanLaws.{All, scan-keeps}
 use Rattle.propagate.specs.Row.{Ran, ran, sureWaits, decides, sureGuards, neverWaits, neverGuards, thresholdGuards, termWaits, forces, forced, trueTerms, falseTerms, scans, thresholdRow}
 use Rattle.propagate.specs.Told.{guardState, movedState}
-use Rattle.between.specs.Between.{Index, Live, live, stateAt, withState, withDirty, Did, did, runRow, bounded, thresholdGuard, conditionFrom, thresholdCondition, termCount, prefixesFrom, thresholdPrefixes}
+use Rattle.between.specs.Between.{Index, Live, live, stateAt, withState, withDirty, Did, did, runRow, runWith, bounded, thresholdGuard, conditionFrom, thresholdCondition, termCount, prefixesFrom, thresholdPrefixes}
 use Rattle.follows.specs.Row.{mem-drop, mem-take, mem-reverse}
 use Rattle.follows.specs.RowComplete.{Ordered}
 
@@ -157,7 +157,7 @@ module _ (P : Marks → Type 0) (each : (value : Bool) (m : Marks) (n : ℕ) →
 
     -- A ROW RUN AND STORED
     pub run-keeps : (v : Live) (r : ℕ) → P (v .marks) → P (runRow x v r .live .marks)
-    unfolding runRow
+    unfolding runRow runWith
     run-keeps v r p = row-keeps (getD (x .rows) r noRow) (any-row r) (stateAt v r) (v .marks) p
 
     -- A GUARD

@@ -27,7 +27,7 @@ use Rattle.prefixes.specs.Links.{neighbours}
 use Rattle.propagate.specs.declared.Tightened.{Tightened}
 use Rattle.propagate.specs.Row.{Ran, thresholdRow}
 use Rattle.propagate.specs.Told.{tight, guardState, movedLower, movedUpper, movedState, under}
-use Rattle.between.specs.Between.{Index, Live, live, stateAt, withState, withDirty, Did, did, runRow, bounded, thresholdGuard, termCount, prefixesFrom, thresholdPrefixes}
+use Rattle.between.specs.Between.{Index, Live, live, stateAt, withState, withDirty, Did, did, runRow, runWith, bounded, thresholdGuard, termCount, prefixesFrom, thresholdPrefixes}
 use Rattle.table.specs.Table.{Table, IsRow, termsOf, Guards, IsPrefix, raiseLower, lowerUpper, AtRest, sure-guard, never-guard, longer-lower, shorter-upper}
 use Rattle.table.specs.Order.{lt, ≤ℤ-trans, <ℤ-≤ℤ, ≤ℤ-or-<ℤ, UpLe, up-refl, up-trans, le-or-below}
 use Rattle.table.specs.TableLaws.{Le}
@@ -81,7 +81,7 @@ module _ (x : Index) (drained : ℕ → ℕ → Bool) where
 
   -- A ROW RUN ONCE: rules 2 to 5
   pub run-stands : (s : Table) (v : Live) (r : ℕ) → IsRow (x .rows) r → Stands (x .rows) s drained v → Kept s (runRow x v r)
-  unfolding runRow
+  unfolding runRow runWith
   run-stands s v r i h = (
     put-stands (x .rows) s drained v h r (a .state) (a .marks) (v .dirty) _ i (goes .known) (goes .possible) (f .0 .2 .0) (f .0 .2 .1)
         (record {

@@ -9,7 +9,7 @@ use Rattle.queues.specs.Queue.{queue, rows}
 use Rattle.queues.specs.Marks.{marks}
 use Rattle.thresholds.specs.Rows.{rowOf}
 use Rattle.propagate.specs.Guards.{guards}
-use Rattle.between.specs.Numbers.{rowState, statesOf, runs-by, states-at, states-set}
+use Rattle.between.specs.Numbers.{rowState, statesOf, runs-by, states-at, states-set, tidy-store}
 use Rattle.between.specs.BetweenLaws.{run-made}
 use Rattle.between.proofs.run_row.Statement.{statement}
 use Rattle.between.proofs.run_row.Tie as tie
@@ -63,11 +63,14 @@ returns c =
     let fs = a .figures .now in
     let cs = a .cursors .now in
     let gs = guards (a .bounds .now) (a .names .now) in
-    λ x d raw e. run-made x (statesOf fs cs) (marks (a .sure .now) (a .never .now) (queue (a .nodes .now) (a .ring))) d (rows (queue (a .items .now) (a .residuals)) (a .pending .now))
-    (a .row) (rowOf raw (terms (a .conditions .now) (a .weights .now)) gs) e (l .result) (states-at fs cs (a .row) (p .0) (p .1) ∙ sym (l .ensures))
-    (statesOf (w .last .0) (w .last .1 .0)) (marks (t .last .1 .1 .1 .1 .1 .0) (t .last .1 .1 .1 .1 .1 .1 .0) (queue (t .last .1 .1 .1 .1 .1 .1 .1 .0) (t .result .ring))) (rows (queue (q .last .1 .1 .1 .0) (q .result)) (q .last .1 .1 .1 .1 .0))
-    (t .result .state) (t .result .step) (t .ensures raw) (q .ensures raw gs)
-    (states-set fs (w .last .0) cs (w .last .1 .0) (a .row) (t .result .state) (p .0) (p .1) (w .ensures .0) (w .ensures .1))
+    let row = rowOf [] (terms (a .conditions .now) (a .weights .now)) gs in (
+      λ d. run-made row (statesOf fs cs) (marks (a .sure .now) (a .never .now) (queue (a .nodes .now) (a .ring))) d (rows (queue (a .items .now) (a .residuals)) (a .pending .now))
+          (a .row) (l .result) (states-at fs cs (a .row) (p .0) (p .1) ∙ sym (l .ensures))
+          (statesOf (w .last .0) (w .last .1 .0)) (marks (t .last .1 .1 .1 .1 .1 .0) (t .last .1 .1 .1 .1 .1 .1 .0) (queue (t .last .1 .1 .1 .1 .1 .1 .1 .0) (t .result .ring))) (rows (queue (q .last .1 .1 .1 .0) (q .result)) (q .last .1 .1 .1 .1 .0))
+          (t .result .state) (t .result .step) (t .ensures []) (q .ensures [] gs)
+          (states-set fs (w .last .0) cs (w .last .1 .0) (a .row) (t .result .state) (p .0) (p .1) (w .ensures .0) (w .ensures .1)),
+      tidy-store fs (w .last .0) cs (w .last .1 .0) (a .row) (t .result .state) (p .0) (p .1) (w .ensures .0) (w .ensures .1),
+    )
 
 pub run-row-spec : {M : Type 1} → statement M
 run-row-spec =

@@ -1,0 +1,153 @@
+-- Loops between rows: what was done so far joined with what is left is the whole. Assumes nothing.
+use Prim.Native.Nat.{ℕ, _+_, _<_}
+use mathlib.Core.Path.{_≡_, refl, sym, ap, _∙_}
+use mathlib.Core.Bool.{Bool, true, false, cond}
+use mathlib.Core.List.{List, [], _∷_}
+use native.Mathlib.Omega.{arith}
+use lib.ListN.{getD}
+use Rattle.state.specs.declared.Step.{Step}
+use Rattle.state.specs.declared.Step.the-variants.{Unchanged, Changed, Contradiction}
+use Rattle.state.specs.declared.State.{State}
+use Rattle.state.specs.Step.{joined, contradicts}
+use Rattle.state.specs.State.{drained}
+use Rattle.thresholds.specs.Rows.{Row, noRow, Edge}
+use Rattle.propagate.specs.declared.Tightened.{Tightened}
+use Rattle.propagate.specs.ScanLaws.{clash, joined-last}
+use Rattle.propagate.specs.Told.{movedState}
+use Rattle.between.specs.Between.{Index, Live, Did, did, stateAt, withState, withDirty, runWith, runRow, after, conditionFrom, termCount, toldStep, handedOn, prefixesFrom, seedFrom}
+
+-- ---- answers
+
+pub joined-assoc : (a b c : Step) → joined (joined a b) c ≡ joined a (joined b c)
+joined-assoc Unchanged b c = refl
+joined-assoc Changed Unchanged c = refl
+joined-assoc Changed Changed Unchanged = refl
+joined-assoc Changed Changed Changed = refl
+joined-assoc Changed Changed Contradiction = refl
+joined-assoc Changed Contradiction c = refl
+joined-assoc Contradiction b c = refl
+
+joined-contradiction : (k : Step) → joined k Contradiction ≡ Contradiction
+joined-contradiction Unchanged = refl
+joined-contradiction Changed = refl
+joined-contradiction Contradiction = refl
+
+contradiction-is : (k : Step) → contradicts k ≡ true → k ≡ Contradiction
+contradiction-is Unchanged e = clash (sym e)
+contradiction-is Changed e = clash (sym e)
+contradiction-is Contradiction e = refl
+
+pub after-none : (v : Live) (k : Step) → did v k ≡ after k (did v Unchanged)
+after-none v k = ap (did v) (sym (joined-last k))
+
+-- A turn and the rest: a contradiction ends, any other answer is joined.
+module _ (rest : Live → Did) where
+  abbrev both : Did → Did
+  both d = cond (contradicts (d .step)) d (after (d .step) (rest (d .live)))
+
+  both-next : (k : Step) (d : Did) → contradicts (d .step) ≡ false → after (joined k (d .step)) (rest (d .live)) ≡ after k (both d)
+  both-next k d h =
+      ap (did (rest (d .live) .live)) (joined-assoc k (d .step) (rest (d .live) .step))
+      ∙ ap (λ (b : Bool). after k (cond b d (after (d .step) (rest (d .live))))) (sym h)
+
+  both-stop : (k : Step) (d : Did) → contradicts (d .step) ≡ true → d ≡ after k (both d)
+  both-stop k d h =
+      let e = contradiction-is (d .step) h in
+      ap (did (d .live)) (e ∙ sym (joined-contradiction k) ∙ ap (joined k) (sym e))
+      ∙ ap (λ (b : Bool). after k (cond b d (after (d .step) (rest (d .live))))) (sym h)
+
+-- ---- the rows of a drained condition
+
+module _ (x : Index) (value : Bool) (e : Edge) (es : List Edge) (v : Live) where
+  turn : Did
+  turn = runRow x (withState v (e .row) (drained value (e .weight) (stateAt v (e .row)))) (e .row)
+
+  condition-both : conditionFrom x value (e ∷ es) v ≡ both (conditionFrom x value es) turn
+  unfolding conditionFrom turn
+  condition-both = by (contradicts (turn .step)) refl
+    where
+      by : (b : Bool) → contradicts (turn .step) ≡ b → conditionFrom x value (e ∷ es) v ≡ both (conditionFrom x value es) turn
+      by true h = rw (conditionFrom, h) (ap (did (turn .live)) (sym (contradiction-is (turn .step) h)))
+      by false h = rw (conditionFrom, h)
+
+  module _ (k : Step) (d : Did) (made : d ≡ runRow x (withState v (e .row) (drained value (e .weight) (stateAt v (e .row)))) (e .row)) where
+    pub condition-next : contradicts (d .step) ≡ false → after (joined k (d .step)) (conditionFrom x value es (d .live)) ≡ after k (conditionFrom x value (e ∷ es) v)
+    unfolding turn
+    condition-next h =
+        both-next (conditionFrom x value es) k d h
+        ∙ ap (λ (y : Did). after k (both (conditionFrom x value es) y)) made ∙ ap (after k) (sym condition-both)
+
+    pub condition-stop : contradicts (d .step) ≡ true → d ≡ after k (conditionFrom x value (e ∷ es) v)
+    unfolding turn
+    condition-stop h =
+        both-stop (conditionFrom x value es) k d h
+        ∙ ap (λ (y : Did). after k (both (conditionFrom x value es) y)) made ∙ ap (after k) (sym condition-both)
+
+pub condition-end : (x : Index) (value : Bool) (v : Live) (k : Step) → did v k ≡ after k (conditionFrom x value [] v)
+unfolding conditionFrom
+condition-end x value v k = after-none v k
+
+-- ---- the neighbours of a row
+
+module _ (x : Index) (row : ℕ) (source : State) (r : ℕ) (rs : List ℕ) (v : Live) where
+  moved : Tightened
+  moved = movedState source (stateAt v r) (termCount x row) (termCount x r)
+
+  prefix-both : prefixesFrom x row source (r ∷ rs) v ≡ both (prefixesFrom x row source rs) (handedOn (getD (x .rows) r noRow) v r moved)
+  unfolding prefixesFrom moved handedOn runRow
+  prefix-both = by (moved .changed) refl (contradicts (ran .step)) refl
+    where
+      ran : Did
+      ran = runWith (getD (x .rows) r noRow) (withDirty (withState v r (moved .state)) r) r
+
+      by : (b : Bool) → moved .changed ≡ b → (c : Bool) → contradicts (ran .step) ≡ c
+          → prefixesFrom x row source (r ∷ rs) v ≡ both (prefixesFrom x row source rs) (handedOn (getD (x .rows) r noRow) v r moved)
+      by false h c g = rw (prefixesFrom, h)
+      by true h true g = rw (prefixesFrom, h) (rw g)
+      by true h false g = rw (prefixesFrom, h) (rw g)
+
+  module _ (k : Step) (d : Did) (made : d ≡ handedOn (getD (x .rows) r noRow) v r (movedState source (stateAt v r) (termCount x row) (termCount x r))) where
+    pub prefix-next : contradicts (d .step) ≡ false → after (joined k (d .step)) (prefixesFrom x row source rs (d .live)) ≡ after k (prefixesFrom x row source (r ∷ rs) v)
+    unfolding moved
+    prefix-next h =
+        both-next (prefixesFrom x row source rs) k d h
+        ∙ ap (λ (y : Did). after k (both (prefixesFrom x row source rs) y)) made ∙ ap (after k) (sym prefix-both)
+
+    pub prefix-stop : contradicts (d .step) ≡ true → d ≡ after k (prefixesFrom x row source (r ∷ rs) v)
+    unfolding moved
+    prefix-stop h =
+        both-stop (prefixesFrom x row source rs) k d h
+        ∙ ap (λ (y : Did). after k (both (prefixesFrom x row source rs) y)) made ∙ ap (after k) (sym prefix-both)
+
+pub prefix-end : (x : Index) (row : ℕ) (source : State) (v : Live) (k : Step) → did v k ≡ after k (prefixesFrom x row source [] v)
+unfolding prefixesFrom
+prefix-end x row source v k = after-none v k
+
+-- ---- all rows, once each
+
+module _ (x : Index) (r : ℕ) (y : Row) (rs : List Row) (v : Live) (k : Step) (d : Did) (made : d ≡ runRow x v r) where
+  seed : Did → Did
+  seed o = cond (contradicts (o .step)) (did (o .live) Contradiction) (seedFrom x (r + 1) rs (o .live) (joined k (o .step)))
+
+  seed-both : seedFrom x r (y ∷ rs) v k ≡ seed (runRow x v r)
+  unfolding seedFrom seed
+  seed-both = by (contradicts (runRow x v r .step)) refl
+    where
+      by : (b : Bool) → contradicts (runRow x v r .step) ≡ b → seedFrom x r (y ∷ rs) v k ≡ seed (runRow x v r)
+      by true h = rw (seedFrom, h)
+      by false h = rw (seedFrom, h)
+
+  pub seed-next : contradicts (d .step) ≡ false → seedFrom x (r + 1) rs (d .live) (joined k (d .step)) ≡ seedFrom x r (y ∷ rs) v k
+  unfolding seed
+  seed-next h =
+      ap (λ (b : Bool). cond b (did (d .live) Contradiction) (seedFrom x (r + 1) rs (d .live) (joined k (d .step)))) (sym h) ∙ ap seed made ∙ sym seed-both
+
+  pub seed-stop : contradicts (d .step) ≡ true → d ≡ seedFrom x r (y ∷ rs) v k
+  unfolding seed
+  seed-stop h =
+      ap (did (d .live)) (contradiction-is (d .step) h)
+      ∙ ap (λ (b : Bool). cond b (did (d .live) Contradiction) (seedFrom x (r + 1) rs (d .live) (joined k (d .step)))) (sym h) ∙ ap seed made ∙ sym seed-both
+
+pub seed-end : (x : Index) (r : ℕ) (v : Live) (k : Step) → did v k ≡ seedFrom x r [] v k
+unfolding seedFrom
+seed-end x r v k = refl

@@ -1,0 +1,188 @@
+-- What is ready stays so: when a state is stored, a row run, a weight drained or a bound told. Assumes nothing.
+use Prim.Native.Nat.{ℕ, _+_, _-_, _<_, _≤_, _^_}
+use native.Mathlib.Decide.{ℕ-discrete}
+use native.Mathlib.Omega.{arith}
+use mathlib.Core.Path.{_≡_, refl, sym, ap, _∙_}
+use mathlib.Core.Bool.{Bool, true, false, cond, _&&_}
+use mathlib.Core.List.{List}
+use lib.Dec.{leb}
+use lib.ListN.{length, getD, set, length-set}
+use lib.Seq.{getD-set-same, getD-set-other}
+use lib.IntN.{ℤ, pos}
+use lib.Signed.{mag, leZ, ltZ}
+use Rattle.signed.specs.Signed.{mag-add, mag-minus}
+use Rattle.state.specs.declared.State.{State}
+use Rattle.state.specs.declared.Upper.{Upper}
+use Rattle.state.specs.declared.Upper.the-variants.{Under}
+use Rattle.state.specs.State.{noState, limit, upperAtMost, withLower, withUpper, drained, withKnown, withPossible, Drains}
+use Rattle.queues.specs.Queue.{Rows, queueRow}
+use Rattle.queues.specs.RowsLaws.{Flags, flags-queue}
+use Rattle.queues.specs.Marks.{Marks}
+use Rattle.thresholds.specs.Rows.{Row}
+use Rattle.thresholds.specs.Raw.{stretch}
+use Rattle.thresholds.specs.RawLaws.{stretch-length}
+use Rattle.propagate.specs.Guards.{all-guards, all-terms}
+use Rattle.propagate.specs.Row.{wantsResidual, thresholdRow}
+use Rattle.propagate.specs.RowLaws.{Moved, kept-row}
+use Rattle.propagate.specs.declared.Tightened.{Tightened}
+use Rattle.propagate.specs.Told.{guardState, movedLower, movedUpper, movedState, under}
+use Rattle.between.specs.Between.{Live, live, Did, did, residualQueued, runWith}
+use Rattle.between.specs.Numbers.{Runs, statesOf, states-figures, states-cursors}
+use Rattle.between.specs.Held.{Lent, endBy, startBy, heldRow, Shaped}
+use Rattle.between.specs.HeldLaws.{term-slices, guard-slices}
+use Rattle.between.specs.Ready.{Fit, Ready, ReadyLive}
+
+module _ (h : Lent) (n : ℕ) where
+  pub fit-more : (k r : ℕ) (s : State) → n ≤ k → Fit h n r s → Fit h k r s
+  fit-more k r s m f = record {
+    known = omega (arith, f .known);
+    possible = omega (arith, f .possible);
+    lower = f .lower;
+    upper = f .upper;
+    inside = f .inside;
+  }
+
+  pub ready-more : (k : ℕ) (ss : List State) (m : Marks) (q : Rows) → n ≤ k → Ready h n ss m q → Ready h k ss m q
+  ready-more k ss m q l y = record {
+    long = y .long;
+    fit = λ r i. fit-more k r (getD ss r noState) l (y .fit r i);
+    waits = y .waits;
+    flags = y .flags;
+  }
+
+  -- A state of the row is stored.
+  pub ready-set : (ss : List State) (m : Marks) (q : Rows) → Ready h n ss m q → (r : ℕ) (s : State) → Fit h n r s → Ready h n (set ss r s) m q
+  ready-set ss m q y r s f = record {
+    long = omega (arith, y .long, length-set ss r s);
+    fit = λ i k. by i k (ℕ-discrete i r);
+    waits = y .waits;
+    flags = y .flags;
+  }
+    where
+      by : (i : ℕ) → i < length (h .rows) → Dec (i ≡ r) → Fit h n i (getD (set ss r s) i noState)
+      by i k (yes e) = rw (e, getD-set-same ss r s noState (omega (arith, y .long))) f
+      by i k (no d) = rw (getD-set-other ss r i s noState d) (y .fit i k)
+
+  -- A run moves cursors only, and from above only down.
+  pub fit-moved : (r : ℕ) (s t : State) → Moved s t → Fit h n r s → Fit h n r t
+  fit-moved r s t v f = record {
+    known = rw (v .known) (f .known);
+    possible = rw (v .possible) (f .possible);
+    lower = rw (v .lower) (f .lower);
+    upper = rw (v .upper) (f .upper);
+    inside = omega (arith, v .down, f .inside);
+  }
+
+  -- What a row in range needs to be run with its own guards.
+  pub fit-runs : (r : ℕ) (s : State) → n ≤ 2 ^ 61 → Shaped h → r < length (h .rows) → (a e : ℕ) → a ≡ startBy 1 (h .rows) r → e ≡ endBy 1 (h .rows) r
+      → Fit h n r s → Runs s (stretch a e (h .bounds))
+  fit-runs r s l y k a e p q f = record {
+    figures = record { known = omega (arith, f .known); possible = omega (arith, f .possible); lower = f .lower; upper = f .upper };
+    inside = omega (arith, f .inside, stretch-length a e (h .bounds) (omega (arith, y .guards .ends r k)));
+  }
+
+flags-residual : (row : Row) (s : State) (q : Rows) (r : ℕ) → r < 1024 → Flags q → Flags (residualQueued row s q r)
+flags-residual row s q r k f = by (wantsResidual row s)
+  where
+    by : (b : Bool) → Flags (cond b (queueRow q r) q)
+    by true = flags-queue q f r k
+    by false = f
+
+-- A row is run.
+pub ready-run : (h : Lent) (n : ℕ) → Shaped h → (v : Live) → ReadyLive h n v → (r : ℕ) → r < length (h .rows) → ReadyLive h n (runWith (heldRow h r) v r .live)
+unfolding runWith
+ready-run h n y v w r k =
+    let s = getD (v .states) r noState in
+    let row = heldRow h r in
+    let g = all-guards _ _ (guard-slices h y r k _ _ refl refl .below) in
+    let t = all-terms _ _ (term-slices h y r k _ _ refl refl .below) in
+    let a = kept-row row s (v .marks) g t (w .waits) in
+    let b = ready-set h n (v .states) (v .marks) (v .residuals) w r (thresholdRow row s (v .marks) .state) (fit-moved h n r s (thresholdRow row s (v .marks) .state) (a .moved) (w .fit r k)) in
+    record { long = b .long; fit = b .fit; waits = a .waits; flags = flags-residual row s (v .residuals) r (omega (arith, y .few)) (w .flags) }
+
+-- ---- states
+
+-- A weight is drained: the range grows by 2 ^ 45.
+pub fit-drained : (h : Lent) (n r : ℕ) (s : State) (value : Bool) (w : ℕ) → w < 2 ^ 44 → Fit h n r s → Fit h (n + 35184372088832) r (drained value w s)
+unfolding drained withKnown withPossible
+fit-drained h n r s true w l f = record {
+  known = omega (arith, f .known, mag-add (s .known) (pos w));
+  possible = omega (arith, f .possible);
+  lower = f .lower;
+  upper = f .upper;
+  inside = f .inside;
+}
+fit-drained h n r s false w l f = record {
+  known = omega (arith, f .known);
+  possible = omega (arith, f .possible, mag-minus (s .possible) (pos w));
+  lower = f .lower;
+  upper = f .upper;
+  inside = f .inside;
+}
+
+pub fit-drains : (h : Lent) (n r : ℕ) (s : State) (w : ℕ) → n ≤ 2 ^ 61 → w < 2 ^ 44 → Fit h n r s → Drains s w
+fit-drains h n r s w k l f = record { known = omega (arith, f .known); possible = omega (arith, f .possible); light = omega arith }
+
+module _ (h : Lent) (n r : ℕ) where
+  fit-lower : (s : State) (b : ℤ) → mag b < 2 ^ 61 → Fit h n r s → Fit h n r (withLower s b)
+  unfolding withLower
+  fit-lower s b l f = record { known = f .known; possible = f .possible; lower = l; upper = f .upper; inside = f .inside }
+
+  fit-upper : (s : State) (u : Upper) → mag (limit u) < 2 ^ 61 → Fit h n r s → Fit h n r (withUpper s u)
+  unfolding withUpper
+  fit-upper s u l f = record { known = f .known; possible = f .possible; lower = f .lower; upper = l; inside = f .inside }
+
+  -- A guard's bound is told.
+  pub fit-guard : (s : State) (value : Bool) (b : ℤ) → mag b < 2 ^ 61 → Fit h n r s → Fit h n r (guardState s value b .state)
+  fit-guard s true b l f = by (leZ b (s .lower)) refl
+    where
+      by : (c : Bool) → leZ b (s .lower) ≡ c → Fit h n r (guardState s true b .state)
+      by true e = rw (guardState, e) f
+      by false e = rw (guardState, e) (fit-lower s b l f)
+  fit-guard s false b l f = by (upperAtMost (s .upper) b) refl
+    where
+      by : (c : Bool) → upperAtMost (s .upper) b ≡ c → Fit h n r (guardState s false b .state)
+      by true e = rw (guardState, e) f
+      by false e = rw (guardState, e) (fit-upper s (Under b) l f)
+
+  -- Another row's bounds are told.
+  fit-pick : (c : Bool) (t u : Tightened) → Fit h n r (t .state) → Fit h n r (u .state) → Fit h n r (cond c t u .state)
+  fit-pick true t u f g = f
+  fit-pick false t u f g = g
+
+  pub fit-prefix : (source s : State) (i k : ℕ) → mag (source .lower) < 2 ^ 61 → mag (limit (source .upper)) < 2 ^ 61 → Fit h n r s
+      → Fit h n r (movedState source s i k .state)
+  fit-prefix source s i k a b f =
+      let l = movedLower source s i k in
+      let g = fit-pick (leb i k && ltZ (s .lower) (source .lower)) (record { state = withLower s (source .lower); changed = true }) (record { state = s; changed = false })
+      (fit-lower s (source .lower) a f) f in
+      fit-pick (leb k i && under (source .upper) (l .state .upper)) (record { state = withUpper (l .state) (source .upper); changed = true }) l
+      (fit-upper (l .state) (source .upper) b g) g
+
+-- ---- what follows an equation
+
+pub ready-by : (h : Lent) (n : ℕ) (c d : Did) → c ≡ d → ReadyLive h n (d .live) → ReadyLive h n (c .live)
+ready-by h n c d e y = rw e y
+
+pub ready-states : (h : Lent) (n : ℕ) (ss ss′ : List State) (m : Marks) (q : Rows) → ss′ ≡ ss → Ready h n ss m q → Ready h n ss′ m q
+ready-states h n ss ss′ m q e y = rw e y
+
+pub fit-by : (h : Lent) (n r : ℕ) (s t : State) → s ≡ t → Fit h n r t → Fit h n r s
+fit-by h n r s t e f = rw e f
+
+pub drains-by : (s t : State) (w : ℕ) → s ≡ t → Drains t w → Drains s w
+drains-by s t w e d = rw e d
+
+pub from-state : (row : Row) (ss : List State) (m : Marks) (d q : Rows) (r : ℕ) (s t : State) → s ≡ t
+    → runWith row (live (set ss r s) m d q) r ≡ runWith row (live (set ss r t) m d q) r
+from-state row ss m d q r s t e = rw e
+
+-- ---- rows that the states have
+
+pub in-figures : (h : Lent) (n : ℕ) (fs : List (List ℤ)) (cs : List (List ℕ)) (m : Marks) (q : Rows) → Ready h n (statesOf fs cs) m q
+    → (r : ℕ) → r < length (h .rows) → r < length fs
+in-figures h n fs cs m q y r k = omega (arith, y .long, states-figures fs cs)
+
+pub in-cursors : (h : Lent) (n : ℕ) (fs : List (List ℤ)) (cs : List (List ℕ)) (m : Marks) (q : Rows) → Ready h n (statesOf fs cs) m q
+    → (r : ℕ) → r < length (h .rows) → r < length cs
+in-cursors h n fs cs m q y r k = omega (arith, y .long, states-cursors fs cs)
