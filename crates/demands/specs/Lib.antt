@@ -10,3 +10,9 @@ pub mod KeptLaws
 pub mod LengthLaws
 pub mod ForcedLaws
 pub mod Met
+pub mod Demand3
+pub mod Demand3Marks
+pub mod Demand3Reading
+pub mod Demand3Order
+pub mod Demand3Met
+pub mod Demand3Passes
