@@ -9,10 +9,9 @@ pub mod SizeLaws
 pub mod KeptLaws
 pub mod LengthLaws
 pub mod ForcedLaws
+pub mod SettleLaws
+pub mod MarksLaws
+pub mod ReadOnLaws
+pub mod OrderLaws
+pub mod PassesLaws
 pub mod Met
-pub mod Demand3
-pub mod Demand3Marks
-pub mod Demand3Reading
-pub mod Demand3Order
-pub mod Demand3Met
-pub mod Demand3Passes

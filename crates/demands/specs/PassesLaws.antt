@@ -14,7 +14,7 @@ use Rattle.planner.specs.File.{File, Answer, settled, cleared, begun, Check, ch
 use Rattle.ends.specs.Files.{Passed, planned-passed}
 use Rattle.settles.specs.Records.{Taken, taken}
 use Rattle.demands.specs.Reading.{records, decoded, plainly, Passes}
-use Rattle.demands.specs.Demand3Reading.{planned-over, Level, level-same, level-apply}
+use Rattle.demands.specs.ReadOnLaws.{planned-over, Level, level-same, level-apply}
 
 -- The checks read no more of a file than this.
 plainFile : Bool → Job → Bool → Bool → ℕ → File

@@ -24,9 +24,9 @@ use Rattle.settles.specs.Records.{keeps-begun, keeps-after}
 use Rattle.settles.specs.Still.{Still, not-broken, known-is, possible-is, one-table, settle-still}
 use Rattle.demands.specs.Reading.{Marked, SameMarks, NoSift, markedNode, marksOnly, SameFigures, records, decoded, plainly, plainlyAll, Passes}
 use Rattle.demands.specs.RefusalLaws.{taken}
-use Rattle.demands.specs.Demand3.{passed-here, start-same}
-use Rattle.demands.specs.Demand3Marks.{marked-append, marks-same, marking}
-use Rattle.demands.specs.Demand3Reading.{Over, planned-over, level-same, level-after, job-stays, plainly-append, passes-split}
+use Rattle.demands.specs.SettleLaws.{passed-here, start-same}
+use Rattle.demands.specs.MarksLaws.{marked-append, marks-same, marking}
+use Rattle.demands.specs.ReadOnLaws.{Over, planned-over, level-same, level-after, job-stays, plainly-append, passes-split}
 
 -- ---- THE TABLE KNOWS ONLY THE SET OF MARKS
 

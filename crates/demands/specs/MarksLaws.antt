@@ -19,7 +19,7 @@ use Rattle.settles.specs.Seals.{ownStart}
 use Rattle.settles.specs.Records.{Taken, taken, From, Breaks, Keeps, keeps-begun, keeps-apply, seal-from, mark-from, settle-from}
 use Rattle.demands.specs.Reading.{NoSift, markedNode, marksOnly}
 use Rattle.demands.specs.Demands.{ExactlyTheTable}
-use Rattle.demands.specs.Demand3.{start-same, Ending, exactly, stood}
+use Rattle.demands.specs.SettleLaws.{start-same, Ending, exactly, stood}
 
 -- ---- marked nodes
 
