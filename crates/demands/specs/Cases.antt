@@ -31,7 +31,7 @@ use Rattle.propagate.specs.Row as Row
 use Rattle.between.specs.Between as Between
 use Rattle.regions.specs.Drain as Drain
 use Rattle.regions.specs.Sift as Sift
-use Rattle.planner.specs.Record.{littleEndian, Record, header, opens, adds, areas, seal, mark, settle, sift, unknown}
+use Rattle.records.specs.Record.{littleEndian, Record, header, opens, adds, areas, seal, mark, settle, sift, unknown}
 use Rattle.planner.specs.File as File
 use Rattle.planner.specs.Listing.{text, listing}
 use Rattle.planner.specs.Listing as Listing

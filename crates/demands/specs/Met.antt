@@ -19,7 +19,7 @@ use Rattle.possible_sums.specs.declared.Search.the-variants.{Fits, Nothing, Cut
 use Rattle.possible_sums.specs.Search.{plan, search, searchStep, Lands}
 use Rattle.possible_sums.specs.SearchLaws as SearchLaws
 use Rattle.memory.specs.Buffers.{Work, fits, fitsRaw, fitsBuilt, fitsKept}
-use Rattle.planner.specs.Record.{Record}
+use Rattle.records.specs.Record.{Record}
 use Rattle.planner.specs.File.{Outcome, outcome, fileOf, begun, after, planned, readFrom}
 use Rattle.planner.specs.FileLaws.{read-up-to, read-taken, read-enough, read-cut}
 use Rattle.planner.specs.Contents.{Out, served, untouched, whole}

@@ -17,7 +17,7 @@ use Rattle.queues.specs.Marks.{marks}
 use Rattle.between.specs.Between.{Index, Live, live, Did}
 use Rattle.regions.specs.Drain as Drain
 use Rattle.regions.specs.Sift as Sift
-use Rattle.planner.specs.Record.{Kind, kindOf, bodyLength, Record, recordOf, header, opens, adds, areas, seal, mark, settle, sift, unknown}
+use Rattle.records.specs.Record.{Kind, kindOf, bodyLength, Record, recordOf, header, opens, adds, areas, seal, mark, settle, sift, unknown}
 
 -- The answer of a settle or of a sift, a sift's with its visits.
 pub data Answer : Type 0 where
