@@ -1,0 +1,5 @@
+pub mod Job
+pub mod Gathered
+pub mod JobLaws
+pub mod GatheredLaws
+pub mod TakenLaws
