@@ -1,4 +1,9 @@
 pub mod Given
+pub mod Place
+pub mod PlaceLaws
+pub mod Prepare
+pub mod PrepareParts
+pub mod PrepareLaws
 pub mod RowsGiven
 pub mod RowsGivenLaid
 pub mod RowsGivenHeld

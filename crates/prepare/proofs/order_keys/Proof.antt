@@ -1,0 +1,62 @@
+-- `prepare::order_keys` meets its contract. Assumes nothing.
+use native.Mathlib.Omega.{arith}
+use lib.ListN.{length}
+use lib.Seq.{length-take-le}
+use Rattle.sort.specs.Sorted.{sorted}
+use Rattle.sort.specs.SortedLaws.{length-sorted}
+use Rattle.thresholds.specs.Guards.{guardKeys}
+use Rattle.thresholds.specs.GuardsLaws.{length-keys}
+use Rattle.prepare.specs.PrepareParts.{keys-over, spare-kept}
+use mathlib.Core.Path.{_∙_, sym}
+use borrow.Author.Needs.{needs}
+use Rattle.prepare.proofs.order_keys.Statement.{statement}
+use Rattle.prepare.proofs.order_keys.Tie as tie
+
+slice-relend-prefix-order-guards : tie.Need-slice-relend-prefix-order-guards
+slice-relend-prefix-order-guards c = search needs
+
+slice-aggregate-order-guards : tie.Need-slice-aggregate-order-guards
+slice-aggregate-order-guards c = let g = c .before .before .before .args in
+    sym (length-take-le (length (g .bounds .now)) (g .scratch .now) (c .before .before .before .pre .3))
+
+slice-relend-prefix-order-guards-2 : tie.Need-slice-relend-prefix-order-guards-2
+slice-relend-prefix-order-guards-2 c = search needs
+
+slice-aggregate-order-guards-2 : tie.Need-slice-aggregate-order-guards-2
+slice-aggregate-order-guards-2 c = let g = c .before .before .before .before .args in
+    sym (length-take-le (length (g .bounds .now)) (g .row-weights .now) (c .before .before .before .before .pre .2))
+
+order-guards-requires : tie.Need-order-guards-requires
+order-guards-requires c κs = let g = c .before .before .before .before .args in
+    let p = c .before .before .before .before .pre in
+    let a = length-take-le (length (g .bounds .now)) (g .scratch .now) (p .3) in
+    let b = length-take-le (length (g .bounds .now)) (g .row-weights .now) (p .2) in
+    (a, p .0, p .1, omega arith)
+
+same-length : tie.Need-same-length
+same-length c = search needs
+
+same-length-2 : tie.Need-same-length-2
+same-length-2 c = search needs
+
+returns : tie.Need-returns
+returns c = let g = c .before .before .before .before .before .before .before .before .before .args in
+    let p = c .before .before .before .before .before .before .before .before .before .pre in
+    let s = c .before .before .before .before .order-guards .ensures in
+    let a = length-take-le (length (g .bounds .now)) (g .scratch .now) (p .3) in (
+      spare-kept (g .row-weights .now) _ (length (g .bounds .now)) _ (p .4) (p .2) a (s .1),
+      keys-over (g .scratch .now) (sorted (guardKeys 0 (g .bounds .now))) _ (length (g .bounds .now)) (s .0) (length-sorted (guardKeys 0 (g .bounds .now)) ∙ length-keys 0 (g .bounds .now)),
+    )
+
+pub order-keys-spec : {M : Type 1} → statement M
+order-keys-spec =
+    tie.close
+    (tie.spec
+    slice-relend-prefix-order-guards
+    slice-aggregate-order-guards
+    slice-relend-prefix-order-guards-2
+    slice-aggregate-order-guards-2
+    order-guards-requires
+    same-length
+    same-length-2
+    returns)

@@ -1,0 +1,102 @@
+-- `prepare::place_in` meets its contract. Assumes nothing.
+use Prim.Native.Nat.{ℕ}
+use native.Mathlib.Omega.{arith}
+use mathlib.Core.List.{List, _++_}
+use lib.ListN.{length, drop, length-map}
+use lib.Seq.{length-take-le}
+use Rattle.lists.specs.Laid.{joinAll}
+use Rattle.numeric.specs.Threshold.{Term}
+use Rattle.row.specs.Keys.{conditionsOf, weightsOf}
+use Rattle.thresholds.specs.Raw.{raw}
+use Rattle.thresholds.specs.Placed.{termsTo}
+use Rattle.prepare.specs.RowsGivenTerms.{terms-fit}
+use Rattle.prepare.specs.PrepareParts.{over-part, tail-kept}
+use Rattle.prepare.specs.PrepareLaws.{open-ready}
+use mathlib.Core.Path.{_∙_, sym, ap}
+use borrow.Author.Needs.{needs}
+use Rattle.prepare.proofs.place_in.Statement.{statement}
+use Rattle.prepare.proofs.place_in.Tie as tie
+
+slice-relend-prefix-place-all : tie.Need-slice-relend-prefix-place-all
+slice-relend-prefix-place-all c = c .before .before .before .before .before .pre .conditions
+
+slice-aggregate-place-all : tie.Need-slice-aggregate-place-all
+slice-aggregate-place-all c = let g = c .before .before .before .before .before .before .args in
+    sym (length-take-le (length (g .conditions .now)) (g .row-conditions .now) (c .before .before .before .before .before .before .pre .conditions))
+
+slice-relend-prefix-place-all-2 : tie.Need-slice-relend-prefix-place-all-2
+slice-relend-prefix-place-all-2 c = c .before .before .before .before .before .before .pre .weights
+
+slice-aggregate-place-all-2 : tie.Need-slice-aggregate-place-all-2
+slice-aggregate-place-all-2 c = let g = c .before .before .before .before .before .before .before .args in
+    sym (length-take-le (length (g .conditions .now)) (g .row-weights .now) (c .before .before .before .before .before .before .before .pre .weights))
+
+sub-place-all : tie.Need-sub-place-all
+sub-place-all c = search needs
+
+part-place-all-start : tie.Need-part-place-all-start
+part-place-all-start c = search needs
+
+part-place-all-end : tie.Need-part-place-all-end
+part-place-all-end c = search needs
+
+place-all-requires : tie.Need-place-all-requires
+place-all-requires c κs = let g = c .before .before .before .before .before .before .before .before .before .before .args in
+    let r = raw (g .conditions .now) (g .weights .now) (g .thresholds .now) in
+    open-ready r (g .row-conditions .now) (g .row-weights .now) (g .rows .now) (g .nodes .now) (g .scratch .now) (c .before .before .before .before .before .before .before .before .before .before .pre)
+
+same-length : tie.Need-same-length
+same-length c = search needs
+
+same-length-2 : tie.Need-same-length-2
+same-length-2 c = search needs
+
+same-length-3 : tie.Need-same-length-3
+same-length-3 c = search needs
+
+same-length-4 : tie.Need-same-length-4
+same-length-4 c = search needs
+
+same-length-5 : tie.Need-same-length-5
+same-length-5 c = search needs
+
+returns : tie.Need-returns
+returns c = let g = c .before .before .before .before .before .before .before .before .before .before .before .before .before .before .before .before .before .before .before .args in
+    let p = c .before .before .before .before .before .before .before .before .before .before .before .before .before .before .before .before .before .before .before .pre in
+    let r = raw (g .conditions .now) (g .weights .now) (g .thresholds .now) in
+    let s = c .before .before .before .before .before .before .before .before .place-all .ensures in
+    let J = joinAll (termsTo r (length (g .thresholds .now))) in
+    let fit = terms-fit r (length (g .thresholds .now)) (p .lists) in
+    let lc = length-map J (λ (t : Term). t .condition) in
+    let lw = length-map J (λ (t : Term). t .weight) in (
+      record {
+        many = s .0 .many;
+        end = s .0 .end;
+        conditions = ap (λ (l : List ℕ). l ++ drop (length (g .conditions .now)) (g .row-conditions .now)) (s .0 .conditions)
+            ∙ over-part (conditionsOf J) (g .row-conditions .now) (length (g .conditions .now)) (omega arith) (p .conditions);
+        weights = ap (λ (l : List ℕ). l ++ drop (length (g .conditions .now)) (g .row-weights .now)) (s .0 .weights)
+            ∙ over-part (weightsOf J) (g .row-weights .now) (length (g .conditions .now)) (omega arith) (p .weights);
+        entries = s .0 .entries;
+        named = s .0 .named;
+      },
+      tail-kept (g .scratch .now) _ 1024 (s .1),
+    )
+
+pub place-in-spec : {M : Type 1} → statement M
+place-in-spec =
+    tie.close
+    (tie.spec
+    slice-relend-prefix-place-all
+    slice-aggregate-place-all
+    slice-relend-prefix-place-all-2
+    slice-aggregate-place-all-2
+    sub-place-all
+    part-place-all-start
+    part-place-all-end
+    place-all-requires
+    same-length
+    same-length-2
+    same-length-3
+    same-length-4
+    same-length-5
+    returns)

@@ -1,0 +1,334 @@
+-- Laws of rows placed threshold by threshold.
+use Prim.Native.Nat.{ℕ, zero, suc, _+_, _-_, _*_, _/_, _%_, _<_, _≤_}
+use native.Mathlib.Numerals.{add-one}
+use native.Mathlib.Omega.{arith}
+use mathlib.Core.Path.{_≡_, refl, sym, ap, ap₂, _∙_, subst}
+use mathlib.Core.Bool.{Bool, true, false, cond}
+use mathlib.Core.List.{List, [], _∷_, _++_, map, map-append, append-assoc, append-nil}
+use lib.ListN.{length, take, drop, getD, set, replicate, length-append, length-set, length-map}
+use lib.Seq.{drop-cons, set-at, drop-drop, drop-set-lt, take-suc-set}
+use lib.Dec.{ltb}
+use borrow.Author.Tests.{ltb-true, ltb-false, lt-ltb, le-ltb}
+use Rattle.lists.specs.Laid.{over, joinAll, ends}
+use Rattle.numeric.specs.Threshold.{Term}
+use Rattle.row.specs.Terms.{rowTerms}
+use Rattle.row.specs.Keys.{laid, conditionsOf, weightsOf}
+use Rattle.thresholds.specs.declared.Found.the-variants.{At, Nothing}
+use Rattle.thresholds.specs.Raw.{Raw, startOf, endOf, stretch, listAt, mixed, fingerprint, markedList, numberIn, foundOf, Lists, Marked}
+use Rattle.thresholds.specs.RawLaws.{stretch-length, length-terms, number-most, length-marked, found-is, found-none}
+use Rattle.thresholds.specs.Placed.{spliced, rawsTo, rowTo, termsTo, rowEntry, nodesTo, Marks}
+use Rattle.thresholds.specs.PlacedLaws.{laid-behind, drop-replicate}
+use Rattle.prepare.specs.declared.Extent.{Extent}
+use Rattle.prepare.specs.RowsGivenLaid.{length-ends}
+use Rattle.prepare.specs.RowsGivenTerms.{terms-room}
+use Rattle.prepare.specs.Place.{Placing, Ready, Blank, rowEnds, rowsNext, nodesNext}
+
+-- ---- one list more
+
+join-one : {X : Type 0} (ls : List (List X)) (l : List X) → joinAll (ls ++ (l ∷ [])) ≡ joinAll ls ++ l
+unfolding joinAll
+join-one [] l = append-nil l
+join-one {X} (x ∷ ls) l = ap (λ (t : List X). x ++ t) (join-one ls l) ∙ sym (append-assoc x (joinAll ls) l)
+
+ends-one : {X : Type 0} (n : ℕ) (ls : List (List X)) (l : List X) → ends n (ls ++ (l ∷ [])) ≡ ends n ls ++ ((n + length (joinAll ls) + length l) ∷ [])
+unfolding joinAll ends
+ends-one n [] l = ap (λ (k : ℕ). k ∷ []) (let e : n + length l ≡ n + 0 + length l = omega arith in e)
+ends-one n (x ∷ ls) l =
+    let q = length-append x (joinAll ls) in
+    ap (λ (t : List ℕ). (n + length x) ∷ t) (ends-one (n + length x) ls l ∙ ap (λ (k : ℕ). ends (n + length x) ls ++ (k ∷ []))
+    (let e : n + length x + length (joinAll ls) + length l ≡ n + length (x ++ joinAll ls) + length l = omega arith in e))
+
+over-one : {X : Type 0} (l b : List X) (n : ℕ) (x : X) → length l ≡ n → n < length b → set (over l b) n x ≡ over (l ++ (x ∷ [])) b
+over-one {X} l b n x e h =
+    ap (λ (t : List X). set (l ++ t) n x) (drop-cons b (length l) x (omega arith)) ∙ set-at l (getD b (length l) x) (drop (suc (length l)) b) x n e
+    ∙ ap (λ (k : ℕ). l ++ (x ∷ drop k b)) (let q : suc (length l) ≡ length (l ++ (x ∷ [])) = let q = length-append l (x ∷ []) in omega arith in q)
+    ∙ sym (append-assoc l (x ∷ []) (drop (length (l ++ (x ∷ []))) b))
+
+-- ---- the raw lists of the rows
+
+module _ (r : Raw) (t : ℕ) where
+  raws-next : (b : Bool) → ltb (rowTo r t) (length (rawsTo r t)) ≡ b → rawsTo r (t + 1) ≡ cond b (rawsTo r t) (rawsTo r t ++ (listAt r t ∷ []))
+  unfolding rawsTo
+  raws-next b e = ap (rawsTo r) (add-one t) ∙ ap (λ (b : Bool). cond b (rawsTo r t) (rawsTo r t ++ (listAt r t ∷ []))) e
+
+  pub raws-old : rowTo r t < length (rawsTo r t) → rawsTo r (t + 1) ≡ rawsTo r t
+  raws-old h = raws-next true (lt-ltb (rowTo r t) (length (rawsTo r t)) h)
+
+  pub raws-new : rowTo r t ≡ length (rawsTo r t) → rawsTo r (t + 1) ≡ rawsTo r t ++ (listAt r t ∷ [])
+  raws-new h = raws-next false (le-ltb (rowTo r t) (length (rawsTo r t)) (omega arith))
+
+  terms-new : rowTo r t ≡ length (rawsTo r t) → termsTo r (t + 1) ≡ termsTo r t ++ (rowTerms (listAt r t) ∷ [])
+  terms-new h = ap (map (λ (l : List Term). rowTerms l)) (raws-new h) ∙ map-append (λ (l : List Term). rowTerms l) (rawsTo r t) (listAt r t ∷ [])
+
+  join-new : rowTo r t ≡ length (rawsTo r t) → joinAll (termsTo r (t + 1)) ≡ joinAll (termsTo r t) ++ rowTerms (listAt r t)
+  join-new h = ap joinAll (terms-new h) ∙ join-one (termsTo r t) (rowTerms (listAt r t))
+
+  long-new : rowTo r t ≡ length (rawsTo r t) → length (joinAll (termsTo r (t + 1))) ≡ length (joinAll (termsTo r t)) + length (rowTerms (listAt r t))
+  long-new h = ap length (join-new h) ∙ length-append (joinAll (termsTo r t)) (rowTerms (listAt r t))
+
+-- No more rows than thresholds.
+pub raws-few : (r : Raw) (t : ℕ) → length (rawsTo r t) ≤ t
+unfolding rawsTo
+raws-few r zero = omega arith
+raws-few r (suc t) = by (raws-few r t) (ltb (rowTo r t) (length (rawsTo r t)))
+  where
+    by : length (rawsTo r t) ≤ t → (b : Bool) → length (cond b (rawsTo r t) (rawsTo r t ++ (listAt r t ∷ []))) ≤ suc t
+    by h true = omega arith
+    by h false = let q = length-append (rawsTo r t) (listAt r t ∷ []) in omega arith
+
+-- ---- the row of a threshold, as it was found
+
+module _ (r : Raw) (t : ℕ) (ms : List ℕ) (e : map (markedList r) ms ≡ rawsTo r t) where
+  long-marks : length ms ≡ length (rawsTo r t)
+  long-marks = sym (length-marked r ms) ∙ ap length e
+
+  number-is : numberIn (map (markedList r) ms) (listAt r t) ≡ rowTo r t
+  number-is = ap (λ (ls : List (List Term)). numberIn ls (listAt r t)) e
+
+  pub found-old : (k : ℕ) → foundOf (numberIn (map (markedList r) ms) (listAt r t)) (length ms) ≡ At k → (k ≡ rowTo r t) × (rowTo r t < length (rawsTo r t))
+  found-old k q = (found-is (numberIn (map (markedList r) ms) (listAt r t)) (length ms) k q ∙ number-is, below (numberIn (map (markedList r) ms) (listAt r t)) (length ms) number-is long-marks q)
+    where
+      below : (n m : ℕ) → n ≡ rowTo r t → m ≡ length (rawsTo r t) → foundOf n m ≡ At k → rowTo r t < length (rawsTo r t)
+      below n m a b q = by (ltb n m) refl
+        where
+          by : (c : Bool) → ltb n m ≡ c → rowTo r t < length (rawsTo r t)
+          by true f = let g = ltb-true n m f in omega arith
+          by false f = absurd (let h = rw f at q in let z : _≡_ {A = ℕ} 0 1 = cc in omega arith)
+
+  pub found-new : foundOf (numberIn (map (markedList r) ms) (listAt r t)) (length ms) ≡ Nothing → rowTo r t ≡ length (rawsTo r t)
+  found-new q =
+      let h = number-most (map (markedList r) ms) (listAt r t) in
+      let l = length-marked r ms in
+      sym number-is ∙ sym (found-none (numberIn (map (markedList r) ms) (listAt r t)) (length ms) (omega arith) q) ∙ long-marks
+
+-- ---- marks
+
+each : (P : ℕ → Type 0) (ms : List ℕ) (m : ℕ) → ((k : ℕ) → k < length ms → P (getD ms k 0)) → P m → (k : ℕ) → k < length (ms ++ (m ∷ [])) → P (getD (ms ++ (m ∷ [])) k 0)
+each P [] m h q zero l = q
+each P [] m h q (suc k) l = absurd (omega arith)
+each P (x ∷ ms) m h q zero l = h 0 (omega arith)
+each P (x ∷ ms) m h q (suc k) l = each P ms m (λ j g. h (suc j) (omega arith)) q k (omega arith)
+
+marked-one : (r : Raw) (count : ℕ) (ms : List ℕ) (m : ℕ) → Marked r count ms → m % 1024 < count → m / 1024 ≡ fingerprint (markedList r m) → Marked r count (ms ++ (m ∷ []))
+marked-one r count ms m w f p = record {
+  first = each (λ (m : ℕ). m % 1024 < count) ms m (w .first) f;
+  print = each (λ (m : ℕ). m / 1024 ≡ fingerprint (markedList r m)) ms m (w .print) p;
+}
+
+module _ (r : Raw) (t rows : ℕ) (scratch : List ℕ) (k : Marks r t rows scratch) where
+  -- The rows are no more than the thresholds; behind 1,024 words nothing is marked.
+  pub marks-few : rows ≤ t
+  marks-few = let q = raws-few r t in let e = k .many in omega arith
+
+  pub marks-tail : rows ≤ 1024 → drop 1024 scratch ≡ replicate (length scratch - 1024) 0
+  marks-tail h =
+      let e : rows + (1024 - rows) ≡ 1024 = omega arith in
+      sym (drop-drop (1024 - rows) rows scratch ∙ ap (λ (n : ℕ). drop n scratch) e) ∙ ap (drop (1024 - rows)) (k .clear) ∙ drop-replicate (1024 - rows) (length scratch - rows)
+      ∙ ap (λ (n : ℕ). replicate n 0) (let q : length scratch - rows - (1024 - rows) ≡ length scratch - 1024 = omega arith in q)
+
+  marks-new : (m : ℕ) → rows < length scratch → m % 1024 ≡ t → m / 1024 ≡ fingerprint (listAt r t) → t < length (r .thresholds) → rowTo r t ≡ rows
+      → Marks r (t + 1) (rows + 1) (set scratch rows m)
+  marks-new m h e p g n =
+      let i = n ∙ k .many in
+      let f : take (rows + 1) (set scratch rows m) ≡ take rows scratch ++ (m ∷ []) = ap (λ (j : ℕ). take j (set scratch rows m)) (add-one rows) ∙ take-suc-set scratch rows m h in
+      record {
+        many = ap (λ (j : ℕ). j + 1) (k .many) ∙ sym (ap length (raws-new r t i) ∙ length-append (rawsTo r t) (listAt r t ∷ []));
+        marked = subst (λ (l : List ℕ). Marked r (length (r .thresholds)) l) (sym f)
+            (marked-one r (length (r .thresholds)) (take rows scratch) m (k .marked) (omega arith) (p ∙ ap (λ (j : ℕ). fingerprint (listAt r j)) (sym e)));
+        named = ap (map (markedList r)) f ∙ map-append (markedList r) (take rows scratch) (m ∷ [])
+            ∙ ap₂ (λ (ls : List (List Term)) (j : ℕ). ls ++ (listAt r j ∷ [])) (k .named) e ∙ sym (raws-new r t i);
+        clear = drop-set-lt (rows + 1) scratch rows m (omega arith) ∙ sym (drop-drop 1 rows scratch) ∙ ap (drop 1) (k .clear) ∙ drop-replicate 1 (length scratch - rows)
+            ∙ ap (λ (j : ℕ). replicate j 0) (let q = length-set scratch rows m in let u : length scratch - rows - 1 ≡ length (set scratch rows m) - (rows + 1) = omega arith in u);
+      }
+
+-- ---- one threshold more
+
+abbrev pub extent : ℕ → ℕ → Extent
+extent n e = record { rows = n; end = e }
+
+module _ (r : Raw) (t : ℕ) (so : Extent) (cs ws scratch : List ℕ) (p : Placing r t so cs ws scratch) (l : Lists r (length (r .thresholds))) (h : t < length (r .thresholds)) where
+  pub placing-old : rowTo r t < length (rawsTo r t) → Placing r (t + 1) so cs ws scratch
+  placing-old n =
+      let e = sym (raws-old r t n) in
+      record {
+        end = p .end ∙ ap (λ (ls : List (List Term)). length (joinAll (map (λ (l : List Term). rowTerms l) ls))) e;
+        terms = record {
+          conditions = p .terms .conditions ∙ ap (λ (ls : List (List Term)). laid (length cs) (conditionsOf (joinAll (map (λ (l : List Term). rowTerms l) ls)))) e;
+          weights = p .terms .weights ∙ ap (λ (ls : List (List Term)). laid (length ws) (weightsOf (joinAll (map (λ (l : List Term). rowTerms l) ls)))) e;
+        };
+        marks = record { many = p .marks .many ∙ ap length e; marked = p .marks .marked; named = p .marks .named ∙ e; clear = p .marks .clear };
+      }
+
+  -- A new row: x is its raw list, laid from a to e.
+  module _ (a e : ℕ) (x : List Term) (ea : a ≡ startOf (r .thresholds) t) (ee : e ≡ endOf (r .thresholds) t) (ex : x ≡ listAt r t)
+      (short : length (rowTerms x) ≤ e - a) (n : rowTo r t ≡ so .rows) where
+    new : rowTo r t ≡ length (rawsTo r t)
+    new = n ∙ p .marks .many
+
+    laid-new : (f : Term → ℕ) (b b′ : List ℕ) → b ≡ laid (length b) (map f (joinAll (termsTo r t))) → length (r .conditions) ≤ length b → length b′ ≡ length b
+        → b′ ≡ spliced (so .end) (e - a) b (laid (e - a) (map f (rowTerms x))) → b′ ≡ laid (length b′) (map f (joinAll (termsTo r (t + 1))))
+    laid-new f b b′ q long k s =
+        let room = terms-room r (length (r .thresholds)) t l h in
+        let end = p .end in
+        let le = p .end ∙ sym (length-map (joinAll (termsTo r t)) f) in
+        let lx = length-map (rowTerms x) f in
+        s ∙ laid-behind b (so .end) (e - a) (map f (joinAll (termsTo r t))) (map f (rowTerms x)) q le (omega arith) (omega arith)
+        ∙ ap₂ laid (sym k)
+        (sym (map-append f (joinAll (termsTo r t)) (rowTerms x)) ∙ ap (map f) (ap (λ (y : List Term). joinAll (termsTo r t) ++ rowTerms y) ex ∙ sym (join-new r t new)))
+
+    end-new : so .end + length (rowTerms x) ≡ length (joinAll (termsTo r (t + 1)))
+    end-new = ap₂ _+_ (p .end) (ap (λ (y : List Term). length (rowTerms y)) ex) ∙ sym (long-new r t new)
+
+    pub placing-new : (end m : ℕ) (cs′ ws′ scratch′ : List ℕ) → length (r .conditions) ≤ length cs → length ws ≡ length cs → so .rows < length scratch
+        → end ≡ so .end + length (rowTerms x)
+        → length cs′ ≡ length cs → cs′ ≡ spliced (so .end) (e - a) cs (laid (e - a) (conditionsOf (rowTerms x)))
+        → length ws′ ≡ length ws → ws′ ≡ spliced (so .end) (e - a) ws (laid (e - a) (weightsOf (rowTerms x)))
+        → m % 1024 ≡ t → m / 1024 ≡ fingerprint (listAt r t) → scratch′ ≡ scratch
+        → Placing r (t + 1) (extent (so .rows + 1) end) cs′ ws′ (set scratch′ (so .rows) m)
+    placing-new end m cs′ ws′ scratch′ room even some q kc ec kw ew mt mp es =
+        record {
+          end = q ∙ end-new;
+          terms = record {
+            conditions = laid-new (λ (t : Term). t .condition) cs cs′ (p .terms .conditions) room kc ec;
+            weights = laid-new (λ (t : Term). t .weight) ws ws′ (p .terms .weights) (omega arith) kw ew;
+          };
+          marks = subst (λ (z : List ℕ). Marks r (t + 1) (so .rows + 1) (set z (so .rows) m)) (sym es) (marks-new r t (so .rows) scratch (p .marks) m some mt mp h n);
+        }
+
+-- Where a next row would go there is room, in the rows and among the marks.
+pub record Within (r : Raw) (t : ℕ) (so : Extent) (rows : List (List ℕ)) (scratch : List ℕ) : Type 0 where
+  pub turn : t < 1024
+  pub few : so .rows ≤ t
+  pub row : so .rows < length rows
+  pub word : so .rows < length scratch
+
+pub within : (r : Raw) (t : ℕ) (so : Extent) (cs ws : List ℕ) (rows : List (List ℕ)) (scratch : List ℕ) → Ready r cs ws rows scratch → Placing r t so cs ws scratch
+    → t < length (r .thresholds) → Within r t so rows scratch
+within r t so cs ws rows scratch q p h =
+    let few = marks-few r t (so .rows) scratch (p .marks) in
+    let many = q .lists .many in
+    let row = q .many in
+    let word = q .words in
+    record { turn = omega arith; few = few; row = omega arith; word = omega arith }
+
+-- ---- rows and nodes
+
+pub rows-old : (r : Raw) (t : ℕ) (rows : List (List ℕ)) → rowTo r t < length (rawsTo r t) → rows ≡ rowsNext r t rows
+unfolding rowsNext
+rows-old r t rows h =
+    sym (ap (λ (b : Bool). cond b rows (set rows (length (rawsTo r t)) (rowEntry (length (joinAll (termsTo r (t + 1))))))) (lt-ltb (rowTo r t) (length (rawsTo r t)) h))
+
+pub rows-new : (r : Raw) (t : ℕ) (rows : List (List ℕ)) (n e : ℕ) → rowTo r t ≡ length (rawsTo r t) → n ≡ length (rawsTo r t) → e ≡ length (joinAll (termsTo r (t + 1)))
+    → set rows n (rowEntry e) ≡ rowsNext r t rows
+unfolding rowsNext
+rows-new r t rows n e h p q =
+    ap₂ (λ (n e : ℕ). set rows n (rowEntry e)) p q
+    ∙ sym (ap (λ (b : Bool). cond b rows (set rows (length (rawsTo r t)) (rowEntry (length (joinAll (termsTo r (t + 1))))))) (le-ltb (rowTo r t) (length (rawsTo r t)) (omega arith)))
+
+ends-new : (r : Raw) (t : ℕ) → rowTo r t ≡ length (rawsTo r t) → rowEnds r (t + 1) ≡ rowEnds r t ++ (rowEntry (length (joinAll (termsTo r (t + 1)))) ∷ [])
+ends-new r t h =
+    let e : 0 + length (joinAll (termsTo r t)) + length (rowTerms (listAt r t)) ≡ length (joinAll (termsTo r (t + 1))) = let q = long-new r t h in omega arith in
+    ap (λ (ls : List (List Term)). map rowEntry (ends 0 ls)) (terms-new r t h) ∙ ap (map rowEntry) (ends-one 0 (termsTo r t) (rowTerms (listAt r t)))
+    ∙ map-append rowEntry (ends 0 (termsTo r t)) ((0 + length (joinAll (termsTo r t)) + length (rowTerms (listAt r t))) ∷ [])
+    ∙ ap (λ (k : ℕ). rowEnds r t ++ (rowEntry k ∷ [])) e
+
+pub rowEnds-long : (r : Raw) (t : ℕ) → length (rowEnds r t) ≡ length (rawsTo r t)
+rowEnds-long r t = length-map (ends 0 (termsTo r t)) rowEntry ∙ length-ends 0 (termsTo r t) ∙ length-map (rawsTo r t) (λ (l : List Term). rowTerms l)
+
+pub rows-next : (r : Raw) (t : ℕ) (rows₀ rows rows′ : List (List ℕ)) → length (rawsTo r t) < length rows₀ → rows ≡ over (rowEnds r t) rows₀ → rows′ ≡ rowsNext r t rows
+    → rows′ ≡ over (rowEnds r (t + 1)) rows₀
+rows-next r t rows₀ rows rows′ h e s = by (ltb (rowTo r t) (length (rawsTo r t))) refl
+  where
+    by : (b : Bool) → ltb (rowTo r t) (length (rawsTo r t)) ≡ b → rows′ ≡ over (rowEnds r (t + 1)) rows₀
+    by true q =
+        let g = ltb-true (rowTo r t) (length (rawsTo r t)) q in
+        s ∙ sym (rows-old r t rows g) ∙ e ∙ ap (λ (ls : List (List Term)). over (map rowEntry (ends 0 (map (λ (l : List Term). rowTerms l) ls))) rows₀) (sym (raws-old r t g))
+    by false q =
+        let g = ltb-false (rowTo r t) (length (rawsTo r t)) q in
+        let m = number-most (rawsTo r t) (listAt r t) in
+        let i : rowTo r t ≡ length (rawsTo r t) = omega arith in
+        let v = rowEntry (length (joinAll (termsTo r (t + 1)))) in
+        s ∙ sym (rows-new r t rows (length (rawsTo r t)) (length (joinAll (termsTo r (t + 1)))) i refl refl)
+        ∙ ap (λ (l : List (List ℕ)). set l (length (rawsTo r t)) v) e
+        ∙ over-one (rowEnds r t) rows₀ (length (rawsTo r t)) v (rowEnds-long r t) h
+        ∙ ap (λ (l : List (List ℕ)). over l rows₀) (sym (ends-new r t i))
+
+pub nodes-next : (r : Raw) (t : ℕ) (nodes₀ nodes nodes′ : List (List ℕ)) → nodes ≡ nodesTo r nodes₀ t → nodes′ ≡ nodesNext r t nodes → nodes′ ≡ nodesTo r nodes₀ (t + 1)
+unfolding nodesTo
+nodes-next r t nodes₀ nodes nodes′ e s = s ∙ ap (λ (l : List (List ℕ)). nodesNext r t l) e ∙ sym (ap (nodesTo r nodes₀) (add-one t))
+
+-- ---- before the first
+
+pub placing-start : (r : Raw) (cs ws scratch : List ℕ) → Blank cs → Blank ws → Blank scratch → Placing r 0 (extent 0 0) cs ws scratch
+unfolding rawsTo joinAll
+placing-start r cs ws scratch a b c = record {
+  end = refl;
+  terms = record { conditions = blank cs a; weights = blank ws b };
+  marks = record { many = refl; marked = record { first = λ k h. absurd (omega arith); print = λ k h. absurd (omega arith) }; named = refl; clear = blank scratch c };
+}
+  where
+    blank : (l : List ℕ) → Blank l → l ≡ replicate (length l - 0) 0
+    blank l e = e ∙ ap (λ (n : ℕ). replicate n 0) (let u : length l ≡ length l - 0 = omega arith in u)
+
+pub rows-start : (r : Raw) (rows : List (List ℕ)) → rows ≡ over (rowEnds r 0) rows
+unfolding rawsTo ends
+rows-start r rows = refl
+
+pub nodes-start : (r : Raw) (nodes : List (List ℕ)) → nodes ≡ nodesTo r nodes 0
+unfolding nodesTo
+nodes-start r nodes = refl
+
+-- ---- lengths of the buffers in the loop
+
+pub record Same (cs ws : List ℕ) (rs ns : List (List ℕ)) (sc cs′ ws′ : List ℕ) (rs′ ns′ : List (List ℕ)) (sc′ : List ℕ) : Type 0 where
+  pub row-conditions : length cs′ ≡ length cs
+  pub row-weights : length ws′ ≡ length ws
+  pub rows : length rs′ ≡ length rs
+  pub nodes : length ns′ ≡ length ns
+  pub scratch : length sc′ ≡ length sc
+
+pub ready-by : (r : Raw) (cs ws : List ℕ) (rows : List (List ℕ)) (scratch cs′ ws′ : List ℕ) (rows′ : List (List ℕ)) (scratch′ : List ℕ)
+    → length cs′ ≡ length cs → length ws′ ≡ length ws → length rows′ ≡ length rows → length scratch′ ≡ length scratch → Ready r cs ws rows scratch → Ready r cs′ ws′ rows′ scratch′
+ready-by r cs ws rows scratch cs′ ws′ rows′ scratch′ a b c d q =
+    let q1 = q .room in
+    let q2 = q .even in
+    let q3 = q .many in
+    let q4 = q .words in
+    record { lists = q .lists; below = q .below; few = q .few; room = omega arith; even = omega arith; many = omega arith; words = omega arith }
+
+-- ---- marks as words
+
+-- A print is below 2 ^ 32, so that a mark fits its word and is taken apart again.
+mixed-small : (h : ℕ) (ts : List Term) → h < 4294967296 → mixed h ts < 4294967296
+unfolding mixed
+mixed-small h [] q = q
+mixed-small h (t ∷ ts) q = mixed-small ((h * 65599 + t .condition * 257 + t .weight) % 4294967296) ts (omega arith)
+
+list-short : (r : Raw) (t : ℕ) → Lists r (length (r .thresholds)) → t < length (r .thresholds) → length (listAt r t) < 4294967296
+unfolding listAt
+list-short r t l h =
+    let a = startOf (r .thresholds) t in
+    let e = endOf (r .thresholds) t in
+    let i = l .inside t h in
+    let s = l .short t h in
+    let w = l .weighed in
+    let c = stretch-length a e (r .conditions) (omega arith) in
+    let d = stretch-length a e (r .weights) (omega arith) in
+    let n = length-terms (stretch a e (r .conditions)) (stretch a e (r .weights)) (omega arith) in
+    omega arith
+
+pub print-small : (r : Raw) (t : ℕ) → Lists r (length (r .thresholds)) → t < length (r .thresholds) → fingerprint (listAt r t) < 4294967296
+unfolding fingerprint
+print-small r t l h = mixed-small (length (listAt r t)) (listAt r t) (list-short r t l h)
+
+pub mark-first : (p t : ℕ) → t < 1024 → (p * 1024 + t) % 1024 ≡ t
+mark-first p t h = omega arith
+
+pub mark-print : (p t : ℕ) → t < 1024 → (p * 1024 + t) / 1024 ≡ p
+mark-print p t h = omega arith
+
+pub placed-end : (r : Raw) (t n : ℕ) (so : Extent) (cs ws scratch : List ℕ) (rows₀ rows nodes₀ nodes : List (List ℕ)) → t ≡ n
+    → Placing r t so cs ws scratch → rows ≡ over (rowEnds r t) rows₀ → nodes ≡ nodesTo r nodes₀ t
+    → Placing r n so cs ws scratch × (rows ≡ over (rowEnds r n) rows₀) × (nodes ≡ nodesTo r nodes₀ n)
+placed-end r t n so cs ws scratch rows₀ rows nodes₀ nodes e p q s =
+    (subst (λ (n : ℕ). Placing r n so cs ws scratch) e p, q ∙ ap (λ (n : ℕ). over (rowEnds r n) rows₀) e, s ∙ ap (nodesTo r nodes₀) e)
