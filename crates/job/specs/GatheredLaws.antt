@@ -36,7 +36,7 @@ by-last P n m e h p t q = by (decLt t n)
     by (yes d) = h t d
     by (no d) = subst P (let z : n ≡ t = omega arith in z) p
 
-start-cut : (n t : ℕ) (ts : List (List ℕ)) → t ≤ n → startOf (take n ts) t ≡ startOf ts t
+pub start-cut : (n t : ℕ) (ts : List (List ℕ)) → t ≤ n → startOf (take n ts) t ≡ startOf ts t
 unfolding startOf
 start-cut n zero ts h = refl
 start-cut n (suc t) ts h = ap (λ (p : List ℕ). getD p 1 0) (getD-take n ts t [] h)

@@ -7,7 +7,9 @@ ghost use lib.ListN.{length, set};
 ghost use lib.Dec.{eqb, leb};
 ghost use Rattle.numeric.specs.Area.{weightOfArea};
 ghost use Rattle.thresholds.specs.Guards.{nodeAt};
-ghost use Rattle.job.specs.Gathered.{Listed, Bounded, Termed, openIn, termIn, Opened, Added};
+ghost use Rattle.prepare.specs.Prepare.{lent};
+ghost use Rattle.job.specs.Gathered.{Listed, Bounded, Termed, Gathered, jobIn, openIn, termIn, Opened, Added};
+ghost use Rattle.job.specs.Built.{Empty, Unlinked, Built};
 use thresholds::node_of;
 use thresholds::start_of;
 
@@ -175,4 +177,91 @@ pub fn add_area(
 {
     let weight = numeric::weight_of_area(area);
     add_term(counts, condition, weight, conditions, weights, thresholds)
+}
+
+// The rows of the job with their guards, and the edges of its nodes. How many rows there are.
+fn build_rows(
+    counts: Counts,
+    conditions: &[u16],
+    weights: &[u32],
+    thresholds: &[[u16; 2]],
+    bounds: &[i64],
+    row_conditions: &mut [u16],
+    row_weights: &mut [u64],
+    rows: &mut [[u16; 3]],
+    guard_bounds: &mut [i64],
+    guard_nodes: &mut [u16],
+    nodes: &mut [[u16; 3]],
+    edges: &mut [[u64; 2]],
+    scratch: &mut [u64],
+) -> usize
+    requires { ⌜ Gathered counts (now conditions) (now weights) (now thresholds) (now bounds)
+        × Empty (lent (now «row_conditions») (now «row_weights») (now rows) (now «guard_bounds») (now «guard_nodes») (now nodes) (now edges) (now scratch)) ⌝ }
+    ensures { λ r. ⌜ Unlinked (jobIn counts (now (conditions .entry)) (now (weights .entry)) (now (thresholds .entry)) (now (bounds .entry))) r
+        (lent (now («row_conditions» .entry)) (now («row_weights» .entry)) (now (rows .entry)) (now («guard_bounds» .entry)) (now («guard_nodes» .entry)) (now (nodes .entry)) (now (edges .entry)) (now (scratch .entry)))
+        (lent (now («row_conditions» .exit)) (now («row_weights» .exit)) (now (rows .exit)) (now («guard_bounds» .exit)) (now («guard_nodes» .exit)) (now (nodes .exit)) (now (edges .exit)) (now (scratch .exit)))
+        × (r ≤ 1024) ⌝ }
+{
+    let terms = counts.terms;
+    let count = counts.thresholds;
+    let many = counts.nodes;
+    let so = prepare::prepare(
+        &conditions[..terms],
+        &weights[..terms],
+        &thresholds[..count],
+        &bounds[..count],
+        row_conditions,
+        row_weights,
+        rows,
+        guard_bounds,
+        guard_nodes,
+        &mut nodes[..many],
+        edges,
+        scratch,
+    );
+    so.rows
+}
+
+// Everything that the seal builds of the job: rows, guards, edges and links, in buffers that were cleared. How many rows there are.
+pub fn build(
+    counts: Counts,
+    conditions: &[u16],
+    weights: &[u32],
+    thresholds: &[[u16; 2]],
+    bounds: &[i64],
+    row_conditions: &mut [u16],
+    row_weights: &mut [u64],
+    rows: &mut [[u16; 3]],
+    guard_bounds: &mut [i64],
+    guard_nodes: &mut [u16],
+    nodes: &mut [[u16; 3]],
+    edges: &mut [[u64; 2]],
+    links: &mut [u16],
+    scratch: &mut [u64],
+) -> usize
+    requires { ⌜ Gathered counts (now conditions) (now weights) (now thresholds) (now bounds)
+        × Empty (lent (now «row_conditions») (now «row_weights») (now rows) (now «guard_bounds») (now «guard_nodes») (now nodes) (now edges) (now scratch))
+        × (2048 ≤ length (now links)) ⌝ }
+    ensures { λ r. ⌜ Built (jobIn counts (now (conditions .entry)) (now (weights .entry)) (now (thresholds .entry)) (now (bounds .entry))) r
+        (lent (now («row_conditions» .entry)) (now («row_weights» .entry)) (now (rows .entry)) (now («guard_bounds» .entry)) (now («guard_nodes» .entry)) (now (nodes .entry)) (now (edges .entry)) (now (scratch .entry)))
+        (lent (now («row_conditions» .exit)) (now («row_weights» .exit)) (now (rows .exit)) (now («guard_bounds» .exit)) (now («guard_nodes» .exit)) (now (nodes .exit)) (now (edges .exit)) (now (scratch .exit)))
+        (now (links .entry)) (now (links .exit)) ⌝ }
+{
+    let count = build_rows(
+        counts,
+        conditions,
+        weights,
+        thresholds,
+        bounds,
+        row_conditions,
+        row_weights,
+        rows,
+        guard_bounds,
+        guard_nodes,
+        nodes,
+        edges,
+        scratch,
+    );
+    prefixes::prepare(rows, links, scratch, row_conditions, row_weights, count);
+    count
 }
