@@ -68,7 +68,7 @@ module _ (j : Job) where
         ),
       )
 
-neighbours-long : (rs : List Row) → length (ends 0 (neighbourLists rs)) ≡ length rs
+pub neighbours-long : (rs : List Row) → length (ends 0 (neighbourLists rs)) ≡ length rs
 neighbours-long rs = length-ends 0 (neighbourLists rs) ∙ length-first _ (length rs)
 
 set-triples : (xs ys zs ws : List ℕ) (r : ℕ) → length ys ≡ length xs → length zs ≡ length xs → length ws ≡ length xs → r < length xs

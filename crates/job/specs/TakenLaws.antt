@@ -22,7 +22,7 @@ use Rattle.prepare.specs.Given.{thresholdAt, given}
 use Rattle.job.specs.Job.{check, first, addTerm, withThreshold, withTerm}
 use Rattle.job.specs.declared.Counts.{Counts}
 use Rattle.job.specs.declared.Taken.{Taken}
-use Rattle.job.specs.Gathered.{cut, jobIn, Listed, Bounded, Termed, openIn, termIn, Opened, Added}
+use Rattle.job.specs.Gathered.{cut, jobIn, Listed, Bounded, Termed, Gathered, openIn, termIn, Opened, Added}
 use Rattle.job.specs.JobLaws.{map-same, add-more, term-more, stretch-set, stretch-more, or-false}
 use Rattle.job.specs.GatheredLaws.{threshold-by, by-last, list-by, gathered, gathered-last, open-is, term-is}
 
@@ -362,4 +362,26 @@ not-added k c w cs ws ts x g h e z = record {
   termed = h;
   nodes = refl;
   many = refl;
+}
+
+-- ---- both keep the invariant
+
+pub opened-gathered : (k : Counts) (n : ℕ) (b : ℤ) (cs ws : List ℕ) (ts : List (List ℕ)) (bs : List ℤ) (r : Taken) (ts′ : List (List ℕ)) (bs′ : List ℤ)
+    → Gathered k cs ws ts bs → Opened k n b ts bs r ts′ bs′ → Gathered (r .counts) cs ws ts′ bs′
+opened-gathered k n b cs ws ts bs r ts′ bs′ g o = record {
+  listed = o .listed;
+  bounded = o .bounded;
+  termed = record {
+    conditions = g .termed .conditions;
+    weights = g .termed .weights;
+    below = λ i q. subst (λ (x : ℕ). getD cs i 0 < x) (sym (o .nodes)) (g .termed .below i (subst (λ (x : ℕ). i < x) (o .terms) q));
+  };
+}
+
+pub added-gathered : (k : Counts) (c w : ℕ) (cs ws : List ℕ) (ts : List (List ℕ)) (bs : List ℤ) (r : Taken) (cs′ ws′ : List ℕ) (ts′ : List (List ℕ))
+    → Gathered k cs ws ts bs → Added k c w cs ws ts r cs′ ws′ ts′ → Gathered (r .counts) cs′ ws′ ts′ bs
+added-gathered k c w cs ws ts bs r cs′ ws′ ts′ g o = record {
+  listed = o .listed;
+  bounded = record { room = g .bounded .room; bound = λ t q. g .bounded .bound t (subst (λ (x : ℕ). t < x) (o .many) q) };
+  termed = o .termed;
 }
