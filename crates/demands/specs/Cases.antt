@@ -30,7 +30,8 @@ use Rattle.propagate.specs.Row as Row
 use Rattle.between.specs.Between as Between
 use Rattle.regions.specs.Drain as Drain
 use Rattle.regions.specs.Sift as Sift
-use Rattle.planner.specs.Record.{littleEndian, Record, header, opens, adds, areas, seal, mark, settle, sift, unknown}
+use Rattle.records.specs.Record.{littleEndian, Record, header, opens, adds, areas, seal, mark, settle, sift, unknown}
+use Rattle.job.specs.Job as Job
 use Rattle.planner.specs.File as File
 use Rattle.planner.specs.Listing.{text, listing}
 use Rattle.planner.specs.Listing as Listing
@@ -139,7 +140,7 @@ lift (d ∷ cs) h c m =
     ⊎-elim (λ (e : c ≡ d). subst⁻¹ Right e (h .0)) (λ (n : List·Memᴰ c cs). lift cs (h .1) c n) (List·Memᴰ·cases-cons m)
 
 computed : Every cases × Every shown
-unfolding States.firstState States.noState States.withKnown States.withPossible States.withLower States.withUpper States.withGuards States.withTerms States.drained States.conflict States.hasResidualInterval Mask.setBit Mask.learn Mask.count Shift.shiftWord Shift.wordHits Shift.shiftFrom Shift.unionShifted Queues.push Queues.popped Queues.queueRow Queues.nextRow Marks.decide Terms.merge Terms.merged Terms.insert Terms.sorted Terms.total Terms.sameTerms Rows.insertGuard Rows.place Rows.placeAll Rows.rowNumber Rows.hasNonunit Rows.edgesIn Rows.edgesFrom Links.notAfter Links.insertRow Links.orderFrom Links.common Links.ancestors Links.stacked Links.linked Links.linksFrom Links.links Links.neighbours Gcd.gcdIn Gcd.gcd Gcd.misses Gcd.branchMisses Residuals.checkFrom Residuals.residualCheck Residuals.fitsFrom Residuals.suffixFrom Residuals.forceTerm Residuals.forceFrom Residuals.thresholdResidual Searches.plan Searches.searchFrom Searches.search Scan.scan Row.thresholdGuards Row.trueTerms Row.falseTerms Row.scans Row.thresholdRow Row.wantsResidual Between.runWith Between.runRow Between.bounded Between.thresholdGuard Between.conditionFrom Between.thresholdCondition Between.prefixesFrom Between.thresholdPrefixes Between.firstStates Between.seedFrom Between.guardOf Drain.seal Drain.mark Drain.takeNode Drain.takeRow Drain.drain Sift.tryRow Sift.siftFrom File.begun File.lastNode File.lastTerms File.allTerms File.first File.refusal File.addTerm File.settledFile File.siftedFile File.apply File.readFrom File.fileOf File.planned File.after Listing.text Listing.digits Listing.answerLines Listing.nodeLines Listing.rowLines Listing.listing littleEndian bytes twos written writtenAll
+unfolding States.firstState States.noState States.withKnown States.withPossible States.withLower States.withUpper States.withGuards States.withTerms States.drained States.conflict States.hasResidualInterval Mask.setBit Mask.learn Mask.count Shift.shiftWord Shift.wordHits Shift.shiftFrom Shift.unionShifted Queues.push Queues.popped Queues.queueRow Queues.nextRow Marks.decide Terms.merge Terms.merged Terms.insert Terms.sorted Terms.total Terms.sameTerms Rows.insertGuard Rows.place Rows.placeAll Rows.rowNumber Rows.hasNonunit Rows.edgesIn Rows.edgesFrom Links.notAfter Links.insertRow Links.orderFrom Links.common Links.ancestors Links.stacked Links.linked Links.linksFrom Links.links Links.neighbours Gcd.gcdIn Gcd.gcd Gcd.misses Gcd.branchMisses Residuals.checkFrom Residuals.residualCheck Residuals.fitsFrom Residuals.suffixFrom Residuals.forceTerm Residuals.forceFrom Residuals.thresholdResidual Searches.plan Searches.searchFrom Searches.search Scan.scan Row.thresholdGuards Row.trueTerms Row.falseTerms Row.scans Row.thresholdRow Row.wantsResidual Between.runWith Between.runRow Between.bounded Between.thresholdGuard Between.conditionFrom Between.thresholdCondition Between.prefixesFrom Between.thresholdPrefixes Between.firstStates Between.seedFrom Between.guardOf Drain.seal Drain.mark Drain.takeNode Drain.takeRow Drain.drain Sift.tryRow Sift.siftFrom File.begun Job.lastNode Job.lastTerms Job.allTerms Job.first File.refusal Job.addTerm File.settledFile File.siftedFile File.apply File.readFrom File.fileOf File.planned File.after Listing.text Listing.digits Listing.answerLines Listing.nodeLines Listing.rowLines Listing.listing littleEndian bytes twos written writtenAll
 computed = (
   (refl, (refl, (refl, (refl, (refl, (refl, (refl, (refl, (refl, (refl, (refl, (refl, (refl, (refl, (refl, (refl, (refl, tt))))))))))))))))),
   ((refl, refl, refl, refl), ((refl, refl, refl, refl), (refl, tt))),

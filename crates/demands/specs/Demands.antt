@@ -22,7 +22,7 @@ use Rattle.possible_sums.specs.declared.Search.the-variants.{Fits, Nothing, Cut
 use Rattle.possible_sums.specs.Search.{plan, search, searchStep, Lands}
 use Rattle.table.specs.Table.{Table, Conflict, Run, steps, ReachesConflict, AtRest, Ended}
 use Rattle.regions.specs.Drain.{atRest}
-use Rattle.planner.specs.Record.{Record, seal, mark, settle, sift}
+use Rattle.records.specs.Record.{Record, seal, mark, settle, sift}
 use Rattle.planner.specs.File.{File, sifted, begun, apply, after, refusalAt, planned}
 use Rattle.memory.specs.Buffers.{Work, fits}
 use Rattle.planner.specs.Contents.{Out, served, whole}

@@ -32,8 +32,9 @@ use Rattle.regions.specs.Drain.{indexOf, withMarks, takeNode, takeRow, turn, at
 use Rattle.regions.specs.Drain as Drain
 use Rattle.regions.specs.Sift.{Sifted, tryRow, siftFrom}
 use Rattle.regions.specs.Sift as Sift
-use Rattle.planner.specs.Record.{Record, header, opens, adds, areas, seal, mark, settle, sift, unknown}
-use Rattle.planner.specs.File.{File, Answer, settled, sifted, begun, Check, check, first, refusal, wrongTurn, noSuchNode, notRising, badBound, badValue, tooMany, tooManyTerms, lastTerms, allTerms, addTerm, apply, settledFile, siftedFile, after, readFrom, fileOf}
+use Rattle.records.specs.Record.{Record, header, opens, adds, areas, seal, mark, settle, sift, unknown}
+use Rattle.job.specs.Job.{Check, check, first, lastTerms, allTerms, addTerm}
+use Rattle.planner.specs.File.{File, Answer, settled, sifted, begun, refusal, wrongTurn, noSuchNode, notRising, badBound, badValue, tooMany, tooManyTerms, apply, settledFile, siftedFile, after, readFrom, fileOf}
 use Rattle.planner.specs.FileLaws.{read-taken}
 use Rattle.ends.specs.Keeps.{keeps-row, keeps-residual}
 use Rattle.ends.specs.Turns.{Indexed}

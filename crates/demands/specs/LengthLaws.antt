@@ -17,7 +17,8 @@ use Rattle.prepare.specs.RowsGivenLaid.{length-ends}
 use Rattle.between.specs.Numbers.{figuresOf, cursorsOf}
 use Rattle.memory.specs.Buffers.{Raw, Built, Kept as KeptBuffers, Work, fits, zeros, cleared, clearRaw, clearBuilt, clearKept}
 use Rattle.memory.specs.Lengths.{SizedRaw, SizedBuilt, SizedKept, Sized, fits-sized, SameRaw, SameBuilt, SameKept}
-use Rattle.planner.specs.File.{File, allTerms, fileOf}
+use Rattle.job.specs.Job.{allTerms}
+use Rattle.planner.specs.File.{File, fileOf}
 use Rattle.planner.specs.Contents.{rawLists, rawOf, builtOf, answerNumber, answerVisits, keptOf, laid, Out, whole}
 use Rattle.demands.specs.Demands.{SameLengths}
 use Rattle.demands.specs.RefusalLaws.{served-when, untouched-when, true-or-false}

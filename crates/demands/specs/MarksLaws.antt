@@ -10,8 +10,9 @@ use mathlib.Core.List.{List, [], _∷_, _++_, append-assoc, append-nil, List·Me
 use lib.Dec.{eqb, ltb}
 use borrow.Author.Tests.{eq-eqb, ne-eqb, ltb-false}
 use Rattle.thresholds.specs.Rows.{rowsOf}
-use Rattle.planner.specs.Record.{Record, header, opens, adds, areas, seal, mark, settle, sift, unknown}
-use Rattle.planner.specs.File.{File, begun, refusal, isEmptyList, apply, settledFile, after, planned}
+use Rattle.records.specs.Record.{Record, header, opens, adds, areas, seal, mark, settle, sift, unknown}
+use Rattle.job.specs.Job.{isEmptyList}
+use Rattle.planner.specs.File.{File, begun, refusal, apply, settledFile, after, planned}
 use Rattle.ends.specs.Files.{Passed}
 use Rattle.follows.specs.Answers.{clash, or-false}
 use Rattle.follows.specs.Decide.{decideAs}

@@ -2,7 +2,7 @@
 use mathlib.Core.Path.{refl}
 use mathlib.Core.Logic.{inl}
 use Rattle.possible_sums.specs.SearchLaws as SearchLaws
-use Rattle.planner.specs.Record.{settle}
+use Rattle.records.specs.Record.{settle}
 use Rattle.ends.specs.Files as Files
 use Rattle.demands.specs.Demands.{Demand1, Demand2, Demand3, ClauseA, ClauseC}
 use Rattle.demands.specs.RefusalLaws as Refusals

@@ -13,7 +13,7 @@ use lib.Signed.{≤ℤ-refl}
 use borrow.Author.Tests.{eq-eqb, eqb-true}
 use Rattle.numeric.specs.Threshold.{Job}
 use Rattle.thresholds.specs.Rows.{Row, rowsOf}
-use Rattle.planner.specs.Record.{Record, header, opens, adds, areas, seal, mark, settle, sift, unknown}
+use Rattle.records.specs.Record.{Record, header, opens, adds, areas, seal, mark, settle, sift, unknown}
 use Rattle.planner.specs.File.{File, begun, apply, settledFile, after, planned}
 use Rattle.ends.specs.Files.{Passed, planned-passed}
 use Rattle.table.specs.Table.{Table, knownOf, possibleOf}

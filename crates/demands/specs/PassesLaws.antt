@@ -9,8 +9,9 @@ use lib.ListN.{length, replicate, length-replicate}
 use lib.Dec.{leb}
 use Rattle.numeric.specs.Threshold.{Job}
 use Rattle.state.specs.declared.Step.the-variants.{Unchanged}
-use Rattle.planner.specs.Record.{Record, header, opens, adds, areas, seal, mark, settle, sift, unknown}
-use Rattle.planner.specs.File.{File, Answer, settled, cleared, begun, Check, check, first, refusal, apply, settledFile, siftedFile, planned}
+use Rattle.records.specs.Record.{Record, header, opens, adds, areas, seal, mark, settle, sift, unknown}
+use Rattle.job.specs.Job.{Check, check, first}
+use Rattle.planner.specs.File.{File, Answer, settled, cleared, begun, refusal, apply, settledFile, siftedFile, planned}
 use Rattle.ends.specs.Files.{Passed, planned-passed}
 use Rattle.settles.specs.Records.{Taken, taken}
 use Rattle.demands.specs.Reading.{records, decoded, plainly, Passes}

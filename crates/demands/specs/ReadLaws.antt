@@ -11,7 +11,7 @@ use lib.ListN.{length, take, drop, length-take, length-drop}
 use lib.Seq.{take-nil, drop-drop}
 use lib.Dec.{eqb, ltb}
 use borrow.Author.Tests.{eqb-true, eqb-false, ltb-false}
-use Rattle.planner.specs.Record.{kindOf, bodyLength, Record, recordOf}
+use Rattle.records.specs.Record.{kindOf, bodyLength, Record, recordOf}
 use Rattle.planner.specs.File.{File, begun, apply, Outcome, outcome, bodyOf, recordAt, unknownKind, cutBody, refusal, refusalAt, readFrom, fileOf, planned}
 use Rattle.planner.specs.FileLaws.{drop-take, same-body}
 use Rattle.demands.specs.Reading.{Decoded, records, damaged, decodeFrom, decoded}

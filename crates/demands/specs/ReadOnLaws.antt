@@ -11,8 +11,9 @@ use lib.Dec.{eqb, ltb}
 use borrow.Author.Tests.{eqb-false}
 use Rattle.numeric.specs.Threshold.{term, Threshold, Job}
 use Rattle.numeric.specs.Area.{weightOfArea}
-use Rattle.planner.specs.Record.{Record, header, opens, adds, areas, seal, mark, settle, sift, unknown, kindOf, bodyLength}
-use Rattle.planner.specs.File.{File, begun, Check, check, first, refusal, wrongTurn, noSuchNode, notRising, badBound, badValue, tooMany, isEmptyList, addTerm, apply, settledFile, siftedFile, Outcome, outcome, recordAt, unknownKind, cutBody, refusalAt, readFrom, fileOf, planned, after}
+use Rattle.records.specs.Record.{Record, header, opens, adds, areas, seal, mark, settle, sift, unknown, kindOf, bodyLength}
+use Rattle.job.specs.Job.{Check, check, first, isEmptyList, addTerm}
+use Rattle.planner.specs.File.{File, begun, refusal, wrongTurn, noSuchNode, notRising, badBound, badValue, tooMany, apply, settledFile, siftedFile, Outcome, outcome, recordAt, unknownKind, cutBody, refusalAt, readFrom, fileOf, planned, after}
 use Rattle.follows.specs.Answers.{clash, or-false, not-false}
 use Rattle.settles.specs.Records.{Taken, taken}
 use Rattle.demands.specs.Reading.{Decoded, records, damaged, decodeFrom, decoded, plainly, plainlyAll, Passes}

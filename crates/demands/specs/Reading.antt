@@ -12,7 +12,7 @@ use Rattle.state.specs.State.{noState}
 use Rattle.words.specs.Mask.{bit}
 use Rattle.thresholds.specs.Rows.{rowsOf}
 use Rattle.table.specs.Table.{Table, start, knownOf, possibleOf}
-use Rattle.planner.specs.Record.{Record, header, opens, adds, areas, seal, mark, settle, sift, unknown, kindOf, bodyLength}
+use Rattle.records.specs.Record.{Record, header, opens, adds, areas, seal, mark, settle, sift, unknown, kindOf, bodyLength}
 use Rattle.planner.specs.File.{File, settled, apply, recordAt, unknownKind, cutBody, refusal}
 
 -- MARKS: node and value of each 0x05.

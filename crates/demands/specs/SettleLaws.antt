@@ -12,7 +12,7 @@ use borrow.Author.Tests.{ne-eqb}
 use Rattle.words.specs.Mask.{bit}
 use Rattle.thresholds.specs.Rows.{Row, rowsOf}
 use Rattle.between.specs.Between.{Live}
-use Rattle.planner.specs.Record.{Record, seal, mark, settle}
+use Rattle.records.specs.Record.{Record, seal, mark, settle}
 use Rattle.planner.specs.File.{File, begun, refusal, apply, settledFile, after, planned}
 use Rattle.ends.specs.Files.{Passed, planned-passed}
 use Rattle.table.specs.Table.{Table, start, ReachesConflict, AtRest}

@@ -28,8 +28,9 @@ use Rattle.regions.specs.Drain.{indexOf}
 use Rattle.regions.specs.Drain as Drain
 use Rattle.regions.specs.Sift.{Sifted, tryRow, siftFrom}
 use Rattle.regions.specs.Sift as Sift
-use Rattle.planner.specs.Record.{Record, header, opens, adds, areas, seal, mark, settle, sift, unknown}
-use Rattle.planner.specs.File.{File, Answer, settled, sifted, begun, isEmptyList, wrongTurn, noSuchNode, notRising, badBound, badValue, tooMany, check, first, refusal, apply, settledFile, siftedFile, after, planned}
+use Rattle.records.specs.Record.{Record, header, opens, adds, areas, seal, mark, settle, sift, unknown}
+use Rattle.job.specs.Job.{isEmptyList, check, first}
+use Rattle.planner.specs.File.{File, Answer, settled, sifted, begun, wrongTurn, noSuchNode, notRising, badBound, badValue, tooMany, refusal, apply, settledFile, siftedFile, after, planned}
 use Rattle.memory.specs.Buffers.{Work, fits}
 use Rattle.planner.specs.Contents.{answerVisits, Out, whole}
 use Rattle.ends.specs.Files.{Passed, planned-passed}

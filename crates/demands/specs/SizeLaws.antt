@@ -21,7 +21,7 @@ use Rattle.prefixes.specs.Links.{links, neighbours, neighbourLists}
 use Rattle.prefixes.specs.LinksLaws.{links-few}
 use Rattle.prefixes.specs.PrepareLaws.{degreesTo, degrees-few, join-length}
 use Rattle.prepare.specs.RowsGivenTerms.{row-short}
-use Rattle.planner.specs.File.{allTerms}
+use Rattle.job.specs.Job.{allTerms}
 
 -- ---- sums over lists
 

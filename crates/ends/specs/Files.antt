@@ -25,8 +25,9 @@ use Rattle.propagate.specs.ScanLaws.{clash}
 use Rattle.regions.specs.Drain as Drain
 use Rattle.regions.specs.Drain.{atRest}
 use Rattle.regions.specs.Sift as Sift
-use Rattle.planner.specs.Record.{kindOf, bodyLength, Record, header, opens, adds, areas, seal, mark, settle, sift, unknown}
-use Rattle.planner.specs.File.{File, begun, Check, check, first, refusal, wrongTurn, noSuchNode, notRising, badBound, badValue, tooMany, addTerm, apply, settledFile, siftedFile, Outcome, outcome, recordAt, unknownKind, cutBody, refusalAt, readFrom, fileOf, planned, after}
+use Rattle.records.specs.Record.{kindOf, bodyLength, Record, header, opens, adds, areas, seal, mark, settle, sift, unknown}
+use Rattle.job.specs.Job.{Check, check, first, addTerm}
+use Rattle.planner.specs.File.{File, begun, refusal, wrongTurn, noSuchNode, notRising, badBound, badValue, tooMany, apply, settledFile, siftedFile, Outcome, outcome, recordAt, unknownKind, cutBody, refusalAt, readFrom, fileOf, planned, after}
 use Rattle.ends.specs.Rooms.{Bounded, none-bounded}
 use Rattle.ends.specs.Turns.{Sound}
 use Rattle.ends.specs.Settles.{settle-stays, settle-ends, sift-keeps, sift-ends as sift-rests}

@@ -21,8 +21,9 @@ use Rattle.thresholds.specs.Rows.{Row, rowOf, noRow, guard, insertGuard, place,
 use Rattle.residual.specs.SoundLaws.{Kept, decide-kept}
 use Rattle.regions.specs.Drain as Drain
 use Rattle.regions.specs.Drain.{indexOf}
-use Rattle.planner.specs.Record.{Record, header, opens, adds, areas, seal, mark, settle, sift, unknown}
-use Rattle.planner.specs.File.{File, begun, Check, check, first, refusal, wrongTurn, noSuchNode, notRising, badBound, badValue, isEmptyList, apply, settledFile, siftedFile, planned, after}
+use Rattle.records.specs.Record.{Record, header, opens, adds, areas, seal, mark, settle, sift, unknown}
+use Rattle.job.specs.Job.{Check, check, first, isEmptyList}
+use Rattle.planner.specs.File.{File, begun, refusal, wrongTurn, noSuchNode, notRising, badBound, badValue, apply, settledFile, siftedFile, planned, after}
 use Rattle.table.specs.Table.{IsRow}
 use Rattle.ends.specs.Built.{Fit, Fits as JobFits, indexed}
 use Rattle.ends.specs.Files.{Good, good-begun, good-apply, Passed, planned-passed}

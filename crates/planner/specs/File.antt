@@ -17,7 +17,8 @@ use Rattle.queues.specs.Marks.{marks}
 use Rattle.between.specs.Between.{Index, Live, live, Did}
 use Rattle.regions.specs.Drain as Drain
 use Rattle.regions.specs.Sift as Sift
-use Rattle.planner.specs.Record.{Kind, kindOf, bodyLength, Record, recordOf, header, opens, adds, areas, seal, mark, settle, sift, unknown}
+use Rattle.job.specs.Job.{lastNode, lastTerms, allTerms, isEmptyList, check, first, addTerm}
+use Rattle.records.specs.Record.{Kind, kindOf, bodyLength, Record, recordOf, header, opens, adds, areas, seal, mark, settle, sift, unknown}
 
 -- The answer of a settle or of a sift, a sift's with its visits.
 pub data Answer : Type 0 where
@@ -52,25 +53,6 @@ begun = record {
 }
 
 -- THE CHECKS, in document 01's order.
-
--- The last threshold of the list is the open one: its node, and how many terms it has.
-unfoldable pub lastNode : List Threshold → ℕ
-lastNode [] = 0
-lastNode (t ∷ []) = t .node
-lastNode (t ∷ u ∷ us) = lastNode (u ∷ us)
-
-unfoldable pub lastTerms : List Threshold → ℕ
-lastTerms [] = 0
-lastTerms (t ∷ []) = length (t .terms)
-lastTerms (t ∷ u ∷ us) = lastTerms (u ∷ us)
-
-unfoldable pub allTerms : List Threshold → ℕ
-allTerms [] = 0
-allTerms (t ∷ ts) = length (t .terms) + allTerms ts
-
-abbrev pub isEmptyList : {X : Type 0} → List X → Bool
-isEmptyList [] = true
-isEmptyList (x ∷ xs) = false
 
 -- 3: out of its turn.
 abbrev pub wrongTurn : File → Record → Bool
@@ -148,28 +130,12 @@ tooMany f sift = leb 64 (length (f .answers))
 tooMany f unknown = false
 
 -- The number of the first check that applies; 0 for none.
-pub record Check : Type 0 where
-  pub applies : Bool
-  pub number : ℕ
-
-abbrev pub check : Bool → ℕ → Check
-check b n = record { applies = b; number = n }
-
-unfoldable pub first : List Check → ℕ
-first [] = 0
-first (c ∷ cs) = elim (c .applies) [ true ↦ c .number | false ↦ first cs ]
-
 unfoldable pub refusal : File → Record → ℕ
 refusal f r = first (
     check (wrongTurn f r) 3 ∷ check (f .contradicted) 9 ∷ check (noSuchNode f r) 5 ∷ check (notRising f r) 6
     ∷ check (badBound r) 7 ∷ check (badValue r) 8 ∷ check (tooMany f r) 4 ∷ [])
 
 -- WHAT A RECORD DOES that is not refused.
-
-unfoldable pub addTerm : Term → List Threshold → List Threshold
-addTerm x [] = []
-addTerm x (t ∷ []) = record { node = t .node; bound = t .bound; terms = t .terms ++ (x ∷ []) } ∷ []
-addTerm x (t ∷ u ∷ us) = t ∷ addTerm x (u ∷ us)
 
 abbrev pub withThresholds : File → List Threshold → File
 withThresholds f ts = record {

@@ -11,8 +11,9 @@ use lib.Seq.{take-take, take-nil}
 use lib.Dec.{eqb, ltb}
 use mathlib.Core.Logic.{_⊎_, inl, inr, ⊎-elim}
 use borrow.Author.Tests.{eq-eqb, ne-eqb}
-use Rattle.planner.specs.Record.{Kind, kindOf, bodyLength, Record, recordOf}
-use Rattle.planner.specs.File.{File, Check, check, first, refusal, apply, wrongTurn, noSuchNode, notRising, badBound, badValue, tooMany, Outcome, outcome, bodyOf, recordAt, unknownKind, cutBody, refusalAt, readFrom, fileOf, begun, planned, after}
+use Rattle.records.specs.Record.{Kind, kindOf, bodyLength, Record, recordOf}
+use Rattle.job.specs.Job.{Check, check, first}
+use Rattle.planner.specs.File.{File, refusal, apply, wrongTurn, noSuchNode, notRising, badBound, badValue, tooMany, Outcome, outcome, bodyOf, recordAt, unknownKind, cutBody, refusalAt, readFrom, fileOf, begun, planned, after}
 
 -- ONE OF TEN NUMBERS
 

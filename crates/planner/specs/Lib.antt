@@ -1,4 +1,3 @@
-pub mod Record
 pub mod File
 pub mod Listing
 pub mod Contents

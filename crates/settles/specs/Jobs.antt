@@ -15,7 +15,7 @@ use Rattle.row.specs.Terms.{sameTerms}
 use Rattle.row.specs.TermsLaws.{All as Every, all-map}
 use Rattle.thresholds.specs.Rows.{Row, rowOf, noRow, guard, insertGuard, place, placeAll, rowsOf}
 use Rattle.regions.specs.Drain.{indexOf}
-use Rattle.planner.specs.File.{lastNode, isEmptyList, addTerm}
+use Rattle.job.specs.Job.{lastNode, isEmptyList, addTerm}
 use Rattle.ends.specs.Built.{Fit, Fits}
 use Rattle.table.specs.Table.{IsRow}
 use Rattle.follows.specs.RowComplete.{Ordered}

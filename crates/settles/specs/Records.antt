@@ -17,8 +17,9 @@ use Rattle.thresholds.specs.Rows.{rowsOf}
 use Rattle.between.specs.Between.{Live}
 use Rattle.regions.specs.Drain as Drain
 use Rattle.regions.specs.Drain.{indexOf}
-use Rattle.planner.specs.Record.{Record, header, opens, adds, areas, seal, mark, settle, sift, unknown}
-use Rattle.planner.specs.File.{File, begun, Check, check, first, refusal, wrongTurn, noSuchNode, notRising, badBound, badValue, isEmptyList, apply, settledFile, siftedFile, after}
+use Rattle.records.specs.Record.{Record, header, opens, adds, areas, seal, mark, settle, sift, unknown}
+use Rattle.job.specs.Job.{Check, check, first, isEmptyList}
+use Rattle.planner.specs.File.{File, begun, refusal, wrongTurn, noSuchNode, notRising, badBound, badValue, apply, settledFile, siftedFile, after}
 use Rattle.ends.specs.Files.{Good, good-begun, good-apply, Passed}
 use Rattle.table.specs.Table.{Table, start}
 use Rattle.follows.specs.Answers.{clash, or-false, not-false}

@@ -9,7 +9,7 @@ use Rattle.queues.specs.RowsLaws.{Flags}
 use Rattle.thresholds.specs.Rows.{rowsOf}
 use Rattle.between.specs.Between.{Live, stateAt}
 use Rattle.regions.specs.Drain.{indexOf, atRest}
-use Rattle.planner.specs.Record.{settle}
+use Rattle.records.specs.Record.{settle}
 use Rattle.planner.specs.File.{File, refusal, apply, settledFile}
 use Rattle.ends.specs.Built.{Fits}
 use Rattle.ends.specs.Files.{good-apply, rests-settle}

@@ -1,0 +1,387 @@
+-- A threshold or a term that passes its checks: the buffers hold the job with it added, and the invariant is kept.
+use Prim.Native.Nat.{ℕ, zero, suc, _+_, _-_, _<_, _≤_}
+use native.Mathlib.Nat.{le-refl}
+use native.Mathlib.Omega.{arith}
+use mathlib.Core.Path.{_≡_, refl, sym, ap, ap₂, _∙_, subst}
+use mathlib.Core.Bool.{Bool, true, false, cond, not, _&&_, _||_}
+use mathlib.Core.List.{List, [], _∷_, _++_, map}
+use lib.ListN.{length, getD, take, drop, set, length-set}
+use lib.Seq.{getD-set-same, getD-set-other}
+use lib.Dec.{eqb, leb, ltb}
+use lib.IntN.{ℤ, pos, negsuc}
+use lib.Signed.{ltZ}
+use borrow.Author.Tests.{eqb-false, leb-false, ne-eqb}
+use Rattle.signed.specs.Signed.{nlt-leZ}
+use Rattle.lists.specs.Laid.{numbers}
+use Rattle.numeric.specs.Threshold.{Term, term, terms, Threshold}
+use Rattle.row.specs.StretchLaws.{length-stretch}
+use Rattle.thresholds.specs.Raw.{raw, startOf, endOf, stretch, listAt}
+use Rattle.thresholds.specs.RawLaws.{start-suc}
+use Rattle.thresholds.specs.Guards.{Bound, nodeAt}
+use Rattle.prepare.specs.Given.{thresholdAt, given}
+use Rattle.job.specs.Job.{check, first, addTerm, withThreshold, withTerm}
+use Rattle.job.specs.declared.Counts.{Counts}
+use Rattle.job.specs.declared.Taken.{Taken}
+use Rattle.job.specs.Gathered.{cut, jobIn, Listed, Bounded, Termed, Gathered, openIn, termIn, Opened, Added}
+use Rattle.job.specs.JobLaws.{map-same, add-more, term-more, stretch-set, stretch-more, or-false}
+use Rattle.job.specs.GatheredLaws.{threshold-by, by-last, list-by, gathered, gathered-last, open-is, term-is}
+
+abbrev node-of : List ℕ → ℕ
+node-of p = getD p 0 0
+
+abbrev end-of : List ℕ → ℕ
+end-of p = getD p 1 0
+
+-- ---- a threshold
+
+open-none : (p q r s : Bool) → first (check p 5 ∷ check q 6 ∷ check r 7 ∷ check s 4 ∷ []) ≡ 0 → (p ≡ false) × ((q ≡ false) × ((r ≡ false) × (s ≡ false)))
+unfolding first
+open-none true q r s e = absurd (let z : _≡_ {A = ℕ} 5 0 = e in omega arith)
+open-none false true r s e = absurd (let z : _≡_ {A = ℕ} 6 0 = e in omega arith)
+open-none false false true s e = absurd (let z : _≡_ {A = ℕ} 7 0 = e in omega arith)
+open-none false false false true e = absurd (let z : _≡_ {A = ℕ} 4 0 = e in omega arith)
+open-none false false false false e = (refl, (refl, (refl, refl)))
+
+module _ (k : Counts) (n : ℕ) (b : ℤ) (ts : List (List ℕ)) (bs : List ℤ) (g : Listed k ts) (h : Bounded k bs) (none : openIn k ts n b ≡ 0) where
+  passed : (leb (k .nodes) n ≡ false) × ((not (eqb (k .thresholds) 0) && leb n (nodeAt ts (k .thresholds - 1)) ≡ false)
+      × ((ltZ b (negsuc 4503599627370495) || ltZ (pos 4503599627370496) b ≡ false) × (leb 1024 (k .thresholds) ≡ false)))
+  passed = open-none (leb (k .nodes) n) (not (eqb (k .thresholds) 0) && leb n (nodeAt ts (k .thresholds - 1)))
+      (ltZ b (negsuc 4503599627370495) || ltZ (pos 4503599627370496) b) (leb 1024 (k .thresholds)) none
+
+  pub open-room : k .thresholds < 1024
+  open-room = leb-false 1024 (k .thresholds) (passed .1 .1 .1)
+
+  range : Bound b
+  range =
+      let o = or-false (ltZ b (negsuc 4503599627370495)) (ltZ (pos 4503599627370496) b) (passed .1 .1 .0) in
+      record { low = nlt-leZ b (negsuc 4503599627370495) (o .0); high = nlt-leZ (pos 4503599627370496) b (o .1) }
+
+  above : (t : ℕ) → t + 1 ≡ k .thresholds → nodeAt ts t < n
+  above t e =
+      let z = ne-eqb (k .thresholds) 0 (λ (q : k .thresholds ≡ 0). omega arith) in
+      let l : leb n (nodeAt ts (k .thresholds - 1)) ≡ false = sym (ap (λ (x : Bool). not x && leb n (nodeAt ts (k .thresholds - 1))) z) ∙ passed .1 .0 in
+      let u : k .thresholds - 1 ≡ t = omega arith in
+      subst (λ (x : ℕ). nodeAt ts x < n) u (leb-false n (nodeAt ts (k .thresholds - 1)) l)
+
+  abbrev next : Counts
+  next = record { nodes = k .nodes; thresholds = k .thresholds + 1; terms = k .terms }
+
+  abbrev entry : List ℕ
+  entry = n ∷ k .terms ∷ []
+
+  abbrev ts′ : List (List ℕ)
+  ts′ = set ts (k .thresholds) entry
+
+  abbrev bs′ : List ℤ
+  bs′ = set bs (k .thresholds) b
+
+  old : (t : ℕ) → t < k .thresholds → getD ts′ t [] ≡ getD ts t []
+  old t q = getD-set-other ts (k .thresholds) t entry [] (λ (e : t ≡ k .thresholds). omega arith)
+
+  new : getD ts′ (k .thresholds) [] ≡ entry
+  new = getD-set-same ts (k .thresholds) entry [] (let r = open-room in let l = g .room in omega arith)
+
+  old-start : (t : ℕ) → t ≤ k .thresholds → startOf ts′ t ≡ startOf ts t
+  unfolding startOf
+  old-start zero q = refl
+  old-start (suc t) q = ap end-of (old t q)
+
+  starts : startOf ts′ (k .thresholds) ≡ k .terms
+  starts = old-start (k .thresholds) (le-refl (k .thresholds)) ∙ g .ended
+
+  ends : endOf ts′ (k .thresholds) ≡ k .terms
+  ends = ap end-of new
+
+  listed-open : Listed next ts′
+  listed-open = record {
+    nodes = g .nodes;
+    terms = g .terms;
+    many = let r = open-room in omega arith;
+    room = subst (λ (x : ℕ). 1024 ≤ x) (sym (length-set ts (k .thresholds) entry)) (g .room);
+    wide = by-last (λ (t : ℕ). length (getD ts′ t []) ≡ 2) (k .thresholds) (k .thresholds + 1) refl (λ t q. ap length (old t q) ∙ g .wide t q) (ap length new);
+    rising =
+        by-last (λ (t : ℕ). startOf ts′ t ≤ endOf ts′ t) (k .thresholds) (k .thresholds + 1) refl
+        (λ t q. let a = old-start t (omega arith) in let e : endOf ts′ t ≡ endOf ts t = ap end-of (old t q) in let r = g .rising t q in omega (arith, a, e, r))
+        (let a = starts in let e = ends in omega (arith, a, e));
+    short =
+        by-last (λ (t : ℕ). endOf ts′ t ≤ startOf ts′ t + 1024) (k .thresholds) (k .thresholds + 1) refl
+        (λ t q. let a = old-start t (omega arith) in let e : endOf ts′ t ≡ endOf ts t = ap end-of (old t q) in let r = g .short t q in omega (arith, a, e, r))
+        (let a = starts in let e = ends in omega (arith, a, e));
+    within =
+        by-last (λ (t : ℕ). endOf ts′ t ≤ k .terms) (k .thresholds) (k .thresholds + 1) refl
+        (λ t q. let e : endOf ts′ t ≡ endOf ts t = ap end-of (old t q) in let r = g .within t q in omega (arith, e, r)) (let e = ends in omega (arith, e));
+    ended = start-suc ts′ (k .thresholds) ∙ ends;
+    inside =
+        by-last (λ (t : ℕ). nodeAt ts′ t < k .nodes) (k .thresholds) (k .thresholds + 1) refl
+        (λ t q. let e : nodeAt ts′ t ≡ nodeAt ts t = ap node-of (old t q) in let r = g .inside t q in omega (arith, e, r))
+        (let e : nodeAt ts′ (k .thresholds) ≡ n = ap node-of new in let r = leb-false (k .nodes) n (passed .0) in omega (arith, e, r));
+    ordered = λ t q.
+        subst (λ (x : ℕ). x < nodeAt ts′ (t + 1)) (sym (ap node-of (old t (omega arith)))) (behind (t + 1) q t refl);
+  }
+    where
+      behind : (s : ℕ) → s < k .thresholds + 1 → (r : ℕ) → r + 1 ≡ s → nodeAt ts r < nodeAt ts′ s
+      behind = by-last (λ (s : ℕ). (r : ℕ) → r + 1 ≡ s → nodeAt ts r < nodeAt ts′ s) (k .thresholds) (k .thresholds + 1) refl
+          (λ s u r e. subst (λ (x : ℕ). nodeAt ts r < x) (ap (nodeAt ts) e ∙ sym (ap node-of (old s u))) (g .ordered r (let v : r + 1 ≡ s = e in omega arith)))
+          (λ r e. subst (λ (x : ℕ). nodeAt ts r < x) (sym (ap node-of new)) (above r e))
+
+  bounded-open : Bounded next bs′
+  bounded-open = record {
+    room = subst (λ (x : ℕ). 1024 ≤ x) (sym (length-set bs (k .thresholds) b)) (h .room);
+    bound =
+        by-last (λ (t : ℕ). Bound (getD bs′ t (pos 0))) (k .thresholds) (k .thresholds + 1) refl
+        (λ t q. subst Bound (sym (old-bound t q)) (h .bound t q)) (subst Bound (sym new-bound) range);
+  }
+    where
+      old-bound : (t : ℕ) → t < k .thresholds → getD bs′ t (pos 0) ≡ getD bs t (pos 0)
+      old-bound t q = getD-set-other bs (k .thresholds) t b (pos 0) (λ (e : t ≡ k .thresholds). omega arith)
+
+      new-bound : getD bs′ (k .thresholds) (pos 0) ≡ b
+      new-bound = getD-set-same bs (k .thresholds) b (pos 0) (let r = open-room in let l = h .room in omega arith)
+
+  module _ (cs ws : List ℕ) where
+    old-at : (t : ℕ) → t < k .thresholds → thresholdAt (raw cs ws ts′) bs′ t ≡ thresholdAt (raw cs ws ts) bs t
+    old-at t q =
+        threshold-by (ap node-of (old t q)) (getD-set-other bs (k .thresholds) t b (pos 0) (λ (e : t ≡ k .thresholds). omega arith))
+        (list-by (raw cs ws ts′) (raw cs ws ts) t (old-start t (omega arith)) (ap end-of (old t q)) refl refl)
+
+    no-terms : listAt (raw cs ws ts′) (k .thresholds) ≡ []
+    unfolding listAt terms
+    no-terms =
+        ap₂ (λ (x y : ℕ). terms (stretch x y cs) (stretch x y ws)) starts ends
+        ∙ ap (λ (j : ℕ). terms (take j (drop (k .terms) cs)) (take j (drop (k .terms) ws))) {x = k .terms - k .terms} {y = 0} (omega arith)
+
+    new-at : thresholdAt (raw cs ws ts′) bs′ (k .thresholds) ≡ record { node = n; bound = b; terms = [] }
+    new-at =
+        threshold-by (ap node-of new) (getD-set-same bs (k .thresholds) b (pos 0) (let r = open-room in let l = h .room in omega arith)) no-terms
+
+    job-open : jobIn next cs ws ts′ bs′ ≡ withThreshold (jobIn k cs ws ts bs) n b
+    job-open = λ i. record { nodes = k .nodes; thresholds = all i }
+      where
+        all : given (cut next cs ws ts′) (take (k .thresholds + 1) bs′) ≡ given (cut k cs ws ts) (take (k .thresholds) bs) ++ (record { node = n; bound = b; terms = [] } ∷ [])
+        all =
+            gathered-last next cs ws ts′ bs′ listed-open (k .thresholds) (omega arith)
+            ∙ ap₂ (λ (l : List Threshold) (x : Threshold). l ++ (x ∷ []))
+            (map-same (thresholdAt (raw cs ws ts′) bs′) (thresholdAt (raw cs ws ts) bs) (k .thresholds) old-at ∙ sym (gathered k cs ws ts bs g)) new-at
+
+  -- THE THRESHOLD TAKEN
+  pub opened : Opened k n b ts bs (record { refusal = 0; counts = next }) ts′ bs′
+  opened = record {
+    number = λ cs ws. sym none ∙ open-is k cs ws ts bs g n b;
+    job = λ cs ws. job-open cs ws;
+    thresholds = refl;
+    bounds = refl;
+    listed = listed-open;
+    bounded = bounded-open;
+    nodes = refl;
+    terms = refl;
+  }
+
+-- THE THRESHOLD REFUSED
+pub not-opened : (k : Counts) (n : ℕ) (b : ℤ) (ts : List (List ℕ)) (bs : List ℤ) (x : ℕ) → Listed k ts → Bounded k bs → x ≡ openIn k ts n b → (x ≡ 0 → ⊥)
+    → Opened k n b ts bs (record { refusal = x; counts = k }) ts bs
+not-opened k n b ts bs x g h e z = record {
+  number = λ cs ws. e ∙ open-is k cs ws ts bs g n b;
+  job = λ cs ws. sym (ap (λ (t : Bool). cond t (withThreshold (jobIn k cs ws ts bs) n b) (jobIn k cs ws ts bs)) (ne-eqb x 0 z));
+  thresholds = sym (ap (λ (t : Bool). cond t (set ts (k .thresholds) (n ∷ k .terms ∷ [])) ts) (ne-eqb x 0 z));
+  bounds = sym (ap (λ (t : Bool). cond t (set bs (k .thresholds) b) bs) (ne-eqb x 0 z));
+  listed = g;
+  bounded = h;
+  nodes = refl;
+  terms = refl;
+}
+
+-- ---- a term
+
+term-none : (p q r : Bool) → first (check p 3 ∷ check q 5 ∷ check r 4 ∷ []) ≡ 0 → (p ≡ false) × ((q ≡ false) × (r ≡ false))
+unfolding first
+term-none true q r e = absurd (let z : _≡_ {A = ℕ} 3 0 = e in omega arith)
+term-none false true r e = absurd (let z : _≡_ {A = ℕ} 5 0 = e in omega arith)
+term-none false false true e = absurd (let z : _≡_ {A = ℕ} 4 0 = e in omega arith)
+term-none false false false e = (refl, (refl, refl))
+
+module _ (k : Counts) (c w : ℕ) (cs ws : List ℕ) (ts : List (List ℕ)) (g : Listed k ts) (h : Termed k cs ws) (none : termIn k ts c ≡ 0) where
+  abbrev last : ℕ
+  last = k .thresholds - 1
+
+  term-passed : (eqb (k .thresholds) 0 ≡ false) × ((leb (k .nodes) c ≡ false) × (leb 1024 (k .terms - startOf ts last) || leb 4096 (k .terms) ≡ false))
+  term-passed = term-none (eqb (k .thresholds) 0) (leb (k .nodes) c) (leb 1024 (k .terms - startOf ts last) || leb 4096 (k .terms)) none
+
+  pub term-open : k .thresholds ≡ last + 1
+  term-open = let z = eqb-false (k .thresholds) 0 (term-passed .0) in by (k .thresholds) refl z
+    where
+      by : (m : ℕ) → k .thresholds ≡ m → (k .thresholds ≡ 0 → ⊥) → k .thresholds ≡ k .thresholds - 1 + 1
+      by zero e z = absurd (z e)
+      by (suc m) e z = omega arith
+
+  counts-left : (k .terms - startOf ts last < 1024) × (k .terms < 4096)
+  counts-left =
+      let o = or-false (leb 1024 (k .terms - startOf ts last)) (leb 4096 (k .terms)) (term-passed .1 .1) in
+      (leb-false 1024 (k .terms - startOf ts last) (o .0), leb-false 4096 (k .terms) (o .1))
+
+  pub term-room : k .terms < 4096
+  term-room = counts-left .1
+
+  abbrev with-one : Counts
+  with-one = record { nodes = k .nodes; thresholds = k .thresholds; terms = k .terms + 1 }
+
+  abbrev longer : List ℕ
+  longer = nodeAt ts last ∷ (k .terms + 1) ∷ []
+
+  abbrev ts″ : List (List ℕ)
+  ts″ = set ts last longer
+
+  before : (t : ℕ) → t < last → getD ts″ t [] ≡ getD ts t []
+  before t q = getD-set-other ts last t longer [] (λ (e : t ≡ last). omega arith)
+
+  there : getD ts″ last [] ≡ longer
+  there = getD-set-same ts last longer [] (let a = g .room in let b = g .many in let e = term-open in omega (arith, a, b, e))
+
+  before-start : (t : ℕ) → t ≤ last → startOf ts″ t ≡ startOf ts t
+  unfolding startOf
+  before-start zero q = refl
+  before-start (suc t) q = ap end-of (before t q)
+
+  last-start : startOf ts″ last ≡ startOf ts last
+  last-start = before-start last (le-refl last)
+
+  last-end : endOf ts last ≡ k .terms
+  last-end = sym (start-suc ts last) ∙ ap (startOf ts) (sym term-open) ∙ g .ended
+
+  new-end : endOf ts″ last ≡ k .terms + 1
+  new-end = ap end-of there
+
+  same-node : (t : ℕ) → t < k .thresholds → nodeAt ts″ t ≡ nodeAt ts t
+  same-node = by-last (λ (t : ℕ). nodeAt ts″ t ≡ nodeAt ts t) last (k .thresholds) term-open (λ t q. ap node-of (before t q)) (ap node-of there)
+
+  in-last : last < k .thresholds
+  in-last = let e = term-open in omega (arith, e)
+
+  earlier : (t : ℕ) → t < last → t < k .thresholds
+  earlier t q = let e = term-open in omega (arith, e, q)
+
+  listed-add : Listed with-one ts″
+  listed-add = record {
+    nodes = g .nodes;
+    terms = let r = term-room in omega (arith, r);
+    many = g .many;
+    room = subst (λ (x : ℕ). 1024 ≤ x) (sym (length-set ts last longer)) (g .room);
+    wide = by-last (λ (t : ℕ). length (getD ts″ t []) ≡ 2) last (k .thresholds) term-open (λ t q. ap length (before t q) ∙ g .wide t (earlier t q)) (ap length there);
+    rising =
+        by-last (λ (t : ℕ). startOf ts″ t ≤ endOf ts″ t) last (k .thresholds) term-open
+        (λ t q. let a = before-start t (omega arith) in let e : endOf ts″ t ≡ endOf ts t = ap end-of (before t q) in let r = g .rising t (earlier t q) in omega (arith, a, e, r))
+        (let a = last-start in let e = new-end in let f = last-end in let r = g .rising last in-last in omega (arith, a, e, f, r));
+    short =
+        by-last (λ (t : ℕ). endOf ts″ t ≤ startOf ts″ t + 1024) last (k .thresholds) term-open
+        (λ t q. let a = before-start t (omega arith) in let e : endOf ts″ t ≡ endOf ts t = ap end-of (before t q) in let r = g .short t (earlier t q) in omega (arith, a, e, r))
+        (let a = last-start in let e = new-end in let r = counts-left .0 in omega (arith, a, e, r));
+    within =
+        by-last (λ (t : ℕ). endOf ts″ t ≤ k .terms + 1) last (k .thresholds) term-open
+        (λ t q. let e : endOf ts″ t ≡ endOf ts t = ap end-of (before t q) in let r = g .within t (earlier t q) in omega (arith, e, r)) (let e = new-end in omega (arith, e));
+    ended = ap (startOf ts″) term-open ∙ start-suc ts″ last ∙ new-end;
+    inside = λ t q. subst (λ (x : ℕ). x < k .nodes) (sym (same-node t q)) (g .inside t q);
+    ordered = λ t q.
+        subst (λ (x : ℕ). x < nodeAt ts″ (t + 1)) (sym (same-node t (omega arith))) (subst (λ (x : ℕ). nodeAt ts t < x) (sym (same-node (t + 1) q)) (g .ordered t q));
+  }
+
+  termed-add : Termed with-one (set cs (k .terms) c) (set ws (k .terms) w)
+  termed-add = record {
+    conditions = subst (λ (x : ℕ). 4096 ≤ x) (sym (length-set cs (k .terms) c)) (h .conditions);
+    weights = subst (λ (x : ℕ). 4096 ≤ x) (sym (length-set ws (k .terms) w)) (h .weights);
+    below =
+        by-last (λ (i : ℕ). getD (set cs (k .terms) c) i 0 < k .nodes) (k .terms) (k .terms + 1) refl
+        (λ i q. subst (λ (x : ℕ). x < k .nodes) (sym (getD-set-other cs (k .terms) i c 0 (λ (e : i ≡ k .terms). omega arith))) (h .below i q))
+        (subst (λ (x : ℕ). x < k .nodes) (sym (getD-set-same cs (k .terms) c 0 (let r = term-room in let l = h .conditions in omega (arith, r, l))))
+        (leb-false (k .nodes) c (term-passed .1 .0)));
+  }
+
+  module _ (bs : List ℤ) where
+    abbrev start : ℕ
+    start = startOf ts last
+
+    up-to : start ≤ k .terms
+    up-to = let r = g .rising last in-last in let e = last-end in omega (arith, r, e)
+
+    before-at : (t : ℕ) → t < last → thresholdAt (raw (set cs (k .terms) c) (set ws (k .terms) w) ts″) bs t ≡ thresholdAt (raw cs ws ts) bs t
+    before-at t q =
+        threshold-by (ap node-of (before t q)) refl
+        (list-by (raw (set cs (k .terms) c) (set ws (k .terms) w) ts″) (raw cs ws ts) t (before-start t (omega arith)) (ap end-of (before t q))
+        (stretch-set (startOf ts t) (endOf ts t) (k .terms) c cs (g .rising t (earlier t q)) (g .within t (earlier t q)))
+        (stretch-set (startOf ts t) (endOf ts t) (k .terms) w ws (g .rising t (earlier t q)) (g .within t (earlier t q))))
+
+    one-more : listAt (raw (set cs (k .terms) c) (set ws (k .terms) w) ts″) last ≡ listAt (raw cs ws ts) last ++ (term c w ∷ [])
+    unfolding listAt
+    one-more =
+        let p = h .conditions in
+        let q = h .weights in
+        let r = term-room in
+        ap₂ (λ (x y : ℕ). terms (stretch x y (set cs (k .terms) c)) (stretch x y (set ws (k .terms) w))) last-start new-end
+        ∙ ap₂ terms (stretch-more start (k .terms) c cs up-to (omega (arith, p, r))) (stretch-more start (k .terms) w ws up-to (omega (arith, q, r)))
+        ∙ term-more (stretch start (k .terms) cs) (stretch start (k .terms) ws) c w
+        (length-stretch start (k .terms) ws (omega (arith, q, r)) ∙ sym (length-stretch start (k .terms) cs (omega (arith, p, r))))
+        ∙ ap (λ (y : ℕ). terms (stretch start y cs) (stretch start y ws) ++ (term c w ∷ [])) (sym last-end)
+
+    job-add : jobIn with-one (set cs (k .terms) c) (set ws (k .terms) w) ts″ bs ≡ withTerm (jobIn k cs ws ts bs) (term c w)
+    job-add = λ i. record { nodes = k .nodes; thresholds = all i }
+      where
+        open-one : k .thresholds ≡ suc last
+        open-one = let e = term-open in omega (arith, e)
+
+        all : given (cut with-one (set cs (k .terms) c) (set ws (k .terms) w) ts″) (take (k .thresholds) bs) ≡ addTerm (term c w) (given (cut k cs ws ts) (take (k .thresholds) bs))
+        all =
+            gathered-last with-one (set cs (k .terms) c) (set ws (k .terms) w) ts″ bs listed-add last open-one
+            ∙ ap₂ (λ (l : List Threshold) (x : Threshold). l ++ (x ∷ []))
+            (map-same (thresholdAt (raw (set cs (k .terms) c) (set ws (k .terms) w) ts″) bs) (thresholdAt (raw cs ws ts) bs) last before-at)
+            (threshold-by (ap node-of there) refl one-more)
+            ∙ sym (ap (addTerm (term c w)) (gathered-last k cs ws ts bs g last open-one)
+            ∙ add-more (thresholdAt (raw cs ws ts) bs last) (term c w) (map (thresholdAt (raw cs ws ts) bs) (numbers 0 last)))
+
+  -- THE TERM TAKEN
+  pub added : Added k c w cs ws ts (record { refusal = 0; counts = with-one }) (set cs (k .terms) c) (set ws (k .terms) w) ts″
+  added = record {
+    number = λ bs. sym none ∙ term-is k cs ws ts bs g h c;
+    job = λ bs. job-add bs;
+    conditions = refl;
+    weights = refl;
+    thresholds = refl;
+    listed = listed-add;
+    termed = termed-add;
+    nodes = refl;
+    many = refl;
+  }
+
+-- THE TERM REFUSED
+pub not-added : (k : Counts) (c w : ℕ) (cs ws : List ℕ) (ts : List (List ℕ)) (x : ℕ) → Listed k ts → Termed k cs ws → x ≡ termIn k ts c → (x ≡ 0 → ⊥)
+    → Added k c w cs ws ts (record { refusal = x; counts = k }) cs ws ts
+not-added k c w cs ws ts x g h e z = record {
+  number = λ bs. e ∙ term-is k cs ws ts bs g h c;
+  job = λ bs. sym (ap (λ (t : Bool). cond t (withTerm (jobIn k cs ws ts bs) (term c w)) (jobIn k cs ws ts bs)) (ne-eqb x 0 z));
+  conditions = sym (ap (λ (t : Bool). cond t (set cs (k .terms) c) cs) (ne-eqb x 0 z));
+  weights = sym (ap (λ (t : Bool). cond t (set ws (k .terms) w) ws) (ne-eqb x 0 z));
+  thresholds = sym (ap (λ (t : Bool). cond t (set ts (k .thresholds - 1) (nodeAt ts (k .thresholds - 1) ∷ (k .terms + 1) ∷ [])) ts) (ne-eqb x 0 z));
+  listed = g;
+  termed = h;
+  nodes = refl;
+  many = refl;
+}
+
+-- ---- both keep the invariant
+
+pub opened-gathered : (k : Counts) (n : ℕ) (b : ℤ) (cs ws : List ℕ) (ts : List (List ℕ)) (bs : List ℤ) (r : Taken) (ts′ : List (List ℕ)) (bs′ : List ℤ)
+    → Gathered k cs ws ts bs → Opened k n b ts bs r ts′ bs′ → Gathered (r .counts) cs ws ts′ bs′
+opened-gathered k n b cs ws ts bs r ts′ bs′ g o = record {
+  listed = o .listed;
+  bounded = o .bounded;
+  termed = record {
+    conditions = g .termed .conditions;
+    weights = g .termed .weights;
+    below = λ i q. subst (λ (x : ℕ). getD cs i 0 < x) (sym (o .nodes)) (g .termed .below i (subst (λ (x : ℕ). i < x) (o .terms) q));
+  };
+}
+
+pub added-gathered : (k : Counts) (c w : ℕ) (cs ws : List ℕ) (ts : List (List ℕ)) (bs : List ℤ) (r : Taken) (cs′ ws′ : List ℕ) (ts′ : List (List ℕ))
+    → Gathered k cs ws ts bs → Added k c w cs ws ts r cs′ ws′ ts′ → Gathered (r .counts) cs′ ws′ ts′ bs
+added-gathered k c w cs ws ts bs r cs′ ws′ ts′ g o = record {
+  listed = o .listed;
+  bounded = record { room = g .bounded .room; bound = λ t q. g .bounded .bound t (subst (λ (x : ℕ). t < x) (o .many) q) };
+  termed = o .termed;
+}

@@ -1,0 +1,284 @@
+-- What `build` leaves can be printed: every part lies inside its buffer, and the sum of every row fits.
+use Prim.Native.Nat.{ℕ, zero, suc, _+_, _-_, _<_, _≤_, _^_}
+use native.Mathlib.Nat.{not-suc-le-zero}
+use native.Mathlib.Omega.{arith}
+use mathlib.Core.Path.{_≡_, refl, sym, ap, ap₂, _∙_, subst}
+use mathlib.Core.Bool.{Bool, true, false}
+use mathlib.Core.List.{List, [], _∷_, _++_, map, map-append}
+use lib.ListN.{length, getD, take, drop, length-append, length-drop, length-map, length-replicate, replicate, List·getD-map}
+use lib.Seq.{getD-drop, getD-take, length-take-le}
+use lib.IntN.{ℤ, pos, negsuc, _-ℤ_}
+use lib.Signed.{ltZ}
+use mir.Syntax.{w64}
+use mir.Val.{SFits}
+use borrow.Author.Tests.{le-ltb, ltb-true}
+use Rattle.lists.specs.Laid.{over, joinAll, ends, triples, numbers}
+use Rattle.lists.specs.Columns.{column}
+use Rattle.lists.specs.ColumnsLaws.{length-column}
+use Rattle.numeric.specs.Threshold.{Term, terms, Threshold, Job}
+use Rattle.row.specs.Terms.{total, rowTerms, sameTerms}
+use Rattle.row.specs.TermsLaws.{All}
+use Rattle.row.specs.SumLaws.{row-total-fits}
+use Rattle.row.specs.StretchLaws.{length-stretch}
+use Rattle.thresholds.specs.Raw.{Raw, stretch, listAt, startOf, endOf}
+use Rattle.thresholds.specs.RawLaws.{length-terms}
+use Rattle.thresholds.specs.Rows.{Row, Guard, Edge, rowOf, noRow, guard, insertGuard, place, placeAll, rowsOf, edgesOf}
+use Rattle.thresholds.specs.Laid.{conditions, weights, termLists, guardLists, edgeLists, edgeRow, thresholdOf, rowOfNode}
+use Rattle.prefixes.specs.HeldLaws.{length-numbers}
+use Rattle.prefixes.specs.Links.{neighbourLists}
+use Rattle.prepare.specs.Given.{thresholdAt, given}
+use Rattle.prepare.specs.Place.{Blank}
+use Rattle.prepare.specs.PrepareParts.{over-long}
+use Rattle.prepare.specs.RowsGivenLaid.{startIn, endIn, length-ends, over-rising, over-inside, over-figures}
+use Rattle.prepare.specs.RowsGivenHeld.{terms-back}
+use Rattle.prepare.specs.NodesGiven.{triples-columns}
+use Rattle.prepare.specs.Prepare.{Lent, lent}
+use Rattle.job.specs.declared.Counts.{Counts}
+use Rattle.job.specs.Gathered.{cut, jobIn, Gathered}
+use Rattle.job.specs.SoundLaws.{gathered-none, gathered-sound}
+use Rattle.job.specs.Built.{Empty, Laid, rowEntries, Built}
+use Rattle.job.specs.BuiltLaws.{entries-columns, entries-long, neighbours-long}
+use Rattle.rows.specs.Shown.{Part, Fits, Shown, First}
+
+-- ---- what is laid in front of a buffer lies inside it
+
+over-least : {X : Type 0} (l b : List X) → length l ≤ length (over l b)
+over-least l b = let e = length-append l (drop (length l) b) in omega (arith, e)
+
+module _ {X : Type 0} (j : ℕ) (lists : List (List ℕ)) (ls : List (List X)) (more : List ℕ) (e : column j lists ≡ ends 0 ls ++ more) (count size : ℕ)
+    (many : count ≡ length ls) (room : length (joinAll ls) ≤ size) where
+  laid-inside : First count (Part j lists size)
+  laid-inside k h =
+      let i : k < length ls = subst (λ (n : ℕ). k < n) many h in
+      let q = over-inside j lists ls more e k i in
+      let p = ap length e ∙ length-append (ends 0 ls) more in
+      let l = length-column j lists in
+      let u = length-ends 0 ls in
+      record { listed = omega (arith, p, l, u, i); rising = over-rising j lists ls more e k i; inside = omega (arith, q, room) }
+
+-- ---- sums
+
+all-terms : (Q : ℕ → Type 0) (cs ws : List ℕ) → ((i : ℕ) → Q (getD ws i 0)) → All (λ (t : Term). Q (t .weight)) (terms cs ws)
+unfolding terms
+all-terms Q [] ws h = tt
+all-terms Q (c ∷ cs) [] h = tt
+all-terms Q (c ∷ cs) (w ∷ ws) h = (h 0, all-terms Q cs ws (λ i. h (suc i)))
+
+module _ (P : List Term → Type 0) where
+  placed : (t : Threshold) (rs : List Row) → P (rowTerms (t .terms)) → All (λ (r : Row). P (r .terms)) rs → All (λ (r : Row). P (r .terms)) (place t rs)
+  unfolding place
+  placed t [] p h = (p, tt)
+  placed t (r ∷ rs) p h = by (sameTerms (r .raw) (t .terms)) (placed t rs p (h .1))
+    where
+      by : (b : Bool) → All (λ (x : Row). P (x .terms)) (place t rs)
+          → let l : List Row = elim b [ true ↦ rowOf (r .raw) (r .terms) (insertGuard (guard (t .bound) (t .node)) (r .guards)) ∷ rs | false ↦ r ∷ place t rs ] in
+          All (λ (x : Row). P (x .terms)) l
+      by true ih = (h .0, h .1)
+      by false ih = (h .0, ih)
+
+  placed-all : (ts : List Threshold) (rs : List Row) → All (λ (t : Threshold). P (rowTerms (t .terms))) ts → All (λ (r : Row). P (r .terms)) rs
+      → All (λ (r : Row). P (r .terms)) (placeAll ts rs)
+  unfolding placeAll
+  placed-all [] rs p h = h
+  placed-all (t ∷ ts) rs p h = placed-all ts (place t rs) (p .1) (placed t rs (p .0) h)
+
+all-numbers : {X : Type 0} (P : X → Type 0) (f : ℕ → X) (a n : ℕ) → ((t : ℕ) → t < a + n → P (f t)) → All P (map f (numbers a n))
+unfolding numbers
+all-numbers P f a zero h = tt
+all-numbers P f a (suc n) h = (h a (omega arith), all-numbers P f (a + 1) n (λ t q. h t (omega arith)))
+
+all-at : {X : Type 0} (P : X → Type 0) (xs : List X) (d : X) → All P xs → (i : ℕ) → i < length xs → P (getD xs i d)
+all-at P [] d h i k = absurd (not-suc-le-zero k)
+all-at P (x ∷ xs) d h zero k = h .0
+all-at P (x ∷ xs) d h (suc i) k = all-at P xs d (h .1) i (omega arith)
+
+module _ (k : Counts) (cs ws : List ℕ) (ts : List (List ℕ)) (bs : List ℤ) (g : Gathered k cs ws ts bs) (light : (i : ℕ) → getD ws i 0 < 4294967296) where
+  light-list : (t : ℕ) → t < length (take (k .thresholds) ts) → total (rowTerms (listAt (cut k cs ws ts) t)) ≤ 4398046511104
+  unfolding listAt
+  light-list t h =
+      let s = gathered-sound k cs ws ts bs g (k .nodes) refl .lists in
+      let a = startOf (take (k .thresholds) ts) t in
+      let e = endOf (take (k .thresholds) ts) t in
+      let i = s .inside t h in
+      let c = length-stretch a e (take (k .terms) cs) i in
+      let w = length-stretch a e (take (k .terms) ws) (let v = s .weighed in omega (arith, i, v)) in
+      let l = length-terms (stretch a e (take (k .terms) cs)) (stretch a e (take (k .terms) ws)) (w ∙ sym c) in
+      let q = s .short t h in
+      row-total-fits (terms (stretch a e (take (k .terms) cs)) (stretch a e (take (k .terms) ws)))
+      (all-terms (λ (x : ℕ). x < 4294967296) (stretch a e (take (k .terms) cs)) (stretch a e (take (k .terms) ws)) (λ i. part a e i)) (omega (arith, l, c, q))
+    where
+      zero-or : (n : ℕ) (l : List ℕ) (i : ℕ) → ((j : ℕ) → getD l j 0 < 4294967296) → getD (take n l) i 0 < 4294967296
+      zero-or zero l i h = omega arith
+      zero-or (suc n) [] i h = omega arith
+      zero-or (suc n) (x ∷ l) zero h = h 0
+      zero-or (suc n) (x ∷ l) (suc i) h = zero-or n l i (λ j. h (suc j))
+
+      part : (a e i : ℕ) → getD (stretch a e (take (k .terms) ws)) i 0 < 4294967296
+      part a e i = zero-or (e - a) (drop a (take (k .terms) ws)) i
+          (λ j. subst (λ (x : ℕ). x < 4294967296) (sym (getD-drop a (take (k .terms) ws) j 0)) (zero-or (k .terms) ws (a + j) light))
+
+  light-rows : (r : ℕ) → r < length (rowsOf (jobIn k cs ws ts bs)) → total (getD (termLists (rowsOf (jobIn k cs ws ts bs))) r []) ≤ 4398046511104
+  light-rows r h =
+      subst (λ (l : List Term). total l ≤ 4398046511104) (sym (List·getD-map (λ (x : Row). x .terms) (rowsOf (jobIn k cs ws ts bs)) r noRow))
+      (all-at (λ (x : Row). total (x .terms) ≤ 4398046511104) (rowsOf (jobIn k cs ws ts bs)) noRow
+      (placed-all (λ (l : List Term). total l ≤ 4398046511104) (given (cut k cs ws ts) (take (k .thresholds) bs)) []
+      (all-numbers (λ (t : Threshold). total (rowTerms (t .terms)) ≤ 4398046511104) (thresholdAt (cut k cs ws ts) (take (k .thresholds) bs)) 0 (length (take (k .thresholds) ts))
+      (λ t q. light-list t (omega arith))) tt)
+      r h)
+
+  -- ---- everything that is printed
+
+  module _ (count : ℕ) (b a : Lent) (links₀ links : List ℕ) (u : Built (jobIn k cs ws ts bs) count b a links₀ links) where
+    abbrev rs : List Row
+    rs = rowsOf (jobIn k cs ws ts bs)
+
+    abbrev linked : List ℕ
+    linked = ends 0 (neighbourLists rs)
+
+    abbrev behind : List (List ℕ)
+    behind = drop (length (rowEntries (jobIn k cs ws ts bs) linked)) (b .rows)
+
+    columns : (column 0 (a .rows) ≡ ends 0 (termLists rs) ++ column 0 behind)
+        × ((column 1 (a .rows) ≡ ends 0 (guardLists rs) ++ column 1 behind) × (column 2 (a .rows) ≡ linked ++ column 2 behind))
+    columns =
+        let c = entries-columns (jobIn k cs ws ts bs) linked (b .rows) (neighbours-long rs) in
+        (ap (column 0) (u .rows) ∙ c .0, (ap (column 1) (u .rows) ∙ c .1 .0, ap (column 2) (u .rows) ∙ c .1 .1))
+
+    many-terms : count ≡ length (termLists rs)
+    many-terms = u .laid .many ∙ sym (length-map rs (λ (r : Row). r .terms))
+
+    many-guards : count ≡ length (guardLists rs)
+    many-guards = u .laid .many ∙ sym (length-map rs (λ (r : Row). r .guards))
+
+    terms-in : {Y : Type 0} (f : Term → Y) (l d : List Y) → l ≡ over (map f (joinAll (termLists rs))) d → length (joinAll (termLists rs)) ≤ length l
+    terms-in f l d e =
+        let q = over-least (map f (joinAll (termLists rs))) d in let m = length-map (joinAll (termLists rs)) f in let s = ap length e in omega (arith, q, m, s)
+
+    guards-in : {Y : Type 0} (f : Guard → Y) (l d : List Y) → l ≡ over (map f (joinAll (guardLists rs))) d → length (joinAll (guardLists rs)) ≤ length l
+    guards-in f l d e =
+        let q = over-least (map f (joinAll (guardLists rs))) d in let m = length-map (joinAll (guardLists rs)) f in let s = ap length e in omega (arith, q, m, s)
+
+    fits : (r : ℕ) → r < count → Fits (a .rows) (a .row-conditions) (a .row-weights) r
+    fits r h =
+        let i : r < length (termLists rs) = subst (λ (n : ℕ). r < n) many-terms h in
+        let s = startIn 0 (a .rows) r in
+        let e = endIn 0 (a .rows) r in
+        let c = ap (stretch s e) (u .laid .conditions)
+        ∙ over-figures 0 (a .rows) (termLists rs) (column 0 behind) (columns .0) r i (λ (t : Term). t .condition) (drop (length (conditions (joinAll (termLists rs)))) (b .row-conditions)) in
+        let w = ap (stretch s e) (u .laid .weights)
+        ∙ over-figures 0 (a .rows) (termLists rs) (column 0 behind) (columns .0) r i (λ (t : Term). t .weight) (drop (length (weights (joinAll (termLists rs)))) (b .row-weights)) in
+        let q = light-rows r (subst (λ (n : ℕ). r < n) (u .laid .many) h) in
+        subst (λ (l : List Term). total l < 2 ^ 64) (sym (ap₂ terms c w ∙ terms-back (getD (termLists rs) r []))) (omega (arith, q))
+
+    pub shown : First count (Shown (a .rows) (a .row-conditions) (a .row-weights) (a .guard-bounds) (a .guard-nodes) links)
+    shown r h = record {
+      conditions =
+          laid-inside 0 (a .rows) (termLists rs) (column 0 behind) (columns .0) count (length (a .row-conditions)) many-terms
+          (terms-in (λ (t : Term). t .condition) (a .row-conditions) (b .row-conditions) (u .laid .conditions)) r h;
+      weights =
+          laid-inside 0 (a .rows) (termLists rs) (column 0 behind) (columns .0) count (length (a .row-weights)) many-terms
+          (terms-in (λ (t : Term). t .weight) (a .row-weights) (b .row-weights) (u .laid .weights)) r h;
+      bounds =
+          laid-inside 1 (a .rows) (guardLists rs) (column 1 behind) (columns .1 .0) count (length (a .guard-bounds)) many-guards
+          (guards-in (λ (x : Guard). x .bound) (a .guard-bounds) (b .guard-bounds) (u .laid .guard-bounds)) r h;
+      names =
+          laid-inside 1 (a .rows) (guardLists rs) (column 1 behind) (columns .1 .0) count (length (a .guard-nodes)) many-guards
+          (guards-in (λ (x : Guard). x .node) (a .guard-nodes) (b .guard-nodes) (u .laid .guard-nodes)) r h;
+      neighbours =
+          laid-inside 2 (a .rows) (neighbourLists rs) (column 2 behind) (columns .1 .1) count (length links)
+          (u .laid .many ∙ sym (length-map (numbers 0 (length rs)) _ ∙ length-numbers 0 (length rs)))
+          (let q = over-least (joinAll (neighbourLists rs)) links₀ in let s = ap length (u .links) in omega (arith, q, s)) r h;
+      sum = fits r h;
+    }
+
+    -- The edges of the nodes.
+    abbrev firsts : List ℕ
+    firsts = map (thresholdOf 0 (given (cut k cs ws ts) (take (k .thresholds) bs))) (numbers 0 (k .nodes))
+
+    abbrev seconds : List ℕ
+    seconds = map (rowOfNode rs (given (cut k cs ws ts) (take (k .thresholds) bs))) (numbers 0 (k .nodes))
+
+    abbrev thirds : List ℕ
+    thirds = ends 0 (edgeLists (k .nodes) rs)
+
+    length-first : {X : Type 0} (f : ℕ → X) → length (map f (numbers 0 (k .nodes))) ≡ k .nodes
+    length-first f = length-map (numbers 0 (k .nodes)) f ∙ length-numbers 0 (k .nodes)
+
+    edge-column : column 2 (a .nodes) ≡ thirds ++ column 2 (drop (length (triples firsts seconds thirds)) (b .nodes))
+    edge-column =
+        let l = triples firsts seconds thirds in
+        let f = length-first (thresholdOf 0 (given (cut k cs ws ts) (take (k .thresholds) bs))) in
+        ap (column 2) (u .laid .nodes) ∙ map-append (λ (v : List ℕ). getD v 2 0) l (drop (length l) (b .nodes))
+        ∙ ap (λ (x : List ℕ). x ++ column 2 (drop (length l) (b .nodes)))
+        (triples-columns firsts seconds thirds (length-first (rowOfNode rs (given (cut k cs ws ts) (take (k .thresholds) bs))) ∙ sym f)
+        (length-ends 0 (edgeLists (k .nodes) rs) ∙ length-first (edgesOf rs) ∙ sym f) .2)
+
+    pub edged : First (k .nodes) (Part 2 (a .nodes) (length (a .edges)))
+    edged =
+        laid-inside 2 (a .nodes) (edgeLists (k .nodes) rs) (column 2 (drop (length (triples firsts seconds thirds)) (b .nodes))) edge-column (k .nodes) (length (a .edges))
+        (sym (length-first (edgesOf rs)))
+        (let q = over-least (map edgeRow (joinAll (edgeLists (k .nodes) rs))) (b .edges) in
+        let m = length-map (joinAll (edgeLists (k .nodes) rs)) edgeRow in let s = ap length (u .laid .edges) in omega (arith, q, m, s))
+
+-- ---- buffers of zeros
+
+pub zeros-blank : (n : ℕ) → Blank (replicate n 0)
+zeros-blank n = ap (λ (m : ℕ). replicate m 0) (sym (length-replicate n 0))
+
+least : {X : Type 0} (n : ℕ) (x : X) → n ≤ length (replicate n x)
+least n x = let l = length-replicate n x in omega (arith, l)
+
+-- The program's own buffers.
+pub empty-zeros : Empty (lent (replicate 4096 0) (replicate 4096 0) (replicate 1024 (replicate 3 0)) (replicate 1024 (pos 0)) (replicate 1024 0)
+    (replicate 4096 (replicate 3 0)) (replicate 4096 (replicate 2 0)) (replicate 3072 0))
+empty-zeros = record {
+  conditions = least {X = ℕ} 4096 0;
+  weights = least {X = ℕ} 4096 0;
+  rows = least {X = List ℕ} 1024 (replicate 3 0);
+  bounds = least {X = ℤ} 1024 (pos 0);
+  guards = least {X = ℕ} 1024 0;
+  nodes = least {X = List ℕ} 4096 (replicate 3 0);
+  edges = least {X = List ℕ} 4096 (replicate 2 0);
+  words = least {X = ℕ} 3072 0;
+  conditions-clear = zeros-blank 4096;
+  weights-clear = zeros-blank 4096;
+  nodes-clear = ap (λ (m : ℕ). replicate m (replicate {A = ℕ} 3 0)) (sym (length-replicate 4096 (replicate {A = ℕ} 3 0)));
+  guards-clear = zeros-blank 1024;
+  words-clear = zeros-blank 3072;
+}
+
+pub links-zeros : 2048 ≤ length (replicate {A = ℕ} 2048 0)
+links-zeros = least {X = ℕ} 2048 0
+
+pub job-zeros : (n : ℕ) → n ≤ 4096
+    → Gathered (record { nodes = n; thresholds = 0; terms = 0 }) (replicate 4096 0) (replicate 4096 0) (replicate 1024 (replicate 2 0)) (replicate 1024 (pos 0))
+job-zeros n h =
+    gathered-none n (replicate 4096 0) (replicate 4096 0) (replicate 1024 (replicate 2 0)) (replicate 1024 (pos 0)) h
+    (least {X = ℕ} 4096 0) (least {X = ℕ} 4096 0) (least {X = List ℕ} 1024 (replicate 2 0)) (least {X = ℤ} 1024 (pos 0))
+
+-- ---- a negative number is printed by the number before its magnitude
+
+minus-one : (n : ℕ) → negsuc 0 -ℤ negsuc n ≡ pos n
+minus-one n = rw (le-ltb (suc n) 1 (omega arith)) (ap pos {x = suc n - 1} {y = n} (omega arith))
+
+pub below-zero : (z : ℤ) → ltZ z (pos 0) ≡ true → SFits w64 z → (m : ℕ) × ((negsuc 0 -ℤ z ≡ pos m) × (m < 9223372036854775808))
+below-zero (pos n) h f = absurd (let q = ltb-true n 0 h in omega (arith, q))
+below-zero (negsuc n) h f = (n, (minus-one n, let q = f .sfits in omega (arith, q)))
+
+-- ---- where a list begins
+
+pub start-zero : (j : ℕ) (lists : List (List ℕ)) (k : ℕ) → k ≡ 0 → 0 ≡ startIn j lists k
+unfolding startIn
+start-zero j lists zero e = refl
+start-zero j lists (suc k) e = absurd (let z : _≡_ {A = ℕ} (suc k) 0 = e in omega arith)
+
+pub start-next : (j : ℕ) (lists : List (List ℕ)) (k : ℕ) → 0 < k → endIn j lists (k - 1) ≡ startIn j lists k
+unfolding startIn
+start-next j lists zero h = absurd (not-suc-le-zero h)
+start-next j lists (suc k) h = ap (endIn j lists) {x = suc k - 1} {y = k} (omega arith)
+
+pub fits-by : (rows : List (List ℕ)) (cs ws : List ℕ) (k a e : ℕ) → a ≡ startIn 0 rows k → e ≡ endIn 0 rows k → Fits rows cs ws k
+    → total (terms (stretch a e cs) (stretch a e ws)) < 2 ^ 64
+fits-by rows cs ws k a e p q f =
+    subst (λ (x : ℕ). total (terms (stretch x e cs) (stretch x e ws)) < 2 ^ 64) (sym p)
+    (subst (λ (y : ℕ). total (terms (stretch (startIn 0 rows k) y cs) (stretch (startIn 0 rows k) y ws)) < 2 ^ 64) (sym q) f)
