@@ -9,4 +9,9 @@ pub mod SizeLaws
 pub mod KeptLaws
 pub mod LengthLaws
 pub mod ForcedLaws
+pub mod SettleLaws
+pub mod MarksLaws
+pub mod ReadOnLaws
+pub mod OrderLaws
+pub mod PassesLaws
 pub mod Met

@@ -1,14 +1,16 @@
 -- WHICH DEMANDS ARE MET: a value of the type that states each. The proofs stand in the files named `Laws` beside this one, and in `ends`.
--- Not proved yet: `Demand3`, all five fields.
 use mathlib.Core.Path.{refl}
 use mathlib.Core.Logic.{inl}
 use Rattle.possible_sums.specs.SearchLaws as SearchLaws
 use Rattle.planner.specs.Record.{settle}
 use Rattle.ends.specs.Files as Files
-use Rattle.demands.specs.Demands.{Demand1, Demand2, ClauseA, ClauseC}
+use Rattle.demands.specs.Demands.{Demand1, Demand2, Demand3, ClauseA, ClauseC}
 use Rattle.demands.specs.RefusalLaws as Refusals
 use Rattle.demands.specs.ReadLaws as Reads
 use Rattle.demands.specs.ForcedLaws as Forced
+use Rattle.demands.specs.SettleLaws as Settles
+use Rattle.demands.specs.MarksLaws as Marks
+use Rattle.demands.specs.OrderLaws as Order
 use Rattle.demands.specs.MemoryLaws as Memory
 use Rattle.demands.specs.LengthLaws as Lengths
 use Rattle.demands.specs.ShutOutLaws as ShutOut
@@ -37,6 +39,16 @@ demand2 = record {
   no-layout = Forced.no-layout;
   search-exact = SearchLaws.search-exact;
   cut-short = SearchLaws.cut-short;
+}
+
+-- DEMAND 3, whole
+pub demand3 : Demand3
+demand3 = record {
+  seals = Settles.seals;
+  marks = Settles.marks;
+  settles = Settles.settles;
+  settles-from-marks = Marks.settles-from-marks;
+  order-does-not-matter = Order.order-does-not-matter;
 }
 
 -- CLAUSE A, whole

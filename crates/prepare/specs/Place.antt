@@ -11,11 +11,11 @@ use Rattle.thresholds.specs.Guards.{nodeAt}
 use Rattle.thresholds.specs.Placed.{rawsTo, rowTo, termsTo, rowEntry, nodeEntry, Terms, Marks}
 use Rattle.prepare.specs.declared.Extent.{Extent}
 
--- After t thresholds: where the terms end, the terms in their two arrays, the marks in the scratch.
-pub record Placing (r : Raw) (t : ℕ) (so : Extent) (cs ws scratch : List ℕ) : Type 0 where
+-- After t thresholds: where the terms end, the terms in their two arrays, the marks in the scratch and the heads of their classes.
+pub record Placing (r : Raw) (t : ℕ) (so : Extent) (cs ws scratch heads : List ℕ) : Type 0 where
   pub end : so .end ≡ length (joinAll (termsTo r t))
   pub terms : Terms r t cs ws
-  pub marks : Marks r t (so .rows) scratch
+  pub marks : Marks r t (so .rows) scratch heads
 
 -- The raw lists are as they must be, and the buffers have room for their rows.
 pub record Ready (r : Raw) (cs ws : List ℕ) (rows : List (List ℕ)) (scratch : List ℕ) : Type 0 where

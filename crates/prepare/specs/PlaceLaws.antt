@@ -1,12 +1,12 @@
 -- Laws of rows placed threshold by threshold.
-use Prim.Native.Nat.{ℕ, zero, suc, _+_, _-_, _*_, _/_, _%_, _<_, _≤_}
+use Prim.Native.Nat.{ℕ, zero, suc, _+_, _-_, _%_, _<_, _≤_}
 use native.Mathlib.Numerals.{add-one}
 use native.Mathlib.Omega.{arith}
 use mathlib.Core.Path.{_≡_, refl, sym, ap, ap₂, _∙_, subst}
 use mathlib.Core.Bool.{Bool, true, false, cond}
 use mathlib.Core.List.{List, [], _∷_, _++_, map, map-append, append-assoc, append-nil}
 use lib.ListN.{length, take, drop, getD, set, replicate, length-append, length-set, length-map}
-use lib.Seq.{drop-cons, set-at, drop-drop, drop-set-lt, take-suc-set}
+use lib.Seq.{length-take-le, drop-cons, set-at, drop-drop, drop-set-lt, take-suc-set}
 use lib.Dec.{ltb}
 use borrow.Author.Tests.{ltb-true, ltb-false, lt-ltb, le-ltb}
 use Rattle.lists.specs.Laid.{over, joinAll, ends}
@@ -14,8 +14,10 @@ use Rattle.numeric.specs.Threshold.{Term}
 use Rattle.row.specs.Terms.{rowTerms}
 use Rattle.row.specs.Keys.{laid, conditionsOf, weightsOf}
 use Rattle.thresholds.specs.declared.Found.the-variants.{At, Nothing}
-use Rattle.thresholds.specs.Raw.{Raw, startOf, endOf, stretch, listAt, mixed, fingerprint, markedList, numberIn, foundOf, Lists, Marked}
-use Rattle.thresholds.specs.RawLaws.{stretch-length, length-terms, number-most, length-marked, found-is, found-none}
+use Rattle.thresholds.specs.Raw.{Raw, startOf, endOf, listAt, fingerprint, numberIn, foundOf, Lists}
+use Rattle.thresholds.specs.RawLaws.{number-most, found-is, found-none}
+use Rattle.thresholds.specs.Chain.{nextIn, printIn, markedList, classOf, Marked, Headed}
+use Rattle.thresholds.specs.ChainLaws.{class-small, marked-one, headed-one, headed-none, length-marked}
 use Rattle.thresholds.specs.Placed.{spliced, rawsTo, rowTo, termsTo, rowEntry, nodesTo, Marks}
 use Rattle.thresholds.specs.PlacedLaws.{laid-behind, drop-replicate}
 use Rattle.prepare.specs.declared.Extent.{Extent}
@@ -103,19 +105,7 @@ module _ (r : Raw) (t : ℕ) (ms : List ℕ) (e : map (markedList r) ms ≡ raws
 
 -- ---- marks
 
-each : (P : ℕ → Type 0) (ms : List ℕ) (m : ℕ) → ((k : ℕ) → k < length ms → P (getD ms k 0)) → P m → (k : ℕ) → k < length (ms ++ (m ∷ [])) → P (getD (ms ++ (m ∷ [])) k 0)
-each P [] m h q zero l = q
-each P [] m h q (suc k) l = absurd (omega arith)
-each P (x ∷ ms) m h q zero l = h 0 (omega arith)
-each P (x ∷ ms) m h q (suc k) l = each P ms m (λ j g. h (suc j) (omega arith)) q k (omega arith)
-
-marked-one : (r : Raw) (count : ℕ) (ms : List ℕ) (m : ℕ) → Marked r count ms → m % 1024 < count → m / 1024 ≡ fingerprint (markedList r m) → Marked r count (ms ++ (m ∷ []))
-marked-one r count ms m w f p = record {
-  first = each (λ (m : ℕ). m % 1024 < count) ms m (w .first) f;
-  print = each (λ (m : ℕ). m / 1024 ≡ fingerprint (markedList r m)) ms m (w .print) p;
-}
-
-module _ (r : Raw) (t rows : ℕ) (scratch : List ℕ) (k : Marks r t rows scratch) where
+module _ (r : Raw) (t rows : ℕ) (scratch heads : List ℕ) (k : Marks r t rows scratch heads) where
   -- The rows are no more than the thresholds; behind 1,024 words nothing is marked.
   pub marks-few : rows ≤ t
   marks-few = let q = raws-few r t in let e = k .many in omega arith
@@ -126,19 +116,23 @@ module _ (r : Raw) (t rows : ℕ) (scratch : List ℕ) (k : Marks r t rows scrat
       sym (drop-drop (1024 - rows) rows scratch ∙ ap (λ (n : ℕ). drop n scratch) e) ∙ ap (drop (1024 - rows)) (k .clear) ∙ drop-replicate (1024 - rows) (length scratch - rows)
       ∙ ap (λ (n : ℕ). replicate n 0) (let q : length scratch - rows - (1024 - rows) ≡ length scratch - 1024 = omega arith in q)
 
-  marks-new : (m : ℕ) → rows < length scratch → m % 1024 ≡ t → m / 1024 ≡ fingerprint (listAt r t) → t < length (r .thresholds) → rowTo r t ≡ rows
-      → Marks r (t + 1) (rows + 1) (set scratch rows m)
-  marks-new m h e p g n =
+  marks-new : (m : ℕ) → rows < length scratch → m % 1024 ≡ t → printIn m ≡ fingerprint (listAt r t) → nextIn m ≡ getD heads (classOf (printIn m)) 0
+      → t < length (r .thresholds) → rowTo r t ≡ rows → Marks r (t + 1) (rows + 1) (set scratch rows m) (set heads (classOf (printIn m)) (rows + 1))
+  marks-new m h e p c g n =
       let i = n ∙ k .many in
+      let l = length-take-le rows scratch (omega arith) in
       let f : take (rows + 1) (set scratch rows m) ≡ take rows scratch ++ (m ∷ []) = ap (λ (j : ℕ). take j (set scratch rows m)) (add-one rows) ∙ take-suc-set scratch rows m h in
       record {
         many = ap (λ (j : ℕ). j + 1) (k .many) ∙ sym (ap length (raws-new r t i) ∙ length-append (rawsTo r t) (listAt r t ∷ []));
         marked = subst (λ (l : List ℕ). Marked r (length (r .thresholds)) l) (sym f)
-            (marked-one r (length (r .thresholds)) (take rows scratch) m (k .marked) (omega arith) (p ∙ ap (λ (j : ℕ). fingerprint (listAt r j)) (sym e)));
+            (marked-one r (length (r .thresholds)) (take rows scratch) m (k .marked) (omega arith) (p ∙ ap (λ (j : ℕ). fingerprint (listAt r j)) (sym e))
+            (c ∙ k .headed .each (classOf (printIn m)) (class-small (printIn m))));
         named = ap (map (markedList r)) f ∙ map-append (markedList r) (take rows scratch) (m ∷ [])
             ∙ ap₂ (λ (ls : List (List Term)) (j : ℕ). ls ++ (listAt r j ∷ [])) (k .named) e ∙ sym (raws-new r t i);
         clear = drop-set-lt (rows + 1) scratch rows m (omega arith) ∙ sym (drop-drop 1 rows scratch) ∙ ap (drop 1) (k .clear) ∙ drop-replicate 1 (length scratch - rows)
             ∙ ap (λ (j : ℕ). replicate j 0) (let q = length-set scratch rows m in let u : length scratch - rows - 1 ≡ length (set scratch rows m) - (rows + 1) = omega arith in u);
+        headed = subst (λ (l : List ℕ). Headed l (set heads (classOf (printIn m)) (rows + 1))) (sym f)
+            (headed-one (take rows scratch) heads m (rows + 1) (k .headed) (ap (λ (j : ℕ). j + 1) (sym l)));
       }
 
 -- ---- one threshold more
@@ -146,8 +140,8 @@ module _ (r : Raw) (t rows : ℕ) (scratch : List ℕ) (k : Marks r t rows scrat
 abbrev pub extent : ℕ → ℕ → Extent
 extent n e = record { rows = n; end = e }
 
-module _ (r : Raw) (t : ℕ) (so : Extent) (cs ws scratch : List ℕ) (p : Placing r t so cs ws scratch) (l : Lists r (length (r .thresholds))) (h : t < length (r .thresholds)) where
-  pub placing-old : rowTo r t < length (rawsTo r t) → Placing r (t + 1) so cs ws scratch
+module _ (r : Raw) (t : ℕ) (so : Extent) (cs ws scratch heads : List ℕ) (p : Placing r t so cs ws scratch heads) (l : Lists r (length (r .thresholds))) (h : t < length (r .thresholds)) where
+  pub placing-old : rowTo r t < length (rawsTo r t) → Placing r (t + 1) so cs ws scratch heads
   placing-old n =
       let e = sym (raws-old r t n) in
       record {
@@ -156,7 +150,7 @@ module _ (r : Raw) (t : ℕ) (so : Extent) (cs ws scratch : List ℕ) (p : Placi
           conditions = p .terms .conditions ∙ ap (λ (ls : List (List Term)). laid (length cs) (conditionsOf (joinAll (map (λ (l : List Term). rowTerms l) ls)))) e;
           weights = p .terms .weights ∙ ap (λ (ls : List (List Term)). laid (length ws) (weightsOf (joinAll (map (λ (l : List Term). rowTerms l) ls)))) e;
         };
-        marks = record { many = p .marks .many ∙ ap length e; marked = p .marks .marked; named = p .marks .named ∙ e; clear = p .marks .clear };
+        marks = record { many = p .marks .many ∙ ap length e; marked = p .marks .marked; named = p .marks .named ∙ e; clear = p .marks .clear; headed = p .marks .headed };
       }
 
   -- A new row: x is its raw list, laid from a to e.
@@ -179,20 +173,24 @@ module _ (r : Raw) (t : ℕ) (so : Extent) (cs ws scratch : List ℕ) (p : Placi
     end-new : so .end + length (rowTerms x) ≡ length (joinAll (termsTo r (t + 1)))
     end-new = ap₂ _+_ (p .end) (ap (λ (y : List Term). length (rowTerms y)) ex) ∙ sym (long-new r t new)
 
-    pub placing-new : (end m : ℕ) (cs′ ws′ scratch′ : List ℕ) → length (r .conditions) ≤ length cs → length ws ≡ length cs → so .rows < length scratch
+    -- Its mark m holds the newest row of its class before it, and it is the newest now.
+    pub placing-new : (end m : ℕ) (cs′ ws′ scratch′ heads′ : List ℕ) → length (r .conditions) ≤ length cs → length ws ≡ length cs → so .rows < length scratch
         → end ≡ so .end + length (rowTerms x)
         → length cs′ ≡ length cs → cs′ ≡ spliced (so .end) (e - a) cs (laid (e - a) (conditionsOf (rowTerms x)))
         → length ws′ ≡ length ws → ws′ ≡ spliced (so .end) (e - a) ws (laid (e - a) (weightsOf (rowTerms x)))
-        → m % 1024 ≡ t → m / 1024 ≡ fingerprint (listAt r t) → scratch′ ≡ scratch
-        → Placing r (t + 1) (extent (so .rows + 1) end) cs′ ws′ (set scratch′ (so .rows) m)
-    placing-new end m cs′ ws′ scratch′ room even some q kc ec kw ew mt mp es =
+        → m % 1024 ≡ t → printIn m ≡ fingerprint (listAt r t) → nextIn m ≡ getD heads (classOf (printIn m)) 0 → scratch′ ≡ scratch
+        → heads′ ≡ set heads (classOf (printIn m)) (so .rows + 1)
+        → Placing r (t + 1) (extent (so .rows + 1) end) cs′ ws′ (set scratch′ (so .rows) m) heads′
+    placing-new end m cs′ ws′ scratch′ heads′ room even some q kc ec kw ew mt mp mn es eh =
         record {
           end = q ∙ end-new;
           terms = record {
             conditions = laid-new (λ (t : Term). t .condition) cs cs′ (p .terms .conditions) room kc ec;
             weights = laid-new (λ (t : Term). t .weight) ws ws′ (p .terms .weights) (omega arith) kw ew;
           };
-          marks = subst (λ (z : List ℕ). Marks r (t + 1) (so .rows + 1) (set z (so .rows) m)) (sym es) (marks-new r t (so .rows) scratch (p .marks) m some mt mp h n);
+          marks = subst (λ (z : List ℕ). Marks r (t + 1) (so .rows + 1) (set z (so .rows) m) heads′) (sym es)
+              (subst (λ (z : List ℕ). Marks r (t + 1) (so .rows + 1) (set scratch (so .rows) m) z) (sym eh)
+              (marks-new r t (so .rows) scratch heads (p .marks) m some mt mp mn h n));
         }
 
 -- Where a next row would go there is room, in the rows and among the marks.
@@ -202,10 +200,10 @@ pub record Within (r : Raw) (t : ℕ) (so : Extent) (rows : List (List ℕ)) (sc
   pub row : so .rows < length rows
   pub word : so .rows < length scratch
 
-pub within : (r : Raw) (t : ℕ) (so : Extent) (cs ws : List ℕ) (rows : List (List ℕ)) (scratch : List ℕ) → Ready r cs ws rows scratch → Placing r t so cs ws scratch
+pub within : (r : Raw) (t : ℕ) (so : Extent) (cs ws : List ℕ) (rows : List (List ℕ)) (scratch heads : List ℕ) → Ready r cs ws rows scratch → Placing r t so cs ws scratch heads
     → t < length (r .thresholds) → Within r t so rows scratch
-within r t so cs ws rows scratch q p h =
-    let few = marks-few r t (so .rows) scratch (p .marks) in
+within r t so cs ws rows scratch heads q p h =
+    let few = marks-few r t (so .rows) scratch heads (p .marks) in
     let many = q .lists .many in
     let row = q .many in
     let word = q .words in
@@ -259,12 +257,19 @@ nodes-next r t nodes₀ nodes nodes′ e s = s ∙ ap (λ (l : List (List ℕ)).
 
 -- ---- before the first
 
-pub placing-start : (r : Raw) (cs ws scratch : List ℕ) → Blank cs → Blank ws → Blank scratch → Placing r 0 (extent 0 0) cs ws scratch
+pub placing-start : (r : Raw) (cs ws scratch heads : List ℕ) → Blank cs → Blank ws → Blank scratch → Blank heads → 1024 ≤ length heads
+    → Placing r 0 (extent 0 0) cs ws scratch heads
 unfolding rawsTo joinAll
-placing-start r cs ws scratch a b c = record {
+placing-start r cs ws scratch heads a b c d l = record {
   end = refl;
   terms = record { conditions = blank cs a; weights = blank ws b };
-  marks = record { many = refl; marked = record { first = λ k h. absurd (omega arith); print = λ k h. absurd (omega arith) }; named = refl; clear = blank scratch c };
+  marks = record {
+    many = refl;
+    marked = record { first = λ k h. absurd (omega arith); print = λ k h. absurd (omega arith); next = λ k h. absurd (omega arith) };
+    named = refl;
+    clear = blank scratch c;
+    headed = headed-none (take 0 scratch) heads refl l d;
+  };
 }
   where
     blank : (l : List ℕ) → Blank l → l ≡ replicate (length l - 0) 0
@@ -280,12 +285,13 @@ nodes-start r nodes = refl
 
 -- ---- lengths of the buffers in the loop
 
-pub record Same (cs ws : List ℕ) (rs ns : List (List ℕ)) (sc cs′ ws′ : List ℕ) (rs′ ns′ : List (List ℕ)) (sc′ : List ℕ) : Type 0 where
+pub record Same (cs ws : List ℕ) (rs ns : List (List ℕ)) (sc hs cs′ ws′ : List ℕ) (rs′ ns′ : List (List ℕ)) (sc′ hs′ : List ℕ) : Type 0 where
   pub row-conditions : length cs′ ≡ length cs
   pub row-weights : length ws′ ≡ length ws
   pub rows : length rs′ ≡ length rs
   pub nodes : length ns′ ≡ length ns
   pub scratch : length sc′ ≡ length sc
+  pub heads : length hs′ ≡ length hs
 
 pub ready-by : (r : Raw) (cs ws : List ℕ) (rows : List (List ℕ)) (scratch cs′ ws′ : List ℕ) (rows′ : List (List ℕ)) (scratch′ : List ℕ)
     → length cs′ ≡ length cs → length ws′ ≡ length ws → length rows′ ≡ length rows → length scratch′ ≡ length scratch → Ready r cs ws rows scratch → Ready r cs′ ws′ rows′ scratch′
@@ -296,39 +302,10 @@ ready-by r cs ws rows scratch cs′ ws′ rows′ scratch′ a b c d q =
     let q4 = q .words in
     record { lists = q .lists; below = q .below; few = q .few; room = omega arith; even = omega arith; many = omega arith; words = omega arith }
 
--- ---- marks as words
+-- ---- after the last
 
--- A print is below 2 ^ 32, so that a mark fits its word and is taken apart again.
-mixed-small : (h : ℕ) (ts : List Term) → h < 4294967296 → mixed h ts < 4294967296
-unfolding mixed
-mixed-small h [] q = q
-mixed-small h (t ∷ ts) q = mixed-small ((h * 65599 + t .condition * 257 + t .weight) % 4294967296) ts (omega arith)
-
-list-short : (r : Raw) (t : ℕ) → Lists r (length (r .thresholds)) → t < length (r .thresholds) → length (listAt r t) < 4294967296
-unfolding listAt
-list-short r t l h =
-    let a = startOf (r .thresholds) t in
-    let e = endOf (r .thresholds) t in
-    let i = l .inside t h in
-    let s = l .short t h in
-    let w = l .weighed in
-    let c = stretch-length a e (r .conditions) (omega arith) in
-    let d = stretch-length a e (r .weights) (omega arith) in
-    let n = length-terms (stretch a e (r .conditions)) (stretch a e (r .weights)) (omega arith) in
-    omega arith
-
-pub print-small : (r : Raw) (t : ℕ) → Lists r (length (r .thresholds)) → t < length (r .thresholds) → fingerprint (listAt r t) < 4294967296
-unfolding fingerprint
-print-small r t l h = mixed-small (length (listAt r t)) (listAt r t) (list-short r t l h)
-
-pub mark-first : (p t : ℕ) → t < 1024 → (p * 1024 + t) % 1024 ≡ t
-mark-first p t h = omega arith
-
-pub mark-print : (p t : ℕ) → t < 1024 → (p * 1024 + t) / 1024 ≡ p
-mark-print p t h = omega arith
-
-pub placed-end : (r : Raw) (t n : ℕ) (so : Extent) (cs ws scratch : List ℕ) (rows₀ rows nodes₀ nodes : List (List ℕ)) → t ≡ n
-    → Placing r t so cs ws scratch → rows ≡ over (rowEnds r t) rows₀ → nodes ≡ nodesTo r nodes₀ t
-    → Placing r n so cs ws scratch × (rows ≡ over (rowEnds r n) rows₀) × (nodes ≡ nodesTo r nodes₀ n)
-placed-end r t n so cs ws scratch rows₀ rows nodes₀ nodes e p q s =
-    (subst (λ (n : ℕ). Placing r n so cs ws scratch) e p, q ∙ ap (λ (n : ℕ). over (rowEnds r n) rows₀) e, s ∙ ap (nodesTo r nodes₀) e)
+pub placed-end : (r : Raw) (t n : ℕ) (so : Extent) (cs ws scratch heads : List ℕ) (rows₀ rows nodes₀ nodes : List (List ℕ)) → t ≡ n
+    → Placing r t so cs ws scratch heads → rows ≡ over (rowEnds r t) rows₀ → nodes ≡ nodesTo r nodes₀ t
+    → Placing r n so cs ws scratch heads × (rows ≡ over (rowEnds r n) rows₀) × (nodes ≡ nodesTo r nodes₀ n)
+placed-end r t n so cs ws scratch heads rows₀ rows nodes₀ nodes e p q s =
+    (subst (λ (n : ℕ). Placing r n so cs ws scratch heads) e p, q ∙ ap (λ (n : ℕ). over (rowEnds r n) rows₀) e, s ∙ ap (nodesTo r nodes₀) e)

@@ -52,18 +52,19 @@ pub record Sound (r : Raw) (bounds : List ℤ) (nodes : ℕ) : Type 0 where
   pub few : nodes ≤ 4096
   pub short : length (r .conditions) < 65536
 
--- Room for so many raw terms and thresholds; terms, nodes and scratch are zero.
+-- Room for so many raw terms and thresholds; terms, nodes and scratch are zero, and the guards' nodes, which hold the heads of the classes while rows are placed.
 pub record Ample (total count : ℕ) (b : Lent) : Type 0 where
   pub conditions : total ≤ length (b .row-conditions)
   pub weights : total ≤ length (b .row-weights)
   pub spare : count ≤ length (b .row-weights)
   pub rows : count ≤ length (b .rows)
   pub bounds : count ≤ length (b .guard-bounds)
-  pub guards : count ≤ length (b .guard-nodes)
+  pub guards : 1024 ≤ length (b .guard-nodes)
   pub edges : total ≤ length (b .edges)
   pub words : 3072 ≤ length (b .scratch)
   pub conditions-clear : Blank (b .row-conditions)
   pub weights-clear : Blank (b .row-weights)
+  pub guards-clear : Blank (b .guard-nodes)
   pub nodes-clear : b .nodes ≡ replicate (length (b .nodes)) (replicate 3 0)
   pub words-clear : Blank (b .scratch)
 
@@ -83,8 +84,8 @@ pub record Prepared (r : Raw) (bounds : List ℤ) (so : Extent) (b a : Lent) : T
 
 -- ---- what its steps ask and leave
 
--- Rows can be placed: the raw lists are as they must be, terms and marks start from zero.
-pub record Placeable (r : Raw) (cs ws : List ℕ) (rows nodes : List (List ℕ)) (scratch : List ℕ) : Type 0 where
+-- Rows can be placed: the raw lists are as they must be, terms, marks and heads start from zero.
+pub record Placeable (r : Raw) (cs ws : List ℕ) (rows nodes : List (List ℕ)) (scratch heads : List ℕ) : Type 0 where
   pub lists : Lists r (length (r .thresholds))
   pub below : (i : ℕ) → getD (r .conditions) i 0 < 4096
   pub few : length (r .conditions) < 65536
@@ -96,6 +97,8 @@ pub record Placeable (r : Raw) (cs ws : List ℕ) (rows nodes : List (List ℕ))
   pub many : length (r .thresholds) ≤ length rows
   pub words : 3072 ≤ length scratch
   pub words-clear : drop 1024 scratch ≡ replicate (length scratch - 1024) 0
+  pub classes : 1024 ≤ length heads
+  pub classes-clear : Blank heads
 
 -- Rows placed: their number, where their terms end, the terms, the end of each, and each threshold and its row at its node.
 pub record Rowed (r : Raw) (so : Extent) (cs ws : List ℕ) (rows nodes : List (List ℕ)) (cs′ ws′ : List ℕ) (rows′ nodes′ : List (List ℕ)) : Type 0 where

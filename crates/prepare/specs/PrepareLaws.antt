@@ -38,10 +38,11 @@ use Rattle.prepare.specs.GuardOrderLaws.{order-length, order-names, orde
 
 -- ---- placing, in parts of the buffers
 
-pub open-ready : (r : Raw) (cs ws : List ℕ) (rows nodes : List (List ℕ)) (scratch : List ℕ) → Placeable r cs ws rows nodes scratch
+pub open-ready : (r : Raw) (cs ws : List ℕ) (rows nodes : List (List ℕ)) (scratch heads : List ℕ) → Placeable r cs ws rows nodes scratch heads
     → Ready r (take (length (r .conditions)) cs) (take (length (r .conditions)) ws) rows (stretch 1024 (length scratch) scratch)
     × NodesIn (r .thresholds) nodes × Blank (take (length (r .conditions)) cs) × Blank (take (length (r .conditions)) ws) × Blank (stretch 1024 (length scratch) scratch)
-open-ready r cs ws rows nodes scratch o =
+    × Blank heads × (1024 ≤ length heads)
+open-ready r cs ws rows nodes scratch heads o =
     let lc = length-take-le (length (r .conditions)) cs (o .conditions) in
     let lw = length-take-le (length (r .conditions)) ws (o .weights) in
     let ls = tail-long scratch 1024 in
@@ -51,12 +52,14 @@ open-ready r cs ws rows nodes scratch o =
       blank-take (length (r .conditions)) cs (o .conditions-clear) (o .conditions),
       blank-take (length (r .conditions)) ws (o .weights-clear) (o .weights),
       tail-blank scratch 1024 (o .words-clear),
+      o .classes-clear,
+      o .classes,
     )
 
 -- Marks are zero again once their words are.
-pub marks-cleared : (r : Raw) (t rows : ℕ) (scratch scratch′ : List ℕ) → Blank scratch → length scratch′ ≡ length scratch → rows ≤ length scratch → Marks r t rows scratch′
+pub marks-cleared : (r : Raw) (t rows : ℕ) (scratch scratch′ heads : List ℕ) → Blank scratch → length scratch′ ≡ length scratch → rows ≤ length scratch → Marks r t rows scratch′ heads
     → cleared rows scratch′ ≡ scratch
-marks-cleared r t rows scratch scratch′ b e h k =
+marks-cleared r t rows scratch scratch′ heads b e h k =
     cleared-back rows scratch′ scratch b h (k .clear ∙ ap (λ (n : ℕ). replicate (n - rows) 0) e ∙ sym (blank-drop rows scratch b))
 
 -- ---- columns
@@ -96,7 +99,7 @@ module _ (r : Raw) (bounds : List ℤ) (b : Lent) (s : Sound r bounds (length (b
     long-words : length sc₁ ≡ length (b .scratch)
     long-words = ap length es ∙ over-long keys (b .scratch) (let k = length-keys in let h = few-bounds in let w = m .words in omega arith)
 
-    pub opened : Placeable r (b .row-conditions) ws₁ (b .rows) (b .nodes) sc₁
+    pub opened : Placeable r (b .row-conditions) ws₁ (b .rows) (b .nodes) sc₁ (b .guard-nodes)
     opened = record {
       lists = s .lists;
       below = below;
@@ -110,11 +113,13 @@ module _ (r : Raw) (bounds : List ℤ) (b : Lent) (s : Sound r bounds (length (b
       words = let e = long-words in let w = m .words in omega arith;
       words-clear = ap (drop 1024) es ∙ keys-behind keys (b .scratch) 1024 (let k = length-keys in let h = few-bounds in omega arith)
           ∙ blank-drop 1024 (b .scratch) (m .words-clear) ∙ ap (λ (k : ℕ). replicate (k - 1024) 0) (sym long-words);
+      classes = m .guards;
+      classes-clear = m .guards-clear;
     }
 
     -- The rows are placed.
-    module _ (so : Extent) (cs₁ ws₂ : List ℕ) (rows₁ nodes₁ : List (List ℕ)) (sc₂ : List ℕ)
-        (q : Rowed r so (b .row-conditions) ws₁ (b .rows) (b .nodes) cs₁ ws₂ rows₁ nodes₁) (et : sc₂ ≡ sc₁) where
+    module _ (so : Extent) (cs₁ ws₂ : List ℕ) (rows₁ nodes₁ : List (List ℕ)) (sc₂ gn₁ : List ℕ)
+        (q : Rowed r so (b .row-conditions) ws₁ (b .rows) (b .nodes) cs₁ ws₂ rows₁ nodes₁) (et : sc₂ ≡ sc₁) (eg : gn₁ ≡ b .guard-nodes) where
       abbrev k : ℕ
       k = so .rows
 
@@ -167,7 +172,7 @@ module _ (r : Raw) (bounds : List ℤ) (b : Lent) (s : Sound r bounds (length (b
         few = few-bounds;
       }
 
-      pub guards-ready : (so .rows ≤ length rows₁) × (length bounds ≤ length (b .guard-bounds)) × (length bounds ≤ length (b .guard-nodes)) × (length bounds ≤ length sc₂)
+      pub guards-ready : (so .rows ≤ length rows₁) × (length bounds ≤ length (b .guard-bounds)) × (length bounds ≤ length gn₁) × (length bounds ≤ length sc₂)
           × Dealable (r .thresholds) bounds nodes₁ (take (length bounds) sc₂) (take (so .rows) rows₁)
       guards-ready =
           let a = few-rows in
@@ -179,12 +184,13 @@ module _ (r : Raw) (bounds : List ℤ) (b : Lent) (s : Sound r bounds (length (b
           let h = few-bounds in
           let i = m .words in
           let j = ap length et in
+          let k = ap length eg in
           let l = long-words in
           (omega arith, omega arith, omega arith, omega arith, dealt)
 
       -- The guards are dealt.
       module _ (rows₂ : List (List ℕ)) (gb : List ℤ) (gn sc₃ : List ℕ)
-          (f : Guarded (r .thresholds) bounds nodes₁ (take (length bounds) sc₂) (so .rows) rows₁ (b .guard-bounds) (b .guard-nodes) rows₂ gb gn)
+          (f : Guarded (r .thresholds) bounds nodes₁ (take (length bounds) sc₂) (so .rows) rows₁ (b .guard-bounds) gn₁ rows₂ gb gn)
           (fs : sc₃ ≡ cleared (length bounds) sc₂) where
         abbrev guardEnds : List ℕ
         guardEnds = ends 0 (grouped 0 k (boundItems (r .thresholds) nodes₁ bounds (take (length bounds) sc₂)))
@@ -330,7 +336,7 @@ module _ (r : Raw) (bounds : List ℤ) (b : Lent) (s : Sound r bounds (length (b
             weights = q .weights ∙ ap₂ (λ (ls : List (List Term)) (l : List ℕ). over (weights (joinAll ls)) l) (terms-given r bounds) ew;
             rows = f .entries ∙ ap₂ (λ (x y : List (List ℕ)). x ++ y) rows-front rows-behind;
             guard-bounds = f .limits ∙ ap (λ (l : List ℤ). over l (b .guard-bounds)) bounds-given;
-            guard-nodes = f .names ∙ ap (λ (l : List ℕ). over l (b .guard-nodes)) guards-given;
+            guard-nodes = f .names ∙ ap₂ (λ (l v : List ℕ). over l v) guards-given eg;
             nodes = g .entries ∙ ap₂ (withColumn 2) (q .named ∙ nodes-given r bounds (b .nodes) j (m .nodes-clear) (s .inside) (s .rising)) edge-ends
                 ∙ with-last (map (thresholdOf 0 (given r bounds)) (numbers 0 j)) (map (rowOfNode rs (given r bounds)) (numbers 0 j)) (replicate j 0) (ends 0 (edgeLists j rs))
                 (long-mapped (rowOfNode rs (given r bounds)) ∙ sym (long-mapped (thresholdOf 0 (given r bounds))))

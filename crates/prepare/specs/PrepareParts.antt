@@ -3,9 +3,10 @@ use Prim.Native.Nat.{ℕ, zero, suc, _+_, _-_, _≤_}
 use native.Mathlib.Nat.{not-suc-le-zero}
 use native.Mathlib.Omega.{arith}
 use mathlib.Core.Path.{_≡_, refl, sym, ap, ap₂, _∙_}
-use mathlib.Core.List.{List, _∷_, _++_, append-assoc}
+use mathlib.Core.List.{List, [], _∷_, _++_, append-assoc}
 use lib.ListN.{length, take, drop, replicate, length-append, length-drop, take-append-drop}
 use lib.Seq.{length-take-le, take-at, take-all, drop-append-le, drop-append-add, drop-drop}
+use Rattle.memory.specs.Buffers.{zeros}
 use Rattle.lists.specs.Laid.{over, joinAll}
 use Rattle.lists.specs.Deal.{Keyed, grouped}
 use Rattle.lists.specs.TallyLaws.{count-most}
@@ -25,8 +26,16 @@ zeros-take (suc k) (suc n) h = ap (λ (l : List ℕ). 0 ∷ l) (zeros-take k n (
 front-zeros : (k : ℕ) (l : List ℕ) → Blank l → k ≤ length l → take k l ≡ replicate k 0
 front-zeros k l e h = ap (take k) e ∙ zeros-take k (length l) h
 
+zeros-are : (l : List ℕ) → zeros 0 l ≡ replicate (length l) 0
+unfolding zeros
+zeros-are [] = refl
+zeros-are (x ∷ l) = ap (λ (t : List ℕ). 0 ∷ t) (zeros-are l)
+
 pub blank-take : (k : ℕ) (l : List ℕ) → Blank l → k ≤ length l → Blank (take k l)
 blank-take k l e h = front-zeros k l e h ∙ ap (λ (n : ℕ). replicate n 0) (sym (length-take-le k l h))
+
+pub zeros-back : (l b : List ℕ) → Blank b → length l ≡ length b → zeros 0 l ≡ b
+zeros-back l b e q = zeros-are l ∙ ap (λ (n : ℕ). replicate n 0) q ∙ sym e
 
 pub blank-drop : (k : ℕ) (l : List ℕ) → Blank l → drop k l ≡ replicate (length l - k) 0
 blank-drop k l e = ap (drop k) e ∙ drop-replicate k (length l)

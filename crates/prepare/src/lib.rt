@@ -1,25 +1,29 @@
 // `prepare` of thresholds.rs: from the raw lists of a job to its rows, their guards and the edges of every node.
 ghost use mathlib.Core.Path.{_≡_};
 ghost use Prim.Native.Nat.{_+_, _<_, _≤_};
-ghost use lib.ListN.{length, take, set};
+ghost use lib.ListN.{length, take, set, getD};
 ghost use Rattle.lists.specs.Laid.{over};
 ghost use Rattle.sort.specs.Sorted.{sorted};
 ghost use Rattle.sort.specs.Runs.{cleared};
 ghost use Rattle.thresholds.specs.Guards.{Bounds, guardKeys, nodeAt, NodesIn};
 ghost use Rattle.thresholds.specs.Incidents.{heldItems};
 ghost use Rattle.thresholds.specs.Raw.{raw, listAt, fingerprint};
+ghost use Rattle.thresholds.specs.Chain.{classOf};
 ghost use Rattle.thresholds.specs.Placed.{rowTo, rowEntry, nodeEntry, nodesTo};
 ghost use Rattle.prepare.specs.Prepare.{lent, Sound, Ample, Prepared, Placeable, Rowed, Dealable, Guarded, Indexable, Edged};
 ghost use Rattle.prepare.specs.Place.{Placing, Ready, Blank, rowEnds, nodesNext, rowsNext};
+use memory::clear_u16;
 use sort::clear;
 use thresholds::Found;
 use thresholds::build_at;
+use thresholds::class_of;
 use thresholds::end_of;
 use thresholds::find_row;
 use thresholds::index_edges;
 use thresholds::index_guards;
 use thresholds::node_of;
 use thresholds::order_guards;
+use thresholds::place;
 use thresholds::print_of;
 use thresholds::start_of;
 
@@ -39,6 +43,17 @@ fn enter_node(thresholds: &[[u16; 2]], t: usize, row: usize, nodes: &mut [[u16; 
     nodes[node] = entry;
 }
 
+// The row becomes the newest of the class of its fingerprint: the newest before it, both counted from 1.
+fn link_row(print: u64, row: usize, heads: &mut [u16]) -> u64
+    requires { ⌜ (print < 4294967296) × (row < 1024) × (1024 ≤ length (now heads)) ⌝ }
+    ensures { λ r. ⌜ (r ≡ getD (now (heads .entry)) (classOf print) 0) × (r < 65536) × (now (heads .exit) ≡ set (now (heads .entry)) (classOf print) (row + 1)) ⌝ }
+{
+    let class = class_of(print);
+    let next = place(heads[class]);
+    heads[class] = (row + 1) as u16;
+    next as u64
+}
+
 // The raw list of threshold t makes the next row: its terms behind the others, their end, and the mark by which the list is found again.
 fn add_row(
     conditions: &[u16],
@@ -51,13 +66,14 @@ fn add_row(
     row_weights: &mut [u64],
     rows: &mut [[u16; 3]],
     scratch: &mut [u64],
+    heads: &mut [u16],
 ) -> Extent
     requires { ⌜ (Ready (raw (now conditions) (now weights) (now thresholds)) (now «row_conditions») (now «row_weights») (now rows) (now scratch))
         × (t < length (now thresholds)) × (print ≡ fingerprint (listAt (raw (now conditions) (now weights) (now thresholds)) t))
-        × (Placing (raw (now conditions) (now weights) (now thresholds)) t so (now «row_conditions») (now «row_weights») (now scratch))
+        × (Placing (raw (now conditions) (now weights) (now thresholds)) t so (now «row_conditions») (now «row_weights») (now scratch) (now heads))
         × (rowTo (raw (now conditions) (now weights) (now thresholds)) t ≡ so .rows) ⌝ }
     ensures { λ r. ⌜ (Placing (raw (now (conditions .entry)) (now (weights .entry)) (now (thresholds .entry))) (t + 1) r
-        (now («row_conditions» .exit)) (now («row_weights» .exit)) (now (scratch .exit)))
+        (now («row_conditions» .exit)) (now («row_weights» .exit)) (now (scratch .exit)) (now (heads .exit)))
         × (now (rows .exit) ≡ set (now (rows .entry)) (so .rows) (rowEntry (r .end))) ⌝ }
 {
     let row = so.rows;
@@ -76,7 +92,8 @@ fn add_row(
     );
     let entry = [end as u16, 0, 0];
     rows[row] = entry;
-    scratch[row] = print * 1024 + t as u64;
+    let next = link_row(print, row, heads);
+    scratch[row] = (next * 4294967296 + print) * 1024 + t as u64;
     Extent {
         rows: row + 1,
         end: end,
@@ -95,18 +112,27 @@ fn place_one(
     rows: &mut [[u16; 3]],
     nodes: &mut [[u16; 3]],
     scratch: &mut [u64],
+    heads: &mut [u16],
 ) -> Extent
     requires { ⌜ (Ready (raw (now conditions) (now weights) (now thresholds)) (now «row_conditions») (now «row_weights») (now rows) (now scratch))
         × (t < length (now thresholds)) × (nodeAt (now thresholds) t < length (now nodes))
-        × (Placing (raw (now conditions) (now weights) (now thresholds)) t so (now «row_conditions») (now «row_weights») (now scratch)) ⌝ }
+        × (Placing (raw (now conditions) (now weights) (now thresholds)) t so (now «row_conditions») (now «row_weights») (now scratch) (now heads)) ⌝ }
     ensures { λ r. ⌜ (Placing (raw (now (conditions .entry)) (now (weights .entry)) (now (thresholds .entry))) (t + 1) r
-        (now («row_conditions» .exit)) (now («row_weights» .exit)) (now (scratch .exit)))
+        (now («row_conditions» .exit)) (now («row_weights» .exit)) (now (scratch .exit)) (now (heads .exit)))
         × (now (rows .exit) ≡ rowsNext (raw (now (conditions .entry)) (now (weights .entry)) (now (thresholds .entry))) t (now (rows .entry)))
         × (now (nodes .exit) ≡ nodesNext (raw (now (conditions .entry)) (now (weights .entry)) (now (thresholds .entry))) t (now (nodes .entry))) ⌝ }
 {
     let count = so.rows;
     let print = print_of(conditions, weights, thresholds, t);
-    let found = find_row(conditions, weights, thresholds, &scratch[..count], print, t);
+    let found = find_row(
+        conditions,
+        weights,
+        thresholds,
+        &scratch[..count],
+        heads,
+        print,
+        t,
+    );
     match found {
         Found::At(row) => {
             enter_node(thresholds, t, row, nodes);
@@ -125,12 +151,13 @@ fn place_one(
                 row_weights,
                 rows,
                 scratch,
+                heads,
             )
         }
     }
 }
 
-// All thresholds, in their order. The marks of the rows stay in the scratch.
+// All thresholds, in their order. The marks of the rows stay in the scratch, the newest row of each class in the heads.
 fn place_rows(
     conditions: &[u16],
     weights: &[u32],
@@ -140,11 +167,13 @@ fn place_rows(
     rows: &mut [[u16; 3]],
     nodes: &mut [[u16; 3]],
     scratch: &mut [u64],
+    heads: &mut [u16],
 ) -> Extent
     requires { ⌜ (Ready (raw (now conditions) (now weights) (now thresholds)) (now «row_conditions») (now «row_weights») (now rows) (now scratch))
-        × (NodesIn (now thresholds) (now nodes)) × (Blank (now «row_conditions»)) × (Blank (now «row_weights»)) × (Blank (now scratch)) ⌝ }
+        × (NodesIn (now thresholds) (now nodes)) × (Blank (now «row_conditions»)) × (Blank (now «row_weights»)) × (Blank (now scratch))
+        × (Blank (now heads)) × (1024 ≤ length (now heads)) ⌝ }
     ensures { λ r. ⌜ (Placing (raw (now (conditions .entry)) (now (weights .entry)) (now (thresholds .entry))) (length (now (thresholds .entry))) r
-        (now («row_conditions» .exit)) (now («row_weights» .exit)) (now (scratch .exit)))
+        (now («row_conditions» .exit)) (now («row_weights» .exit)) (now (scratch .exit)) (now (heads .exit)))
         × (now (rows .exit) ≡ over (rowEnds (raw (now (conditions .entry)) (now (weights .entry)) (now (thresholds .entry))) (length (now (thresholds .entry)))) (now (rows .entry)))
         × (now (nodes .exit) ≡ nodesTo (raw (now (conditions .entry)) (now (weights .entry)) (now (thresholds .entry))) (now (nodes .entry)) (length (now (thresholds .entry)))) ⌝ }
 {
@@ -162,13 +191,14 @@ fn place_rows(
             rows,
             nodes,
             scratch,
+            heads,
         );
         t += 1;
     }
     so
 }
 
-// The same with the marks cleared again.
+// The same with marks and heads cleared again.
 fn place_all(
     conditions: &[u16],
     weights: &[u32],
@@ -178,13 +208,15 @@ fn place_all(
     rows: &mut [[u16; 3]],
     nodes: &mut [[u16; 3]],
     scratch: &mut [u64],
+    heads: &mut [u16],
 ) -> Extent
     requires { ⌜ (Ready (raw (now conditions) (now weights) (now thresholds)) (now «row_conditions») (now «row_weights») (now rows) (now scratch))
-        × (NodesIn (now thresholds) (now nodes)) × (Blank (now «row_conditions»)) × (Blank (now «row_weights»)) × (Blank (now scratch)) ⌝ }
+        × (NodesIn (now thresholds) (now nodes)) × (Blank (now «row_conditions»)) × (Blank (now «row_weights»)) × (Blank (now scratch))
+        × (Blank (now heads)) × (1024 ≤ length (now heads)) ⌝ }
     ensures { λ r. ⌜ (Rowed (raw (now (conditions .entry)) (now (weights .entry)) (now (thresholds .entry))) r
         (now («row_conditions» .entry)) (now («row_weights» .entry)) (now (rows .entry)) (now (nodes .entry))
         (now («row_conditions» .exit)) (now («row_weights» .exit)) (now (rows .exit)) (now (nodes .exit)))
-        × (now (scratch .exit) ≡ now (scratch .entry)) ⌝ }
+        × (now (scratch .exit) ≡ now (scratch .entry)) × (now (heads .exit) ≡ now (heads .entry)) ⌝ }
 {
     let so = place_rows(
         conditions,
@@ -195,9 +227,11 @@ fn place_all(
         rows,
         nodes,
         scratch,
+        heads,
     );
     let count = so.rows;
     clear(&mut scratch[..count]);
+    clear_u16(heads);
     so
 }
 
@@ -211,12 +245,13 @@ fn place_in(
     rows: &mut [[u16; 3]],
     nodes: &mut [[u16; 3]],
     scratch: &mut [u64],
+    heads: &mut [u16],
 ) -> Extent
-    requires { ⌜ Placeable (raw (now conditions) (now weights) (now thresholds)) (now «row_conditions») (now «row_weights») (now rows) (now nodes) (now scratch) ⌝ }
+    requires { ⌜ Placeable (raw (now conditions) (now weights) (now thresholds)) (now «row_conditions») (now «row_weights») (now rows) (now nodes) (now scratch) (now heads) ⌝ }
     ensures { λ r. ⌜ (Rowed (raw (now (conditions .entry)) (now (weights .entry)) (now (thresholds .entry))) r
         (now («row_conditions» .entry)) (now («row_weights» .entry)) (now (rows .entry)) (now (nodes .entry))
         (now («row_conditions» .exit)) (now («row_weights» .exit)) (now (rows .exit)) (now (nodes .exit)))
-        × (now (scratch .exit) ≡ now (scratch .entry)) ⌝ }
+        × (now (scratch .exit) ≡ now (scratch .entry)) × (now (heads .exit) ≡ now (heads .entry)) ⌝ }
 {
     let total = conditions.len();
     place_all(
@@ -228,6 +263,7 @@ fn place_in(
         rows,
         nodes,
         &mut scratch[1024..],
+        heads,
     )
 }
 
@@ -327,6 +363,7 @@ pub fn prepare(
         rows,
         nodes,
         scratch,
+        guard_nodes,
     );
     let count = so.rows;
     let end = so.end;

@@ -2,6 +2,7 @@ pub mod Rows
 pub mod Laid
 pub mod Raw
 pub mod RawLaws
+pub mod Chain
 pub mod Incidents
 pub mod IncidentsLaws
 pub mod Guards
@@ -9,3 +10,4 @@ pub mod GuardsLaws
 pub mod Placed
 pub mod PlacedLaws
 pub mod RowsLaws
+pub mod ChainLaws

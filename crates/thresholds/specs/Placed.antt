@@ -9,7 +9,8 @@ use Rattle.lists.specs.Laid.{over, joinAll, ends}
 use Rattle.numeric.specs.Threshold.{Term}
 use Rattle.row.specs.Terms.{rowTerms}
 use Rattle.row.specs.Keys.{laid, conditionsOf, weightsOf}
-use Rattle.thresholds.specs.Raw.{Raw, listAt, markedList, numberIn, Marked}
+use Rattle.thresholds.specs.Raw.{Raw, listAt, numberIn}
+use Rattle.thresholds.specs.Chain.{markedList, Marked, Headed}
 use Rattle.thresholds.specs.Guards.{nodeAt}
 
 -- A list with another in the place of m of its elements, from a on.
@@ -49,9 +50,10 @@ pub record Terms (r : Raw) (t : ℕ) (cs ws : List ℕ) : Type 0 where
   pub conditions : cs ≡ laid (length cs) (conditionsOf (joinAll (termsTo r t)))
   pub weights : ws ≡ laid (length ws) (weightsOf (joinAll (termsTo r t)))
 
--- The marks of the rows; behind them the scratch is zero.
-pub record Marks (r : Raw) (t rows : ℕ) (scratch : List ℕ) : Type 0 where
+-- The marks of the rows, behind which the scratch is zero, and the heads of their classes.
+pub record Marks (r : Raw) (t rows : ℕ) (scratch heads : List ℕ) : Type 0 where
   pub many : rows ≡ length (rawsTo r t)
   pub marked : Marked r (length (r .thresholds)) (take rows scratch)
   pub named : map (markedList r) (take rows scratch) ≡ rawsTo r t
   pub clear : drop rows scratch ≡ replicate (length scratch - rows) 0
+  pub headed : Headed (take rows scratch) heads

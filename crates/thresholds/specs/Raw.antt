@@ -1,8 +1,8 @@
 -- The raw lists of a job as the lent buffers hold them: all terms one behind the other, and for each threshold its node and where its terms end.
-use Prim.Native.Nat.{ℕ, zero, suc, _+_, _-_, _*_, _/_, _%_, _<_, _≤_}
+use Prim.Native.Nat.{ℕ, zero, suc, _+_, _-_, _*_, _%_, _<_, _≤_}
 use mathlib.Core.Path.{_≡_}
 use mathlib.Core.Bool.{Bool, true, false, cond}
-use mathlib.Core.List.{List, [], _∷_, map}
+use mathlib.Core.List.{List, [], _∷_}
 use lib.ListN.{length, take, drop, getD}
 use lib.Dec.{ltb}
 use lib.IntN.{ℤ, pos}
@@ -45,13 +45,6 @@ mixed h (t ∷ ts) = mixed ((h * 65599 + t .condition * 257 + t .weight) % 42949
 unfoldable pub fingerprint : List Term → ℕ
 fingerprint ts = mixed (length ts) ts
 
--- A row is marked by one word: the fingerprint of its raw list, and the first threshold that has it.
-abbrev pub mark : ℕ → ℕ → ℕ
-mark print t = print * 1024 + t
-
-abbrev pub markedList : Raw → ℕ → List Term
-markedList r m = listAt r (m % 1024)
-
 -- The place of a raw list among others, their number if it is not there.
 unfoldable pub numberIn : List (List Term) → List Term → ℕ
 numberIn [] x = 0
@@ -69,8 +62,3 @@ pub record Lists (r : Raw) (count : ℕ) : Type 0 where
   pub short : (t : ℕ) → t < count → endOf (r .thresholds) t ≤ startOf (r .thresholds) t + 1024
   pub inside : (t : ℕ) → t < count → endOf (r .thresholds) t ≤ length (r .conditions)
   pub weighed : length (r .weights) ≡ length (r .conditions)
-
--- Each mark names a threshold and the fingerprint of its list.
-pub record Marked (r : Raw) (count : ℕ) (marks : List ℕ) : Type 0 where
-  pub first : (k : ℕ) → k < length marks → getD marks k 0 % 1024 < count
-  pub print : (k : ℕ) → k < length marks → getD marks k 0 / 1024 ≡ fingerprint (markedList r (getD marks k 0))

@@ -1,21 +1,21 @@
 -- Laws of raw lists in two parallel slices, read place by place, and of the search among lists.
-use Prim.Native.Nat.{ℕ, zero, suc, _+_, _-_, _*_, _/_, _%_, _<_, _≤_}
-use native.Mathlib.Nat.{not-suc-le-zero, add-assoc, zero-add, mod-lt, le-refl}
+use Prim.Native.Nat.{ℕ, zero, suc, _+_, _-_, _*_, _%_, _<_, _≤_}
+use native.Mathlib.Nat.{not-suc-le-zero, add-assoc, le-refl}
 use native.Mathlib.Numerals.{add-one}
 use native.Mathlib.Omega.{arith}
-use mathlib.Core.Path.{_≡_, refl, sym, ap, ap₂, _∙_, subst}
+use mathlib.Core.Path.{_≡_, refl, sym, ap, ap₂, _∙_}
 use mathlib.Core.Bool.{Bool, true, false, _&&_, cond}
-use mathlib.Core.List.{List, [], _∷_, _++_, map}
-use lib.ListN.{length, take, drop, getD, drop-of-length-le, length-take, length-drop}
-use lib.Seq.{drop-cons, drop-length}
-use lib.Dec.{eqb, ltb, lit<}
+use mathlib.Core.List.{List, [], _∷_}
+use lib.ListN.{length, drop, getD, drop-of-length-le, length-take, length-drop}
+use lib.Seq.{drop-cons}
+use lib.Dec.{eqb, ltb}
 use borrow.Author.Tests.{eqb-true, eq-eqb, ne-eqb, lt-ltb, le-ltb, ltb-false}
 use Rattle.numeric.specs.Threshold.{Term, term, terms}
 use Rattle.row.specs.Terms.{sameTerms, total}
-use Rattle.thresholds.specs.Rows.{Row, rowNumber, hasNonunit}
+use Rattle.thresholds.specs.Rows.{hasNonunit}
 use Rattle.thresholds.specs.declared.Found.{Found}
 use Rattle.thresholds.specs.declared.Found.the-variants.{At, Nothing}
-use Rattle.thresholds.specs.Raw.{Raw, endOf, startOf, stretch, listAt, mixed, fingerprint, numberIn, Lists, Marked, markedList, foundOf}
+use Rattle.thresholds.specs.Raw.{Raw, endOf, startOf, stretch, listAt, mixed, fingerprint, numberIn, foundOf}
 
 pub start-next : (ts : List (List ℕ)) (t : ℕ) → 0 < t → endOf ts (t - 1) ≡ startOf ts t
 unfolding startOf
@@ -133,31 +133,7 @@ pub fingerprint-of : (cs ws : List ℕ) → length ws ≡ length cs → mixed (l
 unfolding fingerprint
 fingerprint-of cs ws h = ap (λ (n : ℕ). mixed n (terms cs ws)) (sym (length-terms cs ws h))
 
--- ---- the search among marked rows
-
-module _ (r : Raw) (marks : List ℕ) (x : List Term) where
-  abbrev pub numberFrom : ℕ → ℕ
-  numberFrom k = numberIn (map (markedList r) (drop k marks)) x
-
-  pub number-here : (k : ℕ) → k < length marks → sameTerms (markedList r (getD marks k 0)) x ≡ true → numberFrom k ≡ 0
-  unfolding numberIn
-  number-here k h e = rw (drop-cons marks k 0, e, numberIn)
-
-  pub number-on : (k : ℕ) → k < length marks → sameTerms (markedList r (getD marks k 0)) x ≡ false → numberFrom k ≡ 1 + numberFrom (k + 1)
-  unfolding numberIn
-  number-on k h e = rw (drop-cons marks k 0, e, add-one, numberIn)
-
-  pub number-done : (k : ℕ) → length marks ≤ k → numberFrom k ≡ 0
-  unfolding numberIn
-  number-done k h = rw (drop-of-length-le marks h, numberIn)
-
-  -- A list with another fingerprint is another list.
-  pub prints-differ : (m : ℕ) → m / 1024 ≡ fingerprint (markedList r m) → (m / 1024 ≡ fingerprint x → ⊥) → sameTerms (markedList r m) x ≡ false
-  prints-differ m e n = by (sameTerms (markedList r m) x) refl
-    where
-      by : (b : Bool) → sameTerms (markedList r m) x ≡ b → sameTerms (markedList r m) x ≡ false
-      by true q = absurd (n (e ∙ ap fingerprint (same-is (markedList r m) x q)))
-      by false q = q
+-- ---- what a search finds
 
 pub found-at : (n k m : ℕ) → n ≡ k → k < m → foundOf n m ≡ At k
 found-at n k m e h = rw (e, lt-ltb k m h)
@@ -220,7 +196,3 @@ number-most (l ∷ ls) x = by (number-most ls x) (sameTerms l x) refl
     by : numberIn ls x ≤ length ls → (b : Bool) → sameTerms l x ≡ b → numberIn (l ∷ ls) x ≤ length (l ∷ ls)
     by ih true e = rw (e, numberIn) (omega arith)
     by ih false e = rw (e, numberIn) (omega arith)
-
-pub length-marked : (r : Raw) (marks : List ℕ) → length (map (markedList r) marks) ≡ length marks
-length-marked r [] = refl
-length-marked r (m ∷ marks) = ap suc (length-marked r marks)

@@ -1,12 +1,15 @@
 -- `prepare::add_row` meets its contract. Assumes nothing.
-use Prim.Native.Nat.{_+_, _*_}
+use Prim.Native.Nat.{ℕ, _+_}
+use lib.ListN.{getD, set}
 use native.Mathlib.Omega.{arith}
 use Rattle.numeric.specs.Threshold.{terms}
 use Rattle.thresholds.specs.Raw.{raw, stretch}
 use Rattle.thresholds.specs.RawLaws.{list-is}
 use Rattle.prepare.specs.RowsGivenTerms.{terms-room}
-use Rattle.prepare.specs.PlaceLaws.{within, marks-tail, placing-new, print-small, mark-first, mark-print}
-use mathlib.Core.Path.{_∙_, refl}
+use Rattle.prepare.specs.PlaceLaws.{within, marks-tail, placing-new}
+use Rattle.thresholds.specs.Chain.{mark, printIn, classOf}
+use Rattle.thresholds.specs.ChainLaws.{print-small, mark-first, mark-print, mark-next}
+use mathlib.Core.Path.{_≡_, _∙_, refl, sym, ap}
 use borrow.Author.Needs.{needs}
 use Rattle.prepare.proofs.add_row.Statement.{statement}
 use Rattle.prepare.proofs.add_row.Tie as tie
@@ -18,11 +21,11 @@ end-of-requires : tie.Need-end-of-requires
 end-of-requires c κs = search needs
 
 build-at-requires : tie.Need-build-at-requires
-build-at-requires c κs = let g = c .before .before .before .before .before .before .before .before .before .before .args in
-    let p = c .before .before .before .before .before .before .before .before .before .before .pre in
+build-at-requires c κs = let g = c .before .before .before .before .before .before .before .before .before .before .before .args in
+    let p = c .before .before .before .before .before .before .before .before .before .before .before .pre in
     let r = raw (g .conditions .now) (g .weights .now) (g .thresholds .now) in
     let l = p .0 .lists in
-    let w = within r (g .t) (g .so) (g .row-conditions .now) (g .row-weights .now) (g .rows .now) (g .scratch .now) (p .0) (p .3) (p .1) in
+    let w = within r (g .t) (g .so) (g .row-conditions .now) (g .row-weights .now) (g .rows .now) (g .scratch .now) (g .heads .now) (p .0) (p .3) (p .1) in
     let rising = l .rising (g .t) (p .1) in
     let short = l .short (g .t) (p .1) in
     let inside = l .inside (g .t) (p .1) in
@@ -31,11 +34,11 @@ build-at-requires c κs = let g = c .before .before .before .before .before .bef
     let end = p .3 .end in
     let fit = terms-room r _ (g .t) l (p .1) in
     let room = p .0 .room in
-    (omega arith, omega arith, l .weighed, omega arith, omega arith, p .0 .even, p .0 .below, p .0 .words, marks-tail r (g .t) (g .so .rows) (g .scratch .now) (p .3 .marks) (omega arith))
+    (omega arith, omega arith, l .weighed, omega arith, omega arith, p .0 .even, p .0 .below, p .0 .words, marks-tail r (g .t) (g .so .rows) (g .scratch .now) (g .heads .now) (p .3 .marks) (omega arith))
 
-cast-t23 : tie.Need-cast-t23
-cast-t23 c = let g = c .before .before .before .before .before .before .before .before .before .before .before .before .before .before .before .before .before .args in
-    let p = c .before .before .before .before .before .before .before .before .before .before .before .before .before .before .before .before .before .pre in
+cast-t25 : tie.Need-cast-t25
+cast-t25 c = let g = c .before .before .before .before .before .before .before .before .before .before .before .before .before .before .before .before .before .before .args in
+    let p = c .before .before .before .before .before .before .before .before .before .before .before .before .before .before .before .before .before .before .pre in
     let r = raw (g .conditions .now) (g .weights .now) (g .thresholds .now) in
     let a = c .before .before .before .before .before .before .before .before .before .before .before .start-of .ensures in
     let e = c .before .before .before .before .before .before .before .before .before .before .end-of .ensures in
@@ -47,56 +50,80 @@ cast-t23 c = let g = c .before .before .before .before .before .before .before .
     record { fits = omega arith }
 
 mul-entry : tie.Need-mul-entry
-mul-entry c = let g = c .before .before .before .before .before .before .before .before .before .before .before .before .before .before .before .before .before .args in
-    let p = c .before .before .before .before .before .before .before .before .before .before .before .before .before .before .before .before .before .pre in
-    let w = within (raw (g .conditions .now) (g .weights .now) (g .thresholds .now)) (g .t) (g .so) (g .row-conditions .now) (g .row-weights .now) (g .rows .now) (g .scratch .now) (p .0) (p .3) (p .1) in
+mul-entry c = let g = c .before .before .before .before .before .before .before .before .before .before .before .before .before .before .before .before .before .before .args in
+    let p = c .before .before .before .before .before .before .before .before .before .before .before .before .before .before .before .before .before .before .pre in
+    let w = within (raw (g .conditions .now) (g .weights .now) (g .thresholds .now)) (g .t) (g .so) (g .row-conditions .now) (g .row-weights .now) (g .rows .now) (g .scratch .now) (g .heads .now) (p .0) (p .3) (p .1) in
     record { fits = omega arith }
 
 slice-set-from-entry : tie.Need-slice-set-from-entry
-slice-set-from-entry c = let g = c .before .before .before .before .before .before .before .before .before .before .before .before .before .before .before .before .before .args in
-    let p = c .before .before .before .before .before .before .before .before .before .before .before .before .before .before .before .before .before .pre in
-    let w = within (raw (g .conditions .now) (g .weights .now) (g .thresholds .now)) (g .t) (g .so) (g .row-conditions .now) (g .row-weights .now) (g .rows .now) (g .scratch .now) (p .0) (p .3) (p .1) in
+slice-set-from-entry c = let g = c .before .before .before .before .before .before .before .before .before .before .before .before .before .before .before .before .before .before .args in
+    let p = c .before .before .before .before .before .before .before .before .before .before .before .before .before .before .before .before .before .before .pre in
+    let w = within (raw (g .conditions .now) (g .weights .now) (g .thresholds .now)) (g .t) (g .so) (g .row-conditions .now) (g .row-weights .now) (g .rows .now) (g .scratch .now) (g .heads .now) (p .0) (p .3) (p .1) in
     w .row
 
-mul-scratch : tie.Need-mul-scratch
-mul-scratch c = let g = c .before .before .before .before .before .before .before .before .before .before .before .before .before .before .before .before .before .args in
-    let p = c .before .before .before .before .before .before .before .before .before .before .before .before .before .before .before .before .before .pre in
+link-row-requires : tie.Need-link-row-requires
+link-row-requires c κs = let g = c .before .before .before .before .before .before .before .before .before .before .before .before .before .before .before .before .before .before .before .args in
+    let p = c .before .before .before .before .before .before .before .before .before .before .before .before .before .before .before .before .before .before .before .pre in
     let s = print-small (raw (g .conditions .now) (g .weights .now) (g .thresholds .now)) (g .t) (p .0 .lists) (p .1) in
     let e = p .2 in
-    record { fits = omega arith }
+    let w = within (raw (g .conditions .now) (g .weights .now) (g .thresholds .now)) (g .t) (g .so) (g .row-conditions .now) (g .row-weights .now) (g .rows .now) (g .scratch .now) (g .heads .now) (p .0) (p .3) (p .1) in
+    let turn = w .turn in
+    let few = w .few in
+    (omega arith, omega arith, p .3 .marks .headed .wide)
+
+mul-scratch : tie.Need-mul-scratch
+mul-scratch c = let n = c .before .before .link-row .ensures .1 in record { fits = omega arith }
 
 add-scratch : tie.Need-add-scratch
-add-scratch c = let g = c .before .before .before .before .before .before .before .before .before .before .before .before .before .before .before .before .before .args in
-    let p = c .before .before .before .before .before .before .before .before .before .before .before .before .before .before .before .before .before .pre in
+add-scratch c = let g = c .before .before .before .before .before .before .before .before .before .before .before .before .before .before .before .before .before .before .before .before .before .before .args in
+    let p = c .before .before .before .before .before .before .before .before .before .before .before .before .before .before .before .before .before .before .before .before .before .before .pre in
     let s = print-small (raw (g .conditions .now) (g .weights .now) (g .thresholds .now)) (g .t) (p .0 .lists) (p .1) in
     let e = p .2 in
-    let w = within (raw (g .conditions .now) (g .weights .now) (g .thresholds .now)) (g .t) (g .so) (g .row-conditions .now) (g .row-weights .now) (g .rows .now) (g .scratch .now) (p .0) (p .3) (p .1) in
+    let n = c .before .before .link-row .ensures .1 in
     record { fits = omega arith }
 
 mul-scratch-2 : tie.Need-mul-scratch-2
-mul-scratch-2 c = let g = c .before .before .before .before .before .before .before .before .before .before .before .before .before .before .before .before .before .args in
-    let p = c .before .before .before .before .before .before .before .before .before .before .before .before .before .before .before .before .before .pre in
-    let w = within (raw (g .conditions .now) (g .weights .now) (g .thresholds .now)) (g .t) (g .so) (g .row-conditions .now) (g .row-weights .now) (g .rows .now) (g .scratch .now) (p .0) (p .3) (p .1) in
+mul-scratch-2 c = let g = c .before .before .before .before .before .before .before .before .before .before .before .before .before .before .before .before .before .before .before .before .before .before .args in
+    let p = c .before .before .before .before .before .before .before .before .before .before .before .before .before .before .before .before .before .before .before .before .before .before .pre in
+    let s = print-small (raw (g .conditions .now) (g .weights .now) (g .thresholds .now)) (g .t) (p .0 .lists) (p .1) in
+    let e = p .2 in
+    let n = c .before .before .link-row .ensures .1 in
+    record { fits = omega arith }
+
+add-scratch-2 : tie.Need-add-scratch-2
+add-scratch-2 c = let g = c .before .before .before .before .before .before .before .before .before .before .before .before .before .before .before .before .before .before .before .before .before .before .args in
+    let p = c .before .before .before .before .before .before .before .before .before .before .before .before .before .before .before .before .before .before .before .before .before .before .pre in
+    let s = print-small (raw (g .conditions .now) (g .weights .now) (g .thresholds .now)) (g .t) (p .0 .lists) (p .1) in
+    let e = p .2 in
+    let n = c .before .before .link-row .ensures .1 in
+    let w = within (raw (g .conditions .now) (g .weights .now) (g .thresholds .now)) (g .t) (g .so) (g .row-conditions .now) (g .row-weights .now) (g .rows .now) (g .scratch .now) (g .heads .now) (p .0) (p .3) (p .1) in
+    let turn = w .turn in
+    record { fits = omega arith }
+
+mul-scratch-3 : tie.Need-mul-scratch-3
+mul-scratch-3 c = let g = c .before .before .before .before .before .before .before .before .before .before .before .before .before .before .before .before .before .before .before .before .before .before .args in
+    let p = c .before .before .before .before .before .before .before .before .before .before .before .before .before .before .before .before .before .before .before .before .before .before .pre in
+    let w = within (raw (g .conditions .now) (g .weights .now) (g .thresholds .now)) (g .t) (g .so) (g .row-conditions .now) (g .row-weights .now) (g .rows .now) (g .scratch .now) (g .heads .now) (p .0) (p .3) (p .1) in
     record { fits = omega arith }
 
 slice-write-scratch : tie.Need-slice-write-scratch
-slice-write-scratch c = let g = c .before .before .before .before .before .before .before .before .before .before .before .before .before .before .before .before .before .args in
-    let p = c .before .before .before .before .before .before .before .before .before .before .before .before .before .before .before .before .before .pre in
-    let w = within (raw (g .conditions .now) (g .weights .now) (g .thresholds .now)) (g .t) (g .so) (g .row-conditions .now) (g .row-weights .now) (g .rows .now) (g .scratch .now) (p .0) (p .3) (p .1) in
-    let k = c .before .before .before .before .before .before .build-at .kept .1 .1 .1 .1 .1 .1 .1 .0 in
+slice-write-scratch c = let g = c .before .before .before .before .before .before .before .before .before .before .before .before .before .before .before .before .before .before .before .before .before .before .args in
+    let p = c .before .before .before .before .before .before .before .before .before .before .before .before .before .before .before .before .before .before .before .before .before .before .pre in
+    let w = within (raw (g .conditions .now) (g .weights .now) (g .thresholds .now)) (g .t) (g .so) (g .row-conditions .now) (g .row-weights .now) (g .rows .now) (g .scratch .now) (g .heads .now) (p .0) (p .3) (p .1) in
+    let k = c .before .before .before .before .before .before .before .before .before .before .build-at .kept .1 .1 .1 .1 .1 .1 .1 .0 in
     omega arith
 
-add-t24 : tie.Need-add-t24
-add-t24 c = let g = c .before .before .before .before .before .before .before .before .before .before .before .before .before .before .before .before .before .args in
-    let p = c .before .before .before .before .before .before .before .before .before .before .before .before .before .before .before .before .before .pre in
-    let w = within (raw (g .conditions .now) (g .weights .now) (g .thresholds .now)) (g .t) (g .so) (g .row-conditions .now) (g .row-weights .now) (g .rows .now) (g .scratch .now) (p .0) (p .3) (p .1) in
+add-t26 : tie.Need-add-t26
+add-t26 c = let g = c .before .before .before .before .before .before .before .before .before .before .before .before .before .before .before .before .before .before .before .before .before .before .args in
+    let p = c .before .before .before .before .before .before .before .before .before .before .before .before .before .before .before .before .before .before .before .before .before .before .pre in
+    let w = within (raw (g .conditions .now) (g .weights .now) (g .thresholds .now)) (g .t) (g .so) (g .row-conditions .now) (g .row-weights .now) (g .rows .now) (g .scratch .now) (g .heads .now) (p .0) (p .3) (p .1) in
     record { fits = omega arith }
 
 same-length : tie.Need-same-length
-same-length c = c .before .before .before .before .before .before .build-at .kept .1 .1 .1 .1 .1 .0
+same-length c = c .before .before .before .before .before .before .before .before .before .before .build-at .kept .1 .1 .1 .1 .1 .0
 
 same-length-2 : tie.Need-same-length-2
-same-length-2 c = c .before .before .before .before .before .before .build-at .kept .1 .1 .1 .1 .1 .1 .0
+same-length-2 c = c .before .before .before .before .before .before .before .before .before .before .build-at .kept .1 .1 .1 .1 .1 .1 .0
 
 same-length-3 : tie.Need-same-length-3
 same-length-3 c = search needs
@@ -104,19 +131,29 @@ same-length-3 c = search needs
 same-length-4 : tie.Need-same-length-4
 same-length-4 c = search needs
 
+same-length-5 : tie.Need-same-length-5
+same-length-5 c = search needs
+
 returns : tie.Need-returns
-returns c = let g = c .before .before .before .before .before .before .before .before .before .before .before .before .before .before .before .before .before .args in
-    let p = c .before .before .before .before .before .before .before .before .before .before .before .before .before .before .before .before .before .pre in
+returns c = let g = c .before .before .before .before .before .before .before .before .before .before .before .before .before .before .before .before .before .before .before .before .before .before .args in
+    let p = c .before .before .before .before .before .before .before .before .before .before .before .before .before .before .before .before .before .before .before .before .before .before .pre in
     let r = raw (g .conditions .now) (g .weights .now) (g .thresholds .now) in
-    let w = within r (g .t) (g .so) (g .row-conditions .now) (g .row-weights .now) (g .rows .now) (g .scratch .now) (p .0) (p .3) (p .1) in
+    let w = within r (g .t) (g .so) (g .row-conditions .now) (g .row-weights .now) (g .rows .now) (g .scratch .now) (g .heads .now) (p .0) (p .3) (p .1) in
     let l = p .0 .lists in
-    let a = c .before .before .before .before .before .before .before .before .before .before .before .start-of .ensures in
-    let e = c .before .before .before .before .before .before .before .before .before .before .end-of .ensures in
-    let s = c .before .before .before .before .before .before .build-at .ensures in
-    let x = terms (stretch (c .before .before .before .before .before .before .before .before .before .before .before .start-of .result) (c .before .before .before .before .before .before .before .before .before .before .end-of .result) (g .conditions .now)) (stretch (c .before .before .before .before .before .before .before .before .before .before .before .start-of .result) (c .before .before .before .before .before .before .before .before .before .before .end-of .result) (g .weights .now)) in (
-      placing-new r (g .t) (g .so) (g .row-conditions .now) (g .row-weights .now) (g .scratch .now) (p .3) l (p .1) (c .before .before .before .before .before .before .before .before .before .before .before .start-of .result) (c .before .before .before .before .before .before .before .before .before .before .end-of .result) x a e (list-is r (g .t) _ _ a e) (s .1) (p .4)
-          (c .before .before .before .before .before .before .build-at .result) (g .print * 1024 + g .t) _ _ _ (p .0 .room) (p .0 .even) (w .word) (s .0)
-          (c .before .before .before .before .before .before .build-at .kept .1 .1 .1 .1 .1 .0) (s .2) (c .before .before .before .before .before .before .build-at .kept .1 .1 .1 .1 .1 .1 .0) (s .3) (mark-first (g .print) (g .t) (w .turn)) (mark-print (g .print) (g .t) (w .turn) ∙ p .2) (s .4),
+    let a = c .before .before .before .before .before .before .before .before .before .before .before .before .before .before .before .start-of .ensures in
+    let e = c .before .before .before .before .before .before .before .before .before .before .before .before .before .before .end-of .ensures in
+    let s = c .before .before .before .before .before .before .before .before .before .before .build-at .ensures in
+    let q = c .before .before .link-row .ensures in
+    let n = c .before .before .link-row .result in
+    let small = print-small r (g .t) l (p .1) in
+    let pe = p .2 in
+    let f : printIn (mark n (g .print) (g .t)) ≡ g .print = mark-print n (g .print) (g .t) (omega arith) (w .turn) in
+    let x = terms (stretch (c .before .before .before .before .before .before .before .before .before .before .before .before .before .before .before .start-of .result) (c .before .before .before .before .before .before .before .before .before .before .before .before .before .before .end-of .result) (g .conditions .now)) (stretch (c .before .before .before .before .before .before .before .before .before .before .before .before .before .before .before .start-of .result) (c .before .before .before .before .before .before .before .before .before .before .before .before .before .before .end-of .result) (g .weights .now)) in (
+      placing-new r (g .t) (g .so) (g .row-conditions .now) (g .row-weights .now) (g .scratch .now) (g .heads .now) (p .3) l (p .1) (c .before .before .before .before .before .before .before .before .before .before .before .before .before .before .before .start-of .result) (c .before .before .before .before .before .before .before .before .before .before .before .before .before .before .end-of .result) x a e (list-is r (g .t) _ _ a e) (s .1) (p .4)
+          (c .before .before .before .before .before .before .before .before .before .before .build-at .result) (mark n (g .print) (g .t)) _ _ _ _ (p .0 .room) (p .0 .even) (w .word) (s .0)
+          (c .before .before .before .before .before .before .before .before .before .before .build-at .kept .1 .1 .1 .1 .1 .0) (s .2) (c .before .before .before .before .before .before .before .before .before .before .build-at .kept .1 .1 .1 .1 .1 .1 .0) (s .3) (mark-first n (g .print) (g .t) (w .turn)) (f ∙ p .2)
+          (mark-next n (g .print) (g .t) (omega arith) (w .turn) ∙ q .0 ∙ ap (λ (h : ℕ). getD (g .heads .now) (classOf h) 0) (sym f)) (s .4)
+          (q .2 ∙ ap (λ (h : ℕ). set (g .heads .now) (classOf h) (g .so .rows + 1)) (sym f)),
       refl,
     )
 
@@ -127,16 +164,20 @@ add-row-spec =
     start-of-requires
     end-of-requires
     build-at-requires
-    cast-t23
+    cast-t25
     mul-entry
     slice-set-from-entry
+    link-row-requires
     mul-scratch
     add-scratch
     mul-scratch-2
+    add-scratch-2
+    mul-scratch-3
     slice-write-scratch
-    add-t24
+    add-t26
     same-length
     same-length-2
     same-length-3
     same-length-4
+    same-length-5
     returns)

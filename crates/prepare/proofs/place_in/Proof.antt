@@ -18,18 +18,18 @@ use Rattle.prepare.proofs.place_in.Statement.{statement}
 use Rattle.prepare.proofs.place_in.Tie as tie
 
 slice-relend-prefix-place-all : tie.Need-slice-relend-prefix-place-all
-slice-relend-prefix-place-all c = c .before .before .before .before .before .pre .conditions
+slice-relend-prefix-place-all c = c .before .before .before .before .before .before .pre .conditions
 
 slice-aggregate-place-all : tie.Need-slice-aggregate-place-all
-slice-aggregate-place-all c = let g = c .before .before .before .before .before .before .args in
-    sym (length-take-le (length (g .conditions .now)) (g .row-conditions .now) (c .before .before .before .before .before .before .pre .conditions))
+slice-aggregate-place-all c = let g = c .before .before .before .before .before .before .before .args in
+    sym (length-take-le (length (g .conditions .now)) (g .row-conditions .now) (c .before .before .before .before .before .before .before .pre .conditions))
 
 slice-relend-prefix-place-all-2 : tie.Need-slice-relend-prefix-place-all-2
-slice-relend-prefix-place-all-2 c = c .before .before .before .before .before .before .pre .weights
+slice-relend-prefix-place-all-2 c = c .before .before .before .before .before .before .before .pre .weights
 
 slice-aggregate-place-all-2 : tie.Need-slice-aggregate-place-all-2
-slice-aggregate-place-all-2 c = let g = c .before .before .before .before .before .before .before .args in
-    sym (length-take-le (length (g .conditions .now)) (g .row-weights .now) (c .before .before .before .before .before .before .before .pre .weights))
+slice-aggregate-place-all-2 c = let g = c .before .before .before .before .before .before .before .before .args in
+    sym (length-take-le (length (g .conditions .now)) (g .row-weights .now) (c .before .before .before .before .before .before .before .before .pre .weights))
 
 sub-place-all : tie.Need-sub-place-all
 sub-place-all c = search needs
@@ -41,9 +41,9 @@ part-place-all-end : tie.Need-part-place-all-end
 part-place-all-end c = search needs
 
 place-all-requires : tie.Need-place-all-requires
-place-all-requires c κs = let g = c .before .before .before .before .before .before .before .before .before .before .args in
+place-all-requires c κs = let g = c .before .before .before .before .before .before .before .before .before .before .before .before .args in
     let r = raw (g .conditions .now) (g .weights .now) (g .thresholds .now) in
-    open-ready r (g .row-conditions .now) (g .row-weights .now) (g .rows .now) (g .nodes .now) (g .scratch .now) (c .before .before .before .before .before .before .before .before .before .before .pre)
+    open-ready r (g .row-conditions .now) (g .row-weights .now) (g .rows .now) (g .nodes .now) (g .scratch .now) (g .heads .now) (c .before .before .before .before .before .before .before .before .before .before .before .before .pre)
 
 same-length : tie.Need-same-length
 same-length c = search needs
@@ -60,11 +60,14 @@ same-length-4 c = search needs
 same-length-5 : tie.Need-same-length-5
 same-length-5 c = search needs
 
+same-length-6 : tie.Need-same-length-6
+same-length-6 c = search needs
+
 returns : tie.Need-returns
-returns c = let g = c .before .before .before .before .before .before .before .before .before .before .before .before .before .before .before .before .before .before .before .args in
-    let p = c .before .before .before .before .before .before .before .before .before .before .before .before .before .before .before .before .before .before .before .pre in
+returns c = let g = c .before .before .before .before .before .before .before .before .before .before .before .before .before .before .before .before .before .before .before .before .before .before .before .args in
+    let p = c .before .before .before .before .before .before .before .before .before .before .before .before .before .before .before .before .before .before .before .before .before .before .before .pre in
     let r = raw (g .conditions .now) (g .weights .now) (g .thresholds .now) in
-    let s = c .before .before .before .before .before .before .before .before .place-all .ensures in
+    let s = c .before .before .before .before .before .before .before .before .before .before .place-all .ensures in
     let J = joinAll (termsTo r (length (g .thresholds .now))) in
     let fit = terms-fit r (length (g .thresholds .now)) (p .lists) in
     let lc = length-map J (λ (t : Term). t .condition) in
@@ -80,6 +83,7 @@ returns c = let g = c .before .before .before .before .before .before .before .b
         named = s .0 .named;
       },
       tail-kept (g .scratch .now) _ 1024 (s .1),
+      s .2,
     )
 
 pub place-in-spec : {M : Type 1} → statement M
@@ -99,4 +103,5 @@ place-in-spec =
     same-length-3
     same-length-4
     same-length-5
+    same-length-6
     returns)

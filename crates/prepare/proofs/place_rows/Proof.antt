@@ -13,62 +13,65 @@ use Rattle.prepare.proofs.place_rows.Statement.{statement}
 use Rattle.prepare.proofs.place_rows.Tie as tie
 
 abbrev Inv-loop : tie.InvT-loop
-Inv-loop conditions weights thresholds row-conditions₀ row-weights₀ rows₀ nodes₀ scratch₀ so₀ t₀ row-conditions row-weights rows nodes scratch so t = (t ≤ length thresholds) × (Same row-conditions₀ row-weights₀ rows₀ nodes₀ scratch₀ row-conditions row-weights rows nodes scratch)
-    × (Placing (raw conditions weights thresholds) t so row-conditions row-weights scratch)
+Inv-loop conditions weights thresholds row-conditions₀ row-weights₀ rows₀ nodes₀ scratch₀ heads₀ so₀ t₀ row-conditions row-weights rows nodes scratch heads so t = (t ≤ length thresholds) × (Same row-conditions₀ row-weights₀ rows₀ nodes₀ scratch₀ heads₀ row-conditions row-weights rows nodes scratch heads)
+    × (Placing (raw conditions weights thresholds) t so row-conditions row-weights scratch heads)
     × (rows ≡ over (rowEnds (raw conditions weights thresholds) t) rows₀) × (nodes ≡ nodesTo (raw conditions weights thresholds) nodes₀ t)
 
 abbrev μ-loop : tie.MeasureT-loop
-μ-loop conditions weights thresholds row-conditions₀ row-weights₀ rows₀ nodes₀ scratch₀ so₀ t₀ row-conditions row-weights rows nodes scratch so t = length thresholds - t
+μ-loop conditions weights thresholds row-conditions₀ row-weights₀ rows₀ nodes₀ scratch₀ heads₀ so₀ t₀ row-conditions row-weights rows nodes scratch heads so t = length thresholds - t
 
 loop-holds : tie.Need-loop-holds Inv-loop μ-loop
-loop-holds c = let g = c .before .before .before .before .before .args in
-    let p = c .before .before .before .before .before .pre in
+loop-holds c = let g = c .before .before .before .before .before .before .args in
+    let p = c .before .before .before .before .before .before .pre in
     let r = raw (g .conditions .now) (g .weights .now) (g .thresholds .now) in (
       omega arith,
-      record { row-conditions = refl; row-weights = refl; rows = refl; nodes = refl; scratch = refl },
-      placing-start r (g .row-conditions .now) (g .row-weights .now) (g .scratch .now) (p .2) (p .3) (p .4),
+      record { row-conditions = refl; row-weights = refl; rows = refl; nodes = refl; scratch = refl; heads = refl },
+      placing-start r (g .row-conditions .now) (g .row-weights .now) (g .scratch .now) (g .heads .now) (p .2) (p .3) (p .4) (p .5) (p .6),
       rows-start r (g .rows .now),
       nodes-start r (g .nodes .now),
     )
 
 place-one-requires : tie.Need-place-one-requires Inv-loop μ-loop
-place-one-requires c κs = let g = c .before .before .before .before .before .before .before .before .before .before .before .before .args in
-    let p = c .before .before .before .before .before .before .before .before .before .before .before .before .pre in
-    let w = c .before .before .before .before .before .before .loop in
+place-one-requires c κs = let g = c .before .before .before .before .before .before .before .before .before .before .before .before .before .before .args in
+    let p = c .before .before .before .before .before .before .before .before .before .before .before .before .before .before .pre in
+    let w = c .before .before .before .before .before .before .before .loop in
     let r = raw (g .conditions .now) (g .weights .now) (g .thresholds .now) in
     let k = w .inv .1 in
     let n = k .nodes in
-    let h = p .1 (w .t) (c .before .before .before .before .before .loop-test .taken) in (
+    let h = p .1 (w .t) (c .before .before .before .before .before .before .loop-test .taken) in (
       ready-by r (g .row-conditions .now) (g .row-weights .now) (g .rows .now) (g .scratch .now) (w .row-conditions) (w .row-weights) (w .rows) (w .scratch)
           (k .row-conditions) (k .row-weights) (k .rows) (k .scratch) (p .0),
-      c .before .before .before .before .before .loop-test .taken,
+      c .before .before .before .before .before .before .loop-test .taken,
       omega arith,
       w .inv .2,
     )
 
 add-t : tie.Need-add-t Inv-loop μ-loop
-add-t c = search needs
+add-t c = let h = c .before .before .before .before .before .before .before .before .before .before .before .before .before .before .before .before .before .loop-test .taken in
+    let many = c .before .before .before .before .before .before .before .before .before .before .before .before .before .before .before .before .before .before .before .before .before .before .before .before .before .pre .0 .lists .many in
+    record { fits = omega arith }
 
 loop-less : tie.Need-loop-less Inv-loop μ-loop
 loop-less c = search needs
 
 loop-again : tie.Need-loop-again Inv-loop μ-loop
-loop-again c = let g = c .before .before .before .before .before .before .before .before .before .before .before .before .before .before .before .before .before .before .before .before .before .args in
-    let p = c .before .before .before .before .before .before .before .before .before .before .before .before .before .before .before .before .before .before .before .before .before .pre in
-    let w = c .before .before .before .before .before .before .before .before .before .before .before .before .before .before .before .loop in
+loop-again c = let g = c .before .before .before .before .before .before .before .before .before .before .before .before .before .before .before .before .before .before .before .before .before .before .before .before .before .args in
+    let p = c .before .before .before .before .before .before .before .before .before .before .before .before .before .before .before .before .before .before .before .before .before .before .before .before .before .pre in
+    let w = c .before .before .before .before .before .before .before .before .before .before .before .before .before .before .before .before .before .before .loop in
     let r = raw (g .conditions .now) (g .weights .now) (g .thresholds .now) in
     let k = w .inv .1 in
-    let s = c .before .before .before .before .before .before .before .before .place-one .ensures in
-    let h = c .before .before .before .before .before .before .before .before .before .before .before .before .before .before .loop-test .taken in
+    let s = c .before .before .before .before .before .before .before .before .before .before .place-one .ensures in
+    let h = c .before .before .before .before .before .before .before .before .before .before .before .before .before .before .before .before .before .loop-test .taken in
     let few = raws-few r (w .t) in
     let many = p .0 .many in (
       omega arith,
       record {
-        row-conditions = c .before .before .before .before .before .before .before .before .place-one .kept .1 .1 .1 .1 .1 .0 ∙ k .row-conditions;
-        row-weights = c .before .before .before .before .before .before .before .before .place-one .kept .1 .1 .1 .1 .1 .1 .0 ∙ k .row-weights;
-        rows = c .before .before .before .before .before .before .before .before .place-one .kept .1 .1 .1 .1 .1 .1 .1 .0 ∙ k .rows;
-        nodes = c .before .before .before .before .before .before .before .before .place-one .kept .1 .1 .1 .1 .1 .1 .1 .1 .0 ∙ k .nodes;
-        scratch = c .before .before .before .before .before .before .before .before .place-one .kept .1 .1 .1 .1 .1 .1 .1 .1 .1 .0 ∙ k .scratch;
+        row-conditions = c .before .before .before .before .before .before .before .before .before .before .place-one .kept .1 .1 .1 .1 .1 .0 ∙ k .row-conditions;
+        row-weights = c .before .before .before .before .before .before .before .before .before .before .place-one .kept .1 .1 .1 .1 .1 .1 .0 ∙ k .row-weights;
+        rows = c .before .before .before .before .before .before .before .before .before .before .place-one .kept .1 .1 .1 .1 .1 .1 .1 .0 ∙ k .rows;
+        nodes = c .before .before .before .before .before .before .before .before .before .before .place-one .kept .1 .1 .1 .1 .1 .1 .1 .1 .0 ∙ k .nodes;
+        scratch = c .before .before .before .before .before .before .before .before .before .before .place-one .kept .1 .1 .1 .1 .1 .1 .1 .1 .1 .0 ∙ k .scratch;
+        heads = c .before .before .before .before .before .before .before .before .before .before .place-one .kept .1 .1 .1 .1 .1 .1 .1 .1 .1 .1 .0 ∙ k .heads;
       },
       s .0,
       rows-next r (w .t) (g .rows .now) (w .rows) _ (omega arith) (w .inv .3) (s .1),
@@ -90,14 +93,17 @@ same-length-4 c = c .before .loop .inv .1 .nodes
 same-length-5 : tie.Need-same-length-5 Inv-loop μ-loop
 same-length-5 c = c .before .loop .inv .1 .scratch
 
+same-length-6 : tie.Need-same-length-6 Inv-loop μ-loop
+same-length-6 c = c .before .loop .inv .1 .heads
+
 returns : tie.Need-returns Inv-loop μ-loop
-returns c = let g = c .before .before .before .before .before .before .before .args in
+returns c = let g = c .before .before .before .before .before .before .before .before .args in
     let w = c .before .loop in
     let r = raw (g .conditions .now) (g .weights .now) (g .thresholds .now) in
     let h = c .loop-test .left in
     let a = w .inv .0 in
     let e : w .t ≡ length (g .thresholds .now) = omega arith in
-    placed-end r (w .t) (length (g .thresholds .now)) (w .so) (w .row-conditions) (w .row-weights) (w .scratch) (g .rows .now) (w .rows) (g .nodes .now) (w .nodes) e (w .inv .2) (w .inv .3) (w .inv .4)
+    placed-end r (w .t) (length (g .thresholds .now)) (w .so) (w .row-conditions) (w .row-weights) (w .scratch) (w .heads) (g .rows .now) (w .rows) (g .nodes .now) (w .nodes) e (w .inv .2) (w .inv .3) (w .inv .4)
 
 pub place-rows-spec : {M : Type 1} → statement M
 place-rows-spec =
@@ -115,4 +121,5 @@ place-rows-spec =
     same-length-3
     same-length-4
     same-length-5
+    same-length-6
     returns)

@@ -1,65 +1,98 @@
 -- `thresholds::find_row` meets its contract. Assumes nothing.
-use Rattle.thresholds.specs.RawLaws.{number-here, number-on, number-done, found-at, found-nothing}
-use native.Mathlib.Nat.{add-zero, add-assoc, zero-add}
-use Rattle.thresholds.specs.Raw.{raw, listAt, markedList, numberIn}
-use mathlib.Core.Path.{_≡_, sym, ap, _∙_}
-use mathlib.Core.List.{map}
-use Prim.Native.Nat.{ℕ, _+_, _-_, _≤_}
+use Rattle.thresholds.specs.ChainLaws.{print-small, search-start, search-on, search-found, search-none}
+use Rattle.thresholds.specs.Chain.{classOf, Searching}
+use Rattle.thresholds.specs.Raw.{raw, listAt}
+use mathlib.Core.Path.{refl, sym, ap, _∙_}
+use Prim.Native.Nat.{ℕ, _-_, _<_}
 use native.Mathlib.Omega.{arith}
-use lib.ListN.{length, drop}
+use lib.ListN.{length, getD}
 use borrow.Author.Needs.{needs}
 use Rattle.thresholds.proofs.find_row.Statement.{statement}
 use Rattle.thresholds.proofs.find_row.Tie as tie
 
 abbrev Inv-loop : tie.InvT-loop
-Inv-loop conditions weights thresholds marks print t k₀ k = (k ≤ length marks) × (numberIn (map (markedList (raw conditions weights thresholds)) marks) (listAt (raw conditions weights thresholds) t) ≡ k + numberIn (map (markedList (raw conditions weights thresholds)) (drop k marks)) (listAt (raw conditions weights thresholds) t))
+Inv-loop conditions weights thresholds marks heads print t class k₀ k = Searching (raw conditions weights thresholds) marks (listAt (raw conditions weights thresholds) t) k
 
 abbrev μ-loop : tie.MeasureT-loop
-μ-loop conditions weights thresholds marks print t k₀ k = length marks - k
+μ-loop conditions weights thresholds marks heads print t class k₀ k = k
+
+class-of-requires : tie.Need-class-of-requires Inv-loop μ-loop
+class-of-requires c κs = let g = c .before .before .before .before .args in
+    let p = c .before .before .before .before .pre in
+    let e = p .5 in
+    let h = print-small (raw (g .conditions .now) (g .weights .now) (g .thresholds .now)) (g .t) (p .0) (p .1) in
+    omega arith
+
+mul-place : tie.Need-mul-place Inv-loop μ-loop
+mul-place c = search needs
+
+shared-slice-read-place : tie.Need-shared-slice-read-place Inv-loop μ-loop
+shared-slice-read-place c = let w = c .before .before .before .before .before .before .pre .3 .wide in let e = c .before .class-of .ensures .1 in omega arith
+
+place-requires : tie.Need-place-requires Inv-loop μ-loop
+place-requires c κs = search needs
 
 loop-holds : tie.Need-loop-holds Inv-loop μ-loop
-loop-holds c = (search needs, sym (zero-add _))
+loop-holds c = let g = c .before .before .before .before .before .before .before .args in
+    let p = c .before .before .before .before .before .before .before .pre in
+    let r = raw (g .conditions .now) (g .weights .now) (g .thresholds .now) in
+    search-start r (length (g .thresholds .now)) (g .marks .now) (listAt r (g .t)) (p .2) (g .heads .now) _ (p .3)
+    (c .place .ensures .0 ∙ ap (λ (h : ℕ). getD (g .heads .now) h 0) (c .before .before .class-of .ensures .0 ∙ ap classOf (p .5)))
 
-mul-is-marked : tie.Need-mul-is-marked Inv-loop μ-loop
-mul-is-marked c = search needs
+sub-mark : tie.Need-sub-mark Inv-loop μ-loop
+sub-mark c = search needs
 
-shared-slice-read-is-marked : tie.Need-shared-slice-read-is-marked Inv-loop μ-loop
-shared-slice-read-is-marked c = search needs
+mul-mark : tie.Need-mul-mark Inv-loop μ-loop
+mul-mark c = let h = c .loop-test .taken in
+    let f = c .before .loop .inv .few in
+    let l : c .before .loop .k - 1 < length (c .before .before .before .before .before .before .before .before .before .args .marks .now) = omega arith in
+    search needs
+
+shared-slice-read-mark : tie.Need-shared-slice-read-mark Inv-loop μ-loop
+shared-slice-read-mark c = let h = c .before .loop-test .taken in
+    let f = c .before .before .loop .inv .few in
+    omega arith
 
 is-marked-requires : tie.Need-is-marked-requires Inv-loop μ-loop
-is-marked-requires c κs = let p = c .before .before .before .before .before .before .pre in
-    let k = c .before .before .loop .k in
-    let h = c .before .loop-test .taken in
-    (p .0, p .1, p .2 .first k h, p .2 .print k h, p .3)
+is-marked-requires c κs = let p = c .before .before .before .before .before .before .before .before .before .before .pre in
+    let k = c .before .before .loop .k - 1 in
+    let t = c .before .loop-test .taken in
+    let f = c .before .before .loop .inv .few in
+    let h : k < length (c .before .before .before .before .before .before .before .before .before .before .args .marks .now) = omega arith in
+    (p .0, p .1, p .2 .first k h, p .2 .print k h, p .5)
+
+sub-t20 : tie.Need-sub-t20 Inv-loop μ-loop
+sub-t20 c = let h = c .before .before .before .loop-test .taken in omega arith
 
 returns : tie.Need-returns Inv-loop μ-loop
-returns c = let g = c .before .before .before .before .before .before .before .before .args in
-    let w = c .before .before .before .before .loop in
+returns c = let g = c .before .before .before .before .before .before .before .before .before .before .before .before .args in
+    let p = c .before .before .before .before .before .before .before .before .before .before .before .before .pre in
     let r = raw (g .conditions .now) (g .weights .now) (g .thresholds .now) in
-    let h = c .before .before .before .loop-test .taken in
-    sym (found-at _ (w .k) (length (g .marks .now))
-    (w .inv .1 ∙ ap (λ (n : ℕ). w .k + n) (number-here r (g .marks .now) (listAt r (g .t)) (w .k) h (sym (c .before .is-marked .ensures) ∙ c .if1 .taken)) ∙ add-zero (w .k)) h)
-
-add-k : tie.Need-add-k Inv-loop μ-loop
-add-k c = search needs
+    let w = c .before .before .before .before .loop in
+    let t = c .before .before .before .loop-test .taken in
+    let f = w .inv .few in
+    search-found r (length (g .thresholds .now)) (g .marks .now) (listAt r (g .t)) (p .2) (p .4) (w .k - 1) (omega arith) (sym (c .before .is-marked .ensures) ∙ c .if1 .taken)
 
 loop-less : tie.Need-loop-less Inv-loop μ-loop
-loop-less c = search needs
+loop-less c = let g = c .before .before .before .before .before .before .before .before .before .before .before .before .args in
+    let p = c .before .before .before .before .before .before .before .before .before .before .before .before .pre in
+    let r = raw (g .conditions .now) (g .weights .now) (g .thresholds .now) in
+    let w = c .before .before .before .before .loop in
+    search-on r (length (g .thresholds .now)) (g .marks .now) (listAt r (g .t)) (p .2) (w .k) _ (w .inv) (c .before .before .before .loop-test .taken) (sym (c .before .is-marked .ensures) ∙ c .if1 .left) refl .1
 
 loop-again : tie.Need-loop-again Inv-loop μ-loop
-loop-again c = let g = c .before .before .before .before .before .before .before .before .args in
-    let w = c .before .before .before .before .loop in
+loop-again c = let g = c .before .before .before .before .before .before .before .before .before .before .before .before .args in
+    let p = c .before .before .before .before .before .before .before .before .before .before .before .before .pre in
     let r = raw (g .conditions .now) (g .weights .now) (g .thresholds .now) in
-    let h = c .before .before .before .loop-test .taken in
-    (search needs, w .inv .1 ∙ ap (λ (n : ℕ). w .k + n) (number-on r (g .marks .now) (listAt r (g .t)) (w .k) h (sym (c .before .is-marked .ensures) ∙ c .if1 .left)) ∙ sym (add-assoc (w .k) 1 _))
+    let w = c .before .before .before .before .loop in
+    search-on r (length (g .thresholds .now)) (g .marks .now) (listAt r (g .t)) (p .2) (w .k) _ (w .inv) (c .before .before .before .loop-test .taken) (sym (c .before .is-marked .ensures) ∙ c .if1 .left) refl .0
 
 returns-2 : tie.Need-returns-2 Inv-loop μ-loop
-returns-2 c = let g = c .before .before .before .before .before .args in
-    let w = c .before .loop in
+returns-2 c = let g = c .before .before .before .before .before .before .before .before .before .args in
+    let p = c .before .before .before .before .before .before .before .before .before .pre in
     let r = raw (g .conditions .now) (g .weights .now) (g .thresholds .now) in
     let h = c .loop-test .left in
-    sym (found-nothing _ (length (g .marks .now))
-    (w .inv .1 ∙ ap (λ (n : ℕ). w .k + n) (number-done r (g .marks .now) (listAt r (g .t)) (w .k) h) ∙ omega arith))
+    search-none r (length (g .thresholds .now)) (g .marks .now) (listAt r (g .t)) (p .2) (c .before .loop .k) (omega arith) (c .before .loop .inv)
 
 pub find-row-spec : {M : Type 1} → statement M
 find-row-spec =
@@ -67,12 +100,17 @@ find-row-spec =
     (tie.spec
     Inv-loop
     μ-loop
+    class-of-requires
+    mul-place
+    shared-slice-read-place
+    place-requires
     loop-holds
-    mul-is-marked
-    shared-slice-read-is-marked
+    sub-mark
+    mul-mark
+    shared-slice-read-mark
     is-marked-requires
+    sub-t20
     returns
-    add-k
     loop-less
     loop-again
     returns-2)

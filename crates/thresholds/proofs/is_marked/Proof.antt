@@ -1,9 +1,9 @@
 -- `thresholds::is_marked` meets its contract. Assumes nothing.
-use Rattle.thresholds.specs.RawLaws.{list-is, prints-differ}
+use Rattle.thresholds.specs.RawLaws.{list-is}
+use Rattle.thresholds.specs.ChainLaws.{prints-differ}
 use Rattle.thresholds.specs.Raw.{raw, startOf, endOf, listAt}
 use Rattle.row.specs.Terms.{sameTerms}
 use mathlib.Core.Path.{_≡_, sym, ap₂, _∙_}
-use mathlib.Core.List.{[]}
 use Prim.Native.Nat.{_%_}
 use native.Mathlib.Omega.{arith}
 use borrow.Author.Needs.{needs}
@@ -14,7 +14,7 @@ returns : tie.Need-returns
 returns c = let g = c .before .before .before .args in
     let p = c .before .before .before .pre in
     let r = raw (g .conditions .now) (g .weights .now) (g .thresholds .now) in
-    sym (prints-differ r [] (listAt r (g .t)) (g .mark) (p .3) (λ e. c .if1 .taken (e ∙ sym (p .4))))
+    sym (prints-differ r (g .mark) (listAt r (g .t)) (p .3) (λ e. c .if1 .taken (e ∙ sym (p .4))))
 
 start-of-requires : tie.Need-start-of-requires
 start-of-requires c κs = search needs

@@ -1,0 +1,199 @@
+-- What the records of a whole input have to do with those that were taken: they begin with them, and go on behind a refusal 9 only
+-- where one of them contradicted. The job of a sealed file is the one that is read on to the end.
+use Prim.Native.Nat.{ℕ, zero, suc, _+_}
+use native.Mathlib.Omega.{arith}
+use mathlib.Core.Path.{_≡_, refl, sym, ap, _∙_}
+use mathlib.Core.Bool.{Bool, true, false, cond, not, _||_}
+use mathlib.Core.List.{List, [], _∷_, _++_, append-assoc, append-nil}
+use mathlib.Core.Logic.{_⊎_, inl, inr, ⊎-elim, _≢_}
+use lib.ListN.{length, drop}
+use lib.Dec.{eqb, ltb}
+use borrow.Author.Tests.{eqb-false}
+use Rattle.numeric.specs.Threshold.{term, Threshold, Job}
+use Rattle.numeric.specs.Area.{weightOfArea}
+use Rattle.planner.specs.Record.{Record, header, opens, adds, areas, seal, mark, settle, sift, unknown, kindOf, bodyLength}
+use Rattle.planner.specs.File.{File, begun, Check, check, first, refusal, wrongTurn, noSuchNode, notRising, badBound, badValue, tooMany, isEmptyList, addTerm, apply, settledFile, siftedFile, Outcome, outcome, recordAt, unknownKind, cutBody, refusalAt, readFrom, fileOf, planned, after}
+use Rattle.follows.specs.Answers.{clash, or-false, not-false}
+use Rattle.settles.specs.Records.{Taken, taken}
+use Rattle.demands.specs.Reading.{Decoded, records, damaged, decodeFrom, decoded, plainly, plainlyAll, Passes}
+
+-- ---- READING
+
+listOf : Decoded → List Record
+listOf (records rs) = rs
+listOf damaged = []
+
+isWhole : Decoded → Bool
+isWhole (records rs) = true
+isWhole damaged = false
+
+records-same : (rs qs : List Record) → records rs ≡ records qs → rs ≡ qs
+unfolding listOf
+records-same rs qs e = ap listOf e
+
+not-damaged : (rs : List Record) → damaged ≡ records rs → ⊥
+unfolding isWhole
+not-damaged rs e = clash false (ap isWhole e) refl
+
+-- what is taken stands first
+extends : (n : ℕ) (bytes : List ℕ) (done all : List Record) → decodeFrom n bytes done ≡ records all → (rest : List Record) × (all ≡ done ++ rest)
+unfolding decodeFrom
+extends zero bytes done all e = ([], sym (records-same done all e) ∙ sym (append-nil done))
+extends (suc n) [] done all e = ([], sym (records-same done all e) ∙ sym (append-nil done))
+extends (suc n) (kind ∷ bytes) done all e = by (λ b t q. extends n b t all q) (unknownKind kind || cutBody kind bytes) e
+  where
+    x : Record
+    x = recordAt kind bytes
+
+    by : ((b : List ℕ) (t : List Record) → decodeFrom n b t ≡ records all → (rest : List Record) × (all ≡ t ++ rest)) → (c : Bool)
+        → _≡_ {A = Decoded} (elim c [ true ↦ damaged | false ↦ decodeFrom n (drop (bodyLength (kindOf kind)) bytes) (done ++ (x ∷ [])) ]) (records all) → (rest : List Record) × (all ≡ done ++ rest)
+    by ih true q = absurd (not-damaged all q)
+    by ih false q = let a = ih _ _ q in (x ∷ a .0, a .1 ∙ append-assoc done (x ∷ []) (a .0))
+
+-- 9 is given only behind a contradiction
+skip : (b : Bool) (n : ℕ) (cs : List Check) → n ≢ 9 → first (check b n ∷ cs) ≡ 9 → first cs ≡ 9
+unfolding first
+skip true n cs h e = absurd (h e)
+skip false n cs h e = e
+
+nine : (b : Bool) (cs : List Check) → first (check b 9 ∷ cs) ≡ 9 → (b ≡ true) ⊎ (first cs ≡ 9)
+unfolding first
+nine true cs e = inl refl
+nine false cs e = inr e
+
+none-nine : first [] ≡ 9 → ⊥
+unfolding first
+none-nine e = omega arith
+
+refusal-nine : (f : File) (r : Record) → refusal f r ≡ 9 → f .contradicted ≡ true
+unfolding refusal
+refusal-nine f r h =
+    ⊎-elim (λ (e : f .contradicted ≡ true). e)
+    (λ e. absurd (none-nine (skip (tooMany f r) 4 _ (λ q. omega arith) (skip (badValue r) 8 _ (λ q. omega arith) (skip (badBound r) 7 _ (λ q. omega arith)
+    (skip (notRising f r) 6 _ (λ q. omega arith) (skip (noSuchNode f r) 5 _ (λ q. omega arith) e)))))))
+    (nine (f .contradicted) _ (skip (wrongTurn f r) 3 _ (λ q. omega arith) h))
+
+refused-nine : (f : File) (kind : ℕ) (bytes : List ℕ) → refusalAt f kind bytes ≡ 9 → f .contradicted ≡ true
+refused-nine f kind bytes h = refusal-nine f (recordAt kind bytes) (by (unknownKind kind) (cutBody kind bytes) h)
+  where
+    by : (a b : Bool) → _≡_ {A = ℕ} (cond a 2 (cond b 1 (refusal f (recordAt kind bytes)))) 9 → refusal f (recordAt kind bytes) ≡ 9
+    by true b e = absurd (omega arith)
+    by false true e = absurd (omega arith)
+    by false false e = e
+
+-- An outcome over all records of an input.
+pub record Over (all : List Record) (o : Outcome) : Type 0 where
+  pub rest : List Record
+  pub begins : all ≡ o .records ++ rest
+  pub accepted : o .refused ≡ 0 → all ≡ o .records
+  pub broken : o .refused ≡ 9 → o .file .contradicted ≡ true
+
+ended : (f : File) (done all : List Record) (o : ℕ) → all ≡ done → Over all (outcome f done 0 o)
+ended f done all o e = record { rest = []; begins = e ∙ sym (append-nil done); accepted = λ q. e; broken = λ q. absurd (omega arith) }
+
+read-over : (n o : ℕ) (bytes : List ℕ) (f : File) (done all : List Record) → decodeFrom n bytes done ≡ records all → Over all (readFrom n o bytes f done)
+unfolding decodeFrom readFrom
+read-over zero o bytes f done all e = ended f done all o (sym (records-same done all e))
+read-over (suc n) o [] f done all e = ended f done all o (sym (records-same done all e))
+read-over (suc n) o (kind ∷ bytes) f done all e =
+    by (λ i b g t q. read-over n i b g t all q) (unknownKind kind || cutBody kind bytes) e (eqb (refusalAt f kind bytes) 0) refl
+  where
+    x : Record
+    x = recordAt kind bytes
+
+    size : ℕ
+    size = bodyLength (kindOf kind)
+
+    by : ((i : ℕ) (b : List ℕ) (g : File) (t : List Record) → decodeFrom n b t ≡ records all → Over all (readFrom n i b g t)) → (c : Bool)
+        → _≡_ {A = Decoded} (elim c [ true ↦ damaged | false ↦ decodeFrom n (drop size bytes) (done ++ (x ∷ [])) ]) (records all)
+        → (d : Bool) → eqb (refusalAt f kind bytes) 0 ≡ d
+        → let r : Outcome = elim d [ true ↦ readFrom n (o + 1 + size) (drop size bytes) (apply f x) (done ++ (x ∷ [])) | false ↦ outcome f done (refusalAt f kind bytes) o ] in Over all r
+    by ih true q d z = absurd (not-damaged all q)
+    by ih false q true z = ih _ _ _ _ q
+    by ih false q false z =
+        let a = extends n (drop size bytes) (done ++ (x ∷ [])) all q in
+        record {
+          rest = x ∷ a .0;
+          begins = a .1 ∙ append-assoc done (x ∷ []) (a .0);
+          accepted = λ k. absurd (eqb-false (refusalAt f kind bytes) 0 z k);
+          broken = λ k. refused-nine f kind bytes k;
+        }
+
+-- EVERY INPUT that is not refused by 10
+pub planned-over : (input : List ℕ) (all : List Record) → decoded input ≡ records all → planned input .refused ≢ 10 → Over all (planned input)
+unfolding planned fileOf decoded
+planned-over input all e h = by (ltb 65536 (length input)) h
+  where
+    by : (b : Bool) → let o : Outcome = elim b [ true ↦ outcome begun [] 10 0 | false ↦ readFrom (length input) 0 input begun [] ] in o .refused ≢ 10 → Over all o
+    by true k = absurd (k refl)
+    by false k = read-over (length input) 0 input begun [] all e
+
+-- ---- THE JOB
+
+-- Two files with one job that are as far as each other.
+pub record Level (f g : File) : Type 0 where
+  pub job : f .job ≡ g .job
+  pub started : f .started ≡ g .started
+  pub sealed : f .sealed ≡ g .sealed
+
+pub level-same : (f : File) → Level f f
+level-same f = record { job = refl; started = refl; sealed = refl }
+
+module _ (f g : File) (l : Level f g) where
+  with-thresholds : (List Threshold → List Threshold) → Job → Job
+  with-thresholds go j = record { nodes = j .nodes; thresholds = go (j .thresholds) }
+
+  pub level-apply : (r : Record) → Taken g r → Level (apply f r) (plainly g r)
+  unfolding apply settledFile siftedFile plainly with-thresholds
+  level-apply (header n) t = record { job = refl; started = refl; sealed = refl }
+  level-apply (opens n b) t = record {
+    job = ap (with-thresholds (λ (ts : List Threshold). ts ++ (record { node = n; bound = b; terms = [] } ∷ []))) (l .job);
+    started = l .started;
+    sealed = l .sealed;
+  }
+  level-apply (adds c w) t = record { job = ap (with-thresholds (addTerm (term c w))) (l .job); started = l .started; sealed = l .sealed }
+  level-apply (areas c a) t = record { job = ap (with-thresholds (addTerm (term c (weightOfArea a)))) (l .job); started = l .started; sealed = l .sealed }
+  level-apply seal t = record { job = l .job; started = l .started; sealed = refl }
+  level-apply (mark n v) t = record { job = l .job; started = l .started; sealed = sym (not-false (g .sealed) (t .turn)) }
+  level-apply settle t = record { job = l .job; started = l .started; sealed = sym (not-false (g .sealed) (t .turn)) }
+  level-apply sift t = record { job = l .job; started = l .started; sealed = sym (not-false (g .sealed) (t .turn)) }
+  level-apply unknown t = l
+
+pub level-after : (f g : File) (rs : List Record) → Level f g → Passes g rs → Level (after f rs) (plainlyAll g rs)
+unfolding after plainlyAll Passes
+level-after f g [] l p = l
+level-after f g (r ∷ rs) l p = level-after (apply f r) (plainly g r) rs (level-apply f g l r (taken g r (p .0))) (p .1)
+
+-- behind the seal the job stays
+record Closed (f g : File) : Type 0 where
+  pub job : g .job ≡ f .job
+  pub started : g .started ≡ true
+  pub sealed : g .sealed ≡ true
+
+closed-plainly : (f : File) → f .started ≡ true → f .sealed ≡ true → (r : Record) → Taken f r → Closed f (plainly f r)
+unfolding plainly apply
+closed-plainly f s k (header n) t = absurd (clash (f .started) s (t .turn))
+closed-plainly f s k (opens n b) t = absurd (clash (f .sealed) k (or-false (not (f .started)) (f .sealed) (t .turn) .1))
+closed-plainly f s k (adds c w) t = absurd (clash (f .sealed) k (or-false (not (f .started)) (f .sealed) (or-false (not (f .started) || f .sealed) (isEmptyList (f .job .thresholds)) (t .turn) .0) .1))
+closed-plainly f s k (areas c a) t = absurd (clash (f .sealed) k (or-false (not (f .started)) (f .sealed) (or-false (not (f .started) || f .sealed) (isEmptyList (f .job .thresholds)) (t .turn) .0) .1))
+closed-plainly f s k seal t = absurd (clash (f .sealed) k (or-false (not (f .started)) (f .sealed) (t .turn) .1))
+closed-plainly f s k (mark n v) t = record { job = refl; started = s; sealed = k }
+closed-plainly f s k settle t = record { job = refl; started = s; sealed = k }
+closed-plainly f s k sift t = record { job = refl; started = s; sealed = k }
+closed-plainly f s k unknown t = record { job = refl; started = s; sealed = k }
+
+pub job-stays : (f : File) (rs : List Record) → f .started ≡ true → f .sealed ≡ true → Passes f rs → plainlyAll f rs .job ≡ f .job
+unfolding plainlyAll Passes
+job-stays f [] s k p = refl
+job-stays f (r ∷ rs) s k p = let c = closed-plainly f s k r (taken f r (p .0)) in job-stays (plainly f r) rs (c .started) (c .sealed) (p .1) ∙ c .job
+
+-- lists of records one behind the other
+pub plainly-append : (f : File) (rs qs : List Record) → plainlyAll f (rs ++ qs) ≡ plainlyAll (plainlyAll f rs) qs
+unfolding plainlyAll
+plainly-append f [] qs = refl
+plainly-append f (r ∷ rs) qs = plainly-append (plainly f r) rs qs
+
+pub passes-split : (f : File) (rs qs : List Record) → Passes f (rs ++ qs) → Passes f rs × Passes (plainlyAll f rs) qs
+unfolding Passes plainlyAll
+passes-split f [] qs p = (tt, p)
+passes-split f (r ∷ rs) qs p = let a = passes-split (plainly f r) rs qs (p .1) in ((p .0, a .0), a .1)

@@ -1,0 +1,116 @@
+-- A JOB OF A FILE meets what the invariant of draining asks: its nodes are in range, and as the nodes of its thresholds rise, none
+-- guards twice.
+use Prim.Native.Nat.{ℕ, _+_, _≤_, _<_}
+use native.Mathlib.Nat.{le-refl}
+use native.Mathlib.Omega.{arith}
+use mathlib.Core.Path.{_≡_, refl, sym, ap, _∙_, subst}
+use mathlib.Core.Bool.{Bool, true, false, not, _&&_}
+use mathlib.Core.List.{List, [], _∷_, _++_, List·Memᴰ, List·Memᴰ·cases-cons, List·Memᴰ·not-nil}
+use mathlib.Core.Logic.{_⊎_, inl, inr, ⊎-elim}
+use lib.ListN.{length, getD}
+use lib.Dec.{leb}
+use borrow.Author.Tests.{leb-false}
+use Rattle.numeric.specs.Threshold.{Term, Threshold, Job}
+use Rattle.row.specs.Terms.{sameTerms}
+use Rattle.row.specs.TermsLaws.{All as Every, all-map}
+use Rattle.thresholds.specs.Rows.{Row, rowOf, noRow, guard, insertGuard, place, placeAll, rowsOf}
+use Rattle.regions.specs.Drain.{indexOf}
+use Rattle.planner.specs.File.{lastNode, isEmptyList, addTerm}
+use Rattle.ends.specs.Built.{Fit, Fits}
+use Rattle.table.specs.Table.{IsRow}
+use Rattle.follows.specs.RowComplete.{Ordered}
+use Rattle.follows.specs.Built.{Built, built, rows-ordered}
+use Rattle.follows.specs.Told.{Single, rows-single}
+
+-- ---- lists
+
+pub every-each : {X : Type 0} (P : X → Type 0) (xs : List X) → Every P xs → (y : X) → List·Memᴰ y xs → P y
+every-each P [] a y m = absurd (List·Memᴰ·not-nil m)
+every-each P (x ∷ xs) a y m = ⊎-elim (λ (e : y ≡ x). subst P (sym e) (a .0)) (λ k. every-each P xs (a .1) y k) (List·Memᴰ·cases-cons m)
+
+every-last : {X : Type 0} (P : X → Type 0) (xs : List X) (x : X) → Every P xs → P x → Every P (xs ++ (x ∷ []))
+every-last P [] x a p = (p, tt)
+every-last P (y ∷ xs) x a p = (a .0, every-last P xs x (a .1) p)
+
+-- ---- nodes that rise
+
+abbrev pub Rises : List Threshold → Type 0
+Rises [] = Unit {0}
+Rises (t ∷ ts) = Every (λ (u : Threshold). t .node < u .node) ts × Rises ts
+
+rises-unique : (ts : List Threshold) → Rises ts → (t u : Threshold) → List·Memᴰ t ts → List·Memᴰ u ts → t .node ≡ u .node → t ≡ u
+rises-unique [] h t u m n e = absurd (List·Memᴰ·not-nil m)
+rises-unique (y ∷ ys) h t u m n e = by (λ a b. rises-unique ys (h .1) t u a b e) (List·Memᴰ·cases-cons m) (List·Memᴰ·cases-cons n)
+  where
+    above : (w : Threshold) → List·Memᴰ w ys → y .node < w .node
+    above w k = every-each (λ (z : Threshold). y .node < z .node) ys (h .0) w k
+
+    by : (List·Memᴰ t ys → List·Memᴰ u ys → t ≡ u) → (t ≡ y) ⊎ List·Memᴰ t ys → (u ≡ y) ⊎ List·Memᴰ u ys → t ≡ u
+    by ih (inl a) (inl b) = a ∙ sym b
+    by ih (inl a) (inr b) = absurd (let k = above u b in let q = ap (λ (z : Threshold). z .node) a in omega arith)
+    by ih (inr a) (inl b) = absurd (let k = above t a in let q = ap (λ (z : Threshold). z .node) b in omega arith)
+    by ih (inr a) (inr b) = ih a b
+
+-- the last is the highest
+below-last : (t : Threshold) (ts : List Threshold) → Rises (t ∷ ts) → Every (λ (u : Threshold). u .node ≤ lastNode (t ∷ ts)) (t ∷ ts)
+unfolding lastNode
+below-last t [] h = (le-refl (t .node), tt)
+below-last t (u ∷ us) h = let k = below-last u us (h .1) in (let a = h .0 .0 in let c = k .0 in omega arith, k)
+
+rises-last : (ts : List Threshold) (x : Threshold) → Rises ts → Every (λ (u : Threshold). u .node < x .node) ts → Rises (ts ++ (x ∷ []))
+rises-last [] x h e = (tt, tt)
+rises-last (t ∷ ts) x h e = (every-last (λ (u : Threshold). t .node < u .node) ts x (h .0) (e .0), rises-last ts x (h .1) (e .1))
+
+pub rises-opens : (ts : List Threshold) (x : Threshold) → Rises ts → (not (isEmptyList ts) && leb (x .node) (lastNode ts)) ≡ false → Rises (ts ++ (x ∷ []))
+rises-opens [] x h e = (tt, tt)
+rises-opens (t ∷ ts) x h e =
+    let k = leb-false (x .node) (lastNode (t ∷ ts)) e in
+    rises-last (t ∷ ts) x h
+    (all-map (λ (u : Threshold). u .node ≤ lastNode (t ∷ ts)) (λ (u : Threshold). u .node < x .node) (t ∷ ts) (λ u l. omega arith) (below-last t ts h))
+
+-- a term leaves all nodes as they were
+every-term : (P : ℕ → Type 0) (x : Term) (ts : List Threshold) → Every (λ (u : Threshold). P (u .node)) ts → Every (λ (u : Threshold). P (u .node)) (addTerm x ts)
+unfolding addTerm
+every-term P x [] h = tt
+every-term P x (t ∷ []) h = (h .0, tt)
+every-term P x (t ∷ u ∷ us) h = (h .0, every-term P x (u ∷ us) (h .1))
+
+pub rises-term : (x : Term) (ts : List Threshold) → Rises ts → Rises (addTerm x ts)
+unfolding addTerm
+rises-term x [] h = tt
+rises-term x (t ∷ []) h = (tt, tt)
+rises-term x (t ∷ u ∷ us) h = (every-term (λ (n : ℕ). t .node < n) x (u ∷ us) (h .0), rises-term x (u ∷ us) (h .1))
+
+-- ---- no more rows than thresholds
+
+place-few : (t : Threshold) (rs : List Row) → length (place t rs) ≤ length rs + 1
+unfolding place
+place-few t [] = omega arith
+place-few t (r ∷ rs) = by (place-few t rs) (sameTerms (r .raw) (t .terms))
+  where
+    by : length (place t rs) ≤ length rs + 1 → (b : Bool)
+        → length {A = Row} (elim b [ true ↦ rowOf (r .raw) (r .terms) (insertGuard (guard (t .bound) (t .node)) (r .guards)) ∷ rs | false ↦ r ∷ place t rs ]) ≤ length (r ∷ rs) + 1
+    by ih true = omega arith
+    by ih false = omega arith
+
+all-few : (ts : List Threshold) (rs : List Row) → length (placeAll ts rs) ≤ length rs + length ts
+unfolding placeAll
+all-few [] rs = omega arith
+all-few (t ∷ ts) rs = omega (arith, all-few ts (place t rs), place-few t rs)
+
+pub rows-few : (j : Job) → Fits j → length (rowsOf j) ≤ 1024
+rows-few j f = omega (arith, all-few (j .thresholds) [], f .few)
+
+-- ---- what the invariant asks
+
+pub job-built : (j : Job) → Built j (indexOf j)
+job-built j = built j (indexOf j) refl refl refl
+
+pub job-ordered : (j : Job) → Fits j → (r : ℕ) → IsRow (rowsOf j) r → Ordered (getD (rowsOf j) r noRow)
+job-ordered j f = rows-ordered j (record {
+  nodes = λ t m. every-each Fit (j .thresholds) (f .each) t m .node;
+  conditions = λ t m u k. every-each (λ (y : Term). y .condition < 4096) (t .terms) (every-each Fit (j .thresholds) (f .each) t m .conditions) u k;
+})
+
+pub job-single : (j : Job) → Rises (j .thresholds) → Single (rowsOf j)
+job-single j h = rows-single j (rises-unique (j .thresholds) h)

@@ -1,0 +1,56 @@
+-- The rows of one class in a chain, the newest first: so a raw list is looked for only among rows of its own class.
+use Prim.Native.Nat.{ℕ, zero, suc, _+_, _*_, _/_, _%_, _<_, _≤_}
+use mathlib.Core.Path.{_≡_}
+use mathlib.Core.Bool.{false, cond}
+use mathlib.Core.List.{List, []}
+use lib.ListN.{length, getD}
+use lib.Dec.{eqb}
+use Rattle.numeric.specs.Threshold.{Term}
+use Rattle.row.specs.Terms.{sameTerms}
+use Rattle.thresholds.specs.Raw.{Raw, listAt, fingerprint, numberIn}
+
+-- A row is marked by one word: the row before it in its class, counted from 1, 0 for none; the fingerprint of its raw list; the first threshold that has it.
+abbrev pub mark : ℕ → ℕ → ℕ → ℕ
+mark next print t = (next * 4294967296 + print) * 1024 + t
+
+abbrev pub nextIn : ℕ → ℕ
+nextIn m = m / 4398046511104
+
+abbrev pub printIn : ℕ → ℕ
+printIn m = m / 1024 % 4294967296
+
+abbrev pub markedList : Raw → ℕ → List Term
+markedList r m = listAt r (m % 1024)
+
+-- The class of a fingerprint, one of 1,024: ten bits of a product, so that each bit of the fingerprint counts.
+unfoldable pub classOf : ℕ → ℕ
+classOf print = print * 2654435769 / 4194304 % 1024
+
+abbrev pub classAt : List ℕ → ℕ → ℕ
+classAt marks k = classOf (printIn (getD marks k 0))
+
+-- The newest of the first n rows in a class, counted from 1; 0 where there is none.
+unfoldable pub newest : List ℕ → ℕ → ℕ → ℕ
+newest marks h zero = 0
+newest marks h (suc n) = cond (eqb (classAt marks n) h) (suc n) (newest marks h n)
+
+-- Each mark names a threshold, the fingerprint of its list, and the row before it in its class.
+pub record Marked (r : Raw) (count : ℕ) (marks : List ℕ) : Type 0 where
+  pub first : (k : ℕ) → k < length marks → getD marks k 0 % 1024 < count
+  pub print : (k : ℕ) → k < length marks → printIn (getD marks k 0) ≡ fingerprint (markedList r (getD marks k 0))
+  pub next : (k : ℕ) → k < length marks → nextIn (getD marks k 0) ≡ newest marks (classAt marks k) k
+
+-- Each class has its newest row at its head.
+pub record Headed (marks heads : List ℕ) : Type 0 where
+  pub wide : 1024 ≤ length heads
+  pub each : (h : ℕ) → h < 1024 → getD heads h 0 ≡ newest marks h (length marks)
+
+-- No list stands twice among the lists.
+abbrev pub Own : List (List Term) → Type 0
+Own ls = (k : ℕ) → k < length ls → numberIn ls (getD ls k []) ≡ k
+
+-- A search for list x has come to row k, counted from 1: it is in the list's class, and the rows behind it have other lists.
+pub record Searching (r : Raw) (marks : List ℕ) (x : List Term) (k : ℕ) : Type 0 where
+  pub few : k ≤ length marks
+  pub class : (j : ℕ) → k ≡ suc j → classAt marks j ≡ classOf (fingerprint x)
+  pub past : (i : ℕ) → k ≤ i → i < length marks → sameTerms (markedList r (getD marks i 0)) x ≡ false
