@@ -1,16 +1,17 @@
 -- What `prepare` and the links lay into the buffers, one row behind the other, is what draining reads: the records of `between`
 -- that an index and buffers agree, from what stands in the buffers. Assumes nothing.
-use Prim.Native.Nat.{ℕ, zero, suc, _+_, _<_, _≤_}
+use Prim.Native.Nat.{ℕ, zero, suc, _+_, _<_, _≤_, _^_}
 use native.Mathlib.Nat.{not-suc-le-zero}
 use native.Mathlib.Omega.{arith}
 use mathlib.Core.Path.{_≡_, refl, sym, ap, ap₂, _∙_}
 use mathlib.Core.List.{List, [], _∷_, _++_, map, append-nil}
-use lib.ListN.{length, getD, length-map, List·getD-map}
+use lib.ListN.{length, getD, length-append, length-map, List·getD-map}
 use lib.IntN.{ℤ}
 use Rattle.lists.specs.Laid.{joinAll, ends, numbers}
 use Rattle.lists.specs.Columns.{column}
 use Rattle.lists.specs.ColumnsLaws.{column-at}
 use Rattle.numeric.specs.Threshold.{Term, Threshold, terms}
+use Rattle.numeric.specs.Slices.{Below}
 use Rattle.thresholds.specs.Rows.{Row, noRow, Guard, edgesOf}
 use Rattle.thresholds.specs.Raw.{stretch}
 use Rattle.thresholds.specs.Laid.{conditions, weights, termLists, guardLists, guardBounds, guardNodes, edgeLists, edgeRow, thresholdOf, rowOfNode}
@@ -19,7 +20,7 @@ use Rattle.propagate.specs.Guards.{guards}
 use Rattle.prepare.specs.RowsGivenLaid.{startIn, laid-long, laid-rising, laid-inside, over-part, over-figures}
 use Rattle.prepare.specs.RowsGivenHeld.{terms-back}
 use Rattle.between.specs.Between.{Index}
-use Rattle.between.specs.Held.{Lent, startBy, endBy, stretchBy, heldTerms, heldGuards, Inside, Holds, HoldsEdges, HoldsLinks, HoldsGuards}
+use Rattle.between.specs.Held.{Lent, startBy, endBy, stretchBy, heldTerms, heldGuards, Inside, Shaped, Holds, HoldsEdges, HoldsLinks, HoldsGuards}
 
 start-same : (j : ℕ) (table : List (List ℕ)) (n : ℕ) → startBy j table n ≡ startIn j table n
 unfolding startBy startIn
@@ -97,6 +98,24 @@ holds-rows x h l = record { many = sym (long 0 (h .rows) (termLists (x .rows)) (
         let n = stretch-is 1 (h .rows) ls (l .guards-end) (λ (g : Guard). g .node) (l .more-names) r k in
         sym (List·getD-map (λ (y : Row). y .guards) (x .rows) r noRow) ∙ sym (guards-back (getD ls r []))
         ∙ ap₂ guards (sym b ∙ ap (stretchBy 1 (h .rows) r) (sym (l .bounds))) (sym n ∙ ap (stretchBy 1 (h .rows) r) (sym (l .names)))
+
+-- A list in front of a buffer is no longer than it.
+front : {X Y : Type 0} (f : X → Y) (xs : List X) (ys more : List Y) → ys ≡ map f xs ++ more → length xs ≤ length ys
+front {Y = Y} f xs ys more e = omega (arith, ap (λ (l : List Y). length l) e, length-append (map f xs) more, length-map xs f)
+
+-- Rows laid so can be run, if their nodes and weights are in range.
+pub shaped-rows : (rs : List Row) (h : Lent) → LaidRows rs h → length rs ≤ 1024 → length (h .weights) ≡ length (h .conditions) → length (h .names) ≡ length (h .bounds)
+    → Below 4096 (h .conditions) → Below (2 ^ 63) (h .weights) → Below 4096 (h .names) → Shaped h
+shaped-rows rs h l few weighed named nodes light guarded = record {
+  few = omega (arith, long 0 (h .rows) (termLists rs) (l .terms-end), length-map rs (λ (r : Row). r .terms));
+  terms = inside-laid 0 (h .rows) (termLists rs) (l .terms-end) (length (h .conditions)) (front (λ (t : Term). t .condition) (joinAll (termLists rs)) (h .conditions) (l .more-conditions) (l .conditions));
+  weighed = weighed;
+  nodes = nodes;
+  light = light;
+  guards = inside-laid 1 (h .rows) (guardLists rs) (l .guards-end) (length (h .bounds)) (front (λ (g : Guard). g .bound) (joinAll (guardLists rs)) (h .bounds) (l .more-bounds) (l .bounds));
+  named = named;
+  guarded = guarded;
+}
 
 -- ---- edges, links, the guards of nodes
 
