@@ -2,9 +2,10 @@
 use Prim.Native.Nat.{ℕ, zero, suc, _+_, _≤_, _<_}
 use native.Mathlib.Nat.{not-suc-le-zero}
 use native.Mathlib.Omega.{arith}
-use mathlib.Core.Path.{_≡_, refl, _∙_}
+use mathlib.Core.Path.{_≡_, refl, sym, _∙_, subst}
 use mathlib.Core.Bool.{Bool, true, false}
-use mathlib.Core.List.{List, [], _∷_, _++_, List·Memᴰ, List·Memᴰ·head, List·Memᴰ·tail}
+use mathlib.Core.List.{List, [], _∷_, _++_, List·Memᴰ, List·Memᴰ·head, List·Memᴰ·tail, List·Memᴰ·cases-cons, List·Memᴰ·not-nil}
+use mathlib.Core.Logic.{⊎-elim}
 use lib.ListN.{length, getD, set, length-set}
 use lib.Dec.{eqb}
 use Rattle.numeric.specs.Threshold.{Term, Threshold, Job}
@@ -42,6 +43,13 @@ pub record Fits (j : Job) : Type 0 where
 every-append : {X : Type 0} (P : X → Type 0) (xs ys : List X) → Every P xs → Every P ys → Every P (xs ++ ys)
 every-append P [] ys a b = b
 every-append P (x ∷ xs) ys a b = (a .0, every-append P xs ys (a .1) b)
+
+pub every-last : {X : Type 0} (P : X → Type 0) (xs : List X) (x : X) → Every P xs → P x → Every P (xs ++ (x ∷ []))
+every-last P xs x a p = every-append P xs (x ∷ []) a (p, tt)
+
+pub every-each : {X : Type 0} (P : X → Type 0) (xs : List X) → Every P xs → (y : X) → List·Memᴰ y xs → P y
+every-each P [] a y m = absurd (List·Memᴰ·not-nil m)
+every-each P (x ∷ xs) a y m = ⊎-elim (λ (e : y ≡ x). subst P (sym e) (a .0)) (λ k. every-each P xs (a .1) y k) (List·Memᴰ·cases-cons m)
 
 every-mem : {X : Type 0} (P : X → Type 0) (xs : List X) → ((x : X) → List·Memᴰ x xs → P x) → Every P xs
 every-mem P [] f = tt
@@ -105,6 +113,12 @@ all-few : (ts : List Threshold) (rs : List Row) → length (placeAll ts rs) ≤ 
 unfolding placeAll
 all-few [] rs = omega arith
 all-few (t ∷ ts) rs = omega (arith, all-few ts (place t rs), place-few t rs)
+
+pub rows-most : (j : Job) → length (rowsOf j) ≤ length (j .thresholds)
+rows-most j = omega (arith, all-few (j .thresholds) [])
+
+pub rows-few : (j : Job) → Fits j → length (rowsOf j) ≤ 1024
+rows-few j f = omega (arith, rows-most j, f .few)
 
 -- ---- a threshold's row is one of the rows
 
@@ -191,9 +205,6 @@ linked-rows rs n r h = every-mem (λ (q : ℕ). q < n) (neighbours r (links rs))
     by q l i (downward e f) = let k = links-range rs (l .prefix) (l .extension) i .1 in omega arith
     by q l i (upward e f) = let k = links-range rs (l .prefix) (l .extension) i .0 in omega arith
 
-rows-few : (j : Job) → Fits j → length (rowsOf j) ≤ 1024
-rows-few j f = omega (arith, all-few (j .thresholds) [], f .few)
-
 -- WHAT A SEAL BUILDS
 pub indexed : (j : Job) → Fits j → Indexed (indexOf j)
 indexed j f = record {
@@ -218,7 +229,7 @@ first-states r [] ss h = h
 first-states r (x ∷ xs) ss h =
     first-states (r + 1) xs (set ss r (stateOfRow x)) (set-bounded ss r (stateOfRow x) h (first-bounded (total (x .terms)) (length (x .guards))))
 
-first-long : (r : ℕ) (rs : List Row) (ss : List State) → length (firstStates r rs ss) ≡ length ss
+pub first-long : (r : ℕ) (rs : List Row) (ss : List State) → length (firstStates r rs ss) ≡ length ss
 unfolding firstStates
 first-long r [] ss = refl
 first-long r (x ∷ xs) ss = first-long (r + 1) xs (set ss r (stateOfRow x)) ∙ length-set ss r (stateOfRow x)

@@ -7,7 +7,7 @@ use mathlib.Core.Path.{_≡_, refl, sym, ap, ap₂, _∙_, subst}
 use mathlib.Core.Bool as B
 use mathlib.Core.Bool.{Bool, true, false, not, _||_}
 use mathlib.Core.List.{_∷_}
-use mathlib.Core.Logic.{_⊎_, ⊎-elim, _≢_}
+use mathlib.Core.Logic.{⊎-elim, _≢_}
 use Rattle.words.specs.Mask.{bit, setBit}
 use Rattle.queues.specs.Queue.{isEmpty, oldest, push, popped}
 use Rattle.queues.specs.QueueLaws.{waitingList, push-times, popped-times, empty-none}
