@@ -1,5 +1,5 @@
--- How much a job's rows are: no more rows and guards than thresholds, no more terms and edges than the job has terms, and less than
--- two neighbours for each row.
+-- How much a job's rows are: no more guards than thresholds, no more terms and edges than the job has terms, and less than two
+-- neighbours for each row.
 use Prim.Native.Nat.{ℕ, zero, suc, _+_, _*_, _<_, _≤_}
 use native.Mathlib.Numerals.{add-one}
 use native.Mathlib.Omega.{arith}
@@ -68,13 +68,7 @@ module _ (f : Row → ℕ) (g : Threshold → ℕ) (new : (t : Threshold) → f 
   all-sum [] rs = omega arith
   all-sum (t ∷ ts) rs = omega (arith, all-sum ts (place t rs), place-sum t rs)
 
--- NO MORE ROWS THAN THRESHOLDS,
-pub rows-few : (j : Job) → length (rowsOf j) ≤ length (j .thresholds)
-unfolding sumOf
-rows-few j =
-    omega (arith, all-sum (λ (r : Row). 1) (λ (t : Threshold). 1) (λ t. omega arith) (λ t r. omega arith) (j .thresholds) [], sum-ones (rowsOf j), sum-ones (j .thresholds))
-
--- no more terms than the thresholds have,
+-- NO MORE TERMS than the thresholds have,
 pub terms-few : (j : Job) → length (joinAll (termLists (rowsOf j))) ≤ allTerms (j .thresholds)
 unfolding sumOf
 terms-few j =

@@ -114,11 +114,8 @@ unfolding placeAll
 all-few [] rs = omega arith
 all-few (t ∷ ts) rs = omega (arith, all-few ts (place t rs), place-few t rs)
 
-pub rows-most : (j : Job) → length (rowsOf j) ≤ length (j .thresholds)
-rows-most j = omega (arith, all-few (j .thresholds) [])
-
 pub rows-few : (j : Job) → Fits j → length (rowsOf j) ≤ 1024
-rows-few j f = omega (arith, rows-most j, f .few)
+rows-few j f = omega (arith, all-few (j .thresholds) [], f .few)
 
 -- ---- a threshold's row is one of the rows
 

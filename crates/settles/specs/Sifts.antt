@@ -9,8 +9,8 @@ use mathlib.Core.Logic.{⊎-elim}
 use lib.ListN.{getD}
 use Rattle.numeric.specs.Threshold.{Term, Job}
 use Rattle.state.specs.declared.Step.{Step}
-use Rattle.state.specs.declared.Step.the-variants.{Unchanged, Contradiction}
-use Rattle.state.specs.Step.{joined, contradicts, isUnchanged}
+use Rattle.state.specs.declared.Step.the-variants.{Unchanged}
+use Rattle.state.specs.Step.{contradicts, isUnchanged}
 use Rattle.words.specs.Mask.{bit}
 use Rattle.queues.specs.Queue.{Rows, isEmpty, oldest, nextRow}
 use Rattle.queues.specs.Marks.{Marks, isDecided, Decided, decide}
@@ -23,6 +23,7 @@ use Rattle.regions.specs.Drain.{indexOf, mark, turns, settle}
 use Rattle.regions.specs.Sift.{Sifted, sifted, tryRow, siftFrom, sift}
 use Rattle.ends.specs.Keeps.{keeps-residual}
 use Rattle.ends.specs.Turns.{Indexed}
+use Rattle.ends.specs.Settles.{tries}
 use Rattle.ends.specs.Built.{Fits, indexed}
 use Rattle.table.specs.Table.{Table, start}
 use Rattle.follows.specs.Answers.{true-false, clash}
@@ -128,18 +129,6 @@ module _ (j : Job) (f : Fits j) (rises : Rises (j .thresholds)) where
   settle-keeps : (v : Live) → Steady x (ownStart v) v → contradicts (settle x v .step) ≡ false → let w = settle x v .live in Steady x (ownStart w) w
   settle-keeps v h c = steady-own x _ _ (settle x v .live) (settle-goes j x (job-built j) (job-ordered j f) (job-single j rises) (ownStart v) v h .0 c)
 
-  abbrev tries : ℕ → Live → List ℕ → Step → ℕ → Bool → Bool → Bool → Sifted
-  tries n v gcds k visits settled none failed =
-      let d = settle x v in
-      let t = tryRow x (d .live) gcds visits in
-      elim settled [
-        | true ↦ sifted (d .live) gcds Contradiction visits
-        | false ↦ elim none [
-          | true ↦ sifted (d .live) gcds (joined k (d .step)) visits
-          | false ↦ elim failed [ true ↦ t | false ↦ siftFrom n x (t .live) (t .gcds) (joined (joined k (d .step)) (t .step)) (t .visits) ]
-        ]
-      ]
-
   abbrev Fine : Sifted → Type 0
   Fine d = contradicts (d .step) ≡ false → Steady x (ownStart (d .live)) (d .live)
 
@@ -151,7 +140,7 @@ module _ (j : Job) (f : Fits j) (rises : Rises (j .thresholds)) where
       (contradicts (tryRow x (settle x v .live) gcds visits .step)) refl
     where
       by : ((u : Live) (g : List ℕ) (i : Step) (m : ℕ) → Steady x (ownStart u) u → Fine (siftFrom n x u g i m))
-          → (a : Bool) → contradicts (settle x v .step) ≡ a → (b c : Bool) → contradicts (tryRow x (settle x v .live) gcds visits .step) ≡ c → Fine (tries n v gcds k visits a b c)
+          → (a : Bool) → contradicts (settle x v .step) ≡ a → (b c : Bool) → contradicts (tryRow x (settle x v .live) gcds visits .step) ≡ c → Fine (tries x n v gcds k visits a b c)
       by ih true p b c q o = absurd (clash true refl o)
       by ih false p true c q o = settle-keeps v h p
       by ih false p false true q o = absurd (clash (contradicts (tryRow x (settle x v .live) gcds visits .step)) q o)
