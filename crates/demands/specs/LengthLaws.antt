@@ -21,8 +21,9 @@ use Rattle.job.specs.Job.{allTerms}
 use Rattle.planner.specs.File.{File, fileOf}
 use Rattle.planner.specs.Contents.{rawLists, rawOf, builtOf, answerNumber, answerVisits, keptOf, laid, Out, whole}
 use Rattle.ends.specs.Built.{rows-few}
+use Rattle.follows.specs.Answers.{true-false}
 use Rattle.demands.specs.Demands.{SameLengths}
-use Rattle.demands.specs.RefusalLaws.{served-when, untouched-when, true-or-false}
+use Rattle.demands.specs.RefusalLaws.{served-when, untouched-when}
 use Rattle.demands.specs.SizeLaws.{terms-few, guards-few, edges-few, neighbours-few, pairs-few, triples-few}
 use Rattle.demands.specs.KeptLaws.{Kept, kept-file}
 
@@ -212,4 +213,4 @@ lengths input w =
     ⊎-elim
     (λ (e : fits input w ≡ true).
     subst (λ (o : Out). SameLengths (o .work) w) (sym (served-when input w e)) (all-long (fileOf input .file) (kept-file input) w (fits-sized input w e)))
-    (λ (e : fits input w ≡ false). subst (λ (o : Out). SameLengths (o .work) w) (sym (untouched-when input w e)) (same-long w)) (true-or-false (fits input w))
+    (λ (e : fits input w ≡ false). subst (λ (o : Out). SameLengths (o .work) w) (sym (untouched-when input w e)) (same-long w)) (true-false (fits input w))

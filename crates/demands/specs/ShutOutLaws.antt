@@ -16,9 +16,9 @@ use Rattle.state.specs.Step.{contradicts, isUnchanged}
 use Rattle.words.specs.Mask.{bit}
 use Rattle.queues.specs.Queue.{isEmpty, oldest, nextRow}
 use Rattle.queues.specs.Marks.{isDecided}
-use Rattle.row.specs.Terms.{rowTerms, sameTerms}
+use Rattle.row.specs.Terms.{rowTerms}
 use Rattle.row.specs.TermsLaws.{All as Every}
-use Rattle.thresholds.specs.Rows.{Row, rowOf, noRow, guard, insertGuard, place, placeAll, rowsOf, hasNonunit}
+use Rattle.thresholds.specs.Rows.{Row, noRow, rowsOf, hasNonunit}
 use Rattle.residual.specs.Residual.{Residual, thresholdResidual}
 use Rattle.possible_sums.specs.declared.Search.{Search}
 use Rattle.possible_sums.specs.declared.Search.the-variants.{Skipped, Fits, Nothing, Cut}
@@ -33,7 +33,7 @@ use Rattle.job.specs.Job.{isEmptyList}
 use Rattle.planner.specs.File.{File, Answer, settled, sifted, begun, wrongTurn, apply, settledFile, siftedFile, after, planned}
 use Rattle.memory.specs.Buffers.{Work, fits}
 use Rattle.planner.specs.Contents.{answerVisits, Out, whole}
-use Rattle.ends.specs.Built.{every-last}
+use Rattle.ends.specs.Built.{every-last, every-mem, rows-every}
 use Rattle.ends.specs.Settles.{tries}
 use Rattle.ends.specs.Files.{taken as passed, Passed, planned-passed}
 use Rattle.follows.specs.Answers.{clash, or-false, or-middle, not-false}
@@ -46,25 +46,10 @@ use Rattle.demands.specs.Cases.{Right, takes, forces, file-A, file-B, wr
 abbrev From : List Threshold → Row → Type 0
 From ts r = (t : Threshold) × List·Memᴰ t ts × (r .terms ≡ rowTerms (t .terms))
 
-place-from : (ts : List Threshold) (t : Threshold) (rs : List Row) → List·Memᴰ t ts → Every (From ts) rs → Every (From ts) (place t rs)
-unfolding place
-place-from ts t [] m a = ((t, m, refl), tt)
-place-from ts t (r ∷ rs) m a = by (place-from ts t rs m (a .1)) (sameTerms (r .raw) (t .terms))
-  where
-    by : Every (From ts) (place t rs) → (b : Bool)
-        → Every (From ts) (elim b [ true ↦ rowOf (r .raw) (r .terms) (insertGuard (guard (t .bound) (t .node)) (r .guards)) ∷ rs | false ↦ r ∷ place t rs ])
-    by ih true = (a .0, a .1)
-    by ih false = (a .0, ih)
-
-all-from : (ts us : List Threshold) (rs : List Row) → ((t : Threshold) → List·Memᴰ t us → List·Memᴰ t ts) → Every (From ts) rs → Every (From ts) (placeAll us rs)
-unfolding placeAll
-all-from ts [] rs m a = a
-all-from ts (t ∷ us) rs m a = all-from ts us (place t rs) (λ u i. m u (List·Memᴰ·tail i)) (place-from ts t rs (m t (List·Memᴰ·head refl)) a)
-
-from-at : (ts : List Threshold) (rs : List Row) → Every (From ts) rs → (r : ℕ) → (getD rs r noRow .terms ≡ []) ⊎ From ts (getD rs r noRow)
-from-at ts [] a r = inl refl
-from-at ts (x ∷ rs) a zero = inr (a .0)
-from-at ts (x ∷ rs) a (suc r) = from-at ts rs (a .1) r
+rows-from : (j : Job) (r : ℕ) → (getD (rowsOf j) r noRow .terms ≡ []) ⊎ From (j .thresholds) (getD (rowsOf j) r noRow)
+rows-from j =
+    rows-every (λ (r : Row). (r .terms ≡ []) ⊎ From (j .thresholds) r) (λ (t : Threshold). List·Memᴰ t (j .thresholds)) (λ t m. inr (t, m, refl)) (λ t r m a. a) (inl refl) j
+    (every-mem (λ (t : Threshold). List·Memᴰ t (j .thresholds)) (j .thresholds) (λ t m. m))
 
 -- ---- THE VISITS OF A SIFT
 
@@ -93,7 +78,7 @@ module _ (j : Job) where
       by (Cut n) q = inr (t, m, s, d, inr (inr q))
 
   searched-row : (r : ℕ) (s : State) (d : ℕ → Bool) (visits : ℕ) → Visited j visits → Visited j (searchVisits visits (search (getD (rowsOf j) r noRow .terms) s d))
-  searched-row r s d visits v = by (from-at (j .thresholds) (rowsOf j) (all-from (j .thresholds) (j .thresholds) [] (λ t i. i) tt) r)
+  searched-row r s d visits v = by (rows-from j r)
     where
       row : Row
       row = getD (rowsOf j) r noRow

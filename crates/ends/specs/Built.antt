@@ -51,7 +51,7 @@ pub every-each : {X : Type 0} (P : X → Type 0) (xs : List X) → Every P xs �
 every-each P [] a y m = absurd (List·Memᴰ·not-nil m)
 every-each P (x ∷ xs) a y m = ⊎-elim (λ (e : y ≡ x). subst P (sym e) (a .0)) (λ k. every-each P xs (a .1) y k) (List·Memᴰ·cases-cons m)
 
-every-mem : {X : Type 0} (P : X → Type 0) (xs : List X) → ((x : X) → List·Memᴰ x xs → P x) → Every P xs
+pub every-mem : {X : Type 0} (P : X → Type 0) (xs : List X) → ((x : X) → List·Memᴰ x xs → P x) → Every P xs
 every-mem P [] f = tt
 every-mem P (x ∷ xs) f = (f x (List·Memᴰ·head refl), every-mem P xs (λ y m. f y (List·Memᴰ·tail m)))
 
@@ -64,6 +64,28 @@ every-all : {X : Type 0} (P : X → Type 0) (xs : List X) → Every P xs → All
 unfolding All
 every-all P [] a = tt
 every-all P (x ∷ xs) a = (a .0, every-all P xs (a .1))
+
+-- ---- WHAT EVERY ROW HAS: what a threshold's new row has, and what a row keeps that gets one more guard
+
+module _ (P : Row → Type 0) (Q : Threshold → Type 0) (new : (t : Threshold) → Q t → P (rowOf (t .terms) (rowTerms (t .terms)) (guard (t .bound) (t .node) ∷ [])))
+    (more : (t : Threshold) (r : Row) → Q t → P r → P (rowOf (r .raw) (r .terms) (insertGuard (guard (t .bound) (t .node)) (r .guards)))) where
+  place-every : (t : Threshold) (rs : List Row) → Q t → Every P rs → Every P (place t rs)
+  unfolding place
+  place-every t [] q a = (new t q, tt)
+  place-every t (r ∷ rs) q a = by (place-every t rs q (a .1)) (sameTerms (r .raw) (t .terms))
+    where
+      by : Every P (place t rs) → (b : Bool) → Every P (elim b [ true ↦ rowOf (r .raw) (r .terms) (insertGuard (guard (t .bound) (t .node)) (r .guards)) ∷ rs | false ↦ r ∷ place t rs ])
+      by ih true = (more t r q (a .0), a .1)
+      by ih false = (a .0, ih)
+
+  all-every : (ts : List Threshold) (rs : List Row) → Every Q ts → Every P rs → Every P (placeAll ts rs)
+  unfolding placeAll
+  all-every [] rs q a = a
+  all-every (t ∷ ts) rs q a = all-every ts (place t rs) (q .1) (place-every t rs (q .0) a)
+
+  -- and so has any number's row, if the row of nothing has it
+  pub rows-every : P noRow → (j : Job) → Every Q (j .thresholds) → (r : ℕ) → P (getD (rowsOf j) r noRow)
+  rows-every p j a = every-at P noRow (rowsOf j) p (all-every (j .thresholds) [] a tt)
 
 -- ---- rows name nodes
 
@@ -82,20 +104,11 @@ insert-fits g (h ∷ hs) n a = by (insert-fits g hs n (a .1)) (below g h)
 terms-fit : (raw : List Term) → Every Condition raw → Every Condition (rowTerms raw)
 terms-fit raw h = all-sorted Condition (merged raw) (conditions-merged (λ (n : ℕ). n < 4096) raw h)
 
-place-fits : (t : Threshold) (rs : List Row) → Fit t → Every RowFits rs → Every RowFits (place t rs)
-unfolding place
-place-fits t [] f a = (((f .node, tt), terms-fit (t .terms) (f .conditions)), tt)
-place-fits t (r ∷ rs) f a = by (place-fits t rs f (a .1)) (sameTerms (r .raw) (t .terms))
-  where
-    by : Every RowFits (place t rs) → (b : Bool)
-        → Every RowFits (elim b [ true ↦ rowOf (r .raw) (r .terms) (insertGuard (guard (t .bound) (t .node)) (r .guards)) ∷ rs | false ↦ r ∷ place t rs ])
-    by ih true = ((insert-fits (guard (t .bound) (t .node)) (r .guards) (f .node) (a .0 .0), a .0 .1), a .1)
-    by ih false = (a .0, ih)
+row-fits : (t : Threshold) → Fit t → RowFits (rowOf (t .terms) (rowTerms (t .terms)) (guard (t .bound) (t .node) ∷ []))
+row-fits t f = ((f .node, tt), terms-fit (t .terms) (f .conditions))
 
-all-fit : (ts : List Threshold) (rs : List Row) → Every Fit ts → Every RowFits rs → Every RowFits (placeAll ts rs)
-unfolding placeAll
-all-fit [] rs f a = a
-all-fit (t ∷ ts) rs f a = all-fit ts (place t rs) (f .1) (place-fits t rs (f .0) a)
+guard-fits : (t : Threshold) (r : Row) → Fit t → RowFits r → RowFits (rowOf (r .raw) (r .terms) (insertGuard (guard (t .bound) (t .node)) (r .guards)))
+guard-fits t r f a = (insert-fits (guard (t .bound) (t .node)) (r .guards) (f .node) (a .0), a .1)
 
 -- ---- no more rows than thresholds
 
@@ -213,7 +226,7 @@ indexed j f = record {
 }
   where
     fit : (r : ℕ) → RowFits (getD (rowsOf j) r noRow)
-    fit = every-at RowFits noRow (rowsOf j) (tt, tt) (all-fit (j .thresholds) [] (f .each) tt)
+    fit = rows-every RowFits Fit row-fits guard-fits (tt, tt) j (f .each)
 
     few : length (rowsOf j) ≤ 1024
     few = rows-few j f

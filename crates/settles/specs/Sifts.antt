@@ -1,9 +1,8 @@
 -- A MARK keeps the invariant with one node more in its start, and A SIFTING keeps it from the nodes that are decided after it: what
 -- it decides beyond the rules is a start like any other.
 use Prim.Native.Nat.{ℕ, zero, suc, _<_}
-use mathlib.Core.Path.{_≡_, refl, sym, ap, _∙_, subst}
-use mathlib.Core.Bool as B
-use mathlib.Core.Bool.{Bool, true, false, not, _||_}
+use mathlib.Core.Path.{_≡_, refl, sym, ap, subst}
+use mathlib.Core.Bool.{Bool, true, false, not}
 use mathlib.Core.List.{List}
 use mathlib.Core.Logic.{⊎-elim}
 use lib.ListN.{getD}
@@ -14,7 +13,7 @@ use Rattle.state.specs.Step.{contradicts, isUnchanged}
 use Rattle.words.specs.Mask.{bit}
 use Rattle.queues.specs.Queue.{Rows, isEmpty, oldest, nextRow}
 use Rattle.queues.specs.Marks.{Marks, isDecided, Decided, decide}
-use Rattle.queues.specs.MarksLaws.{mask, decide-new}
+use Rattle.queues.specs.MarksLaws.{decide-new}
 use Rattle.thresholds.specs.Rows.{noRow}
 use Rattle.residual.specs.Residual.{Residual, thresholdResidual}
 use Rattle.possible_sums.specs.Search.{search, searchStep, searchVisits}
@@ -28,7 +27,7 @@ use Rattle.ends.specs.Built.{Fits, indexed}
 use Rattle.table.specs.Table.{Table, start}
 use Rattle.follows.specs.Answers.{true-false, clash}
 use Rattle.follows.specs.Decide.{decideAs}
-use Rattle.follows.specs.Stands.{decide-nothing}
+use Rattle.follows.specs.Stands.{decide-nothing, not-decided}
 use Rattle.follows.specs.Start.{mark-leads, restarted}
 use Rattle.settles.specs.Jobs.{Rises, job-built, job-ordered, job-single}
 use Rattle.settles.specs.Turned.{Steady, Goes, settle-goes}
@@ -78,12 +77,8 @@ own-decide x v m value n small h =
     w : Live
     w = live (v .states) m (v .dirty) (v .residuals)
 
-    none : isDecided m n ≡ false → (b : Bool) → bit (mask b m) n ≡ false
-    none d true = ⊎-elim (λ (e : bit (m .sure) n ≡ true). absurd (clash (isDecided m n) (ap (λ (b : Bool). b || bit (m .never) n) e) d)) (λ e. e) (true-false (bit (m .sure) n))
-    none d false = ⊎-elim (λ (e : bit (m .never) n ≡ true). absurd (clash (isDecided m n) (ap (λ (b : Bool). bit (m .sure) n || b) e ∙ B.or-true (bit (m .sure) n)) d)) (λ e. e) (true-false (bit (m .never) n))
-
     fine : (b : Bool) → isDecided m n ≡ false → contradicts (decide b m n .step) ≡ false
-    fine b d = ap (λ (y : Decided). contradicts (y .step)) (decide-new b m n (none d b) (none d (not b)))
+    fine b d = ap (λ (y : Decided). contradicts (y .step)) (decide-new b m n (not-decided m n d b) (not-decided m n d (not b)))
 
     by : (b : Bool) → isDecided m n ≡ false → Own x v (decide b m n .marks)
     by true d = steady-own x _ _ (live (v .states) (decide true m n .marks) (v .dirty) (v .residuals)) (mark-goes x (start (bit (m .sure)) (bit (m .never))) w n true small h .0 (fine true d))
