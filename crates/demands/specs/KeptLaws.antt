@@ -2,9 +2,9 @@
 use Prim.Native.Nat.{ℕ, zero, suc, _+_, _%_, _<_, _≤_}
 use native.Mathlib.Omega.{arith}
 use mathlib.Core.Path.{_≡_, refl, sym, ap, _∙_, subst}
-use mathlib.Core.Bool.{Bool, true, false, cond, _||_}
+use mathlib.Core.Bool.{Bool, true, false, cond}
 use mathlib.Core.List.{List, [], _∷_, _++_}
-use lib.ListN.{length, getD, set, length-set, length-replicate}
+use lib.ListN.{length, length-append, getD, set, length-set, length-replicate}
 use lib.Dec.{eqb, leb}
 use borrow.Author.Tests.{leb-false}
 use Rattle.numeric.specs.Area.{weightOfArea}
@@ -33,13 +33,15 @@ use Rattle.regions.specs.Drain as Drain
 use Rattle.regions.specs.Sift.{Sifted, tryRow, siftFrom}
 use Rattle.regions.specs.Sift as Sift
 use Rattle.records.specs.Record.{Record, header, opens, adds, areas, seal, mark, settle, sift, unknown}
-use Rattle.job.specs.Job.{Check, check, first, lastTerms, allTerms, addTerm}
-use Rattle.planner.specs.File.{File, Answer, settled, sifted, begun, refusal, wrongTurn, noSuchNode, notRising, badBound, badValue, tooMany, tooManyTerms, apply, settledFile, siftedFile, after, readFrom, fileOf}
+use Rattle.job.specs.Job.{lastTerms, allTerms, addTerm}
+use Rattle.planner.specs.File.{File, Answer, settled, sifted, begun, refusal, tooMany, tooManyTerms, apply, settledFile, siftedFile, after, readFrom, fileOf}
 use Rattle.planner.specs.FileLaws.{read-taken}
 use Rattle.ends.specs.Keeps.{keeps-row, keeps-residual}
 use Rattle.ends.specs.Turns.{Indexed}
-use Rattle.ends.specs.Built.{indexed}
-use Rattle.ends.specs.Files.{Good, good-begun, good-apply, Passed, read-passed}
+use Rattle.ends.specs.Settles.{tries}
+use Rattle.ends.specs.Built.{every-last, indexed}
+use Rattle.ends.specs.Files.{Good, good-begun, taken, good-apply, Passed, read-passed}
+use Rattle.follows.specs.Answers.{or-false}
 use Rattle.demands.specs.SizeLaws.{Short, row-terms-few}
 
 -- ---- QUEUES KEEP THEIR LENGTH
@@ -273,18 +275,6 @@ module _ (x : Index) (ix : Indexed x) where
         by true = (long, gcds-long)
         by false = (long, gcds-long)
 
-    abbrev goes : ℕ → Live → List ℕ → Step → ℕ → Bool → Bool → Bool → Sifted
-    goes n v gcds k visits failed none stopped =
-        let d = Drain.settle x v in
-        let t = tryRow x (d .live) gcds visits in
-        elim failed [
-          | true ↦ Sift.sifted (d .live) gcds Contradiction visits
-          | false ↦ elim none [
-            | true ↦ Sift.sifted (d .live) gcds (joined k (d .step)) visits
-            | false ↦ elim stopped [ true ↦ t | false ↦ siftFrom n x (t .live) (t .gcds) (joined (joined k (d .step)) (t .step)) (t .visits) ]
-          ]
-        ]
-
     sifts-from : (n : ℕ) (v : Live) (gcds : List ℕ) (k : Step) (visits : ℕ) → Long v → length gcds ≡ 1025 → Sifts (siftFrom n x v gcds k visits)
     unfolding siftFrom
     sifts-from zero v gcds k visits l e = (l, e)
@@ -295,7 +285,7 @@ module _ (x : Index) (ix : Indexed x) where
         tried : Sifts (tryRow x (Drain.settle x v .live) gcds visits)
         tried = sifts-try (Drain.settle x v .live) gcds visits (long-settle v l) e
 
-        by : ((u : Live) (g : List ℕ) (i : Step) (m : ℕ) → Long u → length g ≡ 1025 → Sifts (siftFrom n x u g i m)) → (a b c : Bool) → Sifts (goes n v gcds k visits a b c)
+        by : ((u : Live) (g : List ℕ) (i : Step) (m : ℕ) → Long u → length g ≡ 1025 → Sifts (siftFrom n x u g i m)) → (a b c : Bool) → Sifts (tries x n v gcds k visits a b c)
         by ih true b c = (long-settle v l, e)
         by ih false true c = (long-settle v l, e)
         by ih false false true = tried
@@ -326,41 +316,16 @@ kept-begun = record {
   answers = omega arith;
 }
 
--- The last check of a record that is not refused.
-passes : (b : Bool) (n : ℕ) (cs : List Check) → 0 < n → first (check b n ∷ cs) ≡ 0 → (b ≡ false) × (first cs ≡ 0)
-unfolding first
-passes true n cs h e = absurd (omega arith)
-passes false n cs h e = (refl, e)
-
-room : (f : File) (r : Record) → refusal f r ≡ 0 → tooMany f r ≡ false
-unfolding refusal
-room f r h =
-    let a = passes (wrongTurn f r) 3 _ (omega arith) h in
-    let b = passes (f .contradicted) 9 _ (omega arith) (a .1) in
-    let c = passes (noSuchNode f r) 5 _ (omega arith) (b .1) in
-    let d = passes (notRising f r) 6 _ (omega arith) (c .1) in
-    let e = passes (badBound r) 7 _ (omega arith) (d .1) in
-    let g = passes (badValue r) 8 _ (omega arith) (e .1) in
-    passes (tooMany f r) 4 _ (omega arith) (g .1) .0
-
-neither : (a b : Bool) → (a || b) ≡ false → (a ≡ false) × (b ≡ false)
-neither true b h = absurd (let z : _≡_ {A = ℕ} 0 1 = cc in omega arith)
-neither false b h = (refl, h)
-
-length-last : {X : Type 0} (xs : List X) (x : X) → length (xs ++ (x ∷ [])) ≡ suc (length xs)
-length-last [] x = refl
-length-last (y ∷ xs) x = ap suc (length-last xs x)
-
 all-term : (x : Term) (ts : List Threshold) → allTerms (addTerm x ts) ≤ allTerms ts + 1
 unfolding allTerms addTerm
 all-term x [] = omega arith
-all-term x (t ∷ []) = omega (arith, length-last (t .terms) x)
+all-term x (t ∷ []) = omega (arith, length-append (t .terms) (x ∷ []))
 all-term x (t ∷ u ∷ us) = omega (arith, all-term x (u ∷ us))
 
 short-term : (x : Term) (ts : List Threshold) → lastTerms ts < 1024 → Every Short ts → Every Short (addTerm x ts)
 unfolding lastTerms addTerm
 short-term x [] h a = tt
-short-term x (t ∷ []) h a = (omega (arith, length-last (t .terms) x), tt)
+short-term x (t ∷ []) h a = (omega (arith, length-append (t .terms) (x ∷ [])), tt)
 short-term x (t ∷ u ∷ us) h a = (a .0, short-term x (u ∷ us) h (a .1))
 
 all-open : (t : Threshold) (ts : List Threshold) → t .terms ≡ [] → allTerms (ts ++ (t ∷ [])) ≡ allTerms ts
@@ -368,23 +333,19 @@ unfolding allTerms
 all-open t [] e = omega (arith, ap length e)
 all-open t (u ∷ ts) e = omega (arith, all-open t ts e)
 
-short-open : (t : Threshold) (ts : List Threshold) → Short t → Every Short ts → Every Short (ts ++ (t ∷ []))
-short-open t [] h a = (h, tt)
-short-open t (u ∷ ts) h a = (a .0, short-open t ts h (a .1))
-
 module _ (f : File) (k : Kept f) where
   job-index : Indexed (indexOf (f .job))
   job-index = indexed (f .job) (k .good .job)
 
   kept-term : (x : Term) → tooManyTerms f ≡ false → (allTerms (addTerm x (f .job .thresholds)) ≤ 4096) × Every Short (addTerm x (f .job .thresholds))
   kept-term x h =
-      let n = neither (leb 1024 (lastTerms (f .job .thresholds))) (leb 4096 (allTerms (f .job .thresholds))) h in (
+      let n = or-false (leb 1024 (lastTerms (f .job .thresholds))) (leb 4096 (allTerms (f .job .thresholds))) h in (
         omega (arith, all-term x (f .job .thresholds), leb-false 4096 (allTerms (f .job .thresholds)) (n .1)),
         short-term x (f .job .thresholds) (leb-false 1024 (lastTerms (f .job .thresholds)) (n .0)) (k .each),
       )
 
   one-more : (a : Answer) → leb 64 (length (f .answers)) ≡ false → length (f .answers ++ (a ∷ [])) ≤ 64
-  one-more a h = omega (arith, length-last (f .answers) a, leb-false 64 (length (f .answers)) h)
+  one-more a h = omega (arith, length-append (f .answers) (a ∷ []), leb-false 64 (length (f .answers)) h)
 
   kept-by : (r : Record) → tooMany f r ≡ false → Good (apply f r) → Kept (apply f r)
   unfolding apply settledFile siftedFile Drain.mark allTerms
@@ -396,7 +357,7 @@ module _ (f : File) (k : Kept f) where
         live = k .live;
         gcds = k .gcds;
         terms = omega (arith, all-open t (f .job .thresholds) refl, k .terms);
-        each = short-open t (f .job .thresholds) (omega arith) (k .each);
+        each = every-last Short (f .job .thresholds) t (k .each) (omega arith);
         answers = k .answers;
       }
   kept-by (adds c w) h g =
@@ -434,7 +395,7 @@ module _ (f : File) (k : Kept f) where
   kept-by unknown h g = record { good = g; live = k .live; gcds = k .gcds; terms = k .terms; each = k .each; answers = k .answers }
 
   kept-apply : (r : Record) → refusal f r ≡ 0 → Kept (apply f r)
-  kept-apply r h = kept-by r (room f r h) (good-apply f (k .good) r h)
+  kept-apply r h = kept-by r (taken f r h .room) (good-apply f (k .good) r h)
 
 kept-after : (f : File) (rs : List Record) → Kept f → Passed f rs → Kept (after f rs)
 unfolding after

@@ -20,9 +20,11 @@ use Rattle.memory.specs.Lengths.{SizedRaw, SizedBuilt, SizedKept, Sized, fits-s
 use Rattle.job.specs.Job.{allTerms}
 use Rattle.planner.specs.File.{File, fileOf}
 use Rattle.planner.specs.Contents.{rawLists, rawOf, builtOf, answerNumber, answerVisits, keptOf, laid, Out, whole}
+use Rattle.ends.specs.Built.{rows-few}
+use Rattle.follows.specs.Answers.{true-false}
 use Rattle.demands.specs.Demands.{SameLengths}
-use Rattle.demands.specs.RefusalLaws.{served-when, untouched-when, true-or-false}
-use Rattle.demands.specs.SizeLaws.{rows-few, terms-few, guards-few, edges-few, neighbours-few, pairs-few, triples-few}
+use Rattle.demands.specs.RefusalLaws.{served-when, untouched-when}
+use Rattle.demands.specs.SizeLaws.{terms-few, guards-few, edges-few, neighbours-few, pairs-few, triples-few}
 use Rattle.demands.specs.KeptLaws.{Kept, kept-file}
 
 zeros-long : {X : Type 0} (z : X) (l : List X) → length (zeros z l) ≡ length l
@@ -71,7 +73,7 @@ module _ (f : File) (k : Kept f) where
       let l = joinAll (termLists rs) in
       let g = joinAll (guardLists rs) in
       let e = joinAll (edgeLists m rs) in
-      let few : length rs ≤ 1024 = omega (arith, rows-few (f .job), k .good .job .few) in
+      let few : length rs ≤ 1024 = rows-few (f .job) (k .good .job) in
       let terms : length l ≤ 4096 = omega (arith, terms-few (f .job), k .terms) in
       let guards : length g ≤ 1024 = omega (arith, guards-few (f .job), k .good .job .few) in
       let firsts = map (thresholdOf 0 ts) (numbers 0 m) in
@@ -211,4 +213,4 @@ lengths input w =
     ⊎-elim
     (λ (e : fits input w ≡ true).
     subst (λ (o : Out). SameLengths (o .work) w) (sym (served-when input w e)) (all-long (fileOf input .file) (kept-file input) w (fits-sized input w e)))
-    (λ (e : fits input w ≡ false). subst (λ (o : Out). SameLengths (o .work) w) (sym (untouched-when input w e)) (same-long w)) (true-or-false (fits input w))
+    (λ (e : fits input w ≡ false). subst (λ (o : Out). SameLengths (o .work) w) (sym (untouched-when input w e)) (same-long w)) (true-false (fits input w))

@@ -13,11 +13,11 @@ use Rattle.thresholds.specs.Rows.{rowsOf}
 use Rattle.records.specs.Record.{Record, header, opens, adds, areas, seal, mark, settle, sift, unknown}
 use Rattle.job.specs.Job.{isEmptyList}
 use Rattle.planner.specs.File.{File, begun, refusal, apply, settledFile, after, planned}
-use Rattle.ends.specs.Files.{Passed}
+use Rattle.ends.specs.Files.{Taken, taken, Passed}
 use Rattle.follows.specs.Answers.{clash, or-false}
 use Rattle.follows.specs.Decide.{decideAs}
 use Rattle.settles.specs.Seals.{ownStart}
-use Rattle.settles.specs.Records.{Taken, taken, From, Breaks, Keeps, keeps-begun, keeps-apply, seal-from, mark-from, settle-from}
+use Rattle.settles.specs.Records.{From, Breaks, Keeps, keeps-begun, keeps-apply, seal-from, mark-from, settle-from}
 use Rattle.demands.specs.Reading.{NoSift, markedNode, marksOnly}
 use Rattle.demands.specs.Demands.{ExactlyTheTable}
 use Rattle.demands.specs.SettleLaws.{start-same, Ending, exactly, stood}

@@ -15,6 +15,7 @@ use Rattle.numeric.specs.Threshold.{Job}
 use Rattle.thresholds.specs.Rows.{Row, rowsOf}
 use Rattle.records.specs.Record.{Record, header, opens, adds, areas, seal, mark, settle, sift, unknown}
 use Rattle.planner.specs.File.{File, begun, apply, settledFile, after, planned}
+use Rattle.planner.specs.FileLaws.{after-snoc}
 use Rattle.ends.specs.Files.{Passed, planned-passed}
 use Rattle.table.specs.Table.{Table, knownOf, possibleOf}
 use Rattle.table.specs.TableLaws.{Le, follows-more}
@@ -108,11 +109,6 @@ same-figures j s f g e h k =
 -- It contradicted and a conflict follows from all its marks, or it rests where the table from them does.
 abbrev Side : File → Job → Table → Type 0
 Side f j s = ((f .contradicted ≡ true) × Broken (rowsOf j) s) ⊎ ((f .job ≡ j) × Still j s (f .live))
-
-after-snoc : (f : File) (rs : List Record) (r : Record) → after f (rs ++ (r ∷ [])) ≡ apply (after f rs) r
-unfolding after
-after-snoc f [] r = refl
-after-snoc f (x ∷ xs) r = after-snoc (apply f x) xs r
 
 module _ (rs : List Record) (passes : Passes begun (rs ++ (settle ∷ []))) (plain : NoSift rs) where
   abbrev all : List Record

@@ -1,19 +1,18 @@
 -- Records that were taken pass every check but 9 by themselves. So what demand 3's last claim asks of its files narrows it nowhere: it
 -- says nothing of a file that is not refused, and of one that is refused by 9 only what stands behind.
-use Prim.Native.Nat.{ℕ, suc}
+use Prim.Native.Nat.{ℕ}
 use native.Mathlib.Omega.{arith}
 use mathlib.Core.Path.{_≡_, refl, sym, ap, _∙_, subst}
-use mathlib.Core.Bool.{Bool, true, false, not}
+use mathlib.Core.Bool.{Bool, false, not}
 use mathlib.Core.List.{List, [], _∷_, _++_}
-use lib.ListN.{length, replicate, length-replicate}
+use lib.ListN.{length, length-append, replicate, length-replicate}
 use lib.Dec.{leb}
 use Rattle.numeric.specs.Threshold.{Job}
 use Rattle.state.specs.declared.Step.the-variants.{Unchanged}
 use Rattle.records.specs.Record.{Record, header, opens, adds, areas, seal, mark, settle, sift, unknown}
 use Rattle.job.specs.Job.{Check, check, first}
 use Rattle.planner.specs.File.{File, Answer, settled, cleared, begun, refusal, apply, settledFile, siftedFile, planned}
-use Rattle.ends.specs.Files.{Passed, planned-passed}
-use Rattle.settles.specs.Records.{Taken, taken}
+use Rattle.ends.specs.Files.{taken, Passed, planned-passed}
 use Rattle.demands.specs.Reading.{records, decoded, plainly, Passes}
 use Rattle.demands.specs.ReadOnLaws.{planned-over, Level, level-same, level-apply}
 
@@ -60,12 +59,8 @@ alike-refusal f g r a =
     ∙ ap (λ (c : Bool). refusal (plainFile (g .started) (g .job) (g .sealed) c (length (f .answers))) r) (a .contradicted)
     ∙ ap (λ (n : ℕ). refusal (plainFile (g .started) (g .job) (g .sealed) (g .contradicted) n) r) (a .answers) ∙ sym (refusal-is g r)
 
-length-last : {X : Type 0} (xs : List X) (x : X) → length (xs ++ (x ∷ [])) ≡ suc (length xs)
-length-last [] x = refl
-length-last (y ∷ xs) x = ap suc (length-last xs x)
-
 more-answers : (xs ys : List Answer) (x y : Answer) → length xs ≡ length ys → length (xs ++ (x ∷ [])) ≡ length (ys ++ (y ∷ []))
-more-answers xs ys x y e = length-last xs x ∙ ap suc e ∙ sym (length-last ys y)
+more-answers xs ys x y e = omega (arith, length-append xs (x ∷ []), e, length-append ys (y ∷ []))
 
 -- what the two have after a record
 module _ (f g : File) (e : length (f .answers) ≡ length (g .answers)) where

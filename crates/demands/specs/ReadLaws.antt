@@ -14,6 +14,7 @@ use borrow.Author.Tests.{eqb-true, eqb-false, ltb-false}
 use Rattle.records.specs.Record.{kindOf, bodyLength, Record, recordOf}
 use Rattle.planner.specs.File.{File, begun, apply, Outcome, outcome, bodyOf, recordAt, unknownKind, cutBody, refusal, refusalAt, readFrom, fileOf, planned}
 use Rattle.planner.specs.FileLaws.{drop-take, same-body}
+use Rattle.follows.specs.Answers.{or-false}
 use Rattle.demands.specs.Reading.{Decoded, records, damaged, decodeFrom, decoded}
 
 -- A record that is not refused has a known kind and a whole body.
@@ -24,10 +25,6 @@ whole-body f kind rest h = by (unknownKind kind) (cutBody kind rest) h
     by true b e = absurd (omega arith)
     by false true e = absurd (omega arith)
     by false false e = refl
-
-not-cut : (a b : Bool) → (a || b) ≡ false → b ≡ false
-not-cut true b h = absurd (let z : _≡_ {A = ℕ} 0 1 = cc in omega arith)
-not-cut false b h = h
 
 -- One record more, of a kind that is known, with its whole body.
 module _ (n kind : ℕ) (rest : List ℕ) (taken : List Record) where
@@ -89,7 +86,7 @@ module _ (n o kind : ℕ) (rest : List ℕ) (f : File) (taken : List Record) whe
       let d : drop size (take k rest) ≡ take (r .at - (o + 1 + size)) (drop size rest) =
       drop-take size k rest ∙ (let g : k - size ≡ r .at - (o + 1 + size) = omega arith in ap (λ (j : ℕ). take j (drop size rest)) g) in
       let body : size ≤ length rest =
-      let c = ltb-false (length (bodyOf kind rest)) size (not-cut (unknownKind kind) (cutBody kind rest) known) in
+      let c = ltb-false (length (bodyOf kind rest)) size (or-false (unknownKind kind) (cutBody kind rest) known .1) in
       omega (arith, c, length-take size rest) in
       record {
         from = omega (arith, b);

@@ -14,8 +14,8 @@ use Rattle.numeric.specs.Area.{weightOfArea}
 use Rattle.records.specs.Record.{Record, header, opens, adds, areas, seal, mark, settle, sift, unknown, kindOf, bodyLength}
 use Rattle.job.specs.Job.{Check, check, first, isEmptyList, addTerm}
 use Rattle.planner.specs.File.{File, begun, refusal, wrongTurn, noSuchNode, notRising, badBound, badValue, tooMany, apply, settledFile, siftedFile, Outcome, outcome, recordAt, unknownKind, cutBody, refusalAt, readFrom, fileOf, planned, after}
-use Rattle.follows.specs.Answers.{clash, or-false, not-false}
-use Rattle.settles.specs.Records.{Taken, taken}
+use Rattle.ends.specs.Files.{Taken, taken}
+use Rattle.follows.specs.Answers.{clash, or-false, or-middle, not-false}
 use Rattle.demands.specs.Reading.{Decoded, records, damaged, decodeFrom, decoded, plainly, plainlyAll, Passes}
 
 -- ---- READING
@@ -175,8 +175,8 @@ closed-plainly : (f : File) → f .started ≡ true → f .sealed ≡ true → (
 unfolding plainly apply
 closed-plainly f s k (header n) t = absurd (clash (f .started) s (t .turn))
 closed-plainly f s k (opens n b) t = absurd (clash (f .sealed) k (or-false (not (f .started)) (f .sealed) (t .turn) .1))
-closed-plainly f s k (adds c w) t = absurd (clash (f .sealed) k (or-false (not (f .started)) (f .sealed) (or-false (not (f .started) || f .sealed) (isEmptyList (f .job .thresholds)) (t .turn) .0) .1))
-closed-plainly f s k (areas c a) t = absurd (clash (f .sealed) k (or-false (not (f .started)) (f .sealed) (or-false (not (f .started) || f .sealed) (isEmptyList (f .job .thresholds)) (t .turn) .0) .1))
+closed-plainly f s k (adds c w) t = absurd (clash (f .sealed) k (or-middle (not (f .started)) (f .sealed) (isEmptyList (f .job .thresholds)) (t .turn)))
+closed-plainly f s k (areas c a) t = absurd (clash (f .sealed) k (or-middle (not (f .started)) (f .sealed) (isEmptyList (f .job .thresholds)) (t .turn)))
 closed-plainly f s k seal t = absurd (clash (f .sealed) k (or-false (not (f .started)) (f .sealed) (t .turn) .1))
 closed-plainly f s k (mark n v) t = record { job = refl; started = s; sealed = k }
 closed-plainly f s k settle t = record { job = refl; started = s; sealed = k }

@@ -1,5 +1,5 @@
 -- What the demands say of a file: its records, marks and job, read on behind a refusal 9, and the figures that two ends share.
-use Prim.Native.Nat.{ℕ, zero, suc, _+_, _<_}
+use Prim.Native.Nat.{ℕ, zero, suc, _<_}
 use mathlib.Core.Path.{_≡_}
 use mathlib.Core.Bool.{Bool, true, false, cond, _||_, _&&_, not}
 use mathlib.Core.List.{List, [], _∷_, _++_, List·Memᴰ}

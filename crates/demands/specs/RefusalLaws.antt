@@ -6,7 +6,7 @@ use native.Mathlib.Omega.{arith}
 use mathlib.Core.Path.{_≡_, refl, sym, ap, ap₂, _∙_}
 use mathlib.Core.Bool.{Bool, true, false, _&&_}
 use mathlib.Core.List.{List, []}
-use mathlib.Core.Logic.{_⊎_, inl, inr, ⊎-elim, _≢_, _↔_}
+use mathlib.Core.Logic.{⊎-elim, _≢_, _↔_}
 use lib.ListN.{length, take, length-take}
 use lib.Dec.{ltb, leb}
 use borrow.Author.Tests.{leb-true, le-leb, le-ltb}
@@ -15,6 +15,7 @@ use Rattle.planner.specs.File.{Outcome, outcome, fileOf, begun, after, planned,
 use Rattle.planner.specs.FileLaws.{read-up-to, read-taken, read-enough, read-cut}
 use Rattle.memory.specs.Lengths.{fits-input}
 use Rattle.planner.specs.Contents.{Out, served, untouched, whole}
+use Rattle.follows.specs.Answers.{true-false, and-left, and-right}
 use Rattle.demands.specs.Demands.{accepted}
 
 pub numbers : (input : List ℕ) (w : Work) → whole input w .refused ≤ 10
@@ -49,20 +50,11 @@ ten input w = by (fits input w)
     by true = ((λ e. absurd (let k = read-up-to (length input) 0 input begun [] in omega arith)), λ e. absurd (let z : _≡_ {A = ℕ} 0 1 = cc in omega arith))
     by false = ((λ e. refl), λ e. refl)
 
-and-both : (a b : Bool) → (a && b) ≡ true → (a ≡ true) × (b ≡ true)
-and-both true b h = (refl, h)
-and-both false b h = absurd (let z : _≡_ {A = ℕ} 0 1 = cc in omega arith)
-
 shorter-fits : (x input : List ℕ) (w : Work) → length x ≤ length input → fits input w ≡ true → fits x w ≡ true
 unfolding fits
 shorter-fits x input w h e =
-    let a = and-both (fitsRaw (w .raw) && fitsBuilt (w .built) && fitsKept (w .kept)) (leb (length input) 65536) e in
-    let k = leb-true (length input) 65536 (a .1) in
-    ap₂ (λ (p q : Bool). p && q) (a .0) (le-leb (length x) 65536 (omega arith))
-
-pub true-or-false : (b : Bool) → (b ≡ true) ⊎ (b ≡ false)
-true-or-false true = inl refl
-true-or-false false = inr refl
+    let k = leb-true (length input) 65536 (and-right (fitsRaw (w .raw) && fitsBuilt (w .built) && fitsKept (w .kept)) (leb (length input) 65536) e) in
+    ap₂ (λ (p q : Bool). p && q) (and-left (fitsRaw (w .raw) && fitsBuilt (w .built) && fitsKept (w .kept)) (leb (length input) 65536) e) (le-leb (length x) 65536 (omega arith))
 
 -- the two ways of the call
 abbrev ways : List ℕ → Work → Bool → Out
@@ -101,7 +93,7 @@ refused input w h k =
     ap (λ (o : Out). whole (take (o .at) input) w) q
     ∙ served-when (take a input) w (shorter-fits (take a input) input w (omega arith) e) ∙ ap (λ (o : Outcome). served o w) c
     ∙ ap accepted (sym q))
-    (λ (e : fits input w ≡ false). absurd (k (ap (λ (o : Out). o .refused) (untouched-when input w e)))) (true-or-false (fits input w))
+    (λ (e : fits input w ≡ false). absurd (k (ap (λ (o : Out). o .refused) (untouched-when input w e)))) (true-false (fits input w))
 
 -- Over memory that fits, the file is read.
 pub planned-file : (input : List ℕ) → length input ≤ 65536 → planned input ≡ fileOf input

@@ -14,6 +14,7 @@ use Rattle.thresholds.specs.Rows.{Row, rowsOf}
 use Rattle.between.specs.Between.{Live}
 use Rattle.records.specs.Record.{Record, seal, mark, settle}
 use Rattle.planner.specs.File.{File, begun, refusal, apply, settledFile, after, planned}
+use Rattle.ends.specs.Blank.{bit-behind}
 use Rattle.ends.specs.Files.{Passed, planned-passed}
 use Rattle.table.specs.Table.{Table, start, ReachesConflict, AtRest}
 use Rattle.table.specs.TableLaws.{run-below}
@@ -25,7 +26,6 @@ use Rattle.follows.specs.Decide.{Broken, decideAs}
 use Rattle.follows.specs.Stands.{tableAt}
 use Rattle.follows.specs.Settled.{every-conflict}
 use Rattle.follows.specs.Ends.{reaches}
-use Rattle.settles.specs.Seals.{bit-behind}
 use Rattle.settles.specs.Records.{From, Keeps, keeps-begun, keeps-after, seal-from, mark-from, settle-from}
 use Rattle.settles.specs.Still.{Still, rests, every-end, not-broken, known-is, possible-is, settle-still}
 use Rattle.demands.specs.Reading.{SameEnd, decidedIn, decidedAnd}

@@ -2,7 +2,7 @@
 use Prim.Native.Nat.{ℕ, zero, suc}
 use native.Mathlib.Omega.{arith}
 use mathlib.Core.Path.{_≡_, refl, sym, ap, _∙_, subst}
-use mathlib.Core.Bool.{Bool, true, false, _||_, not}
+use mathlib.Core.Bool.{Bool, true, false, not}
 use mathlib.Core.List.{List, [], _∷_, _++_, List·Memᴰ, List·Memᴰ·head, List·Memᴰ·tail, List·Memᴰ·cases-cons, List·Memᴰ·not-nil}
 use mathlib.Core.Logic.{_⊎_, inl, inr, ⊎-elim, _≢_}
 use lib.ListN.{length, getD, replicate}
@@ -12,13 +12,13 @@ use Rattle.numeric.specs.Threshold.{Term, Threshold, Job}
 use Rattle.state.specs.declared.Step.{Step}
 use Rattle.state.specs.declared.Step.the-variants.{Unchanged, Changed, Contradiction}
 use Rattle.state.specs.declared.State.{State}
-use Rattle.state.specs.Step.{joined, contradicts, isUnchanged}
+use Rattle.state.specs.Step.{contradicts, isUnchanged}
 use Rattle.words.specs.Mask.{bit}
 use Rattle.queues.specs.Queue.{isEmpty, oldest, nextRow}
 use Rattle.queues.specs.Marks.{isDecided}
-use Rattle.row.specs.Terms.{rowTerms, sameTerms}
+use Rattle.row.specs.Terms.{rowTerms}
 use Rattle.row.specs.TermsLaws.{All as Every}
-use Rattle.thresholds.specs.Rows.{Row, rowOf, noRow, guard, insertGuard, place, placeAll, rowsOf, hasNonunit}
+use Rattle.thresholds.specs.Rows.{Row, noRow, rowsOf, hasNonunit}
 use Rattle.residual.specs.Residual.{Residual, thresholdResidual}
 use Rattle.possible_sums.specs.declared.Search.{Search}
 use Rattle.possible_sums.specs.declared.Search.the-variants.{Skipped, Fits, Nothing, Cut}
@@ -29,11 +29,14 @@ use Rattle.regions.specs.Drain as Drain
 use Rattle.regions.specs.Sift.{Sifted, tryRow, siftFrom}
 use Rattle.regions.specs.Sift as Sift
 use Rattle.records.specs.Record.{Record, header, opens, adds, areas, seal, mark, settle, sift, unknown}
-use Rattle.job.specs.Job.{isEmptyList, check, first}
-use Rattle.planner.specs.File.{File, Answer, settled, sifted, begun, wrongTurn, noSuchNode, notRising, badBound, badValue, tooMany, refusal, apply, settledFile, siftedFile, after, planned}
+use Rattle.job.specs.Job.{isEmptyList}
+use Rattle.planner.specs.File.{File, Answer, settled, sifted, begun, wrongTurn, apply, settledFile, siftedFile, after, planned}
 use Rattle.memory.specs.Buffers.{Work, fits}
 use Rattle.planner.specs.Contents.{answerVisits, Out, whole}
-use Rattle.ends.specs.Files.{Passed, planned-passed}
+use Rattle.ends.specs.Built.{every-last, every-mem, rows-every}
+use Rattle.ends.specs.Settles.{tries}
+use Rattle.ends.specs.Files.{taken as passed, Passed, planned-passed}
+use Rattle.follows.specs.Answers.{clash, or-false, or-middle, not-false}
 use Rattle.demands.specs.Reading.{Marked}
 use Rattle.demands.specs.RefusalLaws.{taken, files}
 use Rattle.demands.specs.Cases.{Right, takes, forces, file-A, file-B, writtenAll, written, bytes, shown-right}
@@ -43,25 +46,10 @@ use Rattle.demands.specs.Cases.{Right, takes, forces, file-A, file-B, wr
 abbrev From : List Threshold → Row → Type 0
 From ts r = (t : Threshold) × List·Memᴰ t ts × (r .terms ≡ rowTerms (t .terms))
 
-place-from : (ts : List Threshold) (t : Threshold) (rs : List Row) → List·Memᴰ t ts → Every (From ts) rs → Every (From ts) (place t rs)
-unfolding place
-place-from ts t [] m a = ((t, m, refl), tt)
-place-from ts t (r ∷ rs) m a = by (place-from ts t rs m (a .1)) (sameTerms (r .raw) (t .terms))
-  where
-    by : Every (From ts) (place t rs) → (b : Bool)
-        → Every (From ts) (elim b [ true ↦ rowOf (r .raw) (r .terms) (insertGuard (guard (t .bound) (t .node)) (r .guards)) ∷ rs | false ↦ r ∷ place t rs ])
-    by ih true = (a .0, a .1)
-    by ih false = (a .0, ih)
-
-all-from : (ts us : List Threshold) (rs : List Row) → ((t : Threshold) → List·Memᴰ t us → List·Memᴰ t ts) → Every (From ts) rs → Every (From ts) (placeAll us rs)
-unfolding placeAll
-all-from ts [] rs m a = a
-all-from ts (t ∷ us) rs m a = all-from ts us (place t rs) (λ u i. m u (List·Memᴰ·tail i)) (place-from ts t rs (m t (List·Memᴰ·head refl)) a)
-
-from-at : (ts : List Threshold) (rs : List Row) → Every (From ts) rs → (r : ℕ) → (getD rs r noRow .terms ≡ []) ⊎ From ts (getD rs r noRow)
-from-at ts [] a r = inl refl
-from-at ts (x ∷ rs) a zero = inr (a .0)
-from-at ts (x ∷ rs) a (suc r) = from-at ts rs (a .1) r
+rows-from : (j : Job) (r : ℕ) → (getD (rowsOf j) r noRow .terms ≡ []) ⊎ From (j .thresholds) (getD (rowsOf j) r noRow)
+rows-from j =
+    rows-every (λ (r : Row). (r .terms ≡ []) ⊎ From (j .thresholds) r) (λ (t : Threshold). List·Memᴰ t (j .thresholds)) (λ t m. inr (t, m, refl)) (λ t r m a. a) (inl refl) j
+    (every-mem (λ (t : Threshold). List·Memᴰ t (j .thresholds)) (j .thresholds) (λ t m. m))
 
 -- ---- THE VISITS OF A SIFT
 
@@ -90,7 +78,7 @@ module _ (j : Job) where
       by (Cut n) q = inr (t, m, s, d, inr (inr q))
 
   searched-row : (r : ℕ) (s : State) (d : ℕ → Bool) (visits : ℕ) → Visited j visits → Visited j (searchVisits visits (search (getD (rowsOf j) r noRow .terms) s d))
-  searched-row r s d visits v = by (from-at (j .thresholds) (rowsOf j) (all-from (j .thresholds) (j .thresholds) [] (λ t i. i) tt) r)
+  searched-row r s d visits v = by (rows-from j r)
     where
       row : Row
       row = getD (rowsOf j) r noRow
@@ -124,19 +112,6 @@ module _ (j : Job) where
       by true = searched-row r (stateAt v r) (isDecided (a .marks)) visits h
       by false = h
 
-  -- One turn of a sift: it ends, or goes on.
-  abbrev goes : ℕ → Live → List ℕ → Step → ℕ → Bool → Bool → Bool → Sifted
-  goes n v gcds k visits failed none stopped =
-      let d = Drain.settle (indexOf j) v in
-      let t = tryRow (indexOf j) (d .live) gcds visits in
-      elim failed [
-        | true ↦ Sift.sifted (d .live) gcds Contradiction visits
-        | false ↦ elim none [
-          | true ↦ Sift.sifted (d .live) gcds (joined k (d .step)) visits
-          | false ↦ elim stopped [ true ↦ t | false ↦ siftFrom n (indexOf j) (t .live) (t .gcds) (joined (joined k (d .step)) (t .step)) (t .visits) ]
-        ]
-      ]
-
   sifting : (n : ℕ) (v : Live) (gcds : List ℕ) (k : Step) (visits : ℕ) → Visited j visits → Visited j (siftFrom n (indexOf j) v gcds k visits .visits)
   unfolding siftFrom
   sifting zero v gcds k visits h = h
@@ -147,7 +122,7 @@ module _ (j : Job) where
       d = Drain.settle (indexOf j) v
 
       by : ((u : Live) (g : List ℕ) (i : Step) (m : ℕ) → Visited j m → Visited j (siftFrom n (indexOf j) u g i m .visits)) → (a b c : Bool)
-          → Visited j (goes n v gcds k visits a b c .visits)
+          → Visited j (tries (indexOf j) n v gcds k visits a b c .visits)
       by ih true b c = h
       by ih false true c = h
       by ih false false true = tried (d .live) gcds visits h
@@ -158,75 +133,39 @@ module _ (j : Job) where
 abbrev Honest : Job → List Answer → Type 0
 Honest j = Every (λ (a : Answer). Visited j (answerVisits a))
 
-honest-last : (j : Job) (xs : List Answer) (a : Answer) → Honest j xs → Visited j (answerVisits a) → Honest j (xs ++ (a ∷ []))
-honest-last j [] a h v = (v, tt)
-honest-last j (x ∷ xs) a h v = (h .0, honest-last j xs a (h .1) v)
-
 pub data Told (f : File) : Type 0 where
   unsealed : f .sealed ≡ false → f .answers ≡ [] → Told f
   sealed : f .started ≡ true → f .sealed ≡ true → Honest (f .job) (f .answers) → Told f
 
-clash : {A : Type 0} → true ≡ false → A
-clash e = absurd (let z : _≡_ {A = ℕ} 0 1 = cc in omega arith)
-
--- The turn of a record that is not refused.
-in-turn : (f : File) (r : Record) → refusal f r ≡ 0 → wrongTurn f r ≡ false
-unfolding refusal first
-in-turn f r h = by (wrongTurn f r) h
-  where
-    by : (b : Bool) → first (check b 3 ∷ check (f .contradicted) 9 ∷ check (noSuchNode f r) 5 ∷ check (notRising f r) 6 ∷ check (badBound r) 7 ∷ check (badValue r) 8 ∷ check (tooMany f r) 4 ∷ []) ≡ 0
-        → b ≡ false
-    by true e = absurd (omega arith)
-    by false e = refl
-
--- Once sealed, no record that changes the job has its turn.
-closed : {A : Type 0} (a b c : Bool) → b ≡ true → (a || b || c) ≡ false → A
-closed true true c e h = clash h
-closed false true c e h = clash h
-closed a false c e h = clash (sym e)
-
-closed-last : {A : Type 0} (a b : Bool) → b ≡ true → (a || b) ≡ false → A
-closed-last true true e h = clash h
-closed-last false true e h = clash h
-closed-last a false e h = clash (sym e)
-
-begins : (a b : Bool) → (not a || b) ≡ false → a ≡ true
-begins true b h = refl
-begins false b h = clash h
-
-open-job : {A : Type 0} (b : Bool) → b ≡ false → not b ≡ false → A
-open-job true e h = clash e
-open-job false e h = clash h
-
 told-apply : (f : File) (r : Record) → wrongTurn f r ≡ false → Told f → Told (apply f r)
 unfolding apply settledFile siftedFile
 told-apply f (header n) t (unsealed e a) = unsealed refl a
-told-apply f (header n) t (sealed s e a) = clash (sym s ∙ t)
+told-apply f (header n) t (sealed s e a) = absurd (clash (f .started) s t)
 told-apply f (opens n b) t (unsealed e a) = unsealed e a
-told-apply f (opens n b) t (sealed s e a) = closed-last (not (f .started)) (f .sealed) e t
+told-apply f (opens n b) t (sealed s e a) = absurd (clash (f .sealed) e (or-false (not (f .started)) (f .sealed) t .1))
 told-apply f (adds c w) t (unsealed e a) = unsealed e a
-told-apply f (adds c w) t (sealed s e a) = closed (not (f .started)) (f .sealed) (isEmptyList (f .job .thresholds)) e t
+told-apply f (adds c w) t (sealed s e a) = absurd (clash (f .sealed) e (or-middle (not (f .started)) (f .sealed) (isEmptyList (f .job .thresholds)) t))
 told-apply f (areas c w) t (unsealed e a) = unsealed e a
-told-apply f (areas c w) t (sealed s e a) = closed (not (f .started)) (f .sealed) (isEmptyList (f .job .thresholds)) e t
-told-apply f seal t (unsealed e a) = sealed (begins (f .started) (f .sealed) t) refl (subst (Honest (f .job)) (sym a) tt)
-told-apply f seal t (sealed s e a) = closed-last (not (f .started)) (f .sealed) e t
-told-apply f (mark n v) t (unsealed e a) = open-job (f .sealed) e t
+told-apply f (areas c w) t (sealed s e a) = absurd (clash (f .sealed) e (or-middle (not (f .started)) (f .sealed) (isEmptyList (f .job .thresholds)) t))
+told-apply f seal t (unsealed e a) = sealed (not-false (f .started) (or-false (not (f .started)) (f .sealed) t .0)) refl (subst (Honest (f .job)) (sym a) tt)
+told-apply f seal t (sealed s e a) = absurd (clash (f .sealed) e (or-false (not (f .started)) (f .sealed) t .1))
+told-apply f (mark n v) t (unsealed e a) = absurd (clash (f .sealed) (not-false (f .sealed) t) e)
 told-apply f (mark n v) t (sealed s e a) = sealed s refl a
-told-apply f settle t (unsealed e a) = open-job (f .sealed) e t
+told-apply f settle t (unsealed e a) = absurd (clash (f .sealed) (not-false (f .sealed) t) e)
 told-apply f settle t (sealed s e a) =
-    sealed s refl (honest-last (f .job) (f .answers) (settled (Drain.settle (indexOf (f .job)) (f .live) .step)) a (inl refl))
-told-apply f sift t (unsealed e a) = open-job (f .sealed) e t
+    sealed s refl (every-last (λ (b : Answer). Visited (f .job) (answerVisits b)) (f .answers) (settled (Drain.settle (indexOf (f .job)) (f .live) .step)) a (inl refl))
+told-apply f sift t (unsealed e a) = absurd (clash (f .sealed) (not-false (f .sealed) t) e)
 told-apply f sift t (sealed s e a) =
     let g = Sift.sift (indexOf (f .job)) (f .live) (f .gcds) in
     sealed s refl
-    (honest-last (f .job) (f .answers) (sifted (g .step) (g .visits)) a (sifting (f .job) Drain.turns (f .live) (f .gcds) Unchanged 0 (inl refl)))
+    (every-last (λ (b : Answer). Visited (f .job) (answerVisits b)) (f .answers) (sifted (g .step) (g .visits)) a (sifting (f .job) Drain.turns (f .live) (f .gcds) Unchanged 0 (inl refl)))
 told-apply f unknown t (unsealed e a) = unsealed e a
 told-apply f unknown t (sealed s e a) = sealed s e a
 
 told-after : (f : File) (rs : List Record) → Passed f rs → Told f → Told (after f rs)
 unfolding after
 told-after f [] p t = t
-told-after f (r ∷ rs) p t = told-after (apply f r) rs (p .1) (told-apply f r (in-turn f r (p .0)) t)
+told-after f (r ∷ rs) p t = told-after (apply f r) rs (p .1) (told-apply f r (passed f r (p .0) .turn) t)
 
 told-begun : Told begun
 unfolding begun
@@ -282,7 +221,7 @@ marksFirst unknown = false
 unmarked : (rs : List Record) → Every (λ (r : Record). marksFirst r ≡ false) rs → Marked rs 0 true → ⊥
 unmarked [] h m = List·Memᴰ·not-nil m
 unmarked (r ∷ rs) h m =
-    ⊎-elim (λ (e : mark 0 1 ≡ r). clash (ap marksFirst e ∙ h .0)) (λ (i : List·Memᴰ (mark 0 1) rs). unmarked rs (h .1) i) (List·Memᴰ·cases-cons m)
+    ⊎-elim (λ (e : mark 0 1 ≡ r). absurd (clash true refl (ap marksFirst e ∙ h .0))) (λ (i : List·Memᴰ (mark 0 1) rs). unmarked rs (h .1) i) (List·Memᴰ·cases-cons m)
 
 a-unmarked : Marked file-A 0 true → ⊥
 a-unmarked m = unmarked file-A (refl, (refl, (refl, (refl, (refl, (refl, (refl, (refl, tt)))))))) m
@@ -298,7 +237,7 @@ always-contradicts h =
     let before : List Record = header 5 ∷ opens 4 (pos 6) ∷ adds 0 4 ∷ adds 1 3 ∷ adds 2 2 ∷ seal ∷ mark 4 1 ∷ [] in
     let e : after begun (planned i .records) .contradicted ≡ true =
     ap (λ (rs : List Record). after begun rs .contradicted) (a-taken .1) ∙ h i before [] (a-taken .1) in
-    clash (sym e ∙ ap (λ (f : File). f .contradicted) (sym (taken i)) ∙ a-taken .3)
+    absurd (clash true refl (sym e ∙ ap (λ (f : File). f .contradicted) (sym (taken i)) ∙ a-taken .3))
 
 a-written : writtenAll file-A ≢ []
 unfolding writtenAll written bytes

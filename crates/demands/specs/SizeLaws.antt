@@ -1,6 +1,6 @@
--- How much a job's rows are: no more rows and guards than thresholds, no more terms and edges than the job has terms, and less than
--- two neighbours for each row.
-use Prim.Native.Nat.{ℕ, zero, suc, _+_, _*_, _<_, _≤_}
+-- How much a job's rows are: no more guards than thresholds, no more terms and edges than the job has terms, and less than two
+-- neighbours for each row.
+use Prim.Native.Nat.{ℕ, suc, _+_, _*_, _<_, _≤_}
 use native.Mathlib.Numerals.{add-one}
 use native.Mathlib.Omega.{arith}
 use mathlib.Core.Path.{_≡_, refl, ap}
@@ -22,6 +22,7 @@ use Rattle.prefixes.specs.LinksLaws.{links-few}
 use Rattle.prefixes.specs.PrepareLaws.{degreesTo, degrees-few, join-length}
 use Rattle.prepare.specs.RowsGivenTerms.{row-short}
 use Rattle.job.specs.Job.{allTerms}
+use Rattle.ends.specs.Built.{rows-every}
 
 -- ---- sums over lists
 
@@ -68,13 +69,7 @@ module _ (f : Row → ℕ) (g : Threshold → ℕ) (new : (t : Threshold) → f 
   all-sum [] rs = omega arith
   all-sum (t ∷ ts) rs = omega (arith, all-sum ts (place t rs), place-sum t rs)
 
--- NO MORE ROWS THAN THRESHOLDS,
-pub rows-few : (j : Job) → length (rowsOf j) ≤ length (j .thresholds)
-unfolding sumOf
-rows-few j =
-    omega (arith, all-sum (λ (r : Row). 1) (λ (t : Threshold). 1) (λ t. omega arith) (λ t r. omega arith) (j .thresholds) [], sum-ones (rowsOf j), sum-ones (j .thresholds))
-
--- no more terms than the thresholds have,
+-- NO MORE TERMS than the thresholds have,
 pub terms-few : (j : Job) → length (joinAll (termLists (rowsOf j))) ≤ allTerms (j .thresholds)
 unfolding sumOf
 terms-few j =
@@ -114,27 +109,8 @@ Short t = length (t .terms) ≤ 1024
 abbrev ShortRow : Row → Type 0
 ShortRow r = length (r .terms) ≤ 1024
 
-place-short : (t : Threshold) (rs : List Row) → Short t → Every ShortRow rs → Every ShortRow (place t rs)
-unfolding place
-place-short t [] h a = (omega (arith, row-short (t .terms)), tt)
-place-short t (r ∷ rs) h a = by (place-short t rs h (a .1)) (sameTerms (r .raw) (t .terms))
-  where
-    by : Every ShortRow (place t rs) → (b : Bool) → Every ShortRow (elim b [ true ↦ joinedRow t r ∷ rs | false ↦ r ∷ place t rs ])
-    by ih true = (a .0, a .1)
-    by ih false = (a .0, ih)
-
-all-short : (ts : List Threshold) (rs : List Row) → Every Short ts → Every ShortRow rs → Every ShortRow (placeAll ts rs)
-unfolding placeAll
-all-short [] rs h a = a
-all-short (t ∷ ts) rs h a = all-short ts (place t rs) (h .1) (place-short t rs (h .0) a)
-
-short-at : (rs : List Row) → Every ShortRow rs → (r : ℕ) → length (getD rs r noRow .terms) ≤ 1024
-short-at [] a r = omega arith
-short-at (x ∷ rs) a zero = a .0
-short-at (x ∷ rs) a (suc r) = short-at rs (a .1) r
-
 pub row-terms-few : (j : Job) → Every Short (j .thresholds) → (r : ℕ) → length (getD (rowsOf j) r noRow .terms) ≤ 1024
-row-terms-few j h r = short-at (rowsOf j) (all-short (j .thresholds) [] h tt) r
+row-terms-few j h r = rows-every ShortRow Short (λ t k. omega (arith, row-short (t .terms), k)) (λ t x k a. a) (omega arith) j h r
 
 -- ---- EDGES: each term is an edge of one node at most
 

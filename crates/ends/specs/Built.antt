@@ -2,9 +2,10 @@
 use Prim.Native.Nat.{ℕ, zero, suc, _+_, _≤_, _<_}
 use native.Mathlib.Nat.{not-suc-le-zero}
 use native.Mathlib.Omega.{arith}
-use mathlib.Core.Path.{_≡_, refl, _∙_}
+use mathlib.Core.Path.{_≡_, refl, sym, _∙_, subst}
 use mathlib.Core.Bool.{Bool, true, false}
-use mathlib.Core.List.{List, [], _∷_, _++_, List·Memᴰ, List·Memᴰ·head, List·Memᴰ·tail}
+use mathlib.Core.List.{List, [], _∷_, _++_, List·Memᴰ, List·Memᴰ·head, List·Memᴰ·tail, List·Memᴰ·cases-cons, List·Memᴰ·not-nil}
+use mathlib.Core.Logic.{⊎-elim}
 use lib.ListN.{length, getD, set, length-set}
 use lib.Dec.{eqb}
 use Rattle.numeric.specs.Threshold.{Term, Threshold, Job}
@@ -43,7 +44,14 @@ every-append : {X : Type 0} (P : X → Type 0) (xs ys : List X) → Every P xs �
 every-append P [] ys a b = b
 every-append P (x ∷ xs) ys a b = (a .0, every-append P xs ys (a .1) b)
 
-every-mem : {X : Type 0} (P : X → Type 0) (xs : List X) → ((x : X) → List·Memᴰ x xs → P x) → Every P xs
+pub every-last : {X : Type 0} (P : X → Type 0) (xs : List X) (x : X) → Every P xs → P x → Every P (xs ++ (x ∷ []))
+every-last P xs x a p = every-append P xs (x ∷ []) a (p, tt)
+
+pub every-each : {X : Type 0} (P : X → Type 0) (xs : List X) → Every P xs → (y : X) → List·Memᴰ y xs → P y
+every-each P [] a y m = absurd (List·Memᴰ·not-nil m)
+every-each P (x ∷ xs) a y m = ⊎-elim (λ (e : y ≡ x). subst P (sym e) (a .0)) (λ k. every-each P xs (a .1) y k) (List·Memᴰ·cases-cons m)
+
+pub every-mem : {X : Type 0} (P : X → Type 0) (xs : List X) → ((x : X) → List·Memᴰ x xs → P x) → Every P xs
 every-mem P [] f = tt
 every-mem P (x ∷ xs) f = (f x (List·Memᴰ·head refl), every-mem P xs (λ y m. f y (List·Memᴰ·tail m)))
 
@@ -56,6 +64,28 @@ every-all : {X : Type 0} (P : X → Type 0) (xs : List X) → Every P xs → All
 unfolding All
 every-all P [] a = tt
 every-all P (x ∷ xs) a = (a .0, every-all P xs (a .1))
+
+-- ---- WHAT EVERY ROW HAS: what a threshold's new row has, and what a row keeps that gets one more guard
+
+module _ (P : Row → Type 0) (Q : Threshold → Type 0) (new : (t : Threshold) → Q t → P (rowOf (t .terms) (rowTerms (t .terms)) (guard (t .bound) (t .node) ∷ [])))
+    (more : (t : Threshold) (r : Row) → Q t → P r → P (rowOf (r .raw) (r .terms) (insertGuard (guard (t .bound) (t .node)) (r .guards)))) where
+  place-every : (t : Threshold) (rs : List Row) → Q t → Every P rs → Every P (place t rs)
+  unfolding place
+  place-every t [] q a = (new t q, tt)
+  place-every t (r ∷ rs) q a = by (place-every t rs q (a .1)) (sameTerms (r .raw) (t .terms))
+    where
+      by : Every P (place t rs) → (b : Bool) → Every P (elim b [ true ↦ rowOf (r .raw) (r .terms) (insertGuard (guard (t .bound) (t .node)) (r .guards)) ∷ rs | false ↦ r ∷ place t rs ])
+      by ih true = (more t r q (a .0), a .1)
+      by ih false = (a .0, ih)
+
+  all-every : (ts : List Threshold) (rs : List Row) → Every Q ts → Every P rs → Every P (placeAll ts rs)
+  unfolding placeAll
+  all-every [] rs q a = a
+  all-every (t ∷ ts) rs q a = all-every ts (place t rs) (q .1) (place-every t rs (q .0) a)
+
+  -- and so has any number's row, if the row of nothing has it
+  pub rows-every : P noRow → (j : Job) → Every Q (j .thresholds) → (r : ℕ) → P (getD (rowsOf j) r noRow)
+  rows-every p j a = every-at P noRow (rowsOf j) p (all-every (j .thresholds) [] a tt)
 
 -- ---- rows name nodes
 
@@ -74,20 +104,11 @@ insert-fits g (h ∷ hs) n a = by (insert-fits g hs n (a .1)) (below g h)
 terms-fit : (raw : List Term) → Every Condition raw → Every Condition (rowTerms raw)
 terms-fit raw h = all-sorted Condition (merged raw) (conditions-merged (λ (n : ℕ). n < 4096) raw h)
 
-place-fits : (t : Threshold) (rs : List Row) → Fit t → Every RowFits rs → Every RowFits (place t rs)
-unfolding place
-place-fits t [] f a = (((f .node, tt), terms-fit (t .terms) (f .conditions)), tt)
-place-fits t (r ∷ rs) f a = by (place-fits t rs f (a .1)) (sameTerms (r .raw) (t .terms))
-  where
-    by : Every RowFits (place t rs) → (b : Bool)
-        → Every RowFits (elim b [ true ↦ rowOf (r .raw) (r .terms) (insertGuard (guard (t .bound) (t .node)) (r .guards)) ∷ rs | false ↦ r ∷ place t rs ])
-    by ih true = ((insert-fits (guard (t .bound) (t .node)) (r .guards) (f .node) (a .0 .0), a .0 .1), a .1)
-    by ih false = (a .0, ih)
+row-fits : (t : Threshold) → Fit t → RowFits (rowOf (t .terms) (rowTerms (t .terms)) (guard (t .bound) (t .node) ∷ []))
+row-fits t f = ((f .node, tt), terms-fit (t .terms) (f .conditions))
 
-all-fit : (ts : List Threshold) (rs : List Row) → Every Fit ts → Every RowFits rs → Every RowFits (placeAll ts rs)
-unfolding placeAll
-all-fit [] rs f a = a
-all-fit (t ∷ ts) rs f a = all-fit ts (place t rs) (f .1) (place-fits t rs (f .0) a)
+guard-fits : (t : Threshold) (r : Row) → Fit t → RowFits r → RowFits (rowOf (r .raw) (r .terms) (insertGuard (guard (t .bound) (t .node)) (r .guards)))
+guard-fits t r f a = (insert-fits (guard (t .bound) (t .node)) (r .guards) (f .node) (a .0), a .1)
 
 -- ---- no more rows than thresholds
 
@@ -105,6 +126,9 @@ all-few : (ts : List Threshold) (rs : List Row) → length (placeAll ts rs) ≤ 
 unfolding placeAll
 all-few [] rs = omega arith
 all-few (t ∷ ts) rs = omega (arith, all-few ts (place t rs), place-few t rs)
+
+pub rows-few : (j : Job) → Fits j → length (rowsOf j) ≤ 1024
+rows-few j f = omega (arith, all-few (j .thresholds) [], f .few)
 
 -- ---- a threshold's row is one of the rows
 
@@ -191,9 +215,6 @@ linked-rows rs n r h = every-mem (λ (q : ℕ). q < n) (neighbours r (links rs))
     by q l i (downward e f) = let k = links-range rs (l .prefix) (l .extension) i .1 in omega arith
     by q l i (upward e f) = let k = links-range rs (l .prefix) (l .extension) i .0 in omega arith
 
-rows-few : (j : Job) → Fits j → length (rowsOf j) ≤ 1024
-rows-few j f = omega (arith, all-few (j .thresholds) [], f .few)
-
 -- WHAT A SEAL BUILDS
 pub indexed : (j : Job) → Fits j → Indexed (indexOf j)
 indexed j f = record {
@@ -205,7 +226,7 @@ indexed j f = record {
 }
   where
     fit : (r : ℕ) → RowFits (getD (rowsOf j) r noRow)
-    fit = every-at RowFits noRow (rowsOf j) (tt, tt) (all-fit (j .thresholds) [] (f .each) tt)
+    fit = rows-every RowFits Fit row-fits guard-fits (tt, tt) j (f .each)
 
     few : length (rowsOf j) ≤ 1024
     few = rows-few j f
@@ -218,7 +239,7 @@ first-states r [] ss h = h
 first-states r (x ∷ xs) ss h =
     first-states (r + 1) xs (set ss r (stateOfRow x)) (set-bounded ss r (stateOfRow x) h (first-bounded (total (x .terms)) (length (x .guards))))
 
-first-long : (r : ℕ) (rs : List Row) (ss : List State) → length (firstStates r rs ss) ≡ length ss
+pub first-long : (r : ℕ) (rs : List Row) (ss : List State) → length (firstStates r rs ss) ≡ length ss
 unfolding firstStates
 first-long r [] ss = refl
 first-long r (x ∷ xs) ss = first-long (r + 1) xs (set ss r (stateOfRow x)) ∙ length-set ss r (stateOfRow x)

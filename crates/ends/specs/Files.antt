@@ -6,7 +6,7 @@ use mathlib.Core.Path.{_≡_, refl, sym, ap, _∙_, subst}
 use mathlib.Core.Bool.{Bool, true, false, cond, _||_}
 use mathlib.Core.List.{List, [], _∷_, _++_}
 use mathlib.Core.Logic.{_⊎_, inl, inr}
-use lib.ListN.{length, getD, drop, replicate, length-replicate}
+use lib.ListN.{length, length-append, drop, replicate, length-replicate}
 use lib.Dec.{eqb, ltb, leb}
 use lib.IntN.{ℤ, pos, negsuc}
 use lib.Signed.{ltZ}
@@ -24,24 +24,20 @@ use Rattle.thresholds.specs.Guards.{Bound}
 use Rattle.propagate.specs.ScanLaws.{clash}
 use Rattle.regions.specs.Drain as Drain
 use Rattle.regions.specs.Drain.{atRest}
-use Rattle.regions.specs.Sift as Sift
 use Rattle.records.specs.Record.{kindOf, bodyLength, Record, header, opens, adds, areas, seal, mark, settle, sift, unknown}
 use Rattle.job.specs.Job.{Check, check, first, addTerm}
 use Rattle.planner.specs.File.{File, begun, refusal, wrongTurn, noSuchNode, notRising, badBound, badValue, tooMany, apply, settledFile, siftedFile, Outcome, outcome, recordAt, unknownKind, cutBody, refusalAt, readFrom, fileOf, planned, after}
+use Rattle.planner.specs.FileLaws.{after-snoc}
 use Rattle.ends.specs.Rooms.{Bounded, none-bounded}
 use Rattle.ends.specs.Turns.{Sound}
 use Rattle.ends.specs.Settles.{settle-stays, settle-ends, sift-keeps, sift-ends as sift-rests}
-use Rattle.ends.specs.Built.{Fit, Fits, indexed, seal-sound}
+use Rattle.ends.specs.Built.{Fit, Fits, every-last, indexed, seal-sound}
+use Rattle.ends.specs.Blank.{same-at}
 
 -- A file within the limits.
 pub record Good (f : File) : Type 0 where
   pub job : Fits (f .job)
   pub live : Sound (f .live)
-
-none-at : (n i : ℕ) → Bounded (getD (replicate n noState) i noState)
-none-at zero i = none-bounded
-none-at (suc n) zero = none-bounded
-none-at (suc n) (suc i) = none-at n i
 
 pub good-begun : Good begun
 unfolding begun
@@ -49,7 +45,7 @@ good-begun = record {
   job = record { nodes = omega arith; few = omega arith; each = tt };
   live = record {
     long = length-replicate {A = State} 1024 noState;
-    states = none-at 1024;
+    states = λ r. subst Bounded (sym (same-at 1024 r noState)) none-bounded;
     waits = waits-none (replicate 4096 0) (let e = length-replicate {A = ℕ} 4096 0 in omega arith);
     dirty = flags-none (replicate 1024 0) (let e = length-replicate {A = ℕ} 1024 0 in omega arith);
     residuals = flags-none (replicate 1024 0) (let e = length-replicate {A = ℕ} 1024 0 in omega arith);
@@ -63,13 +59,17 @@ unfolding first
 first-not true n cs h e = absurd (omega arith)
 first-not false n cs h e = (refl, e)
 
--- The checks that count here: nodes, bounds, room.
+-- Each check that it passed.
 pub record Taken (f : File) (r : Record) : Type 0 where
+  pub turn : wrongTurn f r ≡ false
+  pub fine : f .contradicted ≡ false
   pub node : noSuchNode f r ≡ false
+  pub rising : notRising f r ≡ false
   pub bound : badBound r ≡ false
+  pub value : badValue r ≡ false
   pub room : tooMany f r ≡ false
 
-taken : (f : File) (r : Record) → refusal f r ≡ 0 → Taken f r
+pub taken : (f : File) (r : Record) → refusal f r ≡ 0 → Taken f r
 unfolding refusal
 taken f r h =
     let a = first-not (wrongTurn f r) 3 _ (omega arith) h in
@@ -79,7 +79,7 @@ taken f r h =
     let e = first-not (badBound r) 7 _ (omega arith) (d .1) in
     let g = first-not (badValue r) 8 _ (omega arith) (e .1) in
     let k = first-not (tooMany f r) 4 _ (omega arith) (g .1) in
-    record { node = c .0; bound = e .0; room = k .0 }
+    record { turn = a .0; fine = b .0; node = c .0; rising = d .0; bound = e .0; value = g .0; room = k .0 }
 
 or-left : (a b : Bool) → (a || b) ≡ false → a ≡ false
 or-left true b h = h
@@ -96,14 +96,6 @@ bound-of b h = record {
 }
 
 -- ---- thresholds and terms that are added
-
-every-last : {X : Type 0} (P : X → Type 0) (xs : List X) (x : X) → Every P xs → P x → Every P (xs ++ (x ∷ []))
-every-last P [] x a p = (p, tt)
-every-last P (y ∷ xs) x a p = (a .0, every-last P xs x (a .1) p)
-
-length-last : {X : Type 0} (xs : List X) (x : X) → length (xs ++ (x ∷ [])) ≡ suc (length xs)
-length-last [] x = refl
-length-last (y ∷ xs) x = ap suc (length-last xs x)
 
 fit-term : (x : Term) (ts : List Threshold) → x .condition < 4096 → Every Fit ts → Every Fit (addTerm x ts)
 unfolding addTerm
@@ -128,8 +120,8 @@ fits-term f x g h = record {
 -- ---- EVERY RECORD KEEPS A FILE GOOD
 
 module _ (f : File) (g : Good f) where
-  below : (c : ℕ) → leb (f .job .nodes) c ≡ false → c < 4096
-  below c h = let k = leb-false (f .job .nodes) c h in omega (arith, g .job .nodes)
+  pub node-small : (c : ℕ) → leb (f .job .nodes) c ≡ false → c < 4096
+  node-small c h = let k = leb-false (f .job .nodes) c h in omega (arith, g .job .nodes)
 
   kept : (r : Record) → Taken f r → Good (apply f r)
   unfolding apply settledFile siftedFile Drain.mark
@@ -138,22 +130,22 @@ module _ (f : File) (g : Good f) where
     job = record {
       nodes = g .job .nodes;
       few = (let k = leb-false 1024 (length (f .job .thresholds)) (t .room) in
-          let l = length-last (f .job .thresholds) (record { node = n; bound = b; terms = [] }) in
+          let l = length-append (f .job .thresholds) (record { node = n; bound = b; terms = [] } ∷ []) in
           omega arith);
       each = every-last Fit (f .job .thresholds) (record { node = n; bound = b; terms = [] }) (g .job .each)
-          (record { node = below n (t .node); bound = bound-of b (t .bound); conditions = tt });
+          (record { node = node-small n (t .node); bound = bound-of b (t .bound); conditions = tt });
     };
     live = g .live;
   }
-  kept (adds c w) t = record { job = fits-term f (term c w) g (below c (t .node)); live = g .live }
-  kept (areas c a) t = record { job = fits-term f (term c (weightOfArea a)) g (below c (t .node)); live = g .live }
+  kept (adds c w) t = record { job = fits-term f (term c w) g (node-small c (t .node)); live = g .live }
+  kept (areas c a) t = record { job = fits-term f (term c (weightOfArea a)) g (node-small c (t .node)); live = g .live }
   kept seal t = record { job = g .job; live = seal-sound (f .job) (g .job) (f .live) (g .live) }
   kept (mark n v) t = record {
     job = g .job;
     live = record {
       long = g .live .long;
       states = g .live .states;
-      waits = waits-decide (f .live .marks) (g .live .waits) (eqb v 1) n (below n (t .node));
+      waits = waits-decide (f .live .marks) (g .live .waits) (eqb v 1) n (node-small n (t .node));
       dirty = g .live .dirty;
       residuals = g .live .residuals;
     };
@@ -189,11 +181,6 @@ passed-snoc f (x ∷ rs) r p h = (p .0, passed-snoc (apply f x) rs r (p .1) h)
 passed-before : (f : File) (rs qs : List Record) → Passed f (rs ++ qs) → Passed f rs
 passed-before f [] qs p = tt
 passed-before f (x ∷ rs) qs p = (p .0, passed-before (apply f x) rs qs (p .1))
-
-after-snoc : (f : File) (rs : List Record) (r : Record) → after f (rs ++ (r ∷ [])) ≡ apply (after f rs) r
-unfolding after
-after-snoc f [] r = refl
-after-snoc f (x ∷ xs) r = after-snoc (apply f x) xs r
 
 pub good-after : (f : File) (rs : List Record) → Good f → Passed f rs → Good (after f rs)
 unfolding after

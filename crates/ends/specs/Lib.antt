@@ -4,4 +4,5 @@ pub mod Keeps
 pub mod Turns
 pub mod Settles
 pub mod Built
+pub mod Blank
 pub mod Files

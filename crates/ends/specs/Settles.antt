@@ -35,6 +35,25 @@ Falls v w = Sound w × (left w < left v)
 abbrev pub Stays : Live → Live → Type 0
 Stays v w = Sound w × (left w ≤ left v)
 
+-- One round of draining and one of sifting, by the answers to its tests.
+abbrev pub goes : Index → ℕ → Live → Step → Bool → Bool → Did
+goes x n v k rest contradiction = elim rest [
+  | true ↦ did v k
+  | false ↦ elim contradiction [ true ↦ turn x v | false ↦ drain n x (turn x v .live) (joined k (turn x v .step)) ]
+]
+
+abbrev pub tries : Index → ℕ → Live → List ℕ → Step → ℕ → Bool → Bool → Bool → Sifted
+tries x n v gcds k visits settled none failed =
+    let d = settle x v in
+    let t = tryRow x (d .live) gcds visits in
+    elim settled [
+      | true ↦ sifted (d .live) gcds Contradiction visits
+      | false ↦ elim none [
+        | true ↦ sifted (d .live) gcds (joined k (d .step)) visits
+        | false ↦ elim failed [ true ↦ t | false ↦ siftFrom n x (t .live) (t .gcds) (joined (joined k (d .step)) (t .step)) (t .visits) ]
+      ]
+    ]
+
 module _ (x : Index) (ix : Indexed x) where
   -- A node is taken.
   fall-node : (v : Live) → Sound v → isEmpty (v .marks .nodes) ≡ false → Falls v (takeNode x v .live)
@@ -100,18 +119,12 @@ module _ (x : Index) (ix : Indexed x) where
 
   -- ---- draining
 
-  abbrev goes : ℕ → Live → Step → Bool → Bool → Did
-  goes n v k rest contradiction = elim rest [
-    | true ↦ did v k
-    | false ↦ elim contradiction [ true ↦ turn x v | false ↦ drain n x (turn x v .live) (joined k (turn x v .step)) ]
-  ]
-
   pub drain-stays : (n : ℕ) (v : Live) (k : Step) → Sound v → Stays v (drain n x v k .live)
   unfolding drain
   drain-stays zero v k s = (s, le-refl (left v))
   drain-stays (suc n) v k s = by (λ u j t. drain-stays n u j t) (atRest v) refl (contradicts (turn x v .step))
     where
-      by : ((u : Live) (j : Step) → Sound u → Stays u (drain n x u j .live)) → (b : Bool) → atRest v ≡ b → (c : Bool) → Stays v (goes n v k b c .live)
+      by : ((u : Live) (j : Step) → Sound u → Stays u (drain n x u j .live)) → (b : Bool) → atRest v ≡ b → (c : Bool) → Stays v (goes x n v k b c .live)
       by ih true e c = (s, le-refl (left v))
       by ih false e true = let f = fall-turn v s e in (f .0, omega (arith, f .1))
       by ih false e false =
@@ -126,7 +139,7 @@ module _ (x : Index) (ix : Indexed x) where
     where
       by : ((u : Live) (j : Step) → Sound u → left u < n → contradicts (drain n x u j .step) ≡ false → atRest (drain n x u j .live) ≡ true)
           → (b : Bool) → atRest v ≡ b → (c : Bool) → contradicts (turn x v .step) ≡ c
-          → contradicts (goes n v k b c .step) ≡ false → atRest (goes n v k b c .live) ≡ true
+          → contradicts (goes x n v k b c .step) ≡ false → atRest (goes x n v k b c .live) ≡ true
       by ih true e c f g = e
       by ih false e true f g = clash (sym f ∙ g)
       by ih false e false f g =
@@ -142,7 +155,7 @@ module _ (x : Index) (ix : Indexed x) where
 
   -- ---- sifting
 
-  fall-try : (v : Live) (gcds : List ℕ) (visits : ℕ) → Sound v → isEmpty (v .residuals .queue) ≡ false → Falls v (tryRow x v gcds visits .live)
+  pub fall-try : (v : Live) (gcds : List ℕ) (visits : ℕ) → Sound v → isEmpty (v .residuals .queue) ≡ false → Falls v (tryRow x v gcds visits .live)
   unfolding tryRow nextRow popped
   fall-try v gcds visits s e = by (isUnchanged (a .step))
     where
@@ -180,18 +193,6 @@ module _ (x : Index) (ix : Indexed x) where
       by true = falls
       by false = falls
 
-  abbrev tries : ℕ → Live → List ℕ → Step → ℕ → Bool → Bool → Bool → Sifted
-  tries n v gcds k visits settled none failed =
-      let d = settle x v in
-      let t = tryRow x (d .live) gcds visits in
-      elim settled [
-        | true ↦ sifted (d .live) gcds Contradiction visits
-        | false ↦ elim none [
-          | true ↦ sifted (d .live) gcds (joined k (d .step)) visits
-          | false ↦ elim failed [ true ↦ t | false ↦ siftFrom n x (t .live) (t .gcds) (joined (joined k (d .step)) (t .step)) (t .visits) ]
-        ]
-      ]
-
   sift-sound : (n : ℕ) (v : Live) (gcds : List ℕ) (k : Step) (visits : ℕ) → Sound v → Sound (siftFrom n x v gcds k visits .live)
   unfolding siftFrom
   sift-sound zero v gcds k visits s = s
@@ -200,7 +201,7 @@ module _ (x : Index) (ix : Indexed x) where
       (contradicts (tryRow x (settle x v .live) gcds visits .step))
     where
       by : ((u : Live) (g : List ℕ) (j : Step) (i : ℕ) → Sound u → Sound (siftFrom n x u g j i .live)) → (a b : Bool) → isEmpty (settle x v .live .residuals .queue) ≡ b → (c : Bool)
-          → Sound (tries n v gcds k visits a b c .live)
+          → Sound (tries x n v gcds k visits a b c .live)
       by ih true b e c = settle-stays v s .0
       by ih false true e c = settle-stays v s .0
       by ih false false e true = fall-try (settle x v .live) gcds visits (settle-stays v s .0) e .0
@@ -218,8 +219,8 @@ module _ (x : Index) (ix : Indexed x) where
           → (atRest (siftFrom n x u g j i .live) ≡ true) × (isEmpty (siftFrom n x u g j i .live .residuals .queue) ≡ true))
           → (a : Bool) → contradicts (settle x v .step) ≡ a → (b : Bool) → isEmpty (settle x v .live .residuals .queue) ≡ b
           → (c : Bool) → contradicts (tryRow x (settle x v .live) gcds visits .step) ≡ c
-          → contradicts (tries n v gcds k visits a b c .step) ≡ false
-          → (atRest (tries n v gcds k visits a b c .live) ≡ true) × (isEmpty (tries n v gcds k visits a b c .live .residuals .queue) ≡ true)
+          → contradicts (tries x n v gcds k visits a b c .step) ≡ false
+          → (atRest (tries x n v gcds k visits a b c .live) ≡ true) × (isEmpty (tries x n v gcds k visits a b c .live .residuals .queue) ≡ true)
       by ih true p b e c f g = clash g
       by ih false p true e c f g = (settle-ends v s p, e)
       by ih false p false e true f g = clash (sym f ∙ g)

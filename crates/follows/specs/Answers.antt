@@ -39,6 +39,13 @@ pub or-false : (a b : Bool) → (a || b) ≡ false → (a ≡ false) × (b ≡ f
 or-false true b h = absurd (clash true refl h)
 or-false false b h = (refl, h)
 
+pub or-middle : (a b c : Bool) → (a || b || c) ≡ false → b ≡ false
+or-middle a b c h = or-false a b (or-false (a || b) c h .0) .1
+
+pub never-true : (b : Bool) → (b ≡ true → ⊥) → b ≡ false
+never-true true h = absurd (h refl)
+never-true false h = refl
+
 pub not-true : (b : Bool) → not b ≡ true → b ≡ false
 not-true true h = sym h
 not-true false h = refl

@@ -1,6 +1,6 @@
 -- A DRAINED CONDITION keeps the invariant of Stands: its weight is added to known or taken from possible once in each row in which it
 -- stands, and each of these rows is run. After it the node counts as drained in every row.
-use Prim.Native.Nat.{ℕ, _+_, _-_, _≤_, _<_}
+use Prim.Native.Nat.{ℕ, _+_, _≤_, _<_}
 use native.Mathlib.Decide.{ℕ-discrete}
 use native.Mathlib.Omega.{arith}
 use mathlib.Core.Path.{_≡_, refl, sym, ap, ap₂, _∙_, subst}

@@ -19,4 +19,5 @@ pub mod Handed
 pub mod Waiting
 pub mod Settled
 pub mod Start
+pub mod First
 pub mod Ends

@@ -1,6 +1,6 @@
 -- WHAT MOVES BETWEEN ROWS FOLLOWS: a row that is run, a guard that is drained (rule 1) and bounds handed on over prefix links (rule 6)
 -- keep the invariant of Stands, and where one of them contradicts, a conflict follows from the start.
-use Prim.Native.Nat.{ℕ, _+_, _≤_, _<_}
+use Prim.Native.Nat.{ℕ, _≤_, _<_}
 use native.Mathlib.Omega.{arith}
 use mathlib.Core.Path.{_≡_, refl, sym, ap, _∙_, subst}
 use mathlib.Core.Bool.{Bool, true, false, not, cond, _&&_, _||_}

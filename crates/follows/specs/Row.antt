@@ -25,7 +25,6 @@ use Rattle.queues.specs.Marks.{Marks, marks, isDecided, decided, decide}
 use Rattle.thresholds.specs.Rows.{Row, Guard, noRow}
 use Rattle.propagate.specs.Scan.{Scanned}
 use Rattle.propagate.specs.Row.{Ran, ran, sureGuards, neverGuards, thresholdGuards, forced, trueTerms, falseTerms, scans, thresholdRow}
-use Rattle.table.specs.Table as T
 use Rattle.table.specs.Table.{Table, IsRow, termsOf, knownOf, possibleOf, reachedOf, AtMost, Conflict, lower-above, upper-reached, bound-reached, bound-out-of-reach, term-needed, term-too-heavy}
 use Rattle.table.specs.Order.{le, lt, ≤ℤ-trans, ≤ℤ-<ℤ-trans, pos-≤ℤ, max-up, sub-up, up-refl, at-most-up}
 use Rattle.table.specs.TableLaws.{Le, known-up, possible-down}

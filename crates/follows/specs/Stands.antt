@@ -28,7 +28,7 @@ use Rattle.between.specs.Between.{Live, live, stateAt}
 use Rattle.table.specs.Table.{Table, IsRow, termsOf, known, possible, knownOf, possibleOf}
 use Rattle.table.specs.Order.{pos-≤ℤ, up-refl}
 use Rattle.table.specs.TableLaws.{Le, le-same, le-then, Follows, follows-start, known-up, possible-down}
-use Rattle.follows.specs.Answers.{true-false, clash, and-right}
+use Rattle.follows.specs.Answers.{true-false, clash, and-right, never-true}
 use Rattle.follows.specs.Decide.{tableOf}
 
 -- The nodes of the masks and the bounds of the row states, as a state of the table.
@@ -145,17 +145,17 @@ stay-le m m′ l u h = record {
   upper = λ r. up-refl (u r);
 }
 
+pub not-decided : (m : Marks) (n : ℕ) → isDecided m n ≡ false → (value : Bool) → bit (mask value m) n ≡ false
+not-decided m n e true = never-true (bit (m .sure) n) (λ x. clash (isDecided m n) (sure-decided m n x) e)
+not-decided m n e false = never-true (bit (m .never) n) (λ x. clash (isDecided m n) (never-decided m n x) e)
+
 -- the masks stay apart
 pub apart-decide : (value : Bool) (m : Marks) (n : ℕ) → Apart m → Apart (decide value m n .marks)
 apart-decide value m n h k a b = by (ℕ-discrete k n) (true-false (isDecided m n))
   where
-    not-decided : isDecided m n ≡ false → (v : Bool) → bit (mask v m) n ≡ false
-    not-decided e true = ⊎-elim (λ (x : bit (m .sure) n ≡ true). absurd (clash (isDecided m n) (sure-decided m n x) e)) (λ x. x) (true-false (bit (m .sure) n))
-    not-decided e false = ⊎-elim (λ (x : bit (m .never) n ≡ true). absurd (clash (isDecided m n) (never-decided m n x) e)) (λ x. x) (true-false (bit (m .never) n))
-
     one-side : (value : Bool) → bit (mask true (decide value m n .marks)) n ≡ true → bit (mask false (decide value m n .marks)) n ≡ true → isDecided m n ≡ false → ⊥
-    one-side true x y e = clash (bit (m .never) n) (ap (λ (l : List ℕ). bit l n) (sym (decide-opposite true m n)) ∙ y) (not-decided e false)
-    one-side false x y e = clash (bit (m .sure) n) (ap (λ (l : List ℕ). bit l n) (sym (decide-opposite false m n)) ∙ x) (not-decided e true)
+    one-side true x y e = clash (bit (m .never) n) (ap (λ (l : List ℕ). bit l n) (sym (decide-opposite true m n)) ∙ y) (not-decided m n e false)
+    one-side false x y e = clash (bit (m .sure) n) (ap (λ (l : List ℕ). bit l n) (sym (decide-opposite false m n)) ∙ x) (not-decided m n e true)
 
     by : Dec (k ≡ n) → (isDecided m n ≡ true) ⊎ (isDecided m n ≡ false) → ⊥
     by (no e) d = h k (sym (decide-other value m n true k e) ∙ a) (sym (decide-other value m n false k e) ∙ b)

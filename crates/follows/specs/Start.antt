@@ -48,7 +48,7 @@ module _ (x : Index) (v : Live) (m : Marks) (d q : Rows) (stay : Stay (v .marks)
   grows true n e = stay-le (v .marks) m (λ r. pos 0) (λ r. Open) stay .sure n e
   grows false n e = stay-le (v .marks) m (λ r. pos 0) (λ r. Open) stay .never n e
 
-  marked-stands : (s s′ : Table) (drained : ℕ → ℕ → Bool) → Apart m → Le s′ (tableAt now) → Follows (x .rows) s′ (tableAt now) → Stands (x .rows) s drained v → Stands (x .rows) s′ drained now
+  pub marked-stands : (s s′ : Table) (drained : ℕ → ℕ → Bool) → Apart m → Le s′ (tableAt now) → Follows (x .rows) s′ (tableAt now) → Stands (x .rows) s drained v → Stands (x .rows) s′ drained now
   marked-stands s s′ drained apart up f h = record {
     sized = h .sized;
     above = up;
@@ -84,7 +84,7 @@ module _ (x : Index) (v : Live) (m : Marks) (d q : Rows) (stay : Stay (v .marks)
   marked-handed : (but : ℕ → Bool) → Handed x but (live (v .states) (v .marks) d q) → Handed x but now
   marked-handed but h = record { sized = h .sized; flags = h .flags; handed = h .handed }
 
-wide-of : (m : Marks) → Waits m → Wide m
+pub wide-of : (m : Marks) → Waits m → Wide m
 wide-of m w = record { sure = let z = w .sures in omega arith; never = let z = w .nevers in omega arith }
 
 module _ (x : Index) (s : Table) (l : Ledger) (v : Live) (h : Sound x s l v) where

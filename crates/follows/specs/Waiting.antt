@@ -4,10 +4,9 @@ use Prim.Native.Nat.{ℕ, _+_, _<_}
 use native.Mathlib.Decide.{ℕ-discrete}
 use native.Mathlib.Omega.{arith}
 use mathlib.Core.Path.{_≡_, refl, sym, ap, ap₂, _∙_, subst}
-use mathlib.Core.Bool as B
 use mathlib.Core.Bool.{Bool, true, false, not, _||_}
 use mathlib.Core.List.{_∷_}
-use mathlib.Core.Logic.{_⊎_, ⊎-elim, _≢_}
+use mathlib.Core.Logic.{⊎-elim, _≢_}
 use Rattle.words.specs.Mask.{bit, setBit}
 use Rattle.queues.specs.Queue.{isEmpty, oldest, push, popped}
 use Rattle.queues.specs.QueueLaws.{waitingList, push-times, popped-times, empty-none}
@@ -15,7 +14,7 @@ use Rattle.queues.specs.Once.{times, times-none, times-same, times-other}
 use Rattle.queues.specs.Marks.{Marks, marks, isDecided, Decided, decide}
 use Rattle.queues.specs.MarksLaws.{mask, put, decide-new, decide-other, Waits, waits-room, waits-decide, waits-popped}
 use Rattle.follows.specs.Answers.{true-false, clash}
-use Rattle.follows.specs.Stands.{also, also-other, also-this, decide-nothing}
+use Rattle.follows.specs.Stands.{also, also-other, also-this, decide-nothing, not-decided}
 
 -- How often a node waits.
 abbrev pub waits : Marks → ℕ → ℕ
@@ -38,8 +37,7 @@ module _ (drained : ℕ → Bool) where
   }
     where
       bits : (v : Bool) → bit (mask v m) n ≡ false
-      bits true = ⊎-elim (λ (e : bit (m .sure) n ≡ true). absurd (clash (isDecided m n) (ap (λ (b : Bool). b || bit (m .never) n) e) none)) (λ e. e) (true-false (bit (m .sure) n))
-      bits false = ⊎-elim (λ (e : bit (m .never) n ≡ true). absurd (clash (isDecided m n) (ap (λ (b : Bool). bit (m .sure) n || b) e ∙ B.or-true (bit (m .sure) n)) none)) (λ e. e) (true-false (bit (m .never) n))
+      bits = not-decided m n none
 
       nodes : decide value m n .marks .nodes ≡ push 4096 (m .nodes) n
       nodes = ap (λ (d : Decided). d .marks .nodes) (decide-new value m n (bits value) (bits (not value))) ∙ pushed value

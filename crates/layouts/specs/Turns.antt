@@ -2,12 +2,11 @@
 -- agrees with after, and none of these contradicts where there is such a layout.
 use Prim.Native.Nat.{ℕ, zero, suc, _<_}
 use native.Mathlib.Omega.{arith}
-use mathlib.Core.Path.{_≡_, refl, sym, ap, _∙_}
-use mathlib.Core.Bool.{Bool, true, false, _&&_}
+use mathlib.Core.Path.{_≡_, refl, ap, _∙_}
+use mathlib.Core.Bool.{Bool, true, false}
 use mathlib.Core.List.{List, [], _∷_, List·Memᴰ, List·Memᴰ·head, List·Memᴰ·tail}
 use lib.ListN.{getD}
 use lib.Dec.{eqb}
-use lib.IntN.{pos}
 use borrow.Author.Tests.{eqb-true, eqb-false}
 use Rattle.numeric.specs.Threshold.{Threshold, Job}
 use Rattle.numeric.specs.Layout.{Layout, IsLayout}
@@ -21,16 +20,18 @@ use Rattle.queues.specs.MarksLaws.{mask}
 use Rattle.thresholds.specs.Rows.{noRow}
 use Rattle.between.specs.Between.{Index, Live, live, Did, did, runRow, guardOf, thresholdGuard, thresholdCondition, thresholdPrefixes}
 use Rattle.regions.specs.Drain.{withMarks, takeNode, takeRow, turn, atRest, drain, turns, settle}
-use Rattle.table.specs.Table.{IsRow, termsOf}
+use Rattle.table.specs.Table.{IsRow}
 use Rattle.table.specs.TableLaws.{le-same, follows-start}
-use Rattle.follows.specs.Answers.{clash, joined-fine}
+use Rattle.ends.specs.Settles.{goes}
+use Rattle.follows.specs.Answers.{clash, never-true, joined-fine}
 use Rattle.follows.specs.RowComplete.{Ordered}
-use Rattle.follows.specs.Stands.{tableAt, among, also, also-this, Apart, Stands, known-same, possible-same, Stay, stay-decided, restart}
+use Rattle.follows.specs.Stands.{tableAt, also, also-this, Apart, Stands, Stay, restart}
 use Rattle.follows.specs.Moves.{run-stands, guard-stands, prefixes-stand}
 use Rattle.follows.specs.Drained.{condition-stands}
 use Rattle.follows.specs.Built.{Built}
 use Rattle.follows.specs.Keeps.{run-keeps, guard-keeps, condition-keeps, prefixes-keeps}
 use Rattle.follows.specs.Waiting.{Queued, queued-decide, first-decided, first-fresh, queued-taken}
+use Rattle.follows.specs.Start.{marked-stands, wide-of}
 use Rattle.follows.specs.Layouts.{Agrees, Stays, run-layouts, guard-layouts, condition-layouts, prefixes-layouts}
 
 -- A layout gives each node of the masks its value.
@@ -55,10 +56,6 @@ Fine x w drained taken d = (contradicts (d .step) ≡ false) × Holds x w draine
 abbrev pub FineBetween : Index → Layout → Did → Type 0
 FineBetween x w d = (contradicts (d .step) ≡ false) × Between x w (d .live)
 
-never-true : (b : Bool) → (b ≡ true → ⊥) → b ≡ false
-never-true true h = absurd (h refl)
-never-true false h = refl
-
 pub agrees-fits : (x : Index) (w : Layout) (v : Live) → Agrees (x .rows) w v → Fits w (v .marks)
 agrees-fits x w v a true n e = a .sure n e
 agrees-fits x w v a false n e = a .never n e
@@ -67,25 +64,11 @@ agrees-fits x w v a false n e = a .never n e
 pub marked : (x : Index) (w : Layout) (drained taken now : ℕ → Bool) (v : Live) (m : Marks) (d q : Rows) → Holds x w drained taken v
     → Stay (v .marks) m → Apart m → Fits w m → Queued now m → Holds x w drained now (live (v .states) m d q)
 marked x w drained taken now v m d q h stay apart fits queued = record {
-  stands = record {
-    sized = h .stands .sized;
-    above = le-same (tableAt (live (v .states) m d q));
-    follows = follows-start (x .rows) (tableAt (live (v .states) m d q));
-    apart = apart;
-    decided = λ r n e. stay-decided (v .marks) m stay n (h .stands .decided r n e);
-    known = λ r i. h .stands .known r i ∙ ap pos (known-same _ _ (termsOf (x .rows) r) (λ t k. same true (t .condition)));
-    possible = λ r i. h .stands .possible r i ∙ ap pos (possible-same _ _ (termsOf (x .rows) r) (λ t k. same false (t .condition)));
-  };
+  stands = marked-stands x v m d q stay (wide-of m (queued .queue)) (tableAt v) (tableAt (live (v .states) m d q)) (λ (r : ℕ). drained) apart (le-same (tableAt (live (v .states) m d q)))
+      (follows-start (x .rows) (tableAt (live (v .states) m d q))) (h .stands);
   agrees = record { sure = λ n e. fits true n e; never = λ n e. fits false n e; lower = h .agrees .lower; upper = h .agrees .upper };
   queued = queued;
 }
-  where
-    same : (value : Bool) (n : ℕ) → among drained (mask value (v .marks)) n ≡ among drained (mask value m) n
-    same value n = by (drained n) refl
-      where
-        by : (b : Bool) → drained n ≡ b → (b && bit (mask value (v .marks)) n) ≡ (b && bit (mask value m) n)
-        by true e = sym (stay n (h .stands .decided 0 n e) value)
-        by false e = refl
 
 module _ (j : Job) (x : Index) (b : Built j x) (ordered : (r : ℕ) → IsRow (x .rows) r → Ordered (getD (x .rows) r noRow)) (w : Layout) (is : IsLayout j w) where
   -- A ROW RUN
@@ -217,12 +200,6 @@ module _ (j : Job) (x : Index) (b : Built j x) (ordered : (r : ℕ) → IsRow (x
       by true e = row-fine v h
       by false e = node-fine v h e
 
-  abbrev goes : ℕ → Live → Step → Bool → Bool → Did
-  goes n v k rest contradiction = elim rest [
-    | true ↦ did v k
-    | false ↦ elim contradiction [ true ↦ turn x v | false ↦ drain n x (turn x v .live) (joined k (turn x v .step)) ]
-  ]
-
   -- DRAINING
   drain-fine : (n : ℕ) (v : Live) (k : Step) → contradicts k ≡ false → Between x w v → FineBetween x w (drain n x v k)
   unfolding drain
@@ -233,7 +210,7 @@ module _ (j : Job) (x : Index) (b : Built j x) (ordered : (r : ℕ) → IsRow (x
       t = turn-fine v h
 
       by : ((u : Live) (l : Step) → contradicts l ≡ false → Between x w u → FineBetween x w (drain n x u l)) → (rest d : Bool) → contradicts (turn x v .step) ≡ d
-          → FineBetween x w (goes n v k rest d)
+          → FineBetween x w (goes x n v k rest d)
       by ih true d e = (c, h)
       by ih false true e = absurd (clash (contradicts (turn x v .step)) e (t .0))
       by ih false false e = ih (turn x v .live) (joined k (turn x v .step)) (joined-fine k (turn x v .step) c (t .0)) (t .1)

@@ -58,7 +58,7 @@ read-up-to (suc n) o (kind ∷ rest) f taken = by (λ o b g t. read-up-to n o b 
 
 -- WHAT WAS TAKEN makes the file
 
-after-snoc : (f : File) (rs : List Record) (r : Record) → after f (rs ++ (r ∷ [])) ≡ apply (after f rs) r
+pub after-snoc : (f : File) (rs : List Record) (r : Record) → after f (rs ++ (r ∷ [])) ≡ apply (after f rs) r
 unfolding after
 after-snoc f [] r = refl
 after-snoc f (x ∷ xs) r = after-snoc (apply f x) xs r

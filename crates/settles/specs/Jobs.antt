@@ -1,36 +1,25 @@
 -- A JOB OF A FILE meets what the invariant of draining asks: its nodes are in range, and as the nodes of its thresholds rise, none
 -- guards twice.
-use Prim.Native.Nat.{ℕ, _+_, _≤_, _<_}
+use Prim.Native.Nat.{ℕ, _≤_, _<_}
 use native.Mathlib.Nat.{le-refl}
 use native.Mathlib.Omega.{arith}
-use mathlib.Core.Path.{_≡_, refl, sym, ap, _∙_, subst}
-use mathlib.Core.Bool.{Bool, true, false, not, _&&_}
+use mathlib.Core.Path.{_≡_, refl, sym, ap, _∙_}
+use mathlib.Core.Bool.{false, not, _&&_}
 use mathlib.Core.List.{List, [], _∷_, _++_, List·Memᴰ, List·Memᴰ·cases-cons, List·Memᴰ·not-nil}
-use mathlib.Core.Logic.{_⊎_, inl, inr, ⊎-elim}
-use lib.ListN.{length, getD}
+use mathlib.Core.Logic.{_⊎_, inl, inr}
+use lib.ListN.{getD}
 use lib.Dec.{leb}
 use borrow.Author.Tests.{leb-false}
 use Rattle.numeric.specs.Threshold.{Term, Threshold, Job}
-use Rattle.row.specs.Terms.{sameTerms}
 use Rattle.row.specs.TermsLaws.{All as Every, all-map}
-use Rattle.thresholds.specs.Rows.{Row, rowOf, noRow, guard, insertGuard, place, placeAll, rowsOf}
+use Rattle.thresholds.specs.Rows.{noRow, rowsOf}
 use Rattle.regions.specs.Drain.{indexOf}
 use Rattle.job.specs.Job.{lastNode, isEmptyList, addTerm}
-use Rattle.ends.specs.Built.{Fit, Fits}
+use Rattle.ends.specs.Built.{Fit, Fits, every-last, every-each}
 use Rattle.table.specs.Table.{IsRow}
 use Rattle.follows.specs.RowComplete.{Ordered}
 use Rattle.follows.specs.Built.{Built, built, rows-ordered}
 use Rattle.follows.specs.Told.{Single, rows-single}
-
--- ---- lists
-
-pub every-each : {X : Type 0} (P : X → Type 0) (xs : List X) → Every P xs → (y : X) → List·Memᴰ y xs → P y
-every-each P [] a y m = absurd (List·Memᴰ·not-nil m)
-every-each P (x ∷ xs) a y m = ⊎-elim (λ (e : y ≡ x). subst P (sym e) (a .0)) (λ k. every-each P xs (a .1) y k) (List·Memᴰ·cases-cons m)
-
-every-last : {X : Type 0} (P : X → Type 0) (xs : List X) (x : X) → Every P xs → P x → Every P (xs ++ (x ∷ []))
-every-last P [] x a p = (p, tt)
-every-last P (y ∷ xs) x a p = (a .0, every-last P xs x (a .1) p)
 
 -- ---- nodes that rise
 
@@ -80,26 +69,6 @@ unfolding addTerm
 rises-term x [] h = tt
 rises-term x (t ∷ []) h = (tt, tt)
 rises-term x (t ∷ u ∷ us) h = (every-term (λ (n : ℕ). t .node < n) x (u ∷ us) (h .0), rises-term x (u ∷ us) (h .1))
-
--- ---- no more rows than thresholds
-
-place-few : (t : Threshold) (rs : List Row) → length (place t rs) ≤ length rs + 1
-unfolding place
-place-few t [] = omega arith
-place-few t (r ∷ rs) = by (place-few t rs) (sameTerms (r .raw) (t .terms))
-  where
-    by : length (place t rs) ≤ length rs + 1 → (b : Bool)
-        → length {A = Row} (elim b [ true ↦ rowOf (r .raw) (r .terms) (insertGuard (guard (t .bound) (t .node)) (r .guards)) ∷ rs | false ↦ r ∷ place t rs ]) ≤ length (r ∷ rs) + 1
-    by ih true = omega arith
-    by ih false = omega arith
-
-all-few : (ts : List Threshold) (rs : List Row) → length (placeAll ts rs) ≤ length rs + length ts
-unfolding placeAll
-all-few [] rs = omega arith
-all-few (t ∷ ts) rs = omega (arith, all-few ts (place t rs), place-few t rs)
-
-pub rows-few : (j : Job) → Fits j → length (rowsOf j) ≤ 1024
-rows-few j f = omega (arith, all-few (j .thresholds) [], f .few)
 
 -- ---- what the invariant asks
 

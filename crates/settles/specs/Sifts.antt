@@ -1,20 +1,19 @@
 -- A MARK keeps the invariant with one node more in its start, and A SIFTING keeps it from the nodes that are decided after it: what
 -- it decides beyond the rules is a start like any other.
 use Prim.Native.Nat.{ℕ, zero, suc, _<_}
-use mathlib.Core.Path.{_≡_, refl, sym, ap, _∙_, subst}
-use mathlib.Core.Bool as B
-use mathlib.Core.Bool.{Bool, true, false, not, _||_}
+use mathlib.Core.Path.{_≡_, refl, sym, ap, subst}
+use mathlib.Core.Bool.{Bool, true, false, not}
 use mathlib.Core.List.{List}
 use mathlib.Core.Logic.{⊎-elim}
 use lib.ListN.{getD}
 use Rattle.numeric.specs.Threshold.{Term, Job}
 use Rattle.state.specs.declared.Step.{Step}
-use Rattle.state.specs.declared.Step.the-variants.{Unchanged, Contradiction}
-use Rattle.state.specs.Step.{joined, contradicts, isUnchanged}
+use Rattle.state.specs.declared.Step.the-variants.{Unchanged}
+use Rattle.state.specs.Step.{contradicts, isUnchanged}
 use Rattle.words.specs.Mask.{bit}
 use Rattle.queues.specs.Queue.{Rows, isEmpty, oldest, nextRow}
 use Rattle.queues.specs.Marks.{Marks, isDecided, Decided, decide}
-use Rattle.queues.specs.MarksLaws.{mask, decide-new}
+use Rattle.queues.specs.MarksLaws.{decide-new}
 use Rattle.thresholds.specs.Rows.{noRow}
 use Rattle.residual.specs.Residual.{Residual, thresholdResidual}
 use Rattle.possible_sums.specs.Search.{search, searchStep, searchVisits}
@@ -23,11 +22,12 @@ use Rattle.regions.specs.Drain.{indexOf, mark, turns, settle}
 use Rattle.regions.specs.Sift.{Sifted, sifted, tryRow, siftFrom, sift}
 use Rattle.ends.specs.Keeps.{keeps-residual}
 use Rattle.ends.specs.Turns.{Indexed}
+use Rattle.ends.specs.Settles.{tries}
 use Rattle.ends.specs.Built.{Fits, indexed}
 use Rattle.table.specs.Table.{Table, start}
 use Rattle.follows.specs.Answers.{true-false, clash}
 use Rattle.follows.specs.Decide.{decideAs}
-use Rattle.follows.specs.Stands.{decide-nothing}
+use Rattle.follows.specs.Stands.{decide-nothing, not-decided}
 use Rattle.follows.specs.Start.{mark-leads, restarted}
 use Rattle.settles.specs.Jobs.{Rises, job-built, job-ordered, job-single}
 use Rattle.settles.specs.Turned.{Steady, Goes, settle-goes}
@@ -77,12 +77,8 @@ own-decide x v m value n small h =
     w : Live
     w = live (v .states) m (v .dirty) (v .residuals)
 
-    none : isDecided m n ≡ false → (b : Bool) → bit (mask b m) n ≡ false
-    none d true = ⊎-elim (λ (e : bit (m .sure) n ≡ true). absurd (clash (isDecided m n) (ap (λ (b : Bool). b || bit (m .never) n) e) d)) (λ e. e) (true-false (bit (m .sure) n))
-    none d false = ⊎-elim (λ (e : bit (m .never) n ≡ true). absurd (clash (isDecided m n) (ap (λ (b : Bool). bit (m .sure) n || b) e ∙ B.or-true (bit (m .sure) n)) d)) (λ e. e) (true-false (bit (m .never) n))
-
     fine : (b : Bool) → isDecided m n ≡ false → contradicts (decide b m n .step) ≡ false
-    fine b d = ap (λ (y : Decided). contradicts (y .step)) (decide-new b m n (none d b) (none d (not b)))
+    fine b d = ap (λ (y : Decided). contradicts (y .step)) (decide-new b m n (not-decided m n d b) (not-decided m n d (not b)))
 
     by : (b : Bool) → isDecided m n ≡ false → Own x v (decide b m n .marks)
     by true d = steady-own x _ _ (live (v .states) (decide true m n .marks) (v .dirty) (v .residuals)) (mark-goes x (start (bit (m .sure)) (bit (m .never))) w n true small h .0 (fine true d))
@@ -128,18 +124,6 @@ module _ (j : Job) (f : Fits j) (rises : Rises (j .thresholds)) where
   settle-keeps : (v : Live) → Steady x (ownStart v) v → contradicts (settle x v .step) ≡ false → let w = settle x v .live in Steady x (ownStart w) w
   settle-keeps v h c = steady-own x _ _ (settle x v .live) (settle-goes j x (job-built j) (job-ordered j f) (job-single j rises) (ownStart v) v h .0 c)
 
-  abbrev tries : ℕ → Live → List ℕ → Step → ℕ → Bool → Bool → Bool → Sifted
-  tries n v gcds k visits settled none failed =
-      let d = settle x v in
-      let t = tryRow x (d .live) gcds visits in
-      elim settled [
-        | true ↦ sifted (d .live) gcds Contradiction visits
-        | false ↦ elim none [
-          | true ↦ sifted (d .live) gcds (joined k (d .step)) visits
-          | false ↦ elim failed [ true ↦ t | false ↦ siftFrom n x (t .live) (t .gcds) (joined (joined k (d .step)) (t .step)) (t .visits) ]
-        ]
-      ]
-
   abbrev Fine : Sifted → Type 0
   Fine d = contradicts (d .step) ≡ false → Steady x (ownStart (d .live)) (d .live)
 
@@ -151,7 +135,7 @@ module _ (j : Job) (f : Fits j) (rises : Rises (j .thresholds)) where
       (contradicts (tryRow x (settle x v .live) gcds visits .step)) refl
     where
       by : ((u : Live) (g : List ℕ) (i : Step) (m : ℕ) → Steady x (ownStart u) u → Fine (siftFrom n x u g i m))
-          → (a : Bool) → contradicts (settle x v .step) ≡ a → (b c : Bool) → contradicts (tryRow x (settle x v .live) gcds visits .step) ≡ c → Fine (tries n v gcds k visits a b c)
+          → (a : Bool) → contradicts (settle x v .step) ≡ a → (b c : Bool) → contradicts (tryRow x (settle x v .live) gcds visits .step) ≡ c → Fine (tries x n v gcds k visits a b c)
       by ih true p b c q o = absurd (clash true refl o)
       by ih false p true c q o = settle-keeps v h p
       by ih false p false true q o = absurd (clash (contradicts (tryRow x (settle x v .live) gcds visits .step)) q o)

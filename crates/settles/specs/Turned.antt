@@ -6,7 +6,7 @@ use native.Mathlib.Decide.{ℕ-discrete}
 use mathlib.Core.Path.{_≡_, refl, sym, ap, _∙_, subst}
 use mathlib.Core.Bool.{Bool, true, false}
 use mathlib.Core.List.{List, [], _∷_, List·Memᴰ, List·Memᴰ·head, List·Memᴰ·tail, List·Memᴰ·cases-cons, List·Memᴰ·not-nil}
-use mathlib.Core.Logic.{_⊎_, ⊎-elim, _≢_}
+use mathlib.Core.Logic.{⊎-elim, _≢_}
 use lib.ListN.{length, getD}
 use lib.Dec.{eqb}
 use borrow.Author.Tests.{eqb-true, eqb-false, ne-eqb}
@@ -22,6 +22,7 @@ use Rattle.queues.specs.Marks.{marks, isDecided}
 use Rattle.thresholds.specs.Rows.{Row, noRow}
 use Rattle.between.specs.Between.{Index, Live, live, Did, did, stateAt, runRow, thresholdGuard, guardOf, thresholdCondition, seedFrom}
 use Rattle.regions.specs.Drain.{withMarks, takeNode, takeRow, turn, atRest, drain, turns, settle}
+use Rattle.ends.specs.Settles.{goes}
 use Rattle.table.specs.Table.{Table, IsRow, knownOf, possibleOf, AtRest}
 use Rattle.follows.specs.Answers.{clash, and-left, and-right, joined-fine, joined-which, joined-right}
 use Rattle.follows.specs.Decide.{Broken}
@@ -163,12 +164,6 @@ module _ (j : Job) (x : Index) (b : Built j x) (ordered : (r : ℕ) → IsRow (x
       by false e = node-goes v h e
 
   -- DRAINING
-  abbrev goes : ℕ → Live → Step → Bool → Bool → Did
-  goes n v k rest contradiction = elim rest [
-    | true ↦ did v k
-    | false ↦ elim contradiction [ true ↦ turn x v | false ↦ drain n x (turn x v .live) (joined k (turn x v .step)) ]
-  ]
-
   pub drain-goes : (n : ℕ) (v : Live) (k : Step) → contradicts k ≡ false → Steady x s v → Goes x s (drain n x v k)
   unfolding drain
   drain-goes zero v k c h = (λ o. h, λ o. absurd (clash (contradicts k) o c))
@@ -177,7 +172,7 @@ module _ (j : Job) (x : Index) (b : Built j x) (ordered : (r : ℕ) → IsRow (x
       a : Goes x s (turn x v)
       a = turn-goes v h
 
-      by : ((u : Live) (i : Step) → contradicts i ≡ false → Steady x s u → Goes x s (drain n x u i)) → (z y : Bool) → contradicts (turn x v .step) ≡ y → Goes x s (goes n v k z y)
+      by : ((u : Live) (i : Step) → contradicts i ≡ false → Steady x s u → Goes x s (drain n x u i)) → (z y : Bool) → contradicts (turn x v .step) ≡ y → Goes x s (goes x n v k z y)
       by ih true y q = (λ o. h, λ o. absurd (clash (contradicts k) o c))
       by ih false true q = (λ o. absurd (clash (contradicts (turn x v .step)) q o), a .1)
       by ih false false q = ih (turn x v .live) (joined k (turn x v .step)) (joined-fine k (turn x v .step) c q) (a .0 q)

@@ -1,0 +1,61 @@
+-- THE FIRST STATES IN BLANK MEMORY, where no row has a state and no node is decided, begin the invariant.
+use Prim.Native.Nat.{ℕ, zero, suc, _+_, _≤_, _<_}
+use native.Mathlib.Nat.{not-suc-le-zero}
+use native.Mathlib.Omega.{arith}
+use mathlib.Core.Path.{_≡_, refl, ap, ap₂, _∙_}
+use mathlib.Core.Bool.{Bool, true, false, _||_}
+use mathlib.Core.List.{List, [], _∷_}
+use mathlib.Core.Logic.{_⊎_, inl, inr, ⊎-elim}
+use lib.ListN.{length, getD, set, length-set}
+use lib.Seq.{getD-set-same, getD-set-other}
+use Rattle.state.specs.declared.State.{State}
+use Rattle.state.specs.State.{noState}
+use Rattle.words.specs.Mask.{bit}
+use Rattle.queues.specs.Marks.{isDecided}
+use Rattle.queues.specs.MarksLaws.{mask, Waits}
+use Rattle.thresholds.specs.Rows.{Row, noRow, stateOfRow}
+use Rattle.between.specs.Between.{Index, Live, live, stateAt, firstStates}
+use Rattle.table.specs.Table.{start}
+use Rattle.follows.specs.Answers.{clash}
+use Rattle.follows.specs.Settled.{Sound}
+use Rattle.follows.specs.Start.{nothing, first-sound}
+
+-- ---- place by place
+
+first-other : (r : ℕ) (rs : List Row) (ss : List State) (q : ℕ) → (q < r) ⊎ (r + length rs ≤ q) → getD (firstStates r rs ss) q noState ≡ getD ss q noState
+unfolding firstStates
+first-other r [] ss q h = refl
+first-other r (y ∷ rs) ss q h =
+    first-other (r + 1) rs (set ss r (stateOfRow y)) q (⊎-elim (λ (k : q < r). inl (omega arith)) (λ (k : r + length (y ∷ rs) ≤ q). inr (omega arith)) h)
+    ∙ getD-set-other ss r q (stateOfRow y) noState (λ e. ⊎-elim (λ (k : q < r). omega arith) (λ (k : r + length (y ∷ rs) ≤ q). omega arith) h)
+
+first-here : (r : ℕ) (rs : List Row) (ss : List State) (i q : ℕ) → i ≡ r + q → q < length rs → r + length rs ≤ length ss
+    → getD (firstStates r rs ss) i noState ≡ stateOfRow (getD rs q noRow)
+unfolding firstStates
+first-here r [] ss i q e h l = absurd (not-suc-le-zero h)
+first-here r (y ∷ rs) ss i zero e h l =
+    let f : i ≡ r = omega arith in
+    first-other (r + 1) rs (set ss r (stateOfRow y)) i (inl (omega arith))
+    ∙ ap (λ (k : ℕ). getD (set ss r (stateOfRow y)) k noState) f ∙ getD-set-same ss r (stateOfRow y) noState (omega arith)
+first-here r (y ∷ rs) ss i (suc q) e h l =
+    first-here (r + 1) rs (set ss r (stateOfRow y)) i q (omega arith) (omega arith) (let k = length-set ss r (stateOfRow y) in omega arith)
+
+-- WHAT A SEAL OF BLANK MEMORY BEGINS WITH
+pub first-blank : (x : Index) (v : Live) → length (x .rows) ≤ length (v .states) → length (x .rows) ≤ length (v .dirty .pending)
+    → length (firstStates 0 (x .rows) (v .states)) ≡ length (v .states) → Waits (v .marks)
+    → ((r : ℕ) → stateAt v r ≡ noState) → ((b : Bool) (n : ℕ) → bit (mask b (v .marks)) n ≡ false)
+    → Sound x (start (bit (v .marks .sure)) (bit (v .marks .never))) nothing (live (firstStates 0 (x .rows) (v .states)) (v .marks) (v .dirty) (v .residuals))
+first-blank x v room flags long waits states bits =
+    first-sound x (live (firstStates 0 (x .rows) (v .states)) (v .marks) (v .dirty) (v .residuals)) (omega (arith, long, room)) flags
+    (λ r i. first-here 0 (x .rows) (v .states) r r (omega arith) i (omega (arith, room)))
+    (λ r i. first-other 0 (x .rows) (v .states) r (inr (omega arith)) ∙ states r)
+    (record {
+      queue = waits;
+      decided = λ n e. absurd (clash false e refl);
+      gone = λ n e. absurd (clash false e refl);
+      left = λ n d e. absurd (clash (isDecided (v .marks) n) d (undecided n));
+    })
+    (λ n a c. clash (bit (v .marks .sure) n) a (bits true n))
+  where
+    undecided : (n : ℕ) → isDecided (v .marks) n ≡ false
+    undecided n = ap₂ (λ (a c : Bool). a || c) (bits true n) (bits false n)
