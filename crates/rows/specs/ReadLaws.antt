@@ -1,25 +1,25 @@
 -- Laws of reading a job: one record more, and each way to end.
 use Prim.Native.Nat.{ℕ, zero, suc, _+_, _-_, _<_, _≤_}
 use native.Mathlib.Omega.{arith}
-use mathlib.Core.Path.{_≡_, refl, sym, ap, ap₂, _∙_, subst}
+use mathlib.Core.Path.{_≡_, refl, sym, ap, _∙_, subst}
 use mathlib.Core.Bool.{Bool, true, false, cond}
-use mathlib.Core.List.{List, [], _∷_, map}
-use lib.ListN.{length, getD, take}
+use mathlib.Core.List.{List, [], map}
+use lib.ListN.{length, getD}
 use lib.IntN.{ℤ}
 use mathlib.Core.Logic.{_⊎_, inl, inr}
 use lib.Dec.{eqb, leb}
 use borrow.Author.Tests.{le-leb, lt-leb, eq-eqb, ne-eqb}
 use Rattle.lists.specs.Laid.{numbers}
 use Rattle.numeric.specs.Area.{weightOfArea}
-use Rattle.numeric.specs.Threshold.{Job, term, Threshold}
+use Rattle.numeric.specs.Threshold.{Job, Threshold}
 use Rattle.records.specs.Record.{bodyLength, Record}
 use Rattle.records.specs.Entry.{said, kindAt, entryAt}
 use Rattle.records.specs.declared.Entry.{Entry}
 use Rattle.records.specs.declared.Entry.the-variants.{Header, Opens, Adds, Seal, Mark, Settle, Sift, Areas, Unknown}
 use Rattle.job.specs.declared.Counts.{Counts}
 use Rattle.job.specs.declared.Taken.{Taken}
-use Rattle.job.specs.Gathered.{jobIn, ifTaken, Gathered, Opened, Added}
-use Rattle.rows.specs.Read.{refusedBy, withRecord, Ended, sealed, nothing, endOfJob, jobRead, endedOf}
+use Rattle.job.specs.Gathered.{jobIn, ifTaken, Opened, Added}
+use Rattle.rows.specs.Read.{refusedBy, withRecord, Ended, sealed, nothing, endOfJob, jobRead}
 
 -- A record taken or refused, as the definitions say.
 pub record Stepped (j : Job) (x : Record) (r : Taken) (after : Job) : Type 0 where
