@@ -2,13 +2,24 @@
 use Prim.Native.Nat.{ℕ, zero, suc, _+_, _-_}
 use mathlib.Core.Bool.{Bool, cond}
 use mathlib.Core.List.{List, []}
-use lib.ListN.{length, getD}
-use lib.Dec.{eqb, leb}
+use lib.ListN.{length, getD, take, drop}
+use lib.Dec.{eqb, leb, ltb}
 use Rattle.numeric.specs.Area.{weightOfArea}
 use Rattle.numeric.specs.Threshold.{Job, term}
-use Rattle.records.specs.Record.{bodyLength, Record, header, opens, adds, areas, seal, mark, settle, sift, unknown}
+use Rattle.records.specs.Record.{bodyLength, littleEndian, Record, header, opens, adds, areas, seal, mark, settle, sift, unknown}
 use Rattle.records.specs.Entry.{kindAt, entryAt}
 use Rattle.job.specs.Job.{openRefusal, termRefusal, withThreshold, withTerm}
+use Rattle.rows.specs.declared.Head.{Head}
+use Rattle.rows.specs.declared.Head.the-variants.{Nodes, Nothing}
+
+-- The nodes of the header, where the first record is one and the job fits.
+abbrev pub nodesAt : List ℕ → ℕ
+nodesAt bytes = littleEndian (take 2 (drop 1 bytes))
+
+abbrev pub headOf : List ℕ → Head
+headOf bytes =
+    cond (ltb (length bytes) 3) Nothing
+    (cond (eqb (getD bytes 0 0) 1) (cond (ltb 4096 (nodesAt bytes)) Nothing (Nodes (nodesAt bytes))) Nothing)
 
 -- The number that refuses a record, 0 for none; every other record is out of its turn here.
 abbrev pub refusedBy : Job → Record → ℕ

@@ -7,8 +7,8 @@ use mathlib.Core.List.{List, [], map}
 use lib.ListN.{length, getD}
 use lib.IntN.{ℤ}
 use mathlib.Core.Logic.{_⊎_, inl, inr}
-use lib.Dec.{eqb, leb}
-use borrow.Author.Tests.{le-leb, lt-leb, eq-eqb, ne-eqb}
+use lib.Dec.{eqb, leb, ltb}
+use borrow.Author.Tests.{le-leb, lt-leb, eq-eqb, ne-eqb, ltb-false}
 use Rattle.lists.specs.Laid.{numbers}
 use Rattle.numeric.specs.Area.{weightOfArea}
 use Rattle.numeric.specs.Threshold.{Job, Threshold}
@@ -19,7 +19,10 @@ use Rattle.records.specs.declared.Entry.the-variants.{Header, Opens, Adds, Seal
 use Rattle.job.specs.declared.Counts.{Counts}
 use Rattle.job.specs.declared.Taken.{Taken}
 use Rattle.job.specs.Gathered.{jobIn, ifTaken, Opened, Added}
-use Rattle.rows.specs.Read.{refusedBy, withRecord, Ended, sealed, nothing, endOfJob, jobRead}
+use Rattle.rows.specs.declared.Head.{Head}
+use Rattle.rows.specs.declared.Head.the-variants.{Nodes, Nothing}
+use Rattle.rows.specs.Shown.{Small}
+use Rattle.rows.specs.Read.{nodesAt, headOf, refusedBy, withRecord, Ended, sealed, nothing, endOfJob, jobRead}
 
 -- A record taken or refused, as the definitions say.
 pub record Stepped (j : Job) (x : Record) (r : Taken) (after : Job) : Type 0 where
@@ -167,3 +170,19 @@ reading-start bytes n cs ws ts bs = record {
   enough = omega arith;
   same = ap (λ (l : List Threshold). endOfJob (length bytes) bytes 3 (record { nodes = n; thresholds = l })) (no-numbers _);
 }
+
+-- ---- the header
+
+module _ (bytes : List ℕ) where
+  pub head-by : (p q s : Bool) → ltb (length bytes) 3 ≡ p → eqb (getD bytes 0 0) 1 ≡ q → ltb 4096 (nodesAt bytes) ≡ s
+      → headOf bytes ≡ cond p Nothing (cond q (cond s Nothing (Nodes (nodesAt bytes))) Nothing)
+  head-by p q s a b c = λ i. cond (a i) Nothing (cond (b i) (cond (c i) Nothing (Nodes (nodesAt bytes))) Nothing)
+
+  pub small-head : Small (headOf bytes)
+  small-head = by (ltb (length bytes) 3) (eqb (getD bytes 0 0) 1) (ltb 4096 (nodesAt bytes)) refl refl refl
+    where
+      by : (p q s : Bool) → ltb (length bytes) 3 ≡ p → eqb (getD bytes 0 0) 1 ≡ q → ltb 4096 (nodesAt bytes) ≡ s → Small (headOf bytes)
+      by true q s a b c = subst Small (sym (head-by true q s a b c)) tt
+      by false true true a b c = subst Small (sym (head-by false true true a b c)) tt
+      by false true false a b c = subst Small (sym (head-by false true false a b c)) (ltb-false 4096 (nodesAt bytes) c)
+      by false false s a b c = subst Small (sym (head-by false false s a b c)) tt

@@ -10,9 +10,9 @@ ghost use Rattle.prepare.specs.RowsGivenLaid.{startIn, endIn};
 ghost use Rattle.records.specs.Entry.{said};
 ghost use Rattle.job.specs.Gathered.{Gathered, jobIn};
 ghost use Rattle.job.specs.Built.{Empty};
-ghost use Rattle.rows.specs.Read.{jobRead, endedOf};
+ghost use Rattle.rows.specs.Read.{headOf, jobRead, endedOf};
 ghost use Rattle.rows.specs.ReadLaws.{Stepped};
-ghost use Rattle.rows.specs.Shown.{Small, Part, Fits, Shown, First};
+ghost use Rattle.rows.specs.Shown.{Part, Fits, Shown, First};
 use job::Counts;
 use job::Taken;
 use libc::STDIN_FILENO;
@@ -76,7 +76,7 @@ enum Head {
 }
 
 fn read_header(input: &[u8]) -> Head
-    ensures { λ r. ⌜ Small r ⌝ }
+    ensures { λ r. ⌜ r ≡ headOf (now (input .entry)) ⌝ }
 {
     if input.len() < 3 {
         return Head::Nothing;
