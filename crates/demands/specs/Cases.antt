@@ -1,8 +1,8 @@
 -- The cases P1 to P12 of document 01, rows of one table under one theorem, proved by computing the definitions.
 use Prim.Native.Nat.{ℕ, zero, suc, _+_, _-_, _/_, _%_, _^_}
 use Prim.Native.String.{String}
-use mathlib.Core.Path.{_≡_, refl, sym, ap, _∙_, subst⁻¹}
-use mathlib.Core.Bool.{Bool, true, false, cond}
+use mathlib.Core.Path.{_≡_, refl, subst⁻¹}
+use mathlib.Core.Bool.{Bool, true, false}
 use mathlib.Core.List.{List, [], _∷_, _++_, List·Memᴰ, List·Memᴰ·cases-cons, List·Memᴰ·not-nil}
 use mathlib.Core.Logic.{_⊎_, ⊎-elim}
 use lib.IntN.{ℤ, pos, negsuc}
@@ -12,7 +12,6 @@ use Rattle.state.specs.declared.Step.{Step}
 use Rattle.state.specs.declared.Step.the-variants.{Unchanged, Changed, Contradiction}
 use Rattle.state.specs.declared.State.{State}
 use Rattle.state.specs.declared.Upper.the-variants.{Open, Under}
-use Rattle.state.specs.Step as Steps
 use Rattle.state.specs.State as States
 use Rattle.words.specs.Mask as Mask
 use Rattle.words.specs.Shift as Shift
@@ -24,7 +23,7 @@ use Rattle.prefixes.specs.Links as Links
 use Rattle.residual.specs.Gcd as Gcd
 use Rattle.residual.specs.Residual as Residuals
 use Rattle.possible_sums.specs.declared.Search.{Search}
-use Rattle.possible_sums.specs.declared.Search.the-variants.{Skipped, Fits, Nothing, Cut}
+use Rattle.possible_sums.specs.declared.Search.the-variants.{Cut}
 use Rattle.possible_sums.specs.Search as Searches
 use Rattle.propagate.specs.Scan as Scan
 use Rattle.propagate.specs.Row as Row
@@ -70,6 +69,8 @@ pub data Case : Type 0 where
   merges : (raw row : List Term) → Case
   searches : (row : List Term) → State → Search → Case
   residual : (row : List Term) → State → Step → Case
+  takes : (file : List Record) (answers : List File.Answer) (contradicted : Bool) → Case
+  forces : (file : List Record) (node : ℕ) → Case
 
 -- What is claimed of a case: the definitions give it.
 abbrev pub Right : Case → Type 0
@@ -80,6 +81,10 @@ Right (weighs a w) = weightOfArea a ≡ w
 Right (merges raw row) = Terms.rowTerms raw ≡ row
 Right (searches row s r) = Searches.search row s (λ n. false) ≡ r
 Right (residual row s k) = Residuals.thresholdResidual row s (File.cleared .marks) [] .step ≡ k
+Right (takes f as′ b) =
+    let o = File.planned (writtenAll f) in
+    (o .refused ≡ 0) × (o .records ≡ f) × (o .file .answers ≡ as′) × (o .file .contradicted ≡ b)
+Right (forces f n) = Mask.bit (File.planned (writtenAll f) .file .live .marks .sure) n ≡ true
 
 -- A row state before its scans: known 0, possible, lower, upper.
 abbrev fresh : ℕ → ℕ → ℕ → State
@@ -115,6 +120,14 @@ cases =
     ∷ residual (term 0 4 ∷ term 1 4 ∷ term 2 4 ∷ term 3 3 ∷ []) (fresh 15 5 7) Contradiction  -- P12
     ∷ []
 
+-- Files A and B once more, as clause c of document 01 needs them: both are taken, with their answers, and A forces node 0.
+abbrev pub shown : List Case
+shown =
+    takes file-A (File.settled Changed ∷ []) false
+    ∷ takes file-B (File.settled Unchanged ∷ File.sifted Contradiction 11 ∷ []) true
+    ∷ forces file-A 0
+    ∷ []
+
 -- The claim at each row of a list.
 abbrev Every : List Case → Type 0
 Every [] = Unit {0}
@@ -125,10 +138,16 @@ lift [] h c m = absurd (List·Memᴰ·not-nil m)
 lift (d ∷ cs) h c m =
     ⊎-elim (λ (e : c ≡ d). subst⁻¹ Right e (h .0)) (λ (n : List·Memᴰ c cs). lift cs (h .1) c n) (List·Memᴰ·cases-cons m)
 
-computed : Every cases
+computed : Every cases × Every shown
 unfolding States.firstState States.noState States.withKnown States.withPossible States.withLower States.withUpper States.withGuards States.withTerms States.drained States.conflict States.hasResidualInterval Mask.setBit Mask.learn Mask.count Shift.shiftWord Shift.wordHits Shift.shiftFrom Shift.unionShifted Queues.push Queues.popped Queues.queueRow Queues.nextRow Marks.decide Terms.merge Terms.merged Terms.insert Terms.sorted Terms.total Terms.sameTerms Rows.insertGuard Rows.place Rows.placeAll Rows.rowNumber Rows.hasNonunit Rows.edgesIn Rows.edgesFrom Links.notAfter Links.insertRow Links.orderFrom Links.common Links.ancestors Links.stacked Links.linked Links.linksFrom Links.links Links.neighbours Gcd.gcdIn Gcd.gcd Gcd.misses Gcd.branchMisses Residuals.checkFrom Residuals.residualCheck Residuals.fitsFrom Residuals.suffixFrom Residuals.forceTerm Residuals.forceFrom Residuals.thresholdResidual Searches.plan Searches.searchFrom Searches.search Scan.scan Row.thresholdGuards Row.trueTerms Row.falseTerms Row.scans Row.thresholdRow Row.wantsResidual Between.runWith Between.runRow Between.bounded Between.thresholdGuard Between.conditionFrom Between.thresholdCondition Between.prefixesFrom Between.thresholdPrefixes Between.firstStates Between.seedFrom Between.guardOf Drain.seal Drain.mark Drain.takeNode Drain.takeRow Drain.drain Sift.tryRow Sift.siftFrom File.begun File.lastNode File.lastTerms File.allTerms File.first File.refusal File.addTerm File.settledFile File.siftedFile File.apply File.readFrom File.fileOf File.planned File.after Listing.text Listing.digits Listing.answerLines Listing.nodeLines Listing.rowLines Listing.listing littleEndian bytes twos written writtenAll
-computed = (refl, (refl, (refl, (refl, (refl, (refl, (refl, (refl, (refl, (refl, (refl, (refl, (refl, (refl, (refl, (refl, (refl, tt)))))))))))))))))
+computed = (
+  (refl, (refl, (refl, (refl, (refl, (refl, (refl, (refl, (refl, (refl, (refl, (refl, (refl, (refl, (refl, (refl, (refl, tt))))))))))))))))),
+  ((refl, refl, refl, refl), ((refl, refl, refl, refl), (refl, tt))),
+)
 
 -- EVERY CASE OF THE TABLE
 pub worked : (c : Case) → List·Memᴰ c cases → Right c
-worked c m = lift cases computed c m
+worked c m = lift cases (computed .0) c m
+
+pub shown-right : (c : Case) → List·Memᴰ c shown → Right c
+shown-right c m = lift shown (computed .1) c m

@@ -1,16 +1,16 @@
 -- THE DEMANDS of the mission, and the clauses a and c of document 01, as statements over the definitions.
 -- They are what the proofs of this repository are for. A statement is met when a term of its type stands in a crate.
-use Prim.Native.Nat.{ℕ, _+_, _*_, _<_, _≤_}
+use Prim.Native.Nat.{ℕ, _+_, _*_, _≤_}
 use mathlib.Core.Path.{_≡_}
-use mathlib.Core.Bool.{Bool, true, false, cond, not}
+use mathlib.Core.Bool.{Bool, true, false}
 use mathlib.Core.List.{List, [], _∷_, _++_, List·Memᴰ}
 use mathlib.Core.Logic.{_⊎_, _≢_, _↔_}
-use lib.ListN.{length, take}
+use lib.ListN.{length, take, drop}
 use lib.Dec.{eqb}
-use Rattle.numeric.specs.Threshold.{Term, Job}
+use Rattle.numeric.specs.Threshold.{Term, Threshold}
 use Rattle.numeric.specs.Layout.{Layout, IsLayout}
 use Rattle.state.specs.declared.Step.{Step}
-use Rattle.state.specs.declared.Step.the-variants.{Unchanged, Changed, Contradiction}
+use Rattle.state.specs.declared.Step.the-variants.{Unchanged, Contradiction}
 use Rattle.state.specs.declared.State.{State}
 use Rattle.words.specs.Mask.{bit}
 use Rattle.queues.specs.Queue.{isEmpty}
@@ -18,15 +18,20 @@ use Rattle.row.specs.Terms.{rowTerms}
 use Rattle.thresholds.specs.Rows.{Row, rowsOf}
 use Rattle.possible_sums.specs.declared.Window.{Window}
 use Rattle.possible_sums.specs.declared.Plan.the-variants.{Planned}
-use Rattle.possible_sums.specs.declared.Search.the-variants.{Skipped, Fits, Nothing, Cut}
+use Rattle.possible_sums.specs.declared.Search.the-variants.{Fits, Nothing, Cut}
 use Rattle.possible_sums.specs.Search.{plan, search, searchStep, Lands}
 use Rattle.table.specs.Table.{Table, Conflict, Run, steps, ReachesConflict, AtRest, Ended}
 use Rattle.regions.specs.Drain.{atRest}
 use Rattle.planner.specs.Record.{Record, seal, mark, settle, sift}
-use Rattle.planner.specs.File.{File, Answer, settled, sifted, begun, apply, after, refusal, planned}
+use Rattle.planner.specs.File.{File, sifted, begun, apply, after, refusalAt, planned}
 use Rattle.memory.specs.Buffers.{Work, fits}
-use Rattle.planner.specs.Contents.{Out, whole}
-use Rattle.demands.specs.Reading.{Marked, SameMarks, Agrees, NoSift, decidedIn, decidedAnd, marksOnly, SameEnd, SameFigures, Decoded, records, decoded, plainlyAll, Passes}
+use Rattle.planner.specs.Contents.{Out, served, whole}
+use Rattle.ends.specs.Files.{Passed}
+use Rattle.demands.specs.Reading.{Marked, SameMarks, Agrees, NoSift, decidedIn, decidedAnd, marksOnly, SameEnd, SameFigures, records, decoded, plainlyAll, Passes}
+
+-- What the call gave, but for its refusal.
+abbrev pub accepted : Out → Out
+accepted o = record { refused = 0; at = o .at; sealed = o .sealed; nodes = o .nodes; rows = o .rows; answered = o .answered; work = o .work }
 
 -- DEMAND 1. The program as a whole takes each record or refuses it by one of ten numbers, and always ends. After a refused
 -- record all lent memory is as if the file had ended just before it. (That it makes every check itself is the public call's
@@ -36,12 +41,19 @@ pub record Demand1 : Type 0 where
   pub numbers : (input : List ℕ) (w : Work) → whole input w .refused ≤ 10
   -- a refusal other than 10: everything but the refusal is that of the file cut at its offset, which is accepted
   pub refused : (input : List ℕ) (w : Work) → whole input w .refused ≢ 0 → whole input w .refused ≢ 10
-      → (whole (take (whole input w .at) input) w .refused ≡ 0) × (whole (take (whole input w .at) input) w .work ≡ whole input w .work)
+      → whole (take (whole input w .at) input) w ≡ accepted (whole input w)
   -- 10 is given exactly if a buffer is too short or the input too long; its offset is 0 and it touches nothing
   pub ten : (input : List ℕ) (w : Work) → (whole input w .refused ≡ 10) ↔ (fits input w ≡ false)
   pub ten-touches-nothing : (input : List ℕ) (w : Work) → whole input w .refused ≡ 10 → (whole input w .at ≡ 0) × (whole input w .work ≡ w)
-  -- what is not refused are the records that were taken, one after the other
+  -- the records that were taken are those that the bytes before the offset spell; one after the other they make the file, and
+  -- each passed all checks on what those before it left
+  pub spelled : (input : List ℕ) → decoded (take (planned input .at) input) ≡ records (planned input .records)
   pub taken : (input : List ℕ) → planned input .file ≡ after begun (planned input .records)
+  pub passed : (input : List ℕ) → Passed begun (planned input .records)
+  -- with no refusal all bytes were read; else the number is that of the first check that applies to the record at the offset
+  pub read-all : (input : List ℕ) → planned input .refused ≡ 0 → planned input .at ≡ length input
+  pub first-check : (input : List ℕ) → planned input .refused ≢ 0 → planned input .refused ≢ 10
+      → (kind : ℕ) × (rest : List ℕ) × (drop (planned input .at) input ≡ kind ∷ rest) × (planned input .refused ≡ refusalAt (planned input .file) kind rest)
   -- a settle or a sift that does not contradict ends because nothing waits any more, and not for want of turns
   pub ends : (input : List ℕ) (before later : List Record) (r : Record) → planned input .records ≡ before ++ (r ∷ later) → (r ≡ settle) ⊎ (r ≡ sift)
       → after begun (before ++ (r ∷ [])) .contradicted ≡ false → atRest (after begun (before ++ (r ∷ [])) .live) ≡ true
@@ -138,24 +150,27 @@ pub record SameLengths (v w : Work) : Type 0 where
 pub record ClauseA : Type 0 where
   pub memory : (input : List ℕ) (v w : Work) → SameLengths v w → fits input v ≡ true → whole input v ≡ whole input w
   pub lengths : (input : List ℕ) (w : Work) → SameLengths (whole input w .work) w
+  -- what demands 2 and 3 say of a file they say of what the call gives and leaves in memory
+  pub files : (input : List ℕ) (w : Work) → fits input w ≡ true → whole input w ≡ served (planned input) w
 
 -- CLAUSE C. Planners that are shut out. Each line says what such a planner would do on all files, and that this one does not.
 pub record ClauseC : Type 0 where
   -- one that cuts each search short before a visit: no sift would have visits
   pub cuts-each-search : ((input : List ℕ) (k : Step) (n : ℕ) → List·Memᴰ (sifted k n) (planned input .file .answers) → n ≡ 0) → ⊥
-  -- one that invents visits: a search has no more than 4 for each term, and a sift's visits are 0 or those of a search
+  -- one that invents visits: a search has no more than 4 for each term, and a sift's visits are 0 or those of a search of a row
+  -- of its job
   pub invents-visits : (raw : List Term) (s : State) (d : ℕ → Bool) (n : ℕ)
       → (search (rowTerms raw) s d ≡ Fits n) ⊎ ((search (rowTerms raw) s d ≡ Nothing n) ⊎ (search (rowTerms raw) s d ≡ Cut n)) → n ≤ 4 * length (rowTerms raw)
   pub sift-visits : (input : List ℕ) (k : Step) (n : ℕ) → List·Memᴰ (sifted k n) (planned input .file .answers)
-      → (n ≡ 0) ⊎ ((raw : List Term) × (s : State) × (d : ℕ → Bool)
-      × ((search (rowTerms raw) s d ≡ Fits n) ⊎ ((search (rowTerms raw) s d ≡ Nothing n) ⊎ (search (rowTerms raw) s d ≡ Cut n))))
+      → (n ≡ 0) ⊎ ((t : Threshold) × List·Memᴰ t (planned input .file .job .thresholds) × (s : State) × (d : ℕ → Bool)
+      × ((search (rowTerms (t .terms)) s d ≡ Fits n) ⊎ ((search (rowTerms (t .terms)) s d ≡ Nothing n) ⊎ (search (rowTerms (t .terms)) s d ≡ Cut n))))
   -- one that drains a single node per settling: Demand 1's `ends`, at a file in which several wait
   pub drains-one-node : (input : List ℕ) (before later : List Record) → planned input .records ≡ before ++ (settle ∷ later)
       → after begun (before ++ (settle ∷ [])) .contradicted ≡ false → atRest (after begun (before ++ (settle ∷ [])) .live) ≡ true
-  -- one that leaves all nodes undecided
-  pub leaves-all-undecided : ((input : List ℕ) (n : ℕ) → bit (planned input .file .live .marks .sure) n ≡ false) → ⊥
+  -- one that leaves all nodes undecided: some node is sure that no mark made sure
+  pub leaves-all-undecided : ((input : List ℕ) (n : ℕ) → bit (planned input .file .live .marks .sure) n ≡ true → Marked (planned input .records) n true) → ⊥
   -- one that always contradicts
   pub always-contradicts : ((input : List ℕ) (before later : List Record) → planned input .records ≡ before ++ (settle ∷ later)
       → after begun (before ++ (settle ∷ [])) .contradicted ≡ true) → ⊥
-  -- one that refuses each file
-  pub refuses-each-file : ((input : List ℕ) → input ≢ [] → planned input .refused ≢ 0) → ⊥
+  -- one that refuses each file: over some memory one that is not empty is accepted
+  pub refuses-each-file : ((input : List ℕ) (w : Work) → input ≢ [] → whole input w .refused ≢ 0) → ⊥

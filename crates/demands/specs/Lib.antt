@@ -1,4 +1,12 @@
 pub mod Cases
 pub mod Reading
 pub mod Demands
+pub mod RefusalLaws
+pub mod ReadLaws
+pub mod ShutOutLaws
+pub mod MemoryLaws
+pub mod SizeLaws
+pub mod KeptLaws
+pub mod LengthLaws
+pub mod ForcedLaws
 pub mod Met

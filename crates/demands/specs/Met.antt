@@ -1,128 +1,56 @@
--- Which of the demands are met: a theorem for each field of `Demands` that is proved so far, in the same words.
-use Prim.Native.Nat.{ℕ, _-_, _*_, _≤_}
-use native.Mathlib.Nat.{le-refl}
-use native.Mathlib.Omega.{arith}
-use mathlib.Core.Path.{_≡_, refl, sym, ap, ap₂, _∙_}
-use mathlib.Core.Bool.{Bool, true, false, _&&_}
-use mathlib.Core.List.{List, []}
-use mathlib.Core.Logic.{_⊎_, inl, inr, ⊎-elim, _≢_, _↔_}
-use lib.ListN.{length, take, length-take}
-use lib.Dec.{ltb, leb}
-use borrow.Author.Tests.{leb-true, le-leb}
-use Rattle.numeric.specs.Threshold.{Term}
-use Rattle.state.specs.declared.Step.the-variants.{Unchanged, Contradiction}
-use Rattle.state.specs.declared.State.{State}
-use Rattle.row.specs.Terms.{rowTerms}
-use Rattle.possible_sums.specs.declared.Window.{Window}
-use Rattle.possible_sums.specs.declared.Plan.the-variants.{Planned}
-use Rattle.possible_sums.specs.declared.Search.the-variants.{Fits, Nothing, Cut}
-use Rattle.possible_sums.specs.Search.{plan, search, searchStep, Lands}
+-- WHICH DEMANDS ARE MET: a value of the type that states each. The proofs stand in the files named `Laws` beside this one, and in `ends`.
+-- Not proved yet: `Demand3`, all five fields.
+use mathlib.Core.Path.{refl}
+use mathlib.Core.Logic.{inl}
 use Rattle.possible_sums.specs.SearchLaws as SearchLaws
-use Rattle.memory.specs.Buffers.{Work, fits, fitsRaw, fitsBuilt, fitsKept}
-use Rattle.planner.specs.Record.{Record}
-use Rattle.planner.specs.File.{Outcome, outcome, fileOf, begun, after, planned, readFrom}
-use Rattle.planner.specs.FileLaws.{read-up-to, read-taken, read-enough, read-cut}
-use Rattle.planner.specs.Contents.{Out, served, untouched, whole}
+use Rattle.planner.specs.Record.{settle}
+use Rattle.ends.specs.Files as Files
+use Rattle.demands.specs.Demands.{Demand1, Demand2, ClauseA, ClauseC}
+use Rattle.demands.specs.RefusalLaws as Refusals
+use Rattle.demands.specs.ReadLaws as Reads
+use Rattle.demands.specs.ForcedLaws as Forced
+use Rattle.demands.specs.MemoryLaws as Memory
+use Rattle.demands.specs.LengthLaws as Lengths
+use Rattle.demands.specs.ShutOutLaws as ShutOut
 
--- DEMAND 1
-pub numbers : (input : List ℕ) (w : Work) → whole input w .refused ≤ 10
-unfolding whole fileOf
-numbers input w = by (fits input w)
-  where
-    by : (b : Bool) → let o : Out = elim b [ true ↦ served (fileOf input) w | false ↦ untouched w ] in o .refused ≤ 10
-    by true = let h = read-up-to (length input) 0 input begun [] in omega arith
-    by false = omega arith
+-- DEMAND 1, whole
+pub demand1 : Demand1
+demand1 = record {
+  numbers = Refusals.numbers;
+  refused = Refusals.refused;
+  ten = Refusals.ten;
+  ten-touches-nothing = Refusals.ten-touches-nothing;
+  spelled = Reads.spelled;
+  taken = Refusals.taken;
+  passed = Files.planned-passed;
+  read-all = Reads.read-all;
+  first-check = Reads.first-check;
+  ends = Files.ends;
+  sift-ends = Files.sift-ends;
+}
 
-pub taken : (input : List ℕ) → planned input .file ≡ after begun (planned input .records)
-unfolding planned fileOf after
-taken input = by (ltb 65536 (length input))
-  where
-    by : (b : Bool) → let o : Outcome = elim b [ true ↦ outcome begun [] 10 0 | false ↦ fileOf input ] in o .file ≡ after begun (o .records)
-    by true = refl
-    by false = read-taken (length input) 0 input begun begun [] refl
+-- DEMAND 2, whole
+pub demand2 : Demand2
+demand2 = record {
+  forced-sure = Forced.forced-sure;
+  forced-never = Forced.forced-never;
+  no-layout = Forced.no-layout;
+  search-exact = SearchLaws.search-exact;
+  cut-short = SearchLaws.cut-short;
+}
 
-pub ten-touches-nothing : (input : List ℕ) (w : Work) → whole input w .refused ≡ 10 → (whole input w .at ≡ 0) × (whole input w .work ≡ w)
-unfolding whole fileOf
-ten-touches-nothing input w h = by (fits input w) h
-  where
-    by : (b : Bool) → let o : Out = elim b [ true ↦ served (fileOf input) w | false ↦ untouched w ] in o .refused ≡ 10 → (o .at ≡ 0) × (o .work ≡ w)
-    by true e = absurd (let k = read-up-to (length input) 0 input begun [] in omega arith)
-    by false e = (refl, refl)
+-- CLAUSE A, whole
+pub clauseA : ClauseA
+clauseA = record { memory = Memory.memory; lengths = Lengths.lengths; files = Refusals.files }
 
-pub ten : (input : List ℕ) (w : Work) → (whole input w .refused ≡ 10) ↔ (fits input w ≡ false)
-unfolding whole fileOf
-ten input w = by (fits input w)
-  where
-    by : (b : Bool) → let o : Out = elim b [ true ↦ served (fileOf input) w | false ↦ untouched w ] in (o .refused ≡ 10) ↔ (b ≡ false)
-    by true = ((λ e. absurd (let k = read-up-to (length input) 0 input begun [] in omega arith)), λ e. absurd (let z : _≡_ {A = ℕ} 0 1 = cc in omega arith))
-    by false = ((λ e. refl), λ e. refl)
-
-and-both : (a b : Bool) → (a && b) ≡ true → (a ≡ true) × (b ≡ true)
-and-both true b h = (refl, h)
-and-both false b h = absurd (let z : _≡_ {A = ℕ} 0 1 = cc in omega arith)
-
-shorter-fits : (x input : List ℕ) (w : Work) → length x ≤ length input → fits input w ≡ true → fits x w ≡ true
-unfolding fits
-shorter-fits x input w h e =
-    let a = and-both (fitsRaw (w .raw) && fitsBuilt (w .built) && fitsKept (w .kept)) (leb (length input) 65536) e in
-    let k = leb-true (length input) 65536 (a .1) in
-    ap₂ (λ (p q : Bool). p && q) (a .0) (le-leb (length x) 65536 (omega arith))
-
-true-or-false : (b : Bool) → (b ≡ true) ⊎ (b ≡ false)
-true-or-false true = inl refl
-true-or-false false = inr refl
-
--- the two ways of the call
-abbrev ways : List ℕ → Work → Bool → Out
-ways input w b = elim b [ true ↦ served (fileOf input) w | false ↦ untouched w ]
-
-served-when : (input : List ℕ) (w : Work) → fits input w ≡ true → whole input w ≡ served (fileOf input) w
-unfolding whole
-served-when input w e = ap (λ (b : Bool). ways input w b) e
-
-untouched-when : (input : List ℕ) (w : Work) → fits input w ≡ false → whole input w ≡ untouched w
-unfolding whole
-untouched-when input w e = ap (λ (b : Bool). ways input w b) e
-
--- a file cut at the place of its refusal reads the same
-cut-file : (input : List ℕ) → fileOf input .refused ≢ 0
-    → fileOf (take (fileOf input .at) input) ≡ outcome (fileOf input .file) (fileOf input .records) 0 (fileOf input .at)
-unfolding fileOf
-cut-file input h =
-    let c = read-cut (length input) 0 input begun [] h in
-    let a = readFrom (length input) 0 input begun [] .at in
-    let z : a - 0 ≡ a = omega arith in
-    let t = length-take a input in
-    read-enough (length (take a input)) (length input) 0 (take a input) begun [] (le-refl (length (take a input))) (omega arith)
-    ∙ ap (λ (k : ℕ). readFrom (length input) 0 (take k input) begun []) (sym z) ∙ c .1
-
-pub refused : (input : List ℕ) (w : Work) → whole input w .refused ≢ 0 → whole input w .refused ≢ 10
-    → (whole (take (whole input w .at) input) w .refused ≡ 0) × (whole (take (whole input w .at) input) w .work ≡ whole input w .work)
-refused input w h k =
-    ⊎-elim
-    (λ (e : fits input w ≡ true).
-    let q = served-when input w e in
-    let a = fileOf input .at in
-    let p : whole input w .at ≡ a = ap (λ (o : Out). o .at) q in
-    let c = cut-file input (λ z. h (ap (λ (o : Out). o .refused) q ∙ z)) in
-    let t = length-take a input in
-    let r = served-when (take a input) w (shorter-fits (take a input) input w (omega arith) e) ∙ ap (λ (o : Outcome). served o w) c in (
-      ap (λ (n : ℕ). whole (take n input) w .refused) p ∙ ap (λ (o : Out). o .refused) r,
-      ap (λ (n : ℕ). whole (take n input) w .work) p ∙ ap (λ (o : Out). o .work) r ∙ sym (ap (λ (o : Out). o .work) q),
-    ))
-    (λ (e : fits input w ≡ false). absurd (k (ap (λ (o : Out). o .refused) (untouched-when input w e)))) (true-or-false (fits input w))
-
--- DEMAND 2, its last clause
-pub search-exact : (raw : List Term) (s : State) (decided : ℕ → Bool) (w : Window) → plan (rowTerms raw) s ≡ Planned w
-    → ((n : ℕ) → search (rowTerms raw) s decided ≢ Cut n)
-    → (searchStep (search (rowTerms raw) s decided) ≡ Contradiction) ↔ ((choice : ℕ → Bool) → Lands w decided (rowTerms raw) choice → ⊥)
-search-exact = SearchLaws.search-exact
-
-pub cut-short : (raw : List Term) (s : State) (decided : ℕ → Bool) (n : ℕ) → search (rowTerms raw) s decided ≡ Cut n
-    → searchStep (search (rowTerms raw) s decided) ≡ Unchanged
-cut-short = SearchLaws.cut-short
-
--- CLAUSE C
-pub invents-visits : (raw : List Term) (s : State) (d : ℕ → Bool) (n : ℕ)
-    → (search (rowTerms raw) s d ≡ Fits n) ⊎ ((search (rowTerms raw) s d ≡ Nothing n) ⊎ (search (rowTerms raw) s d ≡ Cut n)) → n ≤ 4 * length (rowTerms raw)
-invents-visits = SearchLaws.invents-visits
+-- CLAUSE C, whole
+pub clauseC : ClauseC
+clauseC = record {
+  cuts-each-search = ShutOut.cuts-each-search;
+  invents-visits = SearchLaws.invents-visits;
+  sift-visits = ShutOut.sift-visits;
+  drains-one-node = λ input before later e h. Files.ends input before later settle e (inl refl) h;
+  leaves-all-undecided = ShutOut.leaves-all-undecided;
+  always-contradicts = ShutOut.always-contradicts;
+  refuses-each-file = ShutOut.refuses-each-file;
+}

@@ -1,20 +1,16 @@
 -- What the demands say of a file: its records, marks and job, read on behind a refusal 9, and the figures that two ends share.
-use Prim.Native.Nat.{ℕ, zero, suc, _+_, _<_, _≤_}
+use Prim.Native.Nat.{ℕ, zero, suc, _+_, _<_}
 use mathlib.Core.Path.{_≡_}
 use mathlib.Core.Bool.{Bool, true, false, cond, _||_, _&&_, not}
 use mathlib.Core.List.{List, [], _∷_, _++_, List·Memᴰ}
 use mathlib.Core.Logic.{_↔_}
 use lib.ListN.{length, getD, drop}
 use lib.Dec.{eqb}
-use lib.IntN.{ℤ}
-use Rattle.numeric.specs.Threshold.{Term, Job}
 use Rattle.numeric.specs.Layout.{Layout}
-use Rattle.state.specs.declared.Step.the-variants.{Unchanged, Changed, Contradiction}
-use Rattle.state.specs.declared.State.{State}
-use Rattle.state.specs.declared.Upper.{Upper}
+use Rattle.state.specs.declared.Step.the-variants.{Unchanged}
 use Rattle.state.specs.State.{noState}
 use Rattle.words.specs.Mask.{bit}
-use Rattle.thresholds.specs.Rows.{Row, rowsOf}
+use Rattle.thresholds.specs.Rows.{rowsOf}
 use Rattle.table.specs.Table.{Table, start, knownOf, possibleOf}
 use Rattle.planner.specs.Record.{Record, header, opens, adds, areas, seal, mark, settle, sift, unknown, kindOf, bodyLength}
 use Rattle.planner.specs.File.{File, settled, apply, recordAt, unknownKind, cutBody, refusal}

@@ -1,6 +1,6 @@
 -- NOTHING IS LEFT UNDONE: a row that was run without a contradiction has every guard and term decided that its drained figures
 -- decide. Cursors only move forward, and pass only what is decided.
-use Prim.Native.Nat.{ℕ, zero, suc, _+_, _-_, _/_, _≤_, _<_}
+use Prim.Native.Nat.{ℕ, zero, suc, _+_, _-_, _≤_, _<_}
 use native.Mathlib.Omega.{arith}
 use mathlib.Core.Path.{_≡_, refl, sym, ap, ap₂, _∙_, subst}
 use mathlib.Core.Bool.{Bool, true, false, not, cond, _&&_, _||_}
@@ -8,12 +8,12 @@ use mathlib.Core.List.{List, [], _∷_, _++_, append-assoc, reverse, reverse-con
 use mathlib.Core.Logic.{_⊎_, inl, inr, ⊎-elim}
 use lib.ListN.{length, take, drop, take-append-drop, length-take, length-append, length-reverse}
 use lib.Seq.{take-add, take-append-seam, drop-append-seam}
-use lib.IntN.{ℤ, pos, _-ℤ_}
-use lib.Signed.{leZ, ltZ}
+use lib.IntN.{ℤ, pos}
+use lib.Signed.{leZ}
 use Rattle.signed.specs.Signed.{leZ-refl, leZ-trans, leZ-nlt}
 use Rattle.numeric.specs.Threshold.{Term}
 use Rattle.state.specs.declared.Step.{Step}
-use Rattle.state.specs.declared.Step.the-variants.{Unchanged, Changed, Contradiction}
+use Rattle.state.specs.declared.Step.the-variants.{Unchanged, Contradiction}
 use Rattle.state.specs.declared.State.{State}
 use Rattle.state.specs.Step.{joined, contradicts}
 use Rattle.state.specs.State.{reached, upperAtMost}
@@ -25,8 +25,9 @@ use Rattle.state.specs.declared.Upper.the-variants.{Open, Under}
 use Rattle.thresholds.specs.Rows.{Guard}
 use Rattle.propagate.specs.Scan.{scan, Scanned, scanned, force}
 use Rattle.propagate.specs.Row.{sureWaits, decides, sureGuards, reachable, neverWaits, neverGuards, termWaits, forces, forced}
+use Rattle.follows.specs.Answers.{and-left, and-right, or-true, joined-fine}
 use Rattle.follows.specs.Decide.{scan-keeps}
-use Rattle.follows.specs.Row.{decide-grows, mem-drop, mem-take, mem-reverse, or-true}
+use Rattle.follows.specs.Row.{decide-grows, mem-drop, mem-take, mem-reverse}
 
 -- Every element has a property.
 abbrev pub All : {X : Type 0} → (X → Type 0) → List X → Type 0
@@ -64,13 +65,6 @@ scan-stops {X} waits act P Done keeps stays (x ∷ xs) makes n m k p c h =
 
     After : Type 0
     After = (n : ℕ) (m : Marks) (k : Step) → P m → contradicts k ≡ false → contradicts (scan waits act xs n m k .step) ≡ false → Stopped waits Done xs n (scan waits act xs n m k)
-
-    joined-fine : (a b : Step) → contradicts a ≡ false → contradicts b ≡ false → contradicts (joined a b) ≡ false
-    joined-fine Unchanged b e f = f
-    joined-fine Changed Unchanged e f = refl
-    joined-fine Changed Changed e f = refl
-    joined-fine Changed Contradiction e f = f
-    joined-fine Contradiction b e f = e
 
     go-on : waits x m ≡ false → contradicts (act x m .step) ≡ false → (r : Scanned)
         → r ≡ scan waits act xs (n + 1) (act x m .marks) (joined k (act x m .step)) → Stopped waits Done xs (n + 1) r → Goal r
@@ -258,10 +252,6 @@ forced-complete value light down ts n m fall small w old c =
       λ t i h. ⊎-elim (before t) (λ j. ⊎-elim (o .done t) (λ b. absurd (waits-on t h o b)) j) (split-cases ts (o .front) (o .back) n (o .split) t i),
     )
   where
-    and-right : (a b : Bool) → (a && b) ≡ true → b ≡ true
-    and-right true b h = h
-    and-right false b h = absurd (let z : _≡_ {A = ℕ} 0 1 = cc in omega arith)
-
     waits-on : (t : Term) → light (t .weight) ≡ false
         → (o : Stopped (termWaits light) (λ (t : Term) (k : Marks). isDecided k (t .condition) ≡ true) (drop n ts) 0 (forced value light (drop n ts) m)) → List·Memᴰ t (o .back) → ⊥
     waits-on t h o b =
@@ -304,22 +294,10 @@ falls-back (x ∷ xs) ys h = falls-back xs ys (h .1)
 
 -- what is in reach stays so for a lower bound
 reach-down : (st : State) (a b : ℤ) → leZ a b ≡ true → reachable st b ≡ true → reachable st a ≡ true
-reach-down st a b h k = both-true (leZ-trans a b (st .possible) h (left (leZ b (st .possible)) _ k)) (under (st .upper) (right (leZ b (st .possible)) _ k))
+reach-down st a b h k = both-true (leZ-trans a b (st .possible) h (and-left (leZ b (st .possible)) _ k)) (under (st .upper) (and-right (leZ b (st .possible)) _ k))
   where
-    left : (p q : Bool) → (p && q) ≡ true → p ≡ true
-    left true q e = refl
-    left false q e = e
-
-    right : (p q : Bool) → (p && q) ≡ true → q ≡ true
-    right true q e = e
-    right false q e = absurd (let z : _≡_ {A = ℕ} 0 1 = cc in omega arith)
-
     both-true : {p q : Bool} → p ≡ true → q ≡ true → (p && q) ≡ true
     both-true {p} {q} e f = ap₂ (λ (x y : Bool). x && y) e f
-
-    not-true : (p : Bool) → not p ≡ true → p ≡ false
-    not-true true e = sym e
-    not-true false e = refl
 
     below : (u : ℤ) (t : Bool) → leZ u a ≡ t → not (leZ u b) ≡ true → not t ≡ true
     below u true e f = ap not (sym (leZ-trans u a b e h)) ∙ f

@@ -5,13 +5,13 @@ use native.Mathlib.Decide.{ℕ-discrete}
 use mathlib.Core.Path.{_≡_, refl, sym, ap, _∙_, subst}
 use mathlib.Core.Bool.{Bool, true, false, not, cond}
 use mathlib.Core.List.{List, [], _∷_, List·Memᴰ, List·Memᴰ·head, List·Memᴰ·tail}
-use mathlib.Core.Logic.{_⊎_, inl, inr, ⊎-elim}
+use mathlib.Core.Logic.{_⊎_, ⊎-elim}
 use lib.Dec.{eqb}
 use lib.IntN.{ℤ}
 use lib.Signed.{≤ℤ-refl}
 use borrow.Author.Tests.{eq-eqb}
 use Rattle.state.specs.declared.Step.{Step}
-use Rattle.state.specs.declared.Step.the-variants.{Unchanged, Changed, Contradiction}
+use Rattle.state.specs.declared.Step.the-variants.{Contradiction}
 use Rattle.state.specs.declared.Upper.{Upper}
 use Rattle.state.specs.Step.{joined, contradicts}
 use Rattle.words.specs.Mask.{bit}
@@ -23,6 +23,7 @@ use Rattle.table.specs.Table as T
 use Rattle.table.specs.Table.{Table, decideSure, decideNever, Conflict, both}
 use Rattle.table.specs.Order.{up-refl}
 use Rattle.table.specs.TableLaws.{Le, le-then, Follows, follows-step}
+use Rattle.follows.specs.Answers.{true-false, joined-fine}
 
 -- The nodes of the masks, with lowers and uppers of rows, as a state of the table.
 abbrev pub tableOf : Marks → (ℕ → ℤ) → (ℕ → Upper) → Table
@@ -51,10 +52,6 @@ at-kept n k f h = by (eqb k n)
     by true = refl
     by false = h
 
-true-false : (b : Bool) → (b ≡ true) ⊎ (b ≡ false)
-true-false true = inl refl
-true-false false = inr refl
-
 module _ (l : ℕ → ℤ) (u : ℕ → Upper) where
   -- a decision adds no more than its node
   adds-only : (value : Bool) (m : Marks) (n k : ℕ) → bit (mask value (decide value m n .marks)) k ≡ true → T.at n true (bit (mask value m)) k ≡ true
@@ -64,7 +61,7 @@ module _ (l : ℕ → ℤ) (u : ℕ → Upper) where
       by (yes e) = at-same n k (bit (mask value m)) e
       by (no d) = at-kept n k (bit (mask value m)) (sym (decide-other value m n value k d) ∙ h)
 
-  decided-below : (value : Bool) (m : Marks) (n : ℕ) → Le (tableOf (decide value m n .marks) l u) (decideAs value (tableOf m l u) n)
+  pub decided-below : (value : Bool) (m : Marks) (n : ℕ) → Le (tableOf (decide value m n .marks) l u) (decideAs value (tableOf m l u) n)
   decided-below true m n = record {
     sure = adds-only true m n;
     never = λ k h. ap (λ (x : List ℕ). bit x k) (sym (decide-opposite true m n)) ∙ h;
@@ -79,9 +76,9 @@ module _ (l : ℕ → ℤ) (u : ℕ → Upper) where
   }
 
   -- a node decided against the other mask is in conflict
-  clash : (rows : List Row) (value : Bool) (m : Marks) (n : ℕ) → bit (mask (not value) m) n ≡ true → Conflict rows (decideAs value (tableOf m l u) n)
-  clash rows true m n h = both n (at-same n n (bit (m .sure)) refl) h
-  clash rows false m n h = both n h (at-same n n (bit (m .never)) refl)
+  pub against : (rows : List Row) (value : Bool) (m : Marks) (n : ℕ) → bit (mask (not value) m) n ≡ true → Conflict rows (decideAs value (tableOf m l u) n)
+  against rows true m n h = both n (at-same n n (bit (m .sure)) refl) h
+  against rows false m n h = both n h (at-same n n (bit (m .never)) refl)
 
 module _ (rows : List Row) (s : Table) (l : ℕ → ℤ) (u : ℕ → Upper) where
   -- What is kept along a scan: the masks follow from the start.
@@ -103,7 +100,7 @@ module _ (rows : List Row) (s : Table) (l : ℕ → ℤ) (u : ℕ → Upper) whe
       new e =
           let d = follows-step rows s (tableOf m l u) (decideAs value (tableOf m l u) n) f (gives e) in (
             follows-below rows s (tableOf (decide value m n .marks) l u) (decideAs value (tableOf m l u) n) d (decided-below l u value m n),
-            λ c. ⊎-elim (λ (o : bit (mask (not value) m) n ≡ true). (decideAs value (tableOf m l u) n, d, clash l u rows value m n o))
+            λ c. ⊎-elim (λ (o : bit (mask (not value) m) n ≡ true). (decideAs value (tableOf m l u) n, d, against l u rows value m n o))
                 (λ (o : bit (mask (not value) m) n ≡ false). absurd (let q = decide-new value m n e o in let z : _≡_ {A = ℕ} 0 1 = cc (q, c) in omega arith))
                 (true-false (bit (mask (not value) m) n)),
           )
@@ -120,13 +117,6 @@ scan-keeps P C waits act (x ∷ xs) h n m k p c =
   where
     Goal : Scanned → Type 0
     Goal r = P (r .marks) × (contradicts (r .step) ≡ true → C)
-
-    joined-fine : (a b : Step) → contradicts a ≡ false → contradicts b ≡ false → contradicts (joined a b) ≡ false
-    joined-fine Unchanged b e f = f
-    joined-fine Changed Unchanged e f = refl
-    joined-fine Changed Changed e f = refl
-    joined-fine Changed Contradiction e f = f
-    joined-fine Contradiction b e f = e
 
     acted : ((n : ℕ) (m : Marks) (k : Step) → P m → contradicts k ≡ false → Goal (scan waits act xs n m k)) → waits x m ≡ false
         → (b : Bool) → contradicts (act x m .step) ≡ b

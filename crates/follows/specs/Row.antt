@@ -4,16 +4,16 @@ use Prim.Native.Nat.{ℕ, zero, suc, _+_, _-_}
 use native.Mathlib.Omega.{arith}
 use native.Mathlib.Decide.{ℕ-discrete}
 use mathlib.Core.Path.{_≡_, refl, sym, ap, _∙_, subst}
-use mathlib.Core.Bool.{Bool, true, false, not, cond, _&&_, _||_}
+use mathlib.Core.Bool.{Bool, true, false, not, cond, _&&_}
 use mathlib.Core.List.{List, [], _∷_, reverse, reverseAux, List·Memᴰ, List·Memᴰ·head, List·Memᴰ·tail, List·Memᴰ·cases-cons, List·Memᴰ·not-nil}
 use mathlib.Core.Logic.{_⊎_, inl, inr, ⊎-elim}
 use lib.ListN.{getD, take, drop}
 use lib.IntN.{ℤ, pos, _-ℤ_}
-use lib.Signed.{leZ, ltZ, _≤ℤ_, _<ℤ_, ≤ℤ-refl, <ℤ-≤ℤ-trans}
+use lib.Signed.{leZ, ltZ, _≤ℤ_, _<ℤ_, ≤ℤ-refl}
 use Rattle.signed.specs.Signed.{nlt-leZ, nle-ltZ}
 use Rattle.numeric.specs.Threshold.{Term}
 use Rattle.state.specs.declared.Step.{Step}
-use Rattle.state.specs.declared.Step.the-variants.{Unchanged, Changed, Contradiction}
+use Rattle.state.specs.declared.Step.the-variants.{Unchanged, Contradiction}
 use Rattle.state.specs.declared.State.{State}
 use Rattle.state.specs.declared.Upper.{Upper}
 use Rattle.state.specs.declared.Upper.the-variants.{Open, Under}
@@ -21,37 +21,18 @@ use Rattle.state.specs.Step.{joined, contradicts}
 use Rattle.state.specs.State.{reached, upperAtMost, limited, limit, conflict, withGuards, withTerms}
 use Rattle.words.specs.Mask.{bit, learn, Learned}
 use Rattle.words.specs.MaskLaws.{learn-there, learn-other}
-use Rattle.queues.specs.Marks.{Marks, marks, isDecided, Decided, decided, decide}
+use Rattle.queues.specs.Marks.{Marks, marks, isDecided, decided, decide}
 use Rattle.thresholds.specs.Rows.{Row, Guard, noRow}
-use Rattle.propagate.specs.Scan.{scan, Scanned}
+use Rattle.propagate.specs.Scan.{Scanned}
 use Rattle.propagate.specs.Row.{Ran, ran, sureGuards, neverGuards, thresholdGuards, forced, trueTerms, falseTerms, scans, thresholdRow}
 use Rattle.table.specs.Table as T
 use Rattle.table.specs.Table.{Table, IsRow, termsOf, knownOf, possibleOf, reachedOf, AtMost, Conflict, lower-above, upper-reached, bound-reached, bound-out-of-reach, term-needed, term-too-heavy}
 use Rattle.table.specs.Order.{le, lt, ≤ℤ-trans, ≤ℤ-<ℤ-trans, pos-≤ℤ, max-up, sub-up, up-refl, at-most-up}
-use Rattle.table.specs.TableLaws.{Le, Follows, known-up, possible-down}
+use Rattle.table.specs.TableLaws.{Le, known-up, possible-down}
+use Rattle.follows.specs.Answers.{and-false, not-false, or-true, or-false, joined-which, joined-fine}
 use Rattle.follows.specs.Decide.{tableOf, Broken, Kept, decide-follows, scan-keeps}
 
--- BOOLEANS AND LISTS
-
-true-false : (b : Bool) → (b ≡ true) ⊎ (b ≡ false)
-true-false true = inl refl
-true-false false = inr refl
-
-and-false : (a b : Bool) → (a && b) ≡ false → (a ≡ false) ⊎ (b ≡ false)
-and-false true b h = inr h
-and-false false b h = inl refl
-
-not-false : (b : Bool) → not b ≡ false → b ≡ true
-not-false true h = refl
-not-false false h = sym h
-
-pub or-true : (a b : Bool) → (a || b) ≡ true → (a ≡ true) ⊎ (b ≡ true)
-or-true true b h = inl refl
-or-true false b h = inr h
-
-or-false : (a b : Bool) → (a || b) ≡ false → (a ≡ false) × (b ≡ false)
-or-false true b h = absurd (let z : _≡_ {A = ℕ} 0 1 = cc in omega arith)
-or-false false b h = (refl, h)
+-- LISTS
 
 pub mem-drop : {X : Type 0} (n : ℕ) (xs : List X) (x : X) → List·Memᴰ x (drop n xs) → List·Memᴰ x xs
 mem-drop zero xs x m = m
@@ -278,20 +259,6 @@ module _ (rows : List Row) (s : Table) (l : ℕ → ℤ) (u : ℕ → Upper) (r 
 
       fc : Fine c
       fc = false-fine (b .state) (b .marks) (fb .0)
-
-      joined-which : (x y : Step) → contradicts x ≡ false → contradicts (joined x y) ≡ true → contradicts y ≡ true
-      joined-which Unchanged y e h = h
-      joined-which Changed Unchanged e h = h
-      joined-which Changed Changed e h = h
-      joined-which Changed Contradiction e h = refl
-      joined-which Contradiction y e h = absurd (let z : _≡_ {A = ℕ} 0 1 = cc in omega arith)
-
-      joined-fine : (x y : Step) → contradicts x ≡ false → contradicts y ≡ false → contradicts (joined x y) ≡ false
-      joined-fine Unchanged y e f = f
-      joined-fine Changed Unchanged e f = refl
-      joined-fine Changed Changed e f = refl
-      joined-fine Changed Contradiction e f = f
-      joined-fine Contradiction y e f = e
 
       two : contradicts (a .step) ≡ false → (t : Bool) → contradicts (b .step) ≡ t
           → Fine (elim t [ true ↦ b | false ↦ ran (c .state) (c .marks) (joined (joined (a .step) (b .step)) (c .step)) ])

@@ -2,9 +2,8 @@
 use Prim.Native.Nat.{ℕ, _+_, _-_, _≤_, _<_}
 use native.Mathlib.Omega.{arith}
 use mathlib.Core.Path.{_≡_, refl, sym, ap, ap₂, _∙_, subst}
-use mathlib.Core.Bool.{Bool, true, false, not, cond}
+use mathlib.Core.Bool.{Bool, true, false, cond}
 use mathlib.Core.List.{List, List·Memᴰ, reverse}
-use mathlib.Core.Logic.{_⊎_, inl, inr, ⊎-elim}
 use lib.ListN.{length, take, drop}
 use lib.IntN.{ℤ, pos, _-ℤ_}
 use lib.Signed.{leZ, ltZ}
@@ -12,16 +11,17 @@ use Rattle.signed.specs.Signed.{leZ-trans, leZ-ltZ, leZ-pos}
 use borrow.Author.Tests.{le-leb}
 use Rattle.numeric.specs.Threshold.{Term}
 use Rattle.state.specs.declared.Step.{Step}
-use Rattle.state.specs.declared.Step.the-variants.{Unchanged, Changed, Contradiction}
+use Rattle.state.specs.declared.Step.the-variants.{Unchanged, Contradiction}
 use Rattle.state.specs.declared.State.{State}
 use Rattle.state.specs.declared.Upper.{Upper}
 use Rattle.state.specs.declared.Upper.the-variants.{Open, Under}
 use Rattle.state.specs.Step.{joined, contradicts}
 use Rattle.state.specs.State.{reached, limited, limit, conflict, withGuards, withTerms}
-use Rattle.queues.specs.Marks.{Marks, isDecided, Decided, decide}
+use Rattle.queues.specs.Marks.{Marks, isDecided, Decided}
 use Rattle.thresholds.specs.Rows.{Row, Guard}
 use Rattle.propagate.specs.Scan.{Scanned, scan}
 use Rattle.propagate.specs.Row.{Ran, ran, decides, sureWaits, sureGuards, reachable, neverWaits, neverGuards, thresholdGuards, termWaits, forces, forced, trueTerms, falseTerms, scans, thresholdRow}
+use Rattle.follows.specs.Answers.{joined-right}
 use Rattle.follows.specs.Decide.{scan-keeps}
 use Rattle.follows.specs.Complete.{All, Wide, Has, wide-decide, wide-force, has-stays, decided-stays, force-stays, force-has, Rising, Falling, sure-complete, never-complete, forced-complete}
 
@@ -52,10 +52,6 @@ pub record Complete (row : Row) (st : State) (m : Marks) : Type 0 where
 scan-stays : {X : Type 0} (P : Marks → Type 0) (waits : X → Marks → Bool) (act : X → Marks → Decided) → ((x : X) (m : Marks) → P m → P (act x m .marks))
     → (xs : List X) (n : ℕ) (m : Marks) (k : Step) → contradicts k ≡ false → P m → P (scan waits act xs n m k .marks)
 scan-stays P waits act h xs n m k c p = scan-keeps P (Unit {0}) waits act xs (λ x a i q v. (h x a q, λ _. tt)) n m k p c .0
-
-true-false : (b : Bool) → (b ≡ true) ⊎ (b ≡ false)
-true-false true = inl refl
-true-false false = inr refl
 
 light-true : (st : State) (a b : ℕ) → a ≤ b → leZ (pos b) (st .possible -ℤ st .lower) ≡ true → leZ (pos a) (st .possible -ℤ st .lower) ≡ true
 light-true st a b h k = leZ-trans (pos a) (pos b) (st .possible -ℤ st .lower) (leZ-pos a b ∙ le-leb a b h) k
@@ -281,13 +277,6 @@ row-complete row o st m p h = by (conflict st) h
     all : Bool → Ran
     all t = elim t [ true ↦ ran st m Contradiction | false ↦ one (contradicts (a .step)) ]
 
-    right : (x y : Step) → contradicts (joined x y) ≡ false → contradicts y ≡ false
-    right Unchanged y e = e
-    right Changed Unchanged e = refl
-    right Changed Changed e = refl
-    right Changed Contradiction e = e
-    right Contradiction y e = absurd (let z : _≡_ {A = ℕ} 0 1 = cc in omega arith)
-
     fa : SameFigures (a .state) st
     fa = guards-figures (row .guards) st m
 
@@ -312,7 +301,7 @@ row-complete row o st m p h = by (conflict st) h
 
     at-two : contradicts (a .step) ≡ false → (t : Bool) → contradicts (b .step) ≡ t → contradicts (two t .step) ≡ false → Goal (two t)
     at-two ea true e d = absurd (let z : _≡_ {A = ℕ} 0 1 = cc in omega arith)
-    at-two ea false e d = done ea e (right (joined (a .step) (b .step)) (c .step) d)
+    at-two ea false e d = done ea e (joined-right (joined (a .step) (b .step)) (c .step) d)
 
     at-one : (t : Bool) → contradicts (a .step) ≡ t → contradicts (one t .step) ≡ false → Goal (one t)
     at-one true e d = absurd (let z : _≡_ {A = ℕ} 0 1 = cc in omega arith)

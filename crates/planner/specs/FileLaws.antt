@@ -117,14 +117,14 @@ read-enough (suc n) (suc m) o (kind ∷ rest) f taken h k =
     (λ (e : refusalAt f kind rest ≡ 0). read-on n o kind rest f taken e ∙ read-enough n m _ _ _ _ (omega arith) (omega arith) ∙ sym (read-on m o kind rest f taken e))
     (λ (e : refusalAt f kind rest ≡ 0 → ⊥). read-stop n o kind rest f taken e ∙ sym (read-stop m o kind rest f taken e)) (zero-or (refusalAt f kind rest))
 
-drop-take : (a b : ℕ) (l : List ℕ) → drop a (take b l) ≡ take (b - a) (drop a l)
+pub drop-take : (a b : ℕ) (l : List ℕ) → drop a (take b l) ≡ take (b - a) (drop a l)
 drop-take zero b l = let e : b ≡ b - 0 = omega arith in ap (λ (n : ℕ). take n l) e
 drop-take (suc a) zero l = let e : 0 ≡ 0 - suc a = omega arith in ap (λ (n : ℕ). take n (drop (suc a) l)) e
 drop-take (suc a) (suc b) [] = sym (take-nil (suc b - suc a))
 drop-take (suc a) (suc b) (x ∷ xs) = let e : b - a ≡ suc b - suc a = omega arith in drop-take a b xs ∙ ap (λ (n : ℕ). take n (drop a xs)) e
 
 -- The body of a record is the same in a list that is cut behind it.
-same-body : (kind k : ℕ) (rest : List ℕ) → bodyLength (kindOf kind) ≤ k → bodyOf kind (take k rest) ≡ bodyOf kind rest
+pub same-body : (kind k : ℕ) (rest : List ℕ) → bodyLength (kindOf kind) ≤ k → bodyOf kind (take k rest) ≡ bodyOf kind rest
 same-body kind k rest h = take-take (bodyLength (kindOf kind)) k rest h
 
 same-refusal : (f : File) (kind k : ℕ) (rest : List ℕ) → bodyLength (kindOf kind) ≤ k → refusalAt f kind (take k rest) ≡ refusalAt f kind rest

@@ -1,0 +1,448 @@
+-- What each record that is taken keeps: queues and gcds as long as they were cleared, terms and answers within the limits.
+use Prim.Native.Nat.{ℕ, zero, suc, _+_, _%_, _<_, _≤_}
+use native.Mathlib.Omega.{arith}
+use mathlib.Core.Path.{_≡_, refl, sym, ap, _∙_, subst}
+use mathlib.Core.Bool.{Bool, true, false, cond, _||_}
+use mathlib.Core.List.{List, [], _∷_, _++_}
+use lib.ListN.{length, getD, set, length-set, length-replicate}
+use lib.Dec.{eqb, leb}
+use borrow.Author.Tests.{leb-false}
+use Rattle.numeric.specs.Area.{weightOfArea}
+use Rattle.numeric.specs.Threshold.{Term, term, Threshold}
+use Rattle.state.specs.declared.Step.{Step}
+use Rattle.state.specs.declared.Step.the-variants.{Unchanged, Changed, Contradiction}
+use Rattle.state.specs.declared.State.{State}
+use Rattle.state.specs.Step.{joined, contradicts, isUnchanged}
+use Rattle.state.specs.State.{drained}
+use Rattle.words.specs.Mask.{bit}
+use Rattle.queues.specs.Queue.{Queue, Rows, rows, push, popped, queueRow, nextRow, isEmpty, oldest}
+use Rattle.queues.specs.Marks.{Marks, marks, waiting, decide, isDecided}
+use Rattle.queues.specs.MarksLaws.{decide-waits}
+use Rattle.row.specs.TermsLaws.{All as Every}
+use Rattle.thresholds.specs.Rows.{Row, noRow, Edge, edgesOf, rowNumber}
+use Rattle.prefixes.specs.Links.{neighbours}
+use Rattle.propagate.specs.declared.Tightened.{Tightened}
+use Rattle.propagate.specs.Told.{guardState, movedState}
+use Rattle.propagate.specs.Row.{wantsResidual}
+use Rattle.residual.specs.Residual.{Residual, thresholdResidual}
+use Rattle.residual.specs.ForceLaws.{gcds-length}
+use Rattle.possible_sums.specs.Search.{search, searchStep, searchVisits}
+use Rattle.between.specs.Between.{Index, Live, live, Did, did, stateAt, withState, withDirty, residualQueued, runWith, runRow, linkedQueued, bounded, thresholdGuard, guardOf, conditionFrom, thresholdCondition, termCount, prefixesFrom, thresholdPrefixes, firstStates, seedFrom}
+use Rattle.regions.specs.Drain.{indexOf, withMarks, takeNode, takeRow, turn, atRest, drain}
+use Rattle.regions.specs.Drain as Drain
+use Rattle.regions.specs.Sift.{Sifted, tryRow, siftFrom}
+use Rattle.regions.specs.Sift as Sift
+use Rattle.planner.specs.Record.{Record, header, opens, adds, areas, seal, mark, settle, sift, unknown}
+use Rattle.planner.specs.File.{File, Answer, settled, sifted, begun, Check, check, first, refusal, wrongTurn, noSuchNode, notRising, badBound, badValue, tooMany, tooManyTerms, lastTerms, allTerms, addTerm, apply, settledFile, siftedFile, after, readFrom, fileOf}
+use Rattle.planner.specs.FileLaws.{read-taken}
+use Rattle.ends.specs.Keeps.{keeps-row, keeps-residual}
+use Rattle.ends.specs.Turns.{Indexed}
+use Rattle.ends.specs.Built.{indexed}
+use Rattle.ends.specs.Files.{Good, good-begun, good-apply, Passed, read-passed}
+use Rattle.demands.specs.SizeLaws.{Short, row-terms-few}
+
+-- ---- QUEUES KEEP THEIR LENGTH
+
+pub record Long (v : Live) : Type 0 where
+  pub nodes : length (v .marks .nodes .items) ≡ 4096
+  pub dirty : length (v .dirty .queue .items) ≡ 1024
+  pub residuals : length (v .residuals .queue .items) ≡ 1024
+
+waiting-long : (k : Step) (q : Queue) (n : ℕ) → length (waiting k q n .items) ≡ length (q .items)
+unfolding push
+waiting-long Unchanged q n = refl
+waiting-long Changed q n = length-set (q .items) ((q .ring .head + q .ring .count) % 4096) n
+waiting-long Contradiction q n = refl
+
+decide-long : (value : Bool) (m : Marks) (n : ℕ) → length (decide value m n .marks .nodes .items) ≡ length (m .nodes .items)
+decide-long value m n =
+    ap (λ (q : Queue). length (q .items)) (decide-waits value m n) ∙ waiting-long (decide value m n .step) (m .nodes) n
+
+row-long : (q : Rows) (r : ℕ) → length (queueRow q r .queue .items) ≡ length (q .queue .items)
+unfolding queueRow push
+row-long q r = by (eqb (getD (q .pending) r 0) 1)
+  where
+    by : (b : Bool) → length (cond b q (rows (push 1024 (q .queue) r) (set (q .pending) r 1)) .queue .items) ≡ length (q .queue .items)
+    by true = refl
+    by false = length-set (q .queue .items) ((q .queue .ring .head + q .queue .ring .count) % 1024) r
+
+residual-long : (row : Row) (s : State) (q : Rows) (r : ℕ) → length (residualQueued row s q r .queue .items) ≡ length (q .queue .items)
+residual-long row s q r = by (wantsResidual row s)
+  where
+    by : (b : Bool) → length (cond b (queueRow q r) q .queue .items) ≡ length (q .queue .items)
+    by true = row-long q r
+    by false = refl
+
+linked-long : (n : ℕ) (q : Rows) (r : ℕ) → length (linkedQueued n q r .queue .items) ≡ length (q .queue .items)
+linked-long n q r = by (eqb n 0)
+  where
+    by : (b : Bool) → length (cond b q (queueRow q r) .queue .items) ≡ length (q .queue .items)
+    by true = refl
+    by false = row-long q r
+
+module _ (x : Index) (ix : Indexed x) where
+  long-run : (v : Live) (r : ℕ) → Long v → Long (runRow x v r .live)
+  unfolding runWith runRow
+  long-run v r l =
+      let row = getD (x .rows) r noRow in
+      record {
+        nodes = keeps-row (λ (m : Marks). length (m .nodes .items) ≡ 4096) (λ m value n h p. decide-long value m n ∙ p) row (stateAt v r) (v .marks) (ix .nodes r) (ix .conditions r) (l .nodes);
+        dirty = l .dirty;
+        residuals = residual-long row (stateAt v r) (v .residuals) r ∙ l .residuals;
+      }
+
+  long-guard : (v : Live) (t : Threshold) → Long v → Long (thresholdGuard x v t .live)
+  unfolding thresholdGuard bounded
+  long-guard v t l = by (g .changed)
+    where
+      r : ℕ
+      r = rowNumber (x .rows) (t .terms)
+
+      g : Tightened
+      g = guardState (stateAt v r) (bit (v .marks .sure) (t .node)) (t .bound)
+
+      w : Live
+      w = live (set (v .states) r (g .state)) (v .marks) (linkedQueued (length (neighbours r (x .links))) (v .dirty) r) (v .residuals)
+
+      by : (b : Bool) → let d : Did = elim b [ true ↦ bounded x v r (g .state) | false ↦ did v Unchanged ] in Long (d .live)
+      by true = long-run w r (record { nodes = l .nodes; dirty = linked-long (length (neighbours r (x .links))) (v .dirty) r ∙ l .dirty; residuals = l .residuals })
+      by false = l
+
+  long-guards : (v : Live) (ts : List Threshold) (n : ℕ) → Long v → Long (guardOf x v ts n .live)
+  unfolding guardOf
+  long-guards v [] n l = l
+  long-guards v (t ∷ ts) n l = by (long-guards v ts n l) (eqb (t .node) n)
+    where
+      by : Long (guardOf x v ts n .live) → (b : Bool) → let d : Did = elim b [ true ↦ thresholdGuard x v t | false ↦ guardOf x v ts n ] in Long (d .live)
+      by ih true = long-guard v t l
+      by ih false = ih
+
+  long-edges : (value : Bool) (es : List Edge) (v : Live) → Long v → Long (conditionFrom x value es v .live)
+  unfolding conditionFrom
+  long-edges value [] v l = l
+  long-edges value (e ∷ es) v l = by (long-edges value es (d .live) after) (contradicts (d .step))
+    where
+      w : Live
+      w = withState v (e .row) (drained value (e .weight) (stateAt v (e .row)))
+
+      d : Did
+      d = runRow x w (e .row)
+
+      after : Long (d .live)
+      after = long-run w (e .row) (record { nodes = l .nodes; dirty = l .dirty; residuals = l .residuals })
+
+      by : Long (conditionFrom x value es (d .live) .live) → (b : Bool)
+          → let k : Did = elim b [ true ↦ did (d .live) Contradiction | false ↦ did (conditionFrom x value es (d .live) .live) (joined (d .step) (conditionFrom x value es (d .live) .step)) ] in
+          Long (k .live)
+      by ih true = after
+      by ih false = ih
+
+  long-prefixes : (row : ℕ) (source : State) (rs : List ℕ) (v : Live) → Long v → Long (prefixesFrom x row source rs v .live)
+  unfolding prefixesFrom
+  long-prefixes row source [] v l = l
+  long-prefixes row source (r ∷ rs) v l =
+      by (long-prefixes row source rs v l) (long-prefixes row source rs (d .live) after) (t .changed) (contradicts (d .step))
+    where
+      t : Tightened
+      t = movedState source (stateAt v r) (termCount x row) (termCount x r)
+
+      w : Live
+      w = withDirty (withState v r (t .state)) r
+
+      d : Did
+      d = runRow x w r
+
+      after : Long (d .live)
+      after = long-run w r (record { nodes = l .nodes; dirty = row-long (v .dirty) r ∙ l .dirty; residuals = l .residuals })
+
+      by : Long (prefixesFrom x row source rs v .live) → Long (prefixesFrom x row source rs (d .live) .live) → (b c : Bool)
+          → let k : Did = elim b [
+            | false ↦ prefixesFrom x row source rs v
+            | true ↦ elim c [ true ↦ did (d .live) Contradiction | false ↦ did (prefixesFrom x row source rs (d .live) .live) (joined Changed (prefixesFrom x row source rs (d .live) .step)) ]
+          ] in Long (k .live)
+      by ih more false c = ih
+      by ih more true true = after
+      by ih more true false = more
+
+  long-node : (v : Live) → Long v → Long (takeNode x v .live)
+  unfolding takeNode popped thresholdCondition
+  long-node v l = by (contradicts (g .step))
+    where
+      n : ℕ
+      n = oldest (v .marks .nodes)
+
+      w : Live
+      w = withMarks v (marks (v .marks .sure) (v .marks .never) (popped 4096 (v .marks .nodes)))
+
+      g : Did
+      g = guardOf x w (x .thresholds) n
+
+      c : Did
+      c = thresholdCondition x (g .live) n
+
+      first-part : Long (g .live)
+      first-part = long-guards w (x .thresholds) n (record { nodes = l .nodes; dirty = l .dirty; residuals = l .residuals })
+
+      by : (b : Bool) → let d : Did = elim b [ true ↦ g | false ↦ did (c .live) (joined (g .step) (c .step)) ] in Long (d .live)
+      by true = first-part
+      by false = long-edges (bit (g .live .marks .sure) n) (edgesOf (x .rows) n) (g .live) first-part
+
+  long-row : (v : Live) → Long v → Long (takeRow x v .live)
+  unfolding takeRow thresholdPrefixes nextRow popped
+  long-row v l =
+      let w = live (v .states) (v .marks) (nextRow (v .dirty)) (v .residuals) in
+      let r = oldest (v .dirty .queue) in
+      long-prefixes r (stateAt w r) (neighbours r (x .links)) w (record { nodes = l .nodes; dirty = l .dirty; residuals = l .residuals })
+
+  long-turn : (v : Live) → Long v → Long (turn x v .live)
+  long-turn v l = by (isEmpty (v .marks .nodes))
+    where
+      by : (b : Bool) → let d : Did = elim b [ true ↦ takeRow x v | false ↦ takeNode x v ] in Long (d .live)
+      by true = long-row v l
+      by false = long-node v l
+
+  long-drain : (n : ℕ) (v : Live) (k : Step) → Long v → Long (drain n x v k .live)
+  unfolding drain
+  long-drain zero v k l = l
+  long-drain (suc n) v k l = by (long-drain n (turn x v .live) (joined k (turn x v .step)) (long-turn v l)) (atRest v) (contradicts (turn x v .step))
+    where
+      by : Long (drain n x (turn x v .live) (joined k (turn x v .step)) .live) → (b c : Bool)
+          → let d : Did = elim b [ true ↦ did v k | false ↦ elim c [ true ↦ turn x v | false ↦ drain n x (turn x v .live) (joined k (turn x v .step)) ] ] in Long (d .live)
+      by ih true c = l
+      by ih false true = long-turn v l
+      by ih false false = ih
+
+  long-settle : (v : Live) → Long v → Long (Drain.settle x v .live)
+  long-settle v l = long-drain Drain.turns v Unchanged l
+
+  long-seed : (r : ℕ) (rs : List Row) (v : Live) (k : Step) → Long v → Long (seedFrom x r rs v k .live)
+  unfolding seedFrom
+  long-seed r [] v k l = l
+  long-seed r (y ∷ rs) v k l =
+      by (long-seed (r + 1) rs (runRow x v r .live) (joined k (runRow x v r .step)) (long-run v r l)) (contradicts (runRow x v r .step))
+    where
+      by : Long (seedFrom x (r + 1) rs (runRow x v r .live) (joined k (runRow x v r .step)) .live) → (b : Bool)
+          → let d : Did = elim b [ true ↦ did (runRow x v r .live) Contradiction | false ↦ seedFrom x (r + 1) rs (runRow x v r .live) (joined k (runRow x v r .step)) ] in Long (d .live)
+      by ih true = long-run v r l
+      by ih false = ih
+
+  long-seal : (v : Live) → Long v → Long (Drain.seal x v .live)
+  unfolding Drain.seal
+  long-seal v l =
+      long-seed 0 (x .rows) (live (firstStates 0 (x .rows) (v .states)) (v .marks) (v .dirty) (v .residuals)) Unchanged
+      (record { nodes = l .nodes; dirty = l .dirty; residuals = l .residuals })
+
+  -- ---- a sift: its queues, and its gcds
+
+  module _ (few : (r : ℕ) → length (getD (x .rows) r noRow .terms) ≤ 1024) where
+    abbrev Sifts : Sifted → Type 0
+    Sifts s = Long (s .live) × (length (s .gcds) ≡ 1025)
+
+    sifts-try : (v : Live) (gcds : List ℕ) (visits : ℕ) → Long v → length gcds ≡ 1025 → Sifts (tryRow x v gcds visits)
+    unfolding tryRow nextRow popped
+    sifts-try v gcds visits l e = by (isUnchanged (a .step))
+      where
+        r : ℕ
+        r = oldest (v .residuals .queue)
+
+        ts : List Term
+        ts = getD (x .rows) r noRow .terms
+
+        a : Residual
+        a = thresholdResidual ts (stateAt v r) (v .marks) gcds
+
+        w : Live
+        w = live (v .states) (a .marks) (v .dirty) (nextRow (v .residuals))
+
+        long : Long w
+        long = record {
+          nodes = keeps-residual (λ (m : Marks). length (m .nodes .items) ≡ 4096) (λ m value n h p. decide-long value m n ∙ p) ts (stateAt v r) (v .marks) gcds (ix .conditions r) (l .nodes);
+          dirty = l .dirty;
+          residuals = l .residuals;
+        }
+
+        gcds-long : length (a .gcds) ≡ 1025
+        gcds-long = gcds-length ts (stateAt v r) (v .marks) gcds (omega (arith, few r, e)) ∙ e
+
+        by : (b : Bool)
+            → Sifts (elim b [
+              | true ↦ Sift.sifted w (a .gcds) (searchStep (search ts (stateAt v r) (isDecided (a .marks)))) (searchVisits visits (search ts (stateAt v r) (isDecided (a .marks))))
+              | false ↦ Sift.sifted w (a .gcds) (a .step) visits
+            ])
+        by true = (long, gcds-long)
+        by false = (long, gcds-long)
+
+    abbrev goes : ℕ → Live → List ℕ → Step → ℕ → Bool → Bool → Bool → Sifted
+    goes n v gcds k visits failed none stopped =
+        let d = Drain.settle x v in
+        let t = tryRow x (d .live) gcds visits in
+        elim failed [
+          | true ↦ Sift.sifted (d .live) gcds Contradiction visits
+          | false ↦ elim none [
+            | true ↦ Sift.sifted (d .live) gcds (joined k (d .step)) visits
+            | false ↦ elim stopped [ true ↦ t | false ↦ siftFrom n x (t .live) (t .gcds) (joined (joined k (d .step)) (t .step)) (t .visits) ]
+          ]
+        ]
+
+    sifts-from : (n : ℕ) (v : Live) (gcds : List ℕ) (k : Step) (visits : ℕ) → Long v → length gcds ≡ 1025 → Sifts (siftFrom n x v gcds k visits)
+    unfolding siftFrom
+    sifts-from zero v gcds k visits l e = (l, e)
+    sifts-from (suc n) v gcds k visits l e =
+        by (λ u g i m q f. sifts-from n u g i m q f) (contradicts (Drain.settle x v .step)) (isEmpty (Drain.settle x v .live .residuals .queue))
+        (contradicts (tryRow x (Drain.settle x v .live) gcds visits .step))
+      where
+        tried : Sifts (tryRow x (Drain.settle x v .live) gcds visits)
+        tried = sifts-try (Drain.settle x v .live) gcds visits (long-settle v l) e
+
+        by : ((u : Live) (g : List ℕ) (i : Step) (m : ℕ) → Long u → length g ≡ 1025 → Sifts (siftFrom n x u g i m)) → (a b c : Bool) → Sifts (goes n v gcds k visits a b c)
+        by ih true b c = (long-settle v l, e)
+        by ih false true c = (long-settle v l, e)
+        by ih false false true = tried
+        by ih false false false = ih _ _ _ _ (tried .0) (tried .1)
+
+    sifts : (v : Live) (gcds : List ℕ) → Long v → length gcds ≡ 1025 → Sifts (Sift.sift x v gcds)
+    sifts v gcds l e = sifts-from Drain.turns v gcds Unchanged 0 l e
+
+-- ---- THE FILE
+
+-- All that the buffers have to hold fits them.
+pub record Kept (f : File) : Type 0 where
+  pub good : Good f
+  pub live : Long (f .live)
+  pub gcds : length (f .gcds) ≡ 1025
+  pub terms : allTerms (f .job .thresholds) ≤ 4096
+  pub each : Every Short (f .job .thresholds)
+  pub answers : length (f .answers) ≤ 64
+
+kept-begun : Kept begun
+unfolding begun allTerms
+kept-begun = record {
+  good = good-begun;
+  live = record { nodes = length-replicate {A = ℕ} 4096 0; dirty = length-replicate {A = ℕ} 1024 0; residuals = length-replicate {A = ℕ} 1024 0 };
+  gcds = length-replicate {A = ℕ} 1025 0;
+  terms = omega arith;
+  each = tt;
+  answers = omega arith;
+}
+
+-- The last check of a record that is not refused.
+passes : (b : Bool) (n : ℕ) (cs : List Check) → 0 < n → first (check b n ∷ cs) ≡ 0 → (b ≡ false) × (first cs ≡ 0)
+unfolding first
+passes true n cs h e = absurd (omega arith)
+passes false n cs h e = (refl, e)
+
+room : (f : File) (r : Record) → refusal f r ≡ 0 → tooMany f r ≡ false
+unfolding refusal
+room f r h =
+    let a = passes (wrongTurn f r) 3 _ (omega arith) h in
+    let b = passes (f .contradicted) 9 _ (omega arith) (a .1) in
+    let c = passes (noSuchNode f r) 5 _ (omega arith) (b .1) in
+    let d = passes (notRising f r) 6 _ (omega arith) (c .1) in
+    let e = passes (badBound r) 7 _ (omega arith) (d .1) in
+    let g = passes (badValue r) 8 _ (omega arith) (e .1) in
+    passes (tooMany f r) 4 _ (omega arith) (g .1) .0
+
+neither : (a b : Bool) → (a || b) ≡ false → (a ≡ false) × (b ≡ false)
+neither true b h = absurd (let z : _≡_ {A = ℕ} 0 1 = cc in omega arith)
+neither false b h = (refl, h)
+
+length-last : {X : Type 0} (xs : List X) (x : X) → length (xs ++ (x ∷ [])) ≡ suc (length xs)
+length-last [] x = refl
+length-last (y ∷ xs) x = ap suc (length-last xs x)
+
+all-term : (x : Term) (ts : List Threshold) → allTerms (addTerm x ts) ≤ allTerms ts + 1
+unfolding allTerms addTerm
+all-term x [] = omega arith
+all-term x (t ∷ []) = omega (arith, length-last (t .terms) x)
+all-term x (t ∷ u ∷ us) = omega (arith, all-term x (u ∷ us))
+
+short-term : (x : Term) (ts : List Threshold) → lastTerms ts < 1024 → Every Short ts → Every Short (addTerm x ts)
+unfolding lastTerms addTerm
+short-term x [] h a = tt
+short-term x (t ∷ []) h a = (omega (arith, length-last (t .terms) x), tt)
+short-term x (t ∷ u ∷ us) h a = (a .0, short-term x (u ∷ us) h (a .1))
+
+all-open : (t : Threshold) (ts : List Threshold) → t .terms ≡ [] → allTerms (ts ++ (t ∷ [])) ≡ allTerms ts
+unfolding allTerms
+all-open t [] e = omega (arith, ap length e)
+all-open t (u ∷ ts) e = omega (arith, all-open t ts e)
+
+short-open : (t : Threshold) (ts : List Threshold) → Short t → Every Short ts → Every Short (ts ++ (t ∷ []))
+short-open t [] h a = (h, tt)
+short-open t (u ∷ ts) h a = (a .0, short-open t ts h (a .1))
+
+module _ (f : File) (k : Kept f) where
+  job-index : Indexed (indexOf (f .job))
+  job-index = indexed (f .job) (k .good .job)
+
+  kept-term : (x : Term) → tooManyTerms f ≡ false → (allTerms (addTerm x (f .job .thresholds)) ≤ 4096) × Every Short (addTerm x (f .job .thresholds))
+  kept-term x h =
+      let n = neither (leb 1024 (lastTerms (f .job .thresholds))) (leb 4096 (allTerms (f .job .thresholds))) h in (
+        omega (arith, all-term x (f .job .thresholds), leb-false 4096 (allTerms (f .job .thresholds)) (n .1)),
+        short-term x (f .job .thresholds) (leb-false 1024 (lastTerms (f .job .thresholds)) (n .0)) (k .each),
+      )
+
+  one-more : (a : Answer) → leb 64 (length (f .answers)) ≡ false → length (f .answers ++ (a ∷ [])) ≤ 64
+  one-more a h = omega (arith, length-last (f .answers) a, leb-false 64 (length (f .answers)) h)
+
+  kept-by : (r : Record) → tooMany f r ≡ false → Good (apply f r) → Kept (apply f r)
+  unfolding apply settledFile siftedFile Drain.mark allTerms
+  kept-by (header n) h g = record { good = g; live = k .live; gcds = k .gcds; terms = omega arith; each = tt; answers = k .answers }
+  kept-by (opens n b) h g =
+      let t : Threshold = record { node = n; bound = b; terms = [] } in
+      record {
+        good = g;
+        live = k .live;
+        gcds = k .gcds;
+        terms = omega (arith, all-open t (f .job .thresholds) refl, k .terms);
+        each = short-open t (f .job .thresholds) (omega arith) (k .each);
+        answers = k .answers;
+      }
+  kept-by (adds c w) h g =
+      let n = kept-term (term c w) h in record { good = g; live = k .live; gcds = k .gcds; terms = n .0; each = n .1; answers = k .answers }
+  kept-by (areas c a) h g =
+      let n = kept-term (term c (weightOfArea a)) h in record { good = g; live = k .live; gcds = k .gcds; terms = n .0; each = n .1; answers = k .answers }
+  kept-by seal h g = record {
+    good = g;
+    live = long-seal (indexOf (f .job)) job-index (f .live) (k .live);
+    gcds = k .gcds;
+    terms = k .terms;
+    each = k .each;
+    answers = k .answers;
+  }
+  kept-by (mark n v) h g = record {
+    good = g;
+    live = record { nodes = decide-long (eqb v 1) (f .live .marks) n ∙ k .live .nodes; dirty = k .live .dirty; residuals = k .live .residuals };
+    gcds = k .gcds;
+    terms = k .terms;
+    each = k .each;
+    answers = k .answers;
+  }
+  kept-by settle h g = record {
+    good = g;
+    live = long-settle (indexOf (f .job)) job-index (f .live) (k .live);
+    gcds = k .gcds;
+    terms = k .terms;
+    each = k .each;
+    answers = one-more (settled (Drain.settle (indexOf (f .job)) (f .live) .step)) h;
+  }
+  kept-by sift h g =
+      let s = Sift.sift (indexOf (f .job)) (f .live) (f .gcds) in
+      let q = sifts (indexOf (f .job)) job-index (row-terms-few (f .job) (k .each)) (f .live) (f .gcds) (k .live) (k .gcds) in
+      record { good = g; live = q .0; gcds = q .1; terms = k .terms; each = k .each; answers = one-more (sifted (s .step) (s .visits)) h }
+  kept-by unknown h g = record { good = g; live = k .live; gcds = k .gcds; terms = k .terms; each = k .each; answers = k .answers }
+
+  kept-apply : (r : Record) → refusal f r ≡ 0 → Kept (apply f r)
+  kept-apply r h = kept-by r (room f r h) (good-apply f (k .good) r h)
+
+kept-after : (f : File) (rs : List Record) → Kept f → Passed f rs → Kept (after f rs)
+unfolding after
+kept-after f [] k p = k
+kept-after f (r ∷ rs) k p = kept-after (apply f r) rs (kept-apply f k r (p .0)) (p .1)
+
+-- WHAT EVERY FILE LEAVES FITS THE BUFFERS
+pub kept-file : (input : List ℕ) → Kept (fileOf input .file)
+unfolding fileOf after
+kept-file input =
+    subst Kept (sym (read-taken (length input) 0 input begun begun [] refl))
+    (kept-after begun (readFrom (length input) 0 input begun [] .records) kept-begun (read-passed (length input) 0 input begun begun [] refl tt))
