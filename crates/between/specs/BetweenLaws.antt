@@ -1,23 +1,22 @@
 -- What moves between rows, case by case as the code tells them apart. Assumes nothing.
-use Prim.Native.Nat.{ℕ, _<_, _^_}
-use mathlib.Core.Path.{_≡_, refl, sym, ap, _∙_}
+use Prim.Native.Nat.{ℕ, _<_}
+use mathlib.Core.Path.{_≡_, sym, ap, _∙_}
 use mathlib.Core.Logic.{_≢_}
-use mathlib.Core.Bool.{Bool, true, false, not}
+use mathlib.Core.Bool.{Bool, true, false}
 use mathlib.Core.List.{List}
 use lib.ListN.{length, getD, set}
 use Rattle.prefixes.specs.Links.{neighbours}
 use lib.IntN.{ℤ}
-use lib.Signed.{mag, leZ}
 use Rattle.numeric.specs.Threshold.{Threshold}
 use Rattle.words.specs.Mask.{bit}
 use borrow.Author.Tests.{eq-eqb, ne-eqb}
 use Rattle.state.specs.declared.State.{State}
-use Rattle.state.specs.State.{noState, upperAtMost, withLower, withUpper}
+use Rattle.state.specs.State.{noState}
 use Rattle.state.specs.declared.Step.{Step}
 use Rattle.state.specs.declared.Step.the-variants.{Unchanged}
 use Rattle.queues.specs.Queue.{Rows, queueRow}
 use Rattle.queues.specs.Marks.{Marks}
-use Rattle.thresholds.specs.Rows.{Row, noRow, rowNumber}
+use Rattle.thresholds.specs.Rows.{Row, rowNumber}
 use Rattle.propagate.specs.declared.Tightened.{Tightened}
 use Rattle.between.specs.Between.{Index, live, did, residualQueued, linkedQueued, Did, Live, stateAt, runWith, bounded, thresholdGuard}
 use Rattle.between.specs.Held.{Lent, Holds, heldRow}

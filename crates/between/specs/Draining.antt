@@ -13,12 +13,12 @@ use Rattle.state.specs.State.{noState, drained}
 use Rattle.words.specs.Mask.{bit}
 use Rattle.queues.specs.Queue.{Rows}
 use Rattle.queues.specs.Marks.{Marks}
-use Rattle.thresholds.specs.Rows.{Edge, edge, edgesOf}
+use Rattle.thresholds.specs.Rows.{Edge, edgesOf}
 use Rattle.thresholds.specs.Raw.{stretch}
-use Rattle.between.specs.Between.{Index, Live, live, Did, did, runWith, runRow, after, conditionFrom, thresholdCondition}
-use Rattle.between.specs.Held.{Lent, startBy, endBy, stretchBy, heldRow, edgeIn, edgesIn, Shaped, EdgesShaped, Holds, HoldsEdges}
+use Rattle.between.specs.Between.{Index, Live, live, did, runWith, runRow, after, conditionFrom, thresholdCondition}
+use Rattle.between.specs.Held.{Lent, startBy, endBy, heldRow, edgeIn, edgesIn, Shaped, EdgesShaped, Holds, HoldsEdges}
 use Rattle.between.specs.HeldLaws.{stretch-cons, stretch-none, run-held, edges-back}
-use Rattle.between.specs.Ready.{Fit, Ready}
+use Rattle.between.specs.Ready.{Ready}
 use Rattle.between.specs.ReadyLaws.{ready-more, ready-set, ready-run, ready-by, fit-drained}
 use Rattle.between.specs.LoopLaws.{condition-next, condition-stop, condition-end}
 

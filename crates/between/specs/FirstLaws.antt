@@ -1,14 +1,13 @@
 -- The first states of all rows: written row by row, and ready to be run. Assumes nothing.
-use Prim.Native.Nat.{ℕ, zero, suc, _+_, _-_, _<_, _≤_, _^_}
+use Prim.Native.Nat.{ℕ, zero, suc, _+_, _-_, _<_, _≤_}
 use native.Mathlib.Numerals.{add-one}
 use native.Mathlib.Omega.{arith}
 use mathlib.Core.Path.{_≡_, refl, sym, ap, ap₂, _∙_}
 use mathlib.Core.List.{List, [], _∷_}
-use mathlib.Core.Logic.{_≢_}
 use lib.ListN.{length, getD, set, drop, length-set, drop-of-length-le}
 use lib.Seq.{drop-cons, getD-set-same, getD-set-other}
 use lib.IntN.{ℤ}
-use Rattle.numeric.specs.Threshold.{Term, terms}
+use Rattle.numeric.specs.Threshold.{terms}
 use Rattle.state.specs.declared.State.{State}
 use Rattle.state.specs.State.{firstState, noState}
 use Rattle.row.specs.Terms.{total}
@@ -22,7 +21,7 @@ use Rattle.thresholds.specs.RawLaws.{stretch-length}
 use Rattle.propagate.specs.Guards.{guards, length-guards}
 use Rattle.between.specs.Between.{Index, firstStates}
 use Rattle.between.specs.Held.{Lent, lent, startBy, endBy, stretchBy, heldGuards, Shaped, Holds}
-use Rattle.between.specs.Ready.{Fit, Ready}
+use Rattle.between.specs.Ready.{Ready}
 
 -- The first state of row r, as the buffers hold the row.
 abbrev pub firstAt : List ℕ → List ℕ → List (List ℕ) → ℕ → State

@@ -3,8 +3,8 @@ use Prim.Native.Nat.{ℕ, _+_, _-_, _<_, _≤_, _^_}
 use native.Mathlib.Omega.{arith}
 use mathlib.Core.Path.{_≡_, refl, sym, ap, _∙_}
 use mathlib.Core.Bool.{Bool, true, false, cond}
-use mathlib.Core.List.{List, [], _∷_}
-use lib.ListN.{length, getD, set}
+use mathlib.Core.List.{List, _∷_}
+use lib.ListN.{length, getD}
 use lib.Signed.{mag}
 use Rattle.numeric.specs.Threshold.{Term}
 use Rattle.numeric.specs.TermsLaws.{length-terms}
@@ -21,9 +21,9 @@ use Rattle.prefixes.specs.Links.{neighbours}
 use Rattle.propagate.specs.declared.Tightened.{Tightened}
 use Rattle.propagate.specs.Told.{movedState}
 use Rattle.between.specs.Between.{Index, Live, live, Did, did, stateAt, withState, withDirty, runWith, runRow, after, termCount, toldStep, handedOn, prefixesFrom, thresholdPrefixes}
-use Rattle.between.specs.Held.{Lent, startBy, endBy, stretchBy, heldTerms, heldRow, Shaped, LinksShaped, Holds, HoldsLinks}
+use Rattle.between.specs.Held.{Lent, startBy, endBy, heldRow, Shaped, LinksShaped, Holds, HoldsLinks}
 use Rattle.between.specs.HeldLaws.{stretch-cons, stretch-none, run-held}
-use Rattle.between.specs.Ready.{Fit, Ready, ReadyLive}
+use Rattle.between.specs.Ready.{Fit, ReadyLive}
 use Rattle.between.specs.ReadyLaws.{ready-set, ready-run, ready-by, fit-prefix}
 use Rattle.between.specs.LoopLaws.{prefix-next, prefix-stop, prefix-end}
 

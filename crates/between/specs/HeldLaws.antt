@@ -5,20 +5,20 @@ use native.Mathlib.Numerals.{add-one}
 use native.Mathlib.Omega.{arith}
 use mathlib.Core.Path.{_≡_, refl, sym, ap, ap₂, _∙_}
 use mathlib.Core.List.{List, [], _∷_, map}
-use lib.ListN.{length, getD, set, take, drop, length-take, length-drop}
+use lib.ListN.{length, getD, set, drop, length-take, length-drop}
 use lib.Seq.{drop-cons, getD-drop, getD-take}
 use Rattle.numeric.specs.Threshold.{Term, terms}
-use Rattle.thresholds.specs.Rows.{Row, rowOf, noRow, Guard, Edge}
+use Rattle.thresholds.specs.Rows.{rowOf, noRow, Guard, Edge}
 use Rattle.thresholds.specs.Raw.{stretch}
 use Rattle.thresholds.specs.RawLaws.{stretch-length}
 use Rattle.thresholds.specs.Laid.{edgeRow}
 use Rattle.numeric.specs.Slices.{Below}
 use Rattle.propagate.specs.Shape.{TermSlices, GuardSlices}
 use Rattle.propagate.specs.Guards.{guards}
-use Rattle.propagate.specs.Row.{Ran, thresholdRow, wantsResidual}
+use Rattle.propagate.specs.Row.{Ran, wantsResidual}
 use Rattle.propagate.specs.RowLaws.{row-raw}
-use Rattle.between.specs.Between.{Index, Live, live, Did, did, stateAt, residualQueued, runWith, runRow}
-use Rattle.between.specs.Held.{Lent, endBy, startBy, heldTerms, heldGuards, heldRow, edgeIn, edgesIn, Inside, Shaped, Holds}
+use Rattle.between.specs.Between.{Index, Live, live, did, stateAt, residualQueued, runWith, runRow}
+use Rattle.between.specs.Held.{Lent, endBy, startBy, heldRow, edgesIn, Shaped, Holds}
 
 pub start-zero : (j : ℕ) (table : List (List ℕ)) (n : ℕ) → n ≡ 0 → 0 ≡ startBy j table n
 unfolding startBy

@@ -5,7 +5,7 @@ use native.Mathlib.Omega.{arith}
 use mathlib.Core.Path.{_≡_, refl, sym, ap, subst, _∙_}
 use mathlib.Core.List.{List, [], _∷_, map}
 use lib.ListN.{length, getD}
-use lib.IntN.{ℤ, pos}
+use lib.IntN.{ℤ}
 use lib.Signed.{mag}
 use Rattle.words.specs.Mask.{bit}
 use Rattle.thresholds.specs.Rows.{Edge, edgesOf, rowNumber}
@@ -14,8 +14,8 @@ use Rattle.thresholds.specs.RawLaws.{stretch-length}
 use Rattle.thresholds.specs.Laid.{edgeRow}
 use Rattle.prefixes.specs.Links.{neighbours}
 use Rattle.propagate.specs.ScanLaws.{All}
-use Rattle.between.specs.Between.{Index, Live, Did, did, guardOf, thresholdGuard, thresholdCondition, thresholdPrefixes}
-use Rattle.between.specs.Held.{Lent, startBy, endBy, stretchBy, edgeIn, edgesIn, Shaped, EdgesShaped, LinksShaped, GuardsShaped, Holds, HoldsEdges, HoldsLinks, CountsLinks, HoldsGuards}
+use Rattle.between.specs.Between.{Index, Live, guardOf, thresholdCondition, thresholdPrefixes}
+use Rattle.between.specs.Held.{Lent, startBy, endBy, edgeIn, edgesIn, Shaped, EdgesShaped, LinksShaped, GuardsShaped, Holds, HoldsEdges, HoldsLinks, HoldsGuards}
 use Rattle.between.specs.HeldLaws.{stretch-cons, stretch-none, edges-back}
 use Rattle.between.specs.GuardLaws.{noThreshold, guard-not, guard-is, guard-bound}
 use Rattle.between.specs.KeptLaws.{Runnable, runnable-by, Light, kept-condition, kept-guard, kept-row-prefixes}

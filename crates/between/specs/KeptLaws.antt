@@ -1,31 +1,29 @@
 -- For callers: what is ready stays so through a seeding, a guard, a condition and a row's prefixes, on values. Assumes nothing.
-use Prim.Native.Nat.{ℕ, zero, suc, _+_, _-_, _*_, _<_, _≤_, _^_}
+use Prim.Native.Nat.{ℕ, _+_, _*_, _<_, _≤_, _^_}
 use native.Mathlib.Omega.{arith}
-use mathlib.Core.Path.{_≡_, refl, sym, ap, _∙_}
+use mathlib.Core.Path.{_≡_, refl, sym}
 use mathlib.Core.Bool.{Bool, true, false, cond}
-use mathlib.Core.List.{List, [], _∷_, map}
+use mathlib.Core.List.{List, [], _∷_}
 use lib.Dec.{eqb}
 use lib.ListN.{length, getD, set}
-use lib.IntN.{ℤ, pos}
 use lib.Signed.{mag}
 use Rattle.numeric.specs.Threshold.{Threshold}
 use Rattle.state.specs.declared.Step.{Step}
-use Rattle.state.specs.declared.Step.the-variants.{Unchanged, Contradiction}
 use Rattle.state.specs.declared.State.{State}
 use Rattle.state.specs.Step.{joined, contradicts}
 use Rattle.state.specs.State.{limit, drained}
 use Rattle.words.specs.Mask.{bit}
 use Rattle.queues.specs.Queue.{Rows, queueRow}
 use Rattle.queues.specs.RowsLaws.{Flags, flags-queue}
-use Rattle.thresholds.specs.Rows.{Row, noRow, Edge, edgesOf, rowNumber}
+use Rattle.thresholds.specs.Rows.{Row, noRow, Edge, rowNumber}
 use Rattle.prefixes.specs.Links.{neighbours}
 use Rattle.propagate.specs.declared.Tightened.{Tightened}
 use Rattle.propagate.specs.ScanLaws.{All}
 use Rattle.propagate.specs.Told.{guardState, movedState}
-use Rattle.between.specs.Between.{Index, Live, live, Did, did, stateAt, withState, linkedQueued, runWith, runRow, bounded, thresholdGuard, conditionFrom, thresholdCondition, termCount, handedOn, prefixesFrom, thresholdPrefixes, seedFrom}
+use Rattle.between.specs.Between.{Index, Live, live, Did, stateAt, withState, linkedQueued, runWith, runRow, bounded, thresholdGuard, conditionFrom, termCount, handedOn, prefixesFrom, thresholdPrefixes, seedFrom}
 use Rattle.between.specs.Held.{Lent, Shaped, Holds}
 use Rattle.between.specs.HeldLaws.{run-held}
-use Rattle.between.specs.Ready.{Fit, Ready, ReadyLive}
+use Rattle.between.specs.Ready.{Fit, ReadyLive}
 use Rattle.between.specs.ReadyLaws.{ready-more, ready-set, ready-run, ready-by, fit-drained, fit-guard, fit-prefix}
 use Rattle.between.specs.LoopLaws.{both, both-keeps, turn, condition-both, prefix-both}
 use Rattle.between.specs.Handing.{handed-held, ready-handed, flags-handed}

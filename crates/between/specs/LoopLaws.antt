@@ -1,9 +1,8 @@
 -- Loops between rows: what was done so far joined with what is left is the whole. Assumes nothing.
-use Prim.Native.Nat.{ℕ, _+_, _<_}
+use Prim.Native.Nat.{ℕ, _+_}
 use mathlib.Core.Path.{_≡_, refl, sym, ap, _∙_}
 use mathlib.Core.Bool.{Bool, true, false, cond}
 use mathlib.Core.List.{List, [], _∷_}
-use native.Mathlib.Omega.{arith}
 use lib.ListN.{getD}
 use Rattle.state.specs.declared.Step.{Step}
 use Rattle.state.specs.declared.Step.the-variants.{Unchanged, Changed, Contradiction}
@@ -14,7 +13,7 @@ use Rattle.thresholds.specs.Rows.{Row, noRow, Edge}
 use Rattle.propagate.specs.declared.Tightened.{Tightened}
 use Rattle.propagate.specs.ScanLaws.{clash, joined-last}
 use Rattle.propagate.specs.Told.{movedState}
-use Rattle.between.specs.Between.{Index, Live, Did, did, stateAt, withState, withDirty, runWith, runRow, after, conditionFrom, termCount, toldStep, handedOn, prefixesFrom, seedFrom}
+use Rattle.between.specs.Between.{Index, Live, Did, did, stateAt, withState, withDirty, runWith, runRow, after, conditionFrom, termCount, handedOn, prefixesFrom, seedFrom}
 
 -- ---- answers
 

@@ -6,7 +6,6 @@ use mathlib.Core.Path.{_≡_, refl, sym, ap, _∙_}
 use mathlib.Core.Bool.{cond}
 use mathlib.Core.List.{List, [], _∷_, map}
 use lib.ListN.{length, getD, set}
-use lib.Seq.{getD-set-same}
 use lib.Dec.{eqb}
 use lib.IntN.{ℤ, pos}
 use Rattle.state.specs.declared.State.{State}
@@ -51,32 +50,12 @@ statesOf [] cs = []
 statesOf (f ∷ fs) [] = []
 statesOf (f ∷ fs) (c ∷ cs) = rowState f c ∷ statesOf fs cs
 
-pub states-at : (fs : List (List ℤ)) (cs : List (List ℕ)) (r : ℕ) → r < length fs → r < length cs → getD (statesOf fs cs) r noState ≡ rowState (getD fs r []) (getD cs r [])
+pub states-at : (fs : List (List ℤ)) (cs : List (List ℕ)) (r : ℕ) → r < length (statesOf fs cs) → getD (statesOf fs cs) r noState ≡ rowState (getD fs r []) (getD cs r [])
 unfolding statesOf
-states-at [] cs r h k = absurd (not-suc-le-zero h)
-states-at (f ∷ fs) [] r h k = absurd (not-suc-le-zero k)
-states-at (f ∷ fs) (c ∷ cs) zero h k = refl
-states-at (f ∷ fs) (c ∷ cs) (suc r) h k = states-at fs cs r (le-of-suc-le-suc h) (le-of-suc-le-suc k)
-
--- A state that is stored in both is stored among them.
-pub states-set : (fs fs′ : List (List ℤ)) (cs cs′ : List (List ℕ)) (r : ℕ) (s : State) → r < length fs → r < length cs
-    → fs′ ≡ set fs r (figuresOf s) → cs′ ≡ set cs r (cursorsOf s) → statesOf fs′ cs′ ≡ set (statesOf fs cs) r s
-unfolding statesOf
-states-set fs fs′ cs cs′ r s h k e f = ap (λ (y : List (List ℤ)). statesOf y cs′) e ∙ ap (statesOf (set fs r (figuresOf s))) f ∙ go fs cs r h k
-  where
-    go : (gs : List (List ℤ)) (ds : List (List ℕ)) (i : ℕ) → i < length gs → i < length ds → statesOf (set gs i (figuresOf s)) (set ds i (cursorsOf s)) ≡ set (statesOf gs ds) i s
-    go [] ds i a b = absurd (not-suc-le-zero a)
-    go (g ∷ gs) [] i a b = absurd (not-suc-le-zero b)
-    go (g ∷ gs) (d ∷ ds) zero a b = ap (λ (y : State). y ∷ statesOf gs ds) (stored-read s)
-    go (g ∷ gs) (d ∷ ds) (suc i) a b = ap (λ (y : List State). rowState g d ∷ y) (go gs ds i (le-of-suc-le-suc a) (le-of-suc-le-suc b))
-
--- A state that was stored is the one that is read.
-pub stored-at : (fs fs′ : List (List ℤ)) (cs cs′ : List (List ℕ)) (r : ℕ) (s : State) → r < length fs → r < length cs
-    → fs′ ≡ set fs r (figuresOf s) → cs′ ≡ set cs r (cursorsOf s) → rowState (getD fs′ r []) (getD cs′ r []) ≡ s
-stored-at fs fs′ cs cs′ r s h k e f =
-    ap (λ (y : List ℤ). rowState y (getD cs′ r [])) (ap (λ (y : List (List ℤ)). getD y r []) e ∙ getD-set-same fs r (figuresOf s) [] h)
-    ∙ ap (rowState (figuresOf s)) (ap (λ (y : List (List ℕ)). getD y r []) f ∙ getD-set-same cs r (cursorsOf s) [] k)
-    ∙ stored-read s
+states-at [] cs r h = absurd (not-suc-le-zero h)
+states-at (f ∷ fs) [] r h = absurd (not-suc-le-zero h)
+states-at (f ∷ fs) (c ∷ cs) zero h = refl
+states-at (f ∷ fs) (c ∷ cs) (suc r) h = states-at fs cs r (le-of-suc-le-suc h)
 
 -- As many states as both have rows.
 pub states-figures : (fs : List (List ℤ)) (cs : List (List ℕ)) → length (statesOf fs cs) ≤ length fs
@@ -91,6 +70,18 @@ states-cursors [] cs = omega arith
 states-cursors (f ∷ fs) [] = omega arith
 states-cursors (f ∷ fs) (c ∷ cs) = omega (arith, states-cursors fs cs)
 
+-- A state that is stored in both is stored among them.
+pub states-set : (fs fs′ : List (List ℤ)) (cs cs′ : List (List ℕ)) (r : ℕ) (s : State) → r < length (statesOf fs cs)
+    → fs′ ≡ set fs r (figuresOf s) → cs′ ≡ set cs r (cursorsOf s) → statesOf fs′ cs′ ≡ set (statesOf fs cs) r s
+unfolding statesOf
+states-set fs fs′ cs cs′ r s h e f = ap (λ (y : List (List ℤ)). statesOf y cs′) e ∙ ap (statesOf (set fs r (figuresOf s))) f ∙ go fs cs r (omega (arith, states-figures fs cs)) (omega (arith, states-cursors fs cs))
+  where
+    go : (gs : List (List ℤ)) (ds : List (List ℕ)) (i : ℕ) → i < length gs → i < length ds → statesOf (set gs i (figuresOf s)) (set ds i (cursorsOf s)) ≡ set (statesOf gs ds) i s
+    go [] ds i a b = absurd (not-suc-le-zero a)
+    go (g ∷ gs) [] i a b = absurd (not-suc-le-zero b)
+    go (g ∷ gs) (d ∷ ds) zero a b = ap (λ (y : State). y ∷ statesOf gs ds) (stored-read s)
+    go (g ∷ gs) (d ∷ ds) (suc i) a b = ap (λ (y : List State). rowState g d ∷ y) (go gs ds i (le-of-suc-le-suc a) (le-of-suc-le-suc b))
+
 -- Every word of the two buffers is that of the state they hold. It is kept by what stores states, so that the states tell the words.
 pub record Tidy (fs : List (List ℤ)) (cs : List (List ℕ)) : Type 0 where
   pub figures : fs ≡ map figuresOf (statesOf fs cs)
@@ -101,10 +92,10 @@ map-set f [] r a = refl
 map-set f (x ∷ l) zero a = refl
 map-set {B = B} f (x ∷ l) (suc r) a = ap (λ (m : List B). f x ∷ m) (map-set f l r a)
 
-pub tidy-store : (fs fs′ : List (List ℤ)) (cs cs′ : List (List ℕ)) (r : ℕ) (s : State) → r < length fs → r < length cs
+pub tidy-store : (fs fs′ : List (List ℤ)) (cs cs′ : List (List ℕ)) (r : ℕ) (s : State) → r < length (statesOf fs cs)
     → fs′ ≡ set fs r (figuresOf s) → cs′ ≡ set cs r (cursorsOf s) → Tidy fs cs → Tidy fs′ cs′
-tidy-store fs fs′ cs cs′ r s h k e f t =
-    let g = sym (states-set fs fs′ cs cs′ r s h k e f) in record {
+tidy-store fs fs′ cs cs′ r s h e f t =
+    let g = sym (states-set fs fs′ cs cs′ r s h e f) in record {
       figures =
           e ∙ ap (λ (l : List (List ℤ)). set l r (figuresOf s)) (t .figures)
           ∙ sym (map-set figuresOf (statesOf fs cs) r s) ∙ ap (λ (l : List State). map figuresOf l) g;

@@ -1,8 +1,8 @@
 -- What is ready stays so: when a state is stored, a row run, a weight drained or a bound told. Assumes nothing.
-use Prim.Native.Nat.{ℕ, _+_, _-_, _<_, _≤_, _^_}
+use Prim.Native.Nat.{ℕ, _+_, _<_, _≤_, _^_}
 use native.Mathlib.Decide.{ℕ-discrete}
 use native.Mathlib.Omega.{arith}
-use mathlib.Core.Path.{_≡_, refl, sym, ap, _∙_}
+use mathlib.Core.Path.{_≡_, refl}
 use mathlib.Core.Bool.{Bool, true, false, cond, _&&_}
 use mathlib.Core.List.{List}
 use lib.Dec.{leb}
@@ -25,9 +25,9 @@ use Rattle.propagate.specs.Guards.{all-guards, all-terms}
 use Rattle.propagate.specs.Row.{wantsResidual, thresholdRow}
 use Rattle.propagate.specs.RowLaws.{Moved, kept-row}
 use Rattle.propagate.specs.declared.Tightened.{Tightened}
-use Rattle.propagate.specs.Told.{guardState, movedLower, movedUpper, movedState, under}
-use Rattle.between.specs.Between.{Live, live, Did, did, residualQueued, runWith}
-use Rattle.between.specs.Numbers.{Runs, statesOf, states-figures, states-cursors}
+use Rattle.propagate.specs.Told.{guardState, movedLower, movedState, under}
+use Rattle.between.specs.Between.{Live, live, Did, residualQueued, runWith}
+use Rattle.between.specs.Numbers.{Runs}
 use Rattle.between.specs.Held.{Lent, endBy, startBy, heldRow, Shaped}
 use Rattle.between.specs.HeldLaws.{term-slices, guard-slices}
 use Rattle.between.specs.Ready.{Fit, Ready, ReadyLive}
@@ -176,13 +176,3 @@ drains-by s t w e d = rw e d
 pub from-state : (row : Row) (ss : List State) (m : Marks) (d q : Rows) (r : ℕ) (s t : State) → s ≡ t
     → runWith row (live (set ss r s) m d q) r ≡ runWith row (live (set ss r t) m d q) r
 from-state row ss m d q r s t e = rw e
-
--- ---- rows that the states have
-
-pub in-figures : (h : Lent) (n : ℕ) (fs : List (List ℤ)) (cs : List (List ℕ)) (m : Marks) (q : Rows) → Ready h n (statesOf fs cs) m q
-    → (r : ℕ) → r < length (h .rows) → r < length fs
-in-figures h n fs cs m q y r k = omega (arith, y .long, states-figures fs cs)
-
-pub in-cursors : (h : Lent) (n : ℕ) (fs : List (List ℤ)) (cs : List (List ℕ)) (m : Marks) (q : Rows) → Ready h n (statesOf fs cs) m q
-    → (r : ℕ) → r < length (h .rows) → r < length cs
-in-cursors h n fs cs m q y r k = omega (arith, y .long, states-cursors fs cs)

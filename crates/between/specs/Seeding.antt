@@ -1,10 +1,10 @@
 -- The loop of `seed_thresholds` over all rows: what holds at each. Assumes nothing.
-use Prim.Native.Nat.{ℕ, suc, _+_, _<_, _≤_, _^_}
+use Prim.Native.Nat.{ℕ, _+_, _<_, _≤_, _^_}
 use native.Mathlib.Numerals.{add-one}
 use native.Mathlib.Omega.{arith}
 use mathlib.Core.Path.{_≡_, refl, sym, ap, _∙_}
-use mathlib.Core.Bool.{Bool, true, false}
-use mathlib.Core.List.{List, [], _∷_}
+use mathlib.Core.Bool.{true, false}
+use mathlib.Core.List.{List, _∷_}
 use lib.ListN.{length, getD, drop, drop-of-length-le}
 use lib.Seq.{drop-cons}
 use Rattle.state.specs.declared.Step.{Step}
@@ -14,7 +14,7 @@ use Rattle.state.specs.Step.{joined, contradicts}
 use Rattle.queues.specs.Queue.{Rows}
 use Rattle.queues.specs.Marks.{Marks}
 use Rattle.thresholds.specs.Rows.{Row, noRow}
-use Rattle.between.specs.Between.{Index, Live, live, Did, did, runWith, runRow, seedFrom}
+use Rattle.between.specs.Between.{Index, live, did, runWith, runRow, seedFrom}
 use Rattle.between.specs.Held.{Lent, heldRow, Shaped, Holds}
 use Rattle.between.specs.HeldLaws.{run-held}
 use Rattle.between.specs.Ready.{Ready}

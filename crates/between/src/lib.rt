@@ -67,8 +67,8 @@ fn make(figures: [i64; 4], cursors: [usize; 5]) -> State
 
 // The state of a row, read from the buffers.
 pub fn load(figures: &[[i64; 4]], cursors: &[[usize; 5]], row: usize) -> State
-    requires { ⌜ (row < length (now figures)) × (row < length (now cursors)) ⌝ }
-    ensures { λ r. ⌜ r ≡ rowState (getD (now (figures .entry)) row []) (getD (now (cursors .entry)) row []) ⌝ }
+    requires { ⌜ row < length (statesOf (now figures) (now cursors)) ⌝ }
+    ensures { λ r. ⌜ r ≡ getD (statesOf (now (figures .entry)) (now (cursors .entry))) row noState ⌝ }
 {
     let f = figures[row];
     let c = cursors[row];
@@ -96,7 +96,7 @@ fn flag_of(upper: Upper) -> usize
 
 // The state of a row, written to the buffers.
 pub fn store(figures: &mut [[i64; 4]], cursors: &mut [[usize; 5]], row: usize, state: State)
-    requires { ⌜ (row < length (now figures)) × (row < length (now cursors)) ⌝ }
+    requires { ⌜ row < length (statesOf (now figures) (now cursors)) ⌝ }
     ensures { λ _. ⌜ (now (figures .exit) ≡ set (now (figures .entry)) row (figuresOf state)) × (now (cursors .exit) ≡ set (now (cursors .entry)) row (cursorsOf state)) ⌝ }
 {
     let upper = state.upper;
@@ -159,8 +159,8 @@ pub fn run_row(
     pending: &mut [u8],
     residuals: Ring,
 ) -> Answer
-    requires { ⌜ (row < length (now figures)) × (row < length (now cursors)) × TermSlices (now conditions) (now weights) × GuardSlices (now bounds) (now names) ⌝ }
-    requires { ⌜ Runs (rowState (getD (now figures) row []) (getD (now cursors) row [])) (now bounds) × Waits (marks (now sure) (now never) (queue (now nodes) ring)) ⌝ }
+    requires { ⌜ (row < length (statesOf (now figures) (now cursors))) × TermSlices (now conditions) (now weights) × GuardSlices (now bounds) (now names) ⌝ }
+    requires { ⌜ Runs (getD (statesOf (now figures) (now cursors)) row noState) (now bounds) × Waits (marks (now sure) (now never) (queue (now nodes) ring)) ⌝ }
     requires { ⌜ Held 1024 (queue (now items) residuals) × (row < 1024) × (row < length (now pending)) ⌝ }
     ensures { λ r. ⌜ ((d : Rows) → did (live (statesOf (now (figures .exit)) (now (cursors .exit))) (marks (now (sure .exit)) (now (never .exit)) (queue (now (nodes .exit)) (r .ring))) d (queued (queue (now (items .exit)) (r .residuals)) (now (pending .exit)))) (r .step)
         ≡ runWith (rowOf [] (terms (now (conditions .entry)) (now (weights .entry))) (guards (now (bounds .entry)) (now (names .entry)))) (live (statesOf (now (figures .entry)) (now (cursors .entry))) (marks (now (sure .entry)) (now (never .entry)) (queue (now (nodes .entry)) ring)) d (queued (queue (now (items .entry)) residuals) (now (pending .entry)))) row)

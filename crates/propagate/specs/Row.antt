@@ -1,20 +1,20 @@
 -- One row, run once: `threshold_row` of propagate.rs on values, with its guards, its terms and its four cursors.
 use Prim.Native.Nat.{ℕ, _+_, _-_}
-use mathlib.Core.Bool.{Bool, true, false, cond, _&&_, _||_, not}
-use mathlib.Core.List.{List, [], _∷_, reverse}
+use mathlib.Core.Bool.{Bool, true, false, cond, _&&_, not}
+use mathlib.Core.List.{List, reverse}
 use lib.ListN.{take, drop}
 use lib.IntN.{ℤ, pos, _-ℤ_}
 use lib.Signed.{leZ, ltZ}
 use Rattle.numeric.specs.Threshold.{Term}
 use Rattle.state.specs.declared.Step.{Step}
-use Rattle.state.specs.declared.Step.the-variants.{Unchanged, Changed, Contradiction}
+use Rattle.state.specs.declared.Step.the-variants.{Unchanged, Contradiction}
 use Rattle.state.specs.declared.State.{State}
 use Rattle.state.specs.Step.{joined, contradicts}
 use Rattle.state.specs.State.{reached, upperAtMost, limited, limit, conflict, hasResidualInterval, withGuards, withTerms}
-use Rattle.queues.specs.Marks.{Marks, isDecided, Decided, decided, decide}
+use Rattle.queues.specs.Marks.{Marks, isDecided, Decided, decide}
 use Rattle.thresholds.specs.Rows.{Row, Guard, hasNonunit}
 use Rattle.propagate.specs.declared.Cutoff.{Cutoff}
-use Rattle.propagate.specs.Scan.{scan, Scanned, scanned, force}
+use Rattle.propagate.specs.Scan.{scan, Scanned, force}
 
 -- A row's state and the marks after some of its scans, and their answer.
 pub record Ran : Type 0 where

@@ -1,24 +1,22 @@
 -- One row, run once: its scans put together, what they keep and how far they come. Assumes nothing.
-use Prim.Native.Nat.{ℕ, _+_, _-_, _<_, _≤_}
-use native.Mathlib.Nat.{not-suc-le-zero}
+use Prim.Native.Nat.{ℕ, _+_, _-_, _≤_}
 use native.Mathlib.Omega.{arith}
 use mathlib.Core.Path.{_≡_, refl, sym, ap, _∙_}
-use mathlib.Core.Bool.{Bool, true, false, cond}
-use mathlib.Core.List.{List, [], _∷_, reverse}
-use lib.ListN.{length, getD, take, drop, length-take, length-drop, length-reverse}
-use lib.Dec.{ltb}
+use mathlib.Core.Bool.{Bool, true, false}
+use mathlib.Core.List.{List, reverse}
+use lib.ListN.{length, take, drop, length-take, length-drop, length-reverse}
 use lib.IntN.{ℤ, _-ℤ_}
 use lib.Signed.{leZ}
 use Rattle.numeric.specs.Threshold.{Term, terms}
 use Rattle.state.specs.declared.Step.{Step}
-use Rattle.state.specs.declared.Step.the-variants.{Unchanged, Changed, Contradiction}
+use Rattle.state.specs.declared.Step.the-variants.{Unchanged, Contradiction}
 use Rattle.state.specs.declared.State.{State}
 use Rattle.state.specs.Step.{joined, contradicts}
 use Rattle.state.specs.State.{Figures, limit, limited, conflict, hasResidualInterval, withGuards, withTerms}
 use Rattle.queues.specs.Marks.{Marks}
 use Rattle.queues.specs.MarksLaws.{Waits, waits-decide}
 use Rattle.thresholds.specs.Rows.{Row, rowOf, Guard, hasNonunit}
-use Rattle.propagate.specs.Scan.{Scanned, scan}
+use Rattle.propagate.specs.Scan.{Scanned}
 use Rattle.propagate.specs.ScanLaws.{All, all-drop, all-take, all-reverse, scan-keeps, scan-within, force-keeps}
 use Rattle.propagate.specs.Guards.{Node, Condition}
 use Rattle.propagate.specs.Row.{Ran, ran, decides, sureWaits, sureGuards, neverWaits, neverGuards, thresholdGuards, light, cut, termWaits, forces, forced, trueTerms, falseTerms, rowTerms, scans, thresholdRow, wantsResidual}

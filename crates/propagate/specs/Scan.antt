@@ -4,7 +4,7 @@ use Prim.Native.Nat.{ℕ, _+_}
 use mathlib.Core.Bool.{Bool, true, false, cond}
 use mathlib.Core.List.{List, [], _∷_}
 use Rattle.state.specs.declared.Step.{Step}
-use Rattle.state.specs.declared.Step.the-variants.{Unchanged, Changed, Contradiction}
+use Rattle.state.specs.declared.Step.the-variants.{Unchanged, Contradiction}
 use Rattle.state.specs.Step.{joined, contradicts}
 use Rattle.queues.specs.Marks.{Marks, isDecided, Decided, decided, decide}
 

@@ -6,7 +6,6 @@ ghost use lib.ListN.{length, drop};
 ghost use mathlib.Core.List.{List};
 ghost use lib.Signed.{ltZ};
 ghost use Rattle.numeric.specs.Threshold.{Term, terms};
-ghost use Rattle.words.specs.Mask.{inEither};
 ghost use Rattle.state.specs.State.{Figures, reached, limit};
 ghost use Rattle.queues.specs.Queue.{queue};
 ghost use Rattle.queues.specs.Marks.{Marks, marks, isDecided, decided, decide};

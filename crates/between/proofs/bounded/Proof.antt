@@ -1,5 +1,4 @@
 -- `between::bounded` meets its contract: the row waits, its state is stored, and it is run.
-use Prim.Native.Nat.{_^_}
 use native.Mathlib.Omega.{arith}
 use lib.ListN.{set}
 use Rattle.queues.specs.Queue.{queue, rows}
@@ -7,8 +6,7 @@ use Rattle.queues.specs.Marks.{marks}
 use Rattle.between.specs.Numbers.{statesOf}
 use Rattle.between.specs.Held.{lent, heldRow}
 use Rattle.between.specs.BetweenLaws.{linked-run}
-use mathlib.Core.Path.{_≡_, _∙_, refl, sym, ap}
-use borrow.Author.Needs.{needs}
+use mathlib.Core.Path.{_∙_}
 use Rattle.between.proofs.bounded.Statement.{statement}
 use Rattle.between.proofs.bounded.Tie as tie
 

@@ -1,10 +1,9 @@
 -- `between::first_at` meets its contract.
-use Prim.Native.Nat.{_-_, _^_}
+use Prim.Native.Nat.{_^_}
 use native.Mathlib.Omega.{arith}
 use Rattle.thresholds.specs.RawLaws.{stretch-length}
 use Rattle.between.specs.FirstLaws.{first-cut, small-cut}
-use mathlib.Core.Path.{_≡_, _∙_, refl, sym, ap}
-use borrow.Author.Needs.{needs}
+use mathlib.Core.Path.{_∙_, sym}
 use Rattle.between.proofs.first_at.Statement.{statement}
 use Rattle.between.proofs.first_at.Tie as tie
 
@@ -39,9 +38,11 @@ part-total-end-2 : tie.Need-part-total-end-2
 part-total-end-2 c = omega (arith, c .before .end-by .ensures .0, c .before .before .before .before .before .pre .0 .ends (c .before .before .before .before .before .args .row) (c .before .before .before .before .before .pre .3), c .before .before .before .before .before .pre .1)
 
 total-requires : tie.Need-total-requires
-total-requires c κs = (stretch-length (c .before .before .before .start-by .result) (c .before .before .end-by .result) (c .before .before .before .before .before .before .args .weights .now) (omega (arith, c .before .before .end-by .ensures .0, c .before .before .before .before .before .before .pre .0 .ends (c .before .before .before .before .before .before .args .row) (c .before .before .before .before .before .before .pre .3), c .before .before .before .before .before .before .pre .1))
-    ∙ sym (stretch-length (c .before .before .before .start-by .result) (c .before .before .end-by .result) (c .before .before .before .before .before .before .args .conditions .now) (omega (arith, c .before .before .end-by .ensures .0, c .before .before .before .before .before .before .pre .0 .ends (c .before .before .before .before .before .before .args .row) (c .before .before .before .before .before .before .pre .3)))),
-    omega (arith, small-cut (c .before .before .before .before .before .before .args .conditions .now) (c .before .before .before .before .before .before .args .weights .now) (c .before .before .before .before .before .before .args .rows .now) (c .before .before .before .before .before .before .args .row) (c .before .before .before .start-by .result) (c .before .before .end-by .result) (2 ^ 60) (c .before .before .before .start-by .ensures .0) (c .before .before .end-by .ensures .0) (c .before .before .before .before .before .before .pre .4)))
+total-requires c κs = (
+  stretch-length (c .before .before .before .start-by .result) (c .before .before .end-by .result) (c .before .before .before .before .before .before .args .weights .now) (omega (arith, c .before .before .end-by .ensures .0, c .before .before .before .before .before .before .pre .0 .ends (c .before .before .before .before .before .before .args .row) (c .before .before .before .before .before .before .pre .3), c .before .before .before .before .before .before .pre .1))
+      ∙ sym (stretch-length (c .before .before .before .start-by .result) (c .before .before .end-by .result) (c .before .before .before .before .before .before .args .conditions .now) (omega (arith, c .before .before .end-by .ensures .0, c .before .before .before .before .before .before .pre .0 .ends (c .before .before .before .before .before .before .args .row) (c .before .before .before .before .before .before .pre .3)))),
+  omega (arith, small-cut (c .before .before .before .before .before .before .args .conditions .now) (c .before .before .before .before .before .before .args .weights .now) (c .before .before .before .before .before .before .args .rows .now) (c .before .before .before .before .before .before .args .row) (c .before .before .before .start-by .result) (c .before .before .end-by .result) (2 ^ 60) (c .before .before .before .start-by .ensures .0) (c .before .before .end-by .ensures .0) (c .before .before .before .before .before .before .pre .4)),
+)
 
 count-by-requires : tie.Need-count-by-requires
 count-by-requires c κs = (c .before .before .before .before .before .before .before .pre .3, omega arith, c .before .before .before .before .before .before .before .pre .2 (c .before .before .before .before .before .before .before .args .row) (c .before .before .before .before .before .before .before .pre .3))

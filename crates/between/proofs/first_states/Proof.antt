@@ -2,10 +2,9 @@
 use Prim.Native.Nat.{_-_, _<_}
 use native.Mathlib.Omega.{arith}
 use lib.ListN.{length}
-use Rattle.between.specs.Numbers.{statesOf, states-figures, states-cursors, states-set, Tidy, tidy-store}
+use Rattle.between.specs.Numbers.{statesOf, states-set, Tidy, tidy-store}
 use Rattle.between.specs.FirstLaws.{Starting, starting-first, starting-next, starting-end}
-use mathlib.Core.Path.{_≡_, _∙_, refl, sym, ap}
-use borrow.Author.Needs.{needs}
+use mathlib.Core.Path.{_≡_, _∙_, refl}
 use Rattle.between.proofs.first_states.Statement.{statement}
 use Rattle.between.proofs.first_states.Tie as tie
 
@@ -23,8 +22,7 @@ first-at-requires : tie.Need-first-at-requires Inv-loop μ-loop
 first-at-requires c κs = (c .before .before .before .before .pre .0, c .before .before .before .before .pre .1, c .before .before .before .before .pre .2, c .loop-test .taken, c .before .before .before .before .pre .4 (c .before .loop .at) (c .loop-test .taken))
 
 store-requires : tie.Need-store-requires Inv-loop μ-loop
-store-requires c κs = let w = c .before .before .before .before .loop in
-    (omega (arith, c .before .before .before .loop-test .taken, c .before .before .before .before .before .before .before .pre .5, w .inv .0 .long, states-figures (w .figures) (w .cursors)), omega (arith, c .before .before .before .loop-test .taken, c .before .before .before .before .before .before .before .pre .5, w .inv .0 .long, states-cursors (w .figures) (w .cursors)))
+store-requires c κs = omega (arith, c .before .before .before .loop-test .taken, c .before .before .before .before .before .before .before .pre .5, c .before .before .before .before .loop .inv .0 .long)
 
 add-at : tie.Need-add-at Inv-loop μ-loop
 add-at c = omega (arith, c .before .before .before .before .before .before .loop-test .taken, c .before .before .before .before .before .before .before .before .before .before .pre .3)
@@ -35,13 +33,14 @@ loop-less c = omega (arith, c .before .before .before .before .before .before .l
 loop-again : tie.Need-loop-again Inv-loop μ-loop
 loop-again c = let w = c .before .before .before .before .before .before .before .loop in
     let s = c .before .before .store in
-    let f : w .at < length (w .figures) = omega (arith, c .before .before .before .before .before .before .loop-test .taken, c .before .before .before .before .before .before .before .before .before .before .pre .5, w .inv .0 .long, states-figures (w .figures) (w .cursors)) in
-    let g : w .at < length (w .cursors) = omega (arith, c .before .before .before .before .before .before .loop-test .taken, c .before .before .before .before .before .before .before .before .before .before .pre .5, w .inv .0 .long, states-cursors (w .figures) (w .cursors)) in
-    (starting-next (c .before .before .before .before .before .before .before .before .before .before .args .conditions .now) (c .before .before .before .before .before .before .before .before .before .before .args .weights .now) (c .before .before .before .before .before .before .before .before .before .before .args .rows .now) (statesOf (c .before .before .before .before .before .before .before .before .before .before .args .figures .now) (c .before .before .before .before .before .before .before .before .before .before .args .cursors .now)) (w .at) (statesOf (w .figures) (w .cursors)) (w .inv .0)
-    (c .before .before .before .before .before .before .loop-test .taken) (c .before .before .before .before .before .first-at .result) (c .before .before .before .before .before .first-at .ensures) (statesOf (s .last .0) (s .last .1 .0))
-    (states-set (w .figures) (s .last .0) (w .cursors) (s .last .1 .0) (w .at) (c .before .before .before .before .before .first-at .result) f g (s .ensures .0) (s .ensures .1)),
-    s .kept .0 ∙ w .inv .1, s .kept .1 .0 ∙ w .inv .2,
-    λ t. tidy-store (w .figures) (s .last .0) (w .cursors) (s .last .1 .0) (w .at) (c .before .before .before .before .before .first-at .result) f g (s .ensures .0) (s .ensures .1) (w .inv .3 t))
+    let k : w .at < length (statesOf (w .figures) (w .cursors)) = omega (arith, c .before .before .before .before .before .before .loop-test .taken, c .before .before .before .before .before .before .before .before .before .before .pre .5, w .inv .0 .long) in (
+      starting-next (c .before .before .before .before .before .before .before .before .before .before .args .conditions .now) (c .before .before .before .before .before .before .before .before .before .before .args .weights .now) (c .before .before .before .before .before .before .before .before .before .before .args .rows .now) (statesOf (c .before .before .before .before .before .before .before .before .before .before .args .figures .now) (c .before .before .before .before .before .before .before .before .before .before .args .cursors .now)) (w .at) (statesOf (w .figures) (w .cursors)) (w .inv .0)
+          (c .before .before .before .before .before .before .loop-test .taken) (c .before .before .before .before .before .first-at .result) (c .before .before .before .before .before .first-at .ensures) (statesOf (s .last .0) (s .last .1 .0))
+          (states-set (w .figures) (s .last .0) (w .cursors) (s .last .1 .0) (w .at) (c .before .before .before .before .before .first-at .result) k (s .ensures .0) (s .ensures .1)),
+      s .kept .0 ∙ w .inv .1,
+      s .kept .1 .0 ∙ w .inv .2,
+      λ t. tidy-store (w .figures) (s .last .0) (w .cursors) (s .last .1 .0) (w .at) (c .before .before .before .before .before .first-at .result) k (s .ensures .0) (s .ensures .1) (w .inv .3 t),
+    )
 
 same-length : tie.Need-same-length Inv-loop μ-loop
 same-length c = c .before .loop .inv .1

@@ -1,20 +1,15 @@
 -- `between::guard_at` meets its contract: the node is no threshold, or its threshold's guard is told.
-use Prim.Native.Nat.{ℕ, _-_, _<_, _^_}
+use Prim.Native.Nat.{_-_, _<_, _^_}
 use native.Mathlib.Omega.{arith}
 use lib.ListN.{length, getD}
-use lib.IntN.{ℤ, pos}
 use lib.Signed.{mag}
-use mir.Syntax.{w64}
-use mir.Val.{toZ, ofZ}
 use Rattle.queues.specs.Queue.{queue, rows}
 use Rattle.queues.specs.Marks.{marks}
 use Rattle.propagate.specs.Shape.{signed}
 use Rattle.between.specs.Between.{live}
 use Rattle.between.specs.Numbers.{statesOf}
-use Rattle.between.specs.Held.{lent}
 use Rattle.between.specs.GuardLaws.{noThreshold, guard-not, guard-is, guard-bound}
-use mathlib.Core.Path.{_≡_, _∙_, refl, sym, ap}
-use borrow.Author.Needs.{needs}
+use mathlib.Core.Path.{_∙_, sym}
 use Rattle.between.proofs.guard_at.Statement.{statement}
 use Rattle.between.proofs.guard_at.Tie as tie
 

@@ -1,17 +1,16 @@
 -- `between::run_at` meets its contract.
-use Prim.Native.Nat.{_+_, _-_, _^_}
+use Prim.Native.Nat.{_^_}
 use native.Mathlib.Omega.{arith}
-use mathlib.Core.List.{[]}
 use lib.ListN.{getD}
 use Rattle.state.specs.State.{noState}
 use Rattle.queues.specs.Queue.{queue, rows}
 use Rattle.queues.specs.Marks.{marks}
 use Rattle.between.specs.Between.{live}
-use Rattle.between.specs.Numbers.{rowState, statesOf, runs-by, states-at}
+use Rattle.between.specs.Numbers.{statesOf}
 use Rattle.between.specs.Held.{lent}
 use Rattle.between.specs.HeldLaws.{term-slices, guard-slices, run-cut}
-use Rattle.between.specs.ReadyLaws.{fit-runs, in-figures, in-cursors}
-use mathlib.Core.Path.{_≡_, _∙_, refl, sym, ap}
+use Rattle.between.specs.ReadyLaws.{fit-runs}
+use mathlib.Core.Path.{_∙_}
 use borrow.Author.Needs.{needs}
 use Rattle.between.proofs.run_at.Statement.{statement}
 use Rattle.between.proofs.run_at.Tie as tie
@@ -78,20 +77,12 @@ part-run-row-end-4 c = omega (arith, c .before .before .before .end-by2 .ensures
 
 run-row-requires : tie.Need-run-row-requires
 run-row-requires c κs = let a = c .before .before .before .before .before .before .before .before .before .before .before .before .before .before .before .before .before .before .before .before .before .before .before .args in
-    let h = lent (a .conditions .now) (a .weights .now) (a .rows .now) (a .bounds .now) (a .names .now) in
-    let fs = a .figures .now in
-    let cs = a .cursors .now in
     let y = c .before .before .before .before .before .before .before .before .before .before .before .before .before .before .before .before .before .before .before .before .before .before .before .pre .0 .0 in
     let k = c .before .before .before .before .before .before .before .before .before .before .before .before .before .before .before .before .before .before .before .before .before .before .before .pre .0 .1 in
-    let w = c .before .before .before .before .before .before .before .before .before .before .before .before .before .before .before .before .before .before .before .before .before .before .before .pre .1 in
-    let m = marks (a .sure .now) (a .never .now) (queue (a .nodes .now) (a .ring)) in
-    let q = rows (queue (a .items .now) (a .residuals)) (a .pending .now) in
-    let f = in-figures h (2 ^ 61) fs cs m q w (a .row) k in
-    let g = in-cursors h (2 ^ 61) fs cs m q w (a .row) k in
-    let r = fit-runs h (2 ^ 61) (a .row) (getD (statesOf fs cs) (a .row) noState) (omega arith) y k (c .before .before .before .before .before .before .before .before .before .before .before .before .start-by2 .result) (c .before .before .before .before .before .before .before .before .before .before .before .end-by2 .result) (c .before .before .before .before .before .before .before .before .before .before .before .before .start-by2 .ensures .0) (c .before .before .before .before .before .before .before .before .before .before .before .end-by2 .ensures .0) (w .fit (a .row) k) in (
-      (f, g, term-slices h y (a .row) k (c .before .before .before .before .before .before .before .before .before .before .before .before .before .before .start-by .result) (c .before .before .before .before .before .before .before .before .before .before .before .before .before .end-by .result) (c .before .before .before .before .before .before .before .before .before .before .before .before .before .before .start-by .ensures .0) (c .before .before .before .before .before .before .before .before .before .before .before .before .before .end-by .ensures .0), guard-slices h y (a .row) k (c .before .before .before .before .before .before .before .before .before .before .before .before .start-by2 .result) (c .before .before .before .before .before .before .before .before .before .before .before .end-by2 .result) (c .before .before .before .before .before .before .before .before .before .before .before .before .start-by2 .ensures .0) (c .before .before .before .before .before .before .before .before .before .before .before .end-by2 .ensures .0)),
+    let w = c .before .before .before .before .before .before .before .before .before .before .before .before .before .before .before .before .before .before .before .before .before .before .before .pre .1 in (
+      (omega (arith, k, w .long), term-slices (lent (c .before .before .before .before .before .before .before .before .before .before .before .before .before .before .before .before .before .before .before .before .before .before .before .args .conditions .now) (c .before .before .before .before .before .before .before .before .before .before .before .before .before .before .before .before .before .before .before .before .before .before .before .args .weights .now) (c .before .before .before .before .before .before .before .before .before .before .before .before .before .before .before .before .before .before .before .before .before .before .before .args .rows .now) (c .before .before .before .before .before .before .before .before .before .before .before .before .before .before .before .before .before .before .before .before .before .before .before .args .bounds .now) (c .before .before .before .before .before .before .before .before .before .before .before .before .before .before .before .before .before .before .before .before .before .before .before .args .names .now)) y (a .row) k (c .before .before .before .before .before .before .before .before .before .before .before .before .before .before .start-by .result) (c .before .before .before .before .before .before .before .before .before .before .before .before .before .end-by .result) (c .before .before .before .before .before .before .before .before .before .before .before .before .before .before .start-by .ensures .0) (c .before .before .before .before .before .before .before .before .before .before .before .before .before .end-by .ensures .0), guard-slices (lent (c .before .before .before .before .before .before .before .before .before .before .before .before .before .before .before .before .before .before .before .before .before .before .before .args .conditions .now) (c .before .before .before .before .before .before .before .before .before .before .before .before .before .before .before .before .before .before .before .before .before .before .before .args .weights .now) (c .before .before .before .before .before .before .before .before .before .before .before .before .before .before .before .before .before .before .before .before .before .before .before .args .rows .now) (c .before .before .before .before .before .before .before .before .before .before .before .before .before .before .before .before .before .before .before .before .before .before .before .args .bounds .now) (c .before .before .before .before .before .before .before .before .before .before .before .before .before .before .before .before .before .before .before .before .before .before .before .args .names .now)) y (a .row) k (c .before .before .before .before .before .before .before .before .before .before .before .before .start-by2 .result) (c .before .before .before .before .before .before .before .before .before .before .before .end-by2 .result) (c .before .before .before .before .before .before .before .before .before .before .before .before .start-by2 .ensures .0) (c .before .before .before .before .before .before .before .before .before .before .before .end-by2 .ensures .0)),
       (
-        (runs-by (rowState (getD fs (a .row) []) (getD cs (a .row) [])) (getD (statesOf fs cs) (a .row) noState) _ (sym (states-at fs cs (a .row) f g)) r, w .waits),
+        (fit-runs (lent (c .before .before .before .before .before .before .before .before .before .before .before .before .before .before .before .before .before .before .before .before .before .before .before .args .conditions .now) (c .before .before .before .before .before .before .before .before .before .before .before .before .before .before .before .before .before .before .before .before .before .before .before .args .weights .now) (c .before .before .before .before .before .before .before .before .before .before .before .before .before .before .before .before .before .before .before .before .before .before .before .args .rows .now) (c .before .before .before .before .before .before .before .before .before .before .before .before .before .before .before .before .before .before .before .before .before .before .before .args .bounds .now) (c .before .before .before .before .before .before .before .before .before .before .before .before .before .before .before .before .before .before .before .before .before .before .before .args .names .now)) (2 ^ 61) (a .row) (getD (statesOf (c .before .before .before .before .before .before .before .before .before .before .before .before .before .before .before .before .before .before .before .before .before .before .before .args .figures .now) (c .before .before .before .before .before .before .before .before .before .before .before .before .before .before .before .before .before .before .before .before .before .before .before .args .cursors .now)) (a .row) noState) (omega arith) y k (c .before .before .before .before .before .before .before .before .before .before .before .before .start-by2 .result) (c .before .before .before .before .before .before .before .before .before .before .before .end-by2 .result) (c .before .before .before .before .before .before .before .before .before .before .before .before .start-by2 .ensures .0) (c .before .before .before .before .before .before .before .before .before .before .before .end-by2 .ensures .0) (w .fit (a .row) k), w .waits),
         (w .flags .held, omega (arith, y .few, k), omega (arith, y .few, k, w .flags .long)),
       ),
     )
@@ -118,15 +109,11 @@ same-length-7 : tie.Need-same-length-7
 same-length-7 c = c .before .before .before .before .before .before .before .before .before .before .before .before .run-row .kept .1 .1 .1 .1 .1 .1 .1 .1 .1 .1 .1 .1 .0
 
 returns : tie.Need-returns
-returns c = let a = c .before .before .before .before .before .before .before .before .before .before .before .before .before .before .before .before .before .before .before .before .before .before .before .before .before .before .before .before .before .before .before .before .before .before .before .before .args in
-    let h = lent (a .conditions .now) (a .weights .now) (a .rows .now) (a .bounds .now) (a .names .now) in
-    let m = marks (a .sure .now) (a .never .now) (queue (a .nodes .now) (a .ring)) in
-    let q = rows (queue (a .items .now) (a .residuals)) (a .pending .now) in (
-      λ d. c .before .before .before .before .before .before .before .before .before .before .before .before .run-row .ensures .0 d
-          ∙ run-cut h (a .row) (c .before .before .before .before .before .before .before .before .before .before .before .before .before .before .before .before .before .before .before .before .before .before .before .before .before .before .before .start-by .result) (c .before .before .before .before .before .before .before .before .before .before .before .before .before .before .before .before .before .before .before .before .before .before .before .before .before .before .end-by .result) (c .before .before .before .before .before .before .before .before .before .before .before .before .before .before .before .before .before .before .before .before .before .before .before .before .before .start-by2 .result) (c .before .before .before .before .before .before .before .before .before .before .before .before .before .before .before .before .before .before .before .before .before .before .before .before .end-by2 .result) (c .before .before .before .before .before .before .before .before .before .before .before .before .before .before .before .before .before .before .before .before .before .before .before .before .before .before .before .start-by .ensures .0) (c .before .before .before .before .before .before .before .before .before .before .before .before .before .before .before .before .before .before .before .before .before .before .before .before .before .before .end-by .ensures .0) (c .before .before .before .before .before .before .before .before .before .before .before .before .before .before .before .before .before .before .before .before .before .before .before .before .before .start-by2 .ensures .0) (c .before .before .before .before .before .before .before .before .before .before .before .before .before .before .before .before .before .before .before .before .before .before .before .before .end-by2 .ensures .0)
-          (live (statesOf (a .figures .now) (a .cursors .now)) m d q),
-      c .before .before .before .before .before .before .before .before .before .before .before .before .run-row .ensures .1,
-    )
+returns c = (
+  λ d. c .before .before .before .before .before .before .before .before .before .before .before .before .run-row .ensures .0 d
+      ∙ run-cut (lent (c .before .before .before .before .before .before .before .before .before .before .before .before .before .before .before .before .before .before .before .before .before .before .before .before .before .before .before .before .before .before .before .before .before .before .before .before .args .conditions .now) (c .before .before .before .before .before .before .before .before .before .before .before .before .before .before .before .before .before .before .before .before .before .before .before .before .before .before .before .before .before .before .before .before .before .before .before .before .args .weights .now) (c .before .before .before .before .before .before .before .before .before .before .before .before .before .before .before .before .before .before .before .before .before .before .before .before .before .before .before .before .before .before .before .before .before .before .before .before .args .rows .now) (c .before .before .before .before .before .before .before .before .before .before .before .before .before .before .before .before .before .before .before .before .before .before .before .before .before .before .before .before .before .before .before .before .before .before .before .before .args .bounds .now) (c .before .before .before .before .before .before .before .before .before .before .before .before .before .before .before .before .before .before .before .before .before .before .before .before .before .before .before .before .before .before .before .before .before .before .before .before .args .names .now)) (c .before .before .before .before .before .before .before .before .before .before .before .before .before .before .before .before .before .before .before .before .before .before .before .before .before .before .before .before .before .before .before .before .before .before .before .before .args .row) (c .before .before .before .before .before .before .before .before .before .before .before .before .before .before .before .before .before .before .before .before .before .before .before .before .before .before .before .start-by .result) (c .before .before .before .before .before .before .before .before .before .before .before .before .before .before .before .before .before .before .before .before .before .before .before .before .before .before .end-by .result) (c .before .before .before .before .before .before .before .before .before .before .before .before .before .before .before .before .before .before .before .before .before .before .before .before .before .start-by2 .result) (c .before .before .before .before .before .before .before .before .before .before .before .before .before .before .before .before .before .before .before .before .before .before .before .before .end-by2 .result) (c .before .before .before .before .before .before .before .before .before .before .before .before .before .before .before .before .before .before .before .before .before .before .before .before .before .before .before .start-by .ensures .0) (c .before .before .before .before .before .before .before .before .before .before .before .before .before .before .before .before .before .before .before .before .before .before .before .before .before .before .end-by .ensures .0) (c .before .before .before .before .before .before .before .before .before .before .before .before .before .before .before .before .before .before .before .before .before .before .before .before .before .start-by2 .ensures .0) (c .before .before .before .before .before .before .before .before .before .before .before .before .before .before .before .before .before .before .before .before .before .before .before .before .end-by2 .ensures .0) (live (statesOf (c .before .before .before .before .before .before .before .before .before .before .before .before .before .before .before .before .before .before .before .before .before .before .before .before .before .before .before .before .before .before .before .before .before .before .before .before .args .figures .now) (c .before .before .before .before .before .before .before .before .before .before .before .before .before .before .before .before .before .before .before .before .before .before .before .before .before .before .before .before .before .before .before .before .before .before .before .before .args .cursors .now)) (marks (c .before .before .before .before .before .before .before .before .before .before .before .before .before .before .before .before .before .before .before .before .before .before .before .before .before .before .before .before .before .before .before .before .before .before .before .before .args .sure .now) (c .before .before .before .before .before .before .before .before .before .before .before .before .before .before .before .before .before .before .before .before .before .before .before .before .before .before .before .before .before .before .before .before .before .before .before .before .args .never .now) (queue (c .before .before .before .before .before .before .before .before .before .before .before .before .before .before .before .before .before .before .before .before .before .before .before .before .before .before .before .before .before .before .before .before .before .before .before .before .args .nodes .now) (c .before .before .before .before .before .before .before .before .before .before .before .before .before .before .before .before .before .before .before .before .before .before .before .before .before .before .before .before .before .before .before .before .before .before .before .before .args .ring))) d (rows (queue (c .before .before .before .before .before .before .before .before .before .before .before .before .before .before .before .before .before .before .before .before .before .before .before .before .before .before .before .before .before .before .before .before .before .before .before .before .args .items .now) (c .before .before .before .before .before .before .before .before .before .before .before .before .before .before .before .before .before .before .before .before .before .before .before .before .before .before .before .before .before .before .before .before .before .before .before .before .args .residuals)) (c .before .before .before .before .before .before .before .before .before .before .before .before .before .before .before .before .before .before .before .before .before .before .before .before .before .before .before .before .before .before .before .before .before .before .before .before .args .pending .now))),
+  c .before .before .before .before .before .before .before .before .before .before .before .before .run-row .ensures .1,
+)
 
 pub run-at-spec : {M : Type 1} → statement M
 run-at-spec =

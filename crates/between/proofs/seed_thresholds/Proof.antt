@@ -1,5 +1,5 @@
 -- `between::seed_thresholds` meets its contract: seeding the rows from here on is seeding all.
-use Prim.Native.Nat.{_+_, _-_, _^_}
+use Prim.Native.Nat.{_-_}
 use native.Mathlib.Omega.{arith}
 use lib.ListN.{length}
 use Rattle.queues.specs.Queue.{queue, rows}
@@ -7,7 +7,7 @@ use Rattle.queues.specs.Marks.{marks}
 use Rattle.between.specs.Numbers.{statesOf, Tidy, Same}
 use Rattle.between.specs.Held.{lent}
 use Rattle.between.specs.Seeding.{Seeding, seeding-first, seeding-next, seeding-stop, seeding-end}
-use mathlib.Core.Path.{_≡_, _∙_, refl, sym, ap}
+use mathlib.Core.Path.{_∙_, refl, sym}
 use borrow.Author.Needs.{needs}
 use Rattle.between.proofs.seed_thresholds.Statement.{statement}
 use Rattle.between.proofs.seed_thresholds.Tie as tie

@@ -1,8 +1,7 @@
 -- `between::start_by` meets its contract.
-use Prim.Native.Nat.{_+_, _-_, _^_}
 use native.Mathlib.Omega.{arith}
 use Rattle.between.specs.HeldLaws.{start-zero, start-before}
-use mathlib.Core.Path.{_≡_, _∙_, refl, sym, ap}
+use mathlib.Core.Path.{_∙_}
 use borrow.Author.Needs.{needs}
 use Rattle.between.proofs.start_by.Statement.{statement}
 use Rattle.between.proofs.start_by.Tie as tie

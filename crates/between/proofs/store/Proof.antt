@@ -2,7 +2,9 @@
 use mathlib.Core.Path.{_≡_}
 use mir.Syntax.{w64}
 use mir.Val.{toZ, ofZ}
+use native.Mathlib.Omega.{arith}
 use borrow.Author.Needs.{needs}
+use Rattle.between.specs.Numbers.{states-figures, states-cursors}
 use Rattle.between.proofs.store.Statement.{statement}
 use Rattle.between.proofs.store.Tie as tie
 
@@ -13,16 +15,16 @@ flag-of-requires : tie.Need-flag-of-requires
 flag-of-requires c κs = search needs
 
 mul-f : tie.Need-mul-f
-mul-f c = search needs
+mul-f c = search (needs, states-figures (c .before .before .before .before .before .args .figures .now) (c .before .before .before .before .before .args .cursors .now))
 
 slice-set-from-f : tie.Need-slice-set-from-f
-slice-set-from-f c = search needs
+slice-set-from-f c = omega (arith, c .before .before .before .before .before .pre, states-figures (c .before .before .before .before .before .args .figures .now) (c .before .before .before .before .before .args .cursors .now))
 
 mul-c : tie.Need-mul-c
-mul-c c = search needs
+mul-c c = search (needs, states-cursors (c .before .before .before .before .before .args .figures .now) (c .before .before .before .before .before .args .cursors .now))
 
 slice-set-from-c : tie.Need-slice-set-from-c
-slice-set-from-c c = search needs
+slice-set-from-c c = omega (arith, c .before .before .before .before .before .pre, states-cursors (c .before .before .before .before .before .args .figures .now) (c .before .before .before .before .before .args .cursors .now))
 
 same-length : tie.Need-same-length
 same-length c = search needs

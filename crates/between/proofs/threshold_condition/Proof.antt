@@ -1,15 +1,13 @@
 -- `between::threshold_condition` meets its contract: what was done so far, joined with the edges that are left, is the whole.
-use Prim.Native.Nat.{_+_, _-_, _^_}
+use Prim.Native.Nat.{_-_}
 use native.Mathlib.Omega.{arith}
-use mathlib.Core.List.{[]}
-use lib.ListN.{getD}
 use Rattle.queues.specs.Queue.{queue, rows}
 use Rattle.queues.specs.Marks.{marks}
 use Rattle.between.specs.Between.{live}
 use Rattle.between.specs.Numbers.{statesOf, Tidy, Same}
 use Rattle.between.specs.Held.{lent}
 use Rattle.between.specs.Draining.{Draining, draining-first, draining-ready, draining-next, draining-stop, draining-end, condition-held, edges-end, edges-few, edge-inside, edge-light}
-use mathlib.Core.Path.{_≡_, _∙_, refl, sym, ap}
+use mathlib.Core.Path.{_∙_, refl, sym}
 use borrow.Author.Needs.{needs}
 use Rattle.between.proofs.threshold_condition.Statement.{statement}
 use Rattle.between.proofs.threshold_condition.Tie as tie
