@@ -17,7 +17,7 @@ use queues::Ring;
 use state::Step;
 
 // An entry of a queue.
-fn entry(items: &[u16], at: usize) -> usize
+pub fn entry(items: &[u16], at: usize) -> usize
     requires { ⌜ at < length (now items) ⌝ }
     ensures { λ r. ⌜ r ≡ getD (now (items .entry)) at 0 ⌝ }
 {
