@@ -155,6 +155,7 @@ module _ (x : Index) (ix : Indexed x) where
 
   -- ---- sifting
 
+  -- A row is tried.
   pub fall-try : (v : Live) (gcds : List ℕ) (visits : ℕ) → Sound v → isEmpty (v .residuals .queue) ≡ false → Falls v (tryRow x v gcds visits .live)
   unfolding tryRow nextRow popped
   fall-try v gcds visits s e = by (isUnchanged (a .step))

@@ -1,0 +1,4 @@
+pub mod Serves
+pub mod Keeping
+pub mod TurnLaws
+pub mod Settling

@@ -1,0 +1,68 @@
+-- What shared buffers and a live state must be like so that what waits can be drained.
+use Prim.Native.Nat.{ℕ, zero, suc, _+_, _-_, _*_, _<_, _≤_, _^_}
+use mathlib.Core.Path.{_≡_}
+use mathlib.Core.Bool.{Bool, cond}
+use mathlib.Core.List.{List}
+use lib.ListN.{length, getD}
+use lib.IntN.{ℤ}
+use Rattle.queues.specs.Queue.{Rows}
+use Rattle.thresholds.specs.Rows.{noRow}
+use Rattle.between.specs.Between.{Index, Live}
+use Rattle.between.specs.Held.{Lent, startBy, endBy, Shaped, EdgesShaped, LinksShaped, GuardsShaped, Holds, HoldsEdges, HoldsLinks, HoldsGuards}
+use Rattle.between.specs.KeptLaws.{Runnable}
+use Rattle.ends.specs.Turns.{Indexed, Sound}
+use Rattle.follows.specs.RowComplete.{Ordered}
+use Rattle.follows.specs.Waiting.{Queued}
+
+-- The buffers that the seal filled: rows; for each node its threshold, its row and where its edges end; bounds; edges; neighbours.
+pub record Shared : Type 0 where
+  pub rows : Lent
+  pub nodes : List (List ℕ)
+  pub limits : List ℤ
+  pub edges : List (List ℕ)
+  pub links : List ℕ
+
+abbrev pub shared : Lent → List (List ℕ) → List ℤ → List (List ℕ) → List ℕ → Shared
+shared h n l e k = record { rows = h; nodes = n; limits = l; edges = e; links = k }
+
+-- They hold the index, whose rows are such as a job gives.
+pub record Serves (x : Index) (b : Shared) : Type 0 where
+  pub shaped : Shaped (b .rows)
+  pub long : 4096 ≤ length (b .nodes)
+  pub edged : EdgesShaped (b .rows) (b .nodes) (b .edges)
+  pub guarded : GuardsShaped (b .rows) (b .nodes) (b .limits)
+  pub linked : LinksShaped (b .rows) (b .links)
+  pub holds : Holds x (b .rows)
+  pub holds-edges : HoldsEdges x (b .nodes) (b .edges)
+  pub holds-guards : HoldsGuards x (b .nodes) (b .limits)
+  pub holds-links : HoldsLinks x (b .rows) (b .links)
+  pub indexed : Indexed x
+  pub ordered : (r : ℕ) → r < length (x .rows) → Ordered (getD (x .rows) r noRow)
+
+-- Only the first n rows wait.
+abbrev pub Among : ℕ → Rows → Type 0
+Among n q = (r : ℕ) → n ≤ r → getD (q .pending) r 0 ≡ 0
+
+-- How many edges the first n nodes have that were not taken yet.
+unfoldable pub owed : List (List ℕ) → (ℕ → Bool) → ℕ → ℕ
+owed nodes taken zero = 0
+owed nodes taken (suc n) = cond (taken n) 0 (endBy 2 nodes n - startBy 2 nodes n) + owed nodes taken n
+
+-- Nodes wait until they are taken, and only rows wait.
+pub record Tracked (n : ℕ) (taken : ℕ → Bool) (v : Live) : Type 0 where
+  pub queued : Queued taken (v .marks)
+  pub dirty : Among n (v .dirty)
+  pub residuals : Among n (v .residuals)
+
+-- Every row can be run, and its figures have room for the weights of all edges that are still to be drained: each moves a figure by
+-- less than 2 ^ 45.
+pub record Within (b : Shared) (v : Live) : Type 0 where
+  pub taken : ℕ → Bool
+  pub tracked : Tracked (length (b .rows .rows)) taken v
+  pub range : ℕ
+  pub runnable : Runnable (b .rows) range v
+  pub room : range + owed (b .nodes) taken 4096 * 35184372088832 ≤ 2 ^ 60
+
+pub record Going (b : Shared) (v : Live) : Type 0 where
+  pub sound : Sound v
+  pub within : Within b v

@@ -1,0 +1,255 @@
+-- The loop of `sift`: what holds between two rounds. Rounds never run out, since each leaves less to do than there are rounds left.
+-- Assumes nothing.
+use Prim.Native.Nat.{ℕ, zero, suc, _+_, _<_, _≤_, _^_}
+use native.Mathlib.Nat.{not-suc-le-zero}
+use native.Mathlib.Omega.{arith}
+use mathlib.Core.Path.{_≡_, refl, sym, ap, subst, _∙_}
+use mathlib.Core.Bool.{Bool, true, false, cond}
+use mathlib.Core.List.{List}
+use lib.ListN.{length}
+use lib.IntN.{ℤ}
+use Rattle.state.specs.declared.Step.{Step}
+use Rattle.state.specs.declared.Step.the-variants.{Unchanged, Changed, Contradiction}
+use Rattle.state.specs.Step.{joined, contradicts}
+use Rattle.queues.specs.Queue.{isEmpty}
+use Rattle.between.specs.Between.{Index, Live, Did, did}
+use Rattle.between.specs.LoopLaws.{joined-assoc}
+use Rattle.between.specs.KeptLaws.{runnable-more}
+use Rattle.regions.specs.Drain.{turn, atRest, drain, turns, settle}
+use Rattle.regions.specs.Sift.{Sifted, sifted, tryRow, siftFrom, sift}
+use Rattle.ends.specs.Turns.{left, left-most}
+use Rattle.ends.specs.Settles.{settle-stays, fall-try}
+use Rattle.follows.specs.Answers.{clash}
+use Rattle.settle.specs.Serves.{Shared, Serves, Going}
+use Rattle.settle.specs.TurnLaws.{going-turn}
+use Rattle.sift.specs.Tries.{Scratch, Short, Tries, Round, round, once}
+use Rattle.sift.specs.TryLaws.{going-try}
+
+-- ---- answers
+
+joined-later : (a b : Step) → contradicts a ≡ false → contradicts (joined a b) ≡ contradicts b
+joined-later Unchanged b e = refl
+joined-later Changed Unchanged e = refl
+joined-later Changed Changed e = refl
+joined-later Changed Contradiction e = refl
+joined-later Contradiction b e = absurd (clash true refl e)
+
+joined-last : (a b : Step) → contradicts a ≡ false → contradicts b ≡ true → joined a b ≡ b
+joined-last Unchanged b e f = refl
+joined-last Changed Unchanged e f = absurd (clash false f refl)
+joined-last Changed Changed e f = absurd (clash false f refl)
+joined-last Changed Contradiction e f = refl
+joined-last Contradiction b e f = absurd (clash true refl e)
+
+-- ---- a round
+
+-- What follows a round.
+abbrev pub goesOn : Step → Round → (Live → List ℕ → Step → ℕ → Sifted) → Sifted
+goesOn k o next =
+    let s = o .sifted in
+    cond (contradicts (s .step)) s (cond (o .more) (next (s .live) (s .gcds) (joined k (s .step)) (s .visits)) (sifted (s .live) (s .gcds) (joined k (s .step)) (s .visits)))
+
+module _ (d : Did) (t : Sifted) (gcds : List ℕ) (visits : ℕ) where
+  abbrev picks : Bool → Bool → Round
+  picks settled none = elim settled [
+    | true ↦ round (sifted (d .live) gcds Contradiction visits) false
+    | false ↦ elim none [
+      | true ↦ round (sifted (d .live) gcds (d .step) visits) false
+      | false ↦ round (sifted (t .live) (t .gcds) (joined (d .step) (t .step)) (t .visits)) true
+    ]
+  ]
+
+  abbrev tries : (Live → List ℕ → Step → ℕ → Sifted) → Step → Bool → Bool → Bool → Sifted
+  tries next k settled none failed = elim settled [
+    | true ↦ sifted (d .live) gcds Contradiction visits
+    | false ↦ elim none [
+      | true ↦ sifted (d .live) gcds (joined k (d .step)) visits
+      | false ↦ elim failed [ true ↦ t | false ↦ next (t .live) (t .gcds) (joined (joined k (d .step)) (t .step)) (t .visits) ]
+    ]
+  ]
+
+  round-tries : (next : Live → List ℕ → Step → ℕ → Sifted) (k : Step) (a b c : Bool) → contradicts (d .step) ≡ a → contradicts (t .step) ≡ c
+      → goesOn k (picks a b) next ≡ tries next k a b c
+  round-tries next k true b c e f = refl
+  round-tries next k false true c e f =
+      ap (λ (i : Bool). cond i (sifted (d .live) gcds (d .step) visits) (sifted (d .live) gcds (joined k (d .step)) visits)) e
+  round-tries next k false false true e f =
+      ap (λ (i : Bool). cond i (sifted (t .live) (t .gcds) (joined (d .step) (t .step)) (t .visits)) (next (t .live) (t .gcds) (joined k (joined (d .step) (t .step))) (t .visits)))
+      (joined-later (d .step) (t .step) e ∙ f)
+      ∙ ap (λ (i : Step). sifted (t .live) (t .gcds) i (t .visits)) (joined-last (d .step) (t .step) e f)
+  round-tries next k false false false e f =
+      ap (λ (i : Bool). cond i (sifted (t .live) (t .gcds) (joined (d .step) (t .step)) (t .visits)) (next (t .live) (t .gcds) (joined k (joined (d .step) (t .step))) (t .visits)))
+      (joined-later (d .step) (t .step) e ∙ f)
+      ∙ ap (λ (i : Step). next (t .live) (t .gcds) i (t .visits)) (sym (joined-assoc k (d .step) (t .step)))
+
+pub sift-round : (x : Index) (n : ℕ) (v : Live) (gcds : List ℕ) (k : Step) (visits : ℕ) → goesOn k (once x v gcds visits) (siftFrom n x) ≡ siftFrom (suc n) x v gcds k visits
+unfolding once siftFrom
+sift-round x n v gcds k visits =
+    let d = settle x v in
+    let t = tryRow x (d .live) gcds visits in
+    round-tries d t gcds visits (siftFrom n x) k (contradicts (d .step)) (isEmpty (d .live .residuals .queue)) (contradicts (t .step)) refl refl
+
+-- The round as the code makes it: what was settled, and what was tried.
+module _ (x : Index) (v : Live) (gcds : List ℕ) (visits : ℕ) (d : Did) (made : d ≡ settle x v) where
+  once-is : (b c : Bool) → contradicts (d .step) ≡ b → isEmpty (d .live .residuals .queue) ≡ c → picks d (tryRow x (d .live) gcds visits) gcds visits b c ≡ once x v gcds visits
+  unfolding once
+  once-is b c e f =
+      ap (λ (i : Bool). picks d (tryRow x (d .live) gcds visits) gcds visits i c) (sym e)
+      ∙ ap (picks d (tryRow x (d .live) gcds visits) gcds visits (contradicts (d .step))) (sym f)
+      ∙ ap (λ (o : Did). picks o (tryRow x (o .live) gcds visits) gcds visits (contradicts (o .step)) (isEmpty (o .live .residuals .queue))) made
+
+  pub once-stop : contradicts (d .step) ≡ true → round (sifted (d .live) gcds (d .step) visits) false ≡ once x v gcds visits
+  once-stop e = ap (λ (k : Step). round (sifted (d .live) gcds k visits) false) (is (d .step) e) ∙ once-is true (isEmpty (d .live .residuals .queue)) e refl
+    where
+      is : (k : Step) → contradicts k ≡ true → k ≡ Contradiction
+      is Unchanged f = absurd (clash false f refl)
+      is Changed f = absurd (clash false f refl)
+      is Contradiction f = refl
+
+  pub once-none : contradicts (d .step) ≡ false → isEmpty (d .live .residuals .queue) ≡ true → round (sifted (d .live) gcds (d .step) visits) false ≡ once x v gcds visits
+  once-none e f = once-is false true e f
+
+  pub once-try : contradicts (d .step) ≡ false → isEmpty (d .live .residuals .queue) ≡ false → (t : Sifted) → t ≡ tryRow x (d .live) gcds visits → (k : Step) → k ≡ joined (d .step) (t .step)
+      → round (sifted (t .live) (t .gcds) k (t .visits)) true ≡ once x v gcds visits
+  once-try e f t g k j =
+      ap (λ (i : Step). round (sifted (t .live) (t .gcds) i (t .visits)) true) j
+      ∙ ap (λ (o : Sifted). round (sifted (o .live) (o .gcds) (joined (d .step) (o .step)) (o .visits)) true) g ∙ once-is false false e f
+
+-- ---- what can be drained stays such
+
+module _ (x : Index) (b : Shared) (s : Serves x b) where
+  abbrev drains : ℕ → Live → Step → Bool → Bool → Did
+  drains n v k rest contradiction = elim rest [ true ↦ did v k | false ↦ elim contradiction [ true ↦ turn x v | false ↦ drain n x (turn x v .live) (joined k (turn x v .step)) ] ]
+
+  going-drain : (n : ℕ) (v : Live) (k : Step) → Going b v → Going b (drain n x v k .live)
+  unfolding drain
+  going-drain zero v k g = g
+  going-drain (suc n) v k g = by (λ u j h. going-drain n u j h) (atRest v) refl (contradicts (turn x v .step))
+    where
+      by : ((u : Live) (j : Step) → Going b u → Going b (drain n x u j .live)) → (a : Bool) → atRest v ≡ a → (c : Bool) → Going b (drains n v k a c .live)
+      by more true e c = g
+      by more false e true = going-turn x b s v g e
+      by more false e false = more (turn x v .live) (joined k (turn x v .step)) (going-turn x b s v g e)
+
+  pub going-settle : (v : Live) → Going b v → Going b (settle x v .live)
+  going-settle v g = going-drain turns v Unchanged g
+
+  -- What was settled can be tried.
+  pub settled-tries : (v : Live) → Going b v → (d : Did) → d ≡ settle x v → 0 < d .live .residuals .queue .ring .count → (gcds words : List ℕ) → Short (b .rows .rows) → Scratch gcds words
+      → Tries (b .rows) (d .live .states) (d .live .marks) (d .live .residuals) gcds words
+  settled-tries v g d made some gcds words short scratch =
+      let w = subst (λ (o : Did). Going b (o .live)) (sym made) (going-settle v g) .within in
+      record {
+        shaped = s .shaped;
+        short = short;
+        ready = runnable-more (b .rows) (w .range) (2 ^ 61) (d .live) (omega (arith, w .room)) (w .runnable) .ready;
+        among = w .tracked .residuals;
+        some = some;
+        scratch = scratch;
+      }
+
+  -- A round keeps it, and leaves less to do where there is another.
+  pub going-once : (v : Live) (gcds : List ℕ) (visits : ℕ) → Going b v
+      → Going b (once x v gcds visits .sifted .live) × (left (once x v gcds visits .sifted .live) + cond (once x v gcds visits .more) 1 0 ≤ left v)
+  unfolding once
+  going-once v gcds visits g = by (contradicts (d .step)) (isEmpty (d .live .residuals .queue)) refl
+    where
+      d : Did
+      d = settle x v
+
+      t : Sifted
+      t = tryRow x (d .live) gcds visits
+
+      by : (a c : Bool) → isEmpty (d .live .residuals .queue) ≡ c → Going b (picks d t gcds visits a c .sifted .live) × (left (picks d t gcds visits a c .sifted .live) + cond (picks d t gcds visits a c .more) 1 0 ≤ left v)
+      by true c e = (going-settle v g, omega (arith, settle-stays x (s .indexed) v (g .sound) .1))
+      by false true e = (going-settle v g, omega (arith, settle-stays x (s .indexed) v (g .sound) .1))
+      by false false e = (
+        going-try x b s (d .live) (going-settle v g) gcds visits e,
+        omega (arith, settle-stays x (s .indexed) v (g .sound) .1, fall-try x (s .indexed) (d .live) gcds visits (settle-stays x (s .indexed) v (g .sound) .0) e .1),
+      )
+
+-- ---- the loop
+
+-- So many rounds from here are all rounds from the start, and more than can be taken; or all is done.
+abbrev Rest : Index → Live → List ℕ → Step → ℕ → Bool → Live → List ℕ → Type 0
+Rest x v₀ gcds₀ k visits true v gcds = (n : ℕ) × (left v < n) × (siftFrom n x v gcds k visits ≡ sift x v₀ gcds₀)
+Rest x v₀ gcds₀ k visits false v gcds = sifted v gcds k visits ≡ sift x v₀ gcds₀
+
+pub record Sifting (b : Shared) (v₀ : Live) (gcds₀ : List ℕ) (k : Step) (visits : ℕ) (more : Bool) (v : Live) (gcds : List ℕ) : Type 0 where
+  pub going : Going b v
+  pub whole : (x : Index) → Serves x b → Rest x v₀ gcds₀ k visits more v gcds
+
+pub sifting-first : (b : Shared) (v₀ : Live) (gcds₀ : List ℕ) → Going b v₀ → Sifting b v₀ gcds₀ Unchanged 0 true v₀ gcds₀
+sifting-first b v₀ gcds₀ g = record { going = g; whole = λ x s. (turns, left-most v₀ (g .sound), refl) }
+
+module _ (b : Shared) (v₀ : Live) (gcds₀ : List ℕ) (k : Step) (visits : ℕ) (more : Bool) (v : Live) (gcds : List ℕ) (l : Sifting b v₀ gcds₀ k visits more v gcds) where
+  pub sifting-end : more ≡ false → (x : Index) → Serves x b → sifted v gcds k visits ≡ sift x v₀ gcds₀
+  sifting-end e x s = subst (λ (i : Bool). Rest x v₀ gcds₀ k visits i v gcds) e (l .whole x s)
+
+  -- A round was made.
+  module _ (again : more ≡ true) (o : Round) (made : (x : Index) → Serves x b → o ≡ once x v gcds visits) where
+    there : (x : Index) → Serves x b → Rest x v₀ gcds₀ k visits true v gcds
+    there x s = subst (λ (i : Bool). Rest x v₀ gcds₀ k visits i v gcds) again (l .whole x s)
+
+    turned : (x : Index) → Serves x b → (n : ℕ) → siftFrom (suc n) x v gcds k visits ≡ sift x v₀ gcds₀ → goesOn k o (siftFrom n x) ≡ sift x v₀ gcds₀
+    turned x s n q = ap (λ (i : Round). goesOn k i (siftFrom n x)) (made x s) ∙ sift-round x n v gcds k visits ∙ q
+
+    pub sifting-stop : contradicts (o .sifted .step) ≡ true → (x : Index) → Serves x b → o .sifted ≡ sift x v₀ gcds₀
+    sifting-stop c x s = let a = there x s in by (a .0) (a .1) (a .2)
+      where
+        by : (n : ℕ) → left v < n → siftFrom n x v gcds k visits ≡ sift x v₀ gcds₀ → o .sifted ≡ sift x v₀ gcds₀
+        by zero h q = absurd (not-suc-le-zero h)
+        by (suc n) h q =
+            let u = o .sifted in
+            ap (λ (i : Bool). cond i u (cond (o .more) (siftFrom n x (u .live) (u .gcds) (joined k (u .step)) (u .visits)) (sifted (u .live) (u .gcds) (joined k (u .step)) (u .visits)))) (sym c)
+            ∙ turned x s n q
+
+    less : (x : Index) → Serves x b → left (o .sifted .live) + cond (o .more) 1 0 ≤ left v
+    less x s = subst (λ (i : Round). left (i .sifted .live) + cond (i .more) 1 0 ≤ left v) (sym (made x s)) (going-once x b s v gcds visits (l .going) .1)
+
+    pub sifting-less : (x : Index) → Serves x b → left (o .sifted .live) + cond (o .more) 1 0 < left v + cond more 1 0
+    sifting-less x s = let e : _≡_ {A = ℕ} (cond more 1 0) 1 = ap (λ (i : Bool). cond i 1 0) again in omega (arith, less x s)
+
+    rest-next : (x : Index) → Serves x b → (n : ℕ) → left v < suc n → goesOn k o (siftFrom n x) ≡ sift x v₀ gcds₀ → contradicts (o .sifted .step) ≡ false → (j : Step) → j ≡ joined k (o .sifted .step)
+        → (m : Bool) → o .more ≡ m → Rest x v₀ gcds₀ j (o .sifted .visits) m (o .sifted .live) (o .sifted .gcds)
+    rest-next x s n h q c j i true e =
+        let u = o .sifted in (
+          n,
+          (let f : _≡_ {A = ℕ} (cond (o .more) 1 0) 1 = ap (λ (z : Bool). cond z 1 0) e in omega (arith, less x s)),
+          ap (λ (z : Step). siftFrom n x (u .live) (u .gcds) z (u .visits)) i
+              ∙ ap (λ (z : Bool). cond z (siftFrom n x (u .live) (u .gcds) (joined k (u .step)) (u .visits)) (sifted (u .live) (u .gcds) (joined k (u .step)) (u .visits))) (sym e)
+              ∙ ap (λ (z : Bool). cond z u (cond (o .more) (siftFrom n x (u .live) (u .gcds) (joined k (u .step)) (u .visits)) (sifted (u .live) (u .gcds) (joined k (u .step)) (u .visits)))) (sym c) ∙ q,
+        )
+    rest-next x s n h q c j i false e =
+        let u = o .sifted in
+        ap (λ (z : Step). sifted (u .live) (u .gcds) z (u .visits)) i
+        ∙ ap (λ (z : Bool). cond z (siftFrom n x (u .live) (u .gcds) (joined k (u .step)) (u .visits)) (sifted (u .live) (u .gcds) (joined k (u .step)) (u .visits))) (sym e)
+        ∙ ap (λ (z : Bool). cond z u (cond (o .more) (siftFrom n x (u .live) (u .gcds) (joined k (u .step)) (u .visits)) (sifted (u .live) (u .gcds) (joined k (u .step)) (u .visits)))) (sym c) ∙ q
+
+    pub sifting-next : (x : Index) → Serves x b → contradicts (o .sifted .step) ≡ false → (j : Step) → j ≡ joined k (o .sifted .step)
+        → Sifting b v₀ gcds₀ j (o .sifted .visits) (o .more) (o .sifted .live) (o .sifted .gcds)
+    sifting-next z t c j i = record {
+      going = subst (λ (r : Round). Going b (r .sifted .live)) (sym (made z t)) (going-once z b t v gcds visits (l .going) .0);
+      whole = λ x s. let a = there x s in by x s (a .0) (a .1) (a .2);
+    }
+      where
+        by : (x : Index) → Serves x b → (n : ℕ) → left v < n → siftFrom n x v gcds k visits ≡ sift x v₀ gcds₀ → Rest x v₀ gcds₀ j (o .sifted .visits) (o .more) (o .sifted .live) (o .sifted .gcds)
+        by x s zero h q = absurd (not-suc-le-zero h)
+        by x s (suc n) h q = rest-next x s n h (turned x s n q) c j i (o .more) refl
+
+-- The buffers of a sifting are as long as they were.
+pub record Lengths (fs₀ fs : List (List ℤ)) (cs₀ cs : List (List ℕ)) (s₀ s n₀ n l₀ l i₀ i p₀ p w₀ w f₀ f g₀ g u₀ u : List ℕ) : Type 0 where
+  pub figures : length fs ≡ length fs₀
+  pub cursors : length cs ≡ length cs₀
+  pub sure : length s ≡ length s₀
+  pub never : length n ≡ length n₀
+  pub nodes : length l ≡ length l₀
+  pub items : length i ≡ length i₀
+  pub pending : length p ≡ length p₀
+  pub waiting : length w ≡ length w₀
+  pub flags : length f ≡ length f₀
+  pub gcds : length g ≡ length g₀
+  pub words : length u ≡ length u₀
+
+pub scratch-next : (g h u w : List ℕ) → length h ≡ length g → w ≡ u → Scratch g u → Scratch h w
+scratch-next g h u w e f s = subst (Scratch h) (sym f) (record { room = omega (arith, s .room); long = s .long; zero = s .zero })

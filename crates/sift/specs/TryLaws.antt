@@ -1,0 +1,161 @@
+-- A row that is tried: what the code puts together is the definition's, and what can be drained stays such. Assumes nothing.
+use Prim.Native.Nat.{ℕ, _+_, _-_, _<_, _≤_, _^_}
+use native.Mathlib.Omega.{arith}
+use mathlib.Core.Path.{_≡_, refl, sym, ap, subst, _∙_}
+use mathlib.Core.Bool.{Bool, true, false}
+use mathlib.Core.List.{List}
+use lib.ListN.{length, getD}
+use borrow.Author.Tests.{eqb-false}
+use Rattle.numeric.specs.Threshold.{Term, terms}
+use Rattle.numeric.specs.Slices.{Below}
+use Rattle.state.specs.declared.State.{State}
+use Rattle.state.specs.declared.Step.{Step}
+use Rattle.state.specs.declared.Step.the-variants.{Unchanged, Changed, Contradiction}
+use Rattle.state.specs.Step.{stepNumber, isUnchanged}
+use Rattle.state.specs.State.{noState, Figures}
+use Rattle.queues.specs.Queue.{Rows, isEmpty, oldest, nextRow}
+use Rattle.queues.specs.RowsLaws.{flags-next}
+use Rattle.queues.specs.Marks.{Marks, isDecided}
+use Rattle.thresholds.specs.Rows.{noRow}
+use Rattle.thresholds.specs.Raw.{stretch}
+use Rattle.thresholds.specs.RawLaws.{stretch-length}
+use Rattle.residual.specs.Residual.{Residual, thresholdResidual}
+use Rattle.possible_sums.specs.declared.Search.{Search}
+use Rattle.possible_sums.specs.Search.{search, searchStep, searchVisits}
+use Rattle.between.specs.Between.{Index, Live, live, stateAt}
+use Rattle.between.specs.Held.{Lent, startBy, endBy, heldTerms}
+use Rattle.between.specs.KeptLaws.{Runnable}
+use Rattle.regions.specs.Sift.{Sifted, sifted, tryRow}
+use Rattle.ends.specs.Keeps.{keeps-residual}
+use Rattle.ends.specs.Settles.{fall-try}
+use Rattle.follows.specs.Waiting.{Queued, queued-decide}
+use Rattle.settle.specs.Serves.{Shared, Serves, Among, Tracked, Within, Going}
+use Rattle.settle.specs.Keeping.{among-next, oldest-among}
+use Rattle.sift.specs.Tries.{Tries, tried}
+
+-- ---- by the terms of a row
+
+unchanged-yes : (k : Step) → stepNumber k ≡ 0 → isUnchanged k ≡ true
+unchanged-yes Unchanged e = refl
+unchanged-yes Changed e = absurd (omega arith)
+unchanged-yes Contradiction e = absurd (omega arith)
+
+unchanged-no : (k : Step) → (stepNumber k ≡ 0 → ⊥) → isUnchanged k ≡ false
+unchanged-no Unchanged h = absurd (h refl)
+unchanged-no Changed h = refl
+unchanged-no Contradiction h = refl
+
+module _ (ts : List Term) (s : State) (m : Marks) (gcds : List ℕ) (visits : ℕ) (ss : List State) (d q : Rows) (a : Residual) (made : a ≡ thresholdResidual ts s m gcds) (n : ℕ) (is : n ≡ stepNumber (a .step)) where
+  abbrev goes : Residual → Bool → Sifted
+  goes r b = elim b [
+    | true ↦ sifted (live ss (r .marks) d q) (r .gcds) (searchStep (search ts s (isDecided (r .marks)))) (searchVisits visits (search ts s (isDecided (r .marks))))
+    | false ↦ sifted (live ss (r .marks) d q) (r .gcds) (r .step) visits
+  ]
+
+  goes-is : (b : Bool) → isUnchanged (a .step) ≡ b → goes a b ≡ tried ts s m gcds visits ss d q
+  goes-is b e = ap (goes a) (sym e) ∙ ap (λ (r : Residual). goes r (isUnchanged (r .step))) made
+
+  pub tried-search : n ≡ 0 → (b : Search) → b ≡ search ts s (isDecided (a .marks)) → (k : Step) → k ≡ searchStep b → (i : ℕ) → i ≡ searchVisits visits b
+      → sifted (live ss (a .marks) d q) (a .gcds) k i ≡ tried ts s m gcds visits ss d q
+  tried-search z b f k g i j =
+      ap (λ (o : Step). sifted (live ss (a .marks) d q) (a .gcds) o i) g
+      ∙ ap (sifted (live ss (a .marks) d q) (a .gcds) (searchStep b)) j
+      ∙ ap (λ (o : Search). sifted (live ss (a .marks) d q) (a .gcds) (searchStep o) (searchVisits visits o)) f
+      ∙ goes-is true (unchanged-yes (a .step) (sym is ∙ z))
+
+  pub tried-not : (n ≡ 0 → ⊥) → sifted (live ss (a .marks) d q) (a .gcds) (a .step) visits ≡ tried ts s m gcds visits ss d q
+  tried-not h = goes-is false (unchanged-no (a .step) (λ (e : stepNumber (a .step) ≡ 0). h (is ∙ e)))
+
+-- ---- by the row that waits
+
+module _ (h : Lent) (ss : List State) (m : Marks) (q : Rows) (gcds words : List ℕ) (t : Tries h ss m q gcds words) (r : ℕ) (e : r ≡ oldest (q .queue)) where
+  pub try-inside : r < length (h .rows)
+  try-inside = omega (arith, oldest-among (length (h .rows)) q (t .ready .flags) (t .some) (t .among))
+
+  pub try-state : r < length ss
+  try-state = omega (arith, try-inside, t .ready .long)
+
+  pub try-figures : (s : State) → s ≡ getD ss r noState → Figures s
+  try-figures s f =
+      let y = t .ready .fit r try-inside in
+      subst Figures (sym f) (record { known = y .known; possible = y .possible; lower = y .lower; upper = y .upper })
+
+  module _ (a b : ℕ) (p : a ≡ startBy 0 (h .rows) r) (i : b ≡ endBy 0 (h .rows) r) where
+    pub try-rises : a ≤ b
+    try-rises = omega (arith, t .shaped .terms .rising r try-inside)
+
+    pub try-conditions : b ≤ length (h .conditions)
+    try-conditions = omega (arith, t .shaped .terms .ends r try-inside)
+
+    pub try-weights : b ≤ length (h .weights)
+    try-weights = omega (arith, t .shaped .terms .ends r try-inside, t .shaped .weighed)
+
+    pub try-few : length (stretch a b (h .weights)) ≤ 1024
+    try-few = omega (arith, stretch-length a b (h .weights) try-weights, t .short r try-inside)
+
+    -- What was tried is the row of the index that waited longest.
+    pub try-is : (s : State) → s ≡ getD ss r noState → (n : Rows) → n ≡ nextRow q → (x : Index) (d : Rows) (visits : ℕ) → getD (x .rows) r noRow .terms ≡ heldTerms h r → (o : Sifted)
+        → o ≡ tried (terms (stretch a b (h .conditions)) (stretch a b (h .weights))) s m gcds visits ss d n → o ≡ tryRow x (live ss m d q) gcds visits
+    unfolding tryRow
+    try-is s f n g x d visits z o made =
+        made
+        ∙ ap (λ (k : ℕ). tried (terms (stretch k b (h .conditions)) (stretch k b (h .weights))) s m gcds visits ss d n) p
+        ∙ ap (λ (k : ℕ). tried (terms (stretch (startBy 0 (h .rows) r) k (h .conditions)) (stretch (startBy 0 (h .rows) r) k (h .weights))) s m gcds visits ss d n) i
+        ∙ ap (λ (ts : List Term). tried ts s m gcds visits ss d n) (sym z)
+        ∙ ap (λ (u : State). tried (getD (x .rows) r noRow .terms) u m gcds visits ss d n) f
+        ∙ ap (tried (getD (x .rows) r noRow .terms) (getD ss r noState) m gcds visits ss d) g
+        ∙ ap (λ (k : ℕ). tried (getD (x .rows) k noRow .terms) (getD ss k noState) m gcds visits ss d (nextRow q)) e
+
+-- ---- what can be drained stays such
+
+module _ (x : Index) (b : Shared) (s : Serves x b) (v : Live) (g : Going b v) (some : 0 < v .residuals .queue .ring .count) (gcds : List ℕ) (visits : ℕ) where
+  abbrev r : ℕ
+  r = oldest (v .residuals .queue)
+
+  abbrev a : Residual
+  a = thresholdResidual (getD (x .rows) r noRow .terms) (stateAt v r) (v .marks) gcds
+
+  abbrev after : Live
+  after = live (v .states) (a .marks) (v .dirty) (nextRow (v .residuals))
+
+  abbrev w : Within b v
+  w = g .within
+
+  queued : Queued (w .taken) (a .marks)
+  queued =
+      keeps-residual (Queued (w .taken)) (λ m value n k p. queued-decide (w .taken) value m n k p) (getD (x .rows) r noRow .terms) (stateAt v r) (v .marks) gcds (s .indexed .conditions r)
+      (w .tracked .queued)
+
+  within-after : Within b after
+  within-after = record {
+    taken = w .taken;
+    tracked = record {
+      queued = queued;
+      dirty = w .tracked .dirty;
+      residuals = among-next (length (b .rows .rows)) (v .residuals) (g .sound .residuals) some (w .tracked .residuals);
+    };
+    range = w .range;
+    runnable = record {
+      ready = record { long = w .runnable .ready .long; fit = w .runnable .ready .fit; waits = queued .queue; flags = flags-next (v .residuals) (g .sound .residuals) some };
+      dirty = w .runnable .dirty;
+    };
+    room = w .room;
+  }
+
+  within-try : Within b (tryRow x v gcds visits .live)
+  unfolding tryRow
+  within-try = by (isUnchanged (a .step))
+    where
+      by : (c : Bool) → let o : Sifted = elim c [
+        | true ↦ sifted after (a .gcds) (searchStep (search (getD (x .rows) r noRow .terms) (stateAt v r) (isDecided (a .marks)))) (searchVisits visits (search (getD (x .rows) r noRow .terms) (stateAt v r) (isDecided (a .marks))))
+        | false ↦ sifted after (a .gcds) (a .step) visits
+      ] in Within b (o .live)
+      by true = within-after
+      by false = within-after
+
+pub going-try : (x : Index) (b : Shared) → Serves x b → (v : Live) → Going b v → (gcds : List ℕ) (visits : ℕ) → isEmpty (v .residuals .queue) ≡ false
+    → Going b (tryRow x v gcds visits .live)
+going-try x b s v g gcds visits e = record {
+  sound = fall-try x (s .indexed) v gcds visits (g .sound) e .0;
+  within = within-try x b s v g (omega (arith, eqb-false (v .residuals .queue .ring .count) 0 e)) gcds visits;
+}
