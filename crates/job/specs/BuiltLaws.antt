@@ -5,23 +5,20 @@ use native.Mathlib.Decide.{decLt}
 use native.Mathlib.Omega.{arith}
 use mathlib.Core.Path.{_≡_, refl, sym, ap, ap₂, _∙_, subst}
 use mathlib.Core.List.{List, [], _∷_, _++_, map, map-append}
-use lib.ListN.{length, getD, take, drop, set, replicate, length-append, length-drop, length-map, length-replicate, getD-replicate, List·getD-append}
-use lib.Seq.{getD-take, length-take-le, getD-append-add, ext-getD}
-use lib.IntN.{ℤ, pos}
+use lib.ListN.{length, getD, take, drop, set, replicate, length-map, length-replicate, getD-replicate, List·getD-append}
+use lib.Seq.{length-take-le, getD-append-add, ext-getD}
+use lib.IntN.{ℤ}
 use Rattle.lists.specs.Laid.{over, joinAll, ends, triples, numbers}
 use Rattle.lists.specs.Columns.{column}
 use Rattle.lists.specs.ColumnsLaws.{length-column}
-use Rattle.numeric.specs.Threshold.{Term, Threshold, Job}
-use Rattle.thresholds.specs.Raw.{Raw}
-use Rattle.thresholds.specs.Rows.{Row, Guard, Edge, rowsOf, edgesOf}
-use Rattle.thresholds.specs.Laid.{conditions, weights, termLists, guardLists, guardBounds, guardNodes, thresholdOf, rowOfNode, edgeLists, edgeRow}
+use Rattle.numeric.specs.Threshold.{Job}
+use Rattle.thresholds.specs.Rows.{Row, rowsOf, edgesOf}
+use Rattle.thresholds.specs.Laid.{conditions, weights, termLists, guardLists, thresholdOf, rowOfNode, edgeLists, edgeRow}
 use Rattle.prefixes.specs.HeldLaws.{length-numbers}
 use Rattle.prefixes.specs.Held.{Held, heldRows}
 use Rattle.prefixes.specs.Links.{neighbourLists}
 use Rattle.prefixes.specs.Pass.{Clear}
 use Rattle.prefixes.specs.Neighbours as Neighbours
-use Rattle.prepare.specs.Given.{given, givenRows}
-use Rattle.prepare.specs.Place.{Blank}
 use Rattle.prepare.specs.PrepareParts.{over-long}
 use Rattle.prepare.specs.PlaceLaws.{raws-few}
 use Rattle.prepare.specs.RowsGiven.{rows-given}
@@ -31,8 +28,8 @@ use Rattle.prepare.specs.NodesGiven.{triples-columns}
 use Rattle.prepare.specs.Prepare.{Lent, lent, Prepared}
 use Rattle.prepare.specs.declared.Extent.{Extent}
 use Rattle.job.specs.declared.Counts.{Counts}
-use Rattle.job.specs.Gathered.{cut, jobIn, Gathered}
-use Rattle.job.specs.Built.{Empty, Laid, rowEntries, Unlinked, Built}
+use Rattle.job.specs.Gathered.{cut, jobIn}
+use Rattle.job.specs.Built.{Empty, rowEntries, Unlinked, Built}
 
 -- Lists over the first numbers, and triples, have their lengths.
 length-first : {X : Type 0} (f : ℕ → X) (n : ℕ) → length (map f (numbers 0 n)) ≡ n

@@ -1,7 +1,7 @@
 -- The job that the raw buffers hold, cut to its counts; what is true of counts and buffers; and what a threshold or a term changes.
 use Prim.Native.Nat.{ℕ, _+_, _-_, _<_, _≤_}
 use mathlib.Core.Path.{_≡_}
-use mathlib.Core.Bool.{Bool, true, false, cond}
+use mathlib.Core.Bool.{cond}
 use mathlib.Core.List.{List, [], _∷_}
 use lib.ListN.{length, getD, take, set}
 use lib.Dec.{eqb}

@@ -1,10 +1,8 @@
 -- Laws of the job that the buffers hold: its thresholds one by one, its open threshold, and that the checks by counts are those by the job.
 use Prim.Native.Nat.{ℕ, zero, suc, _+_, _-_, _<_, _≤_}
 use native.Mathlib.Decide.{decLt}
-use native.Mathlib.Nat.{not-suc-le-zero}
 use native.Mathlib.Omega.{arith}
 use mathlib.Core.Path.{_≡_, refl, sym, ap, ap₂, _∙_, subst}
-use mathlib.Core.Bool.{Bool, true, false}
 use mathlib.Core.List.{List, [], _∷_, _++_, map}
 use lib.ListN.{length, getD, take, length-map}
 use lib.Seq.{getD-take, length-take-le}
@@ -21,7 +19,7 @@ use Rattle.prefixes.specs.HeldLaws.{length-numbers}
 use Rattle.prepare.specs.Given.{thresholdAt, given}
 use Rattle.job.specs.Job.{lastNode, lastTerms, allTerms, isEmptyList, first, openChecks, openRefusal, termChecks, termRefusal}
 use Rattle.job.specs.declared.Counts.{Counts}
-use Rattle.job.specs.Gathered.{cut, jobIn, Listed, Bounded, Termed, Gathered, openIn, termIn}
+use Rattle.job.specs.Gathered.{cut, jobIn, Listed, Termed, openIn, termIn}
 use Rattle.job.specs.JobLaws.{map-more, map-same, empty-more, node-more, terms-more, all-more, stretch-cut}
 
 pub threshold-by : {n m : ℕ} {b d : ℤ} {l r : List Term} → n ≡ m → b ≡ d → l ≡ r

@@ -1,11 +1,11 @@
 -- Laws of lists that grow at their end: thresholds, terms, stretches, and lists over the first numbers.
 use Prim.Native.Nat.{ℕ, zero, suc, _+_, _-_, _<_, _≤_}
-use native.Mathlib.Nat.{add-zero, zero-add, suc-add, le-refl, not-suc-le-zero}
+use native.Mathlib.Nat.{add-zero, zero-add, suc-add, le-refl}
 use native.Mathlib.Omega.{arith}
-use mathlib.Core.Path.{_≡_, refl, sym, ap, ap₂, _∙_, subst}
+use mathlib.Core.Path.{_≡_, refl, sym, ap, ap₂, _∙_}
 use mathlib.Core.Bool.{Bool, true, false, _||_, _&&_, not}
 use mathlib.Core.List.{List, [], _∷_, _++_, map}
-use lib.ListN.{length, getD, take, drop, set, length-drop}
+use lib.ListN.{length, take, drop, set, length-drop}
 use lib.Seq.{take-nil, take-take, take-set-le, drop-set-add, take-suc-set}
 use Rattle.lists.specs.Laid.{numbers}
 use Rattle.numeric.specs.Threshold.{Term, term, terms, Threshold}

@@ -1,21 +1,17 @@
 -- A gathered job, cut to its counts, is one that `prepare` takes; the invariant holds of a job with no thresholds.
-use Prim.Native.Nat.{ℕ, zero, suc, _+_, _-_, _<_, _≤_}
+use Prim.Native.Nat.{ℕ, zero, suc, _+_, _<_, _≤_}
 use native.Mathlib.Nat.{not-suc-le-zero}
 use native.Mathlib.Omega.{arith}
-use mathlib.Core.Path.{_≡_, refl, sym, ap, ap₂, _∙_, subst}
-use mathlib.Core.List.{List, [], _∷_, _++_, map}
-use lib.ListN.{length, getD, take, drop, replicate}
+use mathlib.Core.Path.{_≡_, refl, sym, ap, _∙_, subst}
+use mathlib.Core.List.{List, [], _∷_}
+use lib.ListN.{length, getD, take, replicate}
 use lib.Seq.{getD-take, length-take-le}
 use lib.IntN.{ℤ, pos}
-use Rattle.lists.specs.Laid.{over, ends, triples, numbers}
-use Rattle.lists.specs.Columns.{column}
-use Rattle.lists.specs.ColumnsLaws.{length-column}
 use Rattle.thresholds.specs.Raw.{startOf, endOf, Lists}
 use Rattle.thresholds.specs.Guards.{Bound, nodeAt}
-use Rattle.prepare.specs.Place.{Blank}
 use Rattle.prepare.specs.Prepare.{Lent, lent, Sound, Ample}
 use Rattle.job.specs.declared.Counts.{Counts}
-use Rattle.job.specs.Gathered.{cut, Listed, Bounded, Termed, Gathered}
+use Rattle.job.specs.Gathered.{cut, Gathered}
 use Rattle.job.specs.GatheredLaws.{start-cut}
 use Rattle.job.specs.Built.{Empty}
 

@@ -7,13 +7,13 @@ use mathlib.Core.Bool.{Bool, true, false, cond, not, _&&_, _||_}
 use mathlib.Core.List.{List, [], _∷_, _++_, map}
 use lib.ListN.{length, getD, take, drop, set, length-set}
 use lib.Seq.{getD-set-same, getD-set-other}
-use lib.Dec.{eqb, leb, ltb}
+use lib.Dec.{eqb, leb}
 use lib.IntN.{ℤ, pos, negsuc}
 use lib.Signed.{ltZ}
 use borrow.Author.Tests.{eqb-false, leb-false, ne-eqb}
 use Rattle.signed.specs.Signed.{nlt-leZ}
 use Rattle.lists.specs.Laid.{numbers}
-use Rattle.numeric.specs.Threshold.{Term, term, terms, Threshold}
+use Rattle.numeric.specs.Threshold.{term, terms, Threshold}
 use Rattle.row.specs.StretchLaws.{length-stretch}
 use Rattle.thresholds.specs.Raw.{raw, startOf, endOf, stretch, listAt}
 use Rattle.thresholds.specs.RawLaws.{start-suc}

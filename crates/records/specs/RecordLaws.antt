@@ -3,16 +3,14 @@ use Prim.Native.Nat.{ℕ, zero, suc, _+_, _*_, _-_, _^_, _<_, _≤_}
 use native.Mathlib.Nat.{mul-add, mul-assoc, pow-succ', add-assoc, one-mul, zero-add, suc-add}
 use native.Mathlib.Omega.{arith}
 use mathlib.Core.Path.{_≡_, refl, sym, ap, ap₂, _∙_, subst}
-use mathlib.Core.Bool.{Bool, true, false}
 use mathlib.Core.List.{List, [], _∷_, _++_}
 use lib.ListN.{length, getD, take, drop, length-drop}
 use lib.Seq.{take-add, drop-drop, drop-cons, take-take, length-take-le, take-nil}
 use lib.IntN.{ℤ, pos, negsuc, _-ℤ_}
-use lib.Dec.{ltb}
 use mir.Syntax.{w64}
 use mir.Val.{SFits}
 use borrow.Author.Tests.{lt-ltb, le-ltb}
-use Rattle.records.specs.Record.{Kind, kindOf, bodyLength, littleEndian, signed, Record, recordOf, header, opens, adds, areas, mark, unknown}
+use Rattle.records.specs.Record.{Kind, kindOf, bodyLength, littleEndian, signed, recordOf, header, opens, adds, areas, mark, unknown}
 use Rattle.records.specs.Entry.{kindAt, entryAt}
 
 little-append : (xs ys : List ℕ) → littleEndian (xs ++ ys) ≡ littleEndian xs + 256 ^ length xs * littleEndian ys

@@ -1,2 +1,4 @@
 pub mod Shown
 pub mod ShownLaws
+pub mod Read
+pub mod ReadLaws

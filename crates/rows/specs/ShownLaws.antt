@@ -5,8 +5,8 @@ use native.Mathlib.Omega.{arith}
 use mathlib.Core.Path.{_≡_, refl, sym, ap, ap₂, _∙_, subst}
 use mathlib.Core.Bool.{Bool, true, false}
 use mathlib.Core.List.{List, [], _∷_, _++_, map, map-append}
-use lib.ListN.{length, getD, take, drop, length-append, length-drop, length-map, length-replicate, replicate, List·getD-map}
-use lib.Seq.{getD-drop, getD-take, length-take-le}
+use lib.ListN.{length, getD, take, drop, length-append, length-map, length-replicate, replicate, List·getD-map}
+use lib.Seq.{getD-drop}
 use lib.IntN.{ℤ, pos, negsuc, _-ℤ_}
 use lib.Signed.{ltZ}
 use mir.Syntax.{w64}
@@ -15,20 +15,19 @@ use borrow.Author.Tests.{le-ltb, ltb-true}
 use Rattle.lists.specs.Laid.{over, joinAll, ends, triples, numbers}
 use Rattle.lists.specs.Columns.{column}
 use Rattle.lists.specs.ColumnsLaws.{length-column}
-use Rattle.numeric.specs.Threshold.{Term, terms, Threshold, Job}
+use Rattle.numeric.specs.Threshold.{Term, terms, Threshold}
 use Rattle.row.specs.Terms.{total, rowTerms, sameTerms}
 use Rattle.row.specs.TermsLaws.{All}
 use Rattle.row.specs.SumLaws.{row-total-fits}
 use Rattle.row.specs.StretchLaws.{length-stretch}
-use Rattle.thresholds.specs.Raw.{Raw, stretch, listAt, startOf, endOf}
+use Rattle.thresholds.specs.Raw.{stretch, listAt, startOf, endOf}
 use Rattle.thresholds.specs.RawLaws.{length-terms}
-use Rattle.thresholds.specs.Rows.{Row, Guard, Edge, rowOf, noRow, guard, insertGuard, place, placeAll, rowsOf, edgesOf}
+use Rattle.thresholds.specs.Rows.{Row, Guard, rowOf, noRow, guard, insertGuard, place, placeAll, rowsOf, edgesOf}
 use Rattle.thresholds.specs.Laid.{conditions, weights, termLists, guardLists, edgeLists, edgeRow, thresholdOf, rowOfNode}
 use Rattle.prefixes.specs.HeldLaws.{length-numbers}
 use Rattle.prefixes.specs.Links.{neighbourLists}
 use Rattle.prepare.specs.Given.{thresholdAt, given}
 use Rattle.prepare.specs.Place.{Blank}
-use Rattle.prepare.specs.PrepareParts.{over-long}
 use Rattle.prepare.specs.RowsGivenLaid.{startIn, endIn, length-ends, over-rising, over-inside, over-figures}
 use Rattle.prepare.specs.RowsGivenHeld.{terms-back}
 use Rattle.prepare.specs.NodesGiven.{triples-columns}
@@ -36,8 +35,8 @@ use Rattle.prepare.specs.Prepare.{Lent, lent}
 use Rattle.job.specs.declared.Counts.{Counts}
 use Rattle.job.specs.Gathered.{cut, jobIn, Gathered}
 use Rattle.job.specs.SoundLaws.{gathered-none, gathered-sound}
-use Rattle.job.specs.Built.{Empty, Laid, rowEntries, Built}
-use Rattle.job.specs.BuiltLaws.{entries-columns, entries-long, neighbours-long}
+use Rattle.job.specs.Built.{Empty, rowEntries, Built}
+use Rattle.job.specs.BuiltLaws.{entries-columns, neighbours-long}
 use Rattle.rows.specs.Shown.{Part, Fits, Shown, First}
 
 -- ---- what is laid in front of a buffer lies inside it

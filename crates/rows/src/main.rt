@@ -7,9 +7,12 @@ ghost use Rattle.numeric.specs.Threshold.{terms};
 ghost use Rattle.row.specs.Terms.{total};
 ghost use Rattle.prepare.specs.Prepare.{lent};
 ghost use Rattle.prepare.specs.RowsGivenLaid.{startIn, endIn};
-ghost use Rattle.job.specs.Gathered.{Gathered};
+ghost use Rattle.records.specs.Entry.{said};
+ghost use Rattle.job.specs.Gathered.{Gathered, jobIn};
 ghost use Rattle.job.specs.Built.{Empty};
-ghost use Rattle.rows.specs.Shown.{Small, Part, Fits, Shown, First};
+ghost use Rattle.rows.specs.Read.{headOf, jobRead, endedOf};
+ghost use Rattle.rows.specs.ReadLaws.{Stepped};
+ghost use Rattle.rows.specs.Shown.{Part, Fits, Shown, First};
 use job::Counts;
 use job::Taken;
 use libc::STDIN_FILENO;
@@ -73,7 +76,7 @@ enum Head {
 }
 
 fn read_header(input: &[u8]) -> Head
-    ensures { λ r. ⌜ Small r ⌝ }
+    ensures { λ r. ⌜ r ≡ headOf (now (input .entry)) ⌝ }
 {
     if input.len() < 3 {
         return Head::Nothing;
@@ -98,7 +101,8 @@ fn take_record(
     bounds: &mut [i64],
 ) -> Taken
     requires { ⌜ Gathered counts (now conditions) (now weights) (now thresholds) (now bounds) ⌝ }
-    ensures { λ r. ⌜ Gathered (r .counts) (now (conditions .exit)) (now (weights .exit)) (now (thresholds .exit)) (now (bounds .exit)) ⌝ }
+    ensures { λ r. ⌜ Gathered (r .counts) (now (conditions .exit)) (now (weights .exit)) (now (thresholds .exit)) (now (bounds .exit))
+        × Stepped (jobIn counts (now (conditions .entry)) (now (weights .entry)) (now (thresholds .entry)) (now (bounds .entry))) (said entry) r (jobIn (r .counts) (now (conditions .exit)) (now (weights .exit)) (now (thresholds .exit)) (now (bounds .exit))) ⌝ }
 {
     match entry {
         Entry::Opens(node, bound) => job::open_threshold(counts, node, bound, thresholds, bounds),
@@ -125,7 +129,8 @@ fn read_job(
     bounds: &mut [i64],
 ) -> Read
     requires { ⌜ Gathered (record { nodes = nodes; thresholds = 0; terms = 0 }) (now conditions) (now weights) (now thresholds) (now bounds) ⌝ }
-    ensures { λ r. ⌜ Gathered (r .counts) (now (conditions .exit)) (now (weights .exit)) (now (thresholds .exit)) (now (bounds .exit)) ⌝ }
+    ensures { λ r. ⌜ Gathered (r .counts) (now (conditions .exit)) (now (weights .exit)) (now (thresholds .exit)) (now (bounds .exit))
+        × (endedOf (r .sealed) (jobIn (r .counts) (now (conditions .exit)) (now (weights .exit)) (now (thresholds .exit)) (now (bounds .exit))) ≡ jobRead (now (input .entry)) nodes) ⌝ }
 {
     let mut counts = Counts {
         nodes: nodes,

@@ -1,7 +1,8 @@
 -- `rows::run` is safe: a job with no thresholds yet holds in buffers of zeros.
-use mathlib.Core.Path.{subst}
+use mathlib.Core.Path.{sym, subst}
 use Rattle.rows.specs.Shown.{Small}
 use Rattle.rows.specs.ShownLaws.{job-zeros}
+use Rattle.rows.specs.ReadLaws.{small-head}
 use borrow.Author.Needs.{needs}
 use Rattle.rows.proofs.run.Statement.{statement}
 use Rattle.rows.proofs.run.Tie as tie
@@ -37,7 +38,7 @@ slice-aggregate-run-in-4 : tie.Need-slice-aggregate-run-in-4
 slice-aggregate-run-in-4 c = search needs
 
 run-in-requires : tie.Need-run-in-requires
-run-in-requires c κs = let h = c .before .before .before .before .before .head .given in job-zeros (h .0 .0) (subst Small (h .1) (c .before .before .before .before .before .before .before .read-header .ensures))
+run-in-requires c κs = let h = c .before .before .before .before .before .head .given in job-zeros (h .0 .0) (subst Small (h .1) (subst Small (sym (c .before .before .before .before .before .before .before .read-header .ensures)) (small-head (c .before .before .before .before .before .before .before .before .before .args .input .now))))
 
 returns-2 : tie.Need-returns-2
 returns-2 c = search needs
