@@ -83,7 +83,7 @@ module _ (P : Row → Type 0) (Q : Threshold → Type 0) (new : (t : Threshold) 
   all-every [] rs q a = a
   all-every (t ∷ ts) rs q a = all-every ts (place t rs) (q .1) (place-every t rs (q .0) a)
 
-  -- and so has any number's row, if the row of nothing has it
+  -- and so has the row of any number, if noRow has it
   pub rows-every : P noRow → (j : Job) → Every Q (j .thresholds) → (r : ℕ) → P (getD (rowsOf j) r noRow)
   rows-every p j a = every-at P noRow (rowsOf j) p (all-every (j .thresholds) [] a tt)
 
