@@ -1,6 +1,6 @@
 -- THE DEMANDS of the mission, and the clauses a and c of document 01, as statements over the definitions.
 -- They are what the proofs of this repository are for. A statement is met when a term of its type stands in a crate.
-use Prim.Native.Nat.{ℕ, _+_, _*_, _≤_}
+use Prim.Native.Nat.{ℕ, _*_, _≤_}
 use mathlib.Core.Path.{_≡_}
 use mathlib.Core.Bool.{Bool, true, false}
 use mathlib.Core.List.{List, [], _∷_, _++_, List·Memᴰ}

@@ -3,7 +3,7 @@
 use Prim.Native.Nat.{ℕ, zero, suc, _+_}
 use native.Mathlib.Omega.{arith}
 use mathlib.Core.Path.{_≡_, refl, sym, ap, _∙_}
-use mathlib.Core.Bool.{Bool, true, false, cond, not, _||_}
+use mathlib.Core.Bool.{Bool, true, false, not, _||_}
 use mathlib.Core.List.{List, [], _∷_, _++_, append-assoc, append-nil}
 use mathlib.Core.Logic.{_⊎_, inl, inr, ⊎-elim, _≢_}
 use lib.ListN.{length, drop}
@@ -14,7 +14,7 @@ use Rattle.numeric.specs.Area.{weightOfArea}
 use Rattle.records.specs.Record.{Record, header, opens, adds, areas, seal, mark, settle, sift, unknown, kindOf, bodyLength}
 use Rattle.job.specs.Job.{Check, check, first, isEmptyList, addTerm}
 use Rattle.planner.specs.File.{File, begun, refusal, wrongTurn, noSuchNode, notRising, badBound, badValue, tooMany, apply, settledFile, siftedFile, Outcome, outcome, recordAt, unknownKind, cutBody, refusalAt, readFrom, fileOf, planned, after}
-use Rattle.ends.specs.Files.{Taken, taken}
+use Rattle.ends.specs.Files.{Taken, taken, refused-by}
 use Rattle.follows.specs.Answers.{clash, or-false, or-middle, not-false}
 use Rattle.demands.specs.Reading.{Decoded, records, damaged, decodeFrom, decoded, plainly, plainlyAll, Passes}
 
@@ -75,12 +75,7 @@ refusal-nine f r h =
     (nine (f .contradicted) _ (skip (wrongTurn f r) 3 _ (λ q. omega arith) h))
 
 refused-nine : (f : File) (kind : ℕ) (bytes : List ℕ) → refusalAt f kind bytes ≡ 9 → f .contradicted ≡ true
-refused-nine f kind bytes h = refusal-nine f (recordAt kind bytes) (by (unknownKind kind) (cutBody kind bytes) h)
-  where
-    by : (a b : Bool) → _≡_ {A = ℕ} (cond a 2 (cond b 1 (refusal f (recordAt kind bytes)))) 9 → refusal f (recordAt kind bytes) ≡ 9
-    by true b e = absurd (omega arith)
-    by false true e = absurd (omega arith)
-    by false false e = e
+refused-nine f kind bytes h = refusal-nine f (recordAt kind bytes) (refused-by 9 (λ q. omega arith) (λ q. omega arith) f kind bytes h)
 
 -- An outcome over all records of an input.
 pub record Over (all : List Record) (o : Outcome) : Type 0 where

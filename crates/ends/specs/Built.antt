@@ -51,6 +51,13 @@ pub every-each : {X : Type 0} (P : X → Type 0) (xs : List X) → Every P xs �
 every-each P [] a y m = absurd (List·Memᴰ·not-nil m)
 every-each P (x ∷ xs) a y m = ⊎-elim (λ (e : y ≡ x). subst P (sym e) (a .0)) (λ k. every-each P xs (a .1) y k) (List·Memᴰ·cases-cons m)
 
+-- what a job within the limits says of one threshold and of one term
+pub fits-node : (j : Job) → Fits j → (t : Threshold) → List·Memᴰ t (j .thresholds) → t .node < 4096
+fits-node j f t m = every-each Fit (j .thresholds) (f .each) t m .node
+
+pub fits-condition : (j : Job) → Fits j → (t : Threshold) → List·Memᴰ t (j .thresholds) → (u : Term) → List·Memᴰ u (t .terms) → u .condition < 4096
+fits-condition j f t m = every-each (λ (u : Term). u .condition < 4096) (t .terms) (every-each Fit (j .thresholds) (f .each) t m .conditions)
+
 pub every-mem : {X : Type 0} (P : X → Type 0) (xs : List X) → ((x : X) → List·Memᴰ x xs → P x) → Every P xs
 every-mem P [] f = tt
 every-mem P (x ∷ xs) f = (f x (List·Memᴰ·head refl), every-mem P xs (λ y m. f y (List·Memᴰ·tail m)))
@@ -83,7 +90,7 @@ module _ (P : Row → Type 0) (Q : Threshold → Type 0) (new : (t : Threshold) 
   all-every [] rs q a = a
   all-every (t ∷ ts) rs q a = all-every ts (place t rs) (q .1) (place-every t rs (q .0) a)
 
-  -- and so has any number's row, if the row of nothing has it
+  -- and so has the row of any number, if noRow has it
   pub rows-every : P noRow → (j : Job) → Every Q (j .thresholds) → (r : ℕ) → P (getD (rowsOf j) r noRow)
   rows-every p j a = every-at P noRow (rowsOf j) p (all-every (j .thresholds) [] a tt)
 

@@ -187,12 +187,13 @@ unfolding after
 good-after f [] g p = g
 good-after f (r ∷ rs) g p = good-after (apply f r) rs (good-apply f g r (p .0)) (p .1)
 
-not-refused : (f : File) (kind : ℕ) (rest : List ℕ) → refusalAt f kind rest ≡ 0 → refusal f (recordAt kind rest) ≡ 0
-not-refused f kind rest h = by (unknownKind kind) (cutBody kind rest) h
+-- Any number but those for a kind and for a body is the refusal of the record itself.
+pub refused-by : (n : ℕ) → (2 ≡ n → ⊥) → (1 ≡ n → ⊥) → (f : File) (kind : ℕ) (rest : List ℕ) → refusalAt f kind rest ≡ n → refusal f (recordAt kind rest) ≡ n
+refused-by n two one f kind rest h = by (unknownKind kind) (cutBody kind rest) h
   where
-    by : (a b : Bool) → _≡_ {A = ℕ} (cond a 2 (cond b 1 (refusal f (recordAt kind rest)))) 0 → refusal f (recordAt kind rest) ≡ 0
-    by true b e = absurd (omega arith)
-    by false true e = absurd (omega arith)
+    by : (a b : Bool) → cond a 2 (cond b 1 (refusal f (recordAt kind rest))) ≡ n → refusal f (recordAt kind rest) ≡ n
+    by true b e = absurd (two e)
+    by false true e = absurd (one e)
     by false false e = e
 
 pub read-passed : (n o : ℕ) (bytes : List ℕ) (f g : File) (rs : List Record) → f ≡ after g rs → Passed g rs → Passed g (readFrom n o bytes f rs .records)
@@ -209,7 +210,7 @@ read-passed (suc n) o (kind ∷ rest) f g rs h p = by (λ o b f t h q. read-pass
         in Passed g (r .records)
     by ih true e =
         ih _ _ _ _ (ap (λ (y : File). apply y x) h ∙ sym (after-snoc g rs x))
-        (passed-snoc g rs x p (ap (λ (y : File). refusal y x) (sym h) ∙ not-refused f kind rest (eqb-true (refusalAt f kind rest) 0 e)))
+        (passed-snoc g rs x p (ap (λ (y : File). refusal y x) (sym h) ∙ refused-by 0 (λ q. omega arith) (λ q. omega arith) f kind rest (eqb-true (refusalAt f kind rest) 0 e)))
     by ih false e = p
 
 pub planned-passed : (input : List ℕ) → Passed begun (planned input .records)

@@ -9,13 +9,14 @@ use lib.IntN.{pos, _-ℤ_}
 use lib.Signed.{leZ, ltZ}
 use Rattle.state.specs.declared.Step.the-variants.{Unchanged, Contradiction}
 use Rattle.state.specs.declared.State.{State}
-use Rattle.state.specs.Step.{joined, contradicts}
-use Rattle.state.specs.State.{limited, limit, conflict, withGuards, withTerms}
+use Rattle.state.specs.Step.{contradicts}
+use Rattle.state.specs.State.{limited, limit, withGuards, withTerms}
 use Rattle.queues.specs.Marks.{Marks}
 use Rattle.thresholds.specs.Rows.{Row}
 use Rattle.propagate.specs.Scan.{Scanned}
-use Rattle.propagate.specs.Row.{Ran, ran, sureGuards, neverGuards, thresholdGuards, forced, trueTerms, falseTerms, scans, thresholdRow}
+use Rattle.propagate.specs.Row.{Ran, ran, sureGuards, neverGuards, thresholdGuards, forced, trueTerms, falseTerms, thresholdRow}
 use Rattle.propagate.specs.RowLaws.{Moved, sure-within, forced-within}
+use Rattle.follows.specs.Runs.{guardsRun, trueRun, falseRun, run-ends}
 
 -- Every cursor stands in its list.
 pub record Cursors (row : Row) (st : State) : Type 0 where
@@ -113,41 +114,9 @@ module _ (row : Row) where
 
   -- A ROW RUN ONCE
   pub row-goes : (s : State) (m : Marks) → Goes s (thresholdRow row s m .state)
-  unfolding thresholdRow scans
-  row-goes s m = by (conflict s)
+  row-goes s m =
+      run-ends row s m (λ (r : Ran). Goes s (r .state)) (λ e. stays s) (λ e. guards-go s m) (λ e f. to-b)
+      (λ e f. goes-then s (trueRun row s m .state) (falseRun row s m .state) to-b (false-goes (trueRun row s m .state) (trueRun row s m .marks)))
     where
-      a : Ran
-      a = thresholdGuards (row .guards) s m
-
-      b : Ran
-      b = trueTerms (row .terms) (a .state) (a .marks)
-
-      c : Ran
-      c = falseTerms (row .terms) (b .state) (b .marks)
-
-      to-a : Goes s (a .state)
-      to-a = guards-go s m
-
-      to-b : Goes s (b .state)
-      to-b = goes-then s (a .state) (b .state) to-a (true-goes (a .state) (a .marks))
-
-      two : Bool → Ran
-      two t = elim t [ true ↦ b | false ↦ ran (c .state) (c .marks) (joined (joined (a .step) (b .step)) (c .step)) ]
-
-      one : Bool → Ran
-      one t = elim t [ true ↦ a | false ↦ two (contradicts (b .step)) ]
-
-      all : Bool → Ran
-      all t = elim t [ true ↦ ran s m Contradiction | false ↦ one (contradicts (a .step)) ]
-
-      at-two : (t : Bool) → Goes s (two t .state)
-      at-two true = to-b
-      at-two false = goes-then s (b .state) (c .state) to-b (false-goes (b .state) (b .marks))
-
-      at-one : (t : Bool) → Goes s (one t .state)
-      at-one true = to-a
-      at-one false = at-two (contradicts (b .step))
-
-      by : (t : Bool) → Goes s (all t .state)
-      by true = stays s
-      by false = at-one (contradicts (a .step))
+      to-b : Goes s (trueRun row s m .state)
+      to-b = goes-then s (guardsRun row s m .state) (trueRun row s m .state) (guards-go s m) (true-goes (guardsRun row s m .state) (guardsRun row s m .marks))

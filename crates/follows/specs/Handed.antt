@@ -35,7 +35,7 @@ use Rattle.table.specs.Order.{le, lt, ≤ℤ-trans, <ℤ-≤ℤ, UpLe, up-refl,
 use Rattle.follows.specs.Answers.{clash, and-one, joined-right}
 use Rattle.follows.specs.Stands.{Stands}
 use Rattle.follows.specs.Bounds.{SameBounds, same-bounds, run-bounds, put-here, put-there}
-use Rattle.follows.specs.Moves.{neighbour-stands, moved-tighter}
+use Rattle.follows.specs.Moves.{not-above, neighbour-stands, moved-tighter}
 use Rattle.follows.specs.Edges.{edge-term}
 
 -- The row waits to hand on its bounds.
@@ -185,13 +185,9 @@ module _ (x : Index) where
       raised true f = h
       raised false f = moved (withLower st (t .bound)) (<ℤ-≤ℤ (lt (nle-ltZ (st .lower) (t .bound) f))) (up-refl (st .upper))
 
-      not-above : (y : Upper) → upperAtMost y (t .bound) ≡ false → UpLe (Under (t .bound)) y
-      not-above Open f = tt
-      not-above (Under b) f = <ℤ-≤ℤ (lt (nle-ltZ (t .bound) b f))
-
       lowered : (b : Bool) → upperAtMost (st .upper) (t .bound) ≡ b → Handed x but (whole (elim b [ true ↦ tight st false | false ↦ tight (withUpper st (Under (t .bound))) true ]) .live)
       lowered true f = h
-      lowered false f = moved (withUpper st (Under (t .bound))) (≤ℤ-refl (st .lower)) (not-above (st .upper) f)
+      lowered false f = moved (withUpper st (Under (t .bound))) (≤ℤ-refl (st .lower)) (not-above (t .bound) (st .upper) f)
 
       by : (b : Bool) → Handed x but (whole (guardState st b (t .bound)) .live)
       by true = raised (leZ (t .bound) (st .lower)) refl

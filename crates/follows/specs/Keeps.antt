@@ -14,7 +14,7 @@ use Rattle.state.specs.declared.Step.{Step}
 use Rattle.state.specs.declared.Step.the-variants.{Unchanged, Changed, Contradiction}
 use Rattle.state.specs.declared.State.{State}
 use Rattle.state.specs.Step.{joined, contradicts}
-use Rattle.state.specs.State.{limited, limit, conflict, withGuards, withTerms, drained}
+use Rattle.state.specs.State.{limited, limit, withGuards, withTerms, drained}
 use Rattle.words.specs.Mask.{bit}
 use Rattle.queues.specs.Marks.{Marks, isDecided, Decided, decided, decide}
 use Rattle.thresholds.specs.Rows.{Row, noRow, Guard, Edge, edgesOf, rowNumber}
@@ -22,9 +22,10 @@ use Rattle.prefixes.specs.Links.{neighbours}
 use Rattle.propagate.specs.declared.Tightened.{Tightened}
 use Rattle.propagate.specs.Scan.{Scanned, scan}
 use Rattle.propagate.specs.ScanLaws.{All, scan-keeps}
-use Rattle.propagate.specs.Row.{Ran, ran, sureWaits, decides, sureGuards, neverWaits, neverGuards, thresholdGuards, termWaits, forces, forced, trueTerms, falseTerms, scans, thresholdRow}
+use Rattle.propagate.specs.Row.{Ran, ran, sureWaits, decides, sureGuards, neverWaits, neverGuards, thresholdGuards, termWaits, forces, forced, trueTerms, falseTerms, thresholdRow}
 use Rattle.propagate.specs.Told.{guardState, movedState}
 use Rattle.between.specs.Between.{Index, Live, live, stateAt, withState, withDirty, Did, did, runRow, runWith, bounded, thresholdGuard, conditionFrom, thresholdCondition, termCount, prefixesFrom, thresholdPrefixes}
+use Rattle.follows.specs.Runs.{guardsRun, trueRun, run-ends}
 use Rattle.follows.specs.Row.{mem-drop, mem-take, mem-reverse}
 use Rattle.follows.specs.RowComplete.{Ordered}
 
@@ -104,44 +105,11 @@ module _ (P : Marks → Type 0) (each : (value : Bool) (m : Marks) (n : ℕ) →
 
     -- A ROW
     pub row-keeps : (s : State) (m : Marks) → P m → P (thresholdRow row s m .marks)
-    unfolding thresholdRow scans
-    row-keeps s m p = by (conflict s)
+    row-keeps s m p =
+        run-ends row s m (λ (r : Ran). P (r .marks)) (λ e. p) (λ e. guards-keep s m p) (λ e f. pb) (λ e f. false-keep (trueRun row s m .state) (trueRun row s m .marks) pb)
       where
-        a : Ran
-        a = thresholdGuards (row .guards) s m
-
-        b : Ran
-        b = trueTerms (row .terms) (a .state) (a .marks)
-
-        c : Ran
-        c = falseTerms (row .terms) (b .state) (b .marks)
-
-        pa : P (a .marks)
-        pa = guards-keep s m p
-
-        pb : P (b .marks)
-        pb = true-keep (a .state) (a .marks) pa
-
-        two : Bool → Ran
-        two t = elim t [ true ↦ b | false ↦ ran (c .state) (c .marks) (joined (joined (a .step) (b .step)) (c .step)) ]
-
-        one : Bool → Ran
-        one t = elim t [ true ↦ a | false ↦ two (contradicts (b .step)) ]
-
-        all : Bool → Ran
-        all t = elim t [ true ↦ ran s m Contradiction | false ↦ one (contradicts (a .step)) ]
-
-        at-two : (t : Bool) → P (two t .marks)
-        at-two true = pb
-        at-two false = false-keep (b .state) (b .marks) pb
-
-        at-one : (t : Bool) → P (one t .marks)
-        at-one true = pa
-        at-one false = at-two (contradicts (b .step))
-
-        by : (t : Bool) → P (all t .marks)
-        by true = p
-        by false = at-one (contradicts (a .step))
+        pb : P (trueRun row s m .marks)
+        pb = true-keep (guardsRun row s m .state) (guardsRun row s m .marks) (guards-keep s m p)
 
   module _ (x : Index) (ordered : (r : ℕ) → r < length (x .rows) → Ordered (getD (x .rows) r noRow)) where
     -- a number behind the last row names no guard and no term

@@ -1,5 +1,6 @@
 pub mod Answers
 pub mod Decide
+pub mod Runs
 pub mod Row
 pub mod Complete
 pub mod RowComplete

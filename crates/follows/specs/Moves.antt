@@ -37,6 +37,11 @@ use Rattle.follows.specs.Row.{Fine, row-fine}
 use Rattle.follows.specs.Cursors.{row-goes}
 use Rattle.follows.specs.Stands.{tableAt, Apart, Stands, Stay, stay-same, stay-decide, stay-le, apart-decide, put-state, known-inside, possible-inside, restart, put-stands}
 
+-- An upper bound that lies above a number says no more than the number as a bound would.
+pub not-above : (z : ℤ) (y : Upper) → upperAtMost y z ≡ false → UpLe (Under z) y
+not-above z Open f = tt
+not-above z (Under b) f = <ℤ-≤ℤ (lt (nle-ltZ z b f))
+
 -- WHAT EVERY REST HAS by rules 1 and 6
 module _ (rows : List Row) (u : Table) (rest : AtRest rows u) where
   pub rest-sure : (r : ℕ) (g : Guard) → Guards rows r g → u .sure (g .node) ≡ true → g .bound ≤ℤ u .lower r
@@ -191,17 +196,13 @@ module _ (x : Index) (drained : ℕ → ℕ → Bool) where
       is-never : bit (v .marks .sure) (t .node) ≡ false → bit (v .marks .never) (t .node) ≡ true
       is-never e = ap (λ (b : Bool). b || bit (v .marks .never) (t .node)) (sym e) ∙ d
 
-      not-above : (y : Upper) → upperAtMost y (t .bound) ≡ false → UpLe (Under (t .bound)) y
-      not-above Open f = tt
-      not-above (Under b) f = <ℤ-≤ℤ (lt (nle-ltZ (t .bound) b f))
-
       lowered : bit (v .marks .sure) (t .node) ≡ false → (b : Bool) → upperAtMost (st .upper) (t .bound) ≡ b → Kept s (whole (elim b [ true ↦ tight st false | false ↦ tight (withUpper st (Under (t .bound))) true ]))
       lowered e true f = (h, λ c. no-contradiction c)
       lowered e false f = kept-by (withUpper st (Under (t .bound))) (
         refl,
         refl,
         ≤ℤ-refl (st .lower),
-        not-above (st .upper) f,
+        not-above (t .bound) (st .upper) f,
         λ u a rest. (h .follows u a rest .lower r, rest-never (x .rows) u rest r (guard (t .bound) (t .node)) i (h .follows u a rest .never (t .node) (is-never e))),
       )
 

@@ -24,11 +24,12 @@ use Rattle.words.specs.MaskLaws.{learn-there, learn-other}
 use Rattle.queues.specs.Marks.{Marks, marks, isDecided, decided, decide}
 use Rattle.thresholds.specs.Rows.{Row, Guard, noRow}
 use Rattle.propagate.specs.Scan.{Scanned}
-use Rattle.propagate.specs.Row.{Ran, ran, sureGuards, neverGuards, thresholdGuards, forced, trueTerms, falseTerms, scans, thresholdRow}
+use Rattle.propagate.specs.Row.{Ran, ran, sureGuards, neverGuards, thresholdGuards, forced, trueTerms, falseTerms, thresholdRow}
 use Rattle.table.specs.Table.{Table, IsRow, termsOf, knownOf, possibleOf, reachedOf, AtMost, Conflict, lower-above, upper-reached, bound-reached, bound-out-of-reach, term-needed, term-too-heavy}
 use Rattle.table.specs.Order.{le, lt, ≤ℤ-trans, ≤ℤ-<ℤ-trans, pos-≤ℤ, max-up, sub-up, up-refl, at-most-up}
 use Rattle.table.specs.TableLaws.{Le, known-up, possible-down}
 use Rattle.follows.specs.Answers.{and-false, not-false, or-true, or-false, joined-which, joined-fine}
+use Rattle.follows.specs.Runs.{guardsRun, trueRun, falseRun, run-ends}
 use Rattle.follows.specs.Decide.{tableOf, Broken, Kept, decide-follows, scan-keeps}
 
 -- LISTS
@@ -234,21 +235,24 @@ module _ (rows : List Row) (s : Table) (l : ℕ → ℤ) (u : ℕ → Upper) (r 
           let n = never-along st (a .marks) (a .step) (f .0) e in
           ((n .0 .0, inside-guards up _ _ _ (inside-guards st _ _ _ (n .0 .1)), n .0 .2), n .1)
 
-  pub scans-fine : (st : State) (m : Marks) → Along st m → Fine (scans (getD rows r noRow) st m)
-  unfolding scans
-  scans-fine st m h = one (contradicts (a .step)) refl
+  -- A ROW RUN ONCE
+  pub row-fine : (st : State) (m : Marks) → Along st m → Fine (thresholdRow (getD rows r noRow) st m)
+  unfolding conflict
+  row-fine st m h =
+      run-ends row st m Fine (λ e. (h, λ x. (tableOf m l u, h .0, broken e))) (λ e. fa) (λ e f. fb)
+      (λ e f. (fc .0, λ x. fc .1 (joined-which (joined (a .step) (b .step)) (c .step) (joined-fine (a .step) (b .step) e f) x)))
     where
       row : Row
       row = getD rows r noRow
 
       a : Ran
-      a = thresholdGuards (row .guards) st m
+      a = guardsRun row st m
 
       b : Ran
-      b = trueTerms (row .terms) (a .state) (a .marks)
+      b = trueRun row st m
 
       c : Ran
-      c = falseTerms (row .terms) (b .state) (b .marks)
+      c = falseRun row st m
 
       fa : Fine a
       fa = guards-fine st m h
@@ -259,21 +263,6 @@ module _ (rows : List Row) (s : Table) (l : ℕ → ℤ) (u : ℕ → Upper) (r 
       fc : Fine c
       fc = false-fine (b .state) (b .marks) (fb .0)
 
-      two : contradicts (a .step) ≡ false → (t : Bool) → contradicts (b .step) ≡ t
-          → Fine (elim t [ true ↦ b | false ↦ ran (c .state) (c .marks) (joined (joined (a .step) (b .step)) (c .step)) ])
-      two e true d = fb
-      two e false d = (fc .0, λ x. fc .1 (joined-which (joined (a .step) (b .step)) (c .step) (joined-fine (a .step) (b .step) e d) x))
-
-      one : (t : Bool) → contradicts (a .step) ≡ t
-          → Fine (elim t [ true ↦ a | false ↦ elim (contradicts (b .step)) [ true ↦ b | false ↦ ran (c .state) (c .marks) (joined (joined (a .step) (b .step)) (c .step)) ] ])
-      one true e = fa
-      one false e = two e (contradicts (b .step)) refl
-
-  -- A ROW RUN ONCE
-  pub row-fine : (st : State) (m : Marks) → Along st m → Fine (thresholdRow (getD rows r noRow) st m)
-  unfolding thresholdRow conflict
-  row-fine st m h = by (conflict st) refl
-    where
       broken : conflict st ≡ true → Conflict rows (tableOf m l u)
       broken e =
           ⊎-elim
@@ -284,7 +273,3 @@ module _ (rows : List Row) (s : Table) (l : ℕ → ℤ) (u : ℕ → Upper) (r 
         where
           T-up : AtMost (u r) (reached st) → AtMost (u r) (reachedOf rows (tableOf m l u) r)
           T-up x = at-most-up (u r) (u r) (up-refl (u r)) (reached-inside st m (h .1)) x
-
-      by : (b : Bool) → conflict st ≡ b → Fine (elim b [ true ↦ ran st m Contradiction | false ↦ scans (getD rows r noRow) st m ])
-      by true e = (h, λ c. (tableOf m l u, h .0, broken e))
-      by false e = scans-fine st m h

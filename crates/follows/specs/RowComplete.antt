@@ -16,12 +16,13 @@ use Rattle.state.specs.declared.State.{State}
 use Rattle.state.specs.declared.Upper.{Upper}
 use Rattle.state.specs.declared.Upper.the-variants.{Open, Under}
 use Rattle.state.specs.Step.{joined, contradicts}
-use Rattle.state.specs.State.{reached, limited, limit, conflict, withGuards, withTerms}
+use Rattle.state.specs.State.{reached, limited, limit, withGuards, withTerms}
 use Rattle.queues.specs.Marks.{Marks, isDecided, Decided}
 use Rattle.thresholds.specs.Rows.{Row, Guard}
 use Rattle.propagate.specs.Scan.{Scanned, scan}
-use Rattle.propagate.specs.Row.{Ran, ran, decides, sureWaits, sureGuards, reachable, neverWaits, neverGuards, thresholdGuards, termWaits, forces, forced, trueTerms, falseTerms, scans, thresholdRow}
-use Rattle.follows.specs.Answers.{joined-right}
+use Rattle.propagate.specs.Row.{Ran, ran, decides, sureWaits, sureGuards, reachable, neverWaits, neverGuards, thresholdGuards, termWaits, forces, forced, trueTerms, falseTerms, thresholdRow}
+use Rattle.follows.specs.Answers.{clash, joined-right}
+use Rattle.follows.specs.Runs.{guardsRun, trueRun, falseRun, wholeRun, run-ends}
 use Rattle.follows.specs.Decide.{scan-keeps}
 use Rattle.follows.specs.Complete.{All, Wide, Has, wide-decide, wide-force, has-stays, decided-stays, force-stays, force-has, Rising, Falling, sure-complete, never-complete, forced-complete}
 
@@ -253,29 +254,21 @@ false-figures ts st m = by (limited (st .upper)) _ _ _
 -- decided, and the figures are as they were.
 pub row-complete : (row : Row) → Ordered row → (st : State) (m : Marks) → Passed row st m → contradicts (thresholdRow row st m .step) ≡ false
     → let r = thresholdRow row st m in Passed row (r .state) (r .marks) × Complete row st (r .marks) × SameFigures (r .state) st
-unfolding thresholdRow scans
-row-complete row o st m p h = by (conflict st) h
+row-complete row o st m p h =
+    run-ends row st m (λ (r : Ran). contradicts (r .step) ≡ false → Goal r) (λ e d. absurd (clash true refl d)) (λ e d. absurd (clash (contradicts (a .step)) e d))
+    (λ e f d. absurd (clash (contradicts (b .step)) f d)) (λ e f d. done e f (joined-right (joined (a .step) (b .step)) (c .step) d)) h
   where
     a : Ran
-    a = thresholdGuards (row .guards) st m
+    a = guardsRun row st m
 
     b : Ran
-    b = trueTerms (row .terms) (a .state) (a .marks)
+    b = trueRun row st m
 
     c : Ran
-    c = falseTerms (row .terms) (b .state) (b .marks)
+    c = falseRun row st m
 
     Goal : Ran → Type 0
     Goal r = Passed row (r .state) (r .marks) × Complete row st (r .marks) × SameFigures (r .state) st
-
-    two : Bool → Ran
-    two t = elim t [ true ↦ b | false ↦ ran (c .state) (c .marks) (joined (joined (a .step) (b .step)) (c .step)) ]
-
-    one : Bool → Ran
-    one t = elim t [ true ↦ a | false ↦ two (contradicts (b .step)) ]
-
-    all : Bool → Ran
-    all t = elim t [ true ↦ ran st m Contradiction | false ↦ one (contradicts (a .step)) ]
 
     fa : SameFigures (a .state) st
     fa = guards-figures (row .guards) st m
@@ -283,7 +276,7 @@ row-complete row o st m p h = by (conflict st) h
     fb : SameFigures (b .state) st
     fb = same-then (b .state) (a .state) st (true-figures (row .terms) (a .state) (a .marks)) fa
 
-    done : contradicts (a .step) ≡ false → contradicts (b .step) ≡ false → contradicts (c .step) ≡ false → Goal (two false)
+    done : contradicts (a .step) ≡ false → contradicts (b .step) ≡ false → contradicts (c .step) ≡ false → Goal (wholeRun row st m)
     done ea eb ec =
         let ga = guards-done row o st m p ea in
         let gb = true-done row o (a .state) (a .marks) (ga .passed) eb in
@@ -298,15 +291,3 @@ row-complete row o st m p h = by (conflict st) h
           },
           same-then (c .state) (b .state) st (false-figures (row .terms) (b .state) (b .marks)) fb,
         )
-
-    at-two : contradicts (a .step) ≡ false → (t : Bool) → contradicts (b .step) ≡ t → contradicts (two t .step) ≡ false → Goal (two t)
-    at-two ea true e d = absurd (let z : _≡_ {A = ℕ} 0 1 = cc in omega arith)
-    at-two ea false e d = done ea e (joined-right (joined (a .step) (b .step)) (c .step) d)
-
-    at-one : (t : Bool) → contradicts (a .step) ≡ t → contradicts (one t .step) ≡ false → Goal (one t)
-    at-one true e d = absurd (let z : _≡_ {A = ℕ} 0 1 = cc in omega arith)
-    at-one false e d = at-two e (contradicts (b .step)) refl d
-
-    by : (t : Bool) → contradicts (all t .step) ≡ false → Goal (all t)
-    by true d = absurd (let z : _≡_ {A = ℕ} 0 1 = cc in omega arith)
-    by false d = at-one (contradicts (a .step)) refl d

@@ -137,6 +137,15 @@ never-decided m n h = by (bit (m .sure) n)
     by true = refl
     by false = h
 
+-- among nodes that were decided, both masks have the same
+pub among-stay : (m m′ : Marks) → Stay m m′ → (drained : ℕ → Bool) → ((n : ℕ) → drained n ≡ true → isDecided m n ≡ true) → (value : Bool) (n : ℕ)
+    → among drained (mask value m) n ≡ among drained (mask value m′) n
+among-stay m m′ stay drained decided value n = by (drained n) refl
+  where
+    by : (b : Bool) → drained n ≡ b → (b && bit (mask value m) n) ≡ (b && bit (mask value m′) n)
+    by true e = sym (stay n (decided n e) value)
+    by false e = refl
+
 pub stay-le : (m m′ : Marks) (l : ℕ → ℤ) (u : ℕ → Upper) → Stay m m′ → Le (tableOf m l u) (tableOf m′ l u)
 stay-le m m′ l u h = record {
   sure = λ n e. h n (sure-decided m n e) true ∙ e;
@@ -238,8 +247,4 @@ module _ (rows : List Row) (s : Table) (drained : ℕ → ℕ → Bool) (v : Liv
   }
     where
       same : (value : Bool) (k n : ℕ) → among (drained k) (mask value (v .marks)) n ≡ among (drained k) (mask value m) n
-      same value k n = by (drained k n) refl
-        where
-          by : (b : Bool) → drained k n ≡ b → (b && bit (mask value (v .marks)) n) ≡ (b && bit (mask value m) n)
-          by true e = sym (stay n (h .decided k n e) value)
-          by false e = refl
+      same value k = among-stay (v .marks) m stay (drained k) (h .decided k) value

@@ -4,7 +4,7 @@ use Prim.Native.Nat.{ℕ, _+_, _≤_, _<_}
 use native.Mathlib.Decide.{decLt}
 use native.Mathlib.Omega.{arith}
 use mathlib.Core.Path.{_≡_, refl, sym, ap, _∙_, subst}
-use mathlib.Core.Bool.{Bool, true, false, not, _&&_}
+use mathlib.Core.Bool.{Bool, true, false, not}
 use mathlib.Core.List.{List, [], _∷_, List·Memᴰ, List·Memᴰ·not-nil}
 use mathlib.Core.Logic.{⊎-elim}
 use lib.ListN.{length, getD, drop-of-length-le}
@@ -32,7 +32,7 @@ use Rattle.follows.specs.Decide.{tableOf, decideAs, decided-below, again
 use Rattle.follows.specs.Row.{decide-grows}
 use Rattle.follows.specs.Complete.{Wide, wide-decide}
 use Rattle.follows.specs.RowComplete.{Passed}
-use Rattle.follows.specs.Stands.{tableAt, among, also, also-this, also-before, also-which, Apart, Stands, known-same, possible-same, Stay, stay-same, stay-decide, stay-decided, stay-le, apart-decide}
+use Rattle.follows.specs.Stands.{tableAt, among, also, also-this, also-before, also-which, Apart, Stands, known-same, possible-same, among-stay, Stay, stay-same, stay-decide, stay-decided, stay-le, apart-decide}
 use Rattle.follows.specs.Done.{Done, Grows, passed-up, complete-up}
 use Rattle.follows.specs.Told.{Told}
 use Rattle.follows.specs.Handed.{Handed, taken-handed}
@@ -60,11 +60,7 @@ module _ (x : Index) (v : Live) (m : Marks) (d q : Rows) (stay : Stay (v .marks)
   }
     where
       same : (value : Bool) (r n : ℕ) → among (drained r) (mask value (v .marks)) n ≡ among (drained r) (mask value m) n
-      same value r n = by (drained r n) refl
-        where
-          by : (b : Bool) → drained r n ≡ b → (b && bit (mask value (v .marks)) n) ≡ (b && bit (mask value m) n)
-          by true e = sym (stay n (h .decided r n e) value)
-          by false e = refl
+      same value r = among-stay (v .marks) m stay (drained r) (h .decided r) value
 
   marked-done : (ran : ℕ → Bool) → Done (x .rows) ran v → Done (x .rows) ran now
   marked-done ran h = record {

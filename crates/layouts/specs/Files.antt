@@ -9,7 +9,7 @@ use mathlib.Core.Logic.{_⊎_, inl, inr, ⊎-elim}
 use lib.ListN.{getD}
 use lib.Dec.{eqb, ltb}
 use borrow.Author.Tests.{eqb-true, eqb-false, ltb-false}
-use Rattle.numeric.specs.Threshold.{Term, Job}
+use Rattle.numeric.specs.Threshold.{Job}
 use Rattle.numeric.specs.Layout.{Layout, IsLayout}
 use Rattle.words.specs.Mask.{bit}
 use Rattle.queues.specs.Marks.{Marks, decide}
@@ -21,13 +21,13 @@ use Rattle.records.specs.Record.{Record, header, opens, adds, areas, seal, mark
 use Rattle.job.specs.Job.{isEmptyList}
 use Rattle.planner.specs.File.{File, begun, apply, settledFile, siftedFile, planned, after}
 use Rattle.table.specs.Table.{IsRow}
-use Rattle.ends.specs.Built.{Fit, Fits as JobFits, every-each, rows-few, indexed}
+use Rattle.ends.specs.Built.{Fits as JobFits, fits-node, fits-condition, rows-few, indexed}
 use Rattle.ends.specs.Blank.{Blank, blank-begun}
 use Rattle.ends.specs.Files.{Good, good-begun, Taken, taken, node-small, good-apply, Passed, planned-passed}
 use Rattle.follows.specs.Answers.{clash, or-false, or-middle, not-false}
 use Rattle.follows.specs.RowComplete.{Ordered}
 use Rattle.follows.specs.Stands.{stay-same, stay-decide, apart-decide}
-use Rattle.follows.specs.Built.{Built, built, InRange, rows-ordered}
+use Rattle.follows.specs.Built.{Built, built, rows-ordered}
 use Rattle.follows.specs.Waiting.{queued-decide}
 use Rattle.layouts.specs.Turns.{Fits, Holds, Between, agrees-fits, marked, settle-fine}
 use Rattle.layouts.specs.Sifts.{sift-fine}
@@ -35,17 +35,11 @@ use Rattle.layouts.specs.Seals.{seal-fine}
 
 -- WHAT A SEAL BUILDS of a job within the limits
 
-in-range : (j : Job) → JobFits j → InRange j
-in-range j f = record {
-  nodes = λ t m. every-each Fit (j .thresholds) (f .each) t m .node;
-  conditions = λ t m. every-each (λ (u : Term). u .condition < 4096) (t .terms) (every-each Fit (j .thresholds) (f .each) t m .conditions);
-}
-
 builds : (j : Job) → Built j (indexOf j)
 builds j = built j (indexOf j) refl refl refl
 
 orders : (j : Job) → JobFits j → (r : ℕ) → IsRow (rowsOf j) r → Ordered (getD (rowsOf j) r noRow)
-orders j f = rows-ordered j (in-range j f)
+orders j f = rows-ordered j (record { nodes = fits-node j f; conditions = fits-condition j f })
 
 -- THE STAGES of a file: before its seal memory is blank, after it a layout agrees
 

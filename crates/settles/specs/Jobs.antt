@@ -15,7 +15,7 @@ use Rattle.row.specs.TermsLaws.{All as Every, all-map}
 use Rattle.thresholds.specs.Rows.{noRow, rowsOf}
 use Rattle.regions.specs.Drain.{indexOf}
 use Rattle.job.specs.Job.{lastNode, isEmptyList, addTerm}
-use Rattle.ends.specs.Built.{Fit, Fits, every-last, every-each}
+use Rattle.ends.specs.Built.{Fits, every-last, every-each, fits-node, fits-condition}
 use Rattle.table.specs.Table.{IsRow}
 use Rattle.follows.specs.RowComplete.{Ordered}
 use Rattle.follows.specs.Built.{Built, built, rows-ordered}
@@ -76,10 +76,7 @@ pub job-built : (j : Job) → Built j (indexOf j)
 job-built j = built j (indexOf j) refl refl refl
 
 pub job-ordered : (j : Job) → Fits j → (r : ℕ) → IsRow (rowsOf j) r → Ordered (getD (rowsOf j) r noRow)
-job-ordered j f = rows-ordered j (record {
-  nodes = λ t m. every-each Fit (j .thresholds) (f .each) t m .node;
-  conditions = λ t m u k. every-each (λ (y : Term). y .condition < 4096) (t .terms) (every-each Fit (j .thresholds) (f .each) t m .conditions) u k;
-})
+job-ordered j f = rows-ordered j (record { nodes = fits-node j f; conditions = fits-condition j f })
 
 pub job-single : (j : Job) → Rises (j .thresholds) → Single (rowsOf j)
 job-single j h = rows-single j (rises-unique (j .thresholds) h)
