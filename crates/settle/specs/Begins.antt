@@ -34,7 +34,7 @@ pub mark-is : (value : Bool) (v : Live) (n : ℕ) (m : Marks) (k : Step) → dec
 unfolding mark
 mark-is value v n m k e = ap (λ (d : Decided). did (withMarks v (d .marks)) (d .step)) e
 
-pub going-mark : (b : Shared) (v : Live) (value : Bool) (n : ℕ) → n < 4096 → Going b v → Going b (mark v n value .live)
+pub going-mark : (b : Shared) (v : Live) (value : Bool) (n : ℕ) → n < 4096 → Going (b .rows) (b .nodes) v → Going (b .rows) (b .nodes) (mark v n value .live)
 unfolding mark
 going-mark b v value n h g =
     let s = g .sound in
@@ -112,7 +112,7 @@ pub record Fresh (b : Shared) (v : Live) : Type 0 where
   pub residual-rows : Among (length (b .rows .rows)) (v .residuals)
 
 -- SEALING A FRESH STATE, all is such that draining can begin.
-pub within-seal : (x : Index) (b : Shared) → Serves x b → Totals (2 ^ 59) (b .rows .conditions) (b .rows .weights) (b .rows .rows) → (v : Live) → Fresh b v → Within b (seal x v .live)
+pub within-seal : (x : Index) (b : Shared) → Serves x b → Totals (2 ^ 59) (b .rows .conditions) (b .rows .weights) (b .rows .rows) → (v : Live) → Fresh b v → Within (b .rows) (b .nodes) (seal x v .live)
 unfolding seal
 within-seal x b s t v f = record {
   taken = none;
