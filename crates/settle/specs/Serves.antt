@@ -56,13 +56,13 @@ pub record Tracked (n : ℕ) (taken : ℕ → Bool) (v : Live) : Type 0 where
 
 -- Every row can be run, and its figures have room for the weights of all edges that are still to be drained: each moves a figure by
 -- less than 2 ^ 45.
-pub record Within (b : Shared) (v : Live) : Type 0 where
+pub record Within (h : Lent) (nodes : List (List ℕ)) (v : Live) : Type 0 where
   pub taken : ℕ → Bool
-  pub tracked : Tracked (length (b .rows .rows)) taken v
+  pub tracked : Tracked (length (h .rows)) taken v
   pub range : ℕ
-  pub runnable : Runnable (b .rows) range v
-  pub room : range + owed (b .nodes) taken 4096 * 35184372088832 ≤ 2 ^ 60
+  pub runnable : Runnable h range v
+  pub room : range + owed nodes taken 4096 * 35184372088832 ≤ 2 ^ 60
 
-pub record Going (b : Shared) (v : Live) : Type 0 where
+pub record Going (h : Lent) (nodes : List (List ℕ)) (v : Live) : Type 0 where
   pub sound : Sound v
-  pub within : Within b v
+  pub within : Within h nodes v

@@ -22,7 +22,7 @@ abbrev Rest : Index → Live → Step → Live → Type 0
 Rest x v₀ k v = (n : ℕ) × (left v < n) × (drain n x v k ≡ settle x v₀)
 
 pub record Settling (b : Shared) (v₀ : Live) (k : Step) (v : Live) : Type 0 where
-  pub going : Going b v
+  pub going : Going (b .rows) (b .nodes) v
   pub whole : (x : Index) → Serves x b → Rest x v₀ k v
 
 abbrev goes : Index → ℕ → Live → Step → Did → Bool → Bool → Did
@@ -32,7 +32,7 @@ drain-goes : (x : Index) (n : ℕ) (v : Live) (k : Step) (a c : Bool) → atRest
 unfolding drain
 drain-goes x n v k a c e f = ap (λ (i : Bool). goes x n v k (turn x v) i (contradicts (turn x v .step))) e ∙ ap (goes x n v k (turn x v) a) f
 
-pub settling-first : (b : Shared) (v₀ : Live) → Going b v₀ → Settling b v₀ Unchanged v₀
+pub settling-first : (b : Shared) (v₀ : Live) → Going (b .rows) (b .nodes) v₀ → Settling b v₀ Unchanged v₀
 settling-first b v₀ g = record { going = g; whole = λ x s. (turns, left-most v₀ (g .sound), refl) }
 
 module _ (b : Shared) (v₀ : Live) (k : Step) (v : Live) (l : Settling b v₀ k v) where
@@ -58,7 +58,7 @@ module _ (b : Shared) (v₀ : Live) (k : Step) (v : Live) (l : Settling b v₀ k
 
     pub settling-next : (x : Index) → Serves x b → contradicts (o .step) ≡ false → (j : Step) → j ≡ joined k (o .step) → Settling b v₀ j (o .live)
     settling-next z t c j i = record {
-      going = subst (λ (d : Did). Going b (d .live)) (sym (made z t)) (going-turn z b t v (l .going) e);
+      going = subst (λ (d : Did). Going (b .rows) (b .nodes) (d .live)) (sym (made z t)) (going-turn z b t v (l .going) e);
       whole = λ x s. let a = l .whole x s in by x s (a .0) (a .1) (a .2);
     }
       where

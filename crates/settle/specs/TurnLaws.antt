@@ -16,7 +16,7 @@ use Rattle.words.specs.Mask.{bit, digit}
 use Rattle.words.specs.Digits.{digit-high}
 use Rattle.queues.specs.declared.Ring.{Ring}
 use Rattle.queues.specs.Queue.{Rows, queue, isEmpty, oldest, poppedRing, popped, nextRow}
-use Rattle.queues.specs.RowsLaws.{flags-next}
+use Rattle.queues.specs.RowsLaws.{Flags, flags-next}
 use Rattle.queues.specs.Marks.{Marks, marks, isDecided}
 use Rattle.queues.specs.MarksLaws.{Waits, waits-popped}
 use Rattle.between.specs.Between.{Index, Live, live, Did, did, guardOf, thresholdCondition, thresholdPrefixes}
@@ -83,11 +83,11 @@ decided-small m w n d = by (decLt n 4096)
 abbrev pub untaken : Live → Live
 untaken v = withMarks v (marks (v .marks .sure) (v .marks .never) (popped 4096 (v .marks .nodes)))
 
-module _ (x : Index) (b : Shared) (s : Serves x b) (v : Live) (g : Going b v) (some : 0 < v .marks .nodes .ring .count) where
+module _ (x : Index) (b : Shared) (s : Serves x b) (v : Live) (g : Going (b .rows) (b .nodes) v) (some : 0 < v .marks .nodes .ring .count) where
   abbrev n : ℕ
   n = oldest (v .marks .nodes)
 
-  abbrev w : Within b v
+  abbrev w : Within (b .rows) (b .nodes) v
   w = g .within
 
   abbrev now : ℕ → Bool
@@ -141,11 +141,11 @@ module _ (x : Index) (b : Shared) (s : Serves x b) (v : Live) (g : Going b v) (s
   less : owed (b .nodes) (w .taken) 4096 ≡ (endBy 2 (b .nodes) n - startBy 2 (b .nodes) n) + owed (b .nodes) now 4096
   less = owed-also (b .nodes) (w .taken) n (first-fresh (w .taken) (v .marks) (w .tracked .queued) some) 4096 small
 
-  within-node : Within b (takeNode x v .live)
+  within-node : Within (b .rows) (b .nodes) (takeNode x v .live)
   unfolding takeNode
   within-node = by (contradicts (told .step))
     where
-      by : (c : Bool) → let d : Did = elim c [ true ↦ told | false ↦ did (then .live) (joined (told .step) (then .step)) ] in Within b (d .live)
+      by : (c : Bool) → let d : Did = elim c [ true ↦ told | false ↦ did (then .live) (joined (told .step) (then .step)) ] in Within (b .rows) (b .nodes) (d .live)
       by true = record { taken = now; tracked = told-tracked; range = w .range; runnable = told-run; room = omega (arith, w .room, less) }
       by false = record {
         taken = now;
@@ -199,11 +199,11 @@ module _ (x : Index) (b : Shared) (s : Serves x b) (v : Live) (g : Going b v) (s
 abbrev pub unrowed : Live → Live
 unrowed v = live (v .states) (v .marks) (nextRow (v .dirty)) (v .residuals)
 
-module _ (x : Index) (b : Shared) (s : Serves x b) (v : Live) (g : Going b v) (some : 0 < v .dirty .queue .ring .count) where
+module _ (x : Index) (b : Shared) (s : Serves x b) (v : Live) (g : Going (b .rows) (b .nodes) v) (some : 0 < v .dirty .queue .ring .count) where
   abbrev r : ℕ
   r = oldest (v .dirty .queue)
 
-  abbrev y : Within b v
+  abbrev y : Within (b .rows) (b .nodes) v
   y = g .within
 
   is-row : r < length (b .rows .rows)
@@ -219,7 +219,7 @@ module _ (x : Index) (b : Shared) (s : Serves x b) (v : Live) (g : Going b v) (s
     residuals = y .tracked .residuals;
   }
 
-  within-row : Within b (takeRow x v .live)
+  within-row : Within (b .rows) (b .nodes) (takeRow x v .live)
   unfolding takeRow
   within-row = record {
     taken = y .taken;
@@ -231,24 +231,24 @@ module _ (x : Index) (b : Shared) (s : Serves x b) (v : Live) (g : Going b v) (s
     room = y .room;
   }
 
-  module _ (i : ℕ) (e : i ≡ r) (next : Rows) (f : next ≡ nextRow (v .dirty)) where
-    abbrev pub handing : Live
-    handing = live (v .states) (v .marks) next (v .residuals)
+-- The row and the queue as the code has them.
+pub row-there : (n : ℕ) (q : Rows) → Flags q → 0 < q .queue .ring .count → Among n q → (i : ℕ) → i ≡ oldest (q .queue) → i < n
+row-there n q f some a i e = omega (arith, oldest-among n q f some a)
 
-    handing-is : handing ≡ unrowed v
-    handing-is = ap (λ (q : Rows). live (v .states) (v .marks) q (v .residuals)) f
+pub row-flags : (q next : Rows) → next ≡ nextRow q → Flags q → 0 < q .queue .ring .count → Flags next
+row-flags q next e f some = subst Flags (sym e) (flags-next q f some)
 
-    pub row-there : i < length (b .rows .rows)
-    row-there = omega (arith, is-row)
-
-    pub row-run : Runnable (b .rows) (2 ^ 61) handing
-    row-run = subst (Runnable (b .rows) (2 ^ 61)) (sym handing-is) (runnable-more (b .rows) (y .range) (2 ^ 61) (unrowed v) (omega (arith, y .room)) left-run)
-
-    pub row-is : (o : Did) → o ≡ thresholdPrefixes x handing i → o ≡ takeRow x v
-    unfolding takeRow
-    row-is o made = made ∙ ap (λ (u : Live). thresholdPrefixes x u i) handing-is ∙ ap (thresholdPrefixes x (unrowed v)) e
+pub row-is : (x : Index) (v : Live) (i : ℕ) → i ≡ oldest (v .dirty .queue) → (next : Rows) → next ≡ nextRow (v .dirty) → (o : Did)
+    → o ≡ thresholdPrefixes x (live (v .states) (v .marks) next (v .residuals)) i → o ≡ takeRow x v
+unfolding takeRow
+row-is x v i e next f o made =
+    made ∙ ap (λ (q : Rows). thresholdPrefixes x (live (v .states) (v .marks) q (v .residuals)) i) f ∙ ap (thresholdPrefixes x (unrowed v)) e
 
 -- ---- a turn
+
+-- Every row can be run as it is.
+pub going-run : (h : Lent) (nodes : List (List ℕ)) (v : Live) → Going h nodes v → Runnable h (2 ^ 61) v
+going-run h nodes v g = let w = g .within in runnable-more h (w .range) (2 ^ 61) v (omega (arith, w .room)) (w .runnable)
 
 rest-of : (a b : Bool) → a ≡ true → (a && b) ≡ false → b ≡ false
 rest-of true b e h = h
@@ -266,9 +266,9 @@ turn-row x v o e h = h ∙ ap goes (sym e)
     goes : Bool → Did
     goes c = elim c [ true ↦ takeRow x v | false ↦ takeNode x v ]
 
-pub going-turn : (x : Index) (b : Shared) → Serves x b → (v : Live) → Going b v → atRest v ≡ false → Going b (turn x v .live)
+pub going-turn : (x : Index) (b : Shared) → Serves x b → (v : Live) → Going (b .rows) (b .nodes) v → atRest v ≡ false → Going (b .rows) (b .nodes) (turn x v .live)
 going-turn x b s v g h = record { sound = fall-turn x (s .indexed) v (g .sound) h .0; within = by (isEmpty (v .marks .nodes)) refl }
   where
-    by : (c : Bool) → isEmpty (v .marks .nodes) ≡ c → let d : Did = elim c [ true ↦ takeRow x v | false ↦ takeNode x v ] in Within b (d .live)
+    by : (c : Bool) → isEmpty (v .marks .nodes) ≡ c → let d : Did = elim c [ true ↦ takeRow x v | false ↦ takeNode x v ] in Within (b .rows) (b .nodes) (d .live)
     by true e = within-row x b s v g (omega (arith, eqb-false (v .dirty .queue .ring .count) 0 (rest-of (isEmpty (v .marks .nodes)) (isEmpty (v .dirty .queue)) e h)))
     by false e = within-node x b s v g (omega (arith, eqb-false (v .marks .nodes .ring .count) 0 e))

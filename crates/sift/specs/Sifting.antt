@@ -121,24 +121,24 @@ module _ (x : Index) (b : Shared) (s : Serves x b) where
   abbrev drains : ℕ → Live → Step → Bool → Bool → Did
   drains n v k rest contradiction = elim rest [ true ↦ did v k | false ↦ elim contradiction [ true ↦ turn x v | false ↦ drain n x (turn x v .live) (joined k (turn x v .step)) ] ]
 
-  going-drain : (n : ℕ) (v : Live) (k : Step) → Going b v → Going b (drain n x v k .live)
+  going-drain : (n : ℕ) (v : Live) (k : Step) → Going (b .rows) (b .nodes) v → Going (b .rows) (b .nodes) (drain n x v k .live)
   unfolding drain
   going-drain zero v k g = g
   going-drain (suc n) v k g = by (λ u j h. going-drain n u j h) (atRest v) refl (contradicts (turn x v .step))
     where
-      by : ((u : Live) (j : Step) → Going b u → Going b (drain n x u j .live)) → (a : Bool) → atRest v ≡ a → (c : Bool) → Going b (drains n v k a c .live)
+      by : ((u : Live) (j : Step) → Going (b .rows) (b .nodes) u → Going (b .rows) (b .nodes) (drain n x u j .live)) → (a : Bool) → atRest v ≡ a → (c : Bool) → Going (b .rows) (b .nodes) (drains n v k a c .live)
       by more true e c = g
       by more false e true = going-turn x b s v g e
       by more false e false = more (turn x v .live) (joined k (turn x v .step)) (going-turn x b s v g e)
 
-  pub going-settle : (v : Live) → Going b v → Going b (settle x v .live)
+  pub going-settle : (v : Live) → Going (b .rows) (b .nodes) v → Going (b .rows) (b .nodes) (settle x v .live)
   going-settle v g = going-drain turns v Unchanged g
 
   -- What was settled can be tried.
-  pub settled-tries : (v : Live) → Going b v → (d : Did) → d ≡ settle x v → 0 < d .live .residuals .queue .ring .count → (gcds words : List ℕ) → Short (b .rows .rows) → Scratch gcds words
+  pub settled-tries : (v : Live) → Going (b .rows) (b .nodes) v → (d : Did) → d ≡ settle x v → 0 < d .live .residuals .queue .ring .count → (gcds words : List ℕ) → Short (b .rows .rows) → Scratch gcds words
       → Tries (b .rows) (d .live .states) (d .live .marks) (d .live .residuals) gcds words
   settled-tries v g d made some gcds words short scratch =
-      let w = subst (λ (o : Did). Going b (o .live)) (sym made) (going-settle v g) .within in
+      let w = subst (λ (o : Did). Going (b .rows) (b .nodes) (o .live)) (sym made) (going-settle v g) .within in
       record {
         shaped = s .shaped;
         short = short;
@@ -149,8 +149,8 @@ module _ (x : Index) (b : Shared) (s : Serves x b) where
       }
 
   -- A round keeps it, and leaves less to do where there is another.
-  pub going-once : (v : Live) (gcds : List ℕ) (visits : ℕ) → Going b v
-      → Going b (once x v gcds visits .sifted .live) × (left (once x v gcds visits .sifted .live) + cond (once x v gcds visits .more) 1 0 ≤ left v)
+  pub going-once : (v : Live) (gcds : List ℕ) (visits : ℕ) → Going (b .rows) (b .nodes) v
+      → Going (b .rows) (b .nodes) (once x v gcds visits .sifted .live) × (left (once x v gcds visits .sifted .live) + cond (once x v gcds visits .more) 1 0 ≤ left v)
   unfolding once
   going-once v gcds visits g = by (contradicts (d .step)) (isEmpty (d .live .residuals .queue)) refl
     where
@@ -160,7 +160,7 @@ module _ (x : Index) (b : Shared) (s : Serves x b) where
       t : Sifted
       t = tryRow x (d .live) gcds visits
 
-      by : (a c : Bool) → isEmpty (d .live .residuals .queue) ≡ c → Going b (picks d t gcds visits a c .sifted .live) × (left (picks d t gcds visits a c .sifted .live) + cond (picks d t gcds visits a c .more) 1 0 ≤ left v)
+      by : (a c : Bool) → isEmpty (d .live .residuals .queue) ≡ c → Going (b .rows) (b .nodes) (picks d t gcds visits a c .sifted .live) × (left (picks d t gcds visits a c .sifted .live) + cond (picks d t gcds visits a c .more) 1 0 ≤ left v)
       by true c e = (going-settle v g, omega (arith, settle-stays x (s .indexed) v (g .sound) .1))
       by false true e = (going-settle v g, omega (arith, settle-stays x (s .indexed) v (g .sound) .1))
       by false false e = (
@@ -176,10 +176,10 @@ Rest x v₀ gcds₀ k visits true v gcds = (n : ℕ) × (left v < n) × (siftFro
 Rest x v₀ gcds₀ k visits false v gcds = sifted v gcds k visits ≡ sift x v₀ gcds₀
 
 pub record Sifting (b : Shared) (v₀ : Live) (gcds₀ : List ℕ) (k : Step) (visits : ℕ) (more : Bool) (v : Live) (gcds : List ℕ) : Type 0 where
-  pub going : Going b v
+  pub going : Going (b .rows) (b .nodes) v
   pub whole : (x : Index) → Serves x b → Rest x v₀ gcds₀ k visits more v gcds
 
-pub sifting-first : (b : Shared) (v₀ : Live) (gcds₀ : List ℕ) → Going b v₀ → Sifting b v₀ gcds₀ Unchanged 0 true v₀ gcds₀
+pub sifting-first : (b : Shared) (v₀ : Live) (gcds₀ : List ℕ) → Going (b .rows) (b .nodes) v₀ → Sifting b v₀ gcds₀ Unchanged 0 true v₀ gcds₀
 sifting-first b v₀ gcds₀ g = record { going = g; whole = λ x s. (turns, left-most v₀ (g .sound), refl) }
 
 module _ (b : Shared) (v₀ : Live) (gcds₀ : List ℕ) (k : Step) (visits : ℕ) (more : Bool) (v : Live) (gcds : List ℕ) (l : Sifting b v₀ gcds₀ k visits more v gcds) where
@@ -229,7 +229,7 @@ module _ (b : Shared) (v₀ : Live) (gcds₀ : List ℕ) (k : Step) (visits : �
     pub sifting-next : (x : Index) → Serves x b → contradicts (o .sifted .step) ≡ false → (j : Step) → j ≡ joined k (o .sifted .step)
         → Sifting b v₀ gcds₀ j (o .sifted .visits) (o .more) (o .sifted .live) (o .sifted .gcds)
     sifting-next z t c j i = record {
-      going = subst (λ (r : Round). Going b (r .sifted .live)) (sym (made z t)) (going-once z b t v gcds visits (l .going) .0);
+      going = subst (λ (r : Round). Going (b .rows) (b .nodes) (r .sifted .live)) (sym (made z t)) (going-once z b t v gcds visits (l .going) .0);
       whole = λ x s. let a = there x s in by x s (a .0) (a .1) (a .2);
     }
       where

@@ -108,7 +108,7 @@ module _ (h : Lent) (ss : List State) (m : Marks) (q : Rows) (gcds words : List 
 
 -- ---- what can be drained stays such
 
-module _ (x : Index) (b : Shared) (s : Serves x b) (v : Live) (g : Going b v) (some : 0 < v .residuals .queue .ring .count) (gcds : List ℕ) (visits : ℕ) where
+module _ (x : Index) (b : Shared) (s : Serves x b) (v : Live) (g : Going (b .rows) (b .nodes) v) (some : 0 < v .residuals .queue .ring .count) (gcds : List ℕ) (visits : ℕ) where
   abbrev r : ℕ
   r = oldest (v .residuals .queue)
 
@@ -118,7 +118,7 @@ module _ (x : Index) (b : Shared) (s : Serves x b) (v : Live) (g : Going b v) (s
   abbrev after : Live
   after = live (v .states) (a .marks) (v .dirty) (nextRow (v .residuals))
 
-  abbrev w : Within b v
+  abbrev w : Within (b .rows) (b .nodes) v
   w = g .within
 
   queued : Queued (w .taken) (a .marks)
@@ -126,7 +126,7 @@ module _ (x : Index) (b : Shared) (s : Serves x b) (v : Live) (g : Going b v) (s
       keeps-residual (Queued (w .taken)) (λ m value n k p. queued-decide (w .taken) value m n k p) (getD (x .rows) r noRow .terms) (stateAt v r) (v .marks) gcds (s .indexed .conditions r)
       (w .tracked .queued)
 
-  within-after : Within b after
+  within-after : Within (b .rows) (b .nodes) after
   within-after = record {
     taken = w .taken;
     tracked = record {
@@ -142,19 +142,19 @@ module _ (x : Index) (b : Shared) (s : Serves x b) (v : Live) (g : Going b v) (s
     room = w .room;
   }
 
-  within-try : Within b (tryRow x v gcds visits .live)
+  within-try : Within (b .rows) (b .nodes) (tryRow x v gcds visits .live)
   unfolding tryRow
   within-try = by (isUnchanged (a .step))
     where
       by : (c : Bool) → let o : Sifted = elim c [
         | true ↦ sifted after (a .gcds) (searchStep (search (getD (x .rows) r noRow .terms) (stateAt v r) (isDecided (a .marks)))) (searchVisits visits (search (getD (x .rows) r noRow .terms) (stateAt v r) (isDecided (a .marks))))
         | false ↦ sifted after (a .gcds) (a .step) visits
-      ] in Within b (o .live)
+      ] in Within (b .rows) (b .nodes) (o .live)
       by true = within-after
       by false = within-after
 
-pub going-try : (x : Index) (b : Shared) → Serves x b → (v : Live) → Going b v → (gcds : List ℕ) (visits : ℕ) → isEmpty (v .residuals .queue) ≡ false
-    → Going b (tryRow x v gcds visits .live)
+pub going-try : (x : Index) (b : Shared) → Serves x b → (v : Live) → Going (b .rows) (b .nodes) v → (gcds : List ℕ) (visits : ℕ) → isEmpty (v .residuals .queue) ≡ false
+    → Going (b .rows) (b .nodes) (tryRow x v gcds visits .live)
 going-try x b s v g gcds visits e = record {
   sound = fall-try x (s .indexed) v gcds visits (g .sound) e .0;
   within = within-try x b s v g (omega (arith, eqb-false (v .residuals .queue .ring .count) 0 e)) gcds visits;

@@ -16,24 +16,25 @@ use Rattle.settle.proofs.take_node.Tie as tie
 
 entry-requires : tie.Need-entry-requires
 entry-requires c κs =
-    let pre = c .before .before .before .before .before .before .before .before .before .before .before .before .pre in
+    let pre = c .before .before .before .before .before .before .before .before .before .before .before .pre in
     omega (arith, pre .1 .sound .waits .held .head, pre .1 .sound .waits .held .long)
 
 popped-requires : tie.Need-popped-requires
 popped-requires c κs =
-    let pre = c .before .before .before .before .before .before .before .before .before .before .before .before .before .pre in
+    let pre = c .before .before .before .before .before .before .before .before .before .before .before .before .pre in
     (pre .1 .sound .waits .held .head, pre .0 .1)
 
 guard-at-requires : tie.Need-guard-at-requires
 guard-at-requires c κs =
-    let pre = c .before .before .before .before .before .before .before .before .before .before .before .before .before .before .before .before .before .before .before .before .before .before .before .pre in
-    let args = c .before .before .before .before .before .before .before .before .before .before .before .before .before .before .before .before .before .before .before .before .before .before .before .args in
+    let pre = c .before .before .before .before .before .before .before .before .before .before .before .before .before .before .before .before .before .before .before .before .before .before .pre in
+    let args = c .before .before .before .before .before .before .before .before .before .before .before .before .before .before .before .before .before .before .before .before .before .before .args in
     let entry = c .before .before .before .before .before .before .before .before .before .before .entry in
     let popped = c .before .before .before .before .before .before .before .before .before .popped in
     let x = pre .0 .0 .0 in
-    let s = pre .0 .0 .1 in
-    let r = node-run x (shared (lent (args .conditions .now) (args .weights .now) (args .rows .now) (args .bounds .now) (args .names .now)) (args .index .now) (args .limits .now) (args .edges .now) (args .links .now)) s (live (statesOf (args .figures .now) (args .cursors .now)) (marks (args .sure .now) (args .never .now) (queue (args .nodes .now) (args .ring))) (rows (queue (args .waiting .now) (args .dirty)) (args .flags .now)) (rows (queue (args .items .now) (args .residuals)) (args .pending .now))) (pre .1) (pre .0 .1) (entry .result) (entry .ensures) (popped .result) (popped .ensures) in (
-      (s .shaped, s .guarded, node-there x (shared (lent (args .conditions .now) (args .weights .now) (args .rows .now) (args .bounds .now) (args .names .now)) (args .index .now) (args .limits .now) (args .edges .now) (args .links .now)) s (live (statesOf (args .figures .now) (args .cursors .now)) (marks (args .sure .now) (args .never .now) (queue (args .nodes .now) (args .ring))) (rows (queue (args .waiting .now) (args .dirty)) (args .flags .now)) (rows (queue (args .items .now) (args .residuals)) (args .pending .now))) (pre .1) (pre .0 .1) (entry .result) (entry .ensures) (popped .result) (popped .ensures), node-small x (shared (lent (args .conditions .now) (args .weights .now) (args .rows .now) (args .bounds .now) (args .names .now)) (args .index .now) (args .limits .now) (args .edges .now) (args .links .now)) s (live (statesOf (args .figures .now) (args .cursors .now)) (marks (args .sure .now) (args .never .now) (queue (args .nodes .now) (args .ring))) (rows (queue (args .waiting .now) (args .dirty)) (args .flags .now)) (rows (queue (args .items .now) (args .residuals)) (args .pending .now))) (pre .1) (pre .0 .1) (entry .result) (entry .ensures) (popped .result) (popped .ensures), s .linked .inside .rising),
+    let l = pre .0 .0 .1 in
+    let s = pre .0 .0 .2 in
+    let r = node-run x (shared (lent (args .conditions .now) (args .weights .now) (args .rows .now) (args .bounds .now) (args .names .now)) (args .index .now) (args .limits .now) (args .edges .now) l) s (live (statesOf (args .figures .now) (args .cursors .now)) (marks (args .sure .now) (args .never .now) (queue (args .nodes .now) (args .ring))) (rows (queue (args .waiting .now) (args .dirty)) (args .flags .now)) (rows (queue (args .items .now) (args .residuals)) (args .pending .now))) (pre .1) (pre .0 .1) (entry .result) (entry .ensures) (popped .result) (popped .ensures) in (
+      (s .shaped, s .guarded, node-there x (shared (lent (args .conditions .now) (args .weights .now) (args .rows .now) (args .bounds .now) (args .names .now)) (args .index .now) (args .limits .now) (args .edges .now) l) s (live (statesOf (args .figures .now) (args .cursors .now)) (marks (args .sure .now) (args .never .now) (queue (args .nodes .now) (args .ring))) (rows (queue (args .waiting .now) (args .dirty)) (args .flags .now)) (rows (queue (args .items .now) (args .residuals)) (args .pending .now))) (pre .1) (pre .0 .1) (entry .result) (entry .ensures) (popped .result) (popped .ensures), node-small x (shared (lent (args .conditions .now) (args .weights .now) (args .rows .now) (args .bounds .now) (args .names .now)) (args .index .now) (args .limits .now) (args .edges .now) l) s (live (statesOf (args .figures .now) (args .cursors .now)) (marks (args .sure .now) (args .never .now) (queue (args .nodes .now) (args .ring))) (rows (queue (args .waiting .now) (args .dirty)) (args .flags .now)) (rows (queue (args .items .now) (args .residuals)) (args .pending .now))) (pre .1) (pre .0 .1) (entry .result) (entry .ensures) (popped .result) (popped .ensures), s .linked .inside .rising),
       (r .ready, r .dirty),
     )
 
@@ -69,30 +70,31 @@ same-length-9 c = c .before .before .before .before .before .before .before .bef
 
 returns : tie.Need-returns
 returns c =
-    let args = c .before .before .before .before .before .before .before .before .before .before .before .before .before .before .before .before .before .before .before .before .before .before .before .before .before .before .before .before .before .before .before .before .before .before .before .before .before .before .before .before .before .before .before .args in
-    let pre = c .before .before .before .before .before .before .before .before .before .before .before .before .before .before .before .before .before .before .before .before .before .before .before .before .before .before .before .before .before .before .before .before .before .before .before .before .before .before .before .before .before .before .before .pre in
+    let args = c .before .before .before .before .before .before .before .before .before .before .before .before .before .before .before .before .before .before .before .before .before .before .before .before .before .before .before .before .before .before .before .before .before .before .before .before .before .before .before .before .before .before .args in
+    let pre = c .before .before .before .before .before .before .before .before .before .before .before .before .before .before .before .before .before .before .before .before .before .before .before .before .before .before .before .before .before .before .before .before .before .before .before .before .before .before .before .before .before .before .pre in
     let entry = c .before .before .before .before .before .before .before .before .before .before .before .before .before .before .before .before .before .before .before .before .before .before .before .before .before .before .before .before .before .before .entry in
     let popped = c .before .before .before .before .before .before .before .before .before .before .before .before .before .before .before .before .before .before .before .before .before .before .before .before .before .before .before .before .before .popped in
     let guard-at = c .before .before .before .before .before .before .before .before .before .before .before .before .before .before .before .before .before .before .before .guard-at in (
-      λ x s.
-          node-stop x (shared (lent (args .conditions .now) (args .weights .now) (args .rows .now) (args .bounds .now) (args .names .now)) (args .index .now) (args .limits .now) (args .edges .now) (args .links .now)) s (live (statesOf (args .figures .now) (args .cursors .now)) (marks (args .sure .now) (args .never .now) (queue (args .nodes .now) (args .ring))) (rows (queue (args .waiting .now) (args .dirty)) (args .flags .now)) (rows (queue (args .items .now) (args .residuals)) (args .pending .now))) (pre .1) (pre .0 .1) (entry .result) (entry .ensures) (popped .result) (popped .ensures) (did (live (statesOf (guard-at .last .1 .1 .1 .1 .1 .1 .1 .0) (guard-at .last .1 .1 .1 .1 .1 .1 .1 .1 .0)) (marks (guard-at .last .1 .1 .1 .1 .1 .1 .1 .1 .1 .1 .0) (guard-at .last .1 .1 .1 .1 .1 .1 .1 .1 .1 .1 .1 .0) (queue (guard-at .last .1 .1 .1 .1 .1 .1 .1 .1 .1 .1 .1 .1 .0) (guard-at .result .answer .ring))) (rows (queue (guard-at .last .1 .1 .1 .1 .1 .1 .1 .1 .1 .1 .1 .1 .1 .1 .1 .1 .1 .0) (guard-at .result .dirty)) (guard-at .last .1 .1 .1 .1 .1 .1 .1 .1 .1 .1 .1 .1 .1 .1 .1 .1 .1 .1 .0)) (rows (queue (guard-at .last .1 .1 .1 .1 .1 .1 .1 .1 .1 .1 .1 .1 .1 .1 .0) (guard-at .result .answer .residuals)) (guard-at .last .1 .1 .1 .1 .1 .1 .1 .1 .1 .1 .1 .1 .1 .1 .1 .0))) (guard-at .result .answer .step))
-          (guard-at .ensures .0 x (s .holds) (s .holds-guards) (λ r k. counts-links x (lent (args .conditions .now) (args .weights .now) (args .rows .now) (args .bounds .now) (args .names .now)) (args .links .now) (s .linked) (s .holds-links) r k))
+      λ x l s.
+          node-stop x (shared (lent (args .conditions .now) (args .weights .now) (args .rows .now) (args .bounds .now) (args .names .now)) (args .index .now) (args .limits .now) (args .edges .now) l) s (live (statesOf (args .figures .now) (args .cursors .now)) (marks (args .sure .now) (args .never .now) (queue (args .nodes .now) (args .ring))) (rows (queue (args .waiting .now) (args .dirty)) (args .flags .now)) (rows (queue (args .items .now) (args .residuals)) (args .pending .now))) (pre .1) (pre .0 .1) (entry .result) (entry .ensures) (popped .result) (popped .ensures) (did (live (statesOf (guard-at .last .1 .1 .1 .1 .1 .1 .1 .0) (guard-at .last .1 .1 .1 .1 .1 .1 .1 .1 .0)) (marks (guard-at .last .1 .1 .1 .1 .1 .1 .1 .1 .1 .1 .0) (guard-at .last .1 .1 .1 .1 .1 .1 .1 .1 .1 .1 .1 .0) (queue (guard-at .last .1 .1 .1 .1 .1 .1 .1 .1 .1 .1 .1 .1 .0) (guard-at .result .answer .ring))) (rows (queue (guard-at .last .1 .1 .1 .1 .1 .1 .1 .1 .1 .1 .1 .1 .1 .1 .1 .1 .1 .0) (guard-at .result .dirty)) (guard-at .last .1 .1 .1 .1 .1 .1 .1 .1 .1 .1 .1 .1 .1 .1 .1 .1 .1 .1 .0)) (rows (queue (guard-at .last .1 .1 .1 .1 .1 .1 .1 .1 .1 .1 .1 .1 .1 .1 .0) (guard-at .result .answer .residuals)) (guard-at .last .1 .1 .1 .1 .1 .1 .1 .1 .1 .1 .1 .1 .1 .1 .1 .0))) (guard-at .result .answer .step))
+          (guard-at .ensures .0 x (s .holds) (s .holds-guards) (λ r k. counts-links x (lent (args .conditions .now) (args .weights .now) (args .rows .now) (args .bounds .now) (args .names .now)) l (s .linked) (s .holds-links) r k))
           (sym (c .before .contradicts .ensures) ∙ c .if1 .taken),
       guard-at .ensures .1,
     )
 
 threshold-condition-requires : tie.Need-threshold-condition-requires
 threshold-condition-requires c κs =
-    let pre = c .before .before .before .before .before .before .before .before .before .before .before .before .before .before .before .before .before .before .before .before .before .before .before .before .before .before .before .before .before .before .before .before .before .before .before .before .before .before .before .before .before .before .before .before .before .before .before .before .before .before .before .before .before .pre in
-    let args = c .before .before .before .before .before .before .before .before .before .before .before .before .before .before .before .before .before .before .before .before .before .before .before .before .before .before .before .before .before .before .before .before .before .before .before .before .before .before .before .before .before .before .before .before .before .before .before .before .before .before .before .before .before .args in
+    let pre = c .before .before .before .before .before .before .before .before .before .before .before .before .before .before .before .before .before .before .before .before .before .before .before .before .before .before .before .before .before .before .before .before .before .before .before .before .before .before .before .before .before .before .before .before .before .before .before .before .before .before .before .before .pre in
+    let args = c .before .before .before .before .before .before .before .before .before .before .before .before .before .before .before .before .before .before .before .before .before .before .before .before .before .before .before .before .before .before .before .before .before .before .before .before .before .before .before .before .before .before .before .before .before .before .before .before .before .before .before .before .args in
     let entry = c .before .before .before .before .before .before .before .before .before .before .before .before .before .before .before .before .before .before .before .before .before .before .before .before .before .before .before .before .before .before .before .before .before .before .before .before .before .before .before .before .entry in
     let popped = c .before .before .before .before .before .before .before .before .before .before .before .before .before .before .before .before .before .before .before .before .before .before .before .before .before .before .before .before .before .before .before .before .before .before .before .before .before .before .before .popped in
     let guard-at = c .before .before .before .before .before .before .before .before .before .before .before .before .before .before .before .before .before .before .before .before .before .before .before .before .before .before .before .before .before .guard-at in
     let x = pre .0 .0 .0 in
-    let s = pre .0 .0 .1 in
-    let r = node-next-run x (shared (lent (args .conditions .now) (args .weights .now) (args .rows .now) (args .bounds .now) (args .names .now)) (args .index .now) (args .limits .now) (args .edges .now) (args .links .now)) s (live (statesOf (args .figures .now) (args .cursors .now)) (marks (args .sure .now) (args .never .now) (queue (args .nodes .now) (args .ring))) (rows (queue (args .waiting .now) (args .dirty)) (args .flags .now)) (rows (queue (args .items .now) (args .residuals)) (args .pending .now))) (pre .1) (pre .0 .1) (entry .result) (entry .ensures) (popped .result) (popped .ensures) (did (live (statesOf (guard-at .last .1 .1 .1 .1 .1 .1 .1 .0) (guard-at .last .1 .1 .1 .1 .1 .1 .1 .1 .0)) (marks (guard-at .last .1 .1 .1 .1 .1 .1 .1 .1 .1 .1 .0) (guard-at .last .1 .1 .1 .1 .1 .1 .1 .1 .1 .1 .1 .0) (queue (guard-at .last .1 .1 .1 .1 .1 .1 .1 .1 .1 .1 .1 .1 .0) (guard-at .result .answer .ring))) (rows (queue (guard-at .last .1 .1 .1 .1 .1 .1 .1 .1 .1 .1 .1 .1 .1 .1 .1 .1 .1 .0) (guard-at .result .dirty)) (guard-at .last .1 .1 .1 .1 .1 .1 .1 .1 .1 .1 .1 .1 .1 .1 .1 .1 .1 .1 .0)) (rows (queue (guard-at .last .1 .1 .1 .1 .1 .1 .1 .1 .1 .1 .1 .1 .1 .1 .0) (guard-at .result .answer .residuals)) (guard-at .last .1 .1 .1 .1 .1 .1 .1 .1 .1 .1 .1 .1 .1 .1 .1 .0))) (guard-at .result .answer .step))
-    (guard-at .ensures .0 x (s .holds) (s .holds-guards) (λ r k. counts-links x (lent (args .conditions .now) (args .weights .now) (args .rows .now) (args .bounds .now) (args .names .now)) (args .links .now) (s .linked) (s .holds-links) r k)) in
-    ((s .shaped, s .edged, node-there x (shared (lent (args .conditions .now) (args .weights .now) (args .rows .now) (args .bounds .now) (args .names .now)) (args .index .now) (args .limits .now) (args .edges .now) (args .links .now)) s (live (statesOf (args .figures .now) (args .cursors .now)) (marks (args .sure .now) (args .never .now) (queue (args .nodes .now) (args .ring))) (rows (queue (args .waiting .now) (args .dirty)) (args .flags .now)) (rows (queue (args .items .now) (args .residuals)) (args .pending .now))) (pre .1) (pre .0 .1) (entry .result) (entry .ensures) (popped .result) (popped .ensures), node-small x (shared (lent (args .conditions .now) (args .weights .now) (args .rows .now) (args .bounds .now) (args .names .now)) (args .index .now) (args .limits .now) (args .edges .now) (args .links .now)) s (live (statesOf (args .figures .now) (args .cursors .now)) (marks (args .sure .now) (args .never .now) (queue (args .nodes .now) (args .ring))) (rows (queue (args .waiting .now) (args .dirty)) (args .flags .now)) (rows (queue (args .items .now) (args .residuals)) (args .pending .now))) (pre .1) (pre .0 .1) (entry .result) (entry .ensures) (popped .result) (popped .ensures)), r .ready)
+    let l = pre .0 .0 .1 in
+    let s = pre .0 .0 .2 in
+    let r = node-next-run x (shared (lent (args .conditions .now) (args .weights .now) (args .rows .now) (args .bounds .now) (args .names .now)) (args .index .now) (args .limits .now) (args .edges .now) l) s (live (statesOf (args .figures .now) (args .cursors .now)) (marks (args .sure .now) (args .never .now) (queue (args .nodes .now) (args .ring))) (rows (queue (args .waiting .now) (args .dirty)) (args .flags .now)) (rows (queue (args .items .now) (args .residuals)) (args .pending .now))) (pre .1) (pre .0 .1) (entry .result) (entry .ensures) (popped .result) (popped .ensures) (did (live (statesOf (guard-at .last .1 .1 .1 .1 .1 .1 .1 .0) (guard-at .last .1 .1 .1 .1 .1 .1 .1 .1 .0)) (marks (guard-at .last .1 .1 .1 .1 .1 .1 .1 .1 .1 .1 .0) (guard-at .last .1 .1 .1 .1 .1 .1 .1 .1 .1 .1 .1 .0) (queue (guard-at .last .1 .1 .1 .1 .1 .1 .1 .1 .1 .1 .1 .1 .0) (guard-at .result .answer .ring))) (rows (queue (guard-at .last .1 .1 .1 .1 .1 .1 .1 .1 .1 .1 .1 .1 .1 .1 .1 .1 .1 .0) (guard-at .result .dirty)) (guard-at .last .1 .1 .1 .1 .1 .1 .1 .1 .1 .1 .1 .1 .1 .1 .1 .1 .1 .1 .0)) (rows (queue (guard-at .last .1 .1 .1 .1 .1 .1 .1 .1 .1 .1 .1 .1 .1 .1 .0) (guard-at .result .answer .residuals)) (guard-at .last .1 .1 .1 .1 .1 .1 .1 .1 .1 .1 .1 .1 .1 .1 .1 .0))) (guard-at .result .answer .step))
+    (guard-at .ensures .0 x (s .holds) (s .holds-guards) (λ r k. counts-links x (lent (args .conditions .now) (args .weights .now) (args .rows .now) (args .bounds .now) (args .names .now)) l (s .linked) (s .holds-links) r k)) in
+    ((s .shaped, s .edged, node-there x (shared (lent (args .conditions .now) (args .weights .now) (args .rows .now) (args .bounds .now) (args .names .now)) (args .index .now) (args .limits .now) (args .edges .now) l) s (live (statesOf (args .figures .now) (args .cursors .now)) (marks (args .sure .now) (args .never .now) (queue (args .nodes .now) (args .ring))) (rows (queue (args .waiting .now) (args .dirty)) (args .flags .now)) (rows (queue (args .items .now) (args .residuals)) (args .pending .now))) (pre .1) (pre .0 .1) (entry .result) (entry .ensures) (popped .result) (popped .ensures), node-small x (shared (lent (args .conditions .now) (args .weights .now) (args .rows .now) (args .bounds .now) (args .names .now)) (args .index .now) (args .limits .now) (args .edges .now) l) s (live (statesOf (args .figures .now) (args .cursors .now)) (marks (args .sure .now) (args .never .now) (queue (args .nodes .now) (args .ring))) (rows (queue (args .waiting .now) (args .dirty)) (args .flags .now)) (rows (queue (args .items .now) (args .residuals)) (args .pending .now))) (pre .1) (pre .0 .1) (entry .result) (entry .ensures) (popped .result) (popped .ensures)), r .ready)
 
 join-requires : tie.Need-join-requires
 join-requires c κs = search needs
@@ -126,15 +128,15 @@ same-length-18 c = c .before .before .before .before .before .before .before .be
 
 returns-2 : tie.Need-returns-2
 returns-2 c =
-    let args = c .before .before .before .before .before .before .before .before .before .before .before .before .before .before .before .before .before .before .before .before .before .before .before .before .before .before .before .before .before .before .before .before .before .before .before .before .before .before .before .before .before .before .before .before .before .before .before .before .before .before .before .before .before .before .before .before .before .before .before .before .before .before .before .before .before .before .before .before .before .args in
-    let pre = c .before .before .before .before .before .before .before .before .before .before .before .before .before .before .before .before .before .before .before .before .before .before .before .before .before .before .before .before .before .before .before .before .before .before .before .before .before .before .before .before .before .before .before .before .before .before .before .before .before .before .before .before .before .before .before .before .before .before .before .before .before .before .before .before .before .before .before .before .before .pre in
+    let args = c .before .before .before .before .before .before .before .before .before .before .before .before .before .before .before .before .before .before .before .before .before .before .before .before .before .before .before .before .before .before .before .before .before .before .before .before .before .before .before .before .before .before .before .before .before .before .before .before .before .before .before .before .before .before .before .before .before .before .before .before .before .before .before .before .before .before .before .before .args in
+    let pre = c .before .before .before .before .before .before .before .before .before .before .before .before .before .before .before .before .before .before .before .before .before .before .before .before .before .before .before .before .before .before .before .before .before .before .before .before .before .before .before .before .before .before .before .before .before .before .before .before .before .before .before .before .before .before .before .before .before .before .before .before .before .before .before .before .before .before .before .before .pre in
     let entry = c .before .before .before .before .before .before .before .before .before .before .before .before .before .before .before .before .before .before .before .before .before .before .before .before .before .before .before .before .before .before .before .before .before .before .before .before .before .before .before .before .before .before .before .before .before .before .before .before .before .before .before .before .before .before .before .before .entry in
     let popped = c .before .before .before .before .before .before .before .before .before .before .before .before .before .before .before .before .before .before .before .before .before .before .before .before .before .before .before .before .before .before .before .before .before .before .before .before .before .before .before .before .before .before .before .before .before .before .before .before .before .before .before .before .before .before .before .popped in
     let guard-at = c .before .before .before .before .before .before .before .before .before .before .before .before .before .before .before .before .before .before .before .before .before .before .before .before .before .before .before .before .before .before .before .before .before .before .before .before .before .before .before .before .before .before .before .before .before .guard-at in
     let threshold-condition = c .before .before .before .before .before .before .before .before .before .before .before .before .before .before .before .threshold-condition in (
-      λ x s.
-          node-next x (shared (lent (args .conditions .now) (args .weights .now) (args .rows .now) (args .bounds .now) (args .names .now)) (args .index .now) (args .limits .now) (args .edges .now) (args .links .now)) s (live (statesOf (args .figures .now) (args .cursors .now)) (marks (args .sure .now) (args .never .now) (queue (args .nodes .now) (args .ring))) (rows (queue (args .waiting .now) (args .dirty)) (args .flags .now)) (rows (queue (args .items .now) (args .residuals)) (args .pending .now))) (pre .1) (pre .0 .1) (entry .result) (entry .ensures) (popped .result) (popped .ensures) (did (live (statesOf (guard-at .last .1 .1 .1 .1 .1 .1 .1 .0) (guard-at .last .1 .1 .1 .1 .1 .1 .1 .1 .0)) (marks (guard-at .last .1 .1 .1 .1 .1 .1 .1 .1 .1 .1 .0) (guard-at .last .1 .1 .1 .1 .1 .1 .1 .1 .1 .1 .1 .0) (queue (guard-at .last .1 .1 .1 .1 .1 .1 .1 .1 .1 .1 .1 .1 .0) (guard-at .result .answer .ring))) (rows (queue (guard-at .last .1 .1 .1 .1 .1 .1 .1 .1 .1 .1 .1 .1 .1 .1 .1 .1 .1 .0) (guard-at .result .dirty)) (guard-at .last .1 .1 .1 .1 .1 .1 .1 .1 .1 .1 .1 .1 .1 .1 .1 .1 .1 .1 .0)) (rows (queue (guard-at .last .1 .1 .1 .1 .1 .1 .1 .1 .1 .1 .1 .1 .1 .1 .0) (guard-at .result .answer .residuals)) (guard-at .last .1 .1 .1 .1 .1 .1 .1 .1 .1 .1 .1 .1 .1 .1 .1 .0))) (guard-at .result .answer .step))
-          (guard-at .ensures .0 x (s .holds) (s .holds-guards) (λ r k. counts-links x (lent (args .conditions .now) (args .weights .now) (args .rows .now) (args .bounds .now) (args .names .now)) (args .links .now) (s .linked) (s .holds-links) r k))
+      λ x l s.
+          node-next x (shared (lent (args .conditions .now) (args .weights .now) (args .rows .now) (args .bounds .now) (args .names .now)) (args .index .now) (args .limits .now) (args .edges .now) l) s (live (statesOf (args .figures .now) (args .cursors .now)) (marks (args .sure .now) (args .never .now) (queue (args .nodes .now) (args .ring))) (rows (queue (args .waiting .now) (args .dirty)) (args .flags .now)) (rows (queue (args .items .now) (args .residuals)) (args .pending .now))) (pre .1) (pre .0 .1) (entry .result) (entry .ensures) (popped .result) (popped .ensures) (did (live (statesOf (guard-at .last .1 .1 .1 .1 .1 .1 .1 .0) (guard-at .last .1 .1 .1 .1 .1 .1 .1 .1 .0)) (marks (guard-at .last .1 .1 .1 .1 .1 .1 .1 .1 .1 .1 .0) (guard-at .last .1 .1 .1 .1 .1 .1 .1 .1 .1 .1 .1 .0) (queue (guard-at .last .1 .1 .1 .1 .1 .1 .1 .1 .1 .1 .1 .1 .0) (guard-at .result .answer .ring))) (rows (queue (guard-at .last .1 .1 .1 .1 .1 .1 .1 .1 .1 .1 .1 .1 .1 .1 .1 .1 .1 .0) (guard-at .result .dirty)) (guard-at .last .1 .1 .1 .1 .1 .1 .1 .1 .1 .1 .1 .1 .1 .1 .1 .1 .1 .1 .0)) (rows (queue (guard-at .last .1 .1 .1 .1 .1 .1 .1 .1 .1 .1 .1 .1 .1 .1 .0) (guard-at .result .answer .residuals)) (guard-at .last .1 .1 .1 .1 .1 .1 .1 .1 .1 .1 .1 .1 .1 .1 .1 .0))) (guard-at .result .answer .step))
+          (guard-at .ensures .0 x (s .holds) (s .holds-guards) (λ r k. counts-links x (lent (args .conditions .now) (args .weights .now) (args .rows .now) (args .bounds .now) (args .names .now)) l (s .linked) (s .holds-links) r k))
           (sym (c .before .before .before .before .before .before .before .before .before .before .before .before .before .before .before .before .before .before .before .before .before .before .before .before .before .before .before .contradicts .ensures) ∙ c .before .before .before .before .before .before .before .before .before .before .before .before .before .before .before .before .before .before .before .before .before .before .before .before .before .before .if1 .left) (did (live (statesOf (threshold-condition .last .1 .1 .1 .1 .1 .1 .1 .0) (threshold-condition .last .1 .1 .1 .1 .1 .1 .1 .1 .0)) (marks (threshold-condition .last .1 .1 .1 .1 .1 .1 .1 .1 .1 .1 .0) (threshold-condition .last .1 .1 .1 .1 .1 .1 .1 .1 .1 .1 .1 .0) (queue (threshold-condition .last .1 .1 .1 .1 .1 .1 .1 .1 .1 .1 .1 .1 .0) (threshold-condition .result .ring))) (rows (queue (guard-at .last .1 .1 .1 .1 .1 .1 .1 .1 .1 .1 .1 .1 .1 .1 .1 .1 .1 .0) (guard-at .result .dirty)) (guard-at .last .1 .1 .1 .1 .1 .1 .1 .1 .1 .1 .1 .1 .1 .1 .1 .1 .1 .1 .0)) (rows (queue (threshold-condition .last .1 .1 .1 .1 .1 .1 .1 .1 .1 .1 .1 .1 .1 .1 .0) (threshold-condition .result .residuals)) (threshold-condition .last .1 .1 .1 .1 .1 .1 .1 .1 .1 .1 .1 .1 .1 .1 .1 .0))) (threshold-condition .result .step))
           (threshold-condition .ensures .0 x (rows (queue (guard-at .last .1 .1 .1 .1 .1 .1 .1 .1 .1 .1 .1 .1 .1 .1 .1 .1 .1 .0) (guard-at .result .dirty)) (guard-at .last .1 .1 .1 .1 .1 .1 .1 .1 .1 .1 .1 .1 .1 .1 .1 .1 .1 .1 .0)) (s .holds) (s .holds-edges)) (c .join .result) (c .join .ensures),
       λ t. threshold-condition .ensures .1 (guard-at .ensures .1 t),

@@ -1,14 +1,12 @@
 -- `settle::take_row` meets its contract: the row's flag falls, and its neighbours are told.
-use Prim.Native.Nat.{_^_}
 use native.Mathlib.Omega.{arith}
+use lib.ListN.{length}
 use Rattle.queues.specs.Queue.{queue, rows}
 use Rattle.queues.specs.RowsLaws.{oldest-row}
 use Rattle.queues.specs.Marks.{marks}
 use Rattle.between.specs.Between.{live, did}
 use Rattle.between.specs.Numbers.{statesOf}
-use Rattle.between.specs.Held.{lent}
-use Rattle.settle.specs.Serves.{shared}
-use Rattle.settle.specs.TurnLaws.{row-there, row-run, row-is}
+use Rattle.settle.specs.TurnLaws.{row-there, row-flags, row-is}
 use mathlib.Core.Path.{_≡_, _∙_, refl, sym, ap}
 use borrow.Author.Needs.{needs}
 use Rattle.settle.proofs.take_row.Statement.{statement}
@@ -17,24 +15,23 @@ use Rattle.settle.proofs.take_row.Tie as tie
 entry-requires : tie.Need-entry-requires
 entry-requires c κs =
     let pre = c .before .before .before .before .before .before .before .before .before .before .before .before .pre in
-    omega (arith, pre .1 .sound .dirty .held .head, pre .1 .sound .dirty .held .long)
+    omega (arith, pre .1 .dirty .held .head, pre .1 .dirty .held .long)
 
 next-row-requires : tie.Need-next-row-requires
 next-row-requires c κs =
     let pre = c .before .before .before .before .before .before .before .before .before .before .before .before .before .before .before .pre in
     let args = c .before .before .before .before .before .before .before .before .before .before .before .before .before .before .before .args in
-    (pre .1 .sound .dirty .held, pre .0 .1, oldest-row (rows (queue (args .waiting .now) (args .dirty)) (args .flags .now)) (pre .1 .sound .dirty) (pre .0 .1))
+    (pre .1 .dirty .held, pre .0 .2, oldest-row (rows (queue (args .waiting .now) (args .dirty)) (args .flags .now)) (pre .1 .dirty) (pre .0 .2))
 
 threshold-prefixes-requires : tie.Need-threshold-prefixes-requires
 threshold-prefixes-requires c κs =
     let pre = c .before .before .before .before .before .before .before .before .before .before .before .before .before .before .before .before .before .before .before .before .before .before .before .before .before .before .before .pre in
     let args = c .before .before .before .before .before .before .before .before .before .before .before .before .before .before .before .before .before .before .before .before .before .before .before .before .before .before .before .args in
     let entry = c .before .before .before .before .before .before .before .before .before .before .before .before .before .before .entry in
-    let next-row = c .before .before .before .before .before .before .before .before .before .before .before .next-row in
-    let x = pre .0 .0 .0 in
-    let s = pre .0 .0 .1 in
-    let r = row-run x (shared (lent (args .conditions .now) (args .weights .now) (args .rows .now) (args .bounds .now) (args .names .now)) (args .index .now) (args .limits .now) (args .edges .now) (args .links .now)) s (live (statesOf (args .figures .now) (args .cursors .now)) (marks (args .sure .now) (args .never .now) (queue (args .nodes .now) (args .ring))) (rows (queue (args .waiting .now) (args .dirty)) (args .flags .now)) (rows (queue (args .items .now) (args .residuals)) (args .pending .now))) (pre .1) (pre .0 .1) (entry .result) (entry .ensures) (rows (queue (args .waiting .now) (next-row .result)) (next-row .last .0)) (next-row .ensures) in
-    ((s .shaped, s .linked, row-there x (shared (lent (args .conditions .now) (args .weights .now) (args .rows .now) (args .bounds .now) (args .names .now)) (args .index .now) (args .limits .now) (args .edges .now) (args .links .now)) s (live (statesOf (args .figures .now) (args .cursors .now)) (marks (args .sure .now) (args .never .now) (queue (args .nodes .now) (args .ring))) (rows (queue (args .waiting .now) (args .dirty)) (args .flags .now)) (rows (queue (args .items .now) (args .residuals)) (args .pending .now))) (pre .1) (pre .0 .1) (entry .result) (entry .ensures) (rows (queue (args .waiting .now) (next-row .result)) (next-row .last .0)) (next-row .ensures)), (r .ready, r .dirty))
+    let next-row = c .before .before .before .before .before .before .before .before .before .before .before .next-row in (
+      (pre .0 .0, pre .0 .1, row-there (length (args .rows .now)) (rows (queue (args .waiting .now) (args .dirty)) (args .flags .now)) (pre .1 .dirty) (pre .0 .2) (pre .0 .3) (entry .result) (entry .ensures)),
+      (pre .1 .ready, row-flags (rows (queue (args .waiting .now) (args .dirty)) (args .flags .now)) (rows (queue (args .waiting .now) (next-row .result)) (next-row .last .0)) (next-row .ensures) (pre .1 .dirty) (pre .0 .2)),
+    )
 
 same-length : tie.Need-same-length
 same-length c = c .before .before .before .before .before .before .before .before .before .before .before .before .before .before .before .before .threshold-prefixes .kept .1 .1 .1 .1 .1 .1 .0
@@ -66,12 +63,10 @@ same-length-9 c = c .before .before .before .before .before .before .before .bef
 returns : tie.Need-returns
 returns c =
     let args = c .before .before .before .before .before .before .before .before .before .before .before .before .before .before .before .before .before .before .before .before .before .before .before .before .before .before .before .before .before .before .before .before .before .before .before .before .before .before .before .before .before .before .before .before .args in
-    let pre = c .before .before .before .before .before .before .before .before .before .before .before .before .before .before .before .before .before .before .before .before .before .before .before .before .before .before .before .before .before .before .before .before .before .before .before .before .before .before .before .before .before .before .before .before .pre in
     let entry = c .before .before .before .before .before .before .before .before .before .before .before .before .before .before .before .before .before .before .before .before .before .before .before .before .before .before .before .before .before .before .before .entry in
     let next-row = c .before .before .before .before .before .before .before .before .before .before .before .before .before .before .before .before .before .before .before .before .before .before .before .before .before .before .before .before .next-row in
     let threshold-prefixes = c .before .before .before .before .before .before .before .before .before .before .before .before .before .before .before .before .threshold-prefixes in (
-      λ x s.
-          row-is x (shared (lent (args .conditions .now) (args .weights .now) (args .rows .now) (args .bounds .now) (args .names .now)) (args .index .now) (args .limits .now) (args .edges .now) (args .links .now)) s (live (statesOf (args .figures .now) (args .cursors .now)) (marks (args .sure .now) (args .never .now) (queue (args .nodes .now) (args .ring))) (rows (queue (args .waiting .now) (args .dirty)) (args .flags .now)) (rows (queue (args .items .now) (args .residuals)) (args .pending .now))) (pre .1) (pre .0 .1) (entry .result) (entry .ensures) (rows (queue (args .waiting .now) (next-row .result)) (next-row .last .0)) (next-row .ensures) (did (live (statesOf (threshold-prefixes .last .1 .1 .1 .1 .1 .1 .0) (threshold-prefixes .last .1 .1 .1 .1 .1 .1 .1 .0)) (marks (threshold-prefixes .last .1 .1 .1 .1 .1 .1 .1 .1 .1 .0) (threshold-prefixes .last .1 .1 .1 .1 .1 .1 .1 .1 .1 .1 .0) (queue (threshold-prefixes .last .1 .1 .1 .1 .1 .1 .1 .1 .1 .1 .1 .0) (threshold-prefixes .result .answer .ring))) (rows (queue (threshold-prefixes .last .1 .1 .1 .1 .1 .1 .1 .1 .1 .1 .1 .1 .1 .1 .1 .1 .0) (threshold-prefixes .result .dirty)) (threshold-prefixes .last .1 .1 .1 .1 .1 .1 .1 .1 .1 .1 .1 .1 .1 .1 .1 .1 .1 .0)) (rows (queue (threshold-prefixes .last .1 .1 .1 .1 .1 .1 .1 .1 .1 .1 .1 .1 .1 .0) (threshold-prefixes .result .answer .residuals)) (threshold-prefixes .last .1 .1 .1 .1 .1 .1 .1 .1 .1 .1 .1 .1 .1 .1 .0))) (threshold-prefixes .result .answer .step)) (threshold-prefixes .ensures .0 x (s .holds) (s .holds-links)),
+      λ x z y. row-is x (live (statesOf (args .figures .now) (args .cursors .now)) (marks (args .sure .now) (args .never .now) (queue (args .nodes .now) (args .ring))) (rows (queue (args .waiting .now) (args .dirty)) (args .flags .now)) (rows (queue (args .items .now) (args .residuals)) (args .pending .now))) (entry .result) (entry .ensures) (rows (queue (args .waiting .now) (next-row .result)) (next-row .last .0)) (next-row .ensures) (did (live (statesOf (threshold-prefixes .last .1 .1 .1 .1 .1 .1 .0) (threshold-prefixes .last .1 .1 .1 .1 .1 .1 .1 .0)) (marks (threshold-prefixes .last .1 .1 .1 .1 .1 .1 .1 .1 .1 .0) (threshold-prefixes .last .1 .1 .1 .1 .1 .1 .1 .1 .1 .1 .0) (queue (threshold-prefixes .last .1 .1 .1 .1 .1 .1 .1 .1 .1 .1 .1 .0) (threshold-prefixes .result .answer .ring))) (rows (queue (threshold-prefixes .last .1 .1 .1 .1 .1 .1 .1 .1 .1 .1 .1 .1 .1 .1 .1 .1 .0) (threshold-prefixes .result .dirty)) (threshold-prefixes .last .1 .1 .1 .1 .1 .1 .1 .1 .1 .1 .1 .1 .1 .1 .1 .1 .1 .0)) (rows (queue (threshold-prefixes .last .1 .1 .1 .1 .1 .1 .1 .1 .1 .1 .1 .1 .1 .0) (threshold-prefixes .result .answer .residuals)) (threshold-prefixes .last .1 .1 .1 .1 .1 .1 .1 .1 .1 .1 .1 .1 .1 .1 .0))) (threshold-prefixes .result .answer .step)) (threshold-prefixes .ensures .0 x z y),
       threshold-prefixes .ensures .1,
     )
 

@@ -1,0 +1,140 @@
+-- A mark and a seal: what the code puts together is the definition's, and with them all is such that draining can begin. Assumes nothing.
+use Prim.Native.Nat.{ℕ, zero, suc, _+_, _-_, _*_, _<_, _≤_, _^_}
+use native.Mathlib.Omega.{arith}
+use mathlib.Core.Path.{_≡_, refl, sym, ap, subst, _∙_}
+use mathlib.Core.Bool.{Bool, true, false, cond}
+use mathlib.Core.List.{List, [], _∷_}
+use lib.ListN.{length, getD}
+use Rattle.state.specs.declared.State.{State}
+use Rattle.state.specs.declared.Step.{Step}
+use Rattle.state.specs.declared.Step.the-variants.{Unchanged, Contradiction}
+use Rattle.state.specs.Step.{joined, contradicts}
+use Rattle.queues.specs.Queue.{Rows}
+use Rattle.queues.specs.RowsLaws.{Flags}
+use Rattle.queues.specs.Marks.{Marks, isDecided, Decided, decided, decide}
+use Rattle.queues.specs.MarksLaws.{Waits, waits-decide}
+use Rattle.thresholds.specs.Rows.{Row, noRow}
+use Rattle.between.specs.Between.{Index, Live, live, Did, did, runRow, firstStates, seedFrom}
+use Rattle.between.specs.Held.{Lent, startBy, endBy, EdgesShaped, Shaped, Holds}
+use Rattle.between.specs.Ready.{Ready}
+use Rattle.between.specs.ReadyLaws.{ready-states}
+use Rattle.between.specs.FirstLaws.{Totals, ready-first}
+use Rattle.between.specs.KeptLaws.{Runnable, kept-seed}
+use Rattle.regions.specs.Drain.{withMarks, mark, seal}
+use Rattle.ends.specs.Turns.{Sound}
+use Rattle.follows.specs.Answers.{clash}
+use Rattle.follows.specs.RowComplete.{Ordered}
+use Rattle.follows.specs.Waiting.{Queued, queued-decide}
+use Rattle.settle.specs.Serves.{Shared, Serves, Among, owed, Tracked, Within, Going}
+use Rattle.settle.specs.Keeping.{tracked-run}
+
+-- ---- a mark
+
+pub mark-is : (value : Bool) (v : Live) (n : ℕ) (m : Marks) (k : Step) → decided m k ≡ decide value (v .marks) n → did (withMarks v m) k ≡ mark v n value
+unfolding mark
+mark-is value v n m k e = ap (λ (d : Decided). did (withMarks v (d .marks)) (d .step)) e
+
+pub going-mark : (b : Shared) (v : Live) (value : Bool) (n : ℕ) → n < 4096 → Going (b .rows) (b .nodes) v → Going (b .rows) (b .nodes) (mark v n value .live)
+unfolding mark
+going-mark b v value n h g =
+    let s = g .sound in
+    let w = g .within in
+    let a = waits-decide (v .marks) (s .waits) value n h in
+    record {
+      sound = record { long = s .long; states = s .states; waits = a; dirty = s .dirty; residuals = s .residuals };
+      within = record {
+        taken = w .taken;
+        tracked = record { queued = queued-decide (w .taken) value (v .marks) n h (w .tracked .queued); dirty = w .tracked .dirty; residuals = w .tracked .residuals };
+        range = w .range;
+        runnable = record { ready = record { long = w .runnable .ready .long; fit = w .runnable .ready .fit; waits = a; flags = w .runnable .ready .flags }; dirty = w .runnable .dirty };
+        room = w .room;
+      };
+    }
+
+-- ---- a seal
+
+-- Totals so far inside the range that all edges can be drained.
+pub totals-more : (n k : ℕ) (cs ws : List ℕ) (rows : List (List ℕ)) → n ≤ k → Totals n cs ws rows → Totals k cs ws rows
+totals-more n k cs ws rows l t r h = omega (arith, t r h)
+
+pub seal-ready : (x : Index) (h : Lent) → Holds x h → Shaped h → Totals (2 ^ 59) (h .conditions) (h .weights) (h .rows) → (ss ss′ : List State) → length (h .rows) ≤ length ss
+    → ss′ ≡ firstStates 0 (x .rows) ss → (m : Marks) → Waits m → (q : Rows) → Flags q → Ready h (2 ^ 61) ss′ m q
+seal-ready x h z y t ss ss′ l e m w q f =
+    ready-states h (2 ^ 61) (firstStates 0 (x .rows) ss) ss′ m q e
+    (ready-first x h z y (2 ^ 61) (totals-more (2 ^ 59) (2 ^ 61) (h .conditions) (h .weights) (h .rows) (omega arith) t) ss l m w q f)
+
+pub seal-is : (x : Index) (v : Live) (ss : List State) → ss ≡ firstStates 0 (x .rows) (v .states) → (o : Did)
+    → o ≡ seedFrom x 0 (x .rows) (live ss (v .marks) (v .dirty) (v .residuals)) Unchanged → o ≡ seal x v
+unfolding seal
+seal-is x v ss e o made = made ∙ ap (λ (s : List State). seedFrom x 0 (x .rows) (live s (v .marks) (v .dirty) (v .residuals)) Unchanged) e
+
+-- All edges together are no more than there are.
+at-most : (b : Bool) (n : ℕ) → _≤_ (cond b 0 n) n
+at-most true n = omega arith
+at-most false n = omega arith
+
+module _ (h : Lent) (nodes edges : List (List ℕ)) (y : EdgesShaped h nodes edges) (taken : ℕ → Bool) where
+  owed-start : (k : ℕ) → k ≤ length nodes → owed nodes taken k ≤ startBy 2 nodes k
+  unfolding owed startBy
+  owed-start zero l = omega arith
+  owed-start (suc k) l = omega (arith, owed-start k (omega arith), at-most (taken k) (endBy 2 nodes k - startBy 2 nodes k), y .inside .rising k (omega arith))
+
+  start-most : (k : ℕ) → k ≤ length nodes → startBy 2 nodes k ≤ 4096
+  unfolding startBy
+  start-most zero l = omega arith
+  start-most (suc k) l = omega (arith, y .inside .ends k (omega arith), y .few)
+
+  pub owed-most : 4096 ≤ length nodes → owed nodes taken 4096 ≤ 4096
+  owed-most l = omega (arith, owed-start 4096 l, start-most 4096 l)
+
+tracked-seed : (x : Index) (n : ℕ) (taken : ℕ → Bool) → ((r : ℕ) → r < length (x .rows) → Ordered (getD (x .rows) r noRow))
+    → (r : ℕ) (rs : List Row) (v : Live) (k : Step) → r + length rs ≤ n → Tracked n taken v → Tracked n taken (seedFrom x r rs v k .live)
+unfolding seedFrom
+tracked-seed x n taken o r [] v k l t = t
+tracked-seed x n taken o r (_ ∷ rs) v k l t = by (λ u j p. tracked-seed x n taken o (r + 1) rs u j (omega arith) p) (contradicts (runRow x v r .step))
+  where
+    first : Tracked n taken (runRow x v r .live)
+    first = tracked-run x n taken o v r (omega arith) t
+
+    by : ((u : Live) (j : Step) → Tracked n taken u → Tracked n taken (seedFrom x (r + 1) rs u j .live)) → (c : Bool)
+        → let d : Did = elim c [ true ↦ did (runRow x v r .live) Contradiction | false ↦ seedFrom x (r + 1) rs (runRow x v r .live) (joined k (runRow x v r .step)) ] in Tracked n taken (d .live)
+    by more true = first
+    by more false = more (runRow x v r .live) (joined k (runRow x v r .step)) first
+
+-- Nothing is decided and nothing waits but rows.
+pub record Fresh (b : Shared) (v : Live) : Type 0 where
+  pub undecided : (n : ℕ) → isDecided (v .marks) n ≡ false
+  pub long : length (b .rows .rows) ≤ length (v .states)
+  pub waits : Waits (v .marks)
+  pub dirty : Flags (v .dirty)
+  pub residuals : Flags (v .residuals)
+  pub dirty-rows : Among (length (b .rows .rows)) (v .dirty)
+  pub residual-rows : Among (length (b .rows .rows)) (v .residuals)
+
+-- SEALING A FRESH STATE, all is such that draining can begin.
+pub within-seal : (x : Index) (b : Shared) → Serves x b → Totals (2 ^ 59) (b .rows .conditions) (b .rows .weights) (b .rows .rows) → (v : Live) → Fresh b v → Within (b .rows) (b .nodes) (seal x v .live)
+unfolding seal
+within-seal x b s t v f = record {
+  taken = none;
+  tracked = tracked-seed x (length (b .rows .rows)) none (s .ordered) 0 (x .rows) first Unchanged (omega (arith, s .holds .many))
+      (record {
+        queued = record {
+          queue = f .waits;
+          decided = λ n e. absurd (clash false e refl);
+          gone = λ n e. absurd (clash false e refl);
+          left = λ n d e. absurd (clash (isDecided (v .marks) n) d (f .undecided n));
+        };
+        dirty = f .dirty-rows;
+        residuals = f .residual-rows;
+      });
+  range = 2 ^ 59;
+  runnable = kept-seed x (b .rows) (s .holds) (s .shaped) (2 ^ 59) 0 (x .rows) first Unchanged (omega (arith, s .holds .many))
+      (record { ready = ready-first x (b .rows) (s .holds) (s .shaped) (2 ^ 59) t (v .states) (f .long) (v .marks) (f .waits) (v .residuals) (f .residuals); dirty = f .dirty });
+  room = omega (arith, owed-most (b .rows) (b .nodes) (b .edges) (s .edged) none (s .long));
+}
+  where
+    none : ℕ → Bool
+    none n = false
+
+    first : Live
+    first = live (firstStates 0 (x .rows) (v .states)) (v .marks) (v .dirty) (v .residuals)
