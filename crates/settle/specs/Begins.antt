@@ -1,7 +1,7 @@
 -- A mark and a seal: what the code puts together is the definition's, and with them all is such that draining can begin. Assumes nothing.
-use Prim.Native.Nat.{ℕ, zero, suc, _+_, _-_, _*_, _<_, _≤_, _^_}
+use Prim.Native.Nat.{ℕ, zero, suc, _+_, _-_, _<_, _≤_, _^_}
 use native.Mathlib.Omega.{arith}
-use mathlib.Core.Path.{_≡_, refl, sym, ap, subst, _∙_}
+use mathlib.Core.Path.{_≡_, refl, ap, _∙_}
 use mathlib.Core.Bool.{Bool, true, false, cond}
 use mathlib.Core.List.{List, [], _∷_}
 use lib.ListN.{length, getD}
@@ -19,12 +19,11 @@ use Rattle.between.specs.Held.{Lent, startBy, endBy, EdgesShaped, Shaped, Holds
 use Rattle.between.specs.Ready.{Ready}
 use Rattle.between.specs.ReadyLaws.{ready-states}
 use Rattle.between.specs.FirstLaws.{Totals, ready-first}
-use Rattle.between.specs.KeptLaws.{Runnable, kept-seed}
+use Rattle.between.specs.KeptLaws.{kept-seed}
 use Rattle.regions.specs.Drain.{withMarks, mark, seal}
-use Rattle.ends.specs.Turns.{Sound}
 use Rattle.follows.specs.Answers.{clash}
 use Rattle.follows.specs.RowComplete.{Ordered}
-use Rattle.follows.specs.Waiting.{Queued, queued-decide}
+use Rattle.follows.specs.Waiting.{queued-decide}
 use Rattle.settle.specs.Serves.{Shared, Serves, Among, owed, Tracked, Within, Going}
 use Rattle.settle.specs.Keeping.{tracked-run}
 

@@ -16,7 +16,7 @@ use Rattle.state.specs.declared.Step.the-variants.{Unchanged, Changed, Contradi
 use Rattle.state.specs.Step.{joined, contradicts}
 use Rattle.state.specs.State.{drained}
 use Rattle.words.specs.Mask.{bit}
-use Rattle.queues.specs.Queue.{Rows, oldest, queueRow, nextRow, popped}
+use Rattle.queues.specs.Queue.{Rows, oldest, queueRow, nextRow}
 use Rattle.queues.specs.QueueLaws.{row-waits, row-new}
 use Rattle.queues.specs.RowsLaws.{Flags, flags-oldest, oldest-row}
 use Rattle.thresholds.specs.Rows.{Row, noRow, Edge, edgesOf, rowNumber}

@@ -7,7 +7,7 @@ use mathlib.Core.Path.{_≡_, refl, sym, ap, subst, _∙_}
 use mathlib.Core.Bool.{Bool, true, false, cond, _||_, _&&_}
 use mathlib.Core.List.{List}
 use lib.Dec.{eqb}
-use lib.ListN.{length, getD, List·getD-eq-default}
+use lib.ListN.{length, List·getD-eq-default}
 use lib.Pow.{pow-pos}
 use borrow.Author.Tests.{eqb-false}
 use Rattle.state.specs.declared.Step.{Step}
@@ -24,11 +24,10 @@ use Rattle.between.specs.Held.{Lent, startBy, endBy}
 use Rattle.between.specs.KeptLaws.{Runnable, runnable-more, runnable-by}
 use Rattle.between.specs.KeptHeld.{edges-light, edges-many, kept-node, kept-links, kept-guard-of}
 use Rattle.regions.specs.Drain.{withMarks, takeNode, takeRow, turn, atRest}
-use Rattle.ends.specs.Turns.{Sound}
 use Rattle.ends.specs.Settles.{fall-turn}
 use Rattle.follows.specs.Answers.{clash}
 use Rattle.follows.specs.Stands.{also, also-other, also-this}
-use Rattle.follows.specs.Waiting.{Queued, first-decided, first-fresh, queued-taken}
+use Rattle.follows.specs.Waiting.{first-decided, first-fresh, queued-taken}
 use Rattle.settle.specs.Serves.{Shared, Serves, Among, owed, Tracked, Within, Going}
 use Rattle.settle.specs.Keeping.{keep-guard-of, keep-condition, keep-links, among-next, oldest-among, tracked-run, tracked-put, tracked-wait}
 

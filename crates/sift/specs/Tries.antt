@@ -2,7 +2,7 @@
 use Prim.Native.Nat.{ℕ, _-_, _<_, _≤_, _^_}
 use mathlib.Core.Bool.{Bool, true, false}
 use mathlib.Core.List.{List}
-use lib.ListN.{length, getD}
+use lib.ListN.{length}
 use Rattle.numeric.specs.Threshold.{Term}
 use Rattle.state.specs.declared.State.{State}
 use Rattle.state.specs.declared.Step.the-variants.{Contradiction}
@@ -12,7 +12,6 @@ use Rattle.queues.specs.Marks.{Marks, isDecided}
 use Rattle.residual.specs.Residual.{thresholdResidual}
 use Rattle.possible_sums.specs.Shape.{Zeros}
 use Rattle.possible_sums.specs.Search.{search, searchStep, searchVisits}
-use Rattle.propagate.specs.Shape.{TermSlices}
 use Rattle.between.specs.Between.{Index, live, Live}
 use Rattle.between.specs.Held.{Lent, startBy, endBy, Shaped}
 use Rattle.between.specs.Ready.{Ready}

@@ -1,5 +1,5 @@
 -- A row that is tried: what the code puts together is the definition's, and what can be drained stays such. Assumes nothing.
-use Prim.Native.Nat.{ℕ, _+_, _-_, _<_, _≤_, _^_}
+use Prim.Native.Nat.{ℕ, _<_, _≤_}
 use native.Mathlib.Omega.{arith}
 use mathlib.Core.Path.{_≡_, refl, sym, ap, subst, _∙_}
 use mathlib.Core.Bool.{Bool, true, false}
@@ -7,7 +7,6 @@ use mathlib.Core.List.{List}
 use lib.ListN.{length, getD}
 use borrow.Author.Tests.{eqb-false}
 use Rattle.numeric.specs.Threshold.{Term, terms}
-use Rattle.numeric.specs.Slices.{Below}
 use Rattle.state.specs.declared.State.{State}
 use Rattle.state.specs.declared.Step.{Step}
 use Rattle.state.specs.declared.Step.the-variants.{Unchanged, Changed, Contradiction}
@@ -24,12 +23,11 @@ use Rattle.possible_sums.specs.declared.Search.{Search}
 use Rattle.possible_sums.specs.Search.{search, searchStep, searchVisits}
 use Rattle.between.specs.Between.{Index, Live, live, stateAt}
 use Rattle.between.specs.Held.{Lent, startBy, endBy, heldTerms}
-use Rattle.between.specs.KeptLaws.{Runnable}
 use Rattle.regions.specs.Sift.{Sifted, sifted, tryRow}
 use Rattle.ends.specs.Keeps.{keeps-residual}
 use Rattle.ends.specs.Settles.{fall-try}
 use Rattle.follows.specs.Waiting.{Queued, queued-decide}
-use Rattle.settle.specs.Serves.{Shared, Serves, Among, Tracked, Within, Going}
+use Rattle.settle.specs.Serves.{Shared, Serves, Within, Going}
 use Rattle.settle.specs.Keeping.{among-next, oldest-among}
 use Rattle.sift.specs.Tries.{Tries, tried}
 

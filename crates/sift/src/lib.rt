@@ -1,7 +1,7 @@
 // Sifting over the buffers: `sift` of regions.rs. Rows that wait for it are tried between settlings.
 ghost use mathlib.Core.Path.{_≡_};
 ghost use mathlib.Core.List.{List};
-ghost use Prim.Native.Nat.{ℕ, _<_, _≤_};
+ghost use Prim.Native.Nat.{ℕ, _≤_};
 ghost use lib.ListN.{length};
 ghost use lib.IntN.{ℤ};
 ghost use Rattle.numeric.specs.Threshold.{terms};

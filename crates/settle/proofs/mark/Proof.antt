@@ -4,8 +4,6 @@ use Rattle.queues.specs.Queue.{queue}
 use Rattle.queues.specs.Marks.{marks}
 use Rattle.between.specs.Between.{live}
 use Rattle.settle.specs.Begins.{mark-is}
-use mathlib.Core.Path.{_≡_, _∙_, refl, sym, ap}
-use borrow.Author.Needs.{needs}
 use Rattle.settle.proofs.mark.Statement.{statement}
 use Rattle.settle.proofs.mark.Tie as tie
 

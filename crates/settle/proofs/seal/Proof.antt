@@ -7,8 +7,7 @@ use Rattle.between.specs.Between.{live, did}
 use Rattle.between.specs.Numbers.{statesOf}
 use Rattle.between.specs.Held.{lent}
 use Rattle.settle.specs.Begins.{totals-more, seal-ready, seal-is}
-use mathlib.Core.Path.{_≡_, _∙_, refl, sym, ap}
-use borrow.Author.Needs.{needs}
+use mathlib.Core.Path.{_∙_}
 use Rattle.settle.proofs.seal.Statement.{statement}
 use Rattle.settle.proofs.seal.Tie as tie
 

@@ -1,5 +1,4 @@
 -- `settle::settle` meets its contract: the turns that are left from here are those from the start.
-use native.Mathlib.Omega.{arith}
 use mathlib.Core.Bool.{not, _&&_}
 use lib.Dec.{eqb}
 use borrow.Author.Tests.{not-true, not-false}
@@ -11,7 +10,7 @@ use Rattle.between.specs.Held.{lent}
 use Rattle.ends.specs.Turns.{left as leaves}
 use Rattle.settle.specs.Serves.{shared}
 use Rattle.settle.specs.Settling.{Settling, settling-first, settling-next, settling-less, settling-stop, settling-end, row-waits}
-use mathlib.Core.Path.{_≡_, _∙_, refl, sym, ap}
+use mathlib.Core.Path.{_≡_, _∙_, refl, sym}
 use borrow.Author.Needs.{needs}
 use Rattle.settle.proofs.settle.Statement.{statement}
 use Rattle.settle.proofs.settle.Tie as tie

@@ -1,15 +1,14 @@
 -- `settle::take_node` meets its contract: the node's guard, then its condition.
-use Prim.Native.Nat.{_^_}
 use native.Mathlib.Omega.{arith}
 use Rattle.queues.specs.Queue.{queue, rows}
 use Rattle.queues.specs.Marks.{marks}
-use Rattle.between.specs.Between.{Index, live, Did, did, guardOf}
+use Rattle.between.specs.Between.{live, did}
 use Rattle.between.specs.Numbers.{statesOf}
 use Rattle.between.specs.Held.{lent}
 use Rattle.between.specs.KeptHeld.{counts-links}
-use Rattle.settle.specs.Serves.{shared, Serves}
+use Rattle.settle.specs.Serves.{shared}
 use Rattle.settle.specs.TurnLaws.{node-small, node-there, node-run, node-next-run, node-stop, node-next}
-use mathlib.Core.Path.{_≡_, _∙_, refl, sym, ap}
+use mathlib.Core.Path.{_∙_, sym}
 use borrow.Author.Needs.{needs}
 use Rattle.settle.proofs.take_node.Statement.{statement}
 use Rattle.settle.proofs.take_node.Tie as tie

@@ -7,8 +7,7 @@ use Rattle.queues.specs.Marks.{marks}
 use Rattle.between.specs.Between.{live, did}
 use Rattle.between.specs.Numbers.{statesOf}
 use Rattle.settle.specs.TurnLaws.{row-there, row-flags, row-is}
-use mathlib.Core.Path.{_≡_, _∙_, refl, sym, ap}
-use borrow.Author.Needs.{needs}
+use mathlib.Core.Path.{_∙_}
 use Rattle.settle.proofs.take_row.Statement.{statement}
 use Rattle.settle.proofs.take_row.Tie as tie
 

@@ -7,8 +7,6 @@ use Rattle.between.specs.Between.{live, did}
 use Rattle.between.specs.Numbers.{statesOf}
 use Rattle.between.specs.Held.{lent}
 use Rattle.settle.specs.TurnLaws.{going-run, turn-node, turn-row}
-use mathlib.Core.Path.{_≡_, _∙_, refl, sym, ap}
-use borrow.Author.Needs.{needs}
 use Rattle.settle.proofs.turn.Statement.{statement}
 use Rattle.settle.proofs.turn.Tie as tie
 

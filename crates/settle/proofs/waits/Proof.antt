@@ -1,7 +1,5 @@
 -- `settle::waits` meets its contract.
 use Rattle.settle.specs.Settling.{waits-node, waits-rows}
-use mathlib.Core.Path.{_≡_, _∙_, refl, sym, ap}
-use borrow.Author.Needs.{needs}
 use Rattle.settle.proofs.waits.Statement.{statement}
 use Rattle.settle.proofs.waits.Tie as tie
 

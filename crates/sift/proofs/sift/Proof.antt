@@ -1,6 +1,5 @@
 -- `sift::sift` meets its contract: the rounds that are left from here are those from the start.
 use Prim.Native.Nat.{_+_}
-use native.Mathlib.Omega.{arith}
 use mathlib.Core.Bool.{cond}
 use Rattle.queues.specs.Queue.{queue, rows}
 use Rattle.queues.specs.Marks.{marks}
@@ -12,7 +11,7 @@ use Rattle.regions.specs.Sift.{sifted}
 use Rattle.settle.specs.Serves.{shared}
 use Rattle.sift.specs.Tries.{Scratch, round}
 use Rattle.sift.specs.Sifting.{Sifting, sifting-first, sifting-next, sifting-less, sifting-stop, sifting-end, Lengths, scratch-next}
-use mathlib.Core.Path.{_≡_, _∙_, refl, sym, ap}
+use mathlib.Core.Path.{_≡_, _∙_, refl, sym}
 use borrow.Author.Needs.{needs}
 use Rattle.sift.proofs.sift.Statement.{statement}
 use Rattle.sift.proofs.sift.Tie as tie

@@ -9,7 +9,7 @@ use Rattle.between.specs.Held.{lent}
 use Rattle.regions.specs.Sift.{sifted}
 use Rattle.settle.specs.Serves.{shared}
 use Rattle.sift.specs.Sifting.{once-stop, once-none, once-try, settled-tries}
-use mathlib.Core.Path.{_≡_, _∙_, refl, sym, ap}
+use mathlib.Core.Path.{_∙_, refl, sym}
 use borrow.Author.Needs.{needs}
 use Rattle.sift.proofs.sift_once.Statement.{statement}
 use Rattle.sift.proofs.sift_once.Tie as tie

@@ -1,6 +1,5 @@
 -- `sift::try_row` meets its contract: the row's own stretches and its state are tried.
 use native.Mathlib.Omega.{arith}
-use lib.ListN.{getD}
 use Rattle.queues.specs.Queue.{queue, rows}
 use Rattle.queues.specs.RowsLaws.{oldest-row}
 use Rattle.queues.specs.Marks.{marks}
@@ -10,8 +9,6 @@ use Rattle.between.specs.Held.{lent}
 use Rattle.between.specs.HeldLaws.{term-slices}
 use Rattle.regions.specs.Sift.{sifted}
 use Rattle.sift.specs.TryLaws.{try-inside, try-state, try-figures, try-rises, try-conditions, try-weights, try-few, try-is}
-use mathlib.Core.Path.{_≡_, _∙_, refl, sym, ap}
-use borrow.Author.Needs.{needs}
 use Rattle.sift.proofs.try_row.Statement.{statement}
 use Rattle.sift.proofs.try_row.Tie as tie
 

@@ -5,7 +5,7 @@ use Rattle.queues.specs.Queue.{queue}
 use Rattle.queues.specs.Marks.{marks}
 use Rattle.residual.specs.Residual.{residual}
 use Rattle.sift.specs.TryLaws.{tried-search, tried-not}
-use mathlib.Core.Path.{_≡_, _∙_, refl, sym, ap}
+use mathlib.Core.Path.{refl}
 use borrow.Author.Needs.{needs}
 use Rattle.sift.proofs.try_terms.Statement.{statement}
 use Rattle.sift.proofs.try_terms.Tie as tie
