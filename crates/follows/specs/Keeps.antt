@@ -1,5 +1,6 @@
--- WHAT EVERY DECISION KEEPS, every function keeps: a property of the marks that deciding any node below 4,096 keeps is kept by a row
--- that is run, a drained guard, a drained condition and handed-on bounds, whether they contradict or not.
+-- WHAT EVERY DECISION KEEPS, every function keeps: a property of the marks that deciding any node of some kind keeps is kept by a row
+-- that is run, a drained guard, a drained condition and handed-on bounds, whether they contradict or not, where the rows name only
+-- nodes of that kind. Below it the same for the nodes below 4,096, which every ordered row names only.
 use Prim.Native.Nat.{ℕ, _+_, _-_, _<_}
 use native.Mathlib.Decide.{decLt}
 use native.Mathlib.Omega.{arith}
@@ -39,8 +40,13 @@ module _ {X : Type 0} (P : Marks → Type 0) (waits : X → Marks → Bool) (act
       all-in [] f = Prim.tt
       all-in (y ∷ ys) f = (f y (List·Memᴰ·head refl), all-in ys (λ x i. f x (List·Memᴰ·tail i)))
 
-module _ (P : Marks → Type 0) (each : (value : Bool) (m : Marks) (n : ℕ) → n < 4096 → P m → P (decide value m n .marks)) where
-  module _ (row : Row) (o : Ordered row) where
+-- The guards and the terms of a row are such nodes.
+pub record Names (Ok : ℕ → Type 0) (row : Row) : Type 0 where
+  pub guards : (g : Guard) → List·Memᴰ g (row .guards) → Ok (g .node)
+  pub terms : (t : Term) → List·Memᴰ t (row .terms) → Ok (t .condition)
+
+module _ (P : Marks → Type 0) (Ok : ℕ → Type 0) (each : (value : Bool) (m : Marks) (n : ℕ) → Ok n → P m → P (decide value m n .marks)) where
+  module _ (row : Row) (o : Names Ok row) where
     guards-keep : (s : State) (m : Marks) → P m → P (thresholdGuards (row .guards) s m .marks)
     unfolding thresholdGuards
     guards-keep s m p = by (contradicts (a .step))
@@ -74,7 +80,7 @@ module _ (P : Marks → Type 0) (each : (value : Bool) (m : Marks) (n : ℕ) →
     forced-keep value light n m p =
         scan-each P (termWaits light) (forces value) (drop n (row .terms)) (λ (t : Term) k i q. one t k (o .terms t (mem-drop n (row .terms) t i)) q (isDecided k (t .condition))) 0 m Unchanged p
       where
-        one : (t : Term) (k : Marks) → t .condition < 4096 → P k → (b : Bool) → P (cond b (decided k Unchanged) (decide value k (t .condition)) .marks)
+        one : (t : Term) (k : Marks) → Ok (t .condition) → P k → (b : Bool) → P (cond b (decided k Unchanged) (decide value k (t .condition)) .marks)
         one t k h q true = q
         one t k h q false = each value k (t .condition) h q
 
@@ -104,34 +110,34 @@ module _ (P : Marks → Type 0) (each : (value : Bool) (m : Marks) (n : ℕ) →
         by false = p
 
     -- A ROW
-    pub row-keeps : (s : State) (m : Marks) → P m → P (thresholdRow row s m .marks)
-    row-keeps s m p =
+    pub row-named : (s : State) (m : Marks) → P m → P (thresholdRow row s m .marks)
+    row-named s m p =
         run-ends row s m (λ (r : Ran). P (r .marks)) (λ e. p) (λ e. guards-keep s m p) (λ e f. pb) (λ e f. false-keep (trueRun row s m .state) (trueRun row s m .marks) pb)
       where
         pb : P (trueRun row s m .marks)
         pb = true-keep (guardsRun row s m .state) (guardsRun row s m .marks) (guards-keep s m p)
 
-  module _ (x : Index) (ordered : (r : ℕ) → r < length (x .rows) → Ordered (getD (x .rows) r noRow)) where
+  module _ (x : Index) (names : (r : ℕ) → r < length (x .rows) → Names Ok (getD (x .rows) r noRow)) where
     -- a number behind the last row names no guard and no term
-    any-row : (r : ℕ) → Ordered (getD (x .rows) r noRow)
+    any-row : (r : ℕ) → Names Ok (getD (x .rows) r noRow)
     any-row r = by (decLt r (length (x .rows)))
       where
-        none : Ordered noRow
-        none = record { rising = tt; falling = tt; guards = λ g i. absurd (List·Memᴰ·not-nil i); terms = λ t i. absurd (List·Memᴰ·not-nil i) }
+        none : Names Ok noRow
+        none = record { guards = λ g i. absurd (List·Memᴰ·not-nil i); terms = λ t i. absurd (List·Memᴰ·not-nil i) }
 
-        by : Dec (r < length (x .rows)) → Ordered (getD (x .rows) r noRow)
-        by (yes h) = ordered r h
-        by (no h) = subst Ordered (sym (List·getD-eq-default (x .rows) noRow {n = r} (omega arith))) none
+        by : Dec (r < length (x .rows)) → Names Ok (getD (x .rows) r noRow)
+        by (yes h) = names r h
+        by (no h) = subst (Names Ok) (sym (List·getD-eq-default (x .rows) noRow {n = r} (omega arith))) none
 
     -- A ROW RUN AND STORED
-    pub run-keeps : (v : Live) (r : ℕ) → P (v .marks) → P (runRow x v r .live .marks)
+    pub run-named : (v : Live) (r : ℕ) → P (v .marks) → P (runRow x v r .live .marks)
     unfolding runRow runWith
-    run-keeps v r p = row-keeps (getD (x .rows) r noRow) (any-row r) (stateAt v r) (v .marks) p
+    run-named v r p = row-named (getD (x .rows) r noRow) (any-row r) (stateAt v r) (v .marks) p
 
     -- A GUARD
-    pub guard-keeps : (v : Live) (t : Threshold) → P (v .marks) → P (thresholdGuard x v t .live .marks)
+    pub guard-named : (v : Live) (t : Threshold) → P (v .marks) → P (thresholdGuard x v t .live .marks)
     unfolding thresholdGuard bounded
-    guard-keeps v t p = by (guardState (stateAt v r) (bit (v .marks .sure) (t .node)) (t .bound))
+    guard-named v t p = by (guardState (stateAt v r) (bit (v .marks .sure) (t .node)) (t .bound))
       where
         r : ℕ
         r = rowNumber (x .rows) (t .terms)
@@ -140,7 +146,7 @@ module _ (P : Marks → Type 0) (each : (value : Bool) (m : Marks) (n : ℕ) →
         whole y c = elim c [ true ↦ bounded x v r (y .state) | false ↦ did v Unchanged ]
 
         at-change : (y : Tightened) (c : Bool) → P (whole y c .live .marks)
-        at-change y true = run-keeps _ r p
+        at-change y true = run-named _ r p
         at-change y false = p
 
         by : (y : Tightened) → P (whole y (y .changed) .live .marks)
@@ -156,16 +162,16 @@ module _ (P : Marks → Type 0) (each : (value : Bool) (m : Marks) (n : ℕ) →
         d = runRow x (withState v (e .row) (drained value (e .weight) (stateAt v (e .row)))) (e .row)
 
         pd : P (d .live .marks)
-        pd = run-keeps _ (e .row) p
+        pd = run-named _ (e .row) p
 
         by : ((w : Live) → P (w .marks) → P (conditionFrom x value es w .live .marks)) → (b : Bool)
             → let o : Did = elim b [ true ↦ did (d .live) Contradiction | false ↦ did (conditionFrom x value es (d .live) .live) (joined (d .step) (conditionFrom x value es (d .live) .step)) ] in P (o .live .marks)
         by later true = pd
         by later false = later (d .live) pd
 
-    pub condition-keeps : (v : Live) (n : ℕ) → P (v .marks) → P (thresholdCondition x v n .live .marks)
+    pub condition-named : (v : Live) (n : ℕ) → P (v .marks) → P (thresholdCondition x v n .live .marks)
     unfolding thresholdCondition
-    condition-keeps v n p = conditions-keep (bit (v .marks .sure) n) (edgesOf (x .rows) n) v p
+    condition-named v n p = conditions-keep (bit (v .marks .sure) n) (edgesOf (x .rows) n) v p
 
     -- PREFIXES
     prefixes-keep : (row : ℕ) (source : State) (rs : List ℕ) (v : Live) → P (v .marks) → P (prefixesFrom x row source rs v .live .marks)
@@ -180,7 +186,7 @@ module _ (P : Marks → Type 0) (each : (value : Bool) (m : Marks) (n : ℕ) →
         d = runRow x (withDirty (withState v r (t .state)) r) r
 
         pd : P (d .live .marks)
-        pd = run-keeps _ r p
+        pd = run-named _ r p
 
         Later : Type 0
         Later = (w : Live) → P (w .marks) → P (prefixesFrom x row source rs w .live .marks)
@@ -196,6 +202,31 @@ module _ (P : Marks → Type 0) (each : (value : Bool) (m : Marks) (n : ℕ) →
         by later true = at-run later (contradicts (d .step))
         by later false = later v p
 
-    pub prefixes-keeps : (v : Live) (row : ℕ) → P (v .marks) → P (thresholdPrefixes x v row .live .marks)
+    pub prefixes-named : (v : Live) (row : ℕ) → P (v .marks) → P (thresholdPrefixes x v row .live .marks)
     unfolding thresholdPrefixes
-    prefixes-keeps v row p = prefixes-keep row (stateAt v row) (neighbours row (x .links)) v p
+    prefixes-named v row p = prefixes-keep row (stateAt v row) (neighbours row (x .links)) v p
+
+-- EVERY NODE BELOW 4,096: ordered rows name no other
+
+ordered-names : (row : Row) → Ordered row → Names (λ (n : ℕ). n < 4096) row
+ordered-names row o = record { guards = o .guards; terms = o .terms }
+
+module _ (P : Marks → Type 0) (each : (value : Bool) (m : Marks) (n : ℕ) → n < 4096 → P m → P (decide value m n .marks)) where
+  pub row-keeps : (row : Row) → Ordered row → (s : State) (m : Marks) → P m → P (thresholdRow row s m .marks)
+  row-keeps row o s m p = row-named P (λ (n : ℕ). n < 4096) each row (ordered-names row o) s m p
+
+  module _ (x : Index) (ordered : (r : ℕ) → r < length (x .rows) → Ordered (getD (x .rows) r noRow)) where
+    names-all : (r : ℕ) → r < length (x .rows) → Names (λ (n : ℕ). n < 4096) (getD (x .rows) r noRow)
+    names-all r h = ordered-names (getD (x .rows) r noRow) (ordered r h)
+
+    pub run-keeps : (v : Live) (r : ℕ) → P (v .marks) → P (runRow x v r .live .marks)
+    run-keeps v r p = run-named P (λ (n : ℕ). n < 4096) each x names-all v r p
+
+    pub guard-keeps : (v : Live) (t : Threshold) → P (v .marks) → P (thresholdGuard x v t .live .marks)
+    guard-keeps v t p = guard-named P (λ (n : ℕ). n < 4096) each x names-all v t p
+
+    pub condition-keeps : (v : Live) (n : ℕ) → P (v .marks) → P (thresholdCondition x v n .live .marks)
+    condition-keeps v n p = condition-named P (λ (n : ℕ). n < 4096) each x names-all v n p
+
+    pub prefixes-keeps : (v : Live) (row : ℕ) → P (v .marks) → P (thresholdPrefixes x v row .live .marks)
+    prefixes-keeps v row p = prefixes-named P (λ (n : ℕ). n < 4096) each x names-all v row p

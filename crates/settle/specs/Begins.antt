@@ -24,8 +24,9 @@ use Rattle.regions.specs.Drain.{withMarks, mark, seal}
 use Rattle.follows.specs.Answers.{clash}
 use Rattle.follows.specs.RowComplete.{Ordered}
 use Rattle.follows.specs.Waiting.{queued-decide}
+use Rattle.follows.specs.Keeps.{Names}
 use Rattle.settle.specs.Serves.{Shared, Serves, Among, owed, Tracked, Within, Going}
-use Rattle.settle.specs.Keeping.{tracked-run}
+use Rattle.settle.specs.Keeping.{low-decide, tracked-run}
 
 -- ---- a mark
 
@@ -33,9 +34,9 @@ pub mark-is : (value : Bool) (v : Live) (n : ℕ) (m : Marks) (k : Step) → dec
 unfolding mark
 mark-is value v n m k e = ap (λ (d : Decided). did (withMarks v (d .marks)) (d .step)) e
 
-pub going-mark : (b : Shared) (v : Live) (value : Bool) (n : ℕ) → n < 4096 → Going (b .rows) (b .nodes) v → Going (b .rows) (b .nodes) (mark v n value .live)
+pub going-mark : (b : Shared) (v : Live) (value : Bool) (n : ℕ) → n < 4096 → n < length (b .nodes) → Going (b .rows) (b .nodes) v → Going (b .rows) (b .nodes) (mark v n value .live)
 unfolding mark
-going-mark b v value n h g =
+going-mark b v value n h k g =
     let s = g .sound in
     let w = g .within in
     let a = waits-decide (v .marks) (s .waits) value n h in
@@ -43,7 +44,7 @@ going-mark b v value n h g =
       sound = record { long = s .long; states = s .states; waits = a; dirty = s .dirty; residuals = s .residuals };
       within = record {
         taken = w .taken;
-        tracked = record { queued = queued-decide (w .taken) value (v .marks) n h (w .tracked .queued); dirty = w .tracked .dirty; residuals = w .tracked .residuals };
+        tracked = record { queued = queued-decide (w .taken) value (v .marks) n h (w .tracked .queued); low = low-decide (length (b .nodes)) value (v .marks) n k (w .tracked .low); dirty = w .tracked .dirty; residuals = w .tracked .residuals };
         range = w .range;
         runnable = record { ready = record { long = w .runnable .ready .long; fit = w .runnable .ready .fit; waits = a; flags = w .runnable .ready .flags }; dirty = w .runnable .dirty };
         room = w .room;
@@ -83,20 +84,20 @@ module _ (h : Lent) (nodes edges : List (List ℕ)) (y : EdgesShaped h nodes edg
   start-most zero l = omega arith
   start-most (suc k) l = omega (arith, y .inside .ends k (omega arith), y .few)
 
-  pub owed-most : 4096 ≤ length nodes → owed nodes taken 4096 ≤ 4096
-  owed-most l = omega (arith, owed-start 4096 l, start-most 4096 l)
+  pub owed-most : owed nodes taken (length nodes) ≤ 4096
+  owed-most = omega (arith, owed-start (length nodes) (omega arith), start-most (length nodes) (omega arith))
 
-tracked-seed : (x : Index) (n : ℕ) (taken : ℕ → Bool) → ((r : ℕ) → r < length (x .rows) → Ordered (getD (x .rows) r noRow))
-    → (r : ℕ) (rs : List Row) (v : Live) (k : Step) → r + length rs ≤ n → Tracked n taken v → Tracked n taken (seedFrom x r rs v k .live)
+tracked-seed : (x : Index) (count n : ℕ) (taken : ℕ → Bool) → ((r : ℕ) → r < length (x .rows) → Ordered (getD (x .rows) r noRow)) → ((r : ℕ) → r < length (x .rows) → Names (λ (i : ℕ). i < count) (getD (x .rows) r noRow))
+    → (r : ℕ) (rs : List Row) (v : Live) (k : Step) → r + length rs ≤ n → Tracked count n taken v → Tracked count n taken (seedFrom x r rs v k .live)
 unfolding seedFrom
-tracked-seed x n taken o r [] v k l t = t
-tracked-seed x n taken o r (_ ∷ rs) v k l t = by (λ u j p. tracked-seed x n taken o (r + 1) rs u j (omega arith) p) (contradicts (runRow x v r .step))
+tracked-seed x count n taken o a r [] v k l t = t
+tracked-seed x count n taken o a r (_ ∷ rs) v k l t = by (λ u j p. tracked-seed x count n taken o a (r + 1) rs u j (omega arith) p) (contradicts (runRow x v r .step))
   where
-    first : Tracked n taken (runRow x v r .live)
-    first = tracked-run x n taken o v r (omega arith) t
+    first : Tracked count n taken (runRow x v r .live)
+    first = tracked-run x count n taken o a v r (omega arith) t
 
-    by : ((u : Live) (j : Step) → Tracked n taken u → Tracked n taken (seedFrom x (r + 1) rs u j .live)) → (c : Bool)
-        → let d : Did = elim c [ true ↦ did (runRow x v r .live) Contradiction | false ↦ seedFrom x (r + 1) rs (runRow x v r .live) (joined k (runRow x v r .step)) ] in Tracked n taken (d .live)
+    by : ((u : Live) (j : Step) → Tracked count n taken u → Tracked count n taken (seedFrom x (r + 1) rs u j .live)) → (c : Bool)
+        → let d : Did = elim c [ true ↦ did (runRow x v r .live) Contradiction | false ↦ seedFrom x (r + 1) rs (runRow x v r .live) (joined k (runRow x v r .step)) ] in Tracked count n taken (d .live)
     by more true = first
     by more false = more (runRow x v r .live) (joined k (runRow x v r .step)) first
 
@@ -115,7 +116,7 @@ pub within-seal : (x : Index) (b : Shared) → Serves x b → Totals (2 ^ 59) (b
 unfolding seal
 within-seal x b s t v f = record {
   taken = none;
-  tracked = tracked-seed x (length (b .rows .rows)) none (s .ordered) 0 (x .rows) first Unchanged (omega (arith, s .holds .many))
+  tracked = tracked-seed x (length (b .nodes)) (length (b .rows .rows)) none (s .ordered) (s .names) 0 (x .rows) first Unchanged (omega (arith, s .holds .many))
       (record {
         queued = record {
           queue = f .waits;
@@ -123,13 +124,14 @@ within-seal x b s t v f = record {
           gone = λ n e. absurd (clash false e refl);
           left = λ n d e. absurd (clash (isDecided (v .marks) n) d (f .undecided n));
         };
+        low = λ n d. absurd (clash (isDecided (v .marks) n) d (f .undecided n));
         dirty = f .dirty-rows;
         residuals = f .residual-rows;
       });
   range = 2 ^ 59;
   runnable = kept-seed x (b .rows) (s .holds) (s .shaped) (2 ^ 59) 0 (x .rows) first Unchanged (omega (arith, s .holds .many))
       (record { ready = ready-first x (b .rows) (s .holds) (s .shaped) (2 ^ 59) t (v .states) (f .long) (v .marks) (f .waits) (v .residuals) (f .residuals); dirty = f .dirty });
-  room = omega (arith, owed-most (b .rows) (b .nodes) (b .edges) (s .edged) none (s .long));
+  room = omega (arith, owed-most (b .rows) (b .nodes) (b .edges) (s .edged) none);
 }
   where
     none : ℕ → Bool

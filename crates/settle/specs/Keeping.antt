@@ -3,8 +3,8 @@
 use Prim.Native.Nat.{ℕ, zero, suc, _+_, _-_, _<_, _≤_}
 use native.Mathlib.Decide.{ℕ-discrete}
 use native.Mathlib.Omega.{arith}
-use mathlib.Core.Path.{_≡_, refl, sym, ap, subst, _∙_}
-use mathlib.Core.Bool.{Bool, true, false, cond}
+use mathlib.Core.Path.{_≡_, refl, sym, ap, ap₂, subst, _∙_}
+use mathlib.Core.Bool.{Bool, true, false, cond, _||_}
 use mathlib.Core.List.{List, [], _∷_}
 use lib.Dec.{eqb}
 use lib.ListN.{length, getD, set}
@@ -19,6 +19,8 @@ use Rattle.words.specs.Mask.{bit}
 use Rattle.queues.specs.Queue.{Rows, oldest, queueRow, nextRow}
 use Rattle.queues.specs.QueueLaws.{row-waits, row-new}
 use Rattle.queues.specs.RowsLaws.{Flags, flags-oldest, oldest-row}
+use Rattle.queues.specs.Marks.{Marks, decide}
+use Rattle.queues.specs.MarksLaws.{decide-other}
 use Rattle.thresholds.specs.Rows.{Row, noRow, Edge, edgesOf, rowNumber}
 use Rattle.thresholds.specs.Raw.{stretch}
 use Rattle.prefixes.specs.Links.{neighbours}
@@ -32,9 +34,9 @@ use Rattle.between.specs.HeldLaws.{stretch-cons, stretch-none}
 use Rattle.between.specs.GuardLaws.{noThreshold, guard-not, guard-is}
 use Rattle.between.specs.KeptLaws.{Light}
 use Rattle.follows.specs.Waiting.{Queued, queued-decide}
-use Rattle.follows.specs.Keeps.{run-keeps}
+use Rattle.follows.specs.Keeps.{Names, run-named, run-keeps}
 use Rattle.follows.specs.RowComplete.{Ordered}
-use Rattle.settle.specs.Serves.{Among, Tracked}
+use Rattle.settle.specs.Serves.{Among, Low, Tracked}
 
 module _ (x : Index) (h : Lent) (Q : Live → Type 0)
     (run : (v : Live) (r : ℕ) → r < length (h .rows) → Q v → Q (runRow x v r .live))
@@ -172,19 +174,30 @@ among-residual n row s q r k a = by (wantsResidual row s)
     by true = among-queue n q r k a
     by false = a
 
+-- ---- which nodes are decided
+
+pub low-decide : (count : ℕ) (value : Bool) (m : Marks) (n : ℕ) → n < count → Low count m → Low count (decide value m n .marks)
+low-decide count value m n k l i d = by (ℕ-discrete i n)
+  where
+    by : Dec (i ≡ n) → i < count
+    by (yes e) = omega arith
+    by (no e) = l i (sym (ap₂ (λ (a b : Bool). a || b) (decide-other value m n true i e) (decide-other value m n false i e)) ∙ d)
+
 -- ---- what is tracked stays so
 
-module _ (x : Index) (n : ℕ) (taken : ℕ → Bool) (ordered : (r : ℕ) → r < length (x .rows) → Ordered (getD (x .rows) r noRow)) where
-  pub tracked-run : (v : Live) (r : ℕ) → r < n → Tracked n taken v → Tracked n taken (runRow x v r .live)
+module _ (x : Index) (count n : ℕ) (taken : ℕ → Bool) (ordered : (r : ℕ) → r < length (x .rows) → Ordered (getD (x .rows) r noRow))
+    (names : (r : ℕ) → r < length (x .rows) → Names (λ (i : ℕ). i < count) (getD (x .rows) r noRow)) where
+  pub tracked-run : (v : Live) (r : ℕ) → r < n → Tracked count n taken v → Tracked count n taken (runRow x v r .live)
   unfolding runRow runWith
   tracked-run v r k t = record {
     queued = run-keeps (Queued taken) (queued-decide taken) x ordered v r (t .queued);
+    low = run-named (Low count) (λ (i : ℕ). i < count) (low-decide count) x names v r (t .low);
     dirty = t .dirty;
     residuals = among-residual n (getD (x .rows) r noRow) (stateAt v r) (v .residuals) r k (t .residuals);
   }
 
-  pub tracked-put : (v : Live) (r : ℕ) (s : State) → Tracked n taken v → Tracked n taken (withState v r s)
-  tracked-put v r s t = record { queued = t .queued; dirty = t .dirty; residuals = t .residuals }
+  pub tracked-put : (v : Live) (r : ℕ) (s : State) → Tracked count n taken v → Tracked count n taken (withState v r s)
+  tracked-put v r s t = record { queued = t .queued; low = t .low; dirty = t .dirty; residuals = t .residuals }
 
-  pub tracked-wait : (v : Live) (r : ℕ) → r < n → Tracked n taken v → Tracked n taken (withDirty v r)
-  tracked-wait v r k t = record { queued = t .queued; dirty = among-queue n (v .dirty) r k (t .dirty); residuals = t .residuals }
+  pub tracked-wait : (v : Live) (r : ℕ) → r < n → Tracked count n taken v → Tracked count n taken (withDirty v r)
+  tracked-wait v r k t = record { queued = t .queued; low = t .low; dirty = among-queue n (v .dirty) r k (t .dirty); residuals = t .residuals }

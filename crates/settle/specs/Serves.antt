@@ -1,7 +1,7 @@
 -- What shared buffers and a live state must be like so that what waits can be drained.
 use Prim.Native.Nat.{ℕ, zero, suc, _+_, _-_, _*_, _<_, _≤_, _^_}
 use mathlib.Core.Path.{_≡_}
-use mathlib.Core.Bool.{Bool, cond}
+use mathlib.Core.Bool.{Bool, true, cond}
 use mathlib.Core.List.{List}
 use lib.ListN.{length, getD}
 use lib.IntN.{ℤ}
@@ -11,7 +11,9 @@ use Rattle.between.specs.Between.{Index, Live}
 use Rattle.between.specs.Held.{Lent, startBy, endBy, Shaped, EdgesShaped, LinksShaped, GuardsShaped, Holds, HoldsEdges, HoldsLinks, HoldsGuards}
 use Rattle.between.specs.KeptLaws.{Runnable}
 use Rattle.ends.specs.Turns.{Indexed, Sound}
+use Rattle.queues.specs.Marks.{Marks, isDecided}
 use Rattle.follows.specs.RowComplete.{Ordered}
+use Rattle.follows.specs.Keeps.{Names}
 use Rattle.follows.specs.Waiting.{Queued}
 
 -- The buffers that the seal filled: rows; for each node its threshold, its row and where its edges end; bounds; edges; neighbours.
@@ -25,10 +27,10 @@ pub record Shared : Type 0 where
 abbrev pub shared : Lent → List (List ℕ) → List ℤ → List (List ℕ) → List ℕ → Shared
 shared h n l e k = record { rows = h; nodes = n; limits = l; edges = e; links = k }
 
--- They hold the index, whose rows are such as a job gives.
+-- They hold the index, whose rows are such as a job gives. Each buffer is lent cut to what is filled of it: `nodes` has an entry for
+-- each node of the job and no other, and the rows name no node behind them.
 pub record Serves (x : Index) (b : Shared) : Type 0 where
   pub shaped : Shaped (b .rows)
-  pub long : 4096 ≤ length (b .nodes)
   pub edged : EdgesShaped (b .rows) (b .nodes) (b .edges)
   pub guarded : GuardsShaped (b .rows) (b .nodes) (b .limits)
   pub linked : LinksShaped (b .rows) (b .links)
@@ -38,19 +40,25 @@ pub record Serves (x : Index) (b : Shared) : Type 0 where
   pub holds-links : HoldsLinks x (b .rows) (b .links)
   pub indexed : Indexed x
   pub ordered : (r : ℕ) → r < length (x .rows) → Ordered (getD (x .rows) r noRow)
+  pub names : (r : ℕ) → r < length (x .rows) → Names (λ (n : ℕ). n < length (b .nodes)) (getD (x .rows) r noRow)
 
 -- Only the first n rows wait.
 abbrev pub Among : ℕ → Rows → Type 0
 Among n q = (r : ℕ) → n ≤ r → getD (q .pending) r 0 ≡ 0
+
+-- Only the first n nodes are decided.
+abbrev pub Low : ℕ → Marks → Type 0
+Low n m = (i : ℕ) → isDecided m i ≡ true → i < n
 
 -- How many edges the first n nodes have that were not taken yet.
 unfoldable pub owed : List (List ℕ) → (ℕ → Bool) → ℕ → ℕ
 owed nodes taken zero = 0
 owed nodes taken (suc n) = cond (taken n) 0 (endBy 2 nodes n - startBy 2 nodes n) + owed nodes taken n
 
--- Nodes wait until they are taken, and only rows wait.
-pub record Tracked (n : ℕ) (taken : ℕ → Bool) (v : Live) : Type 0 where
+-- Nodes wait until they are taken, only the first `count` are decided, and only the first n rows wait.
+pub record Tracked (count n : ℕ) (taken : ℕ → Bool) (v : Live) : Type 0 where
   pub queued : Queued taken (v .marks)
+  pub low : Low count (v .marks)
   pub dirty : Among n (v .dirty)
   pub residuals : Among n (v .residuals)
 
@@ -58,10 +66,10 @@ pub record Tracked (n : ℕ) (taken : ℕ → Bool) (v : Live) : Type 0 where
 -- less than 2 ^ 45.
 pub record Within (h : Lent) (nodes : List (List ℕ)) (v : Live) : Type 0 where
   pub taken : ℕ → Bool
-  pub tracked : Tracked (length (h .rows)) taken v
+  pub tracked : Tracked (length nodes) (length (h .rows)) taken v
   pub range : ℕ
   pub runnable : Runnable h range v
-  pub room : range + owed nodes taken 4096 * 35184372088832 ≤ 2 ^ 60
+  pub room : range + owed nodes taken (length nodes) * 35184372088832 ≤ 2 ^ 60
 
 pub record Going (h : Lent) (nodes : List (List ℕ)) (v : Live) : Type 0 where
   pub sound : Sound v

@@ -96,7 +96,7 @@ module _ (x : Index) (b : Shared) (s : Serves x b) (v : Live) (g : Going (b .row
   small = decided-small (v .marks) (g .sound .waits) n (first-decided (w .taken) (v .marks) (w .tracked .queued) some)
 
   there : n < length (b .nodes)
-  there = omega (arith, small, s .long)
+  there = w .tracked .low n (first-decided (w .taken) (v .marks) (w .tracked .queued) some)
 
   first-run : Runnable (b .rows) (w .range) (untaken v)
   first-run =
@@ -106,9 +106,10 @@ module _ (x : Index) (b : Shared) (s : Serves x b) (v : Live) (g : Going (b .row
         dirty = w .runnable .dirty;
       }
 
-  first-tracked : Tracked (length (b .rows .rows)) now (untaken v)
+  first-tracked : Tracked (length (b .nodes)) (length (b .rows .rows)) now (untaken v)
   first-tracked = record {
     queued = queued-taken (w .taken) (v .marks) (w .tracked .queued) some;
+    low = w .tracked .low;
     dirty = w .tracked .dirty;
     residuals = w .tracked .residuals;
   }
@@ -119,10 +120,10 @@ module _ (x : Index) (b : Shared) (s : Serves x b) (v : Live) (g : Going (b .row
   told-run : Runnable (b .rows) (w .range) (told .live)
   told-run = kept-guard-of x (b .rows) (b .nodes) (b .limits) (s .guarded) (s .holds-guards) n there (s .holds) (s .shaped) (w .range) (untaken v) first-run
 
-  told-tracked : Tracked (length (b .rows .rows)) now (told .live)
+  told-tracked : Tracked (length (b .nodes)) (length (b .rows .rows)) now (told .live)
   told-tracked =
-      keep-guard-of x (b .rows) (Tracked (length (b .rows .rows)) now) (tracked-run x (length (b .rows .rows)) now (s .ordered)) (tracked-put x (length (b .rows .rows)) now (s .ordered))
-      (tracked-wait x (length (b .rows .rows)) now (s .ordered)) (b .nodes) (b .limits) (s .guarded) (s .holds-guards) n there (untaken v) first-tracked
+      keep-guard-of x (b .rows) (Tracked (length (b .nodes)) (length (b .rows .rows)) now) (tracked-run x (length (b .nodes)) (length (b .rows .rows)) now (s .ordered) (s .names)) (tracked-put x (length (b .nodes)) (length (b .rows .rows)) now (s .ordered) (s .names))
+      (tracked-wait x (length (b .nodes)) (length (b .rows .rows)) now (s .ordered) (s .names)) (b .nodes) (b .limits) (s .guarded) (s .holds-guards) n there (untaken v) first-tracked
 
   abbrev then : Did
   then = thresholdCondition x (told .live) n
@@ -132,13 +133,13 @@ module _ (x : Index) (b : Shared) (s : Serves x b) (v : Live) (g : Going (b .row
       subst (λ (i : ℕ). Runnable (b .rows) (w .range + i * 35184372088832) (then .live)) (edges-many x (b .rows) (b .nodes) (b .edges) (s .edged) (s .holds-edges) n there)
       (kept-node x (b .rows) (b .nodes) (b .edges) (s .edged) (s .holds-edges) n there (s .holds) (s .shaped) (w .range) (told .live) told-run)
 
-  then-tracked : Tracked (length (b .rows .rows)) now (then .live)
+  then-tracked : Tracked (length (b .nodes)) (length (b .rows .rows)) now (then .live)
   then-tracked =
-      keep-condition x (b .rows) (Tracked (length (b .rows .rows)) now) (tracked-run x (length (b .rows .rows)) now (s .ordered)) (tracked-put x (length (b .rows .rows)) now (s .ordered))
-      (tracked-wait x (length (b .rows .rows)) now (s .ordered)) (told .live) n (edges-light x (b .rows) (b .nodes) (b .edges) (s .edged) (s .holds-edges) n there) told-tracked
+      keep-condition x (b .rows) (Tracked (length (b .nodes)) (length (b .rows .rows)) now) (tracked-run x (length (b .nodes)) (length (b .rows .rows)) now (s .ordered) (s .names)) (tracked-put x (length (b .nodes)) (length (b .rows .rows)) now (s .ordered) (s .names))
+      (tracked-wait x (length (b .nodes)) (length (b .rows .rows)) now (s .ordered) (s .names)) (told .live) n (edges-light x (b .rows) (b .nodes) (b .edges) (s .edged) (s .holds-edges) n there) told-tracked
 
-  less : owed (b .nodes) (w .taken) 4096 ≡ (endBy 2 (b .nodes) n - startBy 2 (b .nodes) n) + owed (b .nodes) now 4096
-  less = owed-also (b .nodes) (w .taken) n (first-fresh (w .taken) (v .marks) (w .tracked .queued) some) 4096 small
+  less : owed (b .nodes) (w .taken) (length (b .nodes)) ≡ (endBy 2 (b .nodes) n - startBy 2 (b .nodes) n) + owed (b .nodes) now (length (b .nodes))
+  less = owed-also (b .nodes) (w .taken) n (first-fresh (w .taken) (v .marks) (w .tracked .queued) some) (length (b .nodes)) there
 
   within-node : Within (b .rows) (b .nodes) (takeNode x v .live)
   unfolding takeNode
@@ -211,9 +212,10 @@ module _ (x : Index) (b : Shared) (s : Serves x b) (v : Live) (g : Going (b .row
   left-run : Runnable (b .rows) (y .range) (unrowed v)
   left-run = record { ready = y .runnable .ready; dirty = flags-next (v .dirty) (y .runnable .dirty) some }
 
-  left-tracked : Tracked (length (b .rows .rows)) (y .taken) (unrowed v)
+  left-tracked : Tracked (length (b .nodes)) (length (b .rows .rows)) (y .taken) (unrowed v)
   left-tracked = record {
     queued = y .tracked .queued;
+    low = y .tracked .low;
     dirty = among-next (length (b .rows .rows)) (v .dirty) (g .sound .dirty) some (y .tracked .dirty);
     residuals = y .tracked .residuals;
   }
@@ -222,8 +224,8 @@ module _ (x : Index) (b : Shared) (s : Serves x b) (v : Live) (g : Going (b .row
   unfolding takeRow
   within-row = record {
     taken = y .taken;
-    tracked = keep-links x (b .rows) (Tracked (length (b .rows .rows)) (y .taken)) (tracked-run x (length (b .rows .rows)) (y .taken) (s .ordered))
-        (tracked-put x (length (b .rows .rows)) (y .taken) (s .ordered)) (tracked-wait x (length (b .rows .rows)) (y .taken) (s .ordered)) (b .links) (s .linked) (s .holds-links) r is-row
+    tracked = keep-links x (b .rows) (Tracked (length (b .nodes)) (length (b .rows .rows)) (y .taken)) (tracked-run x (length (b .nodes)) (length (b .rows .rows)) (y .taken) (s .ordered) (s .names))
+        (tracked-put x (length (b .nodes)) (length (b .rows .rows)) (y .taken) (s .ordered) (s .names)) (tracked-wait x (length (b .nodes)) (length (b .rows .rows)) (y .taken) (s .ordered) (s .names)) (b .links) (s .linked) (s .holds-links) r is-row
         (unrowed v) left-tracked;
     range = y .range;
     runnable = kept-links x (b .rows) (b .links) (s .linked) (s .holds-links) r is-row (s .holds) (s .shaped) (y .range) (unrowed v) left-run;

@@ -3,7 +3,7 @@ use Prim.Native.Nat.{ℕ, _<_, _≤_}
 use native.Mathlib.Omega.{arith}
 use mathlib.Core.Path.{_≡_, refl, sym, ap, subst, _∙_}
 use mathlib.Core.Bool.{Bool, true, false}
-use mathlib.Core.List.{List}
+use mathlib.Core.List.{List, [], _∷_, List·Memᴰ, List·Memᴰ·head, List·Memᴰ·tail}
 use lib.ListN.{length, getD}
 use borrow.Author.Tests.{eqb-false}
 use Rattle.numeric.specs.Threshold.{Term, terms}
@@ -14,11 +14,13 @@ use Rattle.state.specs.Step.{stepNumber, isUnchanged}
 use Rattle.state.specs.State.{noState, Figures}
 use Rattle.queues.specs.Queue.{Rows, isEmpty, oldest, nextRow}
 use Rattle.queues.specs.RowsLaws.{flags-next}
-use Rattle.queues.specs.Marks.{Marks, isDecided}
+use Rattle.queues.specs.Marks.{Marks, isDecided, Decided}
 use Rattle.thresholds.specs.Rows.{noRow}
 use Rattle.thresholds.specs.Raw.{stretch}
 use Rattle.thresholds.specs.RawLaws.{stretch-length}
 use Rattle.residual.specs.Residual.{Residual, thresholdResidual}
+use Rattle.residual.specs.declared.Interval.{Interval}
+use Rattle.residual.specs.ForceLaws.{Each, force-cases, residual-keeping}
 use Rattle.possible_sums.specs.declared.Search.{Search}
 use Rattle.possible_sums.specs.Search.{search, searchStep, searchVisits}
 use Rattle.between.specs.Between.{Index, Live, live, stateAt}
@@ -27,8 +29,8 @@ use Rattle.regions.specs.Sift.{Sifted, sifted, tryRow}
 use Rattle.ends.specs.Keeps.{keeps-residual}
 use Rattle.ends.specs.Settles.{fall-try}
 use Rattle.follows.specs.Waiting.{Queued, queued-decide}
-use Rattle.settle.specs.Serves.{Shared, Serves, Within, Going}
-use Rattle.settle.specs.Keeping.{among-next, oldest-among}
+use Rattle.settle.specs.Serves.{Shared, Serves, Low, Within, Going}
+use Rattle.settle.specs.Keeping.{among-next, oldest-among, low-decide}
 use Rattle.sift.specs.Tries.{Tries, tried}
 
 -- ---- by the terms of a row
@@ -106,6 +108,10 @@ module _ (h : Lent) (ss : List State) (m : Marks) (q : Rows) (gcds words : List 
 
 -- ---- what can be drained stays such
 
+each-of : (Q : Term → Type 0) (ts : List Term) → ((t : Term) → List·Memᴰ t ts → Q t) → Each Q ts
+each-of Q [] f = tt
+each-of Q (t ∷ ts) f = (f t (List·Memᴰ·head refl), each-of Q ts (λ u i. f u (List·Memᴰ·tail i)))
+
 module _ (x : Index) (b : Shared) (s : Serves x b) (v : Live) (g : Going (b .rows) (b .nodes) v) (some : 0 < v .residuals .queue .ring .count) (gcds : List ℕ) (visits : ℕ) where
   abbrev r : ℕ
   r = oldest (v .residuals .queue)
@@ -124,11 +130,23 @@ module _ (x : Index) (b : Shared) (s : Serves x b) (v : Live) (g : Going (b .row
       keeps-residual (Queued (w .taken)) (λ m value n k p. queued-decide (w .taken) value m n k p) (getD (x .rows) r noRow .terms) (stateAt v r) (v .marks) gcds (s .indexed .conditions r)
       (w .tracked .queued)
 
+  low : Low (length (b .nodes)) (a .marks)
+  low =
+      residual-keeping (λ (t : Term). t .condition < length (b .nodes)) (Low (length (b .nodes)))
+      (λ (i : Interval) (m : Marks) (t : Term) (divisor : ℕ) k p.
+      force-cases (λ (d : Decided). Low (length (b .nodes)) (d .marks)) i m t divisor p (λ e f. p) (λ e. low-decide (length (b .nodes)) true m (t .condition) k p)
+      (λ e. low-decide (length (b .nodes)) false m (t .condition) k p))
+      (getD (x .rows) r noRow .terms) (stateAt v r) (v .marks) gcds
+      (each-of (λ (t : Term). t .condition < length (b .nodes)) (getD (x .rows) r noRow .terms)
+      (s .names r (omega (arith, s .holds .many, oldest-among (length (b .rows .rows)) (v .residuals) (g .sound .residuals) some (w .tracked .residuals))) .terms))
+      (w .tracked .low)
+
   within-after : Within (b .rows) (b .nodes) after
   within-after = record {
     taken = w .taken;
     tracked = record {
       queued = queued;
+      low = low;
       dirty = w .tracked .dirty;
       residuals = among-next (length (b .rows .rows)) (v .residuals) (g .sound .residuals) some (w .tracked .residuals);
     };
