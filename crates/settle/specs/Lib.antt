@@ -3,3 +3,4 @@ pub mod Keeping
 pub mod TurnLaws
 pub mod Settling
 pub mod Begins
+pub mod Served
