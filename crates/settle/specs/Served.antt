@@ -29,13 +29,14 @@ use Rattle.settle.specs.Serves.{Shared, shared, Serves}
 -- ---- any job
 
 -- What a threshold and its terms name.
-abbrev Named : (ℕ → Type 0) → Threshold → Type 0
+abbrev pub Named : (ℕ → Type 0) → Threshold → Type 0
 Named Ok t = Ok (t .node) × Every (λ (u : Term). Ok (u .condition)) (t .terms)
 
--- ITS ROWS NAME ONLY WHAT ITS THRESHOLDS NAME. The other fields of `Serves` are had from how the buffers are laid: `shaped`, `holds`,
--- `holds-edges`, `holds-guards` and `holds-links` by the laws of crate holds, whose columns are over all entries of `nodes` and of
--- `rows`, so over buffers cut to their counts; what is `Inside` of `edged` and `linked` by `inside-laid` there; `indexed` by
--- `indexed` of crate ends, `ordered` by `rows-ordered` of crate follows.
+-- ITS ROWS NAME ONLY WHAT ITS THRESHOLDS NAME: `names` of `Serves`, with Ok n = n < the node count. Of the other fields `shaped`, `holds`,
+-- `holds-edges`, `holds-guards` and `holds-links` come from how the buffers are laid, by the laws of crate holds, whose columns are over
+-- all entries of `nodes` and of `rows`, so over buffers cut to their counts; `inside` of `edged` and of `linked` by `inside-laid` there;
+-- `indexed` by `indexed` of crate ends, `ordered` by `rows-ordered` of crate follows. That edges and neighbours are rows, that weights and
+-- bounds are small and that there are at most 4,096 edges is left to who lends the buffers: the rest of `edged`, of `linked`, `guarded`.
 pub rows-names : (Ok : ℕ → Type 0) (j : Job) → Every (Named Ok) (j .thresholds) → (r : ℕ) → r < length (rowsOf j) → Names Ok (getD (rowsOf j) r noRow)
 rows-names Ok j h r k = record {
   guards = λ g i.
