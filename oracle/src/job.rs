@@ -235,13 +235,13 @@ impl Run {
         act: impl FnOnce(&mut Planner) -> (Answer, Option<u64>),
     ) -> (Answer, Option<u64>) {
         let planner = self.planner.as_mut().expect("the turn was checked");
-        let before = planner.taken;
+        let before: [usize; 3] = std::array::from_fn(|queue| planner.taken[queue].len());
         let (answer, visits) = act(planner);
         let note = self.notes.last_mut().expect("noted before it is accepted");
         note.answer = Some(answer);
         note.visits = visits;
         note.decided[1] = planner.counts();
-        note.taken = std::array::from_fn(|queue| planner.taken[queue] - before[queue]);
+        note.taken = std::array::from_fn(|queue| planner.taken[queue].len() - before[queue]);
         note.events = std::mem::take(&mut planner.events);
         self.contradicted |= answer == Answer::Contradiction;
         (answer, visits)

@@ -4,6 +4,7 @@
 // The original calls its algebra crate by this name; here both are one crate.
 extern crate self as zetesis_algebra;
 
+pub mod buffers;
 pub mod cover;
 pub mod job;
 pub mod listing;

@@ -92,10 +92,13 @@ fn memory(out: &mut String, planner: &Planner) {
     }
     let nodes = planner.waiting_nodes().iter();
     let nodes: String = nodes.map(|&(node, sure)| format!(" {node}:{}", value(sure))).collect();
-    line(out, format_args!("nodes taken {} waiting{nodes}", planner.taken[0]));
+    line(out, format_args!("nodes taken {} waiting{nodes}", planner.taken[0].len()));
     let [rows, residuals] = planner.waiting_rows();
-    line(out, format_args!("rows taken {} waiting{}", planner.taken[1], singles(rows)));
-    line(out, format_args!("residuals taken {} waiting{}", planner.taken[2], singles(residuals)));
+    line(out, format_args!("rows taken {} waiting{}", planner.taken[1].len(), singles(rows)));
+    line(
+        out,
+        format_args!("residuals taken {} waiting{}", planner.taken[2].len(), singles(residuals)),
+    );
     line(out, format_args!("gcds{}", singles(planner.suffix())));
 }
 

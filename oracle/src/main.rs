@@ -4,16 +4,18 @@
 use std::io::{Read, Write};
 use std::process::ExitCode;
 
-use threshold_oracle::{cover::Cover, job, listing};
+use threshold_oracle::{buffers, cover::Cover, job, listing};
 
 const HELP: &str = "\
-usage: oracle [--many] [--trace | --rows] [--cover] < FILE
+usage: oracle [--many] [--trace | --rows | --words] [--cover] < FILE
 Reads one job file and prints its listing.
   --many   many files, each behind its length (u32, little-endian);
            after each listing a line `--`
   --rows   print first the rows, guards, links and conditions' rows
   --trace  print first every record with its answer and steps, the rows,
            cursors, masks, queues and gcds
+  --words  print first what each lent buffer holds (docs/BUFFERS.md), up to
+           its last element that is not zero
   --cover  print behind all files what they have reached; status 1 if a
            counter is 0 that can be met
   --help   this text
@@ -21,7 +23,7 @@ Reads one job file and prints its listing.
 
 fn main() -> ExitCode {
     let flags: Vec<String> = std::env::args().skip(1).collect();
-    let known = ["--many", "--trace", "--rows", "--cover"];
+    let known = ["--many", "--trace", "--rows", "--words", "--cover"];
     if flags.iter().any(|flag| !known.contains(&flag.as_str())) {
         print!("{HELP}");
         return if flags.iter().any(|flag| flag == "--help") { 0.into() } else { 2.into() };
@@ -41,6 +43,8 @@ fn main() -> ExitCode {
             out.write_all(listing::trace(&run).as_bytes()).expect("output");
         } else if has("--rows") {
             out.write_all(listing::rows(&run).as_bytes()).expect("output");
+        } else if has("--words") {
+            out.write_all(buffers::words(&run).as_bytes()).expect("output");
         }
         out.write_all(listing::listing(&run).as_bytes()).expect("output");
         if has("--many") {

@@ -69,9 +69,13 @@ runRow x v r = runWith (getD (x .rows) r noRow) v r
 abbrev pub linkedQueued : ℕ → Rows → ℕ → Rows
 linkedQueued n q r = cond (eqb n 0) q (queueRow q r)
 
+-- Row r, with so many links, moved to state s.
+abbrev pub withBound : Live → ℕ → State → ℕ → Live
+withBound v r s n = live (set (v .states) r s) (v .marks) (linkedQueued n (v .dirty) r) (v .residuals)
+
 -- The row that holds a moved bound runs, and waits to hand the bound on if it has links.
 unfoldable pub bounded : Index → Live → ℕ → State → Did
-bounded x v r s = runRow x (live (set (v .states) r s) (v .marks) (linkedQueued (length (neighbours r (x .links))) (v .dirty) r) (v .residuals)) r
+bounded x v r s = runRow x (withBound v r s (length (neighbours r (x .links)))) r
 
 -- `threshold_guard`: a drained guard tells its row its bound.
 unfoldable pub thresholdGuard : Index → Live → Threshold → Did

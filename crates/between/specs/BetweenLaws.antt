@@ -1,25 +1,24 @@
 -- What moves between rows, case by case as the code tells them apart. Assumes nothing.
 use Prim.Native.Nat.{ℕ, _<_}
-use mathlib.Core.Path.{_≡_, sym, ap, _∙_}
+use mathlib.Core.Path.{_≡_, sym, ap, ap₂, _∙_}
 use mathlib.Core.Logic.{_≢_}
 use mathlib.Core.Bool.{Bool, true, false}
 use mathlib.Core.List.{List}
-use lib.ListN.{length, getD, set}
+use lib.ListN.{length, set}
+use Rattle.memory.specs.Buffers.{HeldRows}
 use Rattle.prefixes.specs.Links.{neighbours}
 use lib.IntN.{ℤ}
 use Rattle.numeric.specs.Threshold.{Threshold}
 use Rattle.words.specs.Mask.{bit}
 use borrow.Author.Tests.{eq-eqb, ne-eqb}
 use Rattle.state.specs.declared.State.{State}
-use Rattle.state.specs.State.{noState}
 use Rattle.state.specs.declared.Step.{Step}
 use Rattle.state.specs.declared.Step.the-variants.{Unchanged}
 use Rattle.queues.specs.Queue.{Rows, queueRow}
-use Rattle.queues.specs.Marks.{Marks}
 use Rattle.thresholds.specs.Rows.{Row, rowNumber}
 use Rattle.propagate.specs.declared.Tightened.{Tightened}
-use Rattle.between.specs.Between.{Index, live, did, residualQueued, linkedQueued, Did, Live, stateAt, runWith, bounded, thresholdGuard}
-use Rattle.between.specs.Held.{Lent, Holds, heldRow}
+use Rattle.between.specs.Between.{Index, Live, live, stateAt, withState, withBound, Did, did, residualQueued, linkedQueued, runWith, bounded, thresholdGuard}
+use Rattle.between.specs.Held.{Holds, heldRow}
 use Rattle.between.specs.HeldLaws.{run-held}
 use Rattle.propagate.specs.Told.{guardState}
 use Rattle.propagate.specs.Row.{Ran, ran, thresholdRow, wantsResidual}
@@ -32,18 +31,15 @@ pub residual-not : (row : Row) (s : State) (q : Rows) (r : ℕ) → wantsResidua
 residual-not row s q r h = rw h
 
 -- A run, from the row's state and what its run gave.
-pub run-made : (row : Row) (ss : List State) (m : Marks) (d q : Rows) (r : ℕ) (s : State) → getD ss r noState ≡ s
-    → (ss′ : List State) (m′ : Marks) (q′ : Rows) (t : State) (k : Step)
-    → ran t m′ k ≡ thresholdRow row s m → q′ ≡ residualQueued row s q r → ss′ ≡ set ss r t
-    → did (live ss′ m′ d q′) k ≡ runWith row (live ss m d q) r
+pub run-made : (row : Row) (v : Live) (r : ℕ) (s : State) → stateAt v r ≡ s → (v′ : Live) (t : State) (k : Step)
+    → ran t (v′ .marks) k ≡ thresholdRow row s (v .marks) → v′ .states ≡ set (v .states) r t → v′ .dirty ≡ v .dirty → v′ .residuals ≡ residualQueued row s (v .residuals) r
+    → did v′ k ≡ runWith row v r
 unfolding runWith
-run-made row ss m d q r s f ss′ m′ q′ t k g h i =
-    let u = g ∙ ap (λ (y : State). thresholdRow row y m) (sym f) in
-    let v = h ∙ ap (λ (y : State). residualQueued row y q r) (sym f) in
-    let o = thresholdRow row (getD ss r noState) m in
-    ap (λ (y : List State). did (live y m′ d q′) k) i
-    ∙ ap (λ (y : Ran). did (live (set ss r (y .state)) (y .marks) d q′) (y .step)) u
-    ∙ ap (λ (y : Rows). did (live (set ss r (o .state)) (o .marks) d y) (o .step)) v
+run-made row v r s f v′ t k g states dirty residuals =
+    let run = g ∙ ap (λ (y : State). thresholdRow row y (v .marks)) (sym f) in
+    let ss = states ∙ ap (λ (y : Ran). set (v .states) r (y .state)) run in
+    let q = residuals ∙ ap (λ (y : State). residualQueued row y (v .residuals) r) (sym f) in
+    (λ i. did (live (ss i) (run i .marks) (dirty i) (q i)) (run i .step))
 
 -- A row with links waits.
 pub linked-waits : (n : ℕ) (q : Rows) (r : ℕ) → n ≢ 0 → queueRow q r ≡ linkedQueued n q r
@@ -52,21 +48,20 @@ linked-waits n q r h = rw (ne-eqb n 0 h)
 pub linked-not : (n : ℕ) (q : Rows) (r : ℕ) → n ≡ 0 → q ≡ linkedQueued n q r
 linked-not n q r h = rw (eq-eqb n 0 h)
 
--- A state is stored, and the row run; a moved bound waits to be handed on in between.
-pub store-run : (row : Row) (ss ss′ : List State) (m : Marks) (d q : Rows) (r : ℕ) (s : State) → ss′ ≡ set ss r s
-    → runWith row (live ss′ m d q) r ≡ runWith row (live (set ss r s) m d q) r
-store-run row ss ss′ m d q r s f = ap (λ (y : List State). runWith row (live y m d q) r) f
+-- A state is stored, and the row run; a moved bound waits to be handed on before.
+pub store-run : (row : Row) (v : Live) (r : ℕ) (s : State) (ss : List State) → ss ≡ set (v .states) r s → (o : Did)
+    → o ≡ runWith row (live ss (v .marks) (v .dirty) (v .residuals)) r → o ≡ runWith row (withState v r s) r
+store-run row v r s ss e o made = made ∙ ap (λ (y : List State). runWith row (live y (v .marks) (v .dirty) (v .residuals)) r) e
 
-pub linked-run : (row : Row) (ss : List State) (m : Marks) (d d′ q : Rows) (r n : ℕ) → d′ ≡ linkedQueued n d r
-    → runWith row (live ss m d′ q) r ≡ runWith row (live ss m (linkedQueued n d r) q) r
-linked-run row ss m d d′ q r n g = ap (λ (y : Rows). runWith row (live ss m y q) r) g
+pub linked-run : (row : Row) (v : Live) (r n : ℕ) (s : State) (d q : Rows) → d ≡ linkedQueued n (v .dirty) r → q ≡ v .residuals → (o : Did)
+    → o ≡ runWith row (live (set (v .states) r s) (v .marks) d q) r → o ≡ runWith row (withBound v r s n) r
+linked-run row v r n s d q e f o made = made ∙ ap₂ (λ (y z : Rows). runWith row (live (set (v .states) r s) (v .marks) y z) r) e f
 
-pub bounded-held : (x : Index) (h : Lent) → Holds x h → (v : Live) (r : ℕ) (s : State) (n : ℕ) → r < length (h .rows) → length (neighbours r (x .links)) ≡ n
-    → runWith (heldRow h r) (live (set (v .states) r s) (v .marks) (linkedQueued n (v .dirty) r) (v .residuals)) r ≡ bounded x v r s
+pub bounded-held : (x : Index) (h : HeldRows) → Holds x h → (v : Live) (r : ℕ) (s : State) (n : ℕ) → r < length (h .rows) → length (neighbours r (x .links)) ≡ n → (o : Did)
+    → o ≡ runWith (heldRow h r) (withBound v r s n) r → o ≡ bounded x v r s
 unfolding bounded
-bounded-held x h y v r s n k e =
-    ap (λ (j : ℕ). runWith (heldRow h r) (live (set (v .states) r s) (v .marks) (linkedQueued j (v .dirty) r) (v .residuals)) r) (sym e)
-    ∙ run-held x h y (live (set (v .states) r s) (v .marks) (linkedQueued (length (neighbours r (x .links))) (v .dirty) r) (v .residuals)) r k
+bounded-held x h y v r s n k e o made =
+    made ∙ ap (λ (j : ℕ). runWith (heldRow h r) (withBound v r s j) r) (sym e) ∙ run-held x h y (withBound v r s (length (neighbours r (x .links)))) r k
 
 -- A drained guard: its bound is new, or not.
 module _ (x : Index) (v : Live) (t : Threshold) (r : ℕ) (row : rowNumber (x .rows) (t .terms) ≡ r) (s : State) (at : stateAt v r ≡ s) (n : ℕ) (node : t .node ≡ n)

@@ -7,6 +7,7 @@ use mathlib.Core.List.{List, [], _∷_}
 use lib.ListN.{length, getD, set, drop, length-set, drop-of-length-le}
 use lib.Seq.{drop-cons, getD-set-same, getD-set-other}
 use lib.IntN.{ℤ}
+use Rattle.memory.specs.Buffers.{HeldRows, heldRows}
 use Rattle.numeric.specs.Threshold.{terms}
 use Rattle.state.specs.declared.State.{State}
 use Rattle.state.specs.State.{firstState, noState}
@@ -20,7 +21,7 @@ use Rattle.thresholds.specs.Raw.{stretch}
 use Rattle.thresholds.specs.RawLaws.{stretch-length}
 use Rattle.propagate.specs.Guards.{guards, length-guards}
 use Rattle.between.specs.Between.{Index, firstStates}
-use Rattle.between.specs.Held.{Lent, lent, startBy, endBy, stretchBy, heldGuards, Shaped, Holds}
+use Rattle.between.specs.Held.{startBy, endBy, stretchBy, heldGuards, Shaped, Holds}
 use Rattle.between.specs.Ready.{Ready}
 
 -- The first state of row r, as the buffers hold the row.
@@ -32,12 +33,12 @@ abbrev pub Totals : ℕ → List ℕ → List ℕ → List (List ℕ) → Type 0
 Totals n cs ws rows = (r : ℕ) → r < length rows → total (terms (stretchBy 0 rows r cs) (stretchBy 0 rows r ws)) < n
 
 -- As many guards as the stretch is long.
-guards-many : (h : Lent) → Shaped h → (r : ℕ) → r < length (h .rows) → length (heldGuards h r) ≡ endBy 1 (h .rows) r - startBy 1 (h .rows) r
+guards-many : (h : HeldRows) → Shaped h → (r : ℕ) → r < length (h .rows) → length (heldGuards h r) ≡ endBy 1 (h .rows) r - startBy 1 (h .rows) r
 guards-many h y r k =
     let a = startBy 1 (h .rows) r in
     let e = endBy 1 (h .rows) r in
-    length-guards (stretch a e (h .bounds)) (stretch a e (h .names))
-    ∙ omega (arith, stretch-length a e (h .bounds) (y .guards .ends r k), stretch-length a e (h .names) (omega (arith, y .guards .ends r k, y .named)))
+    length-guards (stretch a e (h .guard-bounds)) (stretch a e (h .guard-nodes))
+    ∙ omega (arith, stretch-length a e (h .guard-bounds) (y .guards .ends r k), stretch-length a e (h .guard-nodes) (omega (arith, y .guards .ends r k, y .named)))
 
 -- The same, cut out of the buffers.
 pub first-cut : (cs ws : List ℕ) (rows : List (List ℕ)) (r a e g n : ℕ) → a ≡ startBy 0 rows r → e ≡ endBy 0 rows r
@@ -48,7 +49,7 @@ pub small-cut : (cs ws : List ℕ) (rows : List (List ℕ)) (r a e n : ℕ) → 
     → total (terms (stretchBy 0 rows r cs) (stretchBy 0 rows r ws)) < n → total (terms (stretch a e cs) (stretch a e ws)) < n
 small-cut cs ws rows r a e n p q h = rw (p, q) h
 
-first-held : (x : Index) (h : Lent) → Holds x h → Shaped h → (r : ℕ) → r < length (h .rows) → firstAt (h .conditions) (h .weights) (h .rows) r ≡ stateOfRow (getD (x .rows) r noRow)
+first-held : (x : Index) (h : HeldRows) → Holds x h → Shaped h → (r : ℕ) → r < length (h .rows) → firstAt (h .row-conditions) (h .row-weights) (h .rows) r ≡ stateOfRow (getD (x .rows) r noRow)
 first-held x h z y r k =
     ap₂ firstState (ap total (sym (z .terms r k))) (sym (guards-many h y r k) ∙ ap (λ (gs : List Guard). length gs) (sym (z .guards r k)))
 
@@ -56,7 +57,7 @@ first-held x h z y r k =
 
 pub record Starting (cs ws : List ℕ) (rows : List (List ℕ)) (ss₀ : List State) (row : ℕ) (ss : List State) : Type 0 where
   pub long : length ss ≡ length ss₀
-  pub whole : (x : Index) (bs : List ℤ) (ns : List ℕ) → Shaped (lent cs ws rows bs ns) → Holds x (lent cs ws rows bs ns)
+  pub whole : (x : Index) (bs : List ℤ) (ns : List ℕ) → Shaped (heldRows cs ws rows bs ns) → Holds x (heldRows cs ws rows bs ns)
       → firstStates row (drop row (x .rows)) ss ≡ firstStates 0 (x .rows) ss₀
 
 module _ (cs ws : List ℕ) (rows : List (List ℕ)) (ss₀ : List State) where
@@ -64,7 +65,7 @@ module _ (cs ws : List ℕ) (rows : List (List ℕ)) (ss₀ : List State) where
   starting-first = record { long = refl; whole = λ x bs ns y z. refl }
 
   module _ (row : ℕ) (ss : List State) (l : Starting cs ws rows ss₀ row ss) where
-    pub starting-end : length rows ≤ row → (x : Index) (bs : List ℤ) (ns : List ℕ) → Shaped (lent cs ws rows bs ns) → Holds x (lent cs ws rows bs ns)
+    pub starting-end : length rows ≤ row → (x : Index) (bs : List ℤ) (ns : List ℕ) → Shaped (heldRows cs ws rows bs ns) → Holds x (heldRows cs ws rows bs ns)
         → ss ≡ firstStates 0 (x .rows) ss₀
     unfolding firstStates
     starting-end t x bs ns y z =
@@ -75,7 +76,7 @@ module _ (cs ws : List ℕ) (rows : List (List ℕ)) (ss₀ : List State) where
     starting-next k s e ss′ f = record {
       long = ap (λ (y : List State). length y) f ∙ length-set ss row s ∙ l .long;
       whole = λ x bs ns y z.
-          ap (firstStates (row + 1) (drop (row + 1) (x .rows))) (f ∙ ap (set ss row) (e ∙ first-held x (lent cs ws rows bs ns) z y row k))
+          ap (firstStates (row + 1) (drop (row + 1) (x .rows))) (f ∙ ap (set ss row) (e ∙ first-held x (heldRows cs ws rows bs ns) z y row k))
           ∙ ap (λ (i : ℕ). firstStates (row + 1) (drop i (x .rows)) (set ss row (stateOfRow (getD (x .rows) row noRow)))) (add-one row)
           ∙ ap (λ (rs : List Row). firstStates row rs ss) (sym (drop-cons (x .rows) row noRow (omega (arith, z .many)))) ∙ l .whole x bs ns y z;
     }
@@ -103,7 +104,7 @@ first-there r (x ∷ rs) ss (suc i) h k =
     ∙ first-there (r + 1) rs (set ss r (stateOfRow x)) i (omega arith) (omega (arith, length-set ss r (stateOfRow x)))
 
 -- With every total in range, all is ready.
-pub ready-first : (x : Index) (h : Lent) → Holds x h → Shaped h → (n : ℕ) → Totals n (h .conditions) (h .weights) (h .rows)
+pub ready-first : (x : Index) (h : HeldRows) → Holds x h → Shaped h → (n : ℕ) → Totals n (h .row-conditions) (h .row-weights) (h .rows)
     → (ss : List State) → length (h .rows) ≤ length ss → (m : Marks) → Waits m → (q : Rows) → Flags q → Ready h n (firstStates 0 (x .rows) ss) m q
 unfolding firstState
 ready-first x h z y n small ss l m w q f = record {
@@ -120,7 +121,7 @@ ready-first x h z y n small ss l m w q f = record {
   flags = f;
 }
   where
-    at : (r : ℕ) → r < length (h .rows) → getD (firstStates 0 (x .rows) ss) r noState ≡ firstAt (h .conditions) (h .weights) (h .rows) r
+    at : (r : ℕ) → r < length (h .rows) → getD (firstStates 0 (x .rows) ss) r noState ≡ firstAt (h .row-conditions) (h .row-weights) (h .rows) r
     at r k =
         ap (λ (j : ℕ). getD (firstStates 0 (x .rows) ss) j noState) (omega arith)
         ∙ first-there 0 (x .rows) ss r (omega (arith, z .many)) (omega (arith, z .many)) ∙ sym (first-held x h z y r k)

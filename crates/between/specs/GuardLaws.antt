@@ -10,13 +10,9 @@ use lib.IntN.{ℤ, pos}
 use lib.ListN.{length, getD, List·getD-map}
 use Rattle.numeric.specs.Threshold.{Threshold}
 use Rattle.state.specs.declared.Step.the-variants.{Unchanged}
-use Rattle.thresholds.specs.Rows.{rowNumber}
-use Rattle.thresholds.specs.Laid.{thresholdOf, rowOfNode}
+use Rattle.thresholds.specs.Laid.{thresholdOf}
 use Rattle.between.specs.Between.{Index, Live, did, thresholdGuard, guardOf}
-use Rattle.between.specs.Held.{endBy, HoldsGuards}
-
-abbrev pub noThreshold : Threshold
-noThreshold = record { node = 0; bound = pos 0; terms = [] }
+use Rattle.between.specs.Held.{endBy, noThreshold, rowAt, HoldsGuards}
 
 above : (k : ℕ) (ts : List Threshold) (n : ℕ) → 0 < thresholdOf k ts n → k < thresholdOf k ts n
 unfolding thresholdOf
@@ -40,31 +36,33 @@ guard-none x v k (t ∷ ts) n e = by (λ f. guard-none x v (k + 1) ts n f) (eqb 
 -- The threshold with this number has it, and is the one whose guard is told.
 pub record Found (x : Index) (v : Live) (ts : List Threshold) (n i : ℕ) : Type 0 where
   pub node : getD ts i noThreshold .node ≡ n
-  pub row : rowNumber (x .rows) (getD ts i noThreshold .terms) ≡ rowOfNode (x .rows) ts n
   pub guard : thresholdGuard x v (getD ts i noThreshold) ≡ guardOf x v ts n
 
 pub guard-found : (x : Index) (v : Live) (k : ℕ) (ts : List Threshold) (n i : ℕ) → thresholdOf k ts n ≡ k + suc i → Found x v ts n i
-unfolding thresholdOf guardOf rowOfNode
+unfolding thresholdOf guardOf
 guard-found x v k [] n i e = absurd (omega arith)
 guard-found x v k (t ∷ ts) n i e = by (λ j f. guard-found x v (k + 1) ts n j f) (eqb (t .node) n) refl i e
   where
     by : ((j : ℕ) → thresholdOf (k + 1) ts n ≡ k + 1 + suc j → Found x v ts n j) → (b : Bool) → eqb (t .node) n ≡ b
         → (j : ℕ) → thresholdOf k (t ∷ ts) n ≡ k + suc j → Found x v (t ∷ ts) n j
-    by more true h zero g = record { node = eqb-true (t .node) n h; row = rw (h, rowOfNode); guard = rw (h, guardOf) }
+    by more true h zero g = record { node = eqb-true (t .node) n h; guard = rw (h, guardOf) }
     by more true h (suc j) g = absurd (let f : k + 1 ≡ k + suc (suc j) = rw (h, thresholdOf) at g in omega arith)
     by more false h zero g = absurd (let f : thresholdOf (k + 1) ts n ≡ k + 1 = rw (h, thresholdOf) at g in omega (arith, above (k + 1) ts n (omega arith)))
     by more false h (suc j) g =
         let f : thresholdOf (k + 1) ts n ≡ k + suc (suc j) = rw (h, thresholdOf) at g in
         let m = more j (f ∙ omega arith) in
-        record { node = m .node; row = rw (h, rowOfNode) (m .row); guard = rw (h, guardOf) (m .guard) }
+        record { node = m .node; guard = rw (h, guardOf) (m .guard) }
 
 -- The guard of a node, from the buffers.
-module _ (x : Index) (nodes : List (List ℕ)) (limits : List ℤ) (y : HoldsGuards x nodes limits) (n : ℕ) (k : n < length nodes) (v : Live) (t : ℕ) (p : t ≡ endBy 0 nodes n) where
+module _ (x : Index) (nodes : List (List ℕ)) (bounds : List ℤ) (y : HoldsGuards x nodes bounds) (n : ℕ) (k : n < length nodes) (v : Live) (t : ℕ) (p : t ≡ endBy 0 nodes n) where
   pub guard-not : t ≡ 0 → did v Unchanged ≡ guardOf x v (x .thresholds) n
   guard-not e = guard-none x v 0 (x .thresholds) n (y .number n k ∙ sym p ∙ e)
 
   pub guard-is : 0 < t → Found x v (x .thresholds) n (t - 1)
   guard-is h = guard-found x v 0 (x .thresholds) n (t - 1) (y .number n k ∙ sym p ∙ omega arith)
 
-  pub guard-bound : getD (x .thresholds) (t - 1) noThreshold .bound ≡ getD limits (t - 1) (pos 0)
+  pub guard-bound : getD (x .thresholds) (t - 1) noThreshold .bound ≡ getD bounds (t - 1) (pos 0)
   guard-bound = sym (List·getD-map (λ (s : Threshold). s .bound) (x .thresholds) (t - 1) noThreshold) ∙ ap (λ (l : List ℤ). getD l (t - 1) (pos 0)) (y .bounds)
+
+  pub guard-row : 0 < t → (r : ℕ) → r ≡ endBy 1 nodes n → rowAt x (t - 1) ≡ r
+  guard-row h r e = sym (e ∙ y .row n (t - 1) k (sym p ∙ omega arith))

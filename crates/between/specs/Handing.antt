@@ -1,11 +1,12 @@
 -- The loop of `threshold_prefixes` over a row's neighbours: what holds at each place. Assumes nothing.
-use Prim.Native.Nat.{ℕ, _+_, _-_, _<_, _≤_, _^_}
+use Prim.Native.Nat.{ℕ, _+_, _-_, _<_, _≤_}
 use native.Mathlib.Omega.{arith}
 use mathlib.Core.Path.{_≡_, refl, sym, ap, _∙_}
 use mathlib.Core.Bool.{Bool, true, false, cond}
 use mathlib.Core.List.{List, _∷_}
 use lib.ListN.{length, getD}
 use lib.Signed.{mag}
+use Rattle.memory.specs.Buffers.{HeldRows}
 use Rattle.numeric.specs.Threshold.{Term}
 use Rattle.numeric.specs.TermsLaws.{length-terms}
 use Rattle.state.specs.declared.Step.{Step}
@@ -20,10 +21,11 @@ use Rattle.thresholds.specs.RawLaws.{stretch-length}
 use Rattle.prefixes.specs.Links.{neighbours}
 use Rattle.propagate.specs.declared.Tightened.{Tightened}
 use Rattle.propagate.specs.Told.{movedState}
+use Rattle.memory.specs.Limits.{figureLimit}
 use Rattle.between.specs.Between.{Index, Live, live, Did, did, stateAt, withState, withDirty, runWith, runRow, after, termCount, toldStep, handedOn, prefixesFrom, thresholdPrefixes}
-use Rattle.between.specs.Held.{Lent, startBy, endBy, heldRow, Shaped, LinksShaped, Holds, HoldsLinks}
+use Rattle.between.specs.Held.{startBy, endBy, heldRow, Shaped, LinksShaped, Holds, HoldsLinks}
 use Rattle.between.specs.HeldLaws.{stretch-cons, stretch-none, run-held}
-use Rattle.between.specs.Ready.{Fit, ReadyLive}
+use Rattle.between.specs.Ready.{Fit, ReadyLive, Runnable}
 use Rattle.between.specs.ReadyLaws.{ready-set, ready-run, ready-by, fit-prefix}
 use Rattle.between.specs.LoopLaws.{prefix-next, prefix-stop, prefix-end}
 
@@ -46,14 +48,14 @@ module _ (row : Row) (v : Live) (r : ℕ) (t u : Tightened) (e : u ≡ t) where
       ∙ ap (handedOn row v r) e
 
 -- The row that the buffers hold is told what the row of the index is.
-pub handed-held : (x : Index) (h : Lent) → Holds x h → (v : Live) (r : ℕ) → r < length (h .rows) → (t : Tightened)
+pub handed-held : (x : Index) (h : HeldRows) → Holds x h → (v : Live) (r : ℕ) → r < length (h .rows) → (t : Tightened)
     → handedOn (heldRow h r) v r t ≡ handedOn (getD (x .rows) r noRow) v r t
 unfolding handedOn runRow
 handed-held x h y v r k t =
     ap (λ (d : Did). cond (t .changed) (did (d .live) (toldStep (d .step))) (did v Unchanged)) (run-held x h y (withDirty (withState v r (t .state)) r) r k)
 
 -- What is ready stays so.
-module _ (h : Lent) (y : Shaped h) (n : ℕ) (v : Live) (w : ReadyLive h n v) (r : ℕ) (k : r < length (h .rows)) (t : Tightened) where
+module _ (h : HeldRows) (y : Shaped h) (n : ℕ) (v : Live) (w : ReadyLive h n v) (r : ℕ) (k : r < length (h .rows)) (t : Tightened) where
   pub ready-handed : Fit h n r (t .state) → ReadyLive h n (handedOn (heldRow h r) v r t .live)
   unfolding handedOn
   ready-handed f = by (t .changed)
@@ -80,26 +82,39 @@ flags-by : (c d : Did) → c ≡ d → Flags (d .live .dirty) → Flags (c .live
 flags-by c d e f = rw e f
 
 -- As many terms as the stretch is long.
-pub count-held : (x : Index) (h : Lent) → Holds x h → Shaped h → (r : ℕ) → r < length (h .rows) → termCount x r ≡ endBy 0 (h .rows) r - startBy 0 (h .rows) r
+pub count-held : (x : Index) (h : HeldRows) → Holds x h → Shaped h → (r : ℕ) → r < length (h .rows) → termCount x r ≡ endBy 0 (h .rows) r - startBy 0 (h .rows) r
 count-held x h z y r k =
     let a = startBy 0 (h .rows) r in
     let e = endBy 0 (h .rows) r in
     ap (λ (ts : List Term). length ts) (z .terms r k)
-    ∙ length-terms (stretch a e (h .conditions)) (stretch a e (h .weights))
-    ∙ omega (arith, stretch-length a e (h .conditions) (y .terms .ends r k), stretch-length a e (h .weights) (omega (arith, y .terms .ends r k, y .weighed)))
+    ∙ length-terms (stretch a e (h .row-conditions)) (stretch a e (h .row-weights))
+    ∙ omega (arith, stretch-length a e (h .row-conditions) (y .terms .ends r k), stretch-length a e (h .row-weights) (omega (arith, y .terms .ends r k, y .weighed)))
 
 -- ---- the loop
 
+-- The neighbours from one place to another: each is a row.
+pub record Links (h : HeldRows) (links : List ℕ) (from end : ℕ) : Type 0 where
+  pub inside : end ≤ length links
+  pub rows : (at r : ℕ) → from ≤ at → at < end → r ≡ getD links at 0 → r < length (h .rows)
+
+-- Those of a row are such.
+pub links-of : (h : HeldRows) (links : List ℕ) → LinksShaped h links → (r : ℕ) → r < length (h .rows) → (a e : ℕ) → a ≡ startBy 2 (h .rows) r → e ≡ endBy 2 (h .rows) r
+    → Links h links a e
+links-of h links y r k a e p q = record {
+  inside = omega (arith, y .inside .ends r k);
+  rows = λ at o f g i. omega (arith, y .rows r at k (omega arith) (omega arith));
+}
+
 -- What was done up to a place, joined with the neighbours from there on, is the whole.
-pub record Handing (h : Lent) (links : List ℕ) (row : ℕ) (source : State) (from end : ℕ) (v₀ : Live) (at : ℕ) (k : Step) (v : Live) : Type 0 where
+pub record Handing (h : HeldRows) (links : List ℕ) (row : ℕ) (source : State) (from end : ℕ) (v₀ : Live) (at : ℕ) (k : Step) (v : Live) : Type 0 where
   pub above : from ≤ at
-  pub ready : ReadyLive h (2 ^ 61) v
-  pub flags : Flags (v .dirty)
+  pub own : Links h links from end
+  pub runnable : Runnable h figureLimit v
   pub whole : (x : Index) → Holds x h → after k (prefixesFrom x row source (stretch at end links) v) ≡ prefixesFrom x row source (stretch from end links) v₀
 
-module _ (h : Lent) (links : List ℕ) (row : ℕ) (source : State) (from end : ℕ) (v₀ : Live) where
-  pub handing-first : ReadyLive h (2 ^ 61) v₀ → Flags (v₀ .dirty) → Handing h links row source from end v₀ from Unchanged v₀
-  handing-first y f = record { above = omega arith; ready = y; flags = f; whole = λ x z. refl }
+module _ (h : HeldRows) (links : List ℕ) (row : ℕ) (source : State) (from end : ℕ) (v₀ : Live) where
+  pub handing-first : Links h links from end → Runnable h figureLimit v₀ → Handing h links row source from end v₀ from Unchanged v₀
+  handing-first o y = record { above = omega arith; own = o; runnable = y; whole = λ x z. refl }
 
   module _ (at : ℕ) (k : Step) (v : Live) (l : Handing h links row source from end v₀ at k v) where
     pub handing-end : end ≤ at → (x : Index) → Holds x h → did v k ≡ prefixesFrom x row source (stretch from end links) v₀
@@ -107,9 +122,12 @@ module _ (h : Lent) (links : List ℕ) (row : ℕ) (source : State) (from end : 
         prefix-end x row source v k
         ∙ ap (λ (rs : List ℕ). after k (prefixesFrom x row source rs v)) (sym (stretch-none links at end t)) ∙ l .whole x z
 
-    module _ (y : Shaped h) (here : at < end) (inside : end ≤ length links) (own : row < length (h .rows)) (many : ℕ) (mine : many ≡ endBy 0 (h .rows) row - startBy 0 (h .rows) row)
-        (r : ℕ) (other : r ≡ getD links at 0) (is : r < length (h .rows)) (count : ℕ) (its : count ≡ endBy 0 (h .rows) r - startBy 0 (h .rows) r) (v′ : Live) (j : Step)
+    module _ (y : Shaped h) (here : at < end) (own : row < length (h .rows)) (many : ℕ) (mine : many ≡ endBy 0 (h .rows) row - startBy 0 (h .rows) row)
+        (r : ℕ) (other : r ≡ getD links at 0) (count : ℕ) (its : count ≡ endBy 0 (h .rows) r - startBy 0 (h .rows) r) (v′ : Live) (j : Step)
         (made : did v′ j ≡ handedOn (heldRow h r) v r (movedState source (stateAt v r) many count)) where
+      is : r < length (h .rows)
+      is = l .own .rows at r (l .above) here other
+
       -- The turn, as the definition takes it.
       turned : (x : Index) → Holds x h → did v′ j ≡ handedOn (getD (x .rows) (getD links at 0) noRow) v (getD links at 0)
           (movedState source (stateAt v (getD links at 0)) (termCount x row) (termCount x (getD links at 0)))
@@ -120,18 +138,21 @@ module _ (h : Lent) (links : List ℕ) (row : ℕ) (source : State) (from end : 
           ∙ ap (λ (i : ℕ). handedOn (getD (x .rows) i noRow) v i (movedState source (stateAt v i) (termCount x row) (termCount x i))) other
 
       next : (x : Index) (b : Step) → after b (prefixesFrom x row source (getD links at 0 ∷ stretch (at + 1) end links) v) ≡ after b (prefixesFrom x row source (stretch at end links) v)
-      next x b = ap (λ (rs : List ℕ). after b (prefixesFrom x row source rs v)) (sym (stretch-cons 0 links at end here inside))
+      next x b = ap (λ (rs : List ℕ). after b (prefixesFrom x row source rs v)) (sym (stretch-cons 0 links at end here (l .own .inside)))
 
-      pub handing-next : mag (source .lower) < 2 ^ 61 → mag (limit (source .upper)) < 2 ^ 61 → contradicts j ≡ false → (b : Step) → b ≡ joined k j
+      pub handing-next : mag (source .lower) < figureLimit → mag (limit (source .upper)) < figureLimit → contradicts j ≡ false → (b : Step) → b ≡ joined k j
           → Handing h links row source from end v₀ (at + 1) b v′
       handing-next lo up c b e =
           let t = movedState source (stateAt v r) many count in
-          let f = fit-prefix h (2 ^ 61) r source (stateAt v r) many count lo up (l .ready .fit r is) in
+          let f = fit-prefix h figureLimit r source (stateAt v r) many count lo up (l .runnable .ready .fit r is) in
           let o = handedOn (heldRow h r) v r t in
           record {
             above = omega (arith, l .above);
-            ready = ready-by h (2 ^ 61) (did v′ j) o made (ready-handed h y (2 ^ 61) v (l .ready) r is t f);
-            flags = flags-by (did v′ j) o made (flags-handed h y (2 ^ 61) v (l .ready) r is t (l .flags));
+            own = l .own;
+            runnable = record {
+              ready = ready-by h figureLimit (did v′ j) o made (ready-handed h y figureLimit v (l .runnable .ready) r is t f);
+              dirty = flags-by (did v′ j) o made (flags-handed h y figureLimit v (l .runnable .ready) r is t (l .runnable .dirty));
+            };
             whole = λ x z.
                 ap (λ (i : Step). after i (prefixesFrom x row source (stretch (at + 1) end links) v′)) e
                 ∙ prefix-next x row source (getD links at 0) (stretch (at + 1) end links) v k (did v′ j) (turned x z) c
@@ -143,7 +164,7 @@ module _ (h : Lent) (links : List ℕ) (row : ℕ) (source : State) (from end : 
           prefix-stop x row source (getD links at 0) (stretch (at + 1) end links) v k (did v′ j) (turned x z) c ∙ next x k ∙ l .whole x z
 
 -- The neighbours of the buffers are those of the index.
-pub prefixes-held : (x : Index) (h : Lent) (links : List ℕ) → HoldsLinks x h links → (r : ℕ) → r < length (h .rows) → (a e : ℕ) → a ≡ startBy 2 (h .rows) r → e ≡ endBy 2 (h .rows) r
+pub prefixes-held : (x : Index) (h : HeldRows) (links : List ℕ) → HoldsLinks x h links → (r : ℕ) → r < length (h .rows) → (a e : ℕ) → a ≡ startBy 2 (h .rows) r → e ≡ endBy 2 (h .rows) r
     → (v : Live) (source : State) → source ≡ stateAt v r → prefixesFrom x r source (stretch a e links) v ≡ thresholdPrefixes x v r
 unfolding thresholdPrefixes
 prefixes-held x h links y r k a e p q v source s =
@@ -151,11 +172,3 @@ prefixes-held x h links y r k a e p q v source s =
     ∙ ap (λ (i : ℕ). prefixesFrom x r source (stretch (startBy 2 (h .rows) r) i links) v) q
     ∙ ap (λ (rs : List ℕ). prefixesFrom x r source rs v) (sym (y r k))
     ∙ ap (λ (t : State). prefixesFrom x r t (neighbours r (x .links)) v) s
-
--- The neighbours of a row, as the loop finds them.
-module _ (h : Lent) (links : List ℕ) (y : LinksShaped h links) (r : ℕ) (k : r < length (h .rows)) (a e : ℕ) (p : a ≡ startBy 2 (h .rows) r) (q : e ≡ endBy 2 (h .rows) r) where
-  pub links-end : e ≤ length links
-  links-end = omega (arith, y .inside .ends r k)
-
-  pub link-inside : (at : ℕ) → a ≤ at → at < e → (o : ℕ) → o ≡ getD links at 0 → o < length (h .rows)
-  link-inside at above below o f = omega (arith, y .rows r at k (omega arith) (omega arith))

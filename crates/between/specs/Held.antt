@@ -1,30 +1,20 @@
 -- Rows, edges, links and thresholds as the buffers hold them, and what it is that an index and buffers agree.
-use Prim.Native.Nat.{ℕ, zero, suc, _-_, _<_, _≤_, _^_}
+use Prim.Native.Nat.{ℕ, zero, suc, _+_, _-_, _<_, _≤_, _^_}
 use mathlib.Core.Path.{_≡_}
 use mathlib.Core.List.{List, [], map}
 use lib.ListN.{length, getD}
 use lib.IntN.{ℤ, pos}
 use lib.Signed.{mag}
+use Rattle.memory.specs.Buffers.{HeldRows}
 use Rattle.numeric.specs.Threshold.{Term, terms, Threshold}
-use Rattle.thresholds.specs.Rows.{Row, rowOf, noRow, Guard, Edge, edge, edgesOf}
+use Rattle.thresholds.specs.Rows.{Row, rowOf, noRow, Guard, Edge, edge, edgesOf, rowNumber}
 use Rattle.thresholds.specs.Raw.{stretch}
-use Rattle.thresholds.specs.Laid.{edgeRow, thresholdOf, rowOfNode}
+use Rattle.thresholds.specs.Laid.{edgeRow, thresholdOf}
 use Rattle.prefixes.specs.Links.{neighbours}
 use Rattle.numeric.specs.Slices.{Below}
 use Rattle.propagate.specs.Guards.{guards}
+use Rattle.memory.specs.Limits.{figureLimit, weightLimit}
 use Rattle.between.specs.Between.{Index}
-
--- The buffers of the rows: the terms and the guards of all rows, one row behind the other, and for each row where its terms,
--- its guards and its neighbours end.
-pub record Lent : Type 0 where
-  pub conditions : List ℕ
-  pub weights : List ℕ
-  pub rows : List (List ℕ)
-  pub bounds : List ℤ
-  pub names : List ℕ
-
-abbrev pub lent : List ℕ → List ℕ → List (List ℕ) → List ℤ → List ℕ → Lent
-lent cs ws rs bs ns = record { conditions = cs; weights = ws; rows = rs; bounds = bs; names = ns }
 
 -- By column j, where the stretch of entry n ends; it begins where the one before ends.
 abbrev pub endBy : ℕ → List (List ℕ) → ℕ → ℕ
@@ -38,13 +28,13 @@ abbrev pub stretchBy : {X : Type 0} → ℕ → List (List ℕ) → ℕ → List
 stretchBy j table n l = stretch (startBy j table n) (endBy j table n) l
 
 -- Row r as the buffers hold it. The raw list that it was made of is not in them.
-abbrev pub heldTerms : Lent → ℕ → List Term
-heldTerms h r = terms (stretchBy 0 (h .rows) r (h .conditions)) (stretchBy 0 (h .rows) r (h .weights))
+abbrev pub heldTerms : HeldRows → ℕ → List Term
+heldTerms h r = terms (stretchBy 0 (h .rows) r (h .row-conditions)) (stretchBy 0 (h .rows) r (h .row-weights))
 
-abbrev pub heldGuards : Lent → ℕ → List Guard
-heldGuards h r = guards (stretchBy 1 (h .rows) r (h .bounds)) (stretchBy 1 (h .rows) r (h .names))
+abbrev pub heldGuards : HeldRows → ℕ → List Guard
+heldGuards h r = guards (stretchBy 1 (h .rows) r (h .guard-bounds)) (stretchBy 1 (h .rows) r (h .guard-nodes))
 
-abbrev pub heldRow : Lent → ℕ → Row
+abbrev pub heldRow : HeldRows → ℕ → Row
 heldRow h r = rowOf [] (heldTerms h r) (heldGuards h r)
 
 -- An edge as the buffer holds it.
@@ -65,37 +55,37 @@ abbrev pub Rising : ℕ → List (List ℕ) → Type 0
 Rising j table = (n : ℕ) → n < length table → startBy j table n ≤ endBy j table n
 
 -- Of the rows: conditions and guards are nodes, weights fit a signed number.
-pub record Shaped (h : Lent) : Type 0 where
+pub record Shaped (h : HeldRows) : Type 0 where
   pub few : length (h .rows) ≤ 1024
-  pub terms : Inside 0 (h .rows) (length (h .conditions))
-  pub weighed : length (h .weights) ≡ length (h .conditions)
-  pub nodes : Below 4096 (h .conditions)
-  pub light : Below (2 ^ 63) (h .weights)
-  pub guards : Inside 1 (h .rows) (length (h .bounds))
-  pub named : length (h .names) ≡ length (h .bounds)
-  pub guarded : Below 4096 (h .names)
+  pub terms : Inside 0 (h .rows) (length (h .row-conditions))
+  pub weighed : length (h .row-weights) ≡ length (h .row-conditions)
+  pub nodes : Below 4096 (h .row-conditions)
+  pub light : Below (2 ^ 63) (h .row-weights)
+  pub guards : Inside 1 (h .rows) (length (h .guard-bounds))
+  pub named : length (h .guard-nodes) ≡ length (h .guard-bounds)
+  pub guarded : Below 4096 (h .guard-nodes)
 
 -- Of the edges by column 2 of the nodes: each names a row.
-pub record EdgesShaped (h : Lent) (nodes edges : List (List ℕ)) : Type 0 where
+pub record EdgesShaped (h : HeldRows) (nodes edges : List (List ℕ)) : Type 0 where
   pub inside : Inside 2 nodes (length edges)
   pub few : length edges ≤ 4096
   pub rows : (n i : ℕ) → n < length nodes → startBy 2 nodes n ≤ i → i < endBy 2 nodes n → edgeIn (getD edges i []) .row < length (h .rows)
-  pub light : (n i : ℕ) → n < length nodes → startBy 2 nodes n ≤ i → i < endBy 2 nodes n → edgeIn (getD edges i []) .weight < 2 ^ 44
+  pub light : (n i : ℕ) → n < length nodes → startBy 2 nodes n ≤ i → i < endBy 2 nodes n → edgeIn (getD edges i []) .weight < weightLimit
 
 -- Of the neighbours by column 2 of the rows: each is a row.
-pub record LinksShaped (h : Lent) (links : List ℕ) : Type 0 where
+pub record LinksShaped (h : HeldRows) (links : List ℕ) : Type 0 where
   pub inside : Inside 2 (h .rows) (length links)
   pub rows : (r i : ℕ) → r < length (h .rows) → startBy 2 (h .rows) r ≤ i → i < endBy 2 (h .rows) r → getD links i 0 < length (h .rows)
 
--- Of the nodes' thresholds, counted from 1: each has a bound and a row.
-pub record GuardsShaped (h : Lent) (nodes : List (List ℕ)) (limits : List ℤ) : Type 0 where
-  pub inside : (n : ℕ) → n < length nodes → endBy 0 nodes n ≤ length limits
+-- Of the nodes' thresholds, counted from 1: each has a bound and a row. A node that is none has 0 in column 0, and in column 1 anything.
+pub record GuardsShaped (h : HeldRows) (nodes : List (List ℕ)) (bounds : List ℤ) : Type 0 where
+  pub inside : (n : ℕ) → n < length nodes → endBy 0 nodes n ≤ length bounds
   pub rows : (n : ℕ) → n < length nodes → 0 < endBy 0 nodes n → endBy 1 nodes n < length (h .rows)
-  pub small : (t : ℕ) → t < length limits → mag (getD limits t (pos 0)) < 2 ^ 61
+  pub small : (t : ℕ) → t < length bounds → mag (getD bounds t (pos 0)) < figureLimit
 
 -- ---- an index and buffers agree
 
-pub record Holds (x : Index) (h : Lent) : Type 0 where
+pub record Holds (x : Index) (h : HeldRows) : Type 0 where
   pub many : length (x .rows) ≡ length (h .rows)
   pub terms : (r : ℕ) → r < length (h .rows) → getD (x .rows) r noRow .terms ≡ heldTerms h r
   pub guards : (r : ℕ) → r < length (h .rows) → getD (x .rows) r noRow .guards ≡ heldGuards h r
@@ -103,14 +93,22 @@ pub record Holds (x : Index) (h : Lent) : Type 0 where
 abbrev pub HoldsEdges : Index → List (List ℕ) → List (List ℕ) → Type 0
 HoldsEdges x nodes edges = (n : ℕ) → n < length nodes → map edgeRow (edgesOf (x .rows) n) ≡ stretchBy 2 nodes n edges
 
-abbrev pub HoldsLinks : Index → Lent → List ℕ → Type 0
+abbrev pub HoldsLinks : Index → HeldRows → List ℕ → Type 0
 HoldsLinks x h links = (r : ℕ) → r < length (h .rows) → neighbours r (x .links) ≡ stretchBy 2 (h .rows) r links
 
 -- Column 2 of the rows tells how many neighbours each has.
 abbrev pub CountsLinks : Index → List (List ℕ) → Type 0
 CountsLinks x rows = (r : ℕ) → r < length rows → length (neighbours r (x .links)) ≡ endBy 2 rows r - startBy 2 rows r
 
-pub record HoldsGuards (x : Index) (nodes : List (List ℕ)) (limits : List ℤ) : Type 0 where
+abbrev pub noThreshold : Threshold
+noThreshold = record { node = 0; bound = pos 0; terms = [] }
+
+-- The row of the t-th threshold.
+abbrev pub rowAt : Index → ℕ → ℕ
+rowAt x t = rowNumber (x .rows) (getD (x .thresholds) t noThreshold .terms)
+
+-- Column 0 of the nodes is the number of a node's threshold, counted from 1, and column 1 its row.
+pub record HoldsGuards (x : Index) (nodes : List (List ℕ)) (bs : List ℤ) : Type 0 where
   pub number : (n : ℕ) → n < length nodes → thresholdOf 0 (x .thresholds) n ≡ endBy 0 nodes n
-  pub row : (n : ℕ) → n < length nodes → rowOfNode (x .rows) (x .thresholds) n ≡ endBy 1 nodes n
-  pub bounds : map (λ (t : Threshold). t .bound) (x .thresholds) ≡ limits
+  pub row : (n t : ℕ) → n < length nodes → endBy 0 nodes n ≡ t + 1 → endBy 1 nodes n ≡ rowAt x t
+  pub bounds : map (λ (t : Threshold). t .bound) (x .thresholds) ≡ bs

@@ -7,6 +7,7 @@ use mathlib.Core.Path.{_≡_, refl, sym, ap, ap₂, _∙_}
 use mathlib.Core.List.{List, [], _∷_, map}
 use lib.ListN.{length, getD, set, drop, length-take, length-drop}
 use lib.Seq.{drop-cons, getD-drop, getD-take}
+use Rattle.memory.specs.Buffers.{HeldRows}
 use Rattle.numeric.specs.Threshold.{Term, terms}
 use Rattle.thresholds.specs.Rows.{rowOf, noRow, Guard, Edge}
 use Rattle.thresholds.specs.Raw.{stretch}
@@ -17,8 +18,8 @@ use Rattle.propagate.specs.Shape.{TermSlices, GuardSlices}
 use Rattle.propagate.specs.Guards.{guards}
 use Rattle.propagate.specs.Row.{Ran, wantsResidual}
 use Rattle.propagate.specs.RowLaws.{row-raw}
-use Rattle.between.specs.Between.{Index, Live, live, did, stateAt, residualQueued, runWith, runRow}
-use Rattle.between.specs.Held.{Lent, endBy, startBy, heldRow, edgesIn, Shaped, Holds}
+use Rattle.between.specs.Between.{Index, Live, live, Did, did, stateAt, residualQueued, runWith, runRow}
+use Rattle.between.specs.Held.{endBy, startBy, heldRow, edgesIn, Shaped, Holds}
 
 pub start-zero : (j : ℕ) (table : List (List ℕ)) (n : ℕ) → n ≡ 0 → 0 ≡ startBy j table n
 unfolding startBy
@@ -48,22 +49,22 @@ below-stretch n l a e h i k =
 
 -- ---- a row's own slices
 
-module _ (h : Lent) (s : Shaped h) (r : ℕ) (k : r < length (h .rows)) where
-  pub term-slices : (a e : ℕ) → a ≡ startBy 0 (h .rows) r → e ≡ endBy 0 (h .rows) r → TermSlices (stretch a e (h .conditions)) (stretch a e (h .weights))
+module _ (h : HeldRows) (s : Shaped h) (r : ℕ) (k : r < length (h .rows)) where
+  pub term-slices : (a e : ℕ) → a ≡ startBy 0 (h .rows) r → e ≡ endBy 0 (h .rows) r → TermSlices (stretch a e (h .row-conditions)) (stretch a e (h .row-weights))
   term-slices a e p q = record {
     same =
-        stretch-length a e (h .conditions) (omega (arith, s .terms .ends r k))
-        ∙ sym (stretch-length a e (h .weights) (omega (arith, s .terms .ends r k, s .weighed)));
-    below = below-stretch 4096 (h .conditions) a e (s .nodes);
-    light = below-stretch (2 ^ 63) (h .weights) a e (s .light);
+        stretch-length a e (h .row-conditions) (omega (arith, s .terms .ends r k))
+        ∙ sym (stretch-length a e (h .row-weights) (omega (arith, s .terms .ends r k, s .weighed)));
+    below = below-stretch 4096 (h .row-conditions) a e (s .nodes);
+    light = below-stretch (2 ^ 63) (h .row-weights) a e (s .light);
   }
 
-  pub guard-slices : (a e : ℕ) → a ≡ startBy 1 (h .rows) r → e ≡ endBy 1 (h .rows) r → GuardSlices (stretch a e (h .bounds)) (stretch a e (h .names))
+  pub guard-slices : (a e : ℕ) → a ≡ startBy 1 (h .rows) r → e ≡ endBy 1 (h .rows) r → GuardSlices (stretch a e (h .guard-bounds)) (stretch a e (h .guard-nodes))
   guard-slices a e p q = record {
     same =
-        stretch-length a e (h .bounds) (omega (arith, s .guards .ends r k))
-        ∙ sym (stretch-length a e (h .names) (omega (arith, s .guards .ends r k, s .named)));
-    below = below-stretch 4096 (h .names) a e (s .guarded);
+        stretch-length a e (h .guard-bounds) (omega (arith, s .guards .ends r k))
+        ∙ sym (stretch-length a e (h .guard-nodes) (omega (arith, s .guards .ends r k, s .named)));
+    below = below-stretch 4096 (h .guard-nodes) a e (s .guarded);
   }
 
 -- ---- a row that the buffers hold
@@ -75,7 +76,7 @@ run-raw raw raw′ ts gs v r =
     (row-raw raw raw′ ts gs (stateAt v r) (v .marks))
 
 -- It is run as the row of the index.
-pub run-held : (x : Index) (h : Lent) → Holds x h → (v : Live) (r : ℕ) → r < length (h .rows) → runWith (heldRow h r) v r ≡ runRow x v r
+pub run-held : (x : Index) (h : HeldRows) → Holds x h → (v : Live) (r : ℕ) → r < length (h .rows) → runWith (heldRow h r) v r ≡ runRow x v r
 unfolding runRow
 run-held x h y v r k =
     let row = getD (x .rows) r noRow in
@@ -89,7 +90,7 @@ edges-back [] = refl
 edges-back (e ∷ es) = ap (λ (l : List Edge). e ∷ l) (edges-back es)
 
 -- A row cut out of the buffers is the row that they hold.
-pub run-cut : (h : Lent) (r a e b f : ℕ) → a ≡ startBy 0 (h .rows) r → e ≡ endBy 0 (h .rows) r → b ≡ startBy 1 (h .rows) r → f ≡ endBy 1 (h .rows) r → (v : Live)
-    → runWith (rowOf [] (terms (stretch a e (h .conditions)) (stretch a e (h .weights))) (guards (stretch b f (h .bounds)) (stretch b f (h .names)))) v r
-    ≡ runWith (heldRow h r) v r
-run-cut h r a e b f p q s t v = rw (p, q, s, t)
+pub run-cut : (h : HeldRows) (r a e b f : ℕ) → a ≡ startBy 0 (h .rows) r → e ≡ endBy 0 (h .rows) r → b ≡ startBy 1 (h .rows) r → f ≡ endBy 1 (h .rows) r → (v : Live) (o : Did)
+    → o ≡ runWith (rowOf [] (terms (stretch a e (h .row-conditions)) (stretch a e (h .row-weights))) (guards (stretch b f (h .guard-bounds)) (stretch b f (h .guard-nodes)))) v r
+    → o ≡ runWith (heldRow h r) v r
+run-cut h r a e b f p q s t v o made = made ∙ rw (p, q, s, t)

@@ -1,5 +1,5 @@
 -- For callers: edges, neighbours and guards that the buffers hold are such as keep all ready. Assumes nothing.
-use Prim.Native.Nat.{ℕ, zero, suc, _+_, _-_, _*_, _<_, _≤_, _^_}
+use Prim.Native.Nat.{ℕ, zero, suc, _+_, _-_, _*_, _<_, _≤_}
 use native.Mathlib.Decide.{ℕ-discrete}
 use native.Mathlib.Omega.{arith}
 use mathlib.Core.Path.{_≡_, refl, sym, ap, subst, _∙_}
@@ -7,18 +7,21 @@ use mathlib.Core.List.{List, [], _∷_, map}
 use lib.ListN.{length, getD}
 use lib.IntN.{ℤ}
 use lib.Signed.{mag}
+use Rattle.memory.specs.Buffers.{HeldRows}
 use Rattle.words.specs.Mask.{bit}
-use Rattle.thresholds.specs.Rows.{Edge, edgesOf, rowNumber}
+use Rattle.thresholds.specs.Rows.{Edge, edgesOf}
 use Rattle.thresholds.specs.Raw.{stretch}
 use Rattle.thresholds.specs.RawLaws.{stretch-length}
 use Rattle.thresholds.specs.Laid.{edgeRow}
 use Rattle.prefixes.specs.Links.{neighbours}
 use Rattle.propagate.specs.ScanLaws.{All}
+use Rattle.memory.specs.Limits.{figureLimit, drainLimit}
 use Rattle.between.specs.Between.{Index, Live, guardOf, thresholdCondition, thresholdPrefixes}
-use Rattle.between.specs.Held.{Lent, startBy, endBy, edgeIn, edgesIn, Shaped, EdgesShaped, LinksShaped, GuardsShaped, Holds, HoldsEdges, HoldsLinks, HoldsGuards}
+use Rattle.between.specs.Held.{startBy, endBy, edgeIn, edgesIn, noThreshold, rowAt, Shaped, EdgesShaped, LinksShaped, GuardsShaped, Holds, HoldsEdges, HoldsLinks, HoldsGuards}
 use Rattle.between.specs.HeldLaws.{stretch-cons, stretch-none, edges-back}
-use Rattle.between.specs.GuardLaws.{noThreshold, guard-not, guard-is, guard-bound}
-use Rattle.between.specs.KeptLaws.{Runnable, runnable-by, Light, kept-condition, kept-guard, kept-row-prefixes}
+use Rattle.between.specs.GuardLaws.{guard-not, guard-is, guard-bound, guard-row}
+use Rattle.between.specs.Ready.{Runnable}
+use Rattle.between.specs.KeptLaws.{runnable-by, Light, kept-condition, kept-guard, kept-row-prefixes}
 
 -- What holds at every place of a stretch holds of all in it.
 all-stretch : {X : Type 0} (P : X → Type 0) (d : X) (l : List X) (e : ℕ) → e ≤ length l → (m a : ℕ) → e - a ≡ m → ((i : ℕ) → a ≤ i → i < e → P (getD l i d)) → All P (stretch a e l)
@@ -37,7 +40,7 @@ length-rows : (es : List Edge) → length (map edgeRow es) ≡ length es
 length-rows [] = refl
 length-rows (e ∷ es) = ap suc (length-rows es)
 
-module _ (x : Index) (h : Lent) (nodes edges : List (List ℕ)) (y : EdgesShaped h nodes edges) (z : HoldsEdges x nodes edges) (n : ℕ) (k : n < length nodes) where
+module _ (x : Index) (h : HeldRows) (nodes edges : List (List ℕ)) (y : EdgesShaped h nodes edges) (z : HoldsEdges x nodes edges) (n : ℕ) (k : n < length nodes) where
   pub edges-light : All (Light h) (edgesOf (x .rows) n)
   edges-light =
       let a = startBy 2 nodes n in
@@ -52,11 +55,11 @@ module _ (x : Index) (h : Lent) (nodes edges : List (List ℕ)) (y : EdgesShaped
       ∙ stretch-length (startBy 2 nodes n) (endBy 2 nodes n) edges (y .inside .ends n k)
 
   pub kept-node : Holds x h → Shaped h → (m : ℕ) (v : Live) → Runnable h m v
-      → Runnable h (m + length (edgesOf (x .rows) n) * 35184372088832) (thresholdCondition x v n .live)
+      → Runnable h (m + length (edgesOf (x .rows) n) * drainLimit) (thresholdCondition x v n .live)
   unfolding thresholdCondition
   kept-node o s m v a = kept-condition x h o s (bit (v .marks .sure) n) (edgesOf (x .rows) n) m v edges-light a
 
-module _ (x : Index) (h : Lent) (links : List ℕ) (y : LinksShaped h links) (z : HoldsLinks x h links) (r : ℕ) (k : r < length (h .rows)) where
+module _ (x : Index) (h : HeldRows) (links : List ℕ) (y : LinksShaped h links) (z : HoldsLinks x h links) (r : ℕ) (k : r < length (h .rows)) where
   -- The rows tell how many neighbours each has.
   pub counts-links : length (neighbours r (x .links)) ≡ endBy 2 (h .rows) r - startBy 2 (h .rows) r
   counts-links = ap (λ (l : List ℕ). length l) (z r k) ∙ stretch-length (startBy 2 (h .rows) r) (endBy 2 (h .rows) r) links (y .inside .ends r k)
@@ -69,20 +72,20 @@ module _ (x : Index) (h : Lent) (links : List ℕ) (y : LinksShaped h links) (z 
       kept-row-prefixes x h o s m v r k (subst (All (λ (i : ℕ). i < length (h .rows))) (sym (z r k)) w) a
 
 -- The guard of a node.
-pub kept-guard-of : (x : Index) (h : Lent) (nodes : List (List ℕ)) (limits : List ℤ) → GuardsShaped h nodes limits → HoldsGuards x nodes limits → (n : ℕ) → n < length nodes
+pub kept-guard-of : (x : Index) (h : HeldRows) (nodes : List (List ℕ)) (bounds : List ℤ) → GuardsShaped h nodes bounds → HoldsGuards x nodes bounds → (n : ℕ) → n < length nodes
     → Holds x h → Shaped h → (m : ℕ) (v : Live) → Runnable h m v → Runnable h m (guardOf x v (x .thresholds) n .live)
-kept-guard-of x h nodes limits y z n k o s m v a = by (ℕ-discrete t 0)
+kept-guard-of x h nodes bounds y z n k o s m v a = by (ℕ-discrete t 0)
   where
     t : ℕ
     t = endBy 0 nodes n
 
     by : Dec (t ≡ 0) → Runnable h m (guardOf x v (x .thresholds) n .live)
-    by (yes e) = runnable-by h m _ _ (sym (guard-not x nodes limits z n k v t refl e)) a
+    by (yes e) = runnable-by h m _ _ (sym (guard-not x nodes bounds z n k v t refl e)) a
     by (no e) =
         let p : 0 < t = omega arith in
-        let f = guard-is x nodes limits z n k v t refl p in
+        let f = guard-is x nodes bounds z n k v t refl p in
         let g = getD (x .thresholds) (t - 1) noThreshold in
-        let b = guard-bound x nodes limits z n k v t refl in
-        let r : rowNumber (x .rows) (g .terms) < length (h .rows) = rw (f .row ∙ z .row n k) (y .rows n k p) in
-        let c : mag (g .bound) < 2 ^ 61 = rw b (y .small (t - 1) (omega (arith, y .inside n k))) in
+        let b = guard-bound x nodes bounds z n k v t refl in
+        let r : rowAt x (t - 1) < length (h .rows) = rw (guard-row x nodes bounds z n k v t refl p (endBy 1 nodes n) refl) (y .rows n k p) in
+        let c : mag (g .bound) < figureLimit = rw b (y .small (t - 1) (omega (arith, y .inside n k))) in
         runnable-by h m _ _ (sym (f .guard)) (kept-guard x h o s m v g r c a)

@@ -1,12 +1,13 @@
 -- For callers: what is ready stays so through a seeding, a guard, a condition and a row's prefixes, on values. Assumes nothing.
-use Prim.Native.Nat.{ℕ, _+_, _*_, _<_, _≤_, _^_}
+use Prim.Native.Nat.{ℕ, _+_, _*_, _<_, _≤_}
 use native.Mathlib.Omega.{arith}
 use mathlib.Core.Path.{_≡_, refl, sym}
 use mathlib.Core.Bool.{Bool, true, false, cond}
 use mathlib.Core.List.{List, [], _∷_}
 use lib.Dec.{eqb}
-use lib.ListN.{length, getD, set}
+use lib.ListN.{length, getD}
 use lib.Signed.{mag}
+use Rattle.memory.specs.Buffers.{HeldRows}
 use Rattle.numeric.specs.Threshold.{Threshold}
 use Rattle.state.specs.declared.Step.{Step}
 use Rattle.state.specs.declared.State.{State}
@@ -20,31 +21,27 @@ use Rattle.prefixes.specs.Links.{neighbours}
 use Rattle.propagate.specs.declared.Tightened.{Tightened}
 use Rattle.propagate.specs.ScanLaws.{All}
 use Rattle.propagate.specs.Told.{guardState, movedState}
-use Rattle.between.specs.Between.{Index, Live, live, Did, stateAt, withState, linkedQueued, runWith, runRow, bounded, thresholdGuard, conditionFrom, termCount, handedOn, prefixesFrom, thresholdPrefixes, seedFrom}
-use Rattle.between.specs.Held.{Lent, Shaped, Holds}
+use Rattle.memory.specs.Limits.{figureLimit, weightLimit, drainLimit}
+use Rattle.between.specs.Between.{Index, Live, Did, stateAt, withState, withBound, linkedQueued, runWith, runRow, bounded, thresholdGuard, conditionFrom, termCount, handedOn, prefixesFrom, thresholdPrefixes, seedFrom}
+use Rattle.between.specs.Held.{Shaped, Holds}
 use Rattle.between.specs.HeldLaws.{run-held}
-use Rattle.between.specs.Ready.{Fit, ReadyLive}
+use Rattle.between.specs.Ready.{Fit, ReadyLive, Runnable}
 use Rattle.between.specs.ReadyLaws.{ready-more, ready-set, ready-run, ready-by, fit-drained, fit-guard, fit-prefix}
 use Rattle.between.specs.LoopLaws.{both, both-keeps, turn, condition-both, prefix-both}
 use Rattle.between.specs.Handing.{handed-held, ready-handed, flags-handed}
 
--- All that can be run, and the rows that wait to hand on their bounds.
-pub record Runnable (h : Lent) (n : ℕ) (v : Live) : Type 0 where
-  pub ready : ReadyLive h n v
-  pub dirty : Flags (v .dirty)
-
-pub runnable-by : (h : Lent) (n : ℕ) (c d : Did) → c ≡ d → Runnable h n (d .live) → Runnable h n (c .live)
+pub runnable-by : (h : HeldRows) (n : ℕ) (c d : Did) → c ≡ d → Runnable h n (d .live) → Runnable h n (c .live)
 runnable-by h n c d e a = rw e a
 
-pub runnable-more : (h : Lent) (n k : ℕ) (v : Live) → n ≤ k → Runnable h n v → Runnable h k v
+pub runnable-more : (h : HeldRows) (n k : ℕ) (v : Live) → n ≤ k → Runnable h n v → Runnable h k v
 runnable-more h n k v l a = record { ready = ready-more h n k (v .states) (v .marks) (v .residuals) l (a .ready); dirty = a .dirty }
 
 -- An edge to a row, light enough to be drained.
-pub record Light (h : Lent) (e : Edge) : Type 0 where
+pub record Light (h : HeldRows) (e : Edge) : Type 0 where
   pub row : e .row < length (h .rows)
-  pub weight : e .weight < 2 ^ 44
+  pub weight : e .weight < weightLimit
 
-module _ (x : Index) (h : Lent) (z : Holds x h) (y : Shaped h) where
+module _ (x : Index) (h : HeldRows) (z : Holds x h) (y : Shaped h) where
   -- A row is run.
   pub kept-run : (n : ℕ) (v : Live) (r : ℕ) → r < length (h .rows) → Runnable h n v → Runnable h n (runRow x v r .live)
   unfolding runWith runRow
@@ -54,21 +51,20 @@ module _ (x : Index) (h : Lent) (z : Holds x h) (y : Shaped h) where
   kept-store : (n : ℕ) (v : Live) (r : ℕ) (s : State) → Fit h n r s → Runnable h n v → Runnable h n (withState v r s)
   kept-store n v r s f a = record { ready = ready-set h n (v .states) (v .marks) (v .residuals) (a .ready) r s f; dirty = a .dirty }
 
-  -- A condition: the range grows by 2 ^ 45 for each edge.
+  -- A condition: the range grows by a step for each edge.
   pub kept-condition : (value : Bool) (es : List Edge) (n : ℕ) (v : Live) → All (Light h) es → Runnable h n v
-      → Runnable h (n + length es * 35184372088832) (conditionFrom x value es v .live)
+      → Runnable h (n + length es * drainLimit) (conditionFrom x value es v .live)
   unfolding All conditionFrom
-  kept-condition value [] n v l a = runnable-more h n (n + 0 * 35184372088832) v (omega arith) a
+  kept-condition value [] n v l a = runnable-more h n (n + 0 * drainLimit) v (omega arith) a
   kept-condition value (e ∷ es) n v l a =
-      let c : ℕ = 35184372088832 in
       let s = drained value (e .weight) (stateAt v (e .row)) in
       let f = fit-drained h n (e .row) (stateAt v (e .row)) value (e .weight) (l .0 .weight) (a .ready .fit (e .row) (l .0 .row)) in
-      let b = kept-run (n + c) (withState v (e .row) s) (e .row) (l .0 .row) (kept-store (n + c) v (e .row) s f (runnable-more h n (n + c) v (omega arith) a)) in
+      let b = kept-run (n + drainLimit) (withState v (e .row) s) (e .row) (l .0 .row) (kept-store (n + drainLimit) v (e .row) s f (runnable-more h n (n + drainLimit) v (omega arith) a)) in
       let d = turn x value e es v in
-      let rest = kept-condition value es (n + c) (d .live) (l .1) b in
-      runnable-by h (n + length (e ∷ es) * c) (conditionFrom x value (e ∷ es) v) (both (conditionFrom x value es) d) (condition-both x value e es v)
-      (both-keeps (conditionFrom x value es) (Runnable h (n + length (e ∷ es) * c)) d (runnable-more h (n + c) (n + length (e ∷ es) * c) (d .live) (omega arith) b)
-      (runnable-more h (n + c + length es * c) (n + length (e ∷ es) * c) (conditionFrom x value es (d .live) .live) (omega arith) rest))
+      let rest = kept-condition value es (n + drainLimit) (d .live) (l .1) b in
+      runnable-by h (n + length (e ∷ es) * drainLimit) (conditionFrom x value (e ∷ es) v) (both (conditionFrom x value es) d) (condition-both x value e es v)
+      (both-keeps (conditionFrom x value es) (Runnable h (n + length (e ∷ es) * drainLimit)) d (runnable-more h (n + drainLimit) (n + length (e ∷ es) * drainLimit) (d .live) (omega arith) b)
+      (runnable-more h (n + drainLimit + length es * drainLimit) (n + length (e ∷ es) * drainLimit) (conditionFrom x value es (d .live) .live) (omega arith) rest))
 
   -- A guard.
   flags-linked : (n : ℕ) (q : Rows) (r : ℕ) → r < 1024 → Flags q → Flags (linkedQueued n q r)
@@ -78,7 +74,7 @@ module _ (x : Index) (h : Lent) (z : Holds x h) (y : Shaped h) where
       by true = f
       by false = flags-queue q f r k
 
-  pub kept-guard : (n : ℕ) (v : Live) (t : Threshold) → rowNumber (x .rows) (t .terms) < length (h .rows) → mag (t .bound) < 2 ^ 61 → Runnable h n v
+  pub kept-guard : (n : ℕ) (v : Live) (t : Threshold) → rowNumber (x .rows) (t .terms) < length (h .rows) → mag (t .bound) < figureLimit → Runnable h n v
       → Runnable h n (thresholdGuard x v t .live)
   unfolding thresholdGuard bounded
   kept-guard n v t k m a = by (g .changed) refl
@@ -91,7 +87,7 @@ module _ (x : Index) (h : Lent) (z : Holds x h) (y : Shaped h) where
 
       by : (b : Bool) → g .changed ≡ b → Runnable h n (thresholdGuard x v t .live)
       by true e =
-          let u = live (set (v .states) r (g .state)) (v .marks) (linkedQueued (length (neighbours r (x .links))) (v .dirty) r) (v .residuals) in
+          let u = withBound v r (g .state) (length (neighbours r (x .links))) in
           let f = fit-guard h n r (stateAt v r) (bit (v .marks .sure) (t .node)) (t .bound) m (a .ready .fit r k) in
           rw (thresholdGuard, e)
           (kept-run n u r k
@@ -102,7 +98,7 @@ module _ (x : Index) (h : Lent) (z : Holds x h) (y : Shaped h) where
       by false e = rw (thresholdGuard, e) a
 
   -- The neighbours of a row.
-  pub kept-prefixes : (row : ℕ) (source : State) → mag (source .lower) < 2 ^ 61 → mag (limit (source .upper)) < 2 ^ 61 → (rs : List ℕ) (n : ℕ) (v : Live)
+  pub kept-prefixes : (row : ℕ) (source : State) → mag (source .lower) < figureLimit → mag (limit (source .upper)) < figureLimit → (rs : List ℕ) (n : ℕ) (v : Live)
       → All (λ (r : ℕ). r < length (h .rows)) rs → Runnable h n v → Runnable h n (prefixesFrom x row source rs v .live)
   unfolding All prefixesFrom
   kept-prefixes row source lo up [] n v l a = a

@@ -1,4 +1,4 @@
--- Row states as the buffers hold them: four figures, and four cursors with a flag for the upper.
+-- Row states as the buffers hold them: four figures, and four cursors with a flag for the upper. All that draining changes.
 use Prim.Native.Nat.{ℕ, zero, suc, _≤_, _<_}
 use native.Mathlib.Nat.{not-suc-le-zero, le-of-suc-le-suc}
 use native.Mathlib.Omega.{arith}
@@ -12,6 +12,11 @@ use Rattle.state.specs.declared.State.{State}
 use Rattle.state.specs.declared.Upper.{Upper}
 use Rattle.state.specs.declared.Upper.the-variants.{Open, Under}
 use Rattle.state.specs.State.{Figures, stateOf, noState, limit, limited}
+use Rattle.queues.specs.declared.Rings.{Rings}
+use Rattle.queues.specs.Queue.{queue, rowsIn}
+use Rattle.queues.specs.Marks.{marks}
+use Rattle.queues.specs.SlotLaws.{map-set}
+use Rattle.between.specs.Between.{Live, live}
 
 abbrev pub figuresOf : State → List ℤ
 figuresOf s = s .known ∷ s .possible ∷ s .lower ∷ limit (s .upper) ∷ []
@@ -87,11 +92,6 @@ pub record Tidy (fs : List (List ℤ)) (cs : List (List ℕ)) : Type 0 where
   pub figures : fs ≡ map figuresOf (statesOf fs cs)
   pub cursors : cs ≡ map cursorsOf (statesOf fs cs)
 
-map-set : {A B : Type 0} (f : A → B) (l : List A) (r : ℕ) (a : A) → map f (set l r a) ≡ set (map f l) r (f a)
-map-set f [] r a = refl
-map-set f (x ∷ l) zero a = refl
-map-set {B = B} f (x ∷ l) (suc r) a = ap (λ (m : List B). f x ∷ m) (map-set f l r a)
-
 pub tidy-store : (fs fs′ : List (List ℤ)) (cs cs′ : List (List ℕ)) (r : ℕ) (s : State) → r < length (statesOf fs cs)
     → fs′ ≡ set fs r (figuresOf s) → cs′ ≡ set cs r (cursorsOf s) → Tidy fs cs → Tidy fs′ cs′
 tidy-store fs fs′ cs cs′ r s h e f t =
@@ -104,24 +104,22 @@ tidy-store fs fs′ cs cs′ r s h e f t =
           ∙ sym (map-set cursorsOf (statesOf fs cs) r s) ∙ ap (λ (l : List State). map cursorsOf l) g;
     }
 
--- The buffers of a run are as long as they were.
-pub record Same (fs₀ fs : List (List ℤ)) (cs₀ cs : List (List ℕ)) (s₀ s n₀ n l₀ l i₀ i p₀ p : List ℕ) : Type 0 where
-  pub figures : length fs ≡ length fs₀
-  pub cursors : length cs ≡ length cs₀
-  pub sure : length s ≡ length s₀
-  pub never : length n ≡ length n₀
-  pub nodes : length l ≡ length l₀
-  pub items : length i ≡ length i₀
-  pub pending : length p ≡ length p₀
+-- ---- all that draining changes
 
--- So are those of a run with the rows that wait to hand on their bounds.
-pub record SameAll (fs₀ fs : List (List ℤ)) (cs₀ cs : List (List ℕ)) (s₀ s n₀ n l₀ l i₀ i p₀ p w₀ w f₀ f : List ℕ) : Type 0 where
+-- The live state as the buffers hold it, by where their queues stand.
+abbrev pub liveOf : List (List ℤ) → List (List ℕ) → List ℕ → List ℕ → List ℕ → List (List ℕ) → Rings → Live
+liveOf figures cursors sure never node-queue row-queues rings =
+    live (statesOf figures cursors) (marks sure never (queue node-queue (rings .nodes))) (rowsIn 0 row-queues (rings .rows)) (rowsIn 2 row-queues (rings .residuals))
+
+-- Its buffers are as long as they were.
+pub record Same (fs₀ : List (List ℤ)) (cs₀ : List (List ℕ)) (s₀ n₀ l₀ : List ℕ) (q₀ : List (List ℕ)) (fs : List (List ℤ)) (cs : List (List ℕ)) (s n l : List ℕ)
+    (q : List (List ℕ)) : Type 0 where
   pub figures : length fs ≡ length fs₀
   pub cursors : length cs ≡ length cs₀
   pub sure : length s ≡ length s₀
   pub never : length n ≡ length n₀
-  pub nodes : length l ≡ length l₀
-  pub items : length i ≡ length i₀
-  pub pending : length p ≡ length p₀
-  pub waiting : length w ≡ length w₀
-  pub flags : length f ≡ length f₀
+  pub node-queue : length l ≡ length l₀
+  pub row-queues : length q ≡ length q₀
+
+pub same-self : (fs : List (List ℤ)) (cs : List (List ℕ)) (s n l : List ℕ) (q : List (List ℕ)) → Same fs cs s n l q fs cs s n l q
+same-self fs cs s n l q = record { figures = refl; cursors = refl; sure = refl; never = refl; node-queue = refl; row-queues = refl }

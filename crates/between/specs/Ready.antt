@@ -1,32 +1,39 @@
 -- What states, marks and queues must be like so that any row can be run.
-use Prim.Native.Nat.{ℕ, _-_, _<_, _≤_, _^_}
+use Prim.Native.Nat.{ℕ, _-_, _<_, _≤_}
 use mathlib.Core.List.{List}
 use lib.ListN.{length, getD}
 use lib.Signed.{mag}
+use Rattle.memory.specs.Buffers.{HeldRows}
 use Rattle.state.specs.declared.State.{State}
 use Rattle.state.specs.State.{noState, limit}
 use Rattle.queues.specs.Queue.{Rows}
 use Rattle.queues.specs.RowsLaws.{Flags}
 use Rattle.queues.specs.Marks.{Marks}
 use Rattle.queues.specs.MarksLaws.{Waits}
+use Rattle.memory.specs.Limits.{figureLimit}
 use Rattle.between.specs.Between.{Live}
-use Rattle.between.specs.Held.{Lent, endBy, startBy}
+use Rattle.between.specs.Held.{endBy, startBy}
 
 -- Figures in range, and the cursor from above among the row's guards. What is drained moves known and possible by the weights of
 -- edges, so their range n is a number of its own: a caller lets it grow with the edges drained so far, of which there are at
 -- most 4,096 since a node is drained once. Bounds only move to other bounds, so that one range serves for all time.
-pub record Fit (h : Lent) (n r : ℕ) (s : State) : Type 0 where
+pub record Fit (h : HeldRows) (n r : ℕ) (s : State) : Type 0 where
   pub known : mag (s .known) < n
   pub possible : mag (s .possible) < n
-  pub lower : mag (s .lower) < 2 ^ 61
-  pub upper : mag (limit (s .upper)) < 2 ^ 61
+  pub lower : mag (s .lower) < figureLimit
+  pub upper : mag (limit (s .upper)) < figureLimit
   pub inside : s .«never_guard» ≤ endBy 1 (h .rows) r - startBy 1 (h .rows) r
 
-pub record Ready (h : Lent) (n : ℕ) (ss : List State) (m : Marks) (q : Rows) : Type 0 where
+pub record Ready (h : HeldRows) (n : ℕ) (ss : List State) (m : Marks) (q : Rows) : Type 0 where
   pub long : length (h .rows) ≤ length ss
   pub fit : (r : ℕ) → r < length (h .rows) → Fit h n r (getD ss r noState)
   pub waits : Waits m
   pub flags : Flags q
 
-abbrev pub ReadyLive : Lent → ℕ → Live → Type 0
+abbrev pub ReadyLive : HeldRows → ℕ → Live → Type 0
 ReadyLive h n v = Ready h n (v .states) (v .marks) (v .residuals)
+
+-- All that can be run, and the rows that wait to hand on their bounds.
+pub record Runnable (h : HeldRows) (n : ℕ) (v : Live) : Type 0 where
+  pub ready : ReadyLive h n v
+  pub dirty : Flags (v .dirty)

@@ -1,8 +1,8 @@
 -- What is ready stays so: when a state is stored, a row run, a weight drained or a bound told. Assumes nothing.
-use Prim.Native.Nat.{ℕ, _+_, _<_, _≤_, _^_}
+use Prim.Native.Nat.{ℕ, _+_, _<_, _≤_}
 use native.Mathlib.Decide.{ℕ-discrete}
 use native.Mathlib.Omega.{arith}
-use mathlib.Core.Path.{_≡_, refl}
+use mathlib.Core.Path.{_≡_, refl, ap, _∙_}
 use mathlib.Core.Bool.{Bool, true, false, cond, _&&_}
 use mathlib.Core.List.{List}
 use lib.Dec.{leb}
@@ -10,6 +10,7 @@ use lib.ListN.{length, getD, set, length-set}
 use lib.Seq.{getD-set-same, getD-set-other}
 use lib.IntN.{ℤ, pos}
 use lib.Signed.{mag, leZ, ltZ}
+use Rattle.memory.specs.Buffers.{HeldRows}
 use Rattle.signed.specs.Signed.{mag-add, mag-minus}
 use Rattle.state.specs.declared.State.{State}
 use Rattle.state.specs.declared.Upper.{Upper}
@@ -26,13 +27,14 @@ use Rattle.propagate.specs.Row.{wantsResidual, thresholdRow}
 use Rattle.propagate.specs.RowLaws.{Moved, kept-row}
 use Rattle.propagate.specs.declared.Tightened.{Tightened}
 use Rattle.propagate.specs.Told.{guardState, movedLower, movedState, under}
-use Rattle.between.specs.Between.{Live, live, Did, residualQueued, runWith}
+use Rattle.memory.specs.Limits.{figureLimit, weightLimit, drainLimit}
+use Rattle.between.specs.Between.{Live, withState, Did, residualQueued, runWith}
 use Rattle.between.specs.Numbers.{Runs}
-use Rattle.between.specs.Held.{Lent, endBy, startBy, heldRow, Shaped}
+use Rattle.between.specs.Held.{endBy, startBy, heldRow, Shaped}
 use Rattle.between.specs.HeldLaws.{term-slices, guard-slices}
 use Rattle.between.specs.Ready.{Fit, Ready, ReadyLive}
 
-module _ (h : Lent) (n : ℕ) where
+module _ (h : HeldRows) (n : ℕ) where
   pub fit-more : (k r : ℕ) (s : State) → n ≤ k → Fit h n r s → Fit h k r s
   fit-more k r s m f = record {
     known = omega (arith, f .known);
@@ -74,11 +76,11 @@ module _ (h : Lent) (n : ℕ) where
   }
 
   -- What a row in range needs to be run with its own guards.
-  pub fit-runs : (r : ℕ) (s : State) → n ≤ 2 ^ 61 → Shaped h → r < length (h .rows) → (a e : ℕ) → a ≡ startBy 1 (h .rows) r → e ≡ endBy 1 (h .rows) r
-      → Fit h n r s → Runs s (stretch a e (h .bounds))
+  pub fit-runs : (r : ℕ) (s : State) → n ≤ figureLimit → Shaped h → r < length (h .rows) → (a e : ℕ) → a ≡ startBy 1 (h .rows) r → e ≡ endBy 1 (h .rows) r
+      → Fit h n r s → Runs s (stretch a e (h .guard-bounds))
   fit-runs r s l y k a e p q f = record {
     figures = record { known = omega (arith, f .known); possible = omega (arith, f .possible); lower = f .lower; upper = f .upper };
-    inside = omega (arith, f .inside, stretch-length a e (h .bounds) (omega (arith, y .guards .ends r k)));
+    inside = omega (arith, f .inside, stretch-length a e (h .guard-bounds) (omega (arith, y .guards .ends r k)));
   }
 
 flags-residual : (row : Row) (s : State) (q : Rows) (r : ℕ) → r < 1024 → Flags q → Flags (residualQueued row s q r)
@@ -89,7 +91,7 @@ flags-residual row s q r k f = by (wantsResidual row s)
     by false = f
 
 -- A row is run.
-pub ready-run : (h : Lent) (n : ℕ) → Shaped h → (v : Live) → ReadyLive h n v → (r : ℕ) → r < length (h .rows) → ReadyLive h n (runWith (heldRow h r) v r .live)
+pub ready-run : (h : HeldRows) (n : ℕ) → Shaped h → (v : Live) → ReadyLive h n v → (r : ℕ) → r < length (h .rows) → ReadyLive h n (runWith (heldRow h r) v r .live)
 unfolding runWith
 ready-run h n y v w r k =
     let s = getD (v .states) r noState in
@@ -102,8 +104,8 @@ ready-run h n y v w r k =
 
 -- ---- states
 
--- A weight is drained: the range grows by 2 ^ 45.
-pub fit-drained : (h : Lent) (n r : ℕ) (s : State) (value : Bool) (w : ℕ) → w < 2 ^ 44 → Fit h n r s → Fit h (n + 35184372088832) r (drained value w s)
+-- A weight is drained: the range grows by a step.
+pub fit-drained : (h : HeldRows) (n r : ℕ) (s : State) (value : Bool) (w : ℕ) → w < weightLimit → Fit h n r s → Fit h (n + drainLimit) r (drained value w s)
 unfolding drained withKnown withPossible
 fit-drained h n r s true w l f = record {
   known = omega (arith, f .known, mag-add (s .known) (pos w));
@@ -120,20 +122,20 @@ fit-drained h n r s false w l f = record {
   inside = f .inside;
 }
 
-pub fit-drains : (h : Lent) (n r : ℕ) (s : State) (w : ℕ) → n ≤ 2 ^ 61 → w < 2 ^ 44 → Fit h n r s → Drains s w
+pub fit-drains : (h : HeldRows) (n r : ℕ) (s : State) (w : ℕ) → n ≤ figureLimit → w < weightLimit → Fit h n r s → Drains s w
 fit-drains h n r s w k l f = record { known = omega (arith, f .known); possible = omega (arith, f .possible); light = omega arith }
 
-module _ (h : Lent) (n r : ℕ) where
-  fit-lower : (s : State) (b : ℤ) → mag b < 2 ^ 61 → Fit h n r s → Fit h n r (withLower s b)
+module _ (h : HeldRows) (n r : ℕ) where
+  fit-lower : (s : State) (b : ℤ) → mag b < figureLimit → Fit h n r s → Fit h n r (withLower s b)
   unfolding withLower
   fit-lower s b l f = record { known = f .known; possible = f .possible; lower = l; upper = f .upper; inside = f .inside }
 
-  fit-upper : (s : State) (u : Upper) → mag (limit u) < 2 ^ 61 → Fit h n r s → Fit h n r (withUpper s u)
+  fit-upper : (s : State) (u : Upper) → mag (limit u) < figureLimit → Fit h n r s → Fit h n r (withUpper s u)
   unfolding withUpper
   fit-upper s u l f = record { known = f .known; possible = f .possible; lower = f .lower; upper = l; inside = f .inside }
 
   -- A guard's bound is told.
-  pub fit-guard : (s : State) (value : Bool) (b : ℤ) → mag b < 2 ^ 61 → Fit h n r s → Fit h n r (guardState s value b .state)
+  pub fit-guard : (s : State) (value : Bool) (b : ℤ) → mag b < figureLimit → Fit h n r s → Fit h n r (guardState s value b .state)
   fit-guard s true b l f = by (leZ b (s .lower)) refl
     where
       by : (c : Bool) → leZ b (s .lower) ≡ c → Fit h n r (guardState s true b .state)
@@ -150,7 +152,7 @@ module _ (h : Lent) (n r : ℕ) where
   fit-pick true t u f g = f
   fit-pick false t u f g = g
 
-  pub fit-prefix : (source s : State) (i k : ℕ) → mag (source .lower) < 2 ^ 61 → mag (limit (source .upper)) < 2 ^ 61 → Fit h n r s
+  pub fit-prefix : (source s : State) (i k : ℕ) → mag (source .lower) < figureLimit → mag (limit (source .upper)) < figureLimit → Fit h n r s
       → Fit h n r (movedState source s i k .state)
   fit-prefix source s i k a b f =
       let l = movedLower source s i k in
@@ -161,18 +163,21 @@ module _ (h : Lent) (n r : ℕ) where
 
 -- ---- what follows an equation
 
-pub ready-by : (h : Lent) (n : ℕ) (c d : Did) → c ≡ d → ReadyLive h n (d .live) → ReadyLive h n (c .live)
+pub ready-by : (h : HeldRows) (n : ℕ) (c d : Did) → c ≡ d → ReadyLive h n (d .live) → ReadyLive h n (c .live)
 ready-by h n c d e y = rw e y
 
-pub ready-states : (h : Lent) (n : ℕ) (ss ss′ : List State) (m : Marks) (q : Rows) → ss′ ≡ ss → Ready h n ss m q → Ready h n ss′ m q
+pub ready-states : (h : HeldRows) (n : ℕ) (ss ss′ : List State) (m : Marks) (q : Rows) → ss′ ≡ ss → Ready h n ss m q → Ready h n ss′ m q
 ready-states h n ss ss′ m q e y = rw e y
 
-pub fit-by : (h : Lent) (n r : ℕ) (s t : State) → s ≡ t → Fit h n r t → Fit h n r s
+pub fit-by : (h : HeldRows) (n r : ℕ) (s t : State) → s ≡ t → Fit h n r t → Fit h n r s
 fit-by h n r s t e f = rw e f
 
 pub drains-by : (s t : State) (w : ℕ) → s ≡ t → Drains t w → Drains s w
 drains-by s t w e d = rw e d
 
-pub from-state : (row : Row) (ss : List State) (m : Marks) (d q : Rows) (r : ℕ) (s t : State) → s ≡ t
-    → runWith row (live (set ss r s) m d q) r ≡ runWith row (live (set ss r t) m d q) r
-from-state row ss m d q r s t e = rw e
+pub from-state : (row : Row) (v : Live) (r : ℕ) (s t : State) → s ≡ t → (o : Did) → o ≡ runWith row (withState v r s) r → o ≡ runWith row (withState v r t) r
+from-state row v r s t e o made = made ∙ ap (λ (y : State). runWith row (withState v r y) r) e
+
+-- Rows that wait to hand on their bounds need not be looked at; those that wait for a residual are as they were.
+pub ready-queue : (h : HeldRows) (n : ℕ) (v : Live) (q : Rows) → q ≡ v .residuals → ReadyLive h n v → Ready h n (v .states) (v .marks) q
+ready-queue h n v q e y = rw e y

@@ -1,33 +1,41 @@
-// What moves between rows, over the buffers: `threshold_guard`, `threshold_condition`, `seed_thresholds` of propagate.rs,
-// `threshold_prefixes` of prefixes.rs.
+// What moves between rows, over the buffers: states in them, a row run, `threshold_condition` and `seed_thresholds` of
+// propagate.rs. Guards and prefix links are in `handing`. Every function over the live state takes the buffers that it reads,
+// then the six that draining changes, then where their queues stand; it answers what it did and where the queues stand then.
 ghost use mathlib.Core.Path.{_≡_};
 ghost use mathlib.Core.Bool.{cond};
-ghost use Prim.Native.Nat.{ℕ, _-_, _<_, _≤_, _^_};
+ghost use Prim.Native.Nat.{ℕ, _-_, _<_, _≤_};
 ghost use lib.ListN.{length, getD, set};
 ghost use mathlib.Core.List.{List, []};
-ghost use lib.IntN.{ℤ, pos};
-ghost use lib.Signed.{mag};
-ghost use Rattle.numeric.specs.Threshold.{Term, Threshold, terms};
+ghost use lib.IntN.{ℤ};
+ghost use Rattle.memory.specs.Buffers.{heldRows};
+ghost use Rattle.lists.specs.Columns.{column};
+ghost use Rattle.numeric.specs.Threshold.{Term, terms};
 ghost use Rattle.row.specs.Terms.{total};
 ghost use Rattle.state.specs.State.{limit, limited, noState, drained};
-ghost use Rattle.queues.specs.Queue.{queue, Held, Rows, rows as queued};
+ghost use Rattle.queues.specs.declared.Ring.{Ring};
+ghost use Rattle.queues.specs.Queue.{queue, Held, rowsIn};
 ghost use Rattle.queues.specs.Marks.{marks};
 ghost use Rattle.queues.specs.MarksLaws.{Waits};
-ghost use Rattle.queues.specs.RowsLaws.{Flags};
-ghost use Rattle.thresholds.specs.Rows.{Guard, rowOf, rowNumber};
-ghost use Rattle.prefixes.specs.Links.{neighbours};
-ghost use Rattle.between.specs.Between.{Index, live, did, firstStates, residualQueued, linkedQueued, runWith, thresholdCondition, thresholdGuard, guardOf, toldStep, handedOn, thresholdPrefixes, seedFrom};
-ghost use Rattle.between.specs.Numbers.{figuresOf, cursorsOf, rowState, statesOf, Runs, Tidy};
-ghost use Rattle.between.specs.Held.{lent, startBy, endBy, stretchBy, heldRow, edgeIn, Inside, Rising, Shaped, EdgesShaped, LinksShaped, GuardsShaped, Holds, HoldsEdges, HoldsLinks, CountsLinks, HoldsGuards};
-ghost use Rattle.between.specs.Ready.{Fit, Ready};
+ghost use Rattle.thresholds.specs.Rows.{Guard, rowOf};
+ghost use Rattle.between.specs.Between.{Index, did, withState, firstStates, residualQueued, runWith, thresholdCondition, seedFrom};
+ghost use Rattle.between.specs.Numbers.{figuresOf, cursorsOf, rowState, statesOf, liveOf, Runs, Tidy};
+ghost use Rattle.memory.specs.Limits.{figureLimit, roomLimit, weightLimit, drainLimit};
+ghost use Rattle.between.specs.Held.{startBy, endBy, stretchBy, heldRow, edgeIn, Inside, Rising, Shaped, EdgesShaped, Holds, HoldsEdges};
+ghost use Rattle.between.specs.Ready.{Fit, ReadyLive};
 ghost use Rattle.between.specs.FirstLaws.{firstAt, Totals};
 ghost use Rattle.propagate.specs.Shape.{TermSlices, GuardSlices};
 ghost use Rattle.propagate.specs.Guards.{guards};
-ghost use Rattle.propagate.specs.Told.{movedState};
 use queues::Ring;
+use queues::Rings;
 use state::State;
 use state::Step;
 use state::Upper;
+
+// A row's answer, and where the queues stand after it.
+pub struct Did {
+    pub step: Step,
+    pub rings: Rings,
+}
 
 // A row state from its figures and cursors.
 fn make(figures: [i64; 4], cursors: [usize; 5]) -> State
@@ -117,76 +125,82 @@ pub fn store(figures: &mut [[i64; 4]], cursors: &mut [[usize; 5]], row: usize, s
 
 // A row that wants a residual waits for it.
 fn queue_residual(
-    conditions: &[u16],
-    weights: &[u64],
-    state: State,
-    items: &mut [u16],
-    pending: &mut [u8],
+    row_conditions: &[u16],
+    row_weights: &[u64],
+    row_queues: &mut [[u16; 4]],
     ring: Ring,
+    state: State,
     row: usize,
 ) -> Ring
-    requires { ⌜ (length (now conditions) ≡ length (now weights)) × Held 1024 (queue (now items) ring) × (row < 1024) × (row < length (now pending)) ⌝ }
-    ensures { λ r. ⌜ ((raw : List Term) (gs : List Guard) → queued (queue (now (items .exit)) r) (now (pending .exit))
-        ≡ residualQueued (rowOf raw (terms (now (conditions .entry)) (now (weights .entry))) gs) state (queued (queue (now (items .entry)) ring) (now (pending .entry))) row) ⌝ }
+    requires { ⌜ (length (now «row_conditions») ≡ length (now «row_weights»)) × Held 1024 (queue (column 2 (now «row_queues»)) ring) × (row < 1024) ⌝ }
+    ensures { λ r. ⌜ ((raw : List Term) (gs : List Guard) → rowsIn 2 (now («row_queues» .exit)) r
+        ≡ residualQueued (rowOf raw (terms (now («row_conditions» .entry)) (now («row_weights» .entry))) gs) state (rowsIn 2 (now («row_queues» .entry)) ring) row)
+        × ((other : Ring) → rowsIn 0 (now («row_queues» .exit)) other ≡ rowsIn 0 (now («row_queues» .entry)) other) ⌝ }
 {
-    if propagate::wants_residual(conditions, weights, state) {
-        return queues::queue_row(items, pending, ring, row);
+    if propagate::wants_residual(row_conditions, row_weights, state) {
+        return queues::queue_row(row_queues, 2, ring, row);
     }
     ring
 }
 
-// A row's answer, and the queues of nodes and of residuals after it.
-pub struct Answer {
-    pub step: Step,
-    pub ring: Ring,
-    pub residuals: Ring,
-}
-
 // One row, read from the buffers, run once and written back. The terms and the guards are the row's own.
 pub fn run_row(
-    conditions: &[u16],
-    weights: &[u64],
-    bounds: &[i64],
-    names: &[u16],
+    row_conditions: &[u16],
+    row_weights: &[u64],
+    guard_bounds: &[i64],
+    guard_nodes: &[u16],
     figures: &mut [[i64; 4]],
     cursors: &mut [[usize; 5]],
-    row: usize,
     sure: &mut [u64],
     never: &mut [u64],
-    nodes: &mut [u16],
-    ring: Ring,
-    items: &mut [u16],
-    pending: &mut [u8],
-    residuals: Ring,
-) -> Answer
-    requires { ⌜ (row < length (statesOf (now figures) (now cursors))) × TermSlices (now conditions) (now weights) × GuardSlices (now bounds) (now names) ⌝ }
-    requires { ⌜ Runs (getD (statesOf (now figures) (now cursors)) row noState) (now bounds) × Waits (marks (now sure) (now never) (queue (now nodes) ring)) ⌝ }
-    requires { ⌜ Held 1024 (queue (now items) residuals) × (row < 1024) × (row < length (now pending)) ⌝ }
-    ensures { λ r. ⌜ ((d : Rows) → did (live (statesOf (now (figures .exit)) (now (cursors .exit))) (marks (now (sure .exit)) (now (never .exit)) (queue (now (nodes .exit)) (r .ring))) d (queued (queue (now (items .exit)) (r .residuals)) (now (pending .exit)))) (r .step)
-        ≡ runWith (rowOf [] (terms (now (conditions .entry)) (now (weights .entry))) (guards (now (bounds .entry)) (now (names .entry)))) (live (statesOf (now (figures .entry)) (now (cursors .entry))) (marks (now (sure .entry)) (now (never .entry)) (queue (now (nodes .entry)) ring)) d (queued (queue (now (items .entry)) residuals) (now (pending .entry)))) row)
+    node_queue: &mut [u16],
+    row_queues: &mut [[u16; 4]],
+    rings: Rings,
+    row: usize,
+) -> Did
+    requires { ⌜ (row < length (statesOf (now figures) (now cursors))) × TermSlices (now «row_conditions») (now «row_weights») × GuardSlices (now «guard_bounds») (now «guard_nodes») ⌝ }
+    requires { ⌜ Runs (getD (statesOf (now figures) (now cursors)) row noState) (now «guard_bounds») × Waits (marks (now sure) (now never) (queue (now «node_queue») (rings .nodes))) ⌝ }
+    requires { ⌜ Held 1024 (queue (column 2 (now «row_queues»)) (rings .residuals)) × (row < 1024) ⌝ }
+    ensures { λ r. ⌜ (did (liveOf (now (figures .exit)) (now (cursors .exit)) (now (sure .exit)) (now (never .exit)) (now («node_queue» .exit)) (now («row_queues» .exit)) (r .rings)) (r .step)
+        ≡ runWith (rowOf [] (terms (now («row_conditions» .entry)) (now («row_weights» .entry))) (guards (now («guard_bounds» .entry)) (now («guard_nodes» .entry))))
+        (liveOf (now (figures .entry)) (now (cursors .entry)) (now (sure .entry)) (now (never .entry)) (now («node_queue» .entry)) (now («row_queues» .entry)) rings) row)
         × (Tidy (now (figures .entry)) (now (cursors .entry)) → Tidy (now (figures .exit)) (now (cursors .exit))) ⌝ }
 {
+    let ring = rings.nodes;
+    let waiting = rings.rows;
+    let residuals = rings.residuals;
     let state = load(figures, cursors, row);
-    let left = queue_residual(conditions, weights, state, items, pending, residuals, row);
+    let left = queue_residual(
+        row_conditions,
+        row_weights,
+        row_queues,
+        residuals,
+        state,
+        row,
+    );
     let ran = propagate::threshold_row(
-        conditions,
-        weights,
-        bounds,
-        names,
+        row_conditions,
+        row_weights,
+        guard_bounds,
+        guard_nodes,
         state,
         sure,
         never,
-        nodes,
+        node_queue,
         ring,
     );
     let after = ran.state;
     let step = ran.step;
     let next = ran.ring;
     store(figures, cursors, row, after);
-    Answer {
-        step: step,
-        ring: next,
+    let stand = Rings {
+        nodes: next,
+        rows: waiting,
         residuals: left,
+    };
+    Did {
+        step: step,
+        rings: stand,
     }
 }
 
@@ -211,26 +225,26 @@ pub fn end_by(table: &[[u16; 3]], j: usize, n: usize) -> usize
 
 // A row run with its own stretches of the terms and the guards.
 pub fn run_at(
-    conditions: &[u16],
-    weights: &[u64],
+    row_conditions: &[u16],
+    row_weights: &[u64],
     rows: &[[u16; 3]],
-    bounds: &[i64],
-    names: &[u16],
+    guard_bounds: &[i64],
+    guard_nodes: &[u16],
     figures: &mut [[i64; 4]],
     cursors: &mut [[usize; 5]],
-    row: usize,
     sure: &mut [u64],
     never: &mut [u64],
-    nodes: &mut [u16],
-    ring: Ring,
-    items: &mut [u16],
-    pending: &mut [u8],
-    residuals: Ring,
-) -> Answer
-    requires { ⌜ Shaped (lent (now conditions) (now weights) (now rows) (now bounds) (now names)) × (row < length (now rows)) ⌝ }
-    requires { ⌜ Ready (lent (now conditions) (now weights) (now rows) (now bounds) (now names)) (2 ^ 61) (statesOf (now figures) (now cursors)) (marks (now sure) (now never) (queue (now nodes) ring)) (queued (queue (now items) residuals) (now pending)) ⌝ }
-    ensures { λ r. ⌜ ((d : Rows) → did (live (statesOf (now (figures .exit)) (now (cursors .exit))) (marks (now (sure .exit)) (now (never .exit)) (queue (now (nodes .exit)) (r .ring))) d (queued (queue (now (items .exit)) (r .residuals)) (now (pending .exit)))) (r .step)
-        ≡ runWith (heldRow (lent (now (conditions .entry)) (now (weights .entry)) (now (rows .entry)) (now (bounds .entry)) (now (names .entry))) row) (live (statesOf (now (figures .entry)) (now (cursors .entry))) (marks (now (sure .entry)) (now (never .entry)) (queue (now (nodes .entry)) ring)) d (queued (queue (now (items .entry)) residuals) (now (pending .entry)))) row)
+    node_queue: &mut [u16],
+    row_queues: &mut [[u16; 4]],
+    rings: Rings,
+    row: usize,
+) -> Did
+    requires { ⌜ Shaped (heldRows (now «row_conditions») (now «row_weights») (now rows) (now «guard_bounds») (now «guard_nodes»)) × (row < length (now rows)) ⌝ }
+    requires { ⌜ ReadyLive (heldRows (now «row_conditions») (now «row_weights») (now rows) (now «guard_bounds») (now «guard_nodes»)) figureLimit
+        (liveOf (now figures) (now cursors) (now sure) (now never) (now «node_queue») (now «row_queues») rings) ⌝ }
+    ensures { λ r. ⌜ (did (liveOf (now (figures .exit)) (now (cursors .exit)) (now (sure .exit)) (now (never .exit)) (now («node_queue» .exit)) (now («row_queues» .exit)) (r .rings)) (r .step)
+        ≡ runWith (heldRow (heldRows (now («row_conditions» .entry)) (now («row_weights» .entry)) (now (rows .entry)) (now («guard_bounds» .entry)) (now («guard_nodes» .entry))) row)
+        (liveOf (now (figures .entry)) (now (cursors .entry)) (now (sure .entry)) (now (never .entry)) (now («node_queue» .entry)) (now («row_queues» .entry)) rings) row)
         × (Tidy (now (figures .entry)) (now (cursors .entry)) → Tidy (now (figures .exit)) (now (cursors .exit))) ⌝ }
 {
     let a = start_by(rows, 0, row);
@@ -238,113 +252,108 @@ pub fn run_at(
     let b = start_by(rows, 1, row);
     let f = end_by(rows, 1, row);
     run_row(
-        &conditions[a..e],
-        &weights[a..e],
-        &bounds[b..f],
-        &names[b..f],
+        &row_conditions[a..e],
+        &row_weights[a..e],
+        &guard_bounds[b..f],
+        &guard_nodes[b..f],
         figures,
         cursors,
-        row,
         sure,
         never,
-        nodes,
-        ring,
-        items,
-        pending,
-        residuals,
+        node_queue,
+        row_queues,
+        rings,
+        row,
     )
 }
 
 // A state is stored, and its row run.
-fn run_from(
-    conditions: &[u16],
-    weights: &[u64],
+pub fn run_from(
+    row_conditions: &[u16],
+    row_weights: &[u64],
     rows: &[[u16; 3]],
-    bounds: &[i64],
-    names: &[u16],
+    guard_bounds: &[i64],
+    guard_nodes: &[u16],
     figures: &mut [[i64; 4]],
     cursors: &mut [[usize; 5]],
-    row: usize,
-    state: State,
     sure: &mut [u64],
     never: &mut [u64],
-    nodes: &mut [u16],
-    ring: Ring,
-    items: &mut [u16],
-    pending: &mut [u8],
-    residuals: Ring,
-) -> Answer
-    requires { ⌜ Shaped (lent (now conditions) (now weights) (now rows) (now bounds) (now names)) × (row < length (now rows)) × Fit (lent (now conditions) (now weights) (now rows) (now bounds) (now names)) (2 ^ 61) row state ⌝ }
-    requires { ⌜ Ready (lent (now conditions) (now weights) (now rows) (now bounds) (now names)) (2 ^ 61) (statesOf (now figures) (now cursors)) (marks (now sure) (now never) (queue (now nodes) ring)) (queued (queue (now items) residuals) (now pending)) ⌝ }
-    ensures { λ r. ⌜ ((d : Rows) → did (live (statesOf (now (figures .exit)) (now (cursors .exit))) (marks (now (sure .exit)) (now (never .exit)) (queue (now (nodes .exit)) (r .ring))) d (queued (queue (now (items .exit)) (r .residuals)) (now (pending .exit)))) (r .step)
-        ≡ runWith (heldRow (lent (now (conditions .entry)) (now (weights .entry)) (now (rows .entry)) (now (bounds .entry)) (now (names .entry))) row) (live (set (statesOf (now (figures .entry)) (now (cursors .entry))) row state) (marks (now (sure .entry)) (now (never .entry)) (queue (now (nodes .entry)) ring)) d (queued (queue (now (items .entry)) residuals) (now (pending .entry)))) row)
+    node_queue: &mut [u16],
+    row_queues: &mut [[u16; 4]],
+    rings: Rings,
+    row: usize,
+    state: State,
+) -> Did
+    requires { ⌜ Shaped (heldRows (now «row_conditions») (now «row_weights») (now rows) (now «guard_bounds») (now «guard_nodes»)) × (row < length (now rows)) × Fit (heldRows (now «row_conditions») (now «row_weights») (now rows) (now «guard_bounds») (now «guard_nodes»)) figureLimit row state ⌝ }
+    requires { ⌜ ReadyLive (heldRows (now «row_conditions») (now «row_weights») (now rows) (now «guard_bounds») (now «guard_nodes»)) figureLimit
+        (liveOf (now figures) (now cursors) (now sure) (now never) (now «node_queue») (now «row_queues») rings) ⌝ }
+    ensures { λ r. ⌜ (did (liveOf (now (figures .exit)) (now (cursors .exit)) (now (sure .exit)) (now (never .exit)) (now («node_queue» .exit)) (now («row_queues» .exit)) (r .rings)) (r .step)
+        ≡ runWith (heldRow (heldRows (now («row_conditions» .entry)) (now («row_weights» .entry)) (now (rows .entry)) (now («guard_bounds» .entry)) (now («guard_nodes» .entry))) row)
+        (withState (liveOf (now (figures .entry)) (now (cursors .entry)) (now (sure .entry)) (now (never .entry)) (now («node_queue» .entry)) (now («row_queues» .entry)) rings) row state) row)
         × (Tidy (now (figures .entry)) (now (cursors .entry)) → Tidy (now (figures .exit)) (now (cursors .exit))) ⌝ }
 {
     store(figures, cursors, row, state);
     run_at(
-        conditions,
-        weights,
+        row_conditions,
+        row_weights,
         rows,
-        bounds,
-        names,
+        guard_bounds,
+        guard_nodes,
         figures,
         cursors,
-        row,
         sure,
         never,
-        nodes,
-        ring,
-        items,
-        pending,
-        residuals,
+        node_queue,
+        row_queues,
+        rings,
+        row,
     )
 }
 
 // One row of a drained condition: the weight is drained, and the row run.
 fn drain_edge(
-    conditions: &[u16],
-    weights: &[u64],
+    row_conditions: &[u16],
+    row_weights: &[u64],
     rows: &[[u16; 3]],
-    bounds: &[i64],
-    names: &[u16],
+    guard_bounds: &[i64],
+    guard_nodes: &[u16],
     figures: &mut [[i64; 4]],
     cursors: &mut [[usize; 5]],
+    sure: &mut [u64],
+    never: &mut [u64],
+    node_queue: &mut [u16],
+    row_queues: &mut [[u16; 4]],
+    rings: Rings,
     row: usize,
     weight: u64,
     value: bool,
-    sure: &mut [u64],
-    never: &mut [u64],
-    nodes: &mut [u16],
-    ring: Ring,
-    items: &mut [u16],
-    pending: &mut [u8],
-    residuals: Ring,
-) -> Answer
-    requires { ⌜ Shaped (lent (now conditions) (now weights) (now rows) (now bounds) (now names)) × (row < length (now rows)) × (weight < 2 ^ 44) ⌝ }
-    requires { ⌜ Ready (lent (now conditions) (now weights) (now rows) (now bounds) (now names)) (2 ^ 61 - 35184372088832) (statesOf (now figures) (now cursors)) (marks (now sure) (now never) (queue (now nodes) ring)) (queued (queue (now items) residuals) (now pending)) ⌝ }
-    ensures { λ r. ⌜ ((d : Rows) → did (live (statesOf (now (figures .exit)) (now (cursors .exit))) (marks (now (sure .exit)) (now (never .exit)) (queue (now (nodes .exit)) (r .ring))) d (queued (queue (now (items .exit)) (r .residuals)) (now (pending .exit)))) (r .step)
-        ≡ runWith (heldRow (lent (now (conditions .entry)) (now (weights .entry)) (now (rows .entry)) (now (bounds .entry)) (now (names .entry))) row) (live (set (statesOf (now (figures .entry)) (now (cursors .entry))) row (drained value weight (getD (statesOf (now (figures .entry)) (now (cursors .entry))) row noState))) (marks (now (sure .entry)) (now (never .entry)) (queue (now (nodes .entry)) ring)) d (queued (queue (now (items .entry)) residuals) (now (pending .entry)))) row)
+) -> Did
+    requires { ⌜ Shaped (heldRows (now «row_conditions») (now «row_weights») (now rows) (now «guard_bounds») (now «guard_nodes»)) × (row < length (now rows)) × (weight < weightLimit) ⌝ }
+    requires { ⌜ ReadyLive (heldRows (now «row_conditions») (now «row_weights») (now rows) (now «guard_bounds») (now «guard_nodes»)) (figureLimit - drainLimit)
+        (liveOf (now figures) (now cursors) (now sure) (now never) (now «node_queue») (now «row_queues») rings) ⌝ }
+    ensures { λ r. ⌜ (did (liveOf (now (figures .exit)) (now (cursors .exit)) (now (sure .exit)) (now (never .exit)) (now («node_queue» .exit)) (now («row_queues» .exit)) (r .rings)) (r .step)
+        ≡ runWith (heldRow (heldRows (now («row_conditions» .entry)) (now («row_weights» .entry)) (now (rows .entry)) (now («guard_bounds» .entry)) (now («guard_nodes» .entry))) row)
+        (withState (liveOf (now (figures .entry)) (now (cursors .entry)) (now (sure .entry)) (now (never .entry)) (now («node_queue» .entry)) (now («row_queues» .entry)) rings) row
+        (drained value weight (getD (statesOf (now (figures .entry)) (now (cursors .entry))) row noState))) row)
         × (Tidy (now (figures .entry)) (now (cursors .entry)) → Tidy (now (figures .exit)) (now (cursors .exit))) ⌝ }
 {
     let state = load(figures, cursors, row);
     let next = state.drained(value, weight);
     run_from(
-        conditions,
-        weights,
+        row_conditions,
+        row_weights,
         rows,
-        bounds,
-        names,
+        guard_bounds,
+        guard_nodes,
         figures,
         cursors,
-        row,
-        next,
         sure,
         never,
-        nodes,
-        ring,
-        items,
-        pending,
-        residuals,
+        node_queue,
+        row_queues,
+        rings,
+        row,
+        next,
     )
 }
 
@@ -367,228 +376,76 @@ fn edge_weight(edges: &[[u64; 2]], at: usize) -> u64
 
 // `threshold_condition`: a drained node tells the rows in which it stands, in order, up to a contradiction.
 pub fn threshold_condition(
-    conditions: &[u16],
-    weights: &[u64],
+    row_conditions: &[u16],
+    row_weights: &[u64],
     rows: &[[u16; 3]],
-    bounds: &[i64],
-    names: &[u16],
-    index: &[[u16; 3]],
+    guard_bounds: &[i64],
+    guard_nodes: &[u16],
+    nodes: &[[u16; 3]],
     edges: &[[u64; 2]],
     figures: &mut [[i64; 4]],
     cursors: &mut [[usize; 5]],
-    node: usize,
     sure: &mut [u64],
     never: &mut [u64],
-    nodes: &mut [u16],
-    ring: Ring,
-    items: &mut [u16],
-    pending: &mut [u8],
-    residuals: Ring,
-) -> Answer
-    requires { ⌜ Shaped (lent (now conditions) (now weights) (now rows) (now bounds) (now names)) × EdgesShaped (lent (now conditions) (now weights) (now rows) (now bounds) (now names)) (now index) (now edges) × (node < length (now index)) × (node < 4096) ⌝ }
-    requires { ⌜ Ready (lent (now conditions) (now weights) (now rows) (now bounds) (now names)) (2 ^ 60) (statesOf (now figures) (now cursors)) (marks (now sure) (now never) (queue (now nodes) ring)) (queued (queue (now items) residuals) (now pending)) ⌝ }
-    ensures { λ r. ⌜ ((x : Index) (d : Rows) → Holds x (lent (now (conditions .entry)) (now (weights .entry)) (now (rows .entry)) (now (bounds .entry)) (now (names .entry))) → HoldsEdges x (now (index .entry)) (now (edges .entry))
-        → did (live (statesOf (now (figures .exit)) (now (cursors .exit))) (marks (now (sure .exit)) (now (never .exit)) (queue (now (nodes .exit)) (r .ring))) d (queued (queue (now (items .exit)) (r .residuals)) (now (pending .exit)))) (r .step)
-        ≡ thresholdCondition x (live (statesOf (now (figures .entry)) (now (cursors .entry))) (marks (now (sure .entry)) (now (never .entry)) (queue (now (nodes .entry)) ring)) d (queued (queue (now (items .entry)) residuals) (now (pending .entry)))) node)
+    node_queue: &mut [u16],
+    row_queues: &mut [[u16; 4]],
+    rings: Rings,
+    node: usize,
+) -> Did
+    requires { ⌜ Shaped (heldRows (now «row_conditions») (now «row_weights») (now rows) (now «guard_bounds») (now «guard_nodes»)) × EdgesShaped (heldRows (now «row_conditions») (now «row_weights») (now rows) (now «guard_bounds») (now «guard_nodes»)) (now nodes) (now edges)
+        × (node < length (now nodes)) × (node < 4096) ⌝ }
+    requires { ⌜ ReadyLive (heldRows (now «row_conditions») (now «row_weights») (now rows) (now «guard_bounds») (now «guard_nodes»)) roomLimit
+        (liveOf (now figures) (now cursors) (now sure) (now never) (now «node_queue») (now «row_queues») rings) ⌝ }
+    ensures { λ r. ⌜ ((x : Index) → Holds x (heldRows (now («row_conditions» .entry)) (now («row_weights» .entry)) (now (rows .entry)) (now («guard_bounds» .entry)) (now («guard_nodes» .entry))) → HoldsEdges x (now (nodes .entry)) (now (edges .entry))
+        → did (liveOf (now (figures .exit)) (now (cursors .exit)) (now (sure .exit)) (now (never .exit)) (now («node_queue» .exit)) (now («row_queues» .exit)) (r .rings)) (r .step)
+        ≡ thresholdCondition x (liveOf (now (figures .entry)) (now (cursors .entry)) (now (sure .entry)) (now (never .entry)) (now («node_queue» .entry)) (now («row_queues» .entry)) rings) node)
         × (Tidy (now (figures .entry)) (now (cursors .entry)) → Tidy (now (figures .exit)) (now (cursors .exit))) ⌝ }
 {
     let value = words::bit(sure, node);
-    let end = end_by(index, 2, node);
-    let mut at = start_by(index, 2, node);
-    let mut so_far = Answer {
+    let end = end_by(nodes, 2, node);
+    let mut at = start_by(nodes, 2, node);
+    let mut so_far = Did {
         step: Step::Unchanged,
-        ring: ring,
-        residuals: residuals,
+        rings: rings,
     };
     while at < end {
         let row = edge_row(edges, at);
         let weight = edge_weight(edges, at);
-        let next = so_far.ring;
-        let left = so_far.residuals;
+        let stand = so_far.rings;
         let turn = drain_edge(
-            conditions,
-            weights,
+            row_conditions,
+            row_weights,
             rows,
-            bounds,
-            names,
+            guard_bounds,
+            guard_nodes,
             figures,
             cursors,
+            sure,
+            never,
+            node_queue,
+            row_queues,
+            stand,
             row,
             weight,
             value,
-            sure,
-            never,
-            nodes,
-            next,
-            items,
-            pending,
-            left,
         );
         let step = turn.step;
         if step.contradicts() {
             return turn;
         }
         let before = so_far.step;
-        let later = turn.ring;
-        let rest = turn.residuals;
-        so_far = Answer {
+        let left = turn.rings;
+        so_far = Did {
             step: before.join(step),
-            ring: later,
-            residuals: rest,
+            rings: left,
         };
         at += 1;
     }
     so_far
 }
 
-// A row whose bounds moved waits to hand them on, if it has neighbours.
-fn queue_linked(items: &mut [u16], pending: &mut [u8], ring: Ring, row: usize, links: usize) -> Ring
-    requires { ⌜ Held 1024 (queue (now items) ring) × (row < 1024) × (row < length (now pending)) ⌝ }
-    ensures { λ r. ⌜ queued (queue (now (items .exit)) r) (now (pending .exit)) ≡ linkedQueued links (queued (queue (now (items .entry)) ring) (now (pending .entry))) row ⌝ }
-{
-    if links == 0 {
-        return ring;
-    }
-    queues::queue_row(items, pending, ring, row)
-}
-
-// A row's answer, and the queue of rows that wait to hand on their bounds.
-pub struct Handed {
-    pub answer: Answer,
-    pub dirty: Ring,
-}
-
-// A row whose bounds moved to this state: it waits to hand them on, and is run from there.
-fn bounded(
-    conditions: &[u16],
-    weights: &[u64],
-    rows: &[[u16; 3]],
-    bounds: &[i64],
-    names: &[u16],
-    figures: &mut [[i64; 4]],
-    cursors: &mut [[usize; 5]],
-    row: usize,
-    state: State,
-    sure: &mut [u64],
-    never: &mut [u64],
-    nodes: &mut [u16],
-    ring: Ring,
-    items: &mut [u16],
-    pending: &mut [u8],
-    residuals: Ring,
-    waiting: &mut [u16],
-    flags: &mut [u8],
-    dirty: Ring,
-    links: usize,
-) -> Handed
-    requires { ⌜ Shaped (lent (now conditions) (now weights) (now rows) (now bounds) (now names)) × (row < length (now rows)) × Fit (lent (now conditions) (now weights) (now rows) (now bounds) (now names)) (2 ^ 61) row state ⌝ }
-    requires { ⌜ Ready (lent (now conditions) (now weights) (now rows) (now bounds) (now names)) (2 ^ 61) (statesOf (now figures) (now cursors)) (marks (now sure) (now never) (queue (now nodes) ring)) (queued (queue (now items) residuals) (now pending)) × Flags (queued (queue (now waiting) dirty) (now flags)) ⌝ }
-    ensures { λ r. ⌜ (did (live (statesOf (now (figures .exit)) (now (cursors .exit))) (marks (now (sure .exit)) (now (never .exit)) (queue (now (nodes .exit)) (r .answer .ring)))
-        (queued (queue (now (waiting .exit)) (r .dirty)) (now (flags .exit))) (queued (queue (now (items .exit)) (r .answer .residuals)) (now (pending .exit)))) (r .answer .step)
-        ≡ runWith (heldRow (lent (now (conditions .entry)) (now (weights .entry)) (now (rows .entry)) (now (bounds .entry)) (now (names .entry))) row) (live (set (statesOf (now (figures .entry)) (now (cursors .entry))) row state) (marks (now (sure .entry)) (now (never .entry)) (queue (now (nodes .entry)) ring))
-        (linkedQueued links (queued (queue (now (waiting .entry)) dirty) (now (flags .entry))) row) (queued (queue (now (items .entry)) residuals) (now (pending .entry)))) row)
-        × (Tidy (now (figures .entry)) (now (cursors .entry)) → Tidy (now (figures .exit)) (now (cursors .exit))) ⌝ }
-{
-    let left = queue_linked(waiting, flags, dirty, row, links);
-    let answer = run_from(
-        conditions,
-        weights,
-        rows,
-        bounds,
-        names,
-        figures,
-        cursors,
-        row,
-        state,
-        sure,
-        never,
-        nodes,
-        ring,
-        items,
-        pending,
-        residuals,
-    );
-    Handed {
-        answer: answer,
-        dirty: left,
-    }
-}
-
-// `threshold_guard`: a drained guard tells its row its bound.
-pub fn threshold_guard(
-    conditions: &[u16],
-    weights: &[u64],
-    rows: &[[u16; 3]],
-    bounds: &[i64],
-    names: &[u16],
-    figures: &mut [[i64; 4]],
-    cursors: &mut [[usize; 5]],
-    row: usize,
-    node: usize,
-    bound: i64,
-    sure: &mut [u64],
-    never: &mut [u64],
-    nodes: &mut [u16],
-    ring: Ring,
-    items: &mut [u16],
-    pending: &mut [u8],
-    residuals: Ring,
-    waiting: &mut [u16],
-    flags: &mut [u8],
-    dirty: Ring,
-    links: usize,
-) -> Handed
-    requires { ⌜ Shaped (lent (now conditions) (now weights) (now rows) (now bounds) (now names)) × (row < length (now rows)) × (node < 4096) × (mag bound < 2 ^ 61) ⌝ }
-    requires { ⌜ Ready (lent (now conditions) (now weights) (now rows) (now bounds) (now names)) (2 ^ 61) (statesOf (now figures) (now cursors)) (marks (now sure) (now never) (queue (now nodes) ring)) (queued (queue (now items) residuals) (now pending)) × Flags (queued (queue (now waiting) dirty) (now flags)) ⌝ }
-    ensures { λ r. ⌜ ((x : Index) (t : Threshold) → Holds x (lent (now (conditions .entry)) (now (weights .entry)) (now (rows .entry)) (now (bounds .entry)) (now (names .entry))) → length (neighbours row (x .links)) ≡ links
-        → rowNumber (x .rows) (t .terms) ≡ row → t .node ≡ node → t .bound ≡ bound
-        → did (live (statesOf (now (figures .exit)) (now (cursors .exit))) (marks (now (sure .exit)) (now (never .exit)) (queue (now (nodes .exit)) (r .answer .ring)))
-        (queued (queue (now (waiting .exit)) (r .dirty)) (now (flags .exit))) (queued (queue (now (items .exit)) (r .answer .residuals)) (now (pending .exit)))) (r .answer .step)
-        ≡ thresholdGuard x (live (statesOf (now (figures .entry)) (now (cursors .entry))) (marks (now (sure .entry)) (now (never .entry)) (queue (now (nodes .entry)) ring))
-        (queued (queue (now (waiting .entry)) dirty) (now (flags .entry))) (queued (queue (now (items .entry)) residuals) (now (pending .entry)))) t)
-        × (Tidy (now (figures .entry)) (now (cursors .entry)) → Tidy (now (figures .exit)) (now (cursors .exit))) ⌝ }
-{
-    let state = load(figures, cursors, row);
-    let value = words::bit(sure, node);
-    let told = propagate::guard_state(state, value, bound);
-    let moved = told.state;
-    if told.changed {
-        return bounded(
-            conditions,
-            weights,
-            rows,
-            bounds,
-            names,
-            figures,
-            cursors,
-            row,
-            moved,
-            sure,
-            never,
-            nodes,
-            ring,
-            items,
-            pending,
-            residuals,
-            waiting,
-            flags,
-            dirty,
-            links,
-        );
-    }
-    let answer = Answer {
-        step: Step::Unchanged,
-        ring: ring,
-        residuals: residuals,
-    };
-    Handed {
-        answer: answer,
-        dirty: dirty,
-    }
-}
-
 // By column j, how long the stretch of an entry is.
-fn count_by(table: &[[u16; 3]], j: usize, n: usize) -> usize
+pub fn count_by(table: &[[u16; 3]], j: usize, n: usize) -> usize
     requires { ⌜ (n < length (now table)) × (j < 3) × (startBy j (now table) n ≤ endBy j (now table) n) ⌝ }
     ensures { λ r. ⌜ r ≡ endBy j (now (table .entry)) n - startBy j (now (table .entry)) n ⌝ }
 {
@@ -597,311 +454,37 @@ fn count_by(table: &[[u16; 3]], j: usize, n: usize) -> usize
     e - a
 }
 
-// The bound of a threshold, counted from 1.
-fn bound_of(limits: &[i64], t: usize) -> i64
-    requires { ⌜ (0 < t) × (t ≤ length (now limits)) ⌝ }
-    ensures { λ r. ⌜ r ≡ getD (now (limits .entry)) (t - 1) (pos 0) ⌝ }
-{
-    limits[t - 1]
-}
-
-// A row at a place of the links.
-fn link_at(links: &[u16], at: usize) -> usize
-    requires { ⌜ at < length (now links) ⌝ }
-    ensures { λ r. ⌜ r ≡ getD (now (links .entry)) at 0 ⌝ }
-{
-    thresholds::place(links[at])
-}
-
-// The guard of a node that is a threshold tells its row its bound; of any other node there is nothing to tell.
-pub fn guard_at(
-    conditions: &[u16],
-    weights: &[u64],
-    rows: &[[u16; 3]],
-    bounds: &[i64],
-    names: &[u16],
-    index: &[[u16; 3]],
-    limits: &[i64],
-    figures: &mut [[i64; 4]],
-    cursors: &mut [[usize; 5]],
-    node: usize,
-    sure: &mut [u64],
-    never: &mut [u64],
-    nodes: &mut [u16],
-    ring: Ring,
-    items: &mut [u16],
-    pending: &mut [u8],
-    residuals: Ring,
-    waiting: &mut [u16],
-    flags: &mut [u8],
-    dirty: Ring,
-) -> Handed
-    requires { ⌜ Shaped (lent (now conditions) (now weights) (now rows) (now bounds) (now names)) × GuardsShaped (lent (now conditions) (now weights) (now rows) (now bounds) (now names)) (now index) (now limits) × (node < length (now index)) × (node < 4096) × Rising 2 (now rows) ⌝ }
-    requires { ⌜ Ready (lent (now conditions) (now weights) (now rows) (now bounds) (now names)) (2 ^ 61) (statesOf (now figures) (now cursors)) (marks (now sure) (now never) (queue (now nodes) ring)) (queued (queue (now items) residuals) (now pending)) × Flags (queued (queue (now waiting) dirty) (now flags)) ⌝ }
-    ensures { λ r. ⌜ ((x : Index) → Holds x (lent (now (conditions .entry)) (now (weights .entry)) (now (rows .entry)) (now (bounds .entry)) (now (names .entry))) → HoldsGuards x (now (index .entry)) (now (limits .entry)) → CountsLinks x (now (rows .entry))
-        → did (live (statesOf (now (figures .exit)) (now (cursors .exit))) (marks (now (sure .exit)) (now (never .exit)) (queue (now (nodes .exit)) (r .answer .ring)))
-        (queued (queue (now (waiting .exit)) (r .dirty)) (now (flags .exit))) (queued (queue (now (items .exit)) (r .answer .residuals)) (now (pending .exit)))) (r .answer .step)
-        ≡ guardOf x (live (statesOf (now (figures .entry)) (now (cursors .entry))) (marks (now (sure .entry)) (now (never .entry)) (queue (now (nodes .entry)) ring))
-        (queued (queue (now (waiting .entry)) dirty) (now (flags .entry))) (queued (queue (now (items .entry)) residuals) (now (pending .entry)))) (x .thresholds) node)
-        × (Tidy (now (figures .entry)) (now (cursors .entry)) → Tidy (now (figures .exit)) (now (cursors .exit))) ⌝ }
-{
-    let t = end_by(index, 0, node);
-    if t == 0 {
-        let answer = Answer {
-            step: Step::Unchanged,
-            ring: ring,
-            residuals: residuals,
-        };
-        return Handed {
-            answer: answer,
-            dirty: dirty,
-        };
-    }
-    let row = end_by(index, 1, node);
-    let bound = bound_of(limits, t);
-    let links = count_by(rows, 2, row);
-    threshold_guard(
-        conditions,
-        weights,
-        rows,
-        bounds,
-        names,
-        figures,
-        cursors,
-        row,
-        node,
-        bound,
-        sure,
-        never,
-        nodes,
-        ring,
-        items,
-        pending,
-        residuals,
-        waiting,
-        flags,
-        dirty,
-        links,
-    )
-}
-
-// What a row answers that was told something new: at least that it changed.
-fn told(step: Step) -> Step
-    ensures { λ r. ⌜ r ≡ toldStep step ⌝ }
-{
-    if step.contradicts() {
-        return Step::Contradiction;
-    }
-    Step::Changed
-}
-
-// One neighbour of a row: a bound that is new to it is stored, it waits to hand it on, and is run. The numbers are those of the terms of the two rows.
-fn hand_on(
-    conditions: &[u16],
-    weights: &[u64],
-    rows: &[[u16; 3]],
-    bounds: &[i64],
-    names: &[u16],
-    figures: &mut [[i64; 4]],
-    cursors: &mut [[usize; 5]],
-    source: State,
-    many: usize,
-    row: usize,
-    own: usize,
-    sure: &mut [u64],
-    never: &mut [u64],
-    nodes: &mut [u16],
-    ring: Ring,
-    items: &mut [u16],
-    pending: &mut [u8],
-    residuals: Ring,
-    waiting: &mut [u16],
-    flags: &mut [u8],
-    dirty: Ring,
-) -> Handed
-    requires { ⌜ Shaped (lent (now conditions) (now weights) (now rows) (now bounds) (now names)) × (row < length (now rows)) × (mag (source .lower) < 2 ^ 61) × (mag (limit (source .upper)) < 2 ^ 61) ⌝ }
-    requires { ⌜ Ready (lent (now conditions) (now weights) (now rows) (now bounds) (now names)) (2 ^ 61) (statesOf (now figures) (now cursors)) (marks (now sure) (now never) (queue (now nodes) ring)) (queued (queue (now items) residuals) (now pending)) × Flags (queued (queue (now waiting) dirty) (now flags)) ⌝ }
-    ensures { λ r. ⌜ (did (live (statesOf (now (figures .exit)) (now (cursors .exit))) (marks (now (sure .exit)) (now (never .exit)) (queue (now (nodes .exit)) (r .answer .ring)))
-        (queued (queue (now (waiting .exit)) (r .dirty)) (now (flags .exit))) (queued (queue (now (items .exit)) (r .answer .residuals)) (now (pending .exit)))) (r .answer .step)
-        ≡ handedOn (heldRow (lent (now (conditions .entry)) (now (weights .entry)) (now (rows .entry)) (now (bounds .entry)) (now (names .entry))) row) (live (statesOf (now (figures .entry)) (now (cursors .entry))) (marks (now (sure .entry)) (now (never .entry)) (queue (now (nodes .entry)) ring))
-        (queued (queue (now (waiting .entry)) dirty) (now (flags .entry))) (queued (queue (now (items .entry)) residuals) (now (pending .entry)))) row (movedState source (getD (statesOf (now (figures .entry)) (now (cursors .entry))) row noState) many own))
-        × (Tidy (now (figures .entry)) (now (cursors .entry)) → Tidy (now (figures .exit)) (now (cursors .exit))) ⌝ }
-{
-    let state = load(figures, cursors, row);
-    let moved = propagate::moved_state(source, state, many, own);
-    let next = moved.state;
-    if moved.changed {
-        let ran = bounded(
-            conditions,
-            weights,
-            rows,
-            bounds,
-            names,
-            figures,
-            cursors,
-            row,
-            next,
-            sure,
-            never,
-            nodes,
-            ring,
-            items,
-            pending,
-            residuals,
-            waiting,
-            flags,
-            dirty,
-            1,
-        );
-        let after = ran.answer;
-        let left = ran.dirty;
-        let step = after.step;
-        let later = after.ring;
-        let rest = after.residuals;
-        let answer = Answer {
-            step: told(step),
-            ring: later,
-            residuals: rest,
-        };
-        return Handed {
-            answer: answer,
-            dirty: left,
-        };
-    }
-    let answer = Answer {
-        step: Step::Unchanged,
-        ring: ring,
-        residuals: residuals,
-    };
-    Handed {
-        answer: answer,
-        dirty: dirty,
-    }
-}
-
-// `threshold_prefixes`: a row hands its bounds on to its neighbours, in order, up to a contradiction.
-pub fn threshold_prefixes(
-    conditions: &[u16],
-    weights: &[u64],
-    rows: &[[u16; 3]],
-    bounds: &[i64],
-    names: &[u16],
-    links: &[u16],
-    figures: &mut [[i64; 4]],
-    cursors: &mut [[usize; 5]],
-    row: usize,
-    sure: &mut [u64],
-    never: &mut [u64],
-    nodes: &mut [u16],
-    ring: Ring,
-    items: &mut [u16],
-    pending: &mut [u8],
-    residuals: Ring,
-    waiting: &mut [u16],
-    flags: &mut [u8],
-    dirty: Ring,
-) -> Handed
-    requires { ⌜ Shaped (lent (now conditions) (now weights) (now rows) (now bounds) (now names)) × LinksShaped (lent (now conditions) (now weights) (now rows) (now bounds) (now names)) (now links) × (row < length (now rows)) ⌝ }
-    requires { ⌜ Ready (lent (now conditions) (now weights) (now rows) (now bounds) (now names)) (2 ^ 61) (statesOf (now figures) (now cursors)) (marks (now sure) (now never) (queue (now nodes) ring)) (queued (queue (now items) residuals) (now pending)) × Flags (queued (queue (now waiting) dirty) (now flags)) ⌝ }
-    ensures { λ r. ⌜ ((x : Index) → Holds x (lent (now (conditions .entry)) (now (weights .entry)) (now (rows .entry)) (now (bounds .entry)) (now (names .entry))) → HoldsLinks x (lent (now (conditions .entry)) (now (weights .entry)) (now (rows .entry)) (now (bounds .entry)) (now (names .entry))) (now (links .entry))
-        → did (live (statesOf (now (figures .exit)) (now (cursors .exit))) (marks (now (sure .exit)) (now (never .exit)) (queue (now (nodes .exit)) (r .answer .ring)))
-        (queued (queue (now (waiting .exit)) (r .dirty)) (now (flags .exit))) (queued (queue (now (items .exit)) (r .answer .residuals)) (now (pending .exit)))) (r .answer .step)
-        ≡ thresholdPrefixes x (live (statesOf (now (figures .entry)) (now (cursors .entry))) (marks (now (sure .entry)) (now (never .entry)) (queue (now (nodes .entry)) ring))
-        (queued (queue (now (waiting .entry)) dirty) (now (flags .entry))) (queued (queue (now (items .entry)) residuals) (now (pending .entry)))) row)
-        × (Tidy (now (figures .entry)) (now (cursors .entry)) → Tidy (now (figures .exit)) (now (cursors .exit))) ⌝ }
-{
-    let source = load(figures, cursors, row);
-    let many = count_by(rows, 0, row);
-    let end = end_by(rows, 2, row);
-    let mut at = start_by(rows, 2, row);
-    let mut so_far = Answer {
-        step: Step::Unchanged,
-        ring: ring,
-        residuals: residuals,
-    };
-    let mut left = dirty;
-    while at < end {
-        let other = link_at(links, at);
-        let own = count_by(rows, 0, other);
-        let next = so_far.ring;
-        let kept = so_far.residuals;
-        let turn = hand_on(
-            conditions,
-            weights,
-            rows,
-            bounds,
-            names,
-            figures,
-            cursors,
-            source,
-            many,
-            other,
-            own,
-            sure,
-            never,
-            nodes,
-            next,
-            items,
-            pending,
-            kept,
-            waiting,
-            flags,
-            left,
-        );
-        let answer = turn.answer;
-        let step = answer.step;
-        if step.contradicts() {
-            return turn;
-        }
-        let before = so_far.step;
-        let later = answer.ring;
-        let rest = answer.residuals;
-        let queue = turn.dirty;
-        so_far = Answer {
-            step: before.join(step),
-            ring: later,
-            residuals: rest,
-        };
-        left = queue;
-        at += 1;
-    }
-    Handed {
-        answer: so_far,
-        dirty: left,
-    }
-}
-
 // The first state of a row: nothing is drained and nothing required.
-fn first_at(conditions: &[u16], weights: &[u64], rows: &[[u16; 3]], row: usize) -> State
-    requires { ⌜ Inside 0 (now rows) (length (now conditions)) × (length (now weights) ≡ length (now conditions)) × Rising 1 (now rows) × (row < length (now rows))
-        × (total (terms (stretchBy 0 (now rows) row (now conditions)) (stretchBy 0 (now rows) row (now weights))) < 2 ^ 60) ⌝ }
-    ensures { λ r. ⌜ r ≡ firstAt (now (conditions .entry)) (now (weights .entry)) (now (rows .entry)) row ⌝ }
+fn first_at(row_conditions: &[u16], row_weights: &[u64], rows: &[[u16; 3]], row: usize) -> State
+    requires { ⌜ Inside 0 (now rows) (length (now «row_conditions»)) × (length (now «row_weights») ≡ length (now «row_conditions»)) × Rising 1 (now rows) × (row < length (now rows))
+        × (total (terms (stretchBy 0 (now rows) row (now «row_conditions»)) (stretchBy 0 (now rows) row (now «row_weights»))) < roomLimit) ⌝ }
+    ensures { λ r. ⌜ r ≡ firstAt (now («row_conditions» .entry)) (now («row_weights» .entry)) (now (rows .entry)) row ⌝ }
 {
     let a = start_by(rows, 0, row);
     let e = end_by(rows, 0, row);
-    let total = thresholds::total(&conditions[a..e], &weights[a..e]);
+    let total = thresholds::total(&row_conditions[a..e], &row_weights[a..e]);
     let guards = count_by(rows, 1, row);
     State::first(total, guards)
 }
 
 // The first states of all rows.
 pub fn first_states(
-    conditions: &[u16],
-    weights: &[u64],
+    row_conditions: &[u16],
+    row_weights: &[u64],
     rows: &[[u16; 3]],
     figures: &mut [[i64; 4]],
     cursors: &mut [[usize; 5]],
 )
-    requires { ⌜ Inside 0 (now rows) (length (now conditions)) × (length (now weights) ≡ length (now conditions)) × Rising 1 (now rows) × (length (now rows) ≤ 1024)
-        × Totals (2 ^ 60) (now conditions) (now weights) (now rows) × (length (now rows) ≤ length (statesOf (now figures) (now cursors))) ⌝ }
-    ensures { λ _. ⌜ ((x : Index) (bs : List ℤ) (ns : List ℕ) → Shaped (lent (now (conditions .entry)) (now (weights .entry)) (now (rows .entry)) bs ns)
-        → Holds x (lent (now (conditions .entry)) (now (weights .entry)) (now (rows .entry)) bs ns)
+    requires { ⌜ Inside 0 (now rows) (length (now «row_conditions»)) × (length (now «row_weights») ≡ length (now «row_conditions»)) × Rising 1 (now rows) × (length (now rows) ≤ 1024)
+        × Totals (roomLimit) (now «row_conditions») (now «row_weights») (now rows) × (length (now rows) ≤ length (statesOf (now figures) (now cursors))) ⌝ }
+    ensures { λ _. ⌜ ((x : Index) (bs : List ℤ) (ns : List ℕ) → Shaped (heldRows (now («row_conditions» .entry)) (now («row_weights» .entry)) (now (rows .entry)) bs ns)
+        → Holds x (heldRows (now («row_conditions» .entry)) (now («row_weights» .entry)) (now (rows .entry)) bs ns)
         → statesOf (now (figures .exit)) (now (cursors .exit)) ≡ firstStates 0 (x .rows) (statesOf (now (figures .entry)) (now (cursors .entry))))
         × (Tidy (now (figures .entry)) (now (cursors .entry)) → Tidy (now (figures .exit)) (now (cursors .exit))) ⌝ }
 {
     let mut at: usize = 0;
     while at < rows.len() {
-        let state = first_at(conditions, weights, rows, at);
+        let state = first_at(row_conditions, row_weights, rows, at);
         store(figures, cursors, at, state);
         at += 1;
     }
@@ -909,67 +492,58 @@ pub fn first_states(
 
 // `seed_thresholds`: each row is run once, in order, up to a contradiction.
 pub fn seed_thresholds(
-    conditions: &[u16],
-    weights: &[u64],
+    row_conditions: &[u16],
+    row_weights: &[u64],
     rows: &[[u16; 3]],
-    bounds: &[i64],
-    names: &[u16],
+    guard_bounds: &[i64],
+    guard_nodes: &[u16],
     figures: &mut [[i64; 4]],
     cursors: &mut [[usize; 5]],
     sure: &mut [u64],
     never: &mut [u64],
-    nodes: &mut [u16],
-    ring: Ring,
-    items: &mut [u16],
-    pending: &mut [u8],
-    residuals: Ring,
-) -> Answer
-    requires { ⌜ Shaped (lent (now conditions) (now weights) (now rows) (now bounds) (now names)) ⌝ }
-    requires { ⌜ Ready (lent (now conditions) (now weights) (now rows) (now bounds) (now names)) (2 ^ 61) (statesOf (now figures) (now cursors)) (marks (now sure) (now never) (queue (now nodes) ring)) (queued (queue (now items) residuals) (now pending)) ⌝ }
-    ensures { λ r. ⌜ ((x : Index) (d : Rows) → Holds x (lent (now (conditions .entry)) (now (weights .entry)) (now (rows .entry)) (now (bounds .entry)) (now (names .entry)))
-        → did (live (statesOf (now (figures .exit)) (now (cursors .exit))) (marks (now (sure .exit)) (now (never .exit)) (queue (now (nodes .exit)) (r .ring)))
-        d (queued (queue (now (items .exit)) (r .residuals)) (now (pending .exit)))) (r .step)
-        ≡ seedFrom x 0 (x .rows) (live (statesOf (now (figures .entry)) (now (cursors .entry))) (marks (now (sure .entry)) (now (never .entry)) (queue (now (nodes .entry)) ring))
-        d (queued (queue (now (items .entry)) residuals) (now (pending .entry)))) Step.Unchanged)
+    node_queue: &mut [u16],
+    row_queues: &mut [[u16; 4]],
+    rings: Rings,
+) -> Did
+    requires { ⌜ Shaped (heldRows (now «row_conditions») (now «row_weights») (now rows) (now «guard_bounds») (now «guard_nodes»)) ⌝ }
+    requires { ⌜ ReadyLive (heldRows (now «row_conditions») (now «row_weights») (now rows) (now «guard_bounds») (now «guard_nodes»)) figureLimit
+        (liveOf (now figures) (now cursors) (now sure) (now never) (now «node_queue») (now «row_queues») rings) ⌝ }
+    ensures { λ r. ⌜ ((x : Index) → Holds x (heldRows (now («row_conditions» .entry)) (now («row_weights» .entry)) (now (rows .entry)) (now («guard_bounds» .entry)) (now («guard_nodes» .entry)))
+        → did (liveOf (now (figures .exit)) (now (cursors .exit)) (now (sure .exit)) (now (never .exit)) (now («node_queue» .exit)) (now («row_queues» .exit)) (r .rings)) (r .step)
+        ≡ seedFrom x 0 (x .rows) (liveOf (now (figures .entry)) (now (cursors .entry)) (now (sure .entry)) (now (never .entry)) (now («node_queue» .entry)) (now («row_queues» .entry)) rings) Step.Unchanged)
         × (Tidy (now (figures .entry)) (now (cursors .entry)) → Tidy (now (figures .exit)) (now (cursors .exit))) ⌝ }
 {
     let mut row: usize = 0;
-    let mut so_far = Answer {
+    let mut so_far = Did {
         step: Step::Unchanged,
-        ring: ring,
-        residuals: residuals,
+        rings: rings,
     };
     while row < rows.len() {
-        let next = so_far.ring;
-        let left = so_far.residuals;
+        let stand = so_far.rings;
         let turn = run_at(
-            conditions,
-            weights,
+            row_conditions,
+            row_weights,
             rows,
-            bounds,
-            names,
+            guard_bounds,
+            guard_nodes,
             figures,
             cursors,
-            row,
             sure,
             never,
-            nodes,
-            next,
-            items,
-            pending,
-            left,
+            node_queue,
+            row_queues,
+            stand,
+            row,
         );
         let step = turn.step;
         if step.contradicts() {
             return turn;
         }
         let before = so_far.step;
-        let later = turn.ring;
-        let rest = turn.residuals;
-        so_far = Answer {
+        let left = turn.rings;
+        so_far = Did {
             step: before.join(step),
-            ring: later,
-            residuals: rest,
+            rings: left,
         };
         row += 1;
     }

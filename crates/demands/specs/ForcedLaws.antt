@@ -6,7 +6,7 @@ use mathlib.Core.Bool.{true, false}
 use mathlib.Core.List.{List}
 use Rattle.numeric.specs.Layout.{Layout, IsLayout}
 use Rattle.words.specs.Mask.{bit}
-use Rattle.planner.specs.File.{File, planned}
+use Rattle.planner.specs.File.{File, contradicted, planned}
 use Rattle.follows.specs.Answers.{clash}
 use Rattle.layouts.specs.Turns.{Fits}
 use Rattle.layouts.specs.Files.{file-layouts}
@@ -14,19 +14,19 @@ use Rattle.demands.specs.Reading.{Agrees}
 use Rattle.demands.specs.RefusalLaws.{taken}
 
 -- what the records left is what the file is
-agreed : (input : List ℕ) (v : Layout) → IsLayout (planned input .file .job) v → Agrees (planned input .records) v
-    → Fits v (planned input .file .live .marks) × (planned input .file .contradicted ≡ false)
+agreed : (input : List ℕ) (v : Layout) → IsLayout (planned input .file .closed) v → Agrees (planned input .records) v
+    → Fits v (planned input .file .live .marks) × (contradicted (planned input .file) ≡ false)
 agreed input v is a =
-    subst (λ (f : File). IsLayout (f .job) v → Fits v (f .live .marks) × (f .contradicted ≡ false)) (sym (taken input)) (λ l. file-layouts input v l a) is
+    subst (λ (f : File). IsLayout (f .closed) v → Fits v (f .live .marks) × (contradicted f ≡ false)) (sym (taken input)) (λ l. file-layouts input v l a) is
 
-pub forced-sure : (input : List ℕ) (v : Layout) → IsLayout (planned input .file .job) v → Agrees (planned input .records) v
+pub forced-sure : (input : List ℕ) (v : Layout) → IsLayout (planned input .file .closed) v → Agrees (planned input .records) v
     → (n : ℕ) → bit (planned input .file .live .marks .sure) n ≡ true → v n ≡ true
 forced-sure input v is a n e = agreed input v is a .0 true n e
 
-pub forced-never : (input : List ℕ) (v : Layout) → IsLayout (planned input .file .job) v → Agrees (planned input .records) v
+pub forced-never : (input : List ℕ) (v : Layout) → IsLayout (planned input .file .closed) v → Agrees (planned input .records) v
     → (n : ℕ) → bit (planned input .file .live .marks .never) n ≡ true → v n ≡ false
 forced-never input v is a n e = agreed input v is a .0 false n e
 
-pub no-layout : (input : List ℕ) → planned input .file .contradicted ≡ true
-    → (v : Layout) → IsLayout (planned input .file .job) v → Agrees (planned input .records) v → ⊥
-no-layout input c v is a = clash (planned input .file .contradicted) c (agreed input v is a .1)
+pub no-layout : (input : List ℕ) → contradicted (planned input .file) ≡ true
+    → (v : Layout) → IsLayout (planned input .file .closed) v → Agrees (planned input .records) v → ⊥
+no-layout input c v is a = clash (contradicted (planned input .file)) c (agreed input v is a .1)

@@ -1,5 +1,5 @@
--- What each record that is taken keeps: queues and gcds as long as they were cleared, terms and answers within the limits.
-use Prim.Native.Nat.{ℕ, zero, suc, _+_, _%_, _<_, _≤_}
+-- What each record that is taken keeps: queues and gcds as long as they were cleared, answers within the limit.
+use Prim.Native.Nat.{ℕ, zero, suc, _+_, _%_, _≤_}
 use native.Mathlib.Omega.{arith}
 use mathlib.Core.Path.{_≡_, refl, sym, ap, _∙_, subst}
 use mathlib.Core.Bool.{Bool, true, false, cond}
@@ -7,8 +7,7 @@ use mathlib.Core.List.{List, [], _∷_, _++_}
 use lib.ListN.{length, length-append, getD, set, length-set, length-replicate}
 use lib.Dec.{eqb, leb}
 use borrow.Author.Tests.{leb-false}
-use Rattle.numeric.specs.Area.{weightOfArea}
-use Rattle.numeric.specs.Threshold.{Term, term, Threshold}
+use Rattle.numeric.specs.Threshold.{Term, Threshold}
 use Rattle.state.specs.declared.Step.{Step}
 use Rattle.state.specs.declared.Step.the-variants.{Unchanged, Changed, Contradiction}
 use Rattle.state.specs.declared.State.{State}
@@ -18,7 +17,6 @@ use Rattle.words.specs.Mask.{bit}
 use Rattle.queues.specs.Queue.{Queue, Rows, rows, push, popped, queueRow, nextRow, isEmpty, oldest}
 use Rattle.queues.specs.Marks.{Marks, marks, waiting, decide, isDecided}
 use Rattle.queues.specs.MarksLaws.{decide-waits}
-use Rattle.row.specs.TermsLaws.{All as Every}
 use Rattle.thresholds.specs.Rows.{Row, noRow, Edge, edgesOf, rowNumber}
 use Rattle.prefixes.specs.Links.{neighbours}
 use Rattle.propagate.specs.declared.Tightened.{Tightened}
@@ -32,17 +30,17 @@ use Rattle.regions.specs.Drain.{indexOf, withMarks, takeNode, takeRow, turn, at
 use Rattle.regions.specs.Drain as Drain
 use Rattle.regions.specs.Sift.{Sifted, tryRow, siftFrom}
 use Rattle.regions.specs.Sift as Sift
-use Rattle.records.specs.Record.{Record, header, opens, adds, areas, seal, mark, settle, sift, unknown}
-use Rattle.job.specs.Job.{lastTerms, allTerms, addTerm}
-use Rattle.planner.specs.File.{File, Answer, settled, sifted, begun, refusal, tooMany, tooManyTerms, apply, settledFile, siftedFile, after, readFrom, fileOf}
+use Rattle.records.specs.declared.Record.{Record}
+use Rattle.records.specs.Facts.{Action, begins, changes, closes, decides, settles, sifts, idles, action, facts}
+use Rattle.records.specs.Checks.{tooMany}
+use Rattle.planner.specs.File.{File, Answer, settled, sifted, begun, standing, refusal, sealedFile, markedFile, settledFile, siftedFile, act, apply, after, readFrom, fileOf}
 use Rattle.planner.specs.FileLaws.{read-taken}
 use Rattle.ends.specs.Keeps.{keeps-row, keeps-residual}
 use Rattle.ends.specs.Turns.{Indexed}
 use Rattle.ends.specs.Settles.{tries}
-use Rattle.ends.specs.Built.{every-last, indexed}
+use Rattle.ends.specs.Built.{indexed}
+use Rattle.ends.specs.SizeLaws.{row-terms-few}
 use Rattle.ends.specs.Files.{Good, good-begun, taken, good-apply, Passed, read-passed}
-use Rattle.follows.specs.Answers.{or-false}
-use Rattle.demands.specs.SizeLaws.{Short, row-terms-few}
 
 -- ---- QUEUES KEEP THEIR LENGTH
 
@@ -291,8 +289,8 @@ module _ (x : Index) (ix : Indexed x) where
         by ih false false true = tried
         by ih false false false = ih _ _ _ _ (tried .0) (tried .1)
 
-    sifts : (v : Live) (gcds : List ℕ) → Long v → length gcds ≡ 1025 → Sifts (Sift.sift x v gcds)
-    sifts v gcds l e = sifts-from Drain.turns v gcds Unchanged 0 l e
+    sifts-long : (v : Live) (gcds : List ℕ) → Long v → length gcds ≡ 1025 → Sifts (Sift.sift x v gcds)
+    sifts-long v gcds l e = sifts-from Drain.turns v gcds Unchanged 0 l e
 
 -- ---- THE FILE
 
@@ -301,101 +299,55 @@ pub record Kept (f : File) : Type 0 where
   pub good : Good f
   pub live : Long (f .live)
   pub gcds : length (f .gcds) ≡ 1025
-  pub terms : allTerms (f .job .thresholds) ≤ 4096
-  pub each : Every Short (f .job .thresholds)
   pub answers : length (f .answers) ≤ 64
 
 kept-begun : Kept begun
-unfolding begun allTerms
+unfolding begun
 kept-begun = record {
   good = good-begun;
   live = record { nodes = length-replicate {A = ℕ} 4096 0; dirty = length-replicate {A = ℕ} 1024 0; residuals = length-replicate {A = ℕ} 1024 0 };
   gcds = length-replicate {A = ℕ} 1025 0;
-  terms = omega arith;
-  each = tt;
   answers = omega arith;
 }
 
-all-term : (x : Term) (ts : List Threshold) → allTerms (addTerm x ts) ≤ allTerms ts + 1
-unfolding allTerms addTerm
-all-term x [] = omega arith
-all-term x (t ∷ []) = omega (arith, length-append (t .terms) (x ∷ []))
-all-term x (t ∷ u ∷ us) = omega (arith, all-term x (u ∷ us))
-
-short-term : (x : Term) (ts : List Threshold) → lastTerms ts < 1024 → Every Short ts → Every Short (addTerm x ts)
-unfolding lastTerms addTerm
-short-term x [] h a = tt
-short-term x (t ∷ []) h a = (omega (arith, length-append (t .terms) (x ∷ [])), tt)
-short-term x (t ∷ u ∷ us) h a = (a .0, short-term x (u ∷ us) h (a .1))
-
-all-open : (t : Threshold) (ts : List Threshold) → t .terms ≡ [] → allTerms (ts ++ (t ∷ [])) ≡ allTerms ts
-unfolding allTerms
-all-open t [] e = omega (arith, ap length e)
-all-open t (u ∷ ts) e = omega (arith, all-open t ts e)
-
 module _ (f : File) (k : Kept f) where
-  job-index : Indexed (indexOf (f .job))
-  job-index = indexed (f .job) (k .good .job)
-
-  kept-term : (x : Term) → tooManyTerms f ≡ false → (allTerms (addTerm x (f .job .thresholds)) ≤ 4096) × Every Short (addTerm x (f .job .thresholds))
-  kept-term x h =
-      let n = or-false (leb 1024 (lastTerms (f .job .thresholds))) (leb 4096 (allTerms (f .job .thresholds))) h in (
-        omega (arith, all-term x (f .job .thresholds), leb-false 4096 (allTerms (f .job .thresholds)) (n .1)),
-        short-term x (f .job .thresholds) (leb-false 1024 (lastTerms (f .job .thresholds)) (n .0)) (k .each),
-      )
-
   one-more : (a : Answer) → leb 64 (length (f .answers)) ≡ false → length (f .answers ++ (a ∷ [])) ≤ 64
   one-more a h = omega (arith, length-append (f .answers) (a ∷ []), leb-false 64 (length (f .answers)) h)
 
-  kept-by : (r : Record) → tooMany f r ≡ false → Good (apply f r) → Kept (apply f r)
-  unfolding apply settledFile siftedFile Drain.mark allTerms
-  kept-by (header n) h g = record { good = g; live = k .live; gcds = k .gcds; terms = omega arith; each = tt; answers = k .answers }
-  kept-by (opens n b) h g =
-      let t : Threshold = record { node = n; bound = b; terms = [] } in
-      record {
-        good = g;
-        live = k .live;
-        gcds = k .gcds;
-        terms = omega (arith, all-open t (f .job .thresholds) refl, k .terms);
-        each = every-last Short (f .job .thresholds) t (k .each) (omega arith);
-        answers = k .answers;
-      }
-  kept-by (adds c w) h g =
-      let n = kept-term (term c w) h in record { good = g; live = k .live; gcds = k .gcds; terms = n .0; each = n .1; answers = k .answers }
-  kept-by (areas c a) h g =
-      let n = kept-term (term c (weightOfArea a)) h in record { good = g; live = k .live; gcds = k .gcds; terms = n .0; each = n .1; answers = k .answers }
-  kept-by seal h g = record {
+  kept-by : (a : Action) → tooMany (standing f) (facts a .counts) ≡ false → Good (act f a) → Kept (act f a)
+  unfolding act sealedFile markedFile settledFile siftedFile Drain.mark
+  kept-by (begins n) h g = record { good = g; live = k .live; gcds = k .gcds; answers = k .answers }
+  kept-by (changes c) h g = record { good = g; live = k .live; gcds = k .gcds; answers = k .answers }
+  kept-by closes h g = record {
     good = g;
-    live = long-seal (indexOf (f .job)) job-index (f .live) (k .live);
+    live = long-seal (indexOf (f .job)) (indexed (f .job) (k .good .job)) (f .live) (k .live);
     gcds = k .gcds;
-    terms = k .terms;
-    each = k .each;
     answers = k .answers;
   }
-  kept-by (mark n v) h g = record {
+  kept-by (decides n v) h g = record {
     good = g;
     live = record { nodes = decide-long (eqb v 1) (f .live .marks) n ∙ k .live .nodes; dirty = k .live .dirty; residuals = k .live .residuals };
     gcds = k .gcds;
-    terms = k .terms;
-    each = k .each;
     answers = k .answers;
   }
-  kept-by settle h g = record {
-    good = g;
-    live = long-settle (indexOf (f .job)) job-index (f .live) (k .live);
-    gcds = k .gcds;
-    terms = k .terms;
-    each = k .each;
-    answers = one-more (settled (Drain.settle (indexOf (f .job)) (f .live) .step)) h;
-  }
-  kept-by sift h g =
-      let s = Sift.sift (indexOf (f .job)) (f .live) (f .gcds) in
-      let q = sifts (indexOf (f .job)) job-index (row-terms-few (f .job) (k .each)) (f .live) (f .gcds) (k .live) (k .gcds) in
-      record { good = g; live = q .0; gcds = q .1; terms = k .terms; each = k .each; answers = one-more (sifted (s .step) (s .visits)) h }
-  kept-by unknown h g = record { good = g; live = k .live; gcds = k .gcds; terms = k .terms; each = k .each; answers = k .answers }
+  kept-by settles h g =
+      let x = indexOf (f .closed) in
+      record {
+        good = g;
+        live = long-settle x (indexed (f .closed) (k .good .closed)) (f .live) (k .live);
+        gcds = k .gcds;
+        answers = one-more (settled (Drain.settle x (f .live) .step)) h;
+      }
+  kept-by sifts h g =
+      let x = indexOf (f .closed) in
+      let s = Sift.sift x (f .live) (f .gcds) in
+      let q = sifts-long x (indexed (f .closed) (k .good .closed)) (row-terms-few (f .closed) (k .good .closed)) (f .live) (f .gcds) (k .live) (k .gcds) in
+      record { good = g; live = q .0; gcds = q .1; answers = one-more (sifted (s .step) (s .visits)) h }
+  kept-by (idles x) h g = record { good = g; live = k .live; gcds = k .gcds; answers = k .answers }
 
   kept-apply : (r : Record) → refusal f r ≡ 0 → Kept (apply f r)
-  kept-apply r h = kept-by r (taken f r h .room) (good-apply f (k .good) r h)
+  unfolding apply
+  kept-apply r h = kept-by (action r) (taken f r h .room) (good-apply f (k .good) r h)
 
 kept-after : (f : File) (rs : List Record) → Kept f → Passed f rs → Kept (after f rs)
 unfolding after

@@ -6,7 +6,6 @@ pub mod JobLaws
 pub mod ReadLaws
 pub mod ShutOutLaws
 pub mod MemoryLaws
-pub mod SizeLaws
 pub mod KeptLaws
 pub mod LengthLaws
 pub mod ForcedLaws
@@ -15,4 +14,5 @@ pub mod MarksLaws
 pub mod ReadOnLaws
 pub mod OrderLaws
 pub mod PassesLaws
+pub mod CallLaws
 pub mod Met

@@ -2,13 +2,12 @@
 use Prim.Native.Nat.{ℕ}
 use native.Mathlib.Omega.{arith}
 use mathlib.Core.Path.{_≡_, refl, sym, ap, _∙_}
-use mathlib.Core.Bool.{true, cond, _&&_}
+use mathlib.Core.Bool.{true, cond}
 use mathlib.Core.List.{List, [], _∷_}
-use lib.ListN.{length, replicate}
-use lib.Dec.{leb}
+use lib.ListN.{length, getD, replicate}
 use lib.IntN.{pos}
 use Rattle.thresholds.specs.Rows.{rowsOf}
-use Rattle.memory.specs.Buffers.{Work, enoughRaw, enoughBuilt, enoughKept, fits, zeros, cleared, clearRaw, clearBuilt, clearKept}
+use Rattle.memory.specs.Buffers.{Work, rawLists, raw, heldRows, built, kept, work, lengths, fitsBy, fits, zeros, cleared, clearRaw, clearBuilt, clearKept}
 use Rattle.planner.specs.File.{Outcome, fileOf}
 use Rattle.planner.specs.Contents.{Out, laid, whole}
 use Rattle.demands.specs.Demands.{SameLengths}
@@ -24,50 +23,46 @@ zeros-same z (x ∷ l) (y ∷ m) e = ap (λ (t : List _). z ∷ t) (zeros-same z
 
 module _ (v w : Work) (h : SameLengths v w) where
   fits-same : (input : List ℕ) → fits input v ≡ fits input w
-  unfolding fits
-  fits-same input = λ i.
-      enoughRaw (h .raw-conditions i) (h .raw-weights i) (h .thresholds i) (h .bounds i)
-      && enoughBuilt (h .row-conditions i) (h .row-weights i) (h .rows i) (h .guard-bounds i) (h .guard-nodes i) (h .nodes i) (h .edges i) (h .links i) (h .scratch i)
-      && enoughKept (h .figures i) (h .cursors i) (h .sure i) (h .never i) (h .search i) (h .gcds i) (h .node-queue i) (h .row-queue i) (h .residual-queue i)
-      (h .row-pending i) (h .residual-pending i) (h .answers i) (h .visits i)
-      && leb (length input) 65536
+  fits-same input = ap (λ (ms : List ℕ). fitsBy ms (length input)) h
+
+  at : (i : ℕ) → getD (lengths v) i 0 ≡ getD (lengths w) i 0
+  at i = ap (λ (ms : List ℕ). getD ms i 0) h
+
+  raw-same : clearRaw (v .raw) ≡ clearRaw (w .raw)
+  unfolding clearRaw
+  raw-same =
+      let a = v .raw .lists in
+      let b = w .raw .lists in
+      λ i. raw
+      (rawLists (zeros-same 0 (a .raw-conditions) (b .raw-conditions) (at 0) i) (zeros-same 0 (a .raw-weights) (b .raw-weights) (at 1) i)
+      (zeros-same (replicate 2 0) (a .thresholds) (b .thresholds) (at 2) i))
+      (zeros-same (pos 0) (v .raw .bounds) (w .raw .bounds) (at 3) i)
+
+  built-same : clearBuilt (v .built) ≡ clearBuilt (w .built)
+  unfolding clearBuilt
+  built-same =
+      let a = v .built .held in
+      let b = w .built .held in
+      λ i. built
+      (heldRows (zeros-same 0 (a .row-conditions) (b .row-conditions) (at 4) i) (zeros-same 0 (a .row-weights) (b .row-weights) (at 5) i)
+      (zeros-same (replicate 3 0) (a .rows) (b .rows) (at 6) i) (zeros-same (pos 0) (a .guard-bounds) (b .guard-bounds) (at 7) i)
+      (zeros-same 0 (a .guard-nodes) (b .guard-nodes) (at 8) i))
+      (zeros-same (replicate 3 0) (v .built .nodes) (w .built .nodes) (at 9) i) (zeros-same (replicate 2 0) (v .built .edges) (w .built .edges) (at 10) i)
+      (zeros-same 0 (v .built .links) (w .built .links) (at 11) i)
+
+  kept-same : clearKept (v .kept) ≡ clearKept (w .kept)
+  unfolding clearKept
+  kept-same =
+      let a = v .kept in
+      let b = w .kept in
+      λ i. kept (zeros-same (replicate 4 (pos 0)) (a .figures) (b .figures) (at 12) i) (zeros-same (replicate 5 0) (a .cursors) (b .cursors) (at 13) i)
+      (zeros-same 0 (a .sure) (b .sure) (at 14) i) (zeros-same 0 (a .never) (b .never) (at 15) i) (zeros-same 0 (a .search) (b .search) (at 16) i)
+      (zeros-same 0 (a .gcds) (b .gcds) (at 17) i) (zeros-same 0 (a .node-queue) (b .node-queue) (at 18) i)
+      (zeros-same (replicate 4 0) (a .row-queues) (b .row-queues) (at 19) i) (zeros-same (replicate 2 0) (a .answers) (b .answers) (at 20) i)
 
   cleared-same : cleared v ≡ cleared w
-  unfolding cleared clearRaw clearBuilt clearKept
-  cleared-same = λ i. record {
-    raw = record {
-      raw-conditions = zeros-same 0 (v .raw .raw-conditions) (w .raw .raw-conditions) (h .raw-conditions) i;
-      raw-weights = zeros-same 0 (v .raw .raw-weights) (w .raw .raw-weights) (h .raw-weights) i;
-      thresholds = zeros-same (replicate 2 0) (v .raw .thresholds) (w .raw .thresholds) (h .thresholds) i;
-      bounds = zeros-same (pos 0) (v .raw .bounds) (w .raw .bounds) (h .bounds) i;
-    };
-    built = record {
-      row-conditions = zeros-same 0 (v .built .row-conditions) (w .built .row-conditions) (h .row-conditions) i;
-      row-weights = zeros-same 0 (v .built .row-weights) (w .built .row-weights) (h .row-weights) i;
-      rows = zeros-same (replicate 3 0) (v .built .rows) (w .built .rows) (h .rows) i;
-      guard-bounds = zeros-same (pos 0) (v .built .guard-bounds) (w .built .guard-bounds) (h .guard-bounds) i;
-      guard-nodes = zeros-same 0 (v .built .guard-nodes) (w .built .guard-nodes) (h .guard-nodes) i;
-      nodes = zeros-same (replicate 3 0) (v .built .nodes) (w .built .nodes) (h .nodes) i;
-      edges = zeros-same (replicate 2 0) (v .built .edges) (w .built .edges) (h .edges) i;
-      links = zeros-same 0 (v .built .links) (w .built .links) (h .links) i;
-      scratch = zeros-same 0 (v .built .scratch) (w .built .scratch) (h .scratch) i;
-    };
-    kept = record {
-      figures = zeros-same (replicate 4 (pos 0)) (v .kept .figures) (w .kept .figures) (h .figures) i;
-      cursors = zeros-same (replicate 5 0) (v .kept .cursors) (w .kept .cursors) (h .cursors) i;
-      sure = zeros-same 0 (v .kept .sure) (w .kept .sure) (h .sure) i;
-      never = zeros-same 0 (v .kept .never) (w .kept .never) (h .never) i;
-      search = zeros-same 0 (v .kept .search) (w .kept .search) (h .search) i;
-      gcds = zeros-same 0 (v .kept .gcds) (w .kept .gcds) (h .gcds) i;
-      node-queue = zeros-same 0 (v .kept .node-queue) (w .kept .node-queue) (h .node-queue) i;
-      row-queue = zeros-same 0 (v .kept .row-queue) (w .kept .row-queue) (h .row-queue) i;
-      residual-queue = zeros-same 0 (v .kept .residual-queue) (w .kept .residual-queue) (h .residual-queue) i;
-      row-pending = zeros-same 0 (v .kept .row-pending) (w .kept .row-pending) (h .row-pending) i;
-      residual-pending = zeros-same 0 (v .kept .residual-pending) (w .kept .residual-pending) (h .residual-pending) i;
-      answers = zeros-same 0 (v .kept .answers) (w .kept .answers) (h .answers) i;
-      visits = zeros-same 0 (v .kept .visits) (w .kept .visits) (h .visits) i;
-    };
-  }
+  unfolding cleared
+  cleared-same = λ i. work (raw-same i) (built-same i) (kept-same i)
 
 -- What the call gives, over memory that is cleared.
 abbrev over-cleared : Outcome → Work → Out
@@ -76,7 +71,8 @@ over-cleared o c = record {
   at = o .at;
   sealed = o .file .sealed;
   nodes = o .file .job .nodes;
-  rows = cond (o .file .sealed) (length (rowsOf (o .file .job))) 0;
+  rows = cond (o .file .sealed) (length (rowsOf (o .file .closed))) 0;
+  last = o .file .last;
   answered = length (o .file .answers);
   work = laid (o .file) c;
 }

@@ -1,16 +1,14 @@
 -- WHICH DEMANDS ARE MET: a value of the type that states each. The proofs stand in the files named `Laws` beside this one, and in `ends`.
-use mathlib.Core.Path.{refl}
-use mathlib.Core.Logic.{inl}
 use Rattle.possible_sums.specs.SearchLaws as SearchLaws
-use Rattle.records.specs.Record.{settle}
 use Rattle.ends.specs.Files as Files
-use Rattle.demands.specs.Demands.{Demand1, Demand2, Demand3, ClauseA, ClauseC}
+use Rattle.demands.specs.Demands.{Demand1, Demand2, Demand3, Call, ClauseA, ClauseC}
 use Rattle.demands.specs.RefusalLaws as Refusals
 use Rattle.demands.specs.ReadLaws as Reads
 use Rattle.demands.specs.ForcedLaws as Forced
 use Rattle.demands.specs.SettleLaws as Settles
 use Rattle.demands.specs.MarksLaws as Marks
 use Rattle.demands.specs.OrderLaws as Order
+use Rattle.demands.specs.CallLaws as Calls
 use Rattle.demands.specs.MemoryLaws as Memory
 use Rattle.demands.specs.LengthLaws as Lengths
 use Rattle.demands.specs.ShutOutLaws as ShutOut
@@ -34,6 +32,7 @@ demand1 = record {
 -- DEMAND 2, whole
 pub demand2 : Demand2
 demand2 = record {
+  closed-job = Refusals.closed-job;
   forced-sure = Forced.forced-sure;
   forced-never = Forced.forced-never;
   no-layout = Forced.no-layout;
@@ -51,6 +50,19 @@ demand3 = record {
   order-does-not-matter = Order.order-does-not-matter;
 }
 
+-- BOTH, of the call and the words in its buffers
+pub call : Call
+call = record {
+  forced-sure = Calls.forced-sure;
+  forced-never = Calls.forced-never;
+  no-layout = Calls.no-layout;
+  seals = Calls.seals;
+  marks = Calls.marks;
+  settles = Calls.settles;
+  settles-from-marks = Calls.settles-from-marks;
+  order-does-not-matter = Calls.order-does-not-matter;
+}
+
 -- CLAUSE A, whole
 pub clauseA : ClauseA
 clauseA = record { memory = Memory.memory; lengths = Lengths.lengths; files = Refusals.files }
@@ -59,9 +71,10 @@ clauseA = record { memory = Memory.memory; lengths = Lengths.lengths; files = Re
 pub clauseC : ClauseC
 clauseC = record {
   cuts-each-search = ShutOut.cuts-each-search;
-  invents-visits = SearchLaws.invents-visits;
+  invents-visits = ShutOut.invents-visits;
   sift-visits = ShutOut.sift-visits;
-  drains-one-node = λ input before later e h. Files.ends input before later settle e (inl refl) h;
+  visits-allowed = SearchLaws.search-visits;
+  drains-one-node = ShutOut.drains-one-node;
   leaves-all-undecided = ShutOut.leaves-all-undecided;
   always-contradicts = ShutOut.always-contradicts;
   refuses-each-file = ShutOut.refuses-each-file;

@@ -4,7 +4,7 @@ use Prim.Native.Nat.{ℕ, _<_}
 use native.Mathlib.Omega.{arith}
 use mathlib.Core.Path.{_≡_, refl, sym, ap, ap₂, _∙_, subst}
 use mathlib.Core.Bool.{Bool, true, false, cond, _||_, _&&_}
-use mathlib.Core.List.{List, [], _∷_, _++_, List·Memᴰ, List·Memᴰ·head, List·Memᴰ·tail, List·Memᴰ·cases-cons, List·Memᴰ·not-nil, Memᴰ·append-left, List·Memᴰ·append-cases, List·Memᴰ·eq-of-singleton}
+use mathlib.Core.List.{List, [], _∷_, _++_, map, map-append, List·Memᴰ, List·Memᴰ·head, List·Memᴰ·tail, List·Memᴰ·cases-cons, List·Memᴰ·not-nil, Memᴰ·append-left, List·Memᴰ·append-cases, List·Memᴰ·eq-of-singleton}
 use mathlib.Core.Logic.{_⊎_, inl, inr, ⊎-elim}
 use lib.ListN.{length}
 use lib.Dec.{eqb}
@@ -13,17 +13,19 @@ use lib.Signed.{≤ℤ-refl}
 use borrow.Author.Tests.{eq-eqb, eqb-true}
 use Rattle.numeric.specs.Threshold.{Job}
 use Rattle.thresholds.specs.Rows.{Row, rowsOf}
-use Rattle.records.specs.Record.{Record, header, opens, adds, areas, seal, mark, settle, sift, unknown}
-use Rattle.planner.specs.File.{File, begun, apply, settledFile, after, planned}
+use Rattle.records.specs.declared.Record.{Record}
+use Rattle.records.specs.declared.Record.the-variants.{Settle}
+use Rattle.records.specs.Facts.{Action, begins, changes, closes, decides, settles, sifts, idles, action}
+use Rattle.planner.specs.File.{File, contradicted, begun, settledFile, act, apply, after, planned}
 use Rattle.planner.specs.FileLaws.{after-snoc}
-use Rattle.ends.specs.Files.{Passed, planned-passed}
+use Rattle.ends.specs.Files.{both, taken as accepts, serving-turn, Passed, planned-passed}
 use Rattle.table.specs.Table.{Table, knownOf, possibleOf}
 use Rattle.table.specs.TableLaws.{Le, follows-more}
-use Rattle.follows.specs.Answers.{true-false, clash, and-left, and-right, or-true}
+use Rattle.follows.specs.Answers.{true-false, and-left, and-right, or-true}
 use Rattle.follows.specs.Decide.{Broken}
 use Rattle.settles.specs.Records.{keeps-begun, keeps-after}
 use Rattle.settles.specs.Still.{Still, not-broken, known-is, possible-is, one-table, settle-still}
-use Rattle.demands.specs.Reading.{Marked, SameMarks, NoSift, markedNode, marksOnly, SameFigures, records, decoded, plainly, plainlyAll, Passes}
+use Rattle.demands.specs.Reading.{Marked, SameMarks, NoSift, marks, markedNode, marksOnly, SameFigures, records, decoded, plain, plainly, plainlyAll, Passes}
 use Rattle.demands.specs.RefusalLaws.{taken}
 use Rattle.demands.specs.SettleLaws.{passed-here, start-same}
 use Rattle.demands.specs.MarksLaws.{marked-append, marks-same, marking}
@@ -33,38 +35,37 @@ use Rattle.demands.specs.ReadOnLaws.{Over, planned-over, level-same, lev
 
 marked-mem : (b : Bool) (rs : List Record) (n : ℕ) → markedNode b rs n ≡ true → Marked rs n b
 unfolding markedNode
-marked-mem b [] n h = absurd (clash false h refl)
-marked-mem b (mark m v ∷ rs) n h =
-    ⊎-elim (λ (e : (eqb m n && eqb v (cond b 1 0)) ≡ true).
-    List·Memᴰ·head (sym (ap₂ mark (eqb-true m n (and-left (eqb m n) (eqb v (cond b 1 0)) e)) (eqb-true v (cond b 1 0) (and-right (eqb m n) (eqb v (cond b 1 0)) e)))))
-    (λ e. List·Memᴰ·tail (marked-mem b rs n e)) (or-true (eqb m n && eqb v (cond b 1 0)) (markedNode b rs n) h)
-marked-mem b (header x ∷ rs) n h = List·Memᴰ·tail (marked-mem b rs n h)
-marked-mem b (opens x y ∷ rs) n h = List·Memᴰ·tail (marked-mem b rs n h)
-marked-mem b (adds x y ∷ rs) n h = List·Memᴰ·tail (marked-mem b rs n h)
-marked-mem b (areas x y ∷ rs) n h = List·Memᴰ·tail (marked-mem b rs n h)
-marked-mem b (seal ∷ rs) n h = List·Memᴰ·tail (marked-mem b rs n h)
-marked-mem b (settle ∷ rs) n h = List·Memᴰ·tail (marked-mem b rs n h)
-marked-mem b (sift ∷ rs) n h = List·Memᴰ·tail (marked-mem b rs n h)
-marked-mem b (unknown ∷ rs) n h = List·Memᴰ·tail (marked-mem b rs n h)
+marked-mem b [] n h = absurd (both h refl)
+marked-mem b (r ∷ rs) n h =
+    ⊎-elim (λ (e : marks b (action r) n ≡ true). List·Memᴰ·head (is (action r) e)) (λ e. List·Memᴰ·tail (marked-mem b rs n e)) (or-true (marks b (action r) n) (markedNode b rs n) h)
+  where
+    is : (a : Action) → marks b a n ≡ true → decides n (cond b 1 0) ≡ a
+    is (begins x) e = absurd (both e refl)
+    is (changes x) e = absurd (both e refl)
+    is closes e = absurd (both e refl)
+    is (decides m v) e =
+        sym (ap₂ decides (eqb-true m n (and-left (eqb m n) (eqb v (cond b 1 0)) e)) (eqb-true v (cond b 1 0) (and-right (eqb m n) (eqb v (cond b 1 0)) e)))
+    is settles e = absurd (both e refl)
+    is sifts e = absurd (both e refl)
+    is (idles x) e = absurd (both e refl)
 
 or-left : (a b : Bool) → a ≡ true → (a || b) ≡ true
 or-left true b h = refl
-or-left false b h = absurd (clash false h refl)
+or-left false b h = absurd (both h refl)
 
 or-right : (a b : Bool) → b ≡ true → (a || b) ≡ true
 or-right true b h = refl
 or-right false b h = h
 
-first-marked : (b : Bool) (rs : List Record) (n : ℕ) → markedNode b (mark n (cond b 1 0) ∷ rs) n ≡ true
-unfolding markedNode
-first-marked b rs n =
-    or-left (eqb n n && eqb (cond b 1 0) (cond b 1 0)) (markedNode b rs n) (ap₂ (λ (x y : Bool). x && y) (eq-eqb n n refl) (eq-eqb (cond b 1 0) (cond b 1 0) refl))
-
 mem-marked : (b : Bool) (rs : List Record) (n : ℕ) → Marked rs n b → markedNode b rs n ≡ true
+unfolding markedNode
 mem-marked b [] n m = absurd (List·Memᴰ·not-nil m)
 mem-marked b (r ∷ rs) n m =
-    ⊎-elim (λ (e : mark n (cond b 1 0) ≡ r). subst (λ (y : Record). markedNode b (y ∷ rs) n ≡ true) e (first-marked b rs n))
-    (λ k. marked-append b (r ∷ []) rs n ∙ or-right (markedNode b (r ∷ []) n) (markedNode b rs n) (mem-marked b rs n k)) (List·Memᴰ·cases-cons m)
+    ⊎-elim (λ (e : decides n (cond b 1 0) ≡ action r). or-left (marks b (action r) n) (markedNode b rs n) (sym (ap (λ (a : Action). marks b a n) e) ∙ itself))
+    (λ k. or-right (marks b (action r) n) (markedNode b rs n) (mem-marked b rs n k)) (List·Memᴰ·cases-cons m)
+  where
+    itself : (eqb n n && eqb (cond b 1 0) (cond b 1 0)) ≡ true
+    itself = ap₂ (λ (x y : Bool). x && y) (eq-eqb n n refl) (eq-eqb (cond b 1 0) (cond b 1 0) refl)
 
 same-bool : (a b : Bool) → (a ≡ true → b ≡ true) → (b ≡ true → a ≡ true) → a ≡ b
 same-bool true b h g = sym (h refl)
@@ -91,11 +92,17 @@ more-marks rows rs qs (t, f, c) = (t, follows-more rows (marksOnly rs) (marksOnl
 
 -- ---- TWO ENDS OF ONE START
 
-same-figures : (j : Job) (s : Table) (f g : File) → f .job ≡ j → Still j s (f .live) → Still j s (g .live) → SameFigures f g
-same-figures j s f g e h k =
+-- It is sealed and rests where the table from a start does.
+abbrev Rested : File → Job → Table → Type 0
+Rested f j s = (f .sealed ≡ true) × (f .closed ≡ j) × Still j s (f .live)
+
+same-figures : (j : Job) (s : Table) (f g : File) → Rested f j s → Rested g j s → SameFigures f g
+same-figures j s f g (a, e, h) (b, i, k) =
     let q = one-table j s (f .live) (g .live) h k in
-    let is : (r : ℕ) → r < length (rowsOf (f .job)) → r < length (rowsOf j) = λ r i. subst (λ (y : Job). r < length (rowsOf y)) e i in
+    let is : (r : ℕ) → r < length (rowsOf (f .closed)) → r < length (rowsOf j) = λ r i. subst (λ (y : Job). r < length (rowsOf y)) e i in
     record {
+      sealed = a ∙ sym b;
+      closed = e ∙ sym i;
       sure = λ n. ap (λ (t : Table). t .sure n) q;
       never = λ n. ap (λ (t : Table). t .never n) q;
       known = λ r i. known-is j s (f .live) h r (is r i) ∙ ap (λ (t : Table). knownOf (rowsOf j) t r) q ∙ sym (known-is j s (g .live) k r (is r i));
@@ -108,63 +115,61 @@ same-figures j s f g e h k =
 
 -- It contradicted and a conflict follows from all its marks, or it rests where the table from them does.
 abbrev Side : File → Job → Table → Type 0
-Side f j s = ((f .contradicted ≡ true) × Broken (rowsOf j) s) ⊎ ((f .job ≡ j) × Still j s (f .live))
+Side f j s = ((contradicted f ≡ true) × Broken (rowsOf j) s) ⊎ Rested f j s
 
-module _ (rs : List Record) (passes : Passes begun (rs ++ (settle ∷ []))) (plain : NoSift rs) where
+module _ (rs : List Record) (passes : Passes begun (rs ++ (Settle ∷ []))) (unsifted : NoSift rs) where
   abbrev all : List Record
-  all = rs ++ (settle ∷ [])
+  all = rs ++ (Settle ∷ [])
 
   abbrev job : Job
   job = plainlyAll begun rs .job
 
   no-sift : NoSift all
   no-sift m =
-      ⊎-elim (λ (k : List·Memᴰ sift rs). plain k) (λ (k : List·Memᴰ sift (settle ∷ [])). let e = List·Memᴰ·eq-of-singleton k in let z : _≡_ {A = ℕ} 0 1 = cc in omega arith)
-      (List·Memᴰ·append-cases rs m)
-
-  none : (b : Bool) (n : ℕ) → markedNode b (settle ∷ []) n ≡ false
-  unfolding markedNode
-  none b n = refl
+      ⊎-elim (λ (k : List·Memᴰ sifts (map action rs)). unsifted k) (λ (k : List·Memᴰ sifts (settles ∷ [])). let e = List·Memᴰ·eq-of-singleton k in let z : _≡_ {A = ℕ} 0 1 = cc in omega arith)
+      (List·Memᴰ·append-cases (map action rs) (subst (List·Memᴰ sifts) (map-append action rs (Settle ∷ [])) m))
 
   all-marks : marksOnly all ≡ marksOnly rs
-  all-marks = sym (marks-same rs settle none)
+  all-marks = sym (marks-same rs Settle (λ b n. refl))
 
   -- the last settle leaves the job
   last-job : plainlyAll begun all .job ≡ job
-  unfolding plainlyAll plainly
-  last-job = ap (λ (f : File). f .job) (plainly-append begun rs (settle ∷ []))
+  unfolding plainlyAll plainly plain
+  last-job = ap (λ (f : File). f .job) (plainly-append begun rs (Settle ∷ []))
 
   -- A RECORD CONTRADICTED
-  broke : (p rest : List Record) → all ≡ p ++ rest → Passed begun p → after begun p .contradicted ≡ true → Broken (rowsOf job) (marksOnly rs)
+  broke : (p rest : List Record) → all ≡ p ++ rest → Passed begun p → contradicted (after begun p) ≡ true → Broken (rowsOf job) (marksOnly rs)
   broke p rest e h c =
       let f = after begun p in
       let k = keeps-after begun p keeps-begun h in
       let s = k .late c in
-      let m = marking p h (λ i. no-sift (subst (List·Memᴰ sift) (sym e) (Memᴰ·append-left rest i))) in
+      let m = marking p h (λ i. no-sift (subst (λ (l : List Record). List·Memᴰ sifts (map action l)) (sym e) (subst (List·Memᴰ sifts) (sym (map-append action p rest)) (Memᴰ·append-left (map action rest) i)))) in
       let a = passes-split begun p rest (subst (Passes begun) e passes) in
       let l = level-after begun begun p (level-same begun) (a .0) in
-      let started : f .started ≡ true = ⊎-elim (λ (o : f .started ≡ true). o) (λ (o : f .started ≡ false). absurd (clash (f .sealed) s (k .unstarted o))) (true-false (f .started)) in
-      let q : f .job ≡ job =
-      l .job ∙ sym (job-stays (plainlyAll begun p) rest (sym (l .started) ∙ started) (sym (l .sealed) ∙ s) (a .1))
+      let started : f .started ≡ true = ⊎-elim (λ (o : f .started ≡ true). o) (λ (o : f .started ≡ false). absurd (both s (k .good .unstarted o))) (true-false (f .started)) in
+      let q : f .closed ≡ job =
+      k .good .same s ∙ l .job ∙ sym (job-stays (plainlyAll begun p) rest (sym (l .started) ∙ started) (sym (l .sealed) ∙ s) (a .1))
       ∙ ap (λ (y : File). y .job) (sym (plainly-append begun p rest)) ∙ ap (λ (y : List Record). plainlyAll begun y .job) (sym e) ∙ last-job in
       subst (Broken (rowsOf job)) (ap marksOnly (sym e) ∙ all-marks) (more-marks (rowsOf job) p rest (subst (λ (y : Job). Broken (rowsOf y) (marksOnly p)) q (m .breaks c)))
 
   -- NONE DID
-  stayed : Passed begun all → after begun all .contradicted ≡ false → (after begun all .job ≡ job) × Still job (marksOnly rs) (after begun all .live)
-  unfolding apply settledFile
+  stayed : Passed begun all → contradicted (after begun all) ≡ false → Rested (after begun all) job (marksOnly rs)
+  unfolding apply act settledFile
   stayed h c =
       let f = after begun rs in
-      let b = passed-here begun rs settle [] h in
-      let e = after-snoc begun rs settle in
-      let q : f .job ≡ job = level-after begun begun rs (level-same begun) (passes-split begun rs (settle ∷ []) passes .0) .job in
-      subst (λ (y : File). (y .job ≡ job) × Still job (marksOnly rs) (y .live)) (sym e) (
+      let b = passed-here begun rs Settle [] h in
+      let e = after-snoc begun rs Settle in
+      let k = keeps-after begun rs keeps-begun (b .0) in
+      let q : f .closed ≡ job = k .good .same (serving-turn f (accepts f Settle (b .1) .turn)) ∙ level-after begun begun rs (level-same begun) (passes-split begun rs (Settle ∷ []) passes .0) .job in
+      subst (λ (y : File). Rested y job (marksOnly rs)) (sym e) (
+        refl,
         q,
-        subst (λ (y : Job). Still y (marksOnly rs) (apply f settle .live)) q
-            (settle-still f (keeps-after begun rs keeps-begun (b .0)) (b .1) (marksOnly rs) (marking rs (b .0) plain .from) (ap (λ (y : File). y .contradicted) (sym e) ∙ c)),
+        subst (λ (y : Job). Still y (marksOnly rs) (apply f Settle .live)) q
+            (settle-still f k (b .1) (marksOnly rs) (marking rs (b .0) unsifted .from) (ap (λ (y : File). contradicted y) (sym e) ∙ c)),
       )
 
   side : (x : List ℕ) → decoded x ≡ records all → (planned x .refused ≡ 0) ⊎ (planned x .refused ≡ 9) → Side (planned x .file) job (marksOnly rs)
-  side x d r = subst (λ (f : File). Side f job (marksOnly rs)) (sym is) (by (true-false (after begun p .contradicted)) r)
+  side x d r = subst (λ (f : File). Side f job (marksOnly rs)) (sym is) (by (true-false (contradicted (after begun p))) r)
     where
       p : List Record
       p = planned x .records
@@ -175,21 +180,21 @@ module _ (rs : List Record) (passes : Passes begun (rs ++ (settle ∷ []))) (pla
       o : Over all (planned x)
       o = planned-over x all d (λ e. ⊎-elim (λ (k : planned x .refused ≡ 0). absurd (omega arith)) (λ (k : planned x .refused ≡ 9). absurd (omega arith)) r)
 
-      by : (after begun p .contradicted ≡ true) ⊎ (after begun p .contradicted ≡ false) → (planned x .refused ≡ 0) ⊎ (planned x .refused ≡ 9) → Side (after begun p) job (marksOnly rs)
+      by : (contradicted (after begun p) ≡ true) ⊎ (contradicted (after begun p) ≡ false) → (planned x .refused ≡ 0) ⊎ (planned x .refused ≡ 9) → Side (after begun p) job (marksOnly rs)
       by (inl c) z = inl (c, broke p (o .rest) (o .begins) (planned-passed x) c)
-      by (inr c) (inr z) = absurd (clash (after begun p .contradicted) (ap (λ (f : File). f .contradicted) (sym is) ∙ o .broken z) c)
+      by (inr c) (inr z) = absurd (both (ap (λ (f : File). contradicted f) (sym is) ∙ o .broken z) c)
       by (inr c) (inl z) =
           let e = o .accepted z in
-          inr (subst (λ (l : List Record). (after begun l .job ≡ job) × Still job (marksOnly rs) (after begun l .live)) e
-          (stayed (subst (Passed begun) (sym e) (planned-passed x)) (ap (λ (l : List Record). after begun l .contradicted) e ∙ c)))
+          inr (subst (λ (l : List Record). Rested (after begun l) job (marksOnly rs)) e
+          (stayed (subst (Passed begun) (sym e) (planned-passed x)) (ap (λ (l : List Record). contradicted (after begun l)) e ∙ c)))
 
 -- ---- THE CLAIM
 pub order-does-not-matter : (x y : List ℕ) (rs qs : List Record)
-    → decoded x ≡ records (rs ++ (settle ∷ [])) → decoded y ≡ records (qs ++ (settle ∷ []))
-    → Passes begun (rs ++ (settle ∷ [])) → Passes begun (qs ++ (settle ∷ []))
+    → decoded x ≡ records (rs ++ (Settle ∷ [])) → decoded y ≡ records (qs ++ (Settle ∷ []))
+    → Passes begun (rs ++ (Settle ∷ [])) → Passes begun (qs ++ (Settle ∷ []))
     → (planned x .refused ≡ 0) ⊎ (planned x .refused ≡ 9) → (planned y .refused ≡ 0) ⊎ (planned y .refused ≡ 9)
     → plainlyAll begun rs .job ≡ plainlyAll begun qs .job → SameMarks rs qs → NoSift rs → NoSift qs
-    → ((planned x .file .contradicted ≡ true) × (planned y .file .contradicted ≡ true)) ⊎ SameFigures (planned x .file) (planned y .file)
+    → ((contradicted (planned x .file) ≡ true) × (contradicted (planned y .file) ≡ true)) ⊎ SameFigures (planned x .file) (planned y .file)
 order-does-not-matter x y rs qs d g p q u w e m a b = by (side rs p a x d u) there
   where
     j : Job
@@ -208,8 +213,8 @@ order-does-not-matter x y rs qs d g p q u w e m a b = by (side rs p a x d u) the
     there =
         subst (λ (z : Job). Side h z s) (sym e) (subst (λ (t : Table). Side h (plainlyAll begun qs .job) t) (sym (marks-set rs qs m)) (side qs q b y g w))
 
-    by : Side f j s → Side h j s → ((f .contradicted ≡ true) × (h .contradicted ≡ true)) ⊎ SameFigures f h
+    by : Side f j s → Side h j s → ((contradicted f ≡ true) × (contradicted h ≡ true)) ⊎ SameFigures f h
     by (inl k) (inl l) = inl (k .0, l .0)
-    by (inl k) (inr l) = absurd (not-broken j s (h .live) (l .1) (k .1))
-    by (inr k) (inl l) = absurd (not-broken j s (f .live) (k .1) (l .1))
-    by (inr k) (inr l) = inr (same-figures j s f h (k .0) (k .1) (l .1))
+    by (inl k) (inr l) = absurd (not-broken j s (h .live) (l .2) (k .1))
+    by (inr k) (inl l) = absurd (not-broken j s (f .live) (k .2) (l .1))
+    by (inr k) (inr l) = inr (same-figures j s f h k l)

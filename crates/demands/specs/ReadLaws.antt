@@ -11,15 +11,16 @@ use lib.ListN.{length, take, drop, length-take, length-drop}
 use lib.Seq.{take-nil, drop-drop}
 use lib.Dec.{eqb, ltb}
 use borrow.Author.Tests.{eqb-true, eqb-false, ltb-false}
-use Rattle.records.specs.Record.{kindOf, bodyLength, Record, recordOf}
+use Rattle.records.specs.declared.Record.{Record}
+use Rattle.records.specs.Record.{kindOf, bodyLength, recordOf}
 use Rattle.planner.specs.File.{File, begun, apply, Outcome, outcome, bodyOf, recordAt, unknownKind, cutBody, refusal, refusalAt, readFrom, fileOf, planned}
-use Rattle.planner.specs.FileLaws.{drop-take, same-body}
+use Rattle.planner.specs.FileLaws.{checked, drop-take, same-body}
 use Rattle.follows.specs.Answers.{or-false}
 use Rattle.demands.specs.Reading.{Decoded, records, damaged, decodeFrom, decoded}
 
 -- A record that is not refused has a known kind and a whole body.
 whole-body : (f : File) (kind : ℕ) (rest : List ℕ) → refusalAt f kind rest ≡ 0 → (unknownKind kind || cutBody kind rest) ≡ false
-whole-body f kind rest h = by (unknownKind kind) (cutBody kind rest) h
+whole-body f kind rest h = by (unknownKind kind) (cutBody kind rest) (sym (checked f kind rest) ∙ h)
   where
     by : (a b : Bool) → _≡_ {A = ℕ} (cond a 2 (cond b 1 (refusal f (recordAt kind rest)))) 0 → (a || b) ≡ false
     by true b e = absurd (omega arith)

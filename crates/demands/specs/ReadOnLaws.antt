@@ -3,20 +3,22 @@
 use Prim.Native.Nat.{ℕ, zero, suc, _+_}
 use native.Mathlib.Omega.{arith}
 use mathlib.Core.Path.{_≡_, refl, sym, ap, _∙_}
-use mathlib.Core.Bool.{Bool, true, false, not, _||_}
+use mathlib.Core.Bool.{Bool, true, false, _||_}
 use mathlib.Core.List.{List, [], _∷_, _++_, append-assoc, append-nil}
 use mathlib.Core.Logic.{_⊎_, inl, inr, ⊎-elim, _≢_}
 use lib.ListN.{length, drop}
-use lib.Dec.{eqb, ltb}
+use lib.Dec.{eqb, leb, ltb}
 use borrow.Author.Tests.{eqb-false}
-use Rattle.numeric.specs.Threshold.{term, Threshold, Job}
-use Rattle.numeric.specs.Area.{weightOfArea}
-use Rattle.records.specs.Record.{Record, header, opens, adds, areas, seal, mark, settle, sift, unknown, kindOf, bodyLength}
-use Rattle.job.specs.Job.{Check, check, first, isEmptyList, addTerm}
-use Rattle.planner.specs.File.{File, begun, refusal, wrongTurn, noSuchNode, notRising, badBound, badValue, tooMany, apply, settledFile, siftedFile, Outcome, outcome, recordAt, unknownKind, cutBody, refusalAt, readFrom, fileOf, planned, after}
-use Rattle.ends.specs.Files.{Taken, taken, refused-by}
-use Rattle.follows.specs.Answers.{clash, or-false, or-middle, not-false}
-use Rattle.demands.specs.Reading.{Decoded, records, damaged, decodeFrom, decoded, plainly, plainlyAll, Passes}
+use Rattle.numeric.specs.Threshold.{Job}
+use Rattle.records.specs.declared.Record.{Record}
+use Rattle.records.specs.Record.{kindOf, bodyLength}
+use Rattle.records.specs.Facts.{Change, Action, begins, changes, closes, decides, settles, sifts, idles, action, facts}
+use Rattle.records.specs.Checks.{anyOf, wrongTurn, notRising, badBound, tooMany, Check, check, first}
+use Rattle.job.specs.Job.{changed}
+use Rattle.planner.specs.File.{File, contradicted, begun, standing, refusal, sealedFile, markedFile, settledFile, siftedFile, act, apply, Outcome, outcome, recordAt, unknownKind, cutBody, refusalAt, readFrom, fileOf, planned, after}
+use Rattle.ends.specs.Files.{both, Taken, taken, building-turn, change-turn, serving-turn, refused-by}
+use Rattle.follows.specs.Answers.{clash}
+use Rattle.demands.specs.Reading.{Decoded, records, damaged, decodeFrom, decoded, plain, plainly, plainlyAll, Passes}
 
 -- ---- READING
 
@@ -66,15 +68,18 @@ none-nine : first [] ≡ 9 → ⊥
 unfolding first
 none-nine e = omega arith
 
-refusal-nine : (f : File) (r : Record) → refusal f r ≡ 9 → f .contradicted ≡ true
+refusal-nine : (f : File) (r : Record) → refusal f r ≡ 9 → contradicted f ≡ true
 unfolding refusal
 refusal-nine f r h =
-    ⊎-elim (λ (e : f .contradicted ≡ true). e)
-    (λ e. absurd (none-nine (skip (tooMany f r) 4 _ (λ q. omega arith) (skip (badValue r) 8 _ (λ q. omega arith) (skip (badBound r) 7 _ (λ q. omega arith)
-    (skip (notRising f r) 6 _ (λ q. omega arith) (skip (noSuchNode f r) 5 _ (λ q. omega arith) e)))))))
-    (nine (f .contradicted) _ (skip (wrongTurn f r) 3 _ (λ q. omega arith) h))
+    let s = standing f in
+    let x = facts (action r) in
+    ⊎-elim (λ (e : contradicted f ≡ true). e)
+    (λ e. absurd (none-nine (skip (tooMany s (x .counts)) 4 _ (λ q. omega arith) (skip (anyOf (ltb 1) (x .values)) 8 _ (λ q. omega arith)
+    (skip (anyOf badBound (x .bounds)) 7 _ (λ q. omega arith) (skip (anyOf (notRising s) (x .rising)) 6 _ (λ q. omega arith)
+    (skip (anyOf (leb (s .nodes)) (x .nodes)) 5 _ (λ q. omega arith) e)))))))
+    (nine (contradicted f) _ (skip (wrongTurn s (x .turn)) 3 _ (λ q. omega arith) (skip false 1 _ (λ q. omega arith) (skip false 2 _ (λ q. omega arith) h))))
 
-refused-nine : (f : File) (kind : ℕ) (bytes : List ℕ) → refusalAt f kind bytes ≡ 9 → f .contradicted ≡ true
+refused-nine : (f : File) (kind : ℕ) (bytes : List ℕ) → refusalAt f kind bytes ≡ 9 → contradicted f ≡ true
 refused-nine f kind bytes h = refusal-nine f (recordAt kind bytes) (refused-by 9 (λ q. omega arith) (λ q. omega arith) f kind bytes h)
 
 -- An outcome over all records of an input.
@@ -82,7 +87,7 @@ pub record Over (all : List Record) (o : Outcome) : Type 0 where
   pub rest : List Record
   pub begins : all ≡ o .records ++ rest
   pub accepted : o .refused ≡ 0 → all ≡ o .records
-  pub broken : o .refused ≡ 9 → o .file .contradicted ≡ true
+  pub broken : o .refused ≡ 9 → contradicted (o .file) ≡ true
 
 ended : (f : File) (done all : List Record) (o : ℕ) → all ≡ done → Over all (outcome f done 0 o)
 ended f done all o e = record { rest = []; begins = e ∙ sym (append-nil done); accepted = λ q. e; broken = λ q. absurd (omega arith) }
@@ -136,24 +141,23 @@ pub level-same : (f : File) → Level f f
 level-same f = record { job = refl; started = refl; sealed = refl }
 
 module _ (f g : File) (l : Level f g) where
-  with-thresholds : (List Threshold → List Threshold) → Job → Job
-  with-thresholds go j = record { nodes = j .nodes; thresholds = go (j .thresholds) }
-
-  pub level-apply : (r : Record) → Taken g r → Level (apply f r) (plainly g r)
-  unfolding apply settledFile siftedFile plainly with-thresholds
-  level-apply (header n) t = record { job = refl; started = refl; sealed = refl }
-  level-apply (opens n b) t = record {
-    job = ap (with-thresholds (λ (ts : List Threshold). ts ++ (record { node = n; bound = b; terms = [] } ∷ []))) (l .job);
-    started = l .started;
+  level-act : (a : Action) → Taken g (facts a) → Level (act f a) (plain g a)
+  unfolding act sealedFile markedFile settledFile siftedFile plain
+  level-act (begins n) t = record { job = refl; started = refl; sealed = l .sealed }
+  level-act (changes c) t = record {
+    job = ap (λ (j : Job). record { nodes = j .nodes; thresholds = changed c (j .thresholds) }) (l .job);
+    started = refl;
     sealed = l .sealed;
   }
-  level-apply (adds c w) t = record { job = ap (with-thresholds (addTerm (term c w))) (l .job); started = l .started; sealed = l .sealed }
-  level-apply (areas c a) t = record { job = ap (with-thresholds (addTerm (term c (weightOfArea a)))) (l .job); started = l .started; sealed = l .sealed }
-  level-apply seal t = record { job = l .job; started = l .started; sealed = refl }
-  level-apply (mark n v) t = record { job = l .job; started = l .started; sealed = sym (not-false (g .sealed) (t .turn)) }
-  level-apply settle t = record { job = l .job; started = l .started; sealed = sym (not-false (g .sealed) (t .turn)) }
-  level-apply sift t = record { job = l .job; started = l .started; sealed = sym (not-false (g .sealed) (t .turn)) }
-  level-apply unknown t = l
+  level-act closes t = record { job = l .job; started = l .started; sealed = refl }
+  level-act (decides n v) t = record { job = l .job; started = l .started; sealed = sym (serving-turn g (t .turn)) }
+  level-act settles t = record { job = l .job; started = l .started; sealed = refl }
+  level-act sifts t = record { job = l .job; started = l .started; sealed = refl }
+  level-act (idles x) t = l
+
+  pub level-apply : (r : Record) → Taken g (facts (action r)) → Level (apply f r) (plainly g r)
+  unfolding apply plainly
+  level-apply r t = level-act (action r) t
 
 pub level-after : (f g : File) (rs : List Record) → Level f g → Passes g rs → Level (after f rs) (plainlyAll g rs)
 unfolding after plainlyAll Passes
@@ -166,22 +170,20 @@ record Closed (f g : File) : Type 0 where
   pub started : g .started ≡ true
   pub sealed : g .sealed ≡ true
 
-closed-plainly : (f : File) → f .started ≡ true → f .sealed ≡ true → (r : Record) → Taken f r → Closed f (plainly f r)
-unfolding plainly apply
-closed-plainly f s k (header n) t = absurd (clash (f .started) s (t .turn))
-closed-plainly f s k (opens n b) t = absurd (clash (f .sealed) k (or-false (not (f .started)) (f .sealed) (t .turn) .1))
-closed-plainly f s k (adds c w) t = absurd (clash (f .sealed) k (or-middle (not (f .started)) (f .sealed) (isEmptyList (f .job .thresholds)) (t .turn)))
-closed-plainly f s k (areas c a) t = absurd (clash (f .sealed) k (or-middle (not (f .started)) (f .sealed) (isEmptyList (f .job .thresholds)) (t .turn)))
-closed-plainly f s k seal t = absurd (clash (f .sealed) k (or-false (not (f .started)) (f .sealed) (t .turn) .1))
-closed-plainly f s k (mark n v) t = record { job = refl; started = s; sealed = k }
-closed-plainly f s k settle t = record { job = refl; started = s; sealed = k }
-closed-plainly f s k sift t = record { job = refl; started = s; sealed = k }
-closed-plainly f s k unknown t = record { job = refl; started = s; sealed = k }
+closed-plain : (f : File) → f .started ≡ true → f .sealed ≡ true → (a : Action) → Taken f (facts a) → Closed f (plain f a)
+unfolding plain
+closed-plain f s k (begins n) t = absurd (both s (t .turn))
+closed-plain f s k (changes c) t = absurd (both k (change-turn f c t .1))
+closed-plain f s k closes t = absurd (both k (building-turn f (t .turn) .1))
+closed-plain f s k (decides n v) t = record { job = refl; started = s; sealed = k }
+closed-plain f s k settles t = record { job = refl; started = s; sealed = refl }
+closed-plain f s k sifts t = record { job = refl; started = s; sealed = refl }
+closed-plain f s k (idles x) t = record { job = refl; started = s; sealed = k }
 
 pub job-stays : (f : File) (rs : List Record) → f .started ≡ true → f .sealed ≡ true → Passes f rs → plainlyAll f rs .job ≡ f .job
-unfolding plainlyAll Passes
+unfolding plainlyAll plainly Passes
 job-stays f [] s k p = refl
-job-stays f (r ∷ rs) s k p = let c = closed-plainly f s k r (taken f r (p .0)) in job-stays (plainly f r) rs (c .started) (c .sealed) (p .1) ∙ c .job
+job-stays f (r ∷ rs) s k p = let c = closed-plain f s k (action r) (taken f r (p .0)) in job-stays (plainly f r) rs (c .started) (c .sealed) (p .1) ∙ c .job
 
 -- lists of records one behind the other
 pub plainly-append : (f : File) (rs qs : List Record) → plainlyAll f (rs ++ qs) ≡ plainlyAll (plainlyAll f rs) qs

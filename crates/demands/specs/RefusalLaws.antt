@@ -3,19 +3,20 @@
 use Prim.Native.Nat.{ℕ, _-_, _≤_}
 use native.Mathlib.Nat.{le-refl}
 use native.Mathlib.Omega.{arith}
-use mathlib.Core.Path.{_≡_, refl, sym, ap, ap₂, _∙_}
-use mathlib.Core.Bool.{Bool, true, false, _&&_}
-use mathlib.Core.List.{List, []}
+use mathlib.Core.Path.{_≡_, refl, sym, ap, _∙_, subst}
+use mathlib.Core.Bool.{Bool, true, false}
+use mathlib.Core.List.{List, [], append-nil}
 use mathlib.Core.Logic.{⊎-elim, _≢_, _↔_}
 use lib.ListN.{length, take, length-take}
-use lib.Dec.{ltb, leb}
-use borrow.Author.Tests.{leb-true, le-leb, le-ltb}
-use Rattle.memory.specs.Buffers.{Work, fits, fitsRaw, fitsBuilt, fitsKept}
+use lib.Dec.{ltb}
+use borrow.Author.Tests.{le-ltb}
+use Rattle.memory.specs.Buffers.{Work, fits}
 use Rattle.planner.specs.File.{Outcome, outcome, fileOf, begun, after, planned, readFrom}
 use Rattle.planner.specs.FileLaws.{read-up-to, read-taken, read-enough, read-cut}
-use Rattle.memory.specs.Lengths.{fits-input}
+use Rattle.memory.specs.Lengths.{fits-input, fits-shorter}
 use Rattle.planner.specs.Contents.{Out, served, untouched, whole}
-use Rattle.follows.specs.Answers.{true-false, and-left, and-right}
+use Rattle.ends.specs.Files.{Good, good-before}
+use Rattle.follows.specs.Answers.{true-false}
 use Rattle.demands.specs.Demands.{accepted}
 
 pub numbers : (input : List ℕ) (w : Work) → whole input w .refused ≤ 10
@@ -34,6 +35,13 @@ taken input = by (ltb 65536 (length input))
     by true = refl
     by false = read-taken (length input) 0 input begun begun [] refl
 
+-- What is left is within the limits, and the job that the last seal closed is the job that the records gave.
+pub good : (input : List ℕ) → Good (planned input .file)
+good input = subst Good (sym (taken input)) (good-before input (planned input .records) [] (sym (append-nil (planned input .records))))
+
+pub closed-job : (input : List ℕ) → planned input .file .sealed ≡ true → planned input .file .closed ≡ planned input .file .job
+closed-job input e = good input .same e
+
 pub ten-touches-nothing : (input : List ℕ) (w : Work) → whole input w .refused ≡ 10 → (whole input w .at ≡ 0) × (whole input w .work ≡ w)
 unfolding whole fileOf
 ten-touches-nothing input w h = by (fits input w) h
@@ -49,12 +57,6 @@ ten input w = by (fits input w)
     by : (b : Bool) → let o : Out = elim b [ true ↦ served (fileOf input) w | false ↦ untouched w ] in (o .refused ≡ 10) ↔ (b ≡ false)
     by true = ((λ e. absurd (let k = read-up-to (length input) 0 input begun [] in omega arith)), λ e. absurd (let z : _≡_ {A = ℕ} 0 1 = cc in omega arith))
     by false = ((λ e. refl), λ e. refl)
-
-shorter-fits : (x input : List ℕ) (w : Work) → length x ≤ length input → fits input w ≡ true → fits x w ≡ true
-unfolding fits
-shorter-fits x input w h e =
-    let k = leb-true (length input) 65536 (and-right (fitsRaw (w .raw) && fitsBuilt (w .built) && fitsKept (w .kept)) (leb (length input) 65536) e) in
-    ap₂ (λ (p q : Bool). p && q) (and-left (fitsRaw (w .raw) && fitsBuilt (w .built) && fitsKept (w .kept)) (leb (length input) 65536) e) (le-leb (length x) 65536 (omega arith))
 
 -- the two ways of the call
 abbrev ways : List ℕ → Work → Bool → Out
@@ -91,7 +93,7 @@ refused input w h k =
     let c = cut-file input (λ z. h (ap (λ (o : Out). o .refused) q ∙ z)) in
     let t = length-take a input in
     ap (λ (o : Out). whole (take (o .at) input) w) q
-    ∙ served-when (take a input) w (shorter-fits (take a input) input w (omega arith) e) ∙ ap (λ (o : Outcome). served o w) c
+    ∙ served-when (take a input) w (fits-shorter (take a input) input w (omega arith) e) ∙ ap (λ (o : Outcome). served o w) c
     ∙ ap accepted (sym q))
     (λ (e : fits input w ≡ false). absurd (k (ap (λ (o : Out). o .refused) (untouched-when input w e)))) (true-false (fits input w))
 

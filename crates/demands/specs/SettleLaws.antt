@@ -12,10 +12,11 @@ use borrow.Author.Tests.{ne-eqb}
 use Rattle.words.specs.Mask.{bit}
 use Rattle.thresholds.specs.Rows.{Row, rowsOf}
 use Rattle.between.specs.Between.{Live}
-use Rattle.records.specs.Record.{Record, seal, mark, settle}
-use Rattle.planner.specs.File.{File, begun, refusal, apply, settledFile, after, planned}
+use Rattle.records.specs.declared.Record.{Record}
+use Rattle.records.specs.declared.Record.the-variants.{Seal, Mark, Settle}
+use Rattle.planner.specs.File.{File, contradicted, begun, refusal, sealedFile, markedFile, settledFile, act, apply, after, planned}
 use Rattle.ends.specs.Blank.{bit-behind}
-use Rattle.ends.specs.Files.{Passed, planned-passed}
+use Rattle.ends.specs.Files.{taken, Passed, planned-passed}
 use Rattle.table.specs.Table.{Table, start, ReachesConflict, AtRest}
 use Rattle.table.specs.TableLaws.{run-below}
 use Rattle.table.specs.Ends.{Finite}
@@ -85,75 +86,75 @@ pub reached : (rows : List Row) (sure never : ℕ → Bool) → Ending sure → 
 reached rows sure never e b = reaches rows (e .0) (start sure never) (start-finite rows (e .0) sure never (e .1)) b
 
 -- ---- A SETTLING IS EXACTLY THE TABLE, from any start that the file stands by
-pub exactly : (f : File) → Keeps f → refusal f settle ≡ 0 → (sure never : ℕ → Bool) → Ending sure → From f (start sure never)
-    → ExactlyTheTable (rowsOf (f .job)) (start sure never) (apply f settle)
-unfolding apply settledFile
+pub exactly : (f : File) → Keeps f → refusal f Settle ≡ 0 → (sure never : ℕ → Bool) → Ending sure → From f (start sure never)
+    → ExactlyTheTable (rowsOf (f .closed)) (start sure never) (apply f Settle)
+unfolding apply act settledFile
 exactly f k h sure never end from = record {
   contradicts = λ c. reached rows sure never end (broken c);
-  only-then = λ r. ⊎-elim (λ (c : g .contradicted ≡ true). c) (λ (c : g .contradicted ≡ false). absurd (free c r)) (true-false (g .contradicted));
+  only-then = λ r. ⊎-elim (λ (c : contradicted g ≡ true). c) (λ (c : contradicted g ≡ false). absurd (free c r)) (true-false (contradicted g));
   every-conflict = λ c t e. every-conflict rows s (broken c) e;
-  every-end = λ c t e. let q = every-end (f .job) s (g .live) (still c) e in (subst (AtRest rows) (sym q) (rests (f .job) s (g .live) (still c)), subst (SameEnd g) (sym q) (same c));
+  every-end = λ c t e. let q = every-end (f .closed) s (g .live) (still c) e in (subst (AtRest rows) (sym q) (rests (f .closed) s (g .live) (still c)), subst (SameEnd g) (sym q) (same c));
   some-end = λ t r. Ends.some-end rows (end .0) s finite t r;
   bounded = Ends.bounded rows (end .0) s finite;
 }
   where
     rows : List Row
-    rows = rowsOf (f .job)
+    rows = rowsOf (f .closed)
 
     s : Table
     s = start sure never
 
     g : File
-    g = apply f settle
+    g = apply f Settle
 
     finite : Finite rows (end .0) s
     finite = start-finite rows (end .0) sure never (end .1)
 
-    broken : g .contradicted ≡ true → Broken rows s
-    broken = settle-from f k s h from .1
+    broken : contradicted g ≡ true → Broken rows s
+    broken = settle-from f k s (taken f Settle h) from .1
 
-    still : g .contradicted ≡ false → Still (f .job) s (g .live)
+    still : contradicted g ≡ false → Still (f .closed) s (g .live)
     still c = settle-still f k h s from c
 
-    free : g .contradicted ≡ false → ReachesConflict rows s → ⊥
-    free c (u, r, e) = not-broken (f .job) s (g .live) (still c) (u, (λ w up rest. run-below rows w r up rest), e)
+    free : contradicted g ≡ false → ReachesConflict rows s → ⊥
+    free c (u, r, e) = not-broken (f .closed) s (g .live) (still c) (u, (λ w up rest. run-below rows w r up rest), e)
 
-    same : g .contradicted ≡ false → SameEnd g (tableAt (g .live))
+    same : contradicted g ≡ false → SameEnd g (tableAt (g .live))
     same c = record {
       sure = λ n. refl;
       never = λ n. refl;
-      known = known-is (f .job) s (g .live) (still c);
-      possible = possible-is (f .job) s (g .live) (still c);
+      known = known-is (f .closed) s (g .live) (still c);
+      possible = possible-is (f .closed) s (g .live) (still c);
       lower = λ r i. refl;
       upper = λ r i. refl;
     }
 
 -- ---- THE CLAIMS
 
-pub seals : (input : List ℕ) (before later : List Record) → planned input .records ≡ before ++ (seal ∷ later)
-    → let f = after begun before in apply f seal .contradicted ≡ true → ReachesConflict (rowsOf (f .job)) (decidedIn f)
-unfolding apply
+pub seals : (input : List ℕ) (before later : List Record) → planned input .records ≡ before ++ (Seal ∷ later)
+    → let f = after begun before in contradicted (apply f Seal) ≡ true → ReachesConflict (rowsOf (f .job)) (decidedIn f)
+unfolding apply act sealedFile
 seals input before later e c =
-    let h = stood input before later seal e in
+    let h = stood input before later Seal e in
     let v = after begun before .live in
     reached (rowsOf (after begun before .job)) (bit (v .marks .sure)) (bit (v .marks .never)) (64 * length (v .marks .sure), λ m l. bit-behind (v .marks .sure) m l)
-    (seal-from (after begun before) (h .keeps) (h .accepted) .1 c)
+    (seal-from (after begun before) (h .keeps) (taken (after begun before) Seal (h .accepted)) .1 c)
 
-pub marks : (input : List ℕ) (before later : List Record) (n v : ℕ) → planned input .records ≡ before ++ (mark n v ∷ later)
-    → let f = after begun before in apply f (mark n v) .contradicted ≡ true → ReachesConflict (rowsOf (f .job)) (decidedAnd f n (eqb v 1))
-unfolding apply
+pub marks : (input : List ℕ) (before later : List Record) (n v : ℕ) → planned input .records ≡ before ++ (Mark n v ∷ later)
+    → let f = after begun before in contradicted (apply f (Mark n v)) ≡ true → ReachesConflict (rowsOf (f .closed)) (decidedAnd f n (eqb v 1))
+unfolding apply act markedFile
 marks input before later n v e c =
-    let h = stood input before later (mark n v) e in
+    let h = stood input before later (Mark n v) e in
     let f = after begun before in
     let a = bit (f .live .marks .sure) in
     let b = bit (f .live .marks .never) in
-    reached (rowsOf (f .job)) (λ (m : ℕ). a m || (eqb m n && eqb v 1)) (λ (m : ℕ). b m || (eqb m n && not (eqb v 1))) (one-more (f .live) n (eqb v 1))
-    (subst (Broken (rowsOf (f .job))) (and-start a b n (eqb v 1)) (mark-from f (h .keeps) n v (decidedIn f) (h .accepted) (h .keeps .steady) .1 c))
+    reached (rowsOf (f .closed)) (λ (m : ℕ). a m || (eqb m n && eqb v 1)) (λ (m : ℕ). b m || (eqb m n && not (eqb v 1))) (one-more (f .live) n (eqb v 1))
+    (subst (Broken (rowsOf (f .closed))) (and-start a b n (eqb v 1)) (mark-from f (h .keeps) n v (decidedIn f) (taken f (Mark n v) (h .accepted)) (h .keeps .steady) .1 c))
 
-pub settles : (input : List ℕ) (before later : List Record) → planned input .records ≡ before ++ (settle ∷ later)
-    → let f = after begun before in ExactlyTheTable (rowsOf (f .job)) (decidedIn f) (apply f settle)
+pub settles : (input : List ℕ) (before later : List Record) → planned input .records ≡ before ++ (Settle ∷ later)
+    → let f = after begun before in ExactlyTheTable (rowsOf (f .closed)) (decidedIn f) (apply f Settle)
 settles input before later e =
-    let h = stood input before later settle e in
+    let h = stood input before later Settle e in
     let f = after begun before in
     exactly f (h .keeps) (h .accepted) (bit (f .live .marks .sure)) (bit (f .live .marks .never))
     (64 * length (f .live .marks .sure), λ m l. bit-behind (f .live .marks .sure) m l) (h .keeps .steady)

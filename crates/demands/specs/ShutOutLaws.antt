@@ -1,101 +1,54 @@
--- CLAUSE C: the planners that are shut out. A sift's visits are 0 or those of a search of a row of its job; files A and B do the rest.
-use Prim.Native.Nat.{ℕ, zero, suc}
+-- CLAUSE C: the planners that are shut out. A sift's visits are those of its last search; files A and B do the rest.
+use Prim.Native.Nat.{ℕ, zero, suc, _≤_}
 use native.Mathlib.Omega.{arith}
 use mathlib.Core.Path.{_≡_, refl, sym, ap, _∙_, subst}
-use mathlib.Core.Bool.{Bool, true, false, not}
-use mathlib.Core.List.{List, [], _∷_, _++_, List·Memᴰ, List·Memᴰ·head, List·Memᴰ·tail, List·Memᴰ·cases-cons, List·Memᴰ·not-nil}
+use mathlib.Core.Bool.{Bool, true, false, _||_}
+use mathlib.Core.List.{List, [], _∷_, _++_, map, List·Memᴰ, List·Memᴰ·head, List·Memᴰ·tail, List·Memᴰ·cases-cons, List·Memᴰ·not-nil}
 use mathlib.Core.Logic.{_⊎_, inl, inr, ⊎-elim, _≢_}
 use lib.ListN.{length, getD, replicate}
-use lib.Dec.{eqb}
 use lib.IntN.{pos}
-use Rattle.numeric.specs.Threshold.{Term, Threshold, Job}
+use Rattle.numeric.specs.Threshold.{Term}
 use Rattle.state.specs.declared.Step.{Step}
 use Rattle.state.specs.declared.Step.the-variants.{Unchanged, Changed, Contradiction}
-use Rattle.state.specs.declared.State.{State}
-use Rattle.state.specs.Step.{contradicts, isUnchanged}
+use Rattle.state.specs.Step.{joined, contradicts, isUnchanged}
 use Rattle.words.specs.Mask.{bit}
 use Rattle.queues.specs.Queue.{isEmpty, oldest, nextRow}
 use Rattle.queues.specs.Marks.{isDecided}
-use Rattle.row.specs.Terms.{rowTerms}
 use Rattle.row.specs.TermsLaws.{All as Every}
-use Rattle.thresholds.specs.Rows.{Row, noRow, rowsOf, hasNonunit}
+use Rattle.thresholds.specs.Rows.{noRow}
 use Rattle.residual.specs.Residual.{Residual, thresholdResidual}
 use Rattle.possible_sums.specs.declared.Search.{Search}
 use Rattle.possible_sums.specs.declared.Search.the-variants.{Skipped, Fits, Nothing, Cut}
-use Rattle.possible_sums.specs.Search.{plan, search, searchStep, searchVisits}
-use Rattle.between.specs.Between.{Live, live, Did, stateAt}
+use Rattle.possible_sums.specs.Search.{search, searchStep, searchVisits}
+use Rattle.between.specs.Between.{Index, Live, live, Did, stateAt}
 use Rattle.regions.specs.Drain.{indexOf}
 use Rattle.regions.specs.Drain as Drain
 use Rattle.regions.specs.Sift.{Sifted, tryRow, siftFrom}
 use Rattle.regions.specs.Sift as Sift
-use Rattle.records.specs.Record.{Record, header, opens, adds, areas, seal, mark, settle, sift, unknown}
-use Rattle.job.specs.Job.{isEmptyList}
-use Rattle.planner.specs.File.{File, Answer, settled, sifted, begun, wrongTurn, apply, settledFile, siftedFile, after, planned}
-use Rattle.memory.specs.Buffers.{Work, fits}
-use Rattle.planner.specs.Contents.{answerVisits, Out, whole}
-use Rattle.ends.specs.Built.{every-last, every-mem, rows-every}
+use Rattle.records.specs.declared.Record.{Record}
+use Rattle.records.specs.declared.Record.the-variants.{Header, Opens, Adds, Seal, Mark, Settle, Sift}
+use Rattle.records.specs.Facts.{Action, decides, action}
+use Rattle.planner.specs.File.{File, Answer, settled, sifted, contradicted, begun, siftedFile, act, apply, after, planned}
+use Rattle.memory.specs.Buffers.{Work, rawLists, raw, heldRows, built, kept, work, enough, fitsBy, fits}
+use Rattle.planner.specs.Contents.{Out, whole}
 use Rattle.ends.specs.Settles.{tries}
-use Rattle.ends.specs.Files.{taken as passed, Passed, planned-passed}
-use Rattle.follows.specs.Answers.{clash, or-false, or-middle, not-false}
-use Rattle.demands.specs.Reading.{Marked}
+use Rattle.ends.specs.Files.{both}
+use Rattle.demands.specs.Reading.{Marked, marks, orBefore, triedSearch, lastFrom, lastSearch}
 use Rattle.demands.specs.RefusalLaws.{taken, files}
-use Rattle.demands.specs.Cases.{Right, takes, forces, file-A, file-B, writtenAll, written, bytes, shown-right}
+use Rattle.demands.specs.Cases.{Right, takes, forces, drains, two-wait, file-A, file-B, writtenAll, written, bytes, shown-right}
 
--- ---- THE ROWS OF A JOB: each has the terms of a threshold
+-- ---- THE VISITS OF A SIFT are those of its last search
 
-abbrev From : List Threshold → Row → Type 0
-From ts r = (t : Threshold) × List·Memᴰ t ts × (r .terms ≡ rowTerms (t .terms))
-
-rows-from : (j : Job) (r : ℕ) → (getD (rowsOf j) r noRow .terms ≡ []) ⊎ From (j .thresholds) (getD (rowsOf j) r noRow)
-rows-from j =
-    rows-every (λ (r : Row). (r .terms ≡ []) ⊎ From (j .thresholds) r) (λ (t : Threshold). List·Memᴰ t (j .thresholds)) (λ t m. inr (t, m, refl)) (λ t r m a. a) (inl refl) j
-    (every-mem (λ (t : Threshold). List·Memᴰ t (j .thresholds)) (j .thresholds) (λ t m. m))
-
--- ---- THE VISITS OF A SIFT
-
--- A search that was begun ended with so many visits.
-abbrev Ended : Search → ℕ → Type 0
-Ended b n = (b ≡ Fits n) ⊎ ((b ≡ Nothing n) ⊎ (b ≡ Cut n))
-
--- 0, or the visits of a search of one of the job's rows.
-abbrev Visited : Job → ℕ → Type 0
-Visited j n = (n ≡ 0) ⊎ ((t : Threshold) × List·Memᴰ t (j .thresholds) × (s : State) × (d : ℕ → Bool) × Ended (search (rowTerms (t .terms)) s d) n)
-
--- Where no terms are, none is begun.
-skipped : (s : State) (d : ℕ → Bool) → search [] s d ≡ Skipped
-unfolding search plan hasNonunit
-skipped s d = refl
-
-module _ (j : Job) where
-  searched : (ts : List Term) (t : Threshold) → List·Memᴰ t (j .thresholds) → ts ≡ rowTerms (t .terms) → (s : State) (d : ℕ → Bool) (visits : ℕ) → Visited j visits
-      → Visited j (searchVisits visits (search ts s d))
-  searched ts t m e s d visits v = by (search ts s d) (ap (λ (l : List Term). search l s d) (sym e))
-    where
-      by : (b : Search) → search (rowTerms (t .terms)) s d ≡ b → Visited j (searchVisits visits b)
-      by Skipped q = v
-      by (Fits n) q = inr (t, m, s, d, inl q)
-      by (Nothing n) q = inr (t, m, s, d, inr (inl q))
-      by (Cut n) q = inr (t, m, s, d, inr (inr q))
-
-  searched-row : (r : ℕ) (s : State) (d : ℕ → Bool) (visits : ℕ) → Visited j visits → Visited j (searchVisits visits (search (getD (rowsOf j) r noRow .terms) s d))
-  searched-row r s d visits v = by (rows-from j r)
-    where
-      row : Row
-      row = getD (rowsOf j) r noRow
-
-      by : (row .terms ≡ []) ⊎ From (j .thresholds) row → Visited j (searchVisits visits (search (row .terms) s d))
-      by (inl e) = subst (λ (b : Search). Visited j (searchVisits visits b)) (sym (ap (λ (l : List Term). search l s d) e ∙ skipped s d)) v
-      by (inr (t, m, e)) = searched (row .terms) t m e s d visits v
-
-  tried : (v : Live) (gcds : List ℕ) (visits : ℕ) → Visited j visits → Visited j (tryRow (indexOf j) v gcds visits .visits)
+module _ (x : Index) where
+  tried : (v : Live) (gcds : List ℕ) (b : Search) → tryRow x v gcds (searchVisits 0 b) .visits ≡ searchVisits 0 (triedSearch x v gcds b)
   unfolding tryRow
-  tried v gcds visits h = by (isUnchanged (a .step))
+  tried v gcds b = by (isUnchanged (a .step)) (search ts (stateAt v r) (isDecided (a .marks)))
     where
       r : ℕ
       r = oldest (v .residuals .queue)
 
       ts : List Term
-      ts = getD (rowsOf j) r noRow .terms
+      ts = getD (x .rows) r noRow .terms
 
       a : Residual
       a = thresholdResidual ts (stateAt v r) (v .marks) gcds
@@ -103,90 +56,46 @@ module _ (j : Job) where
       w : Live
       w = live (v .states) (a .marks) (v .dirty) (nextRow (v .residuals))
 
-      b : Search
-      b = search ts (stateAt v r) (isDecided (a .marks))
+      by : (c : Bool) (k : Search)
+          → let d : Sifted = elim c [ true ↦ Sift.sifted w (a .gcds) (searchStep k) (searchVisits (searchVisits 0 b) k) | false ↦ Sift.sifted w (a .gcds) (a .step) (searchVisits 0 b) ] in
+          d .visits ≡ searchVisits 0 (elim c [ true ↦ orBefore b k | false ↦ b ])
+      by true Skipped = refl
+      by true (Fits n) = refl
+      by true (Nothing n) = refl
+      by true (Cut n) = refl
+      by false k = refl
 
-      by : (c : Bool)
-          → let d : Sifted = elim c [ true ↦ Sift.sifted w (a .gcds) (searchStep b) (searchVisits visits b) | false ↦ Sift.sifted w (a .gcds) (a .step) visits ] in
-          Visited j (d .visits)
-      by true = searched-row r (stateAt v r) (isDecided (a .marks)) visits h
-      by false = h
-
-  sifting : (n : ℕ) (v : Live) (gcds : List ℕ) (k : Step) (visits : ℕ) → Visited j visits → Visited j (siftFrom n (indexOf j) v gcds k visits .visits)
-  unfolding siftFrom
-  sifting zero v gcds k visits h = h
-  sifting (suc n) v gcds k visits h =
-      by (λ u g i m q. sifting n u g i m q) (contradicts (d .step)) (isEmpty (d .live .residuals .queue)) (contradicts (tryRow (indexOf j) (d .live) gcds visits .step))
+  sifting : (n : ℕ) (v : Live) (gcds : List ℕ) (k : Step) (b : Search) → siftFrom n x v gcds k (searchVisits 0 b) .visits ≡ searchVisits 0 (lastFrom n x v gcds b)
+  unfolding siftFrom lastFrom
+  sifting zero v gcds k b = refl
+  sifting (suc n) v gcds k b =
+      by (λ u g i c. sifting n u g i c) (contradicts (d .step)) (isEmpty (d .live .residuals .queue)) (contradicts (t .step))
     where
       d : Did
-      d = Drain.settle (indexOf j) v
+      d = Drain.settle x v
 
-      by : ((u : Live) (g : List ℕ) (i : Step) (m : ℕ) → Visited j m → Visited j (siftFrom n (indexOf j) u g i m .visits)) → (a b c : Bool)
-          → Visited j (tries (indexOf j) n v gcds k visits a b c .visits)
-      by ih true b c = h
-      by ih false true c = h
-      by ih false false true = tried (d .live) gcds visits h
-      by ih false false false = ih _ _ _ _ (tried (d .live) gcds visits h)
+      t : Sifted
+      t = tryRow x (d .live) gcds (searchVisits 0 b)
 
--- ---- all answers of a file: none before the seal; after it the job stays as it is
+      c : Search
+      c = triedSearch x (d .live) gcds b
 
-abbrev Honest : Job → List Answer → Type 0
-Honest j = Every (λ (a : Answer). Visited j (answerVisits a))
+      by : ((u : Live) (g : List ℕ) (i : Step) (e : Search) → siftFrom n x u g i (searchVisits 0 e) .visits ≡ searchVisits 0 (lastFrom n x u g e)) → (p q o : Bool)
+          → tries x n v gcds k (searchVisits 0 b) p q o .visits
+          ≡ searchVisits 0 (elim (p || q) [ true ↦ b | false ↦ elim o [ true ↦ c | false ↦ lastFrom n x (t .live) (t .gcds) c ] ])
+      by ih true q o = refl
+      by ih false true o = refl
+      by ih false false true = tried (d .live) gcds b
+      by ih false false false =
+          ap (λ (m : ℕ). siftFrom n x (t .live) (t .gcds) (joined (joined k (d .step)) (t .step)) m .visits) (tried (d .live) gcds b) ∙ ih (t .live) (t .gcds) _ c
 
-pub data Told (f : File) : Type 0 where
-  unsealed : f .sealed ≡ false → f .answers ≡ [] → Told f
-  sealed : f .started ≡ true → f .sealed ≡ true → Honest (f .job) (f .answers) → Told f
-
-told-apply : (f : File) (r : Record) → wrongTurn f r ≡ false → Told f → Told (apply f r)
-unfolding apply settledFile siftedFile
-told-apply f (header n) t (unsealed e a) = unsealed refl a
-told-apply f (header n) t (sealed s e a) = absurd (clash (f .started) s t)
-told-apply f (opens n b) t (unsealed e a) = unsealed e a
-told-apply f (opens n b) t (sealed s e a) = absurd (clash (f .sealed) e (or-false (not (f .started)) (f .sealed) t .1))
-told-apply f (adds c w) t (unsealed e a) = unsealed e a
-told-apply f (adds c w) t (sealed s e a) = absurd (clash (f .sealed) e (or-middle (not (f .started)) (f .sealed) (isEmptyList (f .job .thresholds)) t))
-told-apply f (areas c w) t (unsealed e a) = unsealed e a
-told-apply f (areas c w) t (sealed s e a) = absurd (clash (f .sealed) e (or-middle (not (f .started)) (f .sealed) (isEmptyList (f .job .thresholds)) t))
-told-apply f seal t (unsealed e a) = sealed (not-false (f .started) (or-false (not (f .started)) (f .sealed) t .0)) refl (subst (Honest (f .job)) (sym a) tt)
-told-apply f seal t (sealed s e a) = absurd (clash (f .sealed) e (or-false (not (f .started)) (f .sealed) t .1))
-told-apply f (mark n v) t (unsealed e a) = absurd (clash (f .sealed) (not-false (f .sealed) t) e)
-told-apply f (mark n v) t (sealed s e a) = sealed s refl a
-told-apply f settle t (unsealed e a) = absurd (clash (f .sealed) (not-false (f .sealed) t) e)
-told-apply f settle t (sealed s e a) =
-    sealed s refl (every-last (λ (b : Answer). Visited (f .job) (answerVisits b)) (f .answers) (settled (Drain.settle (indexOf (f .job)) (f .live) .step)) a (inl refl))
-told-apply f sift t (unsealed e a) = absurd (clash (f .sealed) (not-false (f .sealed) t) e)
-told-apply f sift t (sealed s e a) =
-    let g = Sift.sift (indexOf (f .job)) (f .live) (f .gcds) in
-    sealed s refl
-    (every-last (λ (b : Answer). Visited (f .job) (answerVisits b)) (f .answers) (sifted (g .step) (g .visits)) a (sifting (f .job) Drain.turns (f .live) (f .gcds) Unchanged 0 (inl refl)))
-told-apply f unknown t (unsealed e a) = unsealed e a
-told-apply f unknown t (sealed s e a) = sealed s e a
-
-told-after : (f : File) (rs : List Record) → Passed f rs → Told f → Told (after f rs)
-unfolding after
-told-after f [] p t = t
-told-after f (r ∷ rs) p t = told-after (apply f r) rs (p .1) (told-apply f r (passed f r (p .0) .turn) t)
-
-told-begun : Told begun
-unfolding begun
-told-begun = unsealed refl refl
-
-honest-mem : (j : Job) (xs : List Answer) → Honest j xs → (k : Step) (n : ℕ) → List·Memᴰ (sifted k n) xs → Visited j n
-honest-mem j [] h k n m = absurd (List·Memᴰ·not-nil m)
-honest-mem j (x ∷ xs) h k n m =
-    ⊎-elim (λ (e : sifted k n ≡ x). subst (λ (a : Answer). Visited j (answerVisits a)) (sym e) (h .0))
-    (λ (i : List·Memᴰ (sifted k n) xs). honest-mem j xs (h .1) k n i) (List·Memᴰ·cases-cons m)
-
-told-mem : (f : File) → Told f → (k : Step) (n : ℕ) → List·Memᴰ (sifted k n) (f .answers) → Visited (f .job) n
-told-mem f (unsealed e a) k n m = absurd (List·Memᴰ·not-nil (subst (λ (l : List Answer). List·Memᴰ (sifted k n) l) a m))
-told-mem f (sealed s e a) k n m = honest-mem (f .job) (f .answers) a k n m
-
--- A SIFT'S VISITS ARE 0 OR THOSE OF A SEARCH OF A ROW OF ITS JOB
-pub sift-visits : (input : List ℕ) (k : Step) (n : ℕ) → List·Memᴰ (sifted k n) (planned input .file .answers)
-    → (n ≡ 0) ⊎ ((t : Threshold) × List·Memᴰ t (planned input .file .job .thresholds) × (s : State) × (d : ℕ → Bool)
-    × ((search (rowTerms (t .terms)) s d ≡ Fits n) ⊎ ((search (rowTerms (t .terms)) s d ≡ Nothing n) ⊎ (search (rowTerms (t .terms)) s d ≡ Cut n))))
-sift-visits input k n m =
-    told-mem (planned input .file) (subst Told (sym (taken input)) (told-after begun (planned input .records) (planned-passed input) told-begun)) k n m
+pub sift-visits : (input : List ℕ) (before later : List Record) → planned input .records ≡ before ++ (Sift ∷ later)
+    → let f = after begun before in apply f Sift .answers ≡ f .answers ++ (sifted (apply f Sift .last) (searchVisits 0 (lastSearch f)) ∷ [])
+unfolding apply act siftedFile
+sift-visits input before later e =
+    let f = after begun before in
+    ap (λ (n : ℕ). f .answers ++ (sifted (Sift.sift (indexOf (f .closed)) (f .live) (f .gcds) .step) n ∷ []))
+    (sifting (indexOf (f .closed)) Drain.turns (f .live) (f .gcds) Unchanged Skipped)
 
 -- ---- FILES A AND B
 
@@ -195,6 +104,11 @@ a-taken = shown-right (takes file-A (settled Changed ∷ []) false) (List·Mem�
 
 b-taken : Right (takes file-B (settled Unchanged ∷ sifted Contradiction 11 ∷ []) true)
 b-taken = shown-right (takes file-B (settled Unchanged ∷ sifted Contradiction 11 ∷ []) true) (List·Memᴰ·tail (List·Memᴰ·head refl))
+
+abbrev b-before : List Record
+b-before =
+    Header 6 ∷ Opens 4 (pos 6) ∷ Adds 0 5 ∷ Adds 1 5 ∷ Adds 2 4 ∷ Adds 3 4
+    ∷ Opens 5 (pos 8) ∷ Adds 0 5 ∷ Adds 1 5 ∷ Adds 2 4 ∷ Adds 3 4 ∷ Seal ∷ Mark 4 1 ∷ Mark 5 0 ∷ Settle ∷ []
 
 a-forces : Right (forces file-A 0)
 a-forces = shown-right (forces file-A 0) (List·Memᴰ·tail (List·Memᴰ·tail (List·Memᴰ·head refl)))
@@ -206,22 +120,27 @@ cuts-each-search h =
     (subst (λ (l : List Answer). List·Memᴰ (sifted Contradiction 11) l) (sym (b-taken .2)) (List·Memᴰ·tail (List·Memᴰ·head refl))) in
     omega arith
 
--- File A forces node 0, which it does not mark,
-abbrev marksFirst : Record → Bool
-marksFirst (header n) = false
-marksFirst (opens n b) = false
-marksFirst (adds c w) = false
-marksFirst (areas c a) = false
-marksFirst seal = false
-marksFirst (mark n v) = eqb n 0
-marksFirst settle = false
-marksFirst sift = false
-marksFirst unknown = false
+-- Its sift has the visits of its last search.
+b-sifts : planned (writtenAll file-B) .records ≡ b-before ++ (Sift ∷ [])
+b-sifts = b-taken .1
 
-unmarked : (rs : List Record) → Every (λ (r : Record). marksFirst r ≡ false) rs → Marked rs 0 true → ⊥
+pub invents-visits : ((input : List ℕ) (before later : List Record) (k : Step) (n : ℕ) → planned input .records ≡ before ++ (Sift ∷ later)
+    → let f = after begun before in apply f Sift .answers ≡ f .answers ++ (sifted k n ∷ []) → n ≢ searchVisits 0 (lastSearch f)) → ⊥
+invents-visits h = h (writtenAll file-B) b-before [] _ _ b-sifts (sift-visits (writtenAll file-B) b-before [] b-sifts) refl
+
+-- Where two nodes wait, a settle drains both.
+pub drains-one-node : ((input : List ℕ) (before later : List Record) → planned input .records ≡ before ++ (Settle ∷ later)
+    → 2 ≤ after begun before .live .marks .nodes .ring .count → isEmpty (after begun (before ++ (Settle ∷ [])) .live .marks .nodes) ≡ false) → ⊥
+drains-one-node h =
+    let d = shown-right (drains two-wait 2) (List·Memᴰ·tail (List·Memᴰ·tail (List·Memᴰ·tail (List·Memᴰ·head refl)))) in
+    both (d .2) (h (writtenAll (two-wait ++ (Settle ∷ []))) two-wait [] (d .0) (let n = d .1 in omega arith))
+
+-- File A forces node 0, which it does not mark,
+unmarked : (rs : List Record) → Every (λ (r : Record). marks true (action r) 0 ≡ false) rs → Marked rs 0 true → ⊥
 unmarked [] h m = List·Memᴰ·not-nil m
 unmarked (r ∷ rs) h m =
-    ⊎-elim (λ (e : mark 0 1 ≡ r). absurd (clash true refl (ap marksFirst e ∙ h .0))) (λ (i : List·Memᴰ (mark 0 1) rs). unmarked rs (h .1) i) (List·Memᴰ·cases-cons m)
+    ⊎-elim (λ (e : decides 0 1 ≡ action r). absurd (both refl (ap (λ (a : Action). marks true a 0) e ∙ h .0)))
+    (λ (i : List·Memᴰ (decides 0 1) (map action rs)). unmarked rs (h .1) i) (List·Memᴰ·cases-cons m)
 
 a-unmarked : Marked file-A 0 true → ⊥
 a-unmarked m = unmarked file-A (refl, (refl, (refl, (refl, (refl, (refl, (refl, (refl, tt)))))))) m
@@ -230,14 +149,14 @@ pub leaves-all-undecided : ((input : List ℕ) (n : ℕ) → bit (planned input 
 leaves-all-undecided h = a-unmarked (subst (λ (rs : List Record). Marked rs 0 true) (a-taken .1) (h (writtenAll file-A) 0 a-forces))
 
 -- its settle does not contradict,
-pub always-contradicts : ((input : List ℕ) (before later : List Record) → planned input .records ≡ before ++ (settle ∷ later)
-    → after begun (before ++ (settle ∷ [])) .contradicted ≡ true) → ⊥
+pub always-contradicts : ((input : List ℕ) (before later : List Record) → planned input .records ≡ before ++ (Settle ∷ later)
+    → contradicted (after begun (before ++ (Settle ∷ []))) ≡ true) → ⊥
 always-contradicts h =
     let i = writtenAll file-A in
-    let before : List Record = header 5 ∷ opens 4 (pos 6) ∷ adds 0 4 ∷ adds 1 3 ∷ adds 2 2 ∷ seal ∷ mark 4 1 ∷ [] in
-    let e : after begun (planned i .records) .contradicted ≡ true =
-    ap (λ (rs : List Record). after begun rs .contradicted) (a-taken .1) ∙ h i before [] (a-taken .1) in
-    absurd (clash true refl (sym e ∙ ap (λ (f : File). f .contradicted) (sym (taken i)) ∙ a-taken .3))
+    let before : List Record = Header 5 ∷ Opens 4 (pos 6) ∷ Adds 0 4 ∷ Adds 1 3 ∷ Adds 2 2 ∷ Seal ∷ Mark 4 1 ∷ [] in
+    let e : contradicted (after begun (planned i .records)) ≡ true =
+    ap (λ (rs : List Record). contradicted (after begun rs)) (a-taken .1) ∙ h i before [] (a-taken .1) in
+    absurd (both refl (sym e ∙ ap (λ (f : File). contradicted f) (sym (taken i)) ∙ a-taken .3))
 
 a-written : writtenAll file-A ≢ []
 unfolding writtenAll written bytes
@@ -245,38 +164,15 @@ a-written e = let z : _≡_ {A = ℕ} (length (writtenAll file-A)) 0 = ap length
 
 -- Memory just long enough.
 abbrev lent : Work
-lent = record {
-  raw = record { raw-conditions = replicate 4096 0; raw-weights = replicate 4096 0; thresholds = replicate 1024 []; bounds = replicate 1024 (pos 0) };
-  built = record {
-    row-conditions = replicate 4096 0;
-    row-weights = replicate 4096 0;
-    rows = replicate 1024 [];
-    guard-bounds = replicate 1024 (pos 0);
-    guard-nodes = replicate 1024 0;
-    nodes = replicate 4096 [];
-    edges = replicate 4096 [];
-    links = replicate 2048 0;
-    scratch = replicate 3072 0;
-  };
-  kept = record {
-    figures = replicate 1024 [];
-    cursors = replicate 1024 [];
-    sure = replicate 64 0;
-    never = replicate 64 0;
-    search = replicate 4096 0;
-    gcds = replicate 1025 0;
-    node-queue = replicate 4096 0;
-    row-queue = replicate 1024 0;
-    residual-queue = replicate 1024 0;
-    row-pending = replicate 1024 0;
-    residual-pending = replicate 1024 0;
-    answers = replicate 64 0;
-    visits = replicate 64 0;
-  };
-}
+lent =
+    work (raw (rawLists (replicate 4096 0) (replicate 4096 0) (replicate 1024 [])) (replicate 1024 (pos 0)))
+    (built (heldRows (replicate 4096 0) (replicate 4096 0) (replicate 1024 []) (replicate 1024 (pos 0)) (replicate 1024 0)) (replicate 4096 [])
+    (replicate 4096 []) (replicate 2048 0))
+    (kept (replicate 1024 []) (replicate 1024 []) (replicate 64 0) (replicate 64 0) (replicate 4096 0) (replicate 1025 0) (replicate 4096 0)
+    (replicate 1024 []) (replicate 64 []))
 
 lent-fits : fits (writtenAll file-A) lent ≡ true
-unfolding fits writtenAll written bytes
+unfolding fitsBy enough writtenAll written bytes
 lent-fits = refl
 
 -- and it is accepted.

@@ -1,5 +1,4 @@
--- BLANK MEMORY: no row has a state and no node is decided. A file begins with it, and up to its seal no record touches it.
--- No bit lies behind the last word of a mask.
+-- CLEARED MEMORY, with which a file begins: no row has a state and no node is decided. No bit lies behind the last word of a mask.
 use Prim.Native.Nat.{ℕ, zero, suc, _*_, _/_, _%_, _≤_}
 use native.Mathlib.Omega.{arith}
 use mathlib.Core.Path.{_≡_, refl, ap, _∙_}

@@ -3,46 +3,54 @@
 use Prim.Native.Nat.{ℕ, zero, suc, _+_, _<_}
 use native.Mathlib.Omega.{arith}
 use mathlib.Core.Path.{_≡_, refl, sym, ap, _∙_, subst}
-use mathlib.Core.Bool.{Bool, true, false, cond, _||_}
+use mathlib.Core.Bool.{Bool, true, false, cond, not, _||_}
 use mathlib.Core.List.{List, [], _∷_, _++_}
 use mathlib.Core.Logic.{_⊎_, inl, inr}
-use lib.ListN.{length, length-append, drop, replicate, length-replicate}
+use lib.ListN.{length, drop, replicate, length-replicate}
 use lib.Dec.{eqb, ltb, leb}
 use lib.IntN.{ℤ, pos, negsuc}
 use lib.Signed.{ltZ}
 use borrow.Author.Tests.{ltb-false, leb-false, eqb-true}
 use Rattle.signed.specs.Signed.{nlt-leZ}
-use Rattle.numeric.specs.Area.{weightOfArea}
-use Rattle.numeric.specs.Threshold.{Term, term, Threshold}
 use Rattle.state.specs.declared.State.{State}
 use Rattle.state.specs.State.{noState}
 use Rattle.queues.specs.Queue.{isEmpty}
 use Rattle.queues.specs.RowsLaws.{flags-none}
 use Rattle.queues.specs.MarksLaws.{waits-none, waits-decide}
-use Rattle.row.specs.TermsLaws.{All as Every}
 use Rattle.thresholds.specs.Guards.{Bound}
 use Rattle.propagate.specs.ScanLaws.{clash}
 use Rattle.regions.specs.Drain as Drain
 use Rattle.regions.specs.Drain.{atRest}
-use Rattle.records.specs.Record.{kindOf, bodyLength, Record, header, opens, adds, areas, seal, mark, settle, sift, unknown}
-use Rattle.job.specs.Job.{Check, check, first, addTerm}
-use Rattle.planner.specs.File.{File, begun, refusal, wrongTurn, noSuchNode, notRising, badBound, badValue, tooMany, apply, settledFile, siftedFile, Outcome, outcome, recordAt, unknownKind, cutBody, refusalAt, readFrom, fileOf, planned, after}
-use Rattle.planner.specs.FileLaws.{after-snoc}
+use Rattle.records.specs.declared.Record.{Record}
+use Rattle.records.specs.declared.Record.the-variants.{Settle, Sift}
+use Rattle.records.specs.Record.{kindOf, bodyLength}
+use Rattle.records.specs.Facts.{building, within, serving, Facts, Change, opens, adds, Action, begins, changes, closes, decides, settles, sifts, idles, action, facts}
+use Rattle.records.specs.Checks.{anyOf, wrongTurn, notRising, badBound, tooMany, Check, check, first}
+use Rattle.job.specs.Job.{changed, isEmptyList, lastTerms, allTerms}
+use Rattle.planner.specs.File.{File, contradicted, begun, standing, refusal, sealedFile, markedFile, settledFile, siftedFile, act, apply, Outcome, outcome, recordAt, unknownKind, cutBody, refusalAt, readFrom, fileOf, planned, after}
+use Rattle.planner.specs.FileLaws.{checked, after-snoc}
 use Rattle.ends.specs.Rooms.{Bounded, none-bounded}
 use Rattle.ends.specs.Turns.{Sound}
 use Rattle.ends.specs.Settles.{settle-stays, settle-ends, sift-keeps, sift-ends as sift-rests}
-use Rattle.ends.specs.Built.{Fit, Fits, every-last, indexed, seal-sound}
+use Rattle.ends.specs.Built.{Fits, fits-none, fits-threshold, fits-term, indexed, seal-sound}
 use Rattle.ends.specs.Blank.{same-at}
 
--- A file within the limits.
+-- A file within the limits: the job that records gave and the one that the last seal closed, which is the same.
 pub record Good (f : File) : Type 0 where
   pub job : Fits (f .job)
+  pub closed : Fits (f .closed)
   pub live : Sound (f .live)
+  pub unstarted : f .started ≡ false → f .sealed ≡ false
+  pub same : f .sealed ≡ true → f .closed ≡ f .job
+
+pub both : {b : Bool} → b ≡ true → b ≡ false → ⊥
+both h k = let z : _≡_ {A = ℕ} 0 1 = cc in omega arith
 
 pub good-begun : Good begun
 unfolding begun
 good-begun = record {
-  job = record { nodes = omega arith; few = omega arith; each = tt };
+  job = fits-none 0 (omega arith);
+  closed = fits-none 0 (omega arith);
   live = record {
     long = length-replicate {A = State} 1024 noState;
     states = λ r. subst Bounded (sym (same-at 1024 r noState)) none-bounded;
@@ -50,6 +58,8 @@ good-begun = record {
     dirty = flags-none (replicate 1024 0) (let e = length-replicate {A = ℕ} 1024 0 in omega arith);
     residuals = flags-none (replicate 1024 0) (let e = length-replicate {A = ℕ} 1024 0 in omega arith);
   };
+  unstarted = λ e. refl;
+  same = λ e. refl;
 }
 
 -- ---- what a record that is not refused has
@@ -60,26 +70,56 @@ first-not true n cs h e = absurd (omega arith)
 first-not false n cs h e = (refl, e)
 
 -- Each check that it passed.
-pub record Taken (f : File) (r : Record) : Type 0 where
-  pub turn : wrongTurn f r ≡ false
-  pub fine : f .contradicted ≡ false
-  pub node : noSuchNode f r ≡ false
-  pub rising : notRising f r ≡ false
-  pub bound : badBound r ≡ false
-  pub value : badValue r ≡ false
-  pub room : tooMany f r ≡ false
+pub record Taken (f : File) (x : Facts) : Type 0 where
+  pub turn : wrongTurn (standing f) (x .turn) ≡ false
+  pub fine : contradicted f ≡ false
+  pub nodes : anyOf (leb (f .job .nodes)) (x .nodes) ≡ false
+  pub rising : anyOf (notRising (standing f)) (x .rising) ≡ false
+  pub bounds : anyOf badBound (x .bounds) ≡ false
+  pub values : anyOf (ltb 1) (x .values) ≡ false
+  pub room : tooMany (standing f) (x .counts) ≡ false
 
-pub taken : (f : File) (r : Record) → refusal f r ≡ 0 → Taken f r
+pub taken : (f : File) (r : Record) → refusal f r ≡ 0 → Taken f (facts (action r))
 unfolding refusal
 taken f r h =
-    let a = first-not (wrongTurn f r) 3 _ (omega arith) h in
-    let b = first-not (f .contradicted) 9 _ (omega arith) (a .1) in
-    let c = first-not (noSuchNode f r) 5 _ (omega arith) (b .1) in
-    let d = first-not (notRising f r) 6 _ (omega arith) (c .1) in
-    let e = first-not (badBound r) 7 _ (omega arith) (d .1) in
-    let g = first-not (badValue r) 8 _ (omega arith) (e .1) in
-    let k = first-not (tooMany f r) 4 _ (omega arith) (g .1) in
-    record { turn = a .0; fine = b .0; node = c .0; rising = d .0; bound = e .0; value = g .0; room = k .0 }
+    let x = facts (action r) in
+    let u = first-not false 2 _ (omega arith) h in
+    let v = first-not false 1 _ (omega arith) (u .1) in
+    let a = first-not (wrongTurn (standing f) (x .turn)) 3 _ (omega arith) (v .1) in
+    let b = first-not (contradicted f) 9 _ (omega arith) (a .1) in
+    let c = first-not (anyOf (leb (f .job .nodes)) (x .nodes)) 5 _ (omega arith) (b .1) in
+    let d = first-not (anyOf (notRising (standing f)) (x .rising)) 6 _ (omega arith) (c .1) in
+    let e = first-not (anyOf badBound (x .bounds)) 7 _ (omega arith) (d .1) in
+    let g = first-not (anyOf (ltb 1) (x .values)) 8 _ (omega arith) (e .1) in
+    let k = first-not (tooMany (standing f) (x .counts)) 4 _ (omega arith) (g .1) in
+    record { turn = a .0; fine = b .0; nodes = c .0; rising = d .0; bounds = e .0; values = g .0; room = k .0 }
+
+-- What the turns say of the file.
+pub building-turn : (f : File) → wrongTurn (standing f) building ≡ false → (f .started ≡ true) × (f .sealed ≡ false)
+building-turn f h = by (f .started) (f .sealed) h
+  where
+    by : (s e : Bool) → (not s || e) ≡ false → (s ≡ true) × (e ≡ false)
+    by true e q = (refl, q)
+    by false e q = absurd (both refl q)
+
+pub within-turn : (f : File) → wrongTurn (standing f) within ≡ false → (f .started ≡ true) × (f .sealed ≡ false)
+within-turn f h = by (f .started) (f .sealed) h
+  where
+    by : (s e : Bool) → (not s || e || isEmptyList (f .job .thresholds)) ≡ false → (s ≡ true) × (e ≡ false)
+    by true true q = absurd (both refl q)
+    by true false q = (refl, refl)
+    by false e q = absurd (both refl q)
+
+pub change-turn : (f : File) (c : Change) → Taken f (facts (changes c)) → (f .started ≡ true) × (f .sealed ≡ false)
+change-turn f (opens n b) t = building-turn f (t .turn)
+change-turn f (adds x) t = within-turn f (t .turn)
+
+pub serving-turn : (f : File) → wrongTurn (standing f) serving ≡ false → f .sealed ≡ true
+serving-turn f h = by (f .sealed) h
+  where
+    by : (e : Bool) → not e ≡ false → e ≡ true
+    by true q = refl
+    by false q = absurd (both refl q)
 
 or-left : (a b : Bool) → (a || b) ≡ false → a ≡ false
 or-left true b h = h
@@ -95,77 +135,78 @@ bound-of b h = record {
   high = nlt-leZ (pos 4503599627370496) b (or-right (ltZ b (negsuc 4503599627370495)) (ltZ (pos 4503599627370496) b) h);
 }
 
--- ---- thresholds and terms that are added
-
-fit-term : (x : Term) (ts : List Threshold) → x .condition < 4096 → Every Fit ts → Every Fit (addTerm x ts)
-unfolding addTerm
-fit-term x [] h a = tt
-fit-term x (t ∷ []) h a =
-    (record { node = a .0 .node; bound = a .0 .bound; conditions = every-last (λ (u : Term). u .condition < 4096) (t .terms) x (a .0 .conditions) h }, tt)
-fit-term x (t ∷ u ∷ us) h a = (a .0, fit-term x (u ∷ us) h (a .1))
-
-length-term : (x : Term) (ts : List Threshold) → length (addTerm x ts) ≡ length ts
-unfolding addTerm
-length-term x [] = refl
-length-term x (t ∷ []) = refl
-length-term x (t ∷ u ∷ us) = ap suc (length-term x (u ∷ us))
-
-fits-term : (f : File) (x : Term) → Good f → x .condition < 4096 → Fits (record { nodes = f .job .nodes; thresholds = addTerm x (f .job .thresholds) })
-fits-term f x g h = record {
-  nodes = g .job .nodes;
-  few = omega (arith, length-term x (f .job .thresholds), g .job .few);
-  each = fit-term x (f .job .thresholds) h (g .job .each);
-}
-
 -- ---- EVERY RECORD KEEPS A FILE GOOD
 
 module _ (f : File) (g : Good f) where
   pub node-small : (c : ℕ) → leb (f .job .nodes) c ≡ false → c < 4096
   node-small c h = let k = leb-false (f .job .nodes) c h in omega (arith, g .job .nodes)
 
-  kept : (r : Record) → Taken f r → Good (apply f r)
-  unfolding apply settledFile siftedFile Drain.mark
-  kept (header n) t = record { job = record { nodes = ltb-false 4096 n (t .room); few = omega arith; each = tt }; live = g .live }
-  kept (opens n b) t = record {
-    job = record {
-      nodes = g .job .nodes;
-      few = (let k = leb-false 1024 (length (f .job .thresholds)) (t .room) in
-          let l = length-append (f .job .thresholds) (record { node = n; bound = b; terms = [] } ∷ []) in
-          omega arith);
-      each = every-last Fit (f .job .thresholds) (record { node = n; bound = b; terms = [] }) (g .job .each)
-          (record { node = node-small n (t .node); bound = bound-of b (t .bound); conditions = tt });
-    };
+  -- what a seal, a mark, a settle or a sift leaves of the rest
+  closed-good : (h : File) → f .sealed ≡ true → h .started ≡ f .started → h .sealed ≡ true → h .job ≡ f .job → h .closed ≡ f .closed → Sound (h .live) → Good h
+  closed-good h e s k j c v = record {
+    job = subst Fits (sym j) (g .job);
+    closed = subst Fits (sym c) (g .closed);
+    live = v;
+    unstarted = λ q. absurd (both e (g .unstarted (sym s ∙ q)));
+    same = λ q. c ∙ g .same e ∙ sym j;
+  }
+
+  changed-fits : (c : Change) → Taken f (facts (changes c)) → Fits (record { nodes = f .job .nodes; thresholds = changed c (f .job .thresholds) })
+  changed-fits (opens n b) t =
+      fits-threshold (f .job) (g .job) n b (leb-false (f .job .nodes) n (t .nodes)) (bound-of b (t .bounds)) (leb-false 1024 (length (f .job .thresholds)) (t .room))
+  changed-fits (adds x) t =
+      let ts = f .job .thresholds in
+      fits-term (f .job) (g .job) x (leb-false (f .job .nodes) (x .condition) (t .nodes))
+      (leb-false 1024 (lastTerms ts) (or-left (leb 1024 (lastTerms ts)) (leb 4096 (allTerms ts)) (t .room)))
+      (leb-false 4096 (allTerms ts) (or-right (leb 1024 (lastTerms ts)) (leb 4096 (allTerms ts)) (t .room)))
+
+  kept : (a : Action) → Taken f (facts a) → Good (act f a)
+  unfolding act sealedFile markedFile settledFile siftedFile Drain.mark
+  kept (begins n) t = record {
+    job = fits-none n (ltb-false 4096 n (t .room));
+    closed = g .closed;
     live = g .live;
+    unstarted = λ e. g .unstarted (t .turn);
+    same = λ e. absurd (both e (g .unstarted (t .turn)));
   }
-  kept (adds c w) t = record { job = fits-term f (term c w) g (node-small c (t .node)); live = g .live }
-  kept (areas c a) t = record { job = fits-term f (term c (weightOfArea a)) g (node-small c (t .node)); live = g .live }
-  kept seal t = record { job = g .job; live = seal-sound (f .job) (g .job) (f .live) (g .live) }
-  kept (mark n v) t = record {
+  kept (changes c) t =
+      let e = change-turn f c t in
+      record { job = changed-fits c t; closed = g .closed; live = g .live; unstarted = λ q. e .1; same = λ q. absurd (both q (e .1)) }
+  kept closes t = record {
     job = g .job;
-    live = record {
-      long = g .live .long;
-      states = g .live .states;
-      waits = waits-decide (f .live .marks) (g .live .waits) (eqb v 1) n (node-small n (t .node));
-      dirty = g .live .dirty;
-      residuals = g .live .residuals;
-    };
+    closed = g .job;
+    live = seal-sound (f .job) (g .job) (f .live) (g .live);
+    unstarted = λ q. absurd (both (building-turn f (t .turn) .0) q);
+    same = λ q. refl;
   }
-  kept settle t = record { job = g .job; live = settle-stays (Drain.indexOf (f .job)) (indexed (f .job) (g .job)) (f .live) (g .live) .0 }
-  kept sift t = record { job = g .job; live = sift-keeps (Drain.indexOf (f .job)) (indexed (f .job) (g .job)) (f .live) (f .gcds) (g .live) }
-  kept unknown t = g
+  kept (decides n v) t = closed-good (act f (decides n v)) (serving-turn f (t .turn)) refl refl refl refl (record {
+    long = g .live .long;
+    states = g .live .states;
+    waits = waits-decide (f .live .marks) (g .live .waits) (eqb v 1) n (node-small n (t .nodes));
+    dirty = g .live .dirty;
+    residuals = g .live .residuals;
+  })
+  kept settles t =
+      closed-good (act f settles) (serving-turn f (t .turn)) refl refl refl refl
+      (settle-stays (Drain.indexOf (f .closed)) (indexed (f .closed) (g .closed)) (f .live) (g .live) .0)
+  kept sifts t =
+      closed-good (act f sifts) (serving-turn f (t .turn)) refl refl refl refl
+      (sift-keeps (Drain.indexOf (f .closed)) (indexed (f .closed) (g .closed)) (f .live) (f .gcds) (g .live))
+  kept (idles x) t = g
 
   pub good-apply : (r : Record) → refusal f r ≡ 0 → Good (apply f r)
-  good-apply r h = kept r (taken f r h)
+  unfolding apply
+  good-apply r h = kept (action r) (taken f r h)
 
   -- ---- at the end of a settle and of a sift nothing waits
 
-  pub rests-settle : apply f settle .contradicted ≡ false → atRest (apply f settle .live) ≡ true
-  unfolding apply settledFile
-  rests-settle h = settle-ends (Drain.indexOf (f .job)) (indexed (f .job) (g .job)) (f .live) (g .live) h
+  pub rests-settle : contradicted (apply f Settle) ≡ false → atRest (apply f Settle .live) ≡ true
+  unfolding apply act settledFile
+  rests-settle h = settle-ends (Drain.indexOf (f .closed)) (indexed (f .closed) (g .closed)) (f .live) (g .live) h
 
-  pub rests-sift : apply f sift .contradicted ≡ false → (atRest (apply f sift .live) ≡ true) × (isEmpty (apply f sift .live .residuals .queue) ≡ true)
-  unfolding apply siftedFile
-  rests-sift h = sift-rests (Drain.indexOf (f .job)) (indexed (f .job) (g .job)) (f .live) (f .gcds) (g .live) h
+  pub rests-sift : contradicted (apply f Sift) ≡ false → (atRest (apply f Sift .live) ≡ true) × (isEmpty (apply f Sift .live .residuals .queue) ≡ true)
+  unfolding apply act siftedFile
+  rests-sift h = sift-rests (Drain.indexOf (f .closed)) (indexed (f .closed) (g .closed)) (f .live) (f .gcds) (g .live) h
 
 -- ---- records that were taken, one after the other
 
@@ -189,7 +230,7 @@ good-after f (r ∷ rs) g p = good-after (apply f r) rs (good-apply f g r (p .0)
 
 -- Any number but those for a kind and for a body is the refusal of the record itself.
 pub refused-by : (n : ℕ) → (2 ≡ n → ⊥) → (1 ≡ n → ⊥) → (f : File) (kind : ℕ) (rest : List ℕ) → refusalAt f kind rest ≡ n → refusal f (recordAt kind rest) ≡ n
-refused-by n two one f kind rest h = by (unknownKind kind) (cutBody kind rest) h
+refused-by n two one f kind rest h = by (unknownKind kind) (cutBody kind rest) (sym (checked f kind rest) ∙ h)
   where
     by : (a b : Bool) → cond a 2 (cond b 1 (refusal f (recordAt kind rest))) ≡ n → refusal f (recordAt kind rest) ≡ n
     by true b e = absurd (two e)
@@ -226,20 +267,20 @@ pub good-before : (input : List ℕ) (before later : List Record) → planned in
 good-before input before later e = good-after begun before good-begun (passed-before begun before later (subst (Passed begun) e (planned-passed input)))
 
 -- A SETTLE OR A SIFT THAT DOES NOT CONTRADICT ENDS BECAUSE NOTHING WAITS ANY MORE
-pub ends : (input : List ℕ) (before later : List Record) (r : Record) → planned input .records ≡ before ++ (r ∷ later) → (r ≡ settle) ⊎ (r ≡ sift)
-    → after begun (before ++ (r ∷ [])) .contradicted ≡ false → atRest (after begun (before ++ (r ∷ [])) .live) ≡ true
+pub ends : (input : List ℕ) (before later : List Record) (r : Record) → planned input .records ≡ before ++ (r ∷ later) → (r ≡ Settle) ⊎ (r ≡ Sift)
+    → contradicted (after begun (before ++ (r ∷ []))) ≡ false → atRest (after begun (before ++ (r ∷ [])) .live) ≡ true
 ends input before later r e (inl k) h =
     let q = after-snoc begun before r ∙ ap (apply (after begun before)) k in
     ap (λ (f : File). atRest (f .live)) q
-    ∙ rests-settle (after begun before) (good-before input before (r ∷ later) e) (ap (λ (f : File). f .contradicted) (sym q) ∙ h)
+    ∙ rests-settle (after begun before) (good-before input before (r ∷ later) e) (ap (λ (f : File). contradicted f) (sym q) ∙ h)
 ends input before later r e (inr k) h =
     let q = after-snoc begun before r ∙ ap (apply (after begun before)) k in
     ap (λ (f : File). atRest (f .live)) q
-    ∙ rests-sift (after begun before) (good-before input before (r ∷ later) e) (ap (λ (f : File). f .contradicted) (sym q) ∙ h) .0
+    ∙ rests-sift (after begun before) (good-before input before (r ∷ later) e) (ap (λ (f : File). contradicted f) (sym q) ∙ h) .0
 
-pub sift-ends : (input : List ℕ) (before later : List Record) → planned input .records ≡ before ++ (sift ∷ later)
-    → after begun (before ++ (sift ∷ [])) .contradicted ≡ false → isEmpty (after begun (before ++ (sift ∷ [])) .live .residuals .queue) ≡ true
+pub sift-ends : (input : List ℕ) (before later : List Record) → planned input .records ≡ before ++ (Sift ∷ later)
+    → contradicted (after begun (before ++ (Sift ∷ []))) ≡ false → isEmpty (after begun (before ++ (Sift ∷ [])) .live .residuals .queue) ≡ true
 sift-ends input before later e h =
-    let q = after-snoc begun before sift in
+    let q = after-snoc begun before Sift in
     ap (λ (f : File). isEmpty (f .live .residuals .queue)) q
-    ∙ rests-sift (after begun before) (good-before input before (sift ∷ later) e) (ap (λ (f : File). f .contradicted) (sym q) ∙ h) .1
+    ∙ rests-sift (after begun before) (good-before input before (Sift ∷ later) e) (ap (λ (f : File). contradicted f) (sym q) ∙ h) .1

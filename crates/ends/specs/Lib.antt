@@ -4,5 +4,6 @@ pub mod Keeps
 pub mod Turns
 pub mod Settles
 pub mod Built
+pub mod SizeLaws
 pub mod Blank
 pub mod Files

@@ -1,4 +1,4 @@
--- THE FIRST STATES IN BLANK MEMORY, where no row has a state and no node is decided, begin the invariant.
+-- THE FIRST STATES OF ROWS begin the invariant, where every decided node waits and none was drained. Cleared memory is one case.
 use Prim.Native.Nat.{ℕ, zero, suc, _+_, _≤_, _<_}
 use native.Mathlib.Nat.{not-suc-le-zero}
 use native.Mathlib.Omega.{arith}
@@ -17,6 +17,8 @@ use Rattle.thresholds.specs.Rows.{Row, noRow, stateOfRow}
 use Rattle.between.specs.Between.{Index, Live, live, stateAt, firstStates}
 use Rattle.table.specs.Table.{start}
 use Rattle.follows.specs.Answers.{clash}
+use Rattle.follows.specs.Stands.{Apart}
+use Rattle.follows.specs.Waiting.{Queued}
 use Rattle.follows.specs.Settled.{Sound}
 use Rattle.follows.specs.Start.{nothing, first-sound}
 
@@ -40,22 +42,35 @@ first-here r (y ∷ rs) ss i zero e h l =
 first-here r (y ∷ rs) ss i (suc q) e h l =
     first-here (r + 1) rs (set ss r (stateOfRow y)) i q (omega arith) (omega arith) (let k = length-set ss r (stateOfRow y) in omega arith)
 
--- WHAT A SEAL OF BLANK MEMORY BEGINS WITH
-pub first-blank : (x : Index) (v : Live) → length (x .rows) ≤ length (v .states) → length (x .rows) ≤ length (v .dirty .pending)
-    → length (firstStates 0 (x .rows) (v .states)) ≡ length (v .states) → Waits (v .marks)
-    → ((r : ℕ) → stateAt v r ≡ noState) → ((b : Bool) (n : ℕ) → bit (mask b (v .marks)) n ≡ false)
+-- ---- what a seal begins with
+
+-- Every decided node waits once, none is drained, and no row from a number on has a state yet.
+pub record Undrained (rows : ℕ) (v : Live) : Type 0 where
+  pub queued : Queued (λ (n : ℕ). false) (v .marks)
+  pub apart : Apart (v .marks)
+  pub states : (r : ℕ) → rows ≤ r → stateAt v r ≡ noState
+
+pub undrained-from : (m n : ℕ) (v : Live) → m ≤ n → Undrained m v → Undrained n v
+undrained-from m n v h u = record { queued = u .queued; apart = u .apart; states = λ r k. u .states r (omega arith) }
+
+-- So it is where nothing is decided and no row has a state.
+pub undrained-none : (v : Live) → Waits (v .marks) → ((r : ℕ) → stateAt v r ≡ noState) → ((b : Bool) (n : ℕ) → bit (mask b (v .marks)) n ≡ false) → Undrained 0 v
+undrained-none v waits states bits = record {
+  queued = record {
+    queue = waits;
+    decided = λ n e. absurd (clash false e refl);
+    gone = λ n e. absurd (clash false e refl);
+    left = λ n d e. absurd (clash (isDecided (v .marks) n) d (ap₂ (λ (a c : Bool). a || c) (bits true n) (bits false n)));
+  };
+  apart = λ n a c. clash (bit (v .marks .sure) n) a (bits true n);
+  states = λ r h. states r;
+}
+
+-- A SEAL, WHATEVER IS DECIDED
+pub first-undrained : (x : Index) (v : Live) → length (x .rows) ≤ length (v .states) → length (x .rows) ≤ length (v .dirty .pending)
+    → length (firstStates 0 (x .rows) (v .states)) ≡ length (v .states) → Undrained (length (x .rows)) v
     → Sound x (start (bit (v .marks .sure)) (bit (v .marks .never))) nothing (live (firstStates 0 (x .rows) (v .states)) (v .marks) (v .dirty) (v .residuals))
-first-blank x v room flags long waits states bits =
+first-undrained x v room flags long u =
     first-sound x (live (firstStates 0 (x .rows) (v .states)) (v .marks) (v .dirty) (v .residuals)) (omega (arith, long, room)) flags
     (λ r i. first-here 0 (x .rows) (v .states) r r (omega arith) i (omega (arith, room)))
-    (λ r i. first-other 0 (x .rows) (v .states) r (inr (omega arith)) ∙ states r)
-    (record {
-      queue = waits;
-      decided = λ n e. absurd (clash false e refl);
-      gone = λ n e. absurd (clash false e refl);
-      left = λ n d e. absurd (clash (isDecided (v .marks) n) d (undecided n));
-    })
-    (λ n a c. clash (bit (v .marks .sure) n) a (bits true n))
-  where
-    undecided : (n : ℕ) → isDecided (v .marks) n ≡ false
-    undecided n = ap₂ (λ (a c : Bool). a || c) (bits true n) (bits false n)
+    (λ r i. first-other 0 (x .rows) (v .states) r (inr (omega arith)) ∙ u .states r (omega arith)) (u .queued) (u .apart)

@@ -1,1 +1,1 @@
-// What the seal lays out is what draining reads: definitions and theorems only, in specs/.
+// What the seal lays out of a job within the limits serves settling and sifting, whatever follows: definitions and theorems only, in specs/.

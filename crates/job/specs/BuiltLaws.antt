@@ -4,69 +4,34 @@ use native.Mathlib.Nat.{not-suc-le-zero}
 use native.Mathlib.Decide.{decLt}
 use native.Mathlib.Omega.{arith}
 use mathlib.Core.Path.{_≡_, refl, sym, ap, ap₂, _∙_, subst}
-use mathlib.Core.List.{List, [], _∷_, _++_, map, map-append}
+use mathlib.Core.List.{List, [], _∷_, _++_}
 use lib.ListN.{length, getD, take, drop, set, replicate, length-map, length-replicate, getD-replicate, List·getD-append}
 use lib.Seq.{length-take-le, getD-append-add, ext-getD}
 use lib.IntN.{ℤ}
-use Rattle.lists.specs.Laid.{over, joinAll, ends, triples, numbers}
+use Rattle.memory.specs.Limits.{maxThresholds}
+use Rattle.memory.specs.Buffers.{Built, heldRows, built}
+use Rattle.lists.specs.Laid.{over, joinAll, ends, triples}
 use Rattle.lists.specs.Columns.{column}
-use Rattle.lists.specs.ColumnsLaws.{length-column}
 use Rattle.numeric.specs.Threshold.{Job}
-use Rattle.thresholds.specs.Rows.{Row, rowsOf, edgesOf}
-use Rattle.thresholds.specs.Laid.{conditions, weights, termLists, guardLists, thresholdOf, rowOfNode, edgeLists, edgeRow}
-use Rattle.prefixes.specs.HeldLaws.{length-numbers}
-use Rattle.prefixes.specs.Held.{Held, heldRows}
+use Rattle.thresholds.specs.Rows.{Row, rowsOf}
+use Rattle.thresholds.specs.Laid.{conditions, weights, termLists, guardLists}
+use Rattle.prefixes.specs.Held.{Held}
+use Rattle.prefixes.specs.Held as Held
 use Rattle.prefixes.specs.Links.{neighbourLists}
 use Rattle.prefixes.specs.Pass.{Clear}
 use Rattle.prefixes.specs.Neighbours as Neighbours
-use Rattle.prepare.specs.PrepareParts.{over-long}
+use Rattle.prepare.specs.PrepareParts.{over-long, over-part}
 use Rattle.prepare.specs.PlaceLaws.{raws-few}
+use Rattle.prepare.specs.Given.{givenJob}
 use Rattle.prepare.specs.RowsGiven.{rows-given}
-use Rattle.prepare.specs.RowsGivenLaid.{length-ends}
 use Rattle.prepare.specs.RowsGivenLinks.{held-given, neighbours-given}
-use Rattle.prepare.specs.NodesGiven.{triples-columns}
-use Rattle.prepare.specs.Prepare.{Lent, lent, Prepared}
+use Rattle.prepare.specs.JobBuffers.{rowEntries, nodeEntries, builtWith, builtOf, unlinkedOf}
+use Rattle.prepare.specs.JobBuffersLaws.{guards-even, rows-even, entries-long, entries-columns, nodes-long, neighbours-long}
+use Rattle.prepare.specs.Prepare.{Prepared}
 use Rattle.prepare.specs.declared.Extent.{Extent}
 use Rattle.job.specs.declared.Counts.{Counts}
 use Rattle.job.specs.Gathered.{cut, jobIn}
-use Rattle.job.specs.Built.{Empty, rowEntries, Unlinked, Built}
-
--- Lists over the first numbers, and triples, have their lengths.
-length-first : {X : Type 0} (f : ℕ → X) (n : ℕ) → length (map f (numbers 0 n)) ≡ n
-length-first f n = length-map (numbers 0 n) f ∙ length-numbers 0 n
-
-triples-long : (xs ys zs : List ℕ) → length ys ≡ length xs → length zs ≡ length xs → length (triples xs ys zs) ≡ length xs
-triples-long xs ys zs a b = sym (length-column 0 (triples xs ys zs)) ∙ ap length (triples-columns xs ys zs a b .0)
-
-module _ (j : Job) where
-  guards-even : length (ends 0 (guardLists (rowsOf j))) ≡ length (ends 0 (termLists (rowsOf j)))
-  guards-even =
-      length-ends 0 (guardLists (rowsOf j)) ∙ length-map (rowsOf j) (λ (r : Row). r .guards)
-      ∙ sym (length-ends 0 (termLists (rowsOf j)) ∙ length-map (rowsOf j) (λ (r : Row). r .terms))
-
-  rows-even : length (ends 0 (termLists (rowsOf j))) ≡ length (rowsOf j)
-  rows-even = length-ends 0 (termLists (rowsOf j)) ∙ length-map (rowsOf j) (λ (r : Row). r .terms)
-
-  pub entries-long : (links : List ℕ) → length links ≡ length (rowsOf j) → length (rowEntries j links) ≡ length (rowsOf j)
-  entries-long links e = triples-long (ends 0 (termLists (rowsOf j))) (ends 0 (guardLists (rowsOf j))) links guards-even (e ∙ sym rows-even) ∙ rows-even
-
-  -- The columns of the rows, whatever stands behind.
-  pub entries-columns : (links : List ℕ) (b : List (List ℕ)) → length links ≡ length (rowsOf j)
-      → let l = rowEntries j links in
-      (column 0 (over l b) ≡ ends 0 (termLists (rowsOf j)) ++ column 0 (drop (length l) b))
-      × ((column 1 (over l b) ≡ ends 0 (guardLists (rowsOf j)) ++ column 1 (drop (length l) b)) × (column 2 (over l b) ≡ links ++ column 2 (drop (length l) b)))
-  entries-columns links b e =
-      let l = rowEntries j links in
-      let t = triples-columns (ends 0 (termLists (rowsOf j))) (ends 0 (guardLists (rowsOf j))) links guards-even (e ∙ sym rows-even) in (
-        map-append (λ (v : List ℕ). getD v 0 0) l (drop (length l) b) ∙ ap (λ (x : List ℕ). x ++ column 0 (drop (length l) b)) (t .0),
-        (
-          map-append (λ (v : List ℕ). getD v 1 0) l (drop (length l) b) ∙ ap (λ (x : List ℕ). x ++ column 1 (drop (length l) b)) (t .1),
-          map-append (λ (v : List ℕ). getD v 2 0) l (drop (length l) b) ∙ ap (λ (x : List ℕ). x ++ column 2 (drop (length l) b)) (t .2),
-        ),
-      )
-
-pub neighbours-long : (rs : List Row) → length (ends 0 (neighbourLists rs)) ≡ length rs
-neighbours-long rs = length-ends 0 (neighbourLists rs) ∙ length-first _ (length rs)
+use Rattle.job.specs.Built.{Roomy, Spare}
 
 set-triples : (xs ys zs ws : List ℕ) (r : ℕ) → length ys ≡ length xs → length zs ≡ length xs → length ws ≡ length xs → r < length xs
     → set (getD (triples xs ys zs) r []) 2 (getD ws r 0) ≡ getD (triples xs ys ws) r []
@@ -87,45 +52,28 @@ over-behind x y b r d e h =
 
 -- ---- what `prepare` leaves, the nodes put back behind those of the job
 
-module _ (k : Counts) (cs ws : List ℕ) (ts : List (List ℕ)) (bs : List ℤ) (b : Lent) (inside : k .nodes ≤ length (b .nodes)) (so : Extent) (a : Lent)
-    (p : Prepared (cut k cs ws ts) (take (k .thresholds) bs) so
-    (lent (b .row-conditions) (b .row-weights) (b .rows) (b .guard-bounds) (b .guard-nodes) (take (k .nodes) (b .nodes)) (b .edges) (b .scratch)) a) where
+module _ (k : Counts) (cs ws : List ℕ) (ts : List (List ℕ)) (bs : List ℤ) (b : Built) (inside : k .nodes ≤ length (b .nodes)) (so : Extent) (a : Built)
+    (p : Prepared (cut k cs ws ts) (take (k .thresholds) bs) so (built (b .held) (take (k .nodes) (b .nodes)) (b .edges) (b .links)) a) where
   abbrev all : Job
   all = jobIn k cs ws ts bs
 
-  abbrev entries : ℕ → List (List ℕ)
-  entries n =
-      triples (map (thresholdOf 0 (all .thresholds)) (numbers 0 n)) (map (rowOfNode (rowsOf all) (all .thresholds)) (numbers 0 n)) (ends 0 (edgeLists n (rowsOf all)))
+  abbrev part : Built
+  part = built (b .held) (take (k .nodes) (b .nodes)) (b .edges) (b .links)
 
-  as-many : length (take (k .nodes) (b .nodes)) ≡ k .nodes
-  as-many = length-take-le (k .nodes) (b .nodes) inside
+  left : a ≡ unlinkedOf all part
+  left =
+      p .left
+      ∙ ap (λ (n : ℕ). unlinkedOf (givenJob (cut k cs ws ts) (take (k .thresholds) bs) n) part) (length-take-le (k .nodes) (b .nodes) inside)
 
-  nodes-long : length (entries (k .nodes)) ≡ k .nodes
-  nodes-long =
-      let f = length-first (thresholdOf 0 (all .thresholds)) (k .nodes) in
-      triples-long (map (thresholdOf 0 (all .thresholds)) (numbers 0 (k .nodes))) (map (rowOfNode (rowsOf all) (all .thresholds)) (numbers 0 (k .nodes)))
-      (ends 0 (edgeLists (k .nodes) (rowsOf all)))
-      (length-first (rowOfNode (rowsOf all) (all .thresholds)) (k .nodes) ∙ sym f)
-      (length-ends 0 (edgeLists (k .nodes) (rowsOf all)) ∙ length-first (edgesOf (rowsOf all)) (k .nodes) ∙ sym f)
-      ∙ f
+  nodes-left : a .nodes ++ drop (k .nodes) (b .nodes) ≡ over (nodeEntries all) (b .nodes)
+  unfolding builtWith
+  nodes-left =
+      ap (λ (x : Built). x .nodes ++ drop (k .nodes) (b .nodes)) left
+      ∙ over-part (nodeEntries all) (b .nodes) (k .nodes) (let e = nodes-long all in omega (arith, e)) inside
 
-  pub unlinked : Unlinked all (so .rows) b
-      (lent (a .row-conditions) (a .row-weights) (a .rows) (a .guard-bounds) (a .guard-nodes) (a .nodes ++ drop (k .nodes) (b .nodes)) (a .edges) (a .scratch))
-  unlinked = record {
-    laid = record {
-      many = p .many;
-      conditions = p .conditions;
-      weights = p .weights;
-      guard-bounds = p .guard-bounds;
-      guard-nodes = p .guard-nodes;
-      nodes =
-          ap (λ (l : List (List ℕ)). l ++ drop (k .nodes) (b .nodes)) (p .nodes ∙ ap entries as-many)
-          ∙ ap (λ (n : ℕ). entries (k .nodes) ++ drop n (b .nodes)) (sym nodes-long);
-      edges = p .edges ∙ ap (λ (n : ℕ). over (map edgeRow (joinAll (edgeLists n (rowsOf all)))) (b .edges)) as-many;
-      scratch = p .scratch;
-    };
-    rows = p .rows;
-  }
+  pub unlinked : built (a .held) (a .nodes ++ drop (k .nodes) (b .nodes)) (a .edges) (a .links) ≡ unlinkedOf all b
+  unfolding builtWith
+  unlinked = λ i. built (left i .held) (nodes-left i) (left i .edges) (left i .links)
 
   -- There are no more rows than thresholds.
   pub rows-few : length (rowsOf all) ≤ length (take (k .thresholds) ts)
@@ -133,7 +81,8 @@ module _ (k : Counts) (cs ws : List ℕ) (ts : List (List ℕ)) (bs : List ℤ) 
 
 -- ---- the links
 
-module _ (j : Job) (count : ℕ) (b a : Lent) (h : Empty b) (u : Unlinked j count b a) (few : count ≤ 1024) where
+module _ (j : Job) (count : ℕ) (b a : Built) (h : Roomy b) (many : count ≡ length (rowsOf j)) (few : count ≤ maxThresholds)
+    (u : a ≡ unlinkedOf j (built (b .held) (b .nodes) (b .edges) [])) where
   abbrev rs : List Row
   rs = rowsOf j
 
@@ -143,78 +92,94 @@ module _ (j : Job) (count : ℕ) (b a : Lent) (h : Empty b) (u : Unlinked j coun
   abbrev plain : List (List ℕ)
   plain = rowEntries j zeros
 
-  plain-long : length plain ≡ count
-  plain-long = entries-long j zeros (length-replicate (length rs) 0) ∙ sym (u .laid .many)
+  abbrev linked : List (List ℕ)
+  linked = rowEntries j (ends 0 (neighbourLists rs))
 
-  ends-there : column 0 (a .rows) ≡ ends 0 (termLists rs) ++ column 0 (drop (length plain) (b .rows))
-  ends-there = ap (column 0) (u .rows) ∙ entries-columns j zeros (b .rows) (length-replicate (length rs) 0) .0
+  abbrev held : List Row
+  held = Held.heldRows (a .held .rows) (a .held .row-conditions) (a .held .row-weights) count
+
+  rows-left : a .held .rows ≡ over plain (b .held .rows)
+  unfolding builtWith
+  rows-left = ap (λ (x : Built). x .held .rows) u
+
+  conditions-left : a .held .row-conditions ≡ over (conditions (joinAll (termLists rs))) (b .held .row-conditions)
+  unfolding builtWith
+  conditions-left = ap (λ (x : Built). x .held .row-conditions) u
+
+  weights-left : a .held .row-weights ≡ over (weights (joinAll (termLists rs))) (b .held .row-weights)
+  unfolding builtWith
+  weights-left = ap (λ (x : Built). x .held .row-weights) u
+
+  plain-long : length plain ≡ count
+  plain-long = entries-long j zeros (length-replicate (length rs) 0) ∙ sym many
+
+  linked-long : length linked ≡ count
+  linked-long = entries-long j (ends 0 (neighbourLists rs)) (neighbours-long rs) ∙ sym many
+
+  ends-there : column 0 (a .held .rows) ≡ ends 0 (termLists rs) ++ column 0 (drop (length plain) (b .held .rows))
+  ends-there = ap (column 0) rows-left ∙ entries-columns j zeros (b .held .rows) (length-replicate (length rs) 0) .0
 
   -- WHAT THE SEARCH FOR LINKS ASKS
-  pub rows-held : Held (a .rows) (a .row-conditions) (a .row-weights) count
+  pub rows-held : Held (a .held .rows) (a .held .row-conditions) (a .held .row-weights) count
   rows-held =
-      subst (Held (a .rows) (a .row-conditions) (a .row-weights)) (length-map rs (λ (r : Row). r .terms) ∙ sym (u .laid .many))
-      (held-given (a .row-conditions) (a .row-weights) (a .rows) (termLists rs) _ _ _ (u .laid .conditions) (u .laid .weights) ends-there)
+      subst (Held (a .held .rows) (a .held .row-conditions) (a .held .row-weights)) (length-map rs (λ (r : Row). r .terms) ∙ sym many)
+      (held-given (a .held .row-conditions) (a .held .row-weights) (a .held .rows) (termLists rs) _ _ _ conditions-left weights-left ends-there)
 
-  rows-sized : length (a .rows) ≡ length (b .rows)
-  rows-sized = ap length (u .rows) ∙ over-long plain (b .rows) (let e = plain-long in let l = h .rows in omega (arith, e, l, few))
+  rows-sized : length (a .held .rows) ≡ length (b .held .rows)
+  rows-sized = ap length rows-left ∙ over-long plain (b .held .rows) (let e = plain-long in let l = h .rows in omega (arith, e, l, few))
 
-  pub rows-inside : count ≤ length (a .rows)
+  pub rows-inside : count ≤ length (a .held .rows)
   rows-inside = let e = rows-sized in let l = h .rows in omega (arith, e, l, few)
 
-  pub words-clear : Clear (a .scratch)
-  words-clear =
-      subst Clear (sym (u .laid .scratch))
-      (h .words, λ x q. ap (λ (l : List ℕ). getD l x 0) (h .words-clear) ∙ getD-replicate (length (b .scratch)) x 0 0 (let w = h .words in omega (arith, w, q)))
-
-  module _ (rows : List (List ℕ)) (links₀ links₁ scratch : List ℕ)
-      (p : Neighbours.Prepared (heldRows (a .rows) (a .row-conditions) (a .row-weights) count) count (a .rows) rows links₀ links₁ (a .scratch) scratch) where
-    same-links : neighbourLists (heldRows (a .rows) (a .row-conditions) (a .row-weights) count) ≡ neighbourLists rs
+  module _ (rows : List (List ℕ)) (links₁ sc₀ sc₁ : List ℕ) (p : Neighbours.Prepared held count (a .held .rows) rows (b .links) links₁ sc₀ sc₁) where
+    same-links : neighbourLists held ≡ neighbourLists rs
     same-links =
-        ap (λ (n : ℕ). neighbourLists (heldRows (a .rows) (a .row-conditions) (a .row-weights) n)) (u .laid .many)
-        ∙ neighbours-given (a .row-conditions) (a .row-weights) (a .rows) rs _ _ _ (u .laid .conditions) (u .laid .weights) ends-there
+        ap (λ (n : ℕ). neighbourLists (Held.heldRows (a .held .rows) (a .held .row-conditions) (a .held .row-weights) n)) many
+        ∙ neighbours-given (a .held .row-conditions) (a .held .row-weights) (a .held .rows) rs _ _ _ conditions-left weights-left ends-there
 
-    abbrev linked : List (List ℕ)
-    linked = rowEntries j (ends 0 (neighbourLists rs))
-
-    linked-long : length linked ≡ count
-    linked-long = entries-long j (ends 0 (neighbourLists rs)) (neighbours-long rs) ∙ sym (u .laid .many)
-
-    rows-at : (r : ℕ) → getD rows r [] ≡ getD (over linked (b .rows)) r []
+    rows-at : (r : ℕ) → getD rows r [] ≡ getD (over linked (b .held .rows)) r []
     rows-at r = by (decLt r count)
       where
-        by : Dec (r < count) → getD rows r [] ≡ getD (over linked (b .rows)) r []
+        by : Dec (r < count) → getD rows r [] ≡ getD (over linked (b .held .rows)) r []
         by (yes q) =
             let even = rows-even j in
-            let m = u .laid .many in
             let x = plain-long in
             let y = linked-long in
             p .ends r q
             ∙ ap₂ (λ (l : List ℕ) (ns : List (List ℕ)). set l 2 (getD (ends 0 ns) r 0))
-            (ap (λ (l : List (List ℕ)). getD l r []) (u .rows) ∙ List·getD-append plain (drop (length plain) (b .rows)) [] r (omega (arith, x, q))) same-links
+            (ap (λ (l : List (List ℕ)). getD l r []) rows-left ∙ List·getD-append plain (drop (length plain) (b .held .rows)) [] r (omega (arith, x, q))) same-links
             ∙ set-triples (ends 0 (termLists rs)) (ends 0 (guardLists rs)) zeros (ends 0 (neighbourLists rs)) r (guards-even j)
-            (length-replicate (length rs) 0 ∙ sym even) (neighbours-long rs ∙ sym even) (omega (arith, even, m, q))
-            ∙ sym (List·getD-append linked (drop (length linked) (b .rows)) [] r (omega (arith, y, q)))
+            (length-replicate (length rs) 0 ∙ sym even) (neighbours-long rs ∙ sym even) (omega (arith, even, many, q))
+            ∙ sym (List·getD-append linked (drop (length linked) (b .held .rows)) [] r (omega (arith, y, q)))
         by (no q) =
             let x = plain-long in
-            p .other r (omega arith) ∙ ap (λ (l : List (List ℕ)). getD l r []) (u .rows)
-            ∙ over-behind plain linked (b .rows) r [] (plain-long ∙ sym linked-long) (omega (arith, x))
+            p .other r (omega arith) ∙ ap (λ (l : List (List ℕ)). getD l r []) rows-left
+            ∙ over-behind plain linked (b .held .rows) r [] (plain-long ∙ sym linked-long) (omega (arith, x))
+
+    rows-linked : rows ≡ over linked (b .held .rows)
+    rows-linked =
+        ext-getD [] rows (over linked (b .held .rows))
+        (p .rows-sized ∙ rows-sized ∙ sym (over-long linked (b .held .rows) (let e = linked-long in let l = h .rows in omega (arith, e, l, few))))
+        (λ r q. rows-at r)
+
+    links-found : links₁ ≡ over (joinAll (neighbourLists rs)) (b .links)
+    links-found = p .neighbours ∙ ap (λ (ns : List (List ℕ)). over (joinAll ns) (b .links)) same-links
 
     -- EVERY WORD, THE LINKS TOO
-    pub built : Built j count b (lent (a .row-conditions) (a .row-weights) rows (a .guard-bounds) (a .guard-nodes) (a .nodes) (a .edges) scratch) links₀ links₁
-    built = record {
-      laid = record {
-        many = u .laid .many;
-        conditions = u .laid .conditions;
-        weights = u .laid .weights;
-        guard-bounds = u .laid .guard-bounds;
-        guard-nodes = u .laid .guard-nodes;
-        nodes = u .laid .nodes;
-        edges = u .laid .edges;
-        scratch = p .cleared ∙ u .laid .scratch;
-      };
-      rows =
-          ext-getD [] rows (over linked (b .rows))
-          (p .rows-sized ∙ rows-sized ∙ sym (over-long linked (b .rows) (let e = linked-long in let l = h .rows in omega (arith, e, l, few))))
-          (λ r q. rows-at r);
-      links = p .neighbours ∙ ap (λ (ns : List (List ℕ)). over (joinAll ns) links₀) same-links;
-    }
+    pub all-built : built (heldRows (a .held .row-conditions) (a .held .row-weights) rows (a .held .guard-bounds) (a .held .guard-nodes)) (a .nodes) (a .edges) links₁ ≡ builtOf j b
+    unfolding builtWith
+    all-built = λ i. built
+        (heldRows (u i .held .row-conditions) (u i .held .row-weights) (rows-linked i) (u i .held .guard-bounds) (u i .held .guard-nodes))
+        (u i .nodes) (u i .edges) (links-found i)
+
+-- ---- words of zeros
+
+pub words-clear : (sc sc′ : List ℕ) → Spare sc → sc′ ≡ sc → Clear sc′
+words-clear sc sc′ s e =
+    subst Clear (sym e)
+    (s .words, λ x q. ap (λ (l : List ℕ). getD l x 0) (s .words-clear) ∙ getD-replicate (length sc) x 0 0 (let w = s .words in omega (arith, w, q)))
+
+pub zeros-spare : Spare (replicate 3072 0)
+zeros-spare =
+    let l = length-replicate {A = ℕ} 3072 0 in
+    record { words = omega (arith, l); words-clear = ap (λ (n : ℕ). replicate n 0) (sym l) }

@@ -7,41 +7,44 @@ use lib.ListN.{length, getD, take, set}
 use lib.Dec.{eqb}
 use lib.IntN.{ℤ, pos}
 use Rattle.numeric.specs.Threshold.{Job, term}
-use Rattle.thresholds.specs.Raw.{Raw, raw, startOf, endOf}
+use Rattle.memory.specs.Limits.{maxNodes, maxTerms, maxThresholds, listTerms, rawLimit}
+use Rattle.memory.specs.Buffers.{RawLists, rawLists}
+use Rattle.thresholds.specs.Raw.{startOf, endOf}
 use Rattle.thresholds.specs.Guards.{Bound, nodeAt}
-use Rattle.prepare.specs.Given.{given}
+use Rattle.prepare.specs.Given.{givenJob}
 use Rattle.job.specs.Job.{openChecks, openRefusal, termChecks, termRefusal, withThreshold, withTerm}
 use Rattle.job.specs.declared.Counts.{Counts}
 use Rattle.job.specs.declared.Taken.{Taken}
 
-abbrev pub cut : Counts → List ℕ → List ℕ → List (List ℕ) → Raw
-cut k cs ws ts = raw (take (k .terms) cs) (take (k .terms) ws) (take (k .thresholds) ts)
+abbrev pub cut : Counts → List ℕ → List ℕ → List (List ℕ) → RawLists
+cut k cs ws ts = rawLists (take (k .terms) cs) (take (k .terms) ws) (take (k .thresholds) ts)
 
 abbrev pub jobIn : Counts → List ℕ → List ℕ → List (List ℕ) → List ℤ → Job
-jobIn k cs ws ts bs = record { nodes = k .nodes; thresholds = given (cut k cs ws ts) (take (k .thresholds) bs) }
+jobIn k cs ws ts bs = givenJob (cut k cs ws ts) (take (k .thresholds) bs) (k .nodes)
 
--- Thresholds one behind the other: nodes of the job that rise, lists of at most 1,024 terms, the last of which ends with the terms.
+-- Thresholds one behind the other: nodes of the job that rise, lists of at most listTerms, the last of which ends with the terms.
 pub record Listed (k : Counts) (ts : List (List ℕ)) : Type 0 where
-  pub nodes : k .nodes ≤ 4096
-  pub terms : k .terms ≤ 4096
-  pub many : k .thresholds ≤ 1024
-  pub room : 1024 ≤ length ts
+  pub nodes : k .nodes ≤ maxNodes
+  pub terms : k .terms ≤ maxTerms
+  pub many : k .thresholds ≤ maxThresholds
+  pub room : maxThresholds ≤ length ts
   pub wide : (t : ℕ) → t < k .thresholds → length (getD ts t []) ≡ 2
   pub rising : (t : ℕ) → t < k .thresholds → startOf ts t ≤ endOf ts t
-  pub short : (t : ℕ) → t < k .thresholds → endOf ts t ≤ startOf ts t + 1024
+  pub short : (t : ℕ) → t < k .thresholds → endOf ts t ≤ startOf ts t + listTerms
   pub within : (t : ℕ) → t < k .thresholds → endOf ts t ≤ k .terms
   pub ended : startOf ts (k .thresholds) ≡ k .terms
   pub inside : (t : ℕ) → t < k .thresholds → nodeAt ts t < k .nodes
   pub ordered : (t : ℕ) → t + 1 < k .thresholds → nodeAt ts t < nodeAt ts (t + 1)
 
 pub record Bounded (k : Counts) (bs : List ℤ) : Type 0 where
-  pub room : 1024 ≤ length bs
+  pub room : maxThresholds ≤ length bs
   pub bound : (t : ℕ) → t < k .thresholds → Bound (getD bs t (pos 0))
 
 pub record Termed (k : Counts) (cs ws : List ℕ) : Type 0 where
-  pub conditions : 4096 ≤ length cs
-  pub weights : 4096 ≤ length ws
+  pub conditions : maxTerms ≤ length cs
+  pub weights : maxTerms ≤ length ws
   pub below : (i : ℕ) → i < k .terms → getD cs i 0 < k .nodes
+  pub light : (i : ℕ) → i < k .terms → getD ws i 0 < rawLimit
 
 -- THE INVARIANT of the records up to the seal.
 pub record Gathered (k : Counts) (cs ws : List ℕ) (ts : List (List ℕ)) (bs : List ℤ) : Type 0 where

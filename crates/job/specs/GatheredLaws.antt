@@ -11,13 +11,14 @@ use lib.IntN.{ℤ, pos}
 use borrow.Author.Tests.{ne-eqb}
 use Rattle.lists.specs.Laid.{numbers}
 use Rattle.numeric.specs.Threshold.{Term, terms, Threshold}
-use Rattle.row.specs.StretchLaws.{length-stretch}
-use Rattle.thresholds.specs.Raw.{Raw, raw, startOf, endOf, stretch, listAt}
-use Rattle.thresholds.specs.RawLaws.{length-terms, start-suc}
+use Rattle.memory.specs.Buffers.{RawLists, rawLists}
+use Rattle.thresholds.specs.Raw.{startOf, endOf, stretch, listAt}
+use Rattle.thresholds.specs.RawLaws.{length-terms, start-suc, stretch-length}
 use Rattle.thresholds.specs.Guards.{nodeAt}
 use Rattle.prefixes.specs.HeldLaws.{length-numbers}
 use Rattle.prepare.specs.Given.{thresholdAt, given}
-use Rattle.job.specs.Job.{lastNode, lastTerms, allTerms, isEmptyList, first, openChecks, openRefusal, termChecks, termRefusal}
+use Rattle.records.specs.Checks.{first}
+use Rattle.job.specs.Job.{lastNode, lastTerms, allTerms, isEmptyList, openChecks, openRefusal, termChecks, termRefusal}
 use Rattle.job.specs.declared.Counts.{Counts}
 use Rattle.job.specs.Gathered.{cut, jobIn, Listed, Termed, openIn, termIn}
 use Rattle.job.specs.JobLaws.{map-more, map-same, empty-more, node-more, terms-more, all-more, stretch-cut}
@@ -46,21 +47,21 @@ last-within k ts g h =
     let b = g .within (k .thresholds - 1) (omega arith) in
     omega (arith, a, b)
 
-pub list-by : (r s : Raw) (t : ℕ) → startOf (r .thresholds) t ≡ startOf (s .thresholds) t → endOf (r .thresholds) t ≡ endOf (s .thresholds) t
-    → stretch (startOf (s .thresholds) t) (endOf (s .thresholds) t) (r .conditions) ≡ stretch (startOf (s .thresholds) t) (endOf (s .thresholds) t) (s .conditions)
-    → stretch (startOf (s .thresholds) t) (endOf (s .thresholds) t) (r .weights) ≡ stretch (startOf (s .thresholds) t) (endOf (s .thresholds) t) (s .weights)
+pub list-by : (r s : RawLists) (t : ℕ) → startOf (r .thresholds) t ≡ startOf (s .thresholds) t → endOf (r .thresholds) t ≡ endOf (s .thresholds) t
+    → stretch (startOf (s .thresholds) t) (endOf (s .thresholds) t) (r .raw-conditions) ≡ stretch (startOf (s .thresholds) t) (endOf (s .thresholds) t) (s .raw-conditions)
+    → stretch (startOf (s .thresholds) t) (endOf (s .thresholds) t) (r .raw-weights) ≡ stretch (startOf (s .thresholds) t) (endOf (s .thresholds) t) (s .raw-weights)
     → listAt r t ≡ listAt s t
 unfolding listAt
-list-by r s t a e c w = ap₂ (λ (x y : ℕ). terms (stretch x y (r .conditions)) (stretch x y (r .weights))) a e ∙ ap₂ terms c w
+list-by r s t a e c w = ap₂ (λ (x y : ℕ). terms (stretch x y (r .raw-conditions)) (stretch x y (r .raw-weights))) a e ∙ ap₂ terms c w
 
 module _ (k : Counts) (cs ws : List ℕ) (ts : List (List ℕ)) (bs : List ℤ) (g : Listed k ts) where
   abbrev at : ℕ → Threshold
-  at t = thresholdAt (raw cs ws ts) bs t
+  at t = thresholdAt (rawLists cs ws ts) bs t
 
   at-cut : (t : ℕ) → t < k .thresholds → thresholdAt (cut k cs ws ts) (take (k .thresholds) bs) t ≡ at t
   at-cut t h =
       threshold-by (ap (λ (p : List ℕ). getD p 0 0) (getD-take (k .thresholds) ts t [] h)) (getD-take (k .thresholds) bs t (pos 0) h)
-      (list-by (cut k cs ws ts) (raw cs ws ts) t (start-cut (k .thresholds) t ts (omega arith)) (ap (λ (p : List ℕ). getD p 1 0) (getD-take (k .thresholds) ts t [] h))
+      (list-by (cut k cs ws ts) (rawLists cs ws ts) t (start-cut (k .thresholds) t ts (omega arith)) (ap (λ (p : List ℕ). getD p 1 0) (getD-take (k .thresholds) ts t [] h))
       (stretch-cut (startOf ts t) (endOf ts t) (k .terms) cs (g .rising t h) (g .within t h))
       (stretch-cut (startOf ts t) (endOf ts t) (k .terms) ws (g .rising t h) (g .within t h)))
 
@@ -74,7 +75,7 @@ module _ (k : Counts) (cs ws : List ℕ) (ts : List (List ℕ)) (bs : List ℤ) 
   pub gathered-last : (m : ℕ) → k .thresholds ≡ suc m → given (cut k cs ws ts) (take (k .thresholds) bs) ≡ map at (numbers 0 m) ++ (at m ∷ [])
   gathered-last m e = gathered ∙ ap (λ (n : ℕ). map at (numbers 0 n)) e ∙ map-more at m
 
-  many : length (given (cut k cs ws ts) (take (k .thresholds) bs)) ≡ k .thresholds
+  pub many : length (given (cut k cs ws ts) (take (k .thresholds) bs)) ≡ k .thresholds
   many = ap length gathered ∙ length-map (numbers 0 (k .thresholds)) at ∙ length-numbers 0 (k .thresholds)
 
   none : k .thresholds ≡ 0 → given (cut k cs ws ts) (take (k .thresholds) bs) ≡ []
@@ -102,11 +103,11 @@ module _ (k : Counts) (cs ws : List ℕ) (ts : List (List ℕ)) (bs : List ℤ) 
 
   -- The terms of the first thresholds end where the next begins.
   module _ (h : Termed k cs ws) where
-    length-at : (t : ℕ) → t < k .thresholds → length (listAt (raw cs ws ts) t) ≡ endOf ts t - startOf ts t
+    pub length-at : (t : ℕ) → t < k .thresholds → length (listAt (rawLists cs ws ts) t) ≡ endOf ts t - startOf ts t
     unfolding listAt
     length-at t q =
-        let c = length-stretch (startOf ts t) (endOf ts t) cs (let a = g .within t q in let b = g .terms in let d = h .conditions in omega arith) in
-        let w = length-stretch (startOf ts t) (endOf ts t) ws (let a = g .within t q in let b = g .terms in let d = h .weights in omega arith) in
+        let c = stretch-length (startOf ts t) (endOf ts t) cs (let a = g .within t q in let b = g .terms in let d = h .conditions in omega arith) in
+        let w = stretch-length (startOf ts t) (endOf ts t) ws (let a = g .within t q in let b = g .terms in let d = h .weights in omega arith) in
         length-terms (stretch (startOf ts t) (endOf ts t) cs) (stretch (startOf ts t) (endOf ts t) ws) (w ∙ sym c) ∙ c
 
     all-to : (n : ℕ) → n ≤ k .thresholds → allTerms (map at (numbers 0 n)) ≡ startOf ts n
@@ -116,7 +117,7 @@ module _ (k : Counts) (cs ws : List ℕ) (ts : List (List ℕ)) (bs : List ℤ) 
         ap allTerms (map-more at n) ∙ all-more (at n) (map at (numbers 0 n))
         ∙ ap₂ (λ (x y : ℕ). x + y) (all-to n (omega arith)) (length-at n q) ∙ (let r = g .rising n q in omega (arith, r))
 
-    all-terms : allTerms (given (cut k cs ws ts) (take (k .thresholds) bs)) ≡ k .terms
+    pub all-terms : allTerms (given (cut k cs ws ts) (take (k .thresholds) bs)) ≡ k .terms
     all-terms = ap allTerms gathered ∙ all-to (k .thresholds) (omega arith) ∙ g .ended
 
     -- The checks of a term, by the counts and by the job.

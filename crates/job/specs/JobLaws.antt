@@ -10,7 +10,8 @@ use lib.Seq.{take-nil, take-take, take-set-le, drop-set-add, take-suc-set}
 use Rattle.lists.specs.Laid.{numbers}
 use Rattle.numeric.specs.Threshold.{Term, term, terms, Threshold}
 use Rattle.thresholds.specs.Raw.{stretch}
-use Rattle.job.specs.Job.{lastNode, lastTerms, allTerms, isEmptyList, Check, check, first, addTerm}
+use Rattle.job.specs.Job.{lastNode, lastTerms, allTerms, isEmptyList, addTerm}
+use Rattle.records.specs.Checks.{Check, check, first}
 
 -- ---- the first numbers
 
@@ -110,6 +111,17 @@ pub first-next : (p : Bool) (n x : ℕ) (cs : List Check) → p ≡ false → x 
 unfolding first
 first-next true n x cs e h = absurd (let z : _≡_ {A = ℕ} 0 1 = cc in omega arith)
 first-next false n x cs e h = h
+
+-- A check that does not apply, whatever its number, and those before a threshold's and a term's own.
+pub first-skip : (n x : ℕ) (cs : List Check) → x ≡ first cs → x ≡ first (check false n ∷ cs)
+unfolding first
+first-skip n x cs h = h
+
+pub first-known : (x : ℕ) (cs : List Check) → x ≡ first cs → x ≡ first (check false 2 ∷ check false 1 ∷ cs)
+first-known x cs h = first-skip 2 x (check false 1 ∷ cs) (first-skip 1 x cs h)
+
+pub first-in-turn : (x : ℕ) (cs : List Check) → x ≡ first cs → x ≡ first (check false 2 ∷ check false 1 ∷ check false 3 ∷ check false 9 ∷ cs)
+first-in-turn x cs h = first-known x (check false 3 ∷ check false 9 ∷ cs) (first-skip 3 x (check false 9 ∷ cs) (first-skip 9 x cs h))
 
 pub first-none : 0 ≡ first []
 unfolding first

@@ -1,19 +1,22 @@
 -- A gathered job, cut to its counts, is one that `prepare` takes; the invariant holds of a job with no thresholds.
 use Prim.Native.Nat.{ℕ, zero, suc, _+_, _<_, _≤_}
 use native.Mathlib.Nat.{not-suc-le-zero}
+use native.Mathlib.Decide.{decLt}
 use native.Mathlib.Omega.{arith}
 use mathlib.Core.Path.{_≡_, refl, sym, ap, _∙_, subst}
 use mathlib.Core.List.{List, [], _∷_}
-use lib.ListN.{length, getD, take, replicate}
+use lib.ListN.{length, getD, take, replicate, List·getD-eq-default}
 use lib.Seq.{getD-take, length-take-le}
 use lib.IntN.{ℤ, pos}
+use Rattle.memory.specs.Limits.{rawLimit}
+use Rattle.memory.specs.Buffers.{Built, built}
 use Rattle.thresholds.specs.Raw.{startOf, endOf, Lists}
 use Rattle.thresholds.specs.Guards.{Bound, nodeAt}
-use Rattle.prepare.specs.Prepare.{Lent, lent, Sound, Ample}
+use Rattle.prepare.specs.Prepare.{Sound, Ample}
 use Rattle.job.specs.declared.Counts.{Counts}
 use Rattle.job.specs.Gathered.{cut, Gathered}
 use Rattle.job.specs.GatheredLaws.{start-cut}
-use Rattle.job.specs.Built.{Empty}
+use Rattle.job.specs.Built.{Roomy, Spare}
 
 -- NO THRESHOLDS YET
 pub gathered-none : (n : ℕ) (cs ws : List ℕ) (ts : List (List ℕ)) (bs : List ℤ) → n ≤ 4096 → 4096 ≤ length cs → 4096 ≤ length ws → 1024 ≤ length ts → 1024 ≤ length bs
@@ -34,7 +37,7 @@ gathered-none n cs ws ts bs h c w t b = record {
     ordered = λ t q. absurd (not-suc-le-zero q);
   };
   bounded = record { room = b; bound = λ t q. absurd (not-suc-le-zero q) };
-  termed = record { conditions = c; weights = w; below = λ i q. absurd (not-suc-le-zero q) };
+  termed = record { conditions = c; weights = w; below = λ i q. absurd (not-suc-le-zero q); light = λ i q. absurd (not-suc-le-zero q) };
 }
 
 module _ (k : Counts) (cs ws : List ℕ) (ts : List (List ℕ)) (bs : List ℤ) (g : Gathered k cs ws ts bs) where
@@ -71,7 +74,13 @@ module _ (k : Counts) (cs ws : List ℕ) (ts : List (List ℕ)) (bs : List ℤ) 
     short = λ t q. let a = starts t q in let e = end-same t q in let r = g .listed .short t q in omega (arith, a, e, r);
     inside = λ t q. let e = end-same t q in let r = g .listed .within t q in let l = conditions-long in omega (arith, e, r, l);
     weighed = weights-long ∙ sym conditions-long;
+    light = λ i. light i (decLt i (k .terms));
   }
+    where
+      light : (i : ℕ) → Dec (i < k .terms) → getD (take (k .terms) ws) i 0 < rawLimit
+      light i (yes q) = subst (λ (x : ℕ). x < rawLimit) (sym (getD-take (k .terms) ws i 0 q)) (g .termed .light i q)
+      light i (no q) =
+          let l = weights-long in let e = List·getD-eq-default (take (k .terms) ws) 0 {n = i} (omega arith) in omega (arith, e)
 
   -- WHAT `prepare` ASKS of the job
   pub gathered-sound : (m : ℕ) → m ≡ k .nodes → Sound (cut k cs ws ts) (take (k .thresholds) bs) m
@@ -90,14 +99,13 @@ module _ (k : Counts) (cs ws : List ℕ) (ts : List (List ℕ)) (bs : List ℤ) 
     short = let l = conditions-long in let r = g .listed .terms in omega (arith, l, r);
   }
 
-  pub nodes-inside : (b : Lent) → Empty b → k .nodes ≤ length (b .nodes)
+  pub nodes-inside : (b : Built) → Roomy b → k .nodes ≤ length (b .nodes)
   nodes-inside b h = let z = h .nodes in let r = g .listed .nodes in omega (arith, z, r)
 
   -- The buffers of docs/BUFFERS.md have room for it, the nodes cut to their number.
-  pub gathered-ample : (b : Lent) → Empty b
-      → Ample (length (take (k .terms) cs)) (length (take (k .thresholds) ts))
-      (lent (b .row-conditions) (b .row-weights) (b .rows) (b .guard-bounds) (b .guard-nodes) (take (k .nodes) (b .nodes)) (b .edges) (b .scratch))
-  gathered-ample b h =
+  pub gathered-ample : (b : Built) (sc : List ℕ) → Roomy b → Spare sc
+      → Ample (length (take (k .terms) cs)) (length (take (k .thresholds) ts)) (built (b .held) (take (k .nodes) (b .nodes)) (b .edges) (b .links)) sc
+  gathered-ample b sc h w =
       let t = conditions-long in let l = long in let x = g .listed .terms in let y = g .listed .many in record {
         conditions = let z = h .conditions in omega (arith, t, x, z);
         weights = let z = h .weights in omega (arith, t, x, z);
@@ -106,17 +114,33 @@ module _ (k : Counts) (cs ws : List ℕ) (ts : List (List ℕ)) (bs : List ℤ) 
         bounds = let z = h .bounds in omega (arith, l, y, z);
         guards = h .guards;
         edges = let z = h .edges in omega (arith, t, x, z);
-        words = h .words;
+        words = w .words;
         conditions-clear = h .conditions-clear;
         weights-clear = h .weights-clear;
         guards-clear = h .guards-clear;
         nodes-clear =
             ap (take (k .nodes)) (h .nodes-clear) ∙ front (k .nodes) (length (b .nodes)) (nodes-inside b h)
             ∙ ap (λ (n : ℕ). replicate n (replicate 3 0)) (sym (length-take-le (k .nodes) (b .nodes) (nodes-inside b h)));
-        words-clear = h .words-clear;
+        words-clear = w .words-clear;
       }
     where
       front : (n m : ℕ) → n ≤ m → take {A = List ℕ} n (replicate m (replicate 3 0)) ≡ replicate n (replicate 3 0)
       front zero m q = refl
       front (suc n) zero q = absurd (not-suc-le-zero q)
       front (suc n) (suc m) q = ap (λ (l : List (List ℕ)). replicate 3 0 ∷ l) (front n m (omega arith))
+
+-- Whatever the links are.
+pub roomy-links : (b : Built) (links : List ℕ) → Roomy b → Roomy (built (b .held) (b .nodes) (b .edges) links)
+roomy-links b links h = record {
+  conditions = h .conditions;
+  weights = h .weights;
+  rows = h .rows;
+  bounds = h .bounds;
+  guards = h .guards;
+  nodes = h .nodes;
+  edges = h .edges;
+  conditions-clear = h .conditions-clear;
+  weights-clear = h .weights-clear;
+  guards-clear = h .guards-clear;
+  nodes-clear = h .nodes-clear;
+}

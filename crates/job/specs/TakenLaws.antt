@@ -14,12 +14,14 @@ use borrow.Author.Tests.{eqb-false, leb-false, ne-eqb}
 use Rattle.signed.specs.Signed.{nlt-leZ}
 use Rattle.lists.specs.Laid.{numbers}
 use Rattle.numeric.specs.Threshold.{term, terms, Threshold}
-use Rattle.row.specs.StretchLaws.{length-stretch}
-use Rattle.thresholds.specs.Raw.{raw, startOf, endOf, stretch, listAt}
-use Rattle.thresholds.specs.RawLaws.{start-suc}
+use Rattle.memory.specs.Limits.{rawLimit}
+use Rattle.memory.specs.Buffers.{rawLists}
+use Rattle.thresholds.specs.Raw.{startOf, endOf, stretch, listAt}
+use Rattle.thresholds.specs.RawLaws.{start-suc, stretch-length}
 use Rattle.thresholds.specs.Guards.{Bound, nodeAt}
 use Rattle.prepare.specs.Given.{thresholdAt, given}
-use Rattle.job.specs.Job.{check, first, addTerm, withThreshold, withTerm}
+use Rattle.records.specs.Checks.{check, first}
+use Rattle.job.specs.Job.{addTerm, withThreshold, withTerm}
 use Rattle.job.specs.declared.Counts.{Counts}
 use Rattle.job.specs.declared.Taken.{Taken}
 use Rattle.job.specs.Gathered.{cut, jobIn, Listed, Bounded, Termed, Gathered, openIn, termIn, Opened, Added}
@@ -45,6 +47,7 @@ open-none false false false false e = (refl, (refl, (refl, refl)))
 module _ (k : Counts) (n : ℕ) (b : ℤ) (ts : List (List ℕ)) (bs : List ℤ) (g : Listed k ts) (h : Bounded k bs) (none : openIn k ts n b ≡ 0) where
   passed : (leb (k .nodes) n ≡ false) × ((not (eqb (k .thresholds) 0) && leb n (nodeAt ts (k .thresholds - 1)) ≡ false)
       × ((ltZ b (negsuc 4503599627370495) || ltZ (pos 4503599627370496) b ≡ false) × (leb 1024 (k .thresholds) ≡ false)))
+  unfolding first
   passed = open-none (leb (k .nodes) n) (not (eqb (k .thresholds) 0) && leb n (nodeAt ts (k .thresholds - 1)))
       (ltZ b (negsuc 4503599627370495) || ltZ (pos 4503599627370496) b) (leb 1024 (k .thresholds)) none
 
@@ -139,18 +142,18 @@ module _ (k : Counts) (n : ℕ) (b : ℤ) (ts : List (List ℕ)) (bs : List ℤ)
       new-bound = getD-set-same bs (k .thresholds) b (pos 0) (let r = open-room in let l = h .room in omega arith)
 
   module _ (cs ws : List ℕ) where
-    old-at : (t : ℕ) → t < k .thresholds → thresholdAt (raw cs ws ts′) bs′ t ≡ thresholdAt (raw cs ws ts) bs t
+    old-at : (t : ℕ) → t < k .thresholds → thresholdAt (rawLists cs ws ts′) bs′ t ≡ thresholdAt (rawLists cs ws ts) bs t
     old-at t q =
         threshold-by (ap node-of (old t q)) (getD-set-other bs (k .thresholds) t b (pos 0) (λ (e : t ≡ k .thresholds). omega arith))
-        (list-by (raw cs ws ts′) (raw cs ws ts) t (old-start t (omega arith)) (ap end-of (old t q)) refl refl)
+        (list-by (rawLists cs ws ts′) (rawLists cs ws ts) t (old-start t (omega arith)) (ap end-of (old t q)) refl refl)
 
-    no-terms : listAt (raw cs ws ts′) (k .thresholds) ≡ []
+    no-terms : listAt (rawLists cs ws ts′) (k .thresholds) ≡ []
     unfolding listAt terms
     no-terms =
         ap₂ (λ (x y : ℕ). terms (stretch x y cs) (stretch x y ws)) starts ends
         ∙ ap (λ (j : ℕ). terms (take j (drop (k .terms) cs)) (take j (drop (k .terms) ws))) {x = k .terms - k .terms} {y = 0} (omega arith)
 
-    new-at : thresholdAt (raw cs ws ts′) bs′ (k .thresholds) ≡ record { node = n; bound = b; terms = [] }
+    new-at : thresholdAt (rawLists cs ws ts′) bs′ (k .thresholds) ≡ record { node = n; bound = b; terms = [] }
     new-at =
         threshold-by (ap node-of new) (getD-set-same bs (k .thresholds) b (pos 0) (let r = open-room in let l = h .room in omega arith)) no-terms
 
@@ -161,7 +164,7 @@ module _ (k : Counts) (n : ℕ) (b : ℤ) (ts : List (List ℕ)) (bs : List ℤ)
         all =
             gathered-last next cs ws ts′ bs′ listed-open (k .thresholds) (omega arith)
             ∙ ap₂ (λ (l : List Threshold) (x : Threshold). l ++ (x ∷ []))
-            (map-same (thresholdAt (raw cs ws ts′) bs′) (thresholdAt (raw cs ws ts) bs) (k .thresholds) old-at ∙ sym (gathered k cs ws ts bs g)) new-at
+            (map-same (thresholdAt (rawLists cs ws ts′) bs′) (thresholdAt (rawLists cs ws ts) bs) (k .thresholds) old-at ∙ sym (gathered k cs ws ts bs g)) new-at
 
   -- THE THRESHOLD TAKEN
   pub opened : Opened k n b ts bs (record { refusal = 0; counts = next }) ts′ bs′
@@ -204,6 +207,7 @@ module _ (k : Counts) (c w : ℕ) (cs ws : List ℕ) (ts : List (List ℕ)) (g :
   last = k .thresholds - 1
 
   term-passed : (eqb (k .thresholds) 0 ≡ false) × ((leb (k .nodes) c ≡ false) × (leb 1024 (k .terms - startOf ts last) || leb 4096 (k .terms) ≡ false))
+  unfolding first
   term-passed = term-none (eqb (k .thresholds) 0) (leb (k .nodes) c) (leb 1024 (k .terms - startOf ts last) || leb 4096 (k .terms)) none
 
   pub term-open : k .thresholds ≡ last + 1
@@ -283,8 +287,8 @@ module _ (k : Counts) (c w : ℕ) (cs ws : List ℕ) (ts : List (List ℕ)) (g :
         subst (λ (x : ℕ). x < nodeAt ts″ (t + 1)) (sym (same-node t (omega arith))) (subst (λ (x : ℕ). nodeAt ts t < x) (sym (same-node (t + 1) q)) (g .ordered t q));
   }
 
-  termed-add : Termed with-one (set cs (k .terms) c) (set ws (k .terms) w)
-  termed-add = record {
+  termed-add : w < rawLimit → Termed with-one (set cs (k .terms) c) (set ws (k .terms) w)
+  termed-add small = record {
     conditions = subst (λ (x : ℕ). 4096 ≤ x) (sym (length-set cs (k .terms) c)) (h .conditions);
     weights = subst (λ (x : ℕ). 4096 ≤ x) (sym (length-set ws (k .terms) w)) (h .weights);
     below =
@@ -292,6 +296,10 @@ module _ (k : Counts) (c w : ℕ) (cs ws : List ℕ) (ts : List (List ℕ)) (g :
         (λ i q. subst (λ (x : ℕ). x < k .nodes) (sym (getD-set-other cs (k .terms) i c 0 (λ (e : i ≡ k .terms). omega arith))) (h .below i q))
         (subst (λ (x : ℕ). x < k .nodes) (sym (getD-set-same cs (k .terms) c 0 (let r = term-room in let l = h .conditions in omega (arith, r, l))))
         (leb-false (k .nodes) c (term-passed .1 .0)));
+    light =
+        by-last (λ (i : ℕ). getD (set ws (k .terms) w) i 0 < rawLimit) (k .terms) (k .terms + 1) refl
+        (λ i q. subst (λ (x : ℕ). x < rawLimit) (sym (getD-set-other ws (k .terms) i w 0 (λ (e : i ≡ k .terms). omega arith))) (h .light i q))
+        (subst (λ (x : ℕ). x < rawLimit) (sym (getD-set-same ws (k .terms) w 0 (let r = term-room in let l = h .weights in omega (arith, r, l)))) small);
   }
 
   module _ (bs : List ℤ) where
@@ -301,14 +309,14 @@ module _ (k : Counts) (c w : ℕ) (cs ws : List ℕ) (ts : List (List ℕ)) (g :
     up-to : start ≤ k .terms
     up-to = let r = g .rising last in-last in let e = last-end in omega (arith, r, e)
 
-    before-at : (t : ℕ) → t < last → thresholdAt (raw (set cs (k .terms) c) (set ws (k .terms) w) ts″) bs t ≡ thresholdAt (raw cs ws ts) bs t
+    before-at : (t : ℕ) → t < last → thresholdAt (rawLists (set cs (k .terms) c) (set ws (k .terms) w) ts″) bs t ≡ thresholdAt (rawLists cs ws ts) bs t
     before-at t q =
         threshold-by (ap node-of (before t q)) refl
-        (list-by (raw (set cs (k .terms) c) (set ws (k .terms) w) ts″) (raw cs ws ts) t (before-start t (omega arith)) (ap end-of (before t q))
+        (list-by (rawLists (set cs (k .terms) c) (set ws (k .terms) w) ts″) (rawLists cs ws ts) t (before-start t (omega arith)) (ap end-of (before t q))
         (stretch-set (startOf ts t) (endOf ts t) (k .terms) c cs (g .rising t (earlier t q)) (g .within t (earlier t q)))
         (stretch-set (startOf ts t) (endOf ts t) (k .terms) w ws (g .rising t (earlier t q)) (g .within t (earlier t q))))
 
-    one-more : listAt (raw (set cs (k .terms) c) (set ws (k .terms) w) ts″) last ≡ listAt (raw cs ws ts) last ++ (term c w ∷ [])
+    one-more : listAt (rawLists (set cs (k .terms) c) (set ws (k .terms) w) ts″) last ≡ listAt (rawLists cs ws ts) last ++ (term c w ∷ [])
     unfolding listAt
     one-more =
         let p = h .conditions in
@@ -317,7 +325,7 @@ module _ (k : Counts) (c w : ℕ) (cs ws : List ℕ) (ts : List (List ℕ)) (g :
         ap₂ (λ (x y : ℕ). terms (stretch x y (set cs (k .terms) c)) (stretch x y (set ws (k .terms) w))) last-start new-end
         ∙ ap₂ terms (stretch-more start (k .terms) c cs up-to (omega (arith, p, r))) (stretch-more start (k .terms) w ws up-to (omega (arith, q, r)))
         ∙ term-more (stretch start (k .terms) cs) (stretch start (k .terms) ws) c w
-        (length-stretch start (k .terms) ws (omega (arith, q, r)) ∙ sym (length-stretch start (k .terms) cs (omega (arith, p, r))))
+        (stretch-length start (k .terms) ws (omega (arith, q, r)) ∙ sym (stretch-length start (k .terms) cs (omega (arith, p, r))))
         ∙ ap (λ (y : ℕ). terms (stretch start y cs) (stretch start y ws) ++ (term c w ∷ [])) (sym last-end)
 
     job-add : jobIn with-one (set cs (k .terms) c) (set ws (k .terms) w) ts″ bs ≡ withTerm (jobIn k cs ws ts bs) (term c w)
@@ -330,21 +338,21 @@ module _ (k : Counts) (c w : ℕ) (cs ws : List ℕ) (ts : List (List ℕ)) (g :
         all =
             gathered-last with-one (set cs (k .terms) c) (set ws (k .terms) w) ts″ bs listed-add last open-one
             ∙ ap₂ (λ (l : List Threshold) (x : Threshold). l ++ (x ∷ []))
-            (map-same (thresholdAt (raw (set cs (k .terms) c) (set ws (k .terms) w) ts″) bs) (thresholdAt (raw cs ws ts) bs) last before-at)
+            (map-same (thresholdAt (rawLists (set cs (k .terms) c) (set ws (k .terms) w) ts″) bs) (thresholdAt (rawLists cs ws ts) bs) last before-at)
             (threshold-by (ap node-of there) refl one-more)
             ∙ sym (ap (addTerm (term c w)) (gathered-last k cs ws ts bs g last open-one)
-            ∙ add-more (thresholdAt (raw cs ws ts) bs last) (term c w) (map (thresholdAt (raw cs ws ts) bs) (numbers 0 last)))
+            ∙ add-more (thresholdAt (rawLists cs ws ts) bs last) (term c w) (map (thresholdAt (rawLists cs ws ts) bs) (numbers 0 last)))
 
   -- THE TERM TAKEN
-  pub added : Added k c w cs ws ts (record { refusal = 0; counts = with-one }) (set cs (k .terms) c) (set ws (k .terms) w) ts″
-  added = record {
+  pub added : w < rawLimit → Added k c w cs ws ts (record { refusal = 0; counts = with-one }) (set cs (k .terms) c) (set ws (k .terms) w) ts″
+  added small = record {
     number = λ bs. sym none ∙ term-is k cs ws ts bs g h c;
     job = λ bs. job-add bs;
     conditions = refl;
     weights = refl;
     thresholds = refl;
     listed = listed-add;
-    termed = termed-add;
+    termed = termed-add small;
     nodes = refl;
     many = refl;
   }
@@ -375,6 +383,7 @@ opened-gathered k n b cs ws ts bs r ts′ bs′ g o = record {
     conditions = g .termed .conditions;
     weights = g .termed .weights;
     below = λ i q. subst (λ (x : ℕ). getD cs i 0 < x) (sym (o .nodes)) (g .termed .below i (subst (λ (x : ℕ). i < x) (o .terms) q));
+    light = λ i q. g .termed .light i (subst (λ (x : ℕ). i < x) (o .terms) q);
   };
 }
 

@@ -6,10 +6,13 @@ ghost use Prim.Native.Nat.{_+_, _-_, _<_, _≤_};
 ghost use lib.ListN.{length, set};
 ghost use lib.Dec.{eqb, leb};
 ghost use Rattle.numeric.specs.Area.{weightOfArea};
+ghost use Rattle.thresholds.specs.Rows.{rowsOf};
 ghost use Rattle.thresholds.specs.Guards.{nodeAt};
-ghost use Rattle.prepare.specs.Prepare.{lent};
+ghost use Rattle.memory.specs.Limits.{maxThresholds, rawLimit};
+ghost use Rattle.memory.specs.Buffers.{heldRows, built};
+ghost use Rattle.prepare.specs.JobBuffers.{builtOf, unlinkedOf};
 ghost use Rattle.job.specs.Gathered.{Listed, Bounded, Termed, Gathered, jobIn, openIn, termIn, Opened, Added};
-ghost use Rattle.job.specs.Built.{Empty, Unlinked, Built};
+ghost use Rattle.job.specs.Built.{Roomy, Spare};
 use thresholds::node_of;
 use thresholds::start_of;
 
@@ -130,14 +133,14 @@ fn set_end(thresholds: &mut [[u16; 2]], t: usize, end: usize)
 pub fn add_term(
     counts: Counts,
     condition: u16,
-    weight: u32,
-    conditions: &mut [u16],
-    weights: &mut [u32],
+    weight: u64,
+    raw_conditions: &mut [u16],
+    raw_weights: &mut [u64],
     thresholds: &mut [[u16; 2]],
 ) -> Taken
-    requires { ⌜ Listed counts (now thresholds) × Termed counts (now conditions) (now weights) ⌝ }
-    ensures { λ r. ⌜ Added counts condition weight (now (conditions .entry)) (now (weights .entry)) (now (thresholds .entry))
-        r (now (conditions .exit)) (now (weights .exit)) (now (thresholds .exit)) ⌝ }
+    requires { ⌜ Listed counts (now thresholds) × Termed counts (now «raw_conditions») (now «raw_weights») × (weight < rawLimit) ⌝ }
+    ensures { λ r. ⌜ Added counts condition weight (now («raw_conditions» .entry)) (now («raw_weights» .entry)) (now (thresholds .entry))
+        r (now («raw_conditions» .exit)) (now («raw_weights» .exit)) (now (thresholds .exit)) ⌝ }
 {
     let refusal = term_refusal(counts, thresholds, condition);
     if refusal != 0 {
@@ -148,8 +151,8 @@ pub fn add_term(
     }
     let at = counts.terms;
     let count = counts.thresholds;
-    conditions[at] = condition;
-    weights[at] = weight;
+    raw_conditions[at] = condition;
+    raw_weights[at] = weight;
     set_end(thresholds, count - 1, at + 1);
     let next = Counts {
         nodes: counts.nodes,
@@ -167,23 +170,30 @@ pub fn add_area(
     counts: Counts,
     condition: u16,
     area: u32,
-    conditions: &mut [u16],
-    weights: &mut [u32],
+    raw_conditions: &mut [u16],
+    raw_weights: &mut [u64],
     thresholds: &mut [[u16; 2]],
 ) -> Taken
-    requires { ⌜ Listed counts (now thresholds) × Termed counts (now conditions) (now weights) ⌝ }
-    ensures { λ r. ⌜ Added counts condition (weightOfArea area) (now (conditions .entry)) (now (weights .entry)) (now (thresholds .entry))
-        r (now (conditions .exit)) (now (weights .exit)) (now (thresholds .exit)) ⌝ }
+    requires { ⌜ Listed counts (now thresholds) × Termed counts (now «raw_conditions») (now «raw_weights») ⌝ }
+    ensures { λ r. ⌜ Added counts condition (weightOfArea area) (now («raw_conditions» .entry)) (now («raw_weights» .entry)) (now (thresholds .entry))
+        r (now («raw_conditions» .exit)) (now («raw_weights» .exit)) (now (thresholds .exit)) ⌝ }
 {
-    let weight = numeric::weight_of_area(area);
-    add_term(counts, condition, weight, conditions, weights, thresholds)
+    let weight = numeric::weight_of_area(area) as u64;
+    add_term(
+        counts,
+        condition,
+        weight,
+        raw_conditions,
+        raw_weights,
+        thresholds,
+    )
 }
 
 // The rows of the job with their guards, and the edges of its nodes. How many rows there are.
 fn build_rows(
     counts: Counts,
-    conditions: &[u16],
-    weights: &[u32],
+    raw_conditions: &[u16],
+    raw_weights: &[u64],
     thresholds: &[[u16; 2]],
     bounds: &[i64],
     row_conditions: &mut [u16],
@@ -195,19 +205,21 @@ fn build_rows(
     edges: &mut [[u64; 2]],
     scratch: &mut [u64],
 ) -> usize
-    requires { ⌜ Gathered counts (now conditions) (now weights) (now thresholds) (now bounds)
-        × Empty (lent (now «row_conditions») (now «row_weights») (now rows) (now «guard_bounds») (now «guard_nodes») (now nodes) (now edges) (now scratch)) ⌝ }
-    ensures { λ r. ⌜ Unlinked (jobIn counts (now (conditions .entry)) (now (weights .entry)) (now (thresholds .entry)) (now (bounds .entry))) r
-        (lent (now («row_conditions» .entry)) (now («row_weights» .entry)) (now (rows .entry)) (now («guard_bounds» .entry)) (now («guard_nodes» .entry)) (now (nodes .entry)) (now (edges .entry)) (now (scratch .entry)))
-        (lent (now («row_conditions» .exit)) (now («row_weights» .exit)) (now (rows .exit)) (now («guard_bounds» .exit)) (now («guard_nodes» .exit)) (now (nodes .exit)) (now (edges .exit)) (now (scratch .exit)))
-        × (r ≤ 1024) ⌝ }
+    requires { ⌜ Gathered counts (now «raw_conditions») (now «raw_weights») (now thresholds) (now bounds)
+        × Roomy (built (heldRows (now «row_conditions») (now «row_weights») (now rows) (now «guard_bounds») (now «guard_nodes»)) (now nodes) (now edges) [])
+        × Spare (now scratch) ⌝ }
+    ensures { λ r. ⌜ (r ≡ length (rowsOf (jobIn counts (now («raw_conditions» .entry)) (now («raw_weights» .entry)) (now (thresholds .entry)) (now (bounds .entry))))) × (r ≤ maxThresholds)
+        × (built (heldRows (now («row_conditions» .exit)) (now («row_weights» .exit)) (now (rows .exit)) (now («guard_bounds» .exit)) (now («guard_nodes» .exit))) (now (nodes .exit)) (now (edges .exit)) []
+        ≡ unlinkedOf (jobIn counts (now («raw_conditions» .entry)) (now («raw_weights» .entry)) (now (thresholds .entry)) (now (bounds .entry)))
+        (built (heldRows (now («row_conditions» .entry)) (now («row_weights» .entry)) (now (rows .entry)) (now («guard_bounds» .entry)) (now («guard_nodes» .entry))) (now (nodes .entry)) (now (edges .entry)) []))
+        × (now (scratch .exit) ≡ now (scratch .entry)) ⌝ }
 {
     let terms = counts.terms;
     let count = counts.thresholds;
     let many = counts.nodes;
     let so = prepare::prepare(
-        &conditions[..terms],
-        &weights[..terms],
+        &raw_conditions[..terms],
+        &raw_weights[..terms],
         &thresholds[..count],
         &bounds[..count],
         row_conditions,
@@ -225,8 +237,8 @@ fn build_rows(
 // Everything that the seal builds of the job: rows, guards, edges and links, in buffers that were cleared. How many rows there are.
 pub fn build(
     counts: Counts,
-    conditions: &[u16],
-    weights: &[u32],
+    raw_conditions: &[u16],
+    raw_weights: &[u64],
     thresholds: &[[u16; 2]],
     bounds: &[i64],
     row_conditions: &mut [u16],
@@ -237,20 +249,20 @@ pub fn build(
     nodes: &mut [[u16; 3]],
     edges: &mut [[u64; 2]],
     links: &mut [u16],
-    scratch: &mut [u64],
 ) -> usize
-    requires { ⌜ Gathered counts (now conditions) (now weights) (now thresholds) (now bounds)
-        × Empty (lent (now «row_conditions») (now «row_weights») (now rows) (now «guard_bounds») (now «guard_nodes») (now nodes) (now edges) (now scratch))
+    requires { ⌜ Gathered counts (now «raw_conditions») (now «raw_weights») (now thresholds) (now bounds)
+        × Roomy (built (heldRows (now «row_conditions») (now «row_weights») (now rows) (now «guard_bounds») (now «guard_nodes»)) (now nodes) (now edges) (now links))
         × (2048 ≤ length (now links)) ⌝ }
-    ensures { λ r. ⌜ Built (jobIn counts (now (conditions .entry)) (now (weights .entry)) (now (thresholds .entry)) (now (bounds .entry))) r
-        (lent (now («row_conditions» .entry)) (now («row_weights» .entry)) (now (rows .entry)) (now («guard_bounds» .entry)) (now («guard_nodes» .entry)) (now (nodes .entry)) (now (edges .entry)) (now (scratch .entry)))
-        (lent (now («row_conditions» .exit)) (now («row_weights» .exit)) (now (rows .exit)) (now («guard_bounds» .exit)) (now («guard_nodes» .exit)) (now (nodes .exit)) (now (edges .exit)) (now (scratch .exit)))
-        (now (links .entry)) (now (links .exit)) ⌝ }
+    ensures { λ r. ⌜ (r ≡ length (rowsOf (jobIn counts (now («raw_conditions» .entry)) (now («raw_weights» .entry)) (now (thresholds .entry)) (now (bounds .entry)))))
+        × (built (heldRows (now («row_conditions» .exit)) (now («row_weights» .exit)) (now (rows .exit)) (now («guard_bounds» .exit)) (now («guard_nodes» .exit))) (now (nodes .exit)) (now (edges .exit)) (now (links .exit))
+        ≡ builtOf (jobIn counts (now («raw_conditions» .entry)) (now («raw_weights» .entry)) (now (thresholds .entry)) (now (bounds .entry)))
+        (built (heldRows (now («row_conditions» .entry)) (now («row_weights» .entry)) (now (rows .entry)) (now («guard_bounds» .entry)) (now («guard_nodes» .entry))) (now (nodes .entry)) (now (edges .entry)) (now (links .entry)))) ⌝ }
 {
+    let mut scratch = [0u64; 3072];
     let count = build_rows(
         counts,
-        conditions,
-        weights,
+        raw_conditions,
+        raw_weights,
         thresholds,
         bounds,
         row_conditions,
@@ -260,8 +272,15 @@ pub fn build(
         guard_nodes,
         nodes,
         edges,
-        scratch,
+        &mut scratch,
     );
-    prefixes::prepare(rows, links, scratch, row_conditions, row_weights, count);
+    prefixes::prepare(
+        rows,
+        links,
+        &mut scratch,
+        row_conditions,
+        row_weights,
+        count,
+    );
     count
 }

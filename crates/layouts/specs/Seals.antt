@@ -1,4 +1,5 @@
--- NO SEAL LOSES A LAYOUT: in blank memory the first states of all rows agree with every layout, and so does each row that is run once.
+-- NO SEAL LOSES A LAYOUT: where every decided node waits and none was drained, the first states of all rows agree with every layout
+-- that agrees with the decided nodes, and so does each row that is run once.
 use Prim.Native.Nat.{ℕ, _+_, _≤_}
 use native.Mathlib.Omega.{arith}
 use mathlib.Core.Path.{_≡_, refl}
@@ -17,17 +18,16 @@ use Rattle.regions.specs.Drain.{seal}
 use Rattle.table.specs.Table.{IsRow, start}
 use Rattle.ends.specs.Turns.{Sound}
 use Rattle.ends.specs.Built.{first-long}
-use Rattle.ends.specs.Blank.{Blank}
 use Rattle.follows.specs.Answers.{clash, joined-fine}
 use Rattle.follows.specs.RowComplete.{Ordered}
 use Rattle.follows.specs.Stands.{restart}
 use Rattle.follows.specs.Built.{Built}
 use Rattle.follows.specs.Layouts.{nodes-agree, stands-agrees}
-use Rattle.follows.specs.First.{first-blank}
-use Rattle.layouts.specs.Turns.{Holds, Between, FineBetween, run-fine}
+use Rattle.follows.specs.First.{Undrained, first-undrained}
+use Rattle.layouts.specs.Turns.{Fits, Holds, Between, FineBetween, run-fine}
 
 module _ (j : Job) (x : Index) (b : Built j x) (ordered : (r : ℕ) → IsRow (x .rows) r → Ordered (getD (x .rows) r noRow)) (w : Layout) (is : IsLayout j w) where
-  module _ (v : Live) (blank : Blank v) (s : Sound v) (few : length (x .rows) ≤ 1024) where
+  module _ (v : Live) (u : Undrained (length (x .rows)) v) (fits : Fits w (v .marks)) (s : Sound v) (few : length (x .rows) ≤ 1024) where
     abbrev first : Live
     first = live (firstStates 0 (x .rows) (v .states)) (v .marks) (v .dirty) (v .residuals)
 
@@ -36,12 +36,11 @@ module _ (j : Job) (x : Index) (b : Built j x) (ordered : (r : ℕ) → IsRow (x
 
     first-holds : Holds x w none none first
     first-holds =
-        let o = first-blank x v (omega (arith, s .long, few)) (omega (arith, s .dirty .long, few)) (first-long 0 (x .rows) (v .states)) (s .waits) (blank .states) (blank .bits) in
+        let o = first-undrained x v (omega (arith, s .long, few)) (omega (arith, s .dirty .long, few)) (first-long 0 (x .rows) (v .states)) u in
         record {
           stands = restart (x .rows) (start (bit (v .marks .sure)) (bit (v .marks .never))) (λ (r : ℕ). none) first (o .stands);
           agrees = stands-agrees j x b w is (start (bit (v .marks .sure)) (bit (v .marks .never))) (λ (r : ℕ). none) first
-              (nodes-agree j x b w is (bit (v .marks .sure)) (bit (v .marks .never)) (λ n e. absurd (clash (bit (v .marks .sure) n) e (blank .bits true n)))
-              (λ n e. absurd (clash (bit (v .marks .never) n) e (blank .bits false n)))) (o .stands);
+              (nodes-agree j x b w is (bit (v .marks .sure)) (bit (v .marks .never)) (fits true) (fits false)) (o .stands);
           queued = o .queued;
         }
 
@@ -61,6 +60,6 @@ module _ (j : Job) (x : Index) (b : Built j x) (ordered : (r : ℕ) → IsRow (x
       by later false e = later
 
   -- A SEAL
-  pub seal-fine : (v : Live) → Blank v → Sound v → length (x .rows) ≤ 1024 → FineBetween x w (seal x v)
+  pub seal-fine : (v : Live) → Undrained (length (x .rows)) v → Fits w (v .marks) → Sound v → length (x .rows) ≤ 1024 → FineBetween x w (seal x v)
   unfolding seal
-  seal-fine v blank s few = seed-fine 0 (x .rows) (first v blank s few) Unchanged (omega arith) refl (none v blank s few, first-holds v blank s few)
+  seal-fine v u fits s few = seed-fine 0 (x .rows) (first v u fits s few) Unchanged (omega arith) refl (none v u fits s few, first-holds v u fits s few)

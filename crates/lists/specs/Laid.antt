@@ -17,7 +17,7 @@ unfoldable pub ends : {X : Type 0} → ℕ → List (List X) → List ℕ
 ends n [] = []
 ends n (l ∷ ls) = (n + length l) ∷ ends (n + length l) ls
 
--- Two or three parallel lists, place by place.
+-- Two, three or four parallel lists, place by place.
 unfoldable pub pairs : {X : Type 0} → List X → List X → List (List X)
 pairs [] ys = []
 pairs (x ∷ xs) [] = []
@@ -28,6 +28,13 @@ triples [] ys zs = []
 triples (x ∷ xs) [] zs = []
 triples (x ∷ xs) (y ∷ ys) [] = []
 triples (x ∷ xs) (y ∷ ys) (z ∷ zs) = (x ∷ y ∷ z ∷ []) ∷ triples xs ys zs
+
+unfoldable pub quads : {X : Type 0} → List X → List X → List X → List X → List (List X)
+quads [] ys zs ts = []
+quads (x ∷ xs) [] zs ts = []
+quads (x ∷ xs) (y ∷ ys) [] ts = []
+quads (x ∷ xs) (y ∷ ys) (z ∷ zs) [] = []
+quads (x ∷ xs) (y ∷ ys) (z ∷ zs) (t ∷ ts) = (x ∷ y ∷ z ∷ t ∷ []) ∷ quads xs ys zs ts
 
 -- n, n + 1 .. as many as the second argument says.
 unfoldable pub numbers : ℕ → ℕ → List ℕ

@@ -6,7 +6,7 @@ use mathlib.Core.Path.{_≡_, refl, sym, ap, _∙_}
 use mathlib.Core.List.{List, [], _∷_}
 use lib.ListN.{length, set, length-set, replicate}
 use lib.IntN.{ℤ, pos}
-use Rattle.memory.specs.Buffers.{Raw, Built, Kept, rawBuffers, builtBuffers, keptBuffers, zeros, clearRaw, clearBuilt, clearKept}
+use Rattle.memory.specs.Buffers.{Raw, Built, Kept, rawLists, raw, heldRows, built, kept, zeros, clearRaw, clearBuilt, clearKept}
 
 -- The first n elements z, the others as they were.
 unfoldable pub zerosN : {X : Type 0} → ℕ → X → List X → List X
@@ -50,50 +50,30 @@ clearing-end z l m n c h =
     let e : n ≡ length l = omega arith in
     c .so-far ∙ ap (λ (k : ℕ). zerosN k z l) e ∙ zerosN-all z l
 
-pub byRaw : {raw-conditions : List ℕ} {raw-weights : List ℕ} {thresholds : List (List ℕ)} {bounds : List ℤ} (w : Raw)
-    → raw-conditions ≡ zeros 0 (w .raw-conditions) → raw-weights ≡ zeros 0 (w .raw-weights) → thresholds ≡ zeros (replicate 2 0) (w .thresholds)
-    → bounds ≡ zeros (pos 0) (w .bounds)
-    → rawBuffers raw-conditions raw-weights thresholds bounds ≡ clearRaw w
+-- Buffers that are each cleared are the group cleared.
+
+pub byRaw : {raw-conditions raw-weights : List ℕ} {thresholds : List (List ℕ)} {bounds : List ℤ} (w : Raw)
+    → raw-conditions ≡ zeros 0 (w .lists .raw-conditions) → raw-weights ≡ zeros 0 (w .lists .raw-weights)
+    → thresholds ≡ zeros (replicate 2 0) (w .lists .thresholds) → bounds ≡ zeros (pos 0) (w .bounds)
+    → raw (rawLists raw-conditions raw-weights thresholds) bounds ≡ clearRaw w
 unfolding clearRaw
-byRaw w e0 e1 e2 e3 = λ i. record { raw-conditions = e0 i; raw-weights = e1 i; thresholds = e2 i; bounds = e3 i }
+byRaw w e0 e1 e2 e3 = λ i. raw (rawLists (e0 i) (e1 i) (e2 i)) (e3 i)
 
-pub byBuilt : {row-conditions : List ℕ} {row-weights : List ℕ} {rows : List (List ℕ)} {guard-bounds : List ℤ} {guard-nodes : List ℕ} {nodes : List (List ℕ)} {edges : List (List ℕ)} {links : List ℕ} {scratch : List ℕ} (w : Built)
-    → row-conditions ≡ zeros 0 (w .row-conditions) → row-weights ≡ zeros 0 (w .row-weights) → rows ≡ zeros (replicate 3 0) (w .rows)
-    → guard-bounds ≡ zeros (pos 0) (w .guard-bounds) → guard-nodes ≡ zeros 0 (w .guard-nodes) → nodes ≡ zeros (replicate 3 0) (w .nodes)
-    → edges ≡ zeros (replicate 2 0) (w .edges) → links ≡ zeros 0 (w .links) → scratch ≡ zeros 0 (w .scratch)
-    → builtBuffers row-conditions row-weights rows guard-bounds guard-nodes nodes edges links scratch ≡ clearBuilt w
+pub byBuilt : {row-conditions row-weights : List ℕ} {rows : List (List ℕ)} {guard-bounds : List ℤ} {guard-nodes : List ℕ}
+    {nodes edges : List (List ℕ)} {links : List ℕ} (w : Built)
+    → row-conditions ≡ zeros 0 (w .held .row-conditions) → row-weights ≡ zeros 0 (w .held .row-weights)
+    → rows ≡ zeros (replicate 3 0) (w .held .rows) → guard-bounds ≡ zeros (pos 0) (w .held .guard-bounds)
+    → guard-nodes ≡ zeros 0 (w .held .guard-nodes) → nodes ≡ zeros (replicate 3 0) (w .nodes)
+    → edges ≡ zeros (replicate 2 0) (w .edges) → links ≡ zeros 0 (w .links)
+    → built (heldRows row-conditions row-weights rows guard-bounds guard-nodes) nodes edges links ≡ clearBuilt w
 unfolding clearBuilt
-byBuilt w e0 e1 e2 e3 e4 e5 e6 e7 e8 = λ i. record {
-  row-conditions = e0 i;
-  row-weights = e1 i;
-  rows = e2 i;
-  guard-bounds = e3 i;
-  guard-nodes = e4 i;
-  nodes = e5 i;
-  edges = e6 i;
-  links = e7 i;
-  scratch = e8 i;
-}
+byBuilt w e0 e1 e2 e3 e4 e5 e6 e7 = λ i. built (heldRows (e0 i) (e1 i) (e2 i) (e3 i) (e4 i)) (e5 i) (e6 i) (e7 i)
 
-pub byKept : {figures : List (List ℤ)} {cursors : List (List ℕ)} {sure : List ℕ} {never : List ℕ} {search : List ℕ} {gcds : List ℕ} {node-queue : List ℕ} {row-queue : List ℕ} {residual-queue : List ℕ} {row-pending : List ℕ} {residual-pending : List ℕ} {answers : List ℕ} {visits : List ℕ} (w : Kept)
-    → figures ≡ zeros (replicate 4 (pos 0)) (w .figures) → cursors ≡ zeros (replicate 5 0) (w .cursors) → sure ≡ zeros 0 (w .sure) → never ≡ zeros 0 (w .never)
-    → search ≡ zeros 0 (w .search) → gcds ≡ zeros 0 (w .gcds) → node-queue ≡ zeros 0 (w .node-queue) → row-queue ≡ zeros 0 (w .row-queue)
-    → residual-queue ≡ zeros 0 (w .residual-queue) → row-pending ≡ zeros 0 (w .row-pending) → residual-pending ≡ zeros 0 (w .residual-pending)
-    → answers ≡ zeros 0 (w .answers) → visits ≡ zeros 0 (w .visits)
-    → keptBuffers figures cursors sure never search gcds node-queue row-queue residual-queue row-pending residual-pending answers visits ≡ clearKept w
+pub byKept : {figures : List (List ℤ)} {cursors : List (List ℕ)} {sure never search gcds node-queue : List ℕ}
+    {row-queues answers : List (List ℕ)} (w : Kept)
+    → figures ≡ zeros (replicate 4 (pos 0)) (w .figures) → cursors ≡ zeros (replicate 5 0) (w .cursors) → sure ≡ zeros 0 (w .sure)
+    → never ≡ zeros 0 (w .never) → search ≡ zeros 0 (w .search) → gcds ≡ zeros 0 (w .gcds) → node-queue ≡ zeros 0 (w .node-queue)
+    → row-queues ≡ zeros (replicate 4 0) (w .row-queues) → answers ≡ zeros (replicate 2 0) (w .answers)
+    → kept figures cursors sure never search gcds node-queue row-queues answers ≡ clearKept w
 unfolding clearKept
-byKept w e0 e1 e2 e3 e4 e5 e6 e7 e8 e9 e10 e11 e12 = λ i. record {
-  figures = e0 i;
-  cursors = e1 i;
-  sure = e2 i;
-  never = e3 i;
-  search = e4 i;
-  gcds = e5 i;
-  node-queue = e6 i;
-  row-queue = e7 i;
-  residual-queue = e8 i;
-  row-pending = e9 i;
-  residual-pending = e10 i;
-  answers = e11 i;
-  visits = e12 i;
-}
+byKept w e0 e1 e2 e3 e4 e5 e6 e7 e8 = λ i. kept (e0 i) (e1 i) (e2 i) (e3 i) (e4 i) (e5 i) (e6 i) (e7 i) (e8 i)

@@ -1,31 +1,13 @@
-// The lent buffers: clearing them, and the test of their lengths. Each group of docs/BUFFERS.md has one function of either kind.
+// The lent buffers: clearing them, a function for each group of docs/BUFFERS.md, and the test of their lengths.
 ghost use mathlib.Core.Path.{_≡_};
+ghost use mathlib.Core.Bool.{not};
+ghost use mathlib.Core.List.{[], _∷_};
 ghost use lib.ListN.{replicate};
 ghost use lib.IntN.{pos};
-ghost use Rattle.memory.specs.Buffers.{rawBuffers, builtBuffers, keptBuffers, enoughRaw, enoughBuilt, enoughKept, zeros, clearRaw, clearBuilt, clearKept};
+ghost use Rattle.memory.specs.Buffers.{rawLists, raw, heldRows, built, kept, fitsBy, zeros, clearRaw, clearBuilt, clearKept};
 
 // One leaf for each type of element, each for buffers of any length.
-pub fn clear_u8(b: &mut [u8])
-    ensures { λ _. ⌜ now (b .exit) ≡ zeros 0 (now (b .entry)) ⌝ }
-{
-    let mut i: usize = 0;
-    while i < b.len() {
-        b[i] = 0;
-        i += 1;
-    }
-}
-
 pub fn clear_u16(b: &mut [u16])
-    ensures { λ _. ⌜ now (b .exit) ≡ zeros 0 (now (b .entry)) ⌝ }
-{
-    let mut i: usize = 0;
-    while i < b.len() {
-        b[i] = 0;
-        i += 1;
-    }
-}
-
-pub fn clear_u32(b: &mut [u32])
     ensures { λ _. ⌜ now (b .exit) ≡ zeros 0 (now (b .entry)) ⌝ }
 {
     let mut i: usize = 0;
@@ -77,6 +59,17 @@ pub fn clear_u16x3(b: &mut [[u16; 3]])
     }
 }
 
+pub fn clear_u16x4(b: &mut [[u16; 4]])
+    ensures { λ _. ⌜ now (b .exit) ≡ zeros (replicate 4 0) (now (b .entry)) ⌝ }
+{
+    let z: [u16; 4] = [0; 4];
+    let mut i: usize = 0;
+    while i < b.len() {
+        b[i] = z;
+        i += 1;
+    }
+}
+
 pub fn clear_u64x2(b: &mut [[u64; 2]])
     ensures { λ _. ⌜ now (b .exit) ≡ zeros (replicate 2 0) (now (b .entry)) ⌝ }
 {
@@ -113,15 +106,15 @@ pub fn clear_usizex5(b: &mut [[usize; 5]])
 // Clears the job as the records gave it.
 pub fn clear_raw(
     raw_conditions: &mut [u16],
-    raw_weights: &mut [u32],
+    raw_weights: &mut [u64],
     thresholds: &mut [[u16; 2]],
     bounds: &mut [i64],
 )
-    ensures { λ _. ⌜ rawBuffers (now («raw_conditions» .exit)) (now («raw_weights» .exit)) (now (thresholds .exit)) (now (bounds .exit))
-        ≡ clearRaw (rawBuffers (now («raw_conditions» .entry)) (now («raw_weights» .entry)) (now (thresholds .entry)) (now (bounds .entry))) ⌝ }
+    ensures { λ _. ⌜ raw (rawLists (now («raw_conditions» .exit)) (now («raw_weights» .exit)) (now (thresholds .exit))) (now (bounds .exit))
+        ≡ clearRaw (raw (rawLists (now («raw_conditions» .entry)) (now («raw_weights» .entry)) (now (thresholds .entry))) (now (bounds .entry))) ⌝ }
 {
     clear_u16(raw_conditions);
-    clear_u32(raw_weights);
+    clear_u64(raw_weights);
     clear_u16x2(thresholds);
     clear_i64(bounds);
 }
@@ -136,10 +129,9 @@ pub fn clear_built(
     nodes: &mut [[u16; 3]],
     edges: &mut [[u64; 2]],
     links: &mut [u16],
-    scratch: &mut [u64],
 )
-    ensures { λ _. ⌜ builtBuffers (now («row_conditions» .exit)) (now («row_weights» .exit)) (now (rows .exit)) (now («guard_bounds» .exit)) (now («guard_nodes» .exit)) (now (nodes .exit)) (now (edges .exit)) (now (links .exit)) (now (scratch .exit))
-        ≡ clearBuilt (builtBuffers (now («row_conditions» .entry)) (now («row_weights» .entry)) (now (rows .entry)) (now («guard_bounds» .entry)) (now («guard_nodes» .entry)) (now (nodes .entry)) (now (edges .entry)) (now (links .entry)) (now (scratch .entry))) ⌝ }
+    ensures { λ _. ⌜ built (heldRows (now («row_conditions» .exit)) (now («row_weights» .exit)) (now (rows .exit)) (now («guard_bounds» .exit)) (now («guard_nodes» .exit))) (now (nodes .exit)) (now (edges .exit)) (now (links .exit))
+        ≡ clearBuilt (built (heldRows (now («row_conditions» .entry)) (now («row_weights» .entry)) (now (rows .entry)) (now («guard_bounds» .entry)) (now («guard_nodes» .entry))) (now (nodes .entry)) (now (edges .entry)) (now (links .entry))) ⌝ }
 {
     clear_u16(row_conditions);
     clear_u64(row_weights);
@@ -149,7 +141,6 @@ pub fn clear_built(
     clear_u16x3(nodes);
     clear_u64x2(edges);
     clear_u16(links);
-    clear_u64(scratch);
 }
 
 // Clears what marks, settles and sifts change.
@@ -161,15 +152,11 @@ pub fn clear_kept(
     search: &mut [u64],
     gcds: &mut [u64],
     node_queue: &mut [u16],
-    row_queue: &mut [u16],
-    residual_queue: &mut [u16],
-    row_pending: &mut [u8],
-    residual_pending: &mut [u8],
-    answers: &mut [u8],
-    visits: &mut [u16],
+    row_queues: &mut [[u16; 4]],
+    answers: &mut [[u16; 2]],
 )
-    ensures { λ _. ⌜ keptBuffers (now (figures .exit)) (now (cursors .exit)) (now (sure .exit)) (now (never .exit)) (now (search .exit)) (now (gcds .exit)) (now («node_queue» .exit)) (now («row_queue» .exit)) (now («residual_queue» .exit)) (now («row_pending» .exit)) (now («residual_pending» .exit)) (now (answers .exit)) (now (visits .exit))
-        ≡ clearKept (keptBuffers (now (figures .entry)) (now (cursors .entry)) (now (sure .entry)) (now (never .entry)) (now (search .entry)) (now (gcds .entry)) (now («node_queue» .entry)) (now («row_queue» .entry)) (now («residual_queue» .entry)) (now («row_pending» .entry)) (now («residual_pending» .entry)) (now (answers .entry)) (now (visits .entry))) ⌝ }
+    ensures { λ _. ⌜ kept (now (figures .exit)) (now (cursors .exit)) (now (sure .exit)) (now (never .exit)) (now (search .exit)) (now (gcds .exit)) (now («node_queue» .exit)) (now («row_queues» .exit)) (now (answers .exit))
+        ≡ clearKept (kept (now (figures .entry)) (now (cursors .entry)) (now (sure .entry)) (now (never .entry)) (now (search .entry)) (now (gcds .entry)) (now («node_queue» .entry)) (now («row_queues» .entry)) (now (answers .entry))) ⌝ }
 {
     clear_i64x4(figures);
     clear_usizex5(cursors);
@@ -178,23 +165,16 @@ pub fn clear_kept(
     clear_u64(search);
     clear_u64(gcds);
     clear_u16(node_queue);
-    clear_u16(row_queue);
-    clear_u16(residual_queue);
-    clear_u8(row_pending);
-    clear_u8(residual_pending);
-    clear_u8(answers);
-    clear_u16(visits);
+    clear_u16x4(row_queues);
+    clear_u16x2(answers);
 }
 
-// Whether the job's buffers of these lengths are long enough.
-pub fn fits_raw(raw_conditions: usize, raw_weights: usize, thresholds: usize, bounds: usize) -> bool
-    ensures { λ r. ⌜ r ≡ enoughRaw «raw_conditions» «raw_weights» thresholds bounds ⌝ }
-{
-    (raw_conditions >= 4096) & (raw_weights >= 4096) & (thresholds >= 1024) & (bounds >= 1024)
-}
-
-// Whether the seal's buffers of these lengths are long enough.
-pub fn fits_built(
+// Whether one of these lengths is too short for its buffer, or the input too long.
+pub fn short(
+    raw_conditions: usize,
+    raw_weights: usize,
+    thresholds: usize,
+    bounds: usize,
     row_conditions: usize,
     row_weights: usize,
     rows: usize,
@@ -203,23 +183,6 @@ pub fn fits_built(
     nodes: usize,
     edges: usize,
     links: usize,
-    scratch: usize,
-) -> bool
-    ensures { λ r. ⌜ r ≡ enoughBuilt «row_conditions» «row_weights» rows «guard_bounds» «guard_nodes» nodes edges links scratch ⌝ }
-{
-    (row_conditions >= 4096)
-        & (row_weights >= 4096)
-        & (rows >= 1024)
-        & (guard_bounds >= 1024)
-        & (guard_nodes >= 1024)
-        & (nodes >= 4096)
-        & (edges >= 4096)
-        & (links >= 2048)
-        & (scratch >= 3072)
-}
-
-// Whether the last phase's buffers of these lengths are long enough.
-pub fn fits_kept(
     figures: usize,
     cursors: usize,
     sure: usize,
@@ -227,26 +190,33 @@ pub fn fits_kept(
     search: usize,
     gcds: usize,
     node_queue: usize,
-    row_queue: usize,
-    residual_queue: usize,
-    row_pending: usize,
-    residual_pending: usize,
+    row_queues: usize,
     answers: usize,
-    visits: usize,
+    input: usize,
 ) -> bool
-    ensures { λ r. ⌜ r ≡ enoughKept figures cursors sure never search gcds «node_queue» «row_queue» «residual_queue» «row_pending» «residual_pending» answers visits ⌝ }
+    ensures { λ r. ⌜ r ≡ not (fitsBy («raw_conditions» ∷ «raw_weights» ∷ thresholds ∷ bounds ∷ «row_conditions» ∷ «row_weights» ∷ rows ∷ «guard_bounds» ∷ «guard_nodes» ∷ nodes ∷ edges ∷ links ∷ figures ∷ cursors ∷ sure ∷ never ∷ search ∷ gcds ∷ «node_queue» ∷ «row_queues» ∷ answers ∷ []) input) ⌝ }
 {
-    (figures >= 1024)
+    let enough = (raw_conditions >= 4096)
+        & (raw_weights >= 4096)
+        & (thresholds >= 1024)
+        & (bounds >= 1024)
+        & (row_conditions >= 4096)
+        & (row_weights >= 4096)
+        & (rows >= 1024)
+        & (guard_bounds >= 1024)
+        & (guard_nodes >= 1024)
+        & (nodes >= 4096)
+        & (edges >= 4096)
+        & (links >= 2048)
+        & (figures >= 1024)
         & (cursors >= 1024)
         & (sure >= 64)
         & (never >= 64)
         & (search >= 4096)
         & (gcds >= 1025)
         & (node_queue >= 4096)
-        & (row_queue >= 1024)
-        & (residual_queue >= 1024)
-        & (row_pending >= 1024)
-        & (residual_pending >= 1024)
-        & (answers >= 64)
-        & (visits >= 64)
+        & (row_queues >= 1024)
+        & (answers >= 64);
+    let fits = enough & (input <= 65536);
+    !fits
 }

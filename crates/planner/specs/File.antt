@@ -1,39 +1,45 @@
 -- A whole job file: what each record does, and the first refusal with its offset.
 use Prim.Native.Nat.{ℕ, zero, suc, _+_}
-use mathlib.Core.Bool.{Bool, true, false, cond, _&&_, _||_, not}
+use mathlib.Core.Bool.{Bool, true, false, _||_}
 use mathlib.Core.List.{List, [], _∷_, _++_}
 use lib.ListN.{length, take, drop, replicate}
 use lib.Dec.{eqb, leb, ltb}
-use lib.IntN.{ℤ, pos, negsuc}
-use lib.Signed.{leZ, ltZ}
-use Rattle.numeric.specs.Area.{weightOfArea}
-use Rattle.numeric.specs.Threshold.{Term, term, Threshold, Job}
+use Rattle.numeric.specs.Threshold.{Job}
 use Rattle.state.specs.declared.Step.{Step}
-use Rattle.state.specs.declared.Step.the-variants.{Unchanged, Changed, Contradiction}
+use Rattle.state.specs.declared.Step.the-variants.{Unchanged}
 use Rattle.state.specs.Step.{contradicts}
 use Rattle.state.specs.State.{noState}
 use Rattle.queues.specs.Queue.{queue, ring, rows}
 use Rattle.queues.specs.Marks.{marks}
-use Rattle.between.specs.Between.{Index, Live, live, Did}
+use Rattle.between.specs.Between.{Live, live}
 use Rattle.regions.specs.Drain as Drain
+use Rattle.regions.specs.Drain.{indexOf}
 use Rattle.regions.specs.Sift as Sift
-use Rattle.job.specs.Job.{lastNode, lastTerms, allTerms, isEmptyList, check, first, addTerm}
-use Rattle.records.specs.Record.{Kind, kindOf, bodyLength, Record, recordOf, header, opens, adds, areas, seal, mark, settle, sift, unknown}
+use Rattle.job.specs.Job.{lastNode, lastTerms, allTerms, isEmptyList, withChange}
+use Rattle.records.specs.declared.Record.{Record}
+use Rattle.records.specs.Record.{kinds, kindOf, bodyLength, recordOf}
+use Rattle.records.specs.Facts.{Action, begins, changes, closes, decides, settles, sifts, idles, action, facts}
+use Rattle.records.specs.Checks.{Standing, first, checks}
 
 -- The answer of a settle or of a sift, a sift's with its visits.
 pub data Answer : Type 0 where
   settled : Step → Answer
   sifted : Step → ℕ → Answer
 
--- All that the records so far left.
+-- All that the records so far left: the job that they gave and the one that the last seal closed; the step of the last record
+-- that answered (a seal, a mark, a settle or a sift), Unchanged before any; and the answers of settles and sifts.
 pub record File : Type 0 where
   pub started : Bool
   pub job : Job
+  pub closed : Job
   pub sealed : Bool
-  pub contradicted : Bool
+  pub last : Step
   pub live : Live
   pub gcds : List ℕ
   pub answers : List Answer
+
+abbrev pub contradicted : File → Bool
+contradicted f = contradicts (f .last)
 
 -- Memory as the call clears it.
 abbrev pub cleared : Live
@@ -41,165 +47,100 @@ cleared =
     live (replicate 1024 noState) (marks (replicate 64 0) (replicate 64 0) (queue (replicate 4096 0) (ring 0 0)))
     (rows (queue (replicate 1024 0) (ring 0 0)) (replicate 1024 0)) (rows (queue (replicate 1024 0) (ring 0 0)) (replicate 1024 0))
 
+abbrev pub noJob : ℕ → Job
+noJob n = record { nodes = n; thresholds = [] }
+
 unfoldable pub begun : File
 begun = record {
   started = false;
-  job = record { nodes = 0; thresholds = [] };
+  job = noJob 0;
+  closed = noJob 0;
   sealed = false;
-  contradicted = false;
+  last = Unchanged;
   live = cleared;
   gcds = replicate 1025 0;
   answers = [];
 }
 
--- THE CHECKS, in document 01's order.
+-- THE CHECKS: what they read of a file, and the number of the first that applies to a record; 0 for none.
+abbrev pub standing : File → Standing
+standing f =
+    let ts = f .job .thresholds in
+    record {
+      started = f .started;
+      sealed = f .sealed;
+      contradicted = contradicted f;
+      empty = isEmptyList ts;
+      nodes = f .job .nodes;
+      last = lastNode ts;
+      listed = lastTerms ts;
+      thresholds = length ts;
+      terms = allTerms ts;
+      answers = length (f .answers);
+    }
 
--- 3: out of its turn.
-abbrev pub wrongTurn : File → Record → Bool
-wrongTurn f (header n) = f .started
-wrongTurn f (opens n b) = not (f .started) || f .sealed
-wrongTurn f (adds c w) = not (f .started) || f .sealed || isEmptyList (f .job .thresholds)
-wrongTurn f (areas c a) = not (f .started) || f .sealed || isEmptyList (f .job .thresholds)
-wrongTurn f seal = not (f .started) || f .sealed
-wrongTurn f (mark n v) = not (f .sealed)
-wrongTurn f settle = not (f .sealed)
-wrongTurn f sift = not (f .sealed)
-wrongTurn f unknown = false
-
--- 5: a node or condition that the job does not have.
-abbrev pub noSuchNode : File → Record → Bool
-noSuchNode f (header n) = false
-noSuchNode f (opens n b) = leb (f .job .nodes) n
-noSuchNode f (adds c w) = leb (f .job .nodes) c
-noSuchNode f (areas c a) = leb (f .job .nodes) c
-noSuchNode f seal = false
-noSuchNode f (mark n v) = leb (f .job .nodes) n
-noSuchNode f settle = false
-noSuchNode f sift = false
-noSuchNode f unknown = false
-
--- 6: a threshold's node that is not above the one before.
-abbrev pub notRising : File → Record → Bool
-notRising f (header n) = false
-notRising f (opens n b) = not (isEmptyList (f .job .thresholds)) && leb n (lastNode (f .job .thresholds))
-notRising f (adds c w) = false
-notRising f (areas c a) = false
-notRising f seal = false
-notRising f (mark n v) = false
-notRising f settle = false
-notRising f sift = false
-notRising f unknown = false
-
--- 7: a bound outside -2^52 to 2^52.
-abbrev pub badBound : Record → Bool
-badBound (header n) = false
-badBound (opens n b) = ltZ b (negsuc 4503599627370495) || ltZ (pos 4503599627370496) b
-badBound (adds c w) = false
-badBound (areas c a) = false
-badBound seal = false
-badBound (mark n v) = false
-badBound settle = false
-badBound sift = false
-badBound unknown = false
-
--- 8: a value that is neither 0 nor 1.
-abbrev pub badValue : Record → Bool
-badValue (header n) = false
-badValue (opens n b) = false
-badValue (adds c w) = false
-badValue (areas c a) = false
-badValue seal = false
-badValue (mark n v) = ltb 1 v
-badValue settle = false
-badValue sift = false
-badValue unknown = false
-
--- 4: more than the buffers hold.
-abbrev pub tooManyTerms : File → Bool
-tooManyTerms f = leb 1024 (lastTerms (f .job .thresholds)) || leb 4096 (allTerms (f .job .thresholds))
-
-abbrev pub tooMany : File → Record → Bool
-tooMany f (header n) = ltb 4096 n
-tooMany f (opens n b) = leb 1024 (length (f .job .thresholds))
-tooMany f (adds c w) = tooManyTerms f
-tooMany f (areas c a) = tooManyTerms f
-tooMany f seal = false
-tooMany f (mark n v) = false
-tooMany f settle = leb 64 (length (f .answers))
-tooMany f sift = leb 64 (length (f .answers))
-tooMany f unknown = false
-
--- The number of the first check that applies; 0 for none.
 unfoldable pub refusal : File → Record → ℕ
-refusal f r = first (
-    check (wrongTurn f r) 3 ∷ check (f .contradicted) 9 ∷ check (noSuchNode f r) 5 ∷ check (notRising f r) 6
-    ∷ check (badBound r) 7 ∷ check (badValue r) 8 ∷ check (tooMany f r) 4 ∷ [])
+refusal f r = first (checks (standing f) false false (facts (action r)))
 
 -- WHAT A RECORD DOES that is not refused.
 
-abbrev pub withThresholds : File → List Threshold → File
-withThresholds f ts = record {
-  started = f .started;
-  job = record { nodes = f .job .nodes; thresholds = ts };
+-- The job before its seal.
+abbrev pub withJob : File → Job → File
+withJob f j = record {
+  started = true;
+  job = j;
+  closed = f .closed;
   sealed = f .sealed;
-  contradicted = f .contradicted;
+  last = f .last;
   live = f .live;
   gcds = f .gcds;
   answers = f .answers;
 }
 
--- What a seal or a mark left.
-abbrev pub served : File → Did → File
-served f d = record {
+-- What a seal, a mark, a settle or a sift left: the job that is closed then, its step, memory and gcds, and all answers.
+abbrev pub told : File → Job → Step → Live → List ℕ → List Answer → File
+told f j k v g as′ = record {
   started = f .started;
   job = f .job;
+  closed = j;
   sealed = true;
-  contradicted = contradicts (d .step);
-  live = d .live;
-  gcds = f .gcds;
-  answers = f .answers;
+  last = k;
+  live = v;
+  gcds = g;
+  answers = as′;
 }
 
--- What a settle or a sift left, with its answer.
-abbrev pub answered : File → Live → List ℕ → Step → Answer → File
-answered f v gcds k a = record {
-  started = f .started;
-  job = f .job;
-  sealed = true;
-  contradicted = contradicts k;
-  live = v;
-  gcds = gcds;
-  answers = f .answers ++ (a ∷ []);
-}
+unfoldable pub sealedFile : File → File
+sealedFile f =
+    let d = Drain.seal (indexOf (f .job)) (f .live) in
+    told f (f .job) (d .step) (d .live) (f .gcds) (f .answers)
+
+unfoldable pub markedFile : File → ℕ → Bool → File
+markedFile f n value =
+    let d = Drain.mark (f .live) n value in
+    told f (f .closed) (d .step) (d .live) (f .gcds) (f .answers)
 
 unfoldable pub settledFile : File → File
 settledFile f =
-    let d = Drain.settle (Drain.indexOf (f .job)) (f .live) in
-    answered f (d .live) (f .gcds) (d .step) (settled (d .step))
+    let d = Drain.settle (indexOf (f .closed)) (f .live) in
+    told f (f .closed) (d .step) (d .live) (f .gcds) (f .answers ++ (settled (d .step) ∷ []))
 
 unfoldable pub siftedFile : File → File
 siftedFile f =
-    let s = Sift.sift (Drain.indexOf (f .job)) (f .live) (f .gcds) in
-    answered f (s .live) (s .gcds) (s .step) (sifted (s .step) (s .visits))
+    let s = Sift.sift (indexOf (f .closed)) (f .live) (f .gcds) in
+    told f (f .closed) (s .step) (s .live) (s .gcds) (f .answers ++ (sifted (s .step) (s .visits) ∷ []))
+
+unfoldable pub act : File → Action → File
+act f (begins n) = withJob f (noJob n)
+act f (changes c) = withJob f (withChange (f .job) c)
+act f closes = sealedFile f
+act f (decides n v) = markedFile f n (eqb v 1)
+act f settles = settledFile f
+act f sifts = siftedFile f
+act f (idles x) = f
 
 unfoldable pub apply : File → Record → File
-apply f (header n) = record {
-  started = true;
-  job = record { nodes = n; thresholds = [] };
-  sealed = false;
-  contradicted = false;
-  live = f .live;
-  gcds = f .gcds;
-  answers = f .answers;
-}
-apply f (opens n b) = withThresholds f (f .job .thresholds ++ (record { node = n; bound = b; terms = [] } ∷ []))
-apply f (adds c w) = withThresholds f (addTerm (term c w) (f .job .thresholds))
-apply f (areas c a) = withThresholds f (addTerm (term c (weightOfArea a)) (f .job .thresholds))
-apply f seal = served f (Drain.seal (Drain.indexOf (f .job)) (f .live))
-apply f (mark n v) = served f (Drain.mark (f .live) n (eqb v 1))
-apply f settle = settledFile f
-apply f sift = siftedFile f
-apply f unknown = f
+apply f r = act f (action r)
 
 -- THE FILE: what is left, the records that were taken, and the refusal with its offset; number 0 is no refusal.
 pub record Outcome : Type 0 where
@@ -211,7 +152,7 @@ pub record Outcome : Type 0 where
 abbrev pub outcome : File → List Record → ℕ → ℕ → Outcome
 outcome f rs r o = record { file = f; records = rs; refused = r; at = o }
 
--- The record that begins with this kind, and what stands before the checks above: kind, then body.
+-- The record that begins with this kind, and what stands before the other checks: kind, then body.
 abbrev pub bodyOf : ℕ → List ℕ → List ℕ
 bodyOf kind rest = take (bodyLength (kindOf kind)) rest
 
@@ -219,13 +160,13 @@ abbrev pub recordAt : ℕ → List ℕ → Record
 recordAt kind rest = recordOf (kindOf kind) (bodyOf kind rest)
 
 abbrev pub unknownKind : ℕ → Bool
-unknownKind kind = eqb kind 0 || ltb 8 kind
+unknownKind kind = eqb kind 0 || leb (length kinds) kind
 
 abbrev pub cutBody : ℕ → List ℕ → Bool
 cutBody kind rest = ltb (length (bodyOf kind rest)) (bodyLength (kindOf kind))
 
 abbrev pub refusalAt : File → ℕ → List ℕ → ℕ
-refusalAt f kind rest = cond (unknownKind kind) 2 (cond (cutBody kind rest) 1 (refusal f (recordAt kind rest)))
+refusalAt f kind rest = first (checks (standing f) (unknownKind kind) (cutBody kind rest) (facts (action (recordAt kind rest))))
 
 -- Records from an offset on; the first argument bounds their number.
 unfoldable pub readFrom : ℕ → ℕ → List ℕ → File → List Record → Outcome

@@ -11,9 +11,11 @@ use lib.Seq.{take-take, take-nil}
 use lib.Dec.{eqb, ltb}
 use mathlib.Core.Logic.{_⊎_, inl, inr, ⊎-elim}
 use borrow.Author.Tests.{eq-eqb, ne-eqb}
-use Rattle.records.specs.Record.{Kind, kindOf, bodyLength, Record, recordOf}
-use Rattle.job.specs.Job.{Check, check, first}
-use Rattle.planner.specs.File.{File, refusal, apply, wrongTurn, noSuchNode, notRising, badBound, badValue, tooMany, Outcome, outcome, bodyOf, recordAt, unknownKind, cutBody, refusalAt, readFrom, fileOf, begun, planned, after}
+use Rattle.records.specs.declared.Record.{Record}
+use Rattle.records.specs.Record.{kindOf, bodyLength, recordOf}
+use Rattle.records.specs.Facts.{Facts, action, facts}
+use Rattle.records.specs.Checks.{Check, check, first, checks}
+use Rattle.planner.specs.File.{File, standing, refusal, apply, Outcome, outcome, bodyOf, recordAt, unknownKind, cutBody, refusalAt, readFrom, fileOf, begun, planned, after}
 
 -- ONE OF TEN NUMBERS
 
@@ -30,17 +32,21 @@ first-up-to n (c ∷ cs) h = by (first-up-to n cs (h .1)) (c .applies)
     by ih true = h .0
     by ih false = ih
 
-refusal-up-to : (f : File) (r : Record) → refusal f r ≤ 9
-unfolding refusal
-refusal-up-to f r = first-up-to 9 _ (omega arith, (omega arith, (omega arith, (omega arith, (omega arith, (omega arith, (omega arith, tt)))))))
-
 refusal-at-up-to : (f : File) (kind : ℕ) (rest : List ℕ) → refusalAt f kind rest ≤ 9
-refusal-at-up-to f kind rest = by (unknownKind kind) (cutBody kind rest)
+refusal-at-up-to f kind rest =
+    first-up-to 9 (checks (standing f) (unknownKind kind) (cutBody kind rest) (facts (action (recordAt kind rest))))
+    (omega arith, (omega arith, (omega arith, (omega arith, (omega arith, (omega arith, (omega arith, (omega arith, (omega arith, tt)))))))))
+
+-- BEFORE THE OTHER CHECKS: kind, then body
+
+pub checked : (f : File) (kind : ℕ) (rest : List ℕ) → refusalAt f kind rest ≡ cond (unknownKind kind) 2 (cond (cutBody kind rest) 1 (refusal f (recordAt kind rest)))
+unfolding first refusal
+checked f kind rest = by (unknownKind kind) (cutBody kind rest)
   where
-    by : (a b : Bool) → cond a 2 (cond b 1 (refusal f (recordAt kind rest))) ≤ 9
-    by true b = omega arith
-    by false true = omega arith
-    by false false = refusal-up-to f (recordAt kind rest)
+    by : (a b : Bool) → first (checks (standing f) a b (facts (action (recordAt kind rest)))) ≡ cond a 2 (cond b 1 (refusal f (recordAt kind rest)))
+    by true b = refl
+    by false true = refl
+    by false false = refl
 
 pub read-up-to : (n o : ℕ) (bytes : List ℕ) (f : File) (taken : List Record) → readFrom n o bytes f taken .refused ≤ 9
 unfolding readFrom
@@ -130,7 +136,7 @@ same-body kind k rest h = take-take (bodyLength (kindOf kind)) k rest h
 
 same-refusal : (f : File) (kind k : ℕ) (rest : List ℕ) → bodyLength (kindOf kind) ≤ k → refusalAt f kind (take k rest) ≡ refusalAt f kind rest
 same-refusal f kind k rest h =
-    ap (λ (b : List ℕ). cond (unknownKind kind) 2 (cond (ltb (length b) (bodyLength (kindOf kind))) 1 (refusal f (recordOf (kindOf kind) b)))) (same-body kind k rest h)
+    ap (λ (b : List ℕ). first (checks (standing f) (unknownKind kind) (ltb (length b) (bodyLength (kindOf kind))) (facts (action (recordOf (kindOf kind) b))))) (same-body kind k rest h)
 
 -- The reading stopped behind o, and the part before that place reads the same and is accepted.
 abbrev pub Cut : ℕ → ℕ → List ℕ → File → List Record → Outcome → Type 0

@@ -71,7 +71,7 @@ rowLines f [] r = []
 rowLines f (x ∷ xs) r = text "row " ++ decimal r ++ text " " ++ figures (getD (f .live .states) r noState) ++ text "\n" ++ rowLines f xs (r + 1)
 
 abbrev pub stateLines : File → List ℕ
-stateLines f = cond (f .sealed) (nodeLines f (f .job .nodes) 0 ++ rowLines f (rowsOf (f .job)) 0) []
+stateLines f = cond (f .sealed) (nodeLines f (f .closed .nodes) 0 ++ rowLines f (rowsOf (f .closed)) 0) []
 
 abbrev pub lastLine : Outcome → List ℕ
 lastLine o =

@@ -231,6 +231,7 @@ from-visits w d (t ∷ ts) sums maximum (suc left) =
         (ih (unionShifted sums (maximum / 64 + 1) (t .weight) (w .lower) (w .maximum) left .words) (min (maximum + t .weight) (w .maximum)) k)
     by ih false a false b Stopped c = rw (from-stopped w d t ts sums maximum left a b c) (omega arith)
 
+-- NO SEARCH USES MORE THAN 4 VISITS FOR EACH TERM
 pub search-visits : (ts : List Term) (s : State) (d : ℕ → Bool) → searchVisits 0 (search ts s d) ≤ 4 * length ts
 search-visits ts s d = by (plan ts s) refl
   where
@@ -239,10 +240,3 @@ search-visits ts s d = by (plan ts s) refl
     by (Planned w) e =
         let v : w .visits ≡ 4 * length ts = ap (λ (x : Window). x .visits) (sym (plan-is ts s w e .same)) in
         rw (search-begins ts s d w e) (omega (arith, from-visits w d (reverse ts) (first (w .words)) 0 (w .visits - (w .words + 2))))
-
--- NO SEARCH USES MORE THAN 4 VISITS FOR EACH TERM
-pub invents-visits : (raw : List Term) (s : State) (d : ℕ → Bool) (n : ℕ)
-    → (search (rowTerms raw) s d ≡ Fits n) ⊎ ((search (rowTerms raw) s d ≡ Nothing n) ⊎ (search (rowTerms raw) s d ≡ Cut n)) → n ≤ 4 * length (rowTerms raw)
-invents-visits raw s d n (inl e) = rw e at (search-visits (rowTerms raw) s d)
-invents-visits raw s d n (inr (inl e)) = rw e at (search-visits (rowTerms raw) s d)
-invents-visits raw s d n (inr (inr e)) = rw e at (search-visits (rowTerms raw) s d)

@@ -4,17 +4,22 @@ use mathlib.Core.List.{List, [], map}
 use lib.ListN.{length, getD}
 use lib.IntN.{ℤ, pos}
 use Rattle.lists.specs.Laid.{numbers}
-use Rattle.numeric.specs.Threshold.{Threshold}
-use Rattle.thresholds.specs.Raw.{Raw, listAt}
+use Rattle.numeric.specs.Threshold.{Threshold, Job}
+use Rattle.memory.specs.Buffers.{RawLists}
+use Rattle.thresholds.specs.Raw.{listAt}
 use Rattle.thresholds.specs.Guards.{nodeAt}
 use Rattle.thresholds.specs.Rows.{Row, placeAll}
 
-abbrev pub thresholdAt : Raw → List ℤ → ℕ → Threshold
+abbrev pub thresholdAt : RawLists → List ℤ → ℕ → Threshold
 thresholdAt r bounds t = record { node = nodeAt (r .thresholds) t; bound = getD bounds t (pos 0); terms = listAt r t }
 
 -- All of them; the buffers are cut to their number.
-abbrev pub given : Raw → List ℤ → List Threshold
+abbrev pub given : RawLists → List ℤ → List Threshold
 given r bounds = map (thresholdAt r bounds) (numbers 0 (length (r .thresholds)))
 
-abbrev pub givenRows : Raw → List ℤ → List Row
+-- The job, of so many nodes.
+abbrev pub givenJob : RawLists → List ℤ → ℕ → Job
+givenJob r bounds nodes = record { nodes = nodes; thresholds = given r bounds }
+
+abbrev pub givenRows : RawLists → List ℤ → List Row
 givenRows r bounds = placeAll (given r bounds) []

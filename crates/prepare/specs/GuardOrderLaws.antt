@@ -10,7 +10,8 @@ use Rattle.lists.specs.Laid.{joinAll, ends, numbers}
 use Rattle.lists.specs.Deal.{Keyed, keyed, those, grouped}
 use Rattle.sort.specs.Sorted.{sorted}
 use Rattle.sort.specs.SortedLaws.{All, all-sorted, length-sorted}
-use Rattle.thresholds.specs.Raw.{Raw, listAt}
+use Rattle.memory.specs.Buffers.{RawLists}
+use Rattle.thresholds.specs.Raw.{listAt}
 use Rattle.thresholds.specs.Rows.{Row, Guard, rowNumber, noRow}
 use Rattle.thresholds.specs.Laid.{guardLists, guardBounds, guardNodes}
 use Rattle.thresholds.specs.Guards.{Bounds, raised, guardKeys, nodeAt, rowAt, keyRow, boundItems, nodeItems}
@@ -54,7 +55,7 @@ unfolding numbers
 all-numbers P f zero a h = tt
 all-numbers P f (suc m) a h = (h a (omega arith), all-numbers P f m (a + 1) (λ t q. h t (omega arith)))
 
-module _ (r : Raw) (bounds : List ℤ) (same : length bounds ≡ length (r .thresholds)) (many : length bounds ≤ 1024) where
+module _ (r : RawLists) (bounds : List ℤ) (same : length bounds ≡ length (r .thresholds)) (many : length bounds ≤ 1024) where
   abbrev keys : List ℕ
   keys = sorted (guardKeys 0 bounds)
 

@@ -14,7 +14,8 @@ use Rattle.numeric.specs.Threshold.{Threshold}
 use Rattle.row.specs.Terms.{sameTerms}
 use Rattle.sort.specs.Sorted.{put, sorted}
 use Rattle.sort.specs.SortedLaws.{All, all-map}
-use Rattle.thresholds.specs.Raw.{Raw, listAt}
+use Rattle.memory.specs.Buffers.{RawLists}
+use Rattle.thresholds.specs.Raw.{listAt}
 use Rattle.thresholds.specs.RawLaws.{same-refl}
 use Rattle.thresholds.specs.Rows.{Row, Guard, guard, insertGuard, place, placeAll, rowNumber, noRow}
 use Rattle.thresholds.specs.RowsLaws.{number-all}
@@ -107,12 +108,12 @@ there-from f (suc m) a rs t h k = by (λ q. there-from f m (a + 1) (place (f a) 
     by ih false e = let n = eqb-false t a e in ih (omega arith)
 
 -- THE ROW OF EVERY THRESHOLD IS THERE.
-pub row-there : (r : Raw) (bounds : List ℤ) (t : ℕ) → t < length (r .thresholds) → rowNumber (givenRows r bounds) (listAt r t) < length (givenRows r bounds)
+pub row-there : (r : RawLists) (bounds : List ℤ) (t : ℕ) → t < length (r .thresholds) → rowNumber (givenRows r bounds) (listAt r t) < length (givenRows r bounds)
 row-there r bounds t h = there-from (thresholdAt r bounds) (length (r .thresholds)) 0 [] t (omega arith) (omega arith)
 
 -- ---- the guards of row k, after all thresholds
 
-module _ (r : Raw) (bounds : List ℤ) (same : length bounds ≡ length (r .thresholds)) (many : length bounds ≤ 1024) (good : Bounds bounds)
+module _ (r : RawLists) (bounds : List ℤ) (same : length bounds ≡ length (r .thresholds)) (many : length bounds ≤ 1024) (good : Bounds bounds)
     (up : (t : ℕ) → t + 1 < length bounds → nodeAt (r .thresholds) t < nodeAt (r .thresholds) (t + 1)) (row : ℕ → ℕ) (k : ℕ) where
   abbrev rowsFrom : ℕ → ℕ → List Row → List Row
   rowsFrom a m rs = placeAll (map (thresholdAt r bounds) (numbers a m)) rs

@@ -1,4 +1,5 @@
 pub mod Given
+pub mod JobBuffers
 pub mod Place
 pub mod PlaceLaws
 pub mod Prepare
@@ -11,6 +12,7 @@ pub mod EdgesGiven
 pub mod RowsGivenTerms
 pub mod NodesGiven
 pub mod RowsGivenLinks
+pub mod JobBuffersLaws
 pub mod GuardOrderPickedLaws
 pub mod GuardOrderKeysLaws
 pub mod GuardOrderRowsLaws

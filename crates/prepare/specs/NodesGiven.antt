@@ -17,7 +17,8 @@ use Rattle.lists.specs.Laid.{numbers, triples}
 use Rattle.lists.specs.Columns.{column, Wide}
 use Rattle.numeric.specs.Threshold.{Threshold}
 use Rattle.row.specs.TermsLaws.{either}
-use Rattle.thresholds.specs.Raw.{Raw, listAt}
+use Rattle.memory.specs.Buffers.{RawLists}
+use Rattle.thresholds.specs.Raw.{listAt}
 use Rattle.thresholds.specs.Rows.{Row, rowNumber}
 use Rattle.thresholds.specs.Laid.{thresholdOf, rowOfNode}
 use Rattle.thresholds.specs.Guards.{nodeAt, rowAt}
@@ -91,12 +92,12 @@ found f i (suc n) = by (found f i n) (ℕ-discrete (f n) i)
 
 -- ---- what the loop leaves at a node
 
-pub length-nodes : (r : Raw) (nodes : List (List ℕ)) (n : ℕ) → length (nodesTo r nodes n) ≡ length nodes
+pub length-nodes : (r : RawLists) (nodes : List (List ℕ)) (n : ℕ) → length (nodesTo r nodes n) ≡ length nodes
 unfolding nodesTo
 length-nodes r nodes zero = refl
 length-nodes r nodes (suc n) = length-set (nodesTo r nodes n) (nodeAt (r .thresholds) n) (nodeEntry n (rowTo r n)) ∙ length-nodes r nodes n
 
-node-none : (r : Raw) (nodes : List (List ℕ)) (n i : ℕ) → ((t : ℕ) → t < n → nodeAt (r .thresholds) t ≡ i → ⊥)
+node-none : (r : RawLists) (nodes : List (List ℕ)) (n i : ℕ) → ((t : ℕ) → t < n → nodeAt (r .thresholds) t ≡ i → ⊥)
     → getD (nodesTo r nodes n) i [] ≡ getD nodes i []
 unfolding nodesTo
 node-none r nodes zero i h = refl
@@ -104,7 +105,7 @@ node-none r nodes (suc n) i h =
     getD-set-other (nodesTo r nodes n) (nodeAt (r .thresholds) n) i (nodeEntry n (rowTo r n)) [] (λ e. h n (omega arith) (sym e))
     ∙ node-none r nodes n i (λ t k. h t (omega arith))
 
-node-own : (r : Raw) (nodes : List (List ℕ)) (n t : ℕ) → t < n → nodeAt (r .thresholds) t < length nodes
+node-own : (r : RawLists) (nodes : List (List ℕ)) (n t : ℕ) → t < n → nodeAt (r .thresholds) t < length nodes
     → ((s : ℕ) → t < s → s < n → nodeAt (r .thresholds) s ≡ nodeAt (r .thresholds) t → ⊥)
     → getD (nodesTo r nodes n) (nodeAt (r .thresholds) t) [] ≡ nodeEntry t (rowTo r t)
 unfolding nodesTo
@@ -192,7 +193,7 @@ entries-triples l g h m e f =
 
 -- ---- THE NODES OF THE JOB
 
-module _ (r : Raw) (bounds : List ℤ) (nodes : List (List ℕ)) (m : ℕ) (clear : nodes ≡ replicate m (replicate 3 0))
+module _ (r : RawLists) (bounds : List ℤ) (nodes : List (List ℕ)) (m : ℕ) (clear : nodes ≡ replicate m (replicate 3 0))
     (inside : (t : ℕ) → t < length (r .thresholds) → nodeAt (r .thresholds) t < m) (rise : NodesRise (r .thresholds)) where
   abbrev n : ℕ
   n = length (r .thresholds)

@@ -14,7 +14,8 @@ use Rattle.numeric.specs.Threshold.{Term}
 use Rattle.row.specs.Terms.{rowTerms}
 use Rattle.row.specs.Keys.{laid, conditionsOf, weightsOf}
 use Rattle.thresholds.specs.declared.Found.the-variants.{At, Nothing}
-use Rattle.thresholds.specs.Raw.{Raw, startOf, endOf, listAt, fingerprint, numberIn, foundOf, Lists}
+use Rattle.memory.specs.Buffers.{RawLists}
+use Rattle.thresholds.specs.Raw.{startOf, endOf, listAt, fingerprint, numberIn, foundOf, Lists}
 use Rattle.thresholds.specs.RawLaws.{number-most, found-is, found-none}
 use Rattle.thresholds.specs.Chain.{nextIn, printIn, markedList, classOf, Marked, Headed}
 use Rattle.thresholds.specs.ChainLaws.{class-small, marked-one, headed-one, headed-none, length-marked}
@@ -48,7 +49,7 @@ over-one {X} l b n x e h =
 
 -- ---- the raw lists of the rows
 
-module _ (r : Raw) (t : ℕ) where
+module _ (r : RawLists) (t : ℕ) where
   raws-next : (b : Bool) → ltb (rowTo r t) (length (rawsTo r t)) ≡ b → rawsTo r (t + 1) ≡ cond b (rawsTo r t) (rawsTo r t ++ (listAt r t ∷ []))
   unfolding rawsTo
   raws-next b e = ap (rawsTo r) (add-one t) ∙ ap (λ (b : Bool). cond b (rawsTo r t) (rawsTo r t ++ (listAt r t ∷ []))) e
@@ -69,7 +70,7 @@ module _ (r : Raw) (t : ℕ) where
   long-new h = ap length (join-new h) ∙ length-append (joinAll (termsTo r t)) (rowTerms (listAt r t))
 
 -- No more rows than thresholds.
-pub raws-few : (r : Raw) (t : ℕ) → length (rawsTo r t) ≤ t
+pub raws-few : (r : RawLists) (t : ℕ) → length (rawsTo r t) ≤ t
 unfolding rawsTo
 raws-few r zero = omega arith
 raws-few r (suc t) = by (raws-few r t) (ltb (rowTo r t) (length (rawsTo r t)))
@@ -80,7 +81,7 @@ raws-few r (suc t) = by (raws-few r t) (ltb (rowTo r t) (length (rawsTo r t)))
 
 -- ---- the row of a threshold, as it was found
 
-module _ (r : Raw) (t : ℕ) (ms : List ℕ) (e : map (markedList r) ms ≡ rawsTo r t) where
+module _ (r : RawLists) (t : ℕ) (ms : List ℕ) (e : map (markedList r) ms ≡ rawsTo r t) where
   long-marks : length ms ≡ length (rawsTo r t)
   long-marks = sym (length-marked r ms) ∙ ap length e
 
@@ -105,7 +106,7 @@ module _ (r : Raw) (t : ℕ) (ms : List ℕ) (e : map (markedList r) ms ≡ raws
 
 -- ---- marks
 
-module _ (r : Raw) (t rows : ℕ) (scratch heads : List ℕ) (k : Marks r t rows scratch heads) where
+module _ (r : RawLists) (t rows : ℕ) (scratch heads : List ℕ) (k : Marks r t rows scratch heads) where
   -- The rows are no more than the thresholds; behind 1,024 words nothing is marked.
   pub marks-few : rows ≤ t
   marks-few = let q = raws-few r t in let e = k .many in omega arith
@@ -140,7 +141,7 @@ module _ (r : Raw) (t rows : ℕ) (scratch heads : List ℕ) (k : Marks r t rows
 abbrev pub extent : ℕ → ℕ → Extent
 extent n e = record { rows = n; end = e }
 
-module _ (r : Raw) (t : ℕ) (so : Extent) (cs ws scratch heads : List ℕ) (p : Placing r t so cs ws scratch heads) (l : Lists r (length (r .thresholds))) (h : t < length (r .thresholds)) where
+module _ (r : RawLists) (t : ℕ) (so : Extent) (cs ws scratch heads : List ℕ) (p : Placing r t so cs ws scratch heads) (l : Lists r (length (r .thresholds))) (h : t < length (r .thresholds)) where
   pub placing-old : rowTo r t < length (rawsTo r t) → Placing r (t + 1) so cs ws scratch heads
   placing-old n =
       let e = sym (raws-old r t n) in
@@ -159,7 +160,7 @@ module _ (r : Raw) (t : ℕ) (so : Extent) (cs ws scratch heads : List ℕ) (p :
     new : rowTo r t ≡ length (rawsTo r t)
     new = n ∙ p .marks .many
 
-    laid-new : (f : Term → ℕ) (b b′ : List ℕ) → b ≡ laid (length b) (map f (joinAll (termsTo r t))) → length (r .conditions) ≤ length b → length b′ ≡ length b
+    laid-new : (f : Term → ℕ) (b b′ : List ℕ) → b ≡ laid (length b) (map f (joinAll (termsTo r t))) → length (r .raw-conditions) ≤ length b → length b′ ≡ length b
         → b′ ≡ spliced (so .end) (e - a) b (laid (e - a) (map f (rowTerms x))) → b′ ≡ laid (length b′) (map f (joinAll (termsTo r (t + 1))))
     laid-new f b b′ q long k s =
         let room = terms-room r (length (r .thresholds)) t l h in
@@ -174,7 +175,7 @@ module _ (r : Raw) (t : ℕ) (so : Extent) (cs ws scratch heads : List ℕ) (p :
     end-new = ap₂ _+_ (p .end) (ap (λ (y : List Term). length (rowTerms y)) ex) ∙ sym (long-new r t new)
 
     -- Its mark m holds the newest row of its class before it, and it is the newest now.
-    pub placing-new : (end m : ℕ) (cs′ ws′ scratch′ heads′ : List ℕ) → length (r .conditions) ≤ length cs → length ws ≡ length cs → so .rows < length scratch
+    pub placing-new : (end m : ℕ) (cs′ ws′ scratch′ heads′ : List ℕ) → length (r .raw-conditions) ≤ length cs → length ws ≡ length cs → so .rows < length scratch
         → end ≡ so .end + length (rowTerms x)
         → length cs′ ≡ length cs → cs′ ≡ spliced (so .end) (e - a) cs (laid (e - a) (conditionsOf (rowTerms x)))
         → length ws′ ≡ length ws → ws′ ≡ spliced (so .end) (e - a) ws (laid (e - a) (weightsOf (rowTerms x)))
@@ -194,13 +195,13 @@ module _ (r : Raw) (t : ℕ) (so : Extent) (cs ws scratch heads : List ℕ) (p :
         }
 
 -- Where a next row would go there is room, in the rows and among the marks.
-pub record Within (r : Raw) (t : ℕ) (so : Extent) (rows : List (List ℕ)) (scratch : List ℕ) : Type 0 where
+pub record Within (r : RawLists) (t : ℕ) (so : Extent) (rows : List (List ℕ)) (scratch : List ℕ) : Type 0 where
   pub turn : t < 1024
   pub few : so .rows ≤ t
   pub row : so .rows < length rows
   pub word : so .rows < length scratch
 
-pub within : (r : Raw) (t : ℕ) (so : Extent) (cs ws : List ℕ) (rows : List (List ℕ)) (scratch heads : List ℕ) → Ready r cs ws rows scratch → Placing r t so cs ws scratch heads
+pub within : (r : RawLists) (t : ℕ) (so : Extent) (cs ws : List ℕ) (rows : List (List ℕ)) (scratch heads : List ℕ) → Ready r cs ws rows scratch → Placing r t so cs ws scratch heads
     → t < length (r .thresholds) → Within r t so rows scratch
 within r t so cs ws rows scratch heads q p h =
     let few = marks-few r t (so .rows) scratch heads (p .marks) in
@@ -211,29 +212,29 @@ within r t so cs ws rows scratch heads q p h =
 
 -- ---- rows and nodes
 
-pub rows-old : (r : Raw) (t : ℕ) (rows : List (List ℕ)) → rowTo r t < length (rawsTo r t) → rows ≡ rowsNext r t rows
+pub rows-old : (r : RawLists) (t : ℕ) (rows : List (List ℕ)) → rowTo r t < length (rawsTo r t) → rows ≡ rowsNext r t rows
 unfolding rowsNext
 rows-old r t rows h =
     sym (ap (λ (b : Bool). cond b rows (set rows (length (rawsTo r t)) (rowEntry (length (joinAll (termsTo r (t + 1))))))) (lt-ltb (rowTo r t) (length (rawsTo r t)) h))
 
-pub rows-new : (r : Raw) (t : ℕ) (rows : List (List ℕ)) (n e : ℕ) → rowTo r t ≡ length (rawsTo r t) → n ≡ length (rawsTo r t) → e ≡ length (joinAll (termsTo r (t + 1)))
+pub rows-new : (r : RawLists) (t : ℕ) (rows : List (List ℕ)) (n e : ℕ) → rowTo r t ≡ length (rawsTo r t) → n ≡ length (rawsTo r t) → e ≡ length (joinAll (termsTo r (t + 1)))
     → set rows n (rowEntry e) ≡ rowsNext r t rows
 unfolding rowsNext
 rows-new r t rows n e h p q =
     ap₂ (λ (n e : ℕ). set rows n (rowEntry e)) p q
     ∙ sym (ap (λ (b : Bool). cond b rows (set rows (length (rawsTo r t)) (rowEntry (length (joinAll (termsTo r (t + 1))))))) (le-ltb (rowTo r t) (length (rawsTo r t)) (omega arith)))
 
-ends-new : (r : Raw) (t : ℕ) → rowTo r t ≡ length (rawsTo r t) → rowEnds r (t + 1) ≡ rowEnds r t ++ (rowEntry (length (joinAll (termsTo r (t + 1)))) ∷ [])
+ends-new : (r : RawLists) (t : ℕ) → rowTo r t ≡ length (rawsTo r t) → rowEnds r (t + 1) ≡ rowEnds r t ++ (rowEntry (length (joinAll (termsTo r (t + 1)))) ∷ [])
 ends-new r t h =
     let e : 0 + length (joinAll (termsTo r t)) + length (rowTerms (listAt r t)) ≡ length (joinAll (termsTo r (t + 1))) = let q = long-new r t h in omega arith in
     ap (λ (ls : List (List Term)). map rowEntry (ends 0 ls)) (terms-new r t h) ∙ ap (map rowEntry) (ends-one 0 (termsTo r t) (rowTerms (listAt r t)))
     ∙ map-append rowEntry (ends 0 (termsTo r t)) ((0 + length (joinAll (termsTo r t)) + length (rowTerms (listAt r t))) ∷ [])
     ∙ ap (λ (k : ℕ). rowEnds r t ++ (rowEntry k ∷ [])) e
 
-pub rowEnds-long : (r : Raw) (t : ℕ) → length (rowEnds r t) ≡ length (rawsTo r t)
+pub rowEnds-long : (r : RawLists) (t : ℕ) → length (rowEnds r t) ≡ length (rawsTo r t)
 rowEnds-long r t = length-map (ends 0 (termsTo r t)) rowEntry ∙ length-ends 0 (termsTo r t) ∙ length-map (rawsTo r t) (λ (l : List Term). rowTerms l)
 
-pub rows-next : (r : Raw) (t : ℕ) (rows₀ rows rows′ : List (List ℕ)) → length (rawsTo r t) < length rows₀ → rows ≡ over (rowEnds r t) rows₀ → rows′ ≡ rowsNext r t rows
+pub rows-next : (r : RawLists) (t : ℕ) (rows₀ rows rows′ : List (List ℕ)) → length (rawsTo r t) < length rows₀ → rows ≡ over (rowEnds r t) rows₀ → rows′ ≡ rowsNext r t rows
     → rows′ ≡ over (rowEnds r (t + 1)) rows₀
 rows-next r t rows₀ rows rows′ h e s = by (ltb (rowTo r t) (length (rawsTo r t))) refl
   where
@@ -251,13 +252,13 @@ rows-next r t rows₀ rows rows′ h e s = by (ltb (rowTo r t) (length (rawsTo r
         ∙ over-one (rowEnds r t) rows₀ (length (rawsTo r t)) v (rowEnds-long r t) h
         ∙ ap (λ (l : List (List ℕ)). over l rows₀) (sym (ends-new r t i))
 
-pub nodes-next : (r : Raw) (t : ℕ) (nodes₀ nodes nodes′ : List (List ℕ)) → nodes ≡ nodesTo r nodes₀ t → nodes′ ≡ nodesNext r t nodes → nodes′ ≡ nodesTo r nodes₀ (t + 1)
+pub nodes-next : (r : RawLists) (t : ℕ) (nodes₀ nodes nodes′ : List (List ℕ)) → nodes ≡ nodesTo r nodes₀ t → nodes′ ≡ nodesNext r t nodes → nodes′ ≡ nodesTo r nodes₀ (t + 1)
 unfolding nodesTo
 nodes-next r t nodes₀ nodes nodes′ e s = s ∙ ap (λ (l : List (List ℕ)). nodesNext r t l) e ∙ sym (ap (nodesTo r nodes₀) (add-one t))
 
 -- ---- before the first
 
-pub placing-start : (r : Raw) (cs ws scratch heads : List ℕ) → Blank cs → Blank ws → Blank scratch → Blank heads → 1024 ≤ length heads
+pub placing-start : (r : RawLists) (cs ws scratch heads : List ℕ) → Blank cs → Blank ws → Blank scratch → Blank heads → 1024 ≤ length heads
     → Placing r 0 (extent 0 0) cs ws scratch heads
 unfolding rawsTo joinAll
 placing-start r cs ws scratch heads a b c d l = record {
@@ -275,11 +276,11 @@ placing-start r cs ws scratch heads a b c d l = record {
     blank : (l : List ℕ) → Blank l → l ≡ replicate (length l - 0) 0
     blank l e = e ∙ ap (λ (n : ℕ). replicate n 0) (let u : length l ≡ length l - 0 = omega arith in u)
 
-pub rows-start : (r : Raw) (rows : List (List ℕ)) → rows ≡ over (rowEnds r 0) rows
+pub rows-start : (r : RawLists) (rows : List (List ℕ)) → rows ≡ over (rowEnds r 0) rows
 unfolding rawsTo ends
 rows-start r rows = refl
 
-pub nodes-start : (r : Raw) (nodes : List (List ℕ)) → nodes ≡ nodesTo r nodes 0
+pub nodes-start : (r : RawLists) (nodes : List (List ℕ)) → nodes ≡ nodesTo r nodes 0
 unfolding nodesTo
 nodes-start r nodes = refl
 
@@ -293,7 +294,7 @@ pub record Same (cs ws : List ℕ) (rs ns : List (List ℕ)) (sc hs cs′ ws′ 
   pub scratch : length sc′ ≡ length sc
   pub heads : length hs′ ≡ length hs
 
-pub ready-by : (r : Raw) (cs ws : List ℕ) (rows : List (List ℕ)) (scratch cs′ ws′ : List ℕ) (rows′ : List (List ℕ)) (scratch′ : List ℕ)
+pub ready-by : (r : RawLists) (cs ws : List ℕ) (rows : List (List ℕ)) (scratch cs′ ws′ : List ℕ) (rows′ : List (List ℕ)) (scratch′ : List ℕ)
     → length cs′ ≡ length cs → length ws′ ≡ length ws → length rows′ ≡ length rows → length scratch′ ≡ length scratch → Ready r cs ws rows scratch → Ready r cs′ ws′ rows′ scratch′
 ready-by r cs ws rows scratch cs′ ws′ rows′ scratch′ a b c d q =
     let q1 = q .room in
@@ -304,7 +305,7 @@ ready-by r cs ws rows scratch cs′ ws′ rows′ scratch′ a b c d q =
 
 -- ---- after the last
 
-pub placed-end : (r : Raw) (t n : ℕ) (so : Extent) (cs ws scratch heads : List ℕ) (rows₀ rows nodes₀ nodes : List (List ℕ)) → t ≡ n
+pub placed-end : (r : RawLists) (t n : ℕ) (so : Extent) (cs ws scratch heads : List ℕ) (rows₀ rows nodes₀ nodes : List (List ℕ)) → t ≡ n
     → Placing r t so cs ws scratch heads → rows ≡ over (rowEnds r t) rows₀ → nodes ≡ nodesTo r nodes₀ t
     → Placing r n so cs ws scratch heads × (rows ≡ over (rowEnds r n) rows₀) × (nodes ≡ nodesTo r nodes₀ n)
 placed-end r t n so cs ws scratch heads rows₀ rows nodes₀ nodes e p q s =

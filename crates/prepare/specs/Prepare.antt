@@ -4,95 +4,66 @@ use mathlib.Core.Path.{_≡_}
 use mathlib.Core.List.{List, _++_, map}
 use lib.ListN.{length, getD, take, drop, replicate}
 use lib.IntN.{ℤ}
-use Rattle.lists.specs.Laid.{over, joinAll, ends, triples, numbers}
+use Rattle.lists.specs.Laid.{over, joinAll, ends}
 use Rattle.lists.specs.Deal.{Keyed, grouped}
 use Rattle.lists.specs.Columns.{column, withColumn, Wide}
 use Rattle.row.specs.Keys.{conditionsOf, weightsOf}
-use Rattle.thresholds.specs.Raw.{Raw, Lists}
+use Rattle.memory.specs.Buffers.{RawLists, Built}
+use Rattle.thresholds.specs.Raw.{Lists}
 use Rattle.thresholds.specs.Guards.{Bounds, nodeAt, rowAt, NodesIn, boundItems, nodeItems}
 use Rattle.thresholds.specs.Placed.{rawsTo, termsTo, nodesTo}
 use Rattle.thresholds.specs.Incidents.{heldItems, Ends}
-use Rattle.thresholds.specs.Laid.{conditions, weights, termLists, guardLists, guardBounds, guardNodes, thresholdOf, rowOfNode, edgeLists, edgeRow}
+use Rattle.thresholds.specs.Laid.{termLists}
 use Rattle.prepare.specs.declared.Extent.{Extent}
-use Rattle.prepare.specs.Given.{given, givenRows}
+use Rattle.prepare.specs.Given.{givenRows, givenJob}
+use Rattle.prepare.specs.JobBuffers.{unlinkedOf}
 use Rattle.prepare.specs.NodesGiven.{NodesRise}
 use Rattle.prepare.specs.Place.{Blank, rowEnds}
 
--- The buffers that `prepare` writes.
-pub record Lent : Type 0 where
-  pub row-conditions : List ℕ
-  pub row-weights : List ℕ
-  pub rows : List (List ℕ)
-  pub guard-bounds : List ℤ
-  pub guard-nodes : List ℕ
-  pub nodes : List (List ℕ)
-  pub edges : List (List ℕ)
-  pub scratch : List ℕ
-
-abbrev pub lent : List ℕ → List ℕ → List (List ℕ) → List ℤ → List ℕ → List (List ℕ) → List (List ℕ) → List ℕ → Lent
-lent cs ws rows gb gn nodes edges scratch = record {
-  row-conditions = cs;
-  row-weights = ws;
-  rows = rows;
-  guard-bounds = gb;
-  guard-nodes = gn;
-  nodes = nodes;
-  edges = edges;
-  scratch = scratch;
-}
-
 -- A job of so many nodes, as the records leave it in the raw buffers, cut to their number.
-pub record Sound (r : Raw) (bounds : List ℤ) (nodes : ℕ) : Type 0 where
+pub record Sound (r : RawLists) (bounds : List ℤ) (nodes : ℕ) : Type 0 where
   pub lists : Lists r (length (r .thresholds))
   pub even : length bounds ≡ length (r .thresholds)
   pub bounded : Bounds bounds
   pub inside : (t : ℕ) → t < length (r .thresholds) → nodeAt (r .thresholds) t < nodes
   pub rising : NodesRise (r .thresholds)
-  pub below : (i : ℕ) → i < length (r .conditions) → getD (r .conditions) i 0 < nodes
+  pub below : (i : ℕ) → i < length (r .raw-conditions) → getD (r .raw-conditions) i 0 < nodes
   pub few : nodes ≤ 4096
-  pub short : length (r .conditions) < 65536
+  pub short : length (r .raw-conditions) < 65536
 
 -- Room for so many raw terms and thresholds; terms, nodes and scratch are zero, and the guards' nodes, which hold the heads of the classes while rows are placed.
-pub record Ample (total count : ℕ) (b : Lent) : Type 0 where
-  pub conditions : total ≤ length (b .row-conditions)
-  pub weights : total ≤ length (b .row-weights)
-  pub spare : count ≤ length (b .row-weights)
-  pub rows : count ≤ length (b .rows)
-  pub bounds : count ≤ length (b .guard-bounds)
-  pub guards : 1024 ≤ length (b .guard-nodes)
+pub record Ample (total count : ℕ) (b : Built) (scratch : List ℕ) : Type 0 where
+  pub conditions : total ≤ length (b .held .row-conditions)
+  pub weights : total ≤ length (b .held .row-weights)
+  pub spare : count ≤ length (b .held .row-weights)
+  pub rows : count ≤ length (b .held .rows)
+  pub bounds : count ≤ length (b .held .guard-bounds)
+  pub guards : 1024 ≤ length (b .held .guard-nodes)
   pub edges : total ≤ length (b .edges)
-  pub words : 3072 ≤ length (b .scratch)
-  pub conditions-clear : Blank (b .row-conditions)
-  pub weights-clear : Blank (b .row-weights)
-  pub guards-clear : Blank (b .guard-nodes)
+  pub words : 3072 ≤ length scratch
+  pub conditions-clear : Blank (b .held .row-conditions)
+  pub weights-clear : Blank (b .held .row-weights)
+  pub guards-clear : Blank (b .held .guard-nodes)
   pub nodes-clear : b .nodes ≡ replicate (length (b .nodes)) (replicate 3 0)
-  pub words-clear : Blank (b .scratch)
+  pub words-clear : Blank scratch
 
--- EVERY WORD AFTERWARDS: the rows of the job, their guards, the edges of every node; the scratch as before.
-pub record Prepared (r : Raw) (bounds : List ℤ) (so : Extent) (b a : Lent) : Type 0 where
+-- EVERY WORD AFTERWARDS: the rows of the job, their guards, the edges of every node.
+pub record Prepared (r : RawLists) (bounds : List ℤ) (so : Extent) (b a : Built) : Type 0 where
   pub many : so .rows ≡ length (givenRows r bounds)
   pub end : so .end ≡ length (joinAll (termLists (givenRows r bounds)))
-  pub conditions : a .row-conditions ≡ over (conditions (joinAll (termLists (givenRows r bounds)))) (b .row-conditions)
-  pub weights : a .row-weights ≡ over (weights (joinAll (termLists (givenRows r bounds)))) (b .row-weights)
-  pub rows : a .rows ≡ over (triples (ends 0 (termLists (givenRows r bounds))) (ends 0 (guardLists (givenRows r bounds))) (replicate (length (givenRows r bounds)) 0)) (b .rows)
-  pub guard-bounds : a .guard-bounds ≡ over (guardBounds (givenRows r bounds)) (b .guard-bounds)
-  pub guard-nodes : a .guard-nodes ≡ over (guardNodes (givenRows r bounds)) (b .guard-nodes)
-  pub nodes : a .nodes ≡ triples (map (thresholdOf 0 (given r bounds)) (numbers 0 (length (b .nodes))))
-      (map (rowOfNode (givenRows r bounds) (given r bounds)) (numbers 0 (length (b .nodes)))) (ends 0 (edgeLists (length (b .nodes)) (givenRows r bounds)))
-  pub edges : a .edges ≡ over (map edgeRow (joinAll (edgeLists (length (b .nodes)) (givenRows r bounds)))) (b .edges)
-  pub scratch : a .scratch ≡ b .scratch
+  pub left : a ≡ unlinkedOf (givenJob r bounds (length (b .nodes))) b
 
 -- ---- what its steps ask and leave
 
 -- Rows can be placed: the raw lists are as they must be, terms, marks and heads start from zero.
-pub record Placeable (r : Raw) (cs ws : List ℕ) (rows nodes : List (List ℕ)) (scratch heads : List ℕ) : Type 0 where
+pub record Placeable (r : RawLists) (cs ws : List ℕ) (rows nodes : List (List ℕ)) (scratch heads : List ℕ) : Type 0 where
   pub lists : Lists r (length (r .thresholds))
-  pub below : (i : ℕ) → getD (r .conditions) i 0 < 4096
-  pub few : length (r .conditions) < 65536
+  pub below : (i : ℕ) → getD (r .raw-conditions) i 0 < 4096
+  pub few : length (r .raw-conditions) < 65536
   pub inside : NodesIn (r .thresholds) nodes
-  pub conditions : length (r .conditions) ≤ length cs
+  pub conditions : length (r .raw-conditions) ≤ length cs
   pub conditions-clear : Blank cs
-  pub weights : length (r .conditions) ≤ length ws
+  pub weights : length (r .raw-conditions) ≤ length ws
   pub weights-clear : Blank ws
   pub many : length (r .thresholds) ≤ length rows
   pub words : 3072 ≤ length scratch
@@ -101,7 +72,7 @@ pub record Placeable (r : Raw) (cs ws : List ℕ) (rows nodes : List (List ℕ))
   pub classes-clear : Blank heads
 
 -- Rows placed: their number, where their terms end, the terms, the end of each, and each threshold and its row at its node.
-pub record Rowed (r : Raw) (so : Extent) (cs ws : List ℕ) (rows nodes : List (List ℕ)) (cs′ ws′ : List ℕ) (rows′ nodes′ : List (List ℕ)) : Type 0 where
+pub record Rowed (r : RawLists) (so : Extent) (cs ws : List ℕ) (rows nodes : List (List ℕ)) (cs′ ws′ : List ℕ) (rows′ nodes′ : List (List ℕ)) : Type 0 where
   pub many : so .rows ≡ length (rawsTo r (length (r .thresholds)))
   pub end : so .end ≡ length (joinAll (termsTo r (length (r .thresholds))))
   pub conditions : cs′ ≡ over (conditionsOf (joinAll (termsTo r (length (r .thresholds))))) cs

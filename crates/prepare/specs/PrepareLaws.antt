@@ -11,11 +11,12 @@ use Rattle.lists.specs.Laid.{over, joinAll, ends, triples, numbers}
 use Rattle.lists.specs.Deal.{Keyed, grouped}
 use Rattle.lists.specs.Columns.{column, withColumn, Wide}
 use Rattle.lists.specs.ColumnsLaws.{length-with, column-beside, with-middle, with-last}
-use Rattle.numeric.specs.Threshold.{Term}
+use Rattle.numeric.specs.Threshold.{Term, Job}
 use Rattle.row.specs.Keys.{conditionsOf, weightsOf}
 use Rattle.sort.specs.Sorted.{sorted}
 use Rattle.sort.specs.Runs.{cleared}
-use Rattle.thresholds.specs.Raw.{Raw, listAt, stretch}
+use Rattle.memory.specs.Buffers.{RawLists, Built, heldRows, built}
+use Rattle.thresholds.specs.Raw.{listAt, stretch}
 use Rattle.thresholds.specs.Rows.{Row, rowNumber}
 use Rattle.thresholds.specs.Laid.{conditions, weights, termLists, guardLists, guardBounds, guardNodes, thresholdOf, rowOfNode, edgeLists, edgeRow}
 use Rattle.thresholds.specs.Guards.{rowAt, NodesIn, guardKeys, boundItems, nodeItems}
@@ -23,11 +24,13 @@ use Rattle.thresholds.specs.Incidents.{heldItems}
 use Rattle.thresholds.specs.Placed.{termsTo, rowEntry, Marks}
 use Rattle.prefixes.specs.HeldLaws.{length-numbers}
 use Rattle.prepare.specs.declared.Extent.{Extent}
-use Rattle.prepare.specs.Given.{given, givenRows}
+use Rattle.prepare.specs.Given.{given, givenRows, givenJob}
+use Rattle.prepare.specs.JobBuffers.{nodeEntries, builtWith}
+use Rattle.prepare.specs.JobBuffersLaws.{nodes-long}
 use Rattle.prepare.specs.Place.{Ready, Blank, rowEnds}
 use Rattle.prepare.specs.PlaceLaws.{rowEnds-long, raws-few}
-use Rattle.prepare.specs.Prepare.{Lent, lent, Sound, Ample, Prepared, Placeable, Rowed, Dealable, Guarded, Indexable, Edged}
-use Rattle.prepare.specs.PrepareParts.{blank-take, blank-drop, cleared-back, over-long, tail-long, tail-blank, keys-front, keys-behind}
+use Rattle.prepare.specs.Prepare.{Sound, Ample, Prepared, Placeable, Rowed, Dealable, Guarded, Indexable, Edged}
+use Rattle.prepare.specs.PrepareParts.{blank-take, blank-drop, cleared-back, over-long, over-all, tail-long, tail-blank, keys-front, keys-behind}
 use Rattle.prepare.specs.RowsGiven.{terms-given, rows-given}
 use Rattle.prepare.specs.RowsGivenLaid.{length-ends, entries-ends, entries-clear, entries-wide}
 use Rattle.prepare.specs.RowsGivenHeld.{held-ends, held-even, held-keys}
@@ -38,26 +41,26 @@ use Rattle.prepare.specs.GuardOrderLaws.{order-length, order-names, orde
 
 -- ---- placing, in parts of the buffers
 
-pub open-ready : (r : Raw) (cs ws : List ℕ) (rows nodes : List (List ℕ)) (scratch heads : List ℕ) → Placeable r cs ws rows nodes scratch heads
-    → Ready r (take (length (r .conditions)) cs) (take (length (r .conditions)) ws) rows (stretch 1024 (length scratch) scratch)
-    × NodesIn (r .thresholds) nodes × Blank (take (length (r .conditions)) cs) × Blank (take (length (r .conditions)) ws) × Blank (stretch 1024 (length scratch) scratch)
+pub open-ready : (r : RawLists) (cs ws : List ℕ) (rows nodes : List (List ℕ)) (scratch heads : List ℕ) → Placeable r cs ws rows nodes scratch heads
+    → Ready r (take (length (r .raw-conditions)) cs) (take (length (r .raw-conditions)) ws) rows (stretch 1024 (length scratch) scratch)
+    × NodesIn (r .thresholds) nodes × Blank (take (length (r .raw-conditions)) cs) × Blank (take (length (r .raw-conditions)) ws) × Blank (stretch 1024 (length scratch) scratch)
     × Blank heads × (1024 ≤ length heads)
 open-ready r cs ws rows nodes scratch heads o =
-    let lc = length-take-le (length (r .conditions)) cs (o .conditions) in
-    let lw = length-take-le (length (r .conditions)) ws (o .weights) in
+    let lc = length-take-le (length (r .raw-conditions)) cs (o .conditions) in
+    let lw = length-take-le (length (r .raw-conditions)) ws (o .weights) in
     let ls = tail-long scratch 1024 in
     let w = o .words in (
       record { lists = o .lists; below = o .below; few = o .few; room = omega arith; even = omega arith; many = o .many; words = omega arith },
       o .inside,
-      blank-take (length (r .conditions)) cs (o .conditions-clear) (o .conditions),
-      blank-take (length (r .conditions)) ws (o .weights-clear) (o .weights),
+      blank-take (length (r .raw-conditions)) cs (o .conditions-clear) (o .conditions),
+      blank-take (length (r .raw-conditions)) ws (o .weights-clear) (o .weights),
       tail-blank scratch 1024 (o .words-clear),
       o .classes-clear,
       o .classes,
     )
 
 -- Marks are zero again once their words are.
-pub marks-cleared : (r : Raw) (t rows : ℕ) (scratch scratch′ heads : List ℕ) → Blank scratch → length scratch′ ≡ length scratch → rows ≤ length scratch → Marks r t rows scratch′ heads
+pub marks-cleared : (r : RawLists) (t rows : ℕ) (scratch scratch′ heads : List ℕ) → Blank scratch → length scratch′ ≡ length scratch → rows ≤ length scratch → Marks r t rows scratch′ heads
     → cleared rows scratch′ ≡ scratch
 marks-cleared r t rows scratch scratch′ heads b e h k =
     cleared-back rows scratch′ scratch b h (k .clear ∙ ap (λ (n : ℕ). replicate (n - rows) 0) e ∙ sym (blank-drop rows scratch b))
@@ -71,7 +74,8 @@ entry-triples (e ∷ es) = ap (λ (t : List (List ℕ)). (e ∷ 0 ∷ 0 ∷ []) 
 
 -- ---- the job
 
-module _ (r : Raw) (bounds : List ℤ) (b : Lent) (s : Sound r bounds (length (b .nodes))) (m : Ample (length (r .conditions)) (length (r .thresholds)) b) where
+module _ (r : RawLists) (bounds : List ℤ) (b : Built) (sc : List ℕ) (s : Sound r bounds (length (b .nodes)))
+    (m : Ample (length (r .raw-conditions)) (length (r .thresholds)) b sc) where
   abbrev n : ℕ
   n = length (r .thresholds)
 
@@ -87,19 +91,19 @@ module _ (r : Raw) (bounds : List ℤ) (b : Lent) (s : Sound r bounds (length (b
   length-keys : length keys ≡ length bounds
   length-keys = order-length r bounds (s .even) few-bounds ∙ sym (s .even)
 
-  below : (i : ℕ) → getD (r .conditions) i 0 < 4096
-  below i = by (decLt i (length (r .conditions)))
+  below : (i : ℕ) → getD (r .raw-conditions) i 0 < 4096
+  below i = by (decLt i (length (r .raw-conditions)))
     where
-      by : Dec (i < length (r .conditions)) → getD (r .conditions) i 0 < 4096
+      by : Dec (i < length (r .raw-conditions)) → getD (r .raw-conditions) i 0 < 4096
       by (yes h) = let p = s .below i h in let q = s .few in omega arith
-      by (no h) = let e = List·getD-eq-default (r .conditions) 0 {n = i} (omega arith) in omega arith
+      by (no h) = let e = List·getD-eq-default (r .raw-conditions) 0 {n = i} (omega arith) in omega arith
 
   -- The keys are sorted.
-  module _ (ws₁ sc₁ : List ℕ) (ew : ws₁ ≡ b .row-weights) (es : sc₁ ≡ over keys (b .scratch)) where
-    long-words : length sc₁ ≡ length (b .scratch)
-    long-words = ap length es ∙ over-long keys (b .scratch) (let k = length-keys in let h = few-bounds in let w = m .words in omega arith)
+  module _ (ws₁ sc₁ : List ℕ) (ew : ws₁ ≡ b .held .row-weights) (es : sc₁ ≡ over keys sc) where
+    long-words : length sc₁ ≡ length sc
+    long-words = ap length es ∙ over-long keys sc (let k = length-keys in let h = few-bounds in let w = m .words in omega arith)
 
-    pub opened : Placeable r (b .row-conditions) ws₁ (b .rows) (b .nodes) sc₁ (b .guard-nodes)
+    pub opened : Placeable r (b .held .row-conditions) ws₁ (b .held .rows) (b .nodes) sc₁ (b .held .guard-nodes)
     opened = record {
       lists = s .lists;
       below = below;
@@ -107,19 +111,19 @@ module _ (r : Raw) (bounds : List ℤ) (b : Lent) (s : Sound r bounds (length (b
       inside = s .inside;
       conditions = m .conditions;
       conditions-clear = m .conditions-clear;
-      weights = subst (λ (l : List ℕ). length (r .conditions) ≤ length l) (sym ew) (m .weights);
+      weights = subst (λ (l : List ℕ). length (r .raw-conditions) ≤ length l) (sym ew) (m .weights);
       weights-clear = subst (λ (l : List ℕ). Blank l) (sym ew) (m .weights-clear);
       many = m .rows;
       words = let e = long-words in let w = m .words in omega arith;
-      words-clear = ap (drop 1024) es ∙ keys-behind keys (b .scratch) 1024 (let k = length-keys in let h = few-bounds in omega arith)
-          ∙ blank-drop 1024 (b .scratch) (m .words-clear) ∙ ap (λ (k : ℕ). replicate (k - 1024) 0) (sym long-words);
+      words-clear = ap (drop 1024) es ∙ keys-behind keys sc 1024 (let k = length-keys in let h = few-bounds in omega arith)
+          ∙ blank-drop 1024 sc (m .words-clear) ∙ ap (λ (k : ℕ). replicate (k - 1024) 0) (sym long-words);
       classes = m .guards;
       classes-clear = m .guards-clear;
     }
 
     -- The rows are placed.
     module _ (so : Extent) (cs₁ ws₂ : List ℕ) (rows₁ nodes₁ : List (List ℕ)) (sc₂ gn₁ : List ℕ)
-        (q : Rowed r so (b .row-conditions) ws₁ (b .rows) (b .nodes) cs₁ ws₂ rows₁ nodes₁) (et : sc₂ ≡ sc₁) (eg : gn₁ ≡ b .guard-nodes) where
+        (q : Rowed r so (b .held .row-conditions) ws₁ (b .held .rows) (b .nodes) cs₁ ws₂ rows₁ nodes₁) (et : sc₂ ≡ sc₁) (eg : gn₁ ≡ b .held .guard-nodes) where
       abbrev k : ℕ
       k = so .rows
 
@@ -136,13 +140,13 @@ module _ (r : Raw) (bounds : List ℤ) (b : Lent) (s : Sound r bounds (length (b
       long-E = rowEnds-long r n ∙ sym (q .many)
 
       keys-there : take (length bounds) sc₂ ≡ keys
-      keys-there = ap (take (length bounds)) (et ∙ es) ∙ keys-front keys (b .scratch) (length bounds) length-keys
+      keys-there = ap (take (length bounds)) (et ∙ es) ∙ keys-front keys sc (length bounds) length-keys
 
       front : take k rows₁ ≡ E
-      front = ap (take k) (q .entries) ∙ take-at E (drop (length E) (b .rows)) k long-E
+      front = ap (take k) (q .entries) ∙ take-at E (drop (length E) (b .held .rows)) k long-E
 
-      long-rows : length rows₁ ≡ length (b .rows)
-      long-rows = ap length (q .entries) ∙ over-long E (b .rows) (let a = long-E in let c = few-rows in let d = m .rows in omega arith)
+      long-rows : length rows₁ ≡ length (b .held .rows)
+      long-rows = ap length (q .entries) ∙ over-long E (b .held .rows) (let a = long-E in let c = few-rows in let d = m .rows in omega arith)
 
       long-nodes : length nodes₁ ≡ length (b .nodes)
       long-nodes = ap length (q .named) ∙ length-nodes r (b .nodes) n
@@ -172,7 +176,7 @@ module _ (r : Raw) (bounds : List ℤ) (b : Lent) (s : Sound r bounds (length (b
         few = few-bounds;
       }
 
-      pub guards-ready : (so .rows ≤ length rows₁) × (length bounds ≤ length (b .guard-bounds)) × (length bounds ≤ length gn₁) × (length bounds ≤ length sc₂)
+      pub guards-ready : (so .rows ≤ length rows₁) × (length bounds ≤ length (b .held .guard-bounds)) × (length bounds ≤ length gn₁) × (length bounds ≤ length sc₂)
           × Dealable (r .thresholds) bounds nodes₁ (take (length bounds) sc₂) (take (so .rows) rows₁)
       guards-ready =
           let a = few-rows in
@@ -190,7 +194,7 @@ module _ (r : Raw) (bounds : List ℤ) (b : Lent) (s : Sound r bounds (length (b
 
       -- The guards are dealt.
       module _ (rows₂ : List (List ℕ)) (gb : List ℤ) (gn sc₃ : List ℕ)
-          (f : Guarded (r .thresholds) bounds nodes₁ (take (length bounds) sc₂) (so .rows) rows₁ (b .guard-bounds) gn₁ rows₂ gb gn)
+          (f : Guarded (r .thresholds) bounds nodes₁ (take (length bounds) sc₂) (so .rows) rows₁ (b .held .guard-bounds) gn₁ rows₂ gb gn)
           (fs : sc₃ ≡ cleared (length bounds) sc₂) where
         abbrev guardEnds : List ℕ
         guardEnds = ends 0 (grouped 0 k (boundItems (r .thresholds) nodes₁ bounds (take (length bounds) sc₂)))
@@ -201,7 +205,7 @@ module _ (r : Raw) (bounds : List ℤ) (b : Lent) (s : Sound r bounds (length (b
         cs-held : take (so .end) cs₁ ≡ conditions (joinAll (termLists rs))
         cs-held =
             ap (take (so .end)) (q .conditions)
-            ∙ take-at (conditionsOf (joinAll (termsTo r n))) (drop (length (conditionsOf (joinAll (termsTo r n)))) (b .row-conditions)) (so .end)
+            ∙ take-at (conditionsOf (joinAll (termsTo r n))) (drop (length (conditionsOf (joinAll (termsTo r n)))) (b .held .row-conditions)) (so .end)
             (length-map (joinAll (termsTo r n)) (λ (t : Term). t .condition) ∙ sym (q .end))
             ∙ ap (λ (ls : List (List Term)). conditions (joinAll ls)) (terms-given r bounds)
 
@@ -220,7 +224,7 @@ module _ (r : Raw) (bounds : List ℤ) (b : Lent) (s : Sound r bounds (length (b
         end-is : so .end ≡ length (joinAll (termLists rs))
         end-is = q .end ∙ ap (λ (ls : List (List Term)). length (joinAll ls)) (terms-given r bounds)
 
-        end-few : so .end ≤ length (r .conditions)
+        end-few : so .end ≤ length (r .raw-conditions)
         end-few = let p = end-is in let q = terms-most r bounds (s .lists) in omega arith
 
         long-cs : length (take (so .end) cs₁) ≡ so .end
@@ -238,14 +242,14 @@ module _ (r : Raw) (bounds : List ℤ) (b : Lent) (s : Sound r bounds (length (b
           clear = ap (column 2) (q .named) ∙ nodes-clear r bounds (b .nodes) (length (b .nodes)) (m .nodes-clear) (s .inside) (s .rising) ∙ ap (λ (k : ℕ). replicate k 0) (sym long-nodes);
         }
 
-        long-conditions : length cs₁ ≡ length (b .row-conditions)
+        long-conditions : length cs₁ ≡ length (b .held .row-conditions)
         long-conditions =
-            ap length (q .conditions) ∙ over-long (conditionsOf (joinAll (termsTo r n))) (b .row-conditions)
+            ap length (q .conditions) ∙ over-long (conditionsOf (joinAll (termsTo r n))) (b .held .row-conditions)
             (let p = length-map (joinAll (termsTo r n)) (λ (t : Term). t .condition) in let u = end-few in let e = q .end in let h = m .conditions in omega arith)
 
-        long-weights : length ws₂ ≡ length (b .row-weights)
+        long-weights : length ws₂ ≡ length (b .held .row-weights)
         long-weights =
-            ap length (q .weights ∙ ap (over (weightsOf (joinAll (termsTo r n)))) ew) ∙ over-long (weightsOf (joinAll (termsTo r n))) (b .row-weights)
+            ap length (q .weights ∙ ap (over (weightsOf (joinAll (termsTo r n)))) ew) ∙ over-long (weightsOf (joinAll (termsTo r n))) (b .held .row-weights)
             (let p = length-map (joinAll (termsTo r n)) (λ (t : Term). t .weight) in let u = end-few in let e = q .end in let h = m .weights in omega arith)
 
         rows-fit : (rows : List (List ℕ)) → length rows ≡ length rows₁ → so .rows ≤ length rows
@@ -296,14 +300,14 @@ module _ (r : Raw) (bounds : List ℤ) (b : Lent) (s : Sound r bounds (length (b
         long-rowWords : length rowWords ≡ length rs
         long-rowWords = ap length (sym rows-front) ∙ length-with 1 (take k rows₁) guardEnds ∙ sym long-front
 
-        rows-behind : drop k rows₁ ≡ drop (length rowWords) (b .rows)
+        rows-behind : drop k rows₁ ≡ drop (length rowWords) (b .held .rows)
         rows-behind =
-            ap (drop k) (q .entries) ∙ drop-at E (drop (length E) (b .rows)) k long-E ∙ ap (λ (k : ℕ). drop k (b .rows)) (long-E ∙ many ∙ sym long-rowWords)
+            ap (drop k) (q .entries) ∙ drop-at E (drop (length E) (b .held .rows)) k long-E ∙ ap (λ (k : ℕ). drop k (b .held .rows)) (long-E ∙ many ∙ sym long-rowWords)
 
-        words-back : sc₃ ≡ b .scratch
+        words-back : sc₃ ≡ sc
         words-back =
-            fs ∙ cleared-back (length bounds) sc₂ (b .scratch) (m .words-clear) (let h = few-bounds in let w = m .words in omega arith)
-            (ap (drop (length bounds)) (et ∙ es) ∙ keys-behind keys (b .scratch) (length bounds) (let l = length-keys in omega arith))
+            fs ∙ cleared-back (length bounds) sc₂ sc (m .words-clear) (let h = few-bounds in let w = m .words in omega arith)
+            (ap (drop (length bounds)) (et ∙ es) ∙ keys-behind keys sc (length bounds) (let l = length-keys in omega arith))
 
         -- The edges are listed: THE WHOLE.
         module _ (nodes₂ edges₁ : List (List ℕ))
@@ -328,19 +332,49 @@ module _ (r : Raw) (bounds : List ℤ) (b : Lent) (s : Sound r bounds (length (b
           long-edgeEnds : length (ends 0 (edgeLists j rs)) ≡ j
           long-edgeEnds = length-ends 0 (edgeLists j rs) ∙ length-map (numbers 0 j) _ ∙ length-numbers 0 j
 
-          pub prepared : Prepared r bounds so b (lent cs₁ ws₂ rows₂ gb gn nodes₂ edges₁ sc₃)
-          prepared = record {
-            many = many;
-            end = end-is;
-            conditions = q .conditions ∙ ap (λ (ls : List (List Term)). over (conditions (joinAll ls)) (b .row-conditions)) (terms-given r bounds);
-            weights = q .weights ∙ ap₂ (λ (ls : List (List Term)) (l : List ℕ). over (weights (joinAll ls)) l) (terms-given r bounds) ew;
-            rows = f .entries ∙ ap₂ (λ (x y : List (List ℕ)). x ++ y) rows-front rows-behind;
-            guard-bounds = f .limits ∙ ap (λ (l : List ℤ). over l (b .guard-bounds)) bounds-given;
-            guard-nodes = f .names ∙ ap₂ (λ (l v : List ℕ). over l v) guards-given eg;
-            nodes = g .entries ∙ ap₂ (withColumn 2) (q .named ∙ nodes-given r bounds (b .nodes) j (m .nodes-clear) (s .inside) (s .rising)) edge-ends
-                ∙ with-last (map (thresholdOf 0 (given r bounds)) (numbers 0 j)) (map (rowOfNode rs (given r bounds)) (numbers 0 j)) (replicate j 0) (ends 0 (edgeLists j rs))
-                (long-mapped (rowOfNode rs (given r bounds)) ∙ sym (long-mapped (thresholdOf 0 (given r bounds))))
-                (length-replicate j 0 ∙ sym (long-mapped (thresholdOf 0 (given r bounds)))) (long-edgeEnds ∙ sym (long-mapped (thresholdOf 0 (given r bounds))));
-            edges = g .listed ∙ ap (λ (l : List (List ℕ)). over l (b .edges)) edge-words;
-            scratch = words-back;
-          }
+          abbrev job : Job
+          job = givenJob r bounds j
+
+          conditions-is : cs₁ ≡ over (conditions (joinAll (termLists rs))) (b .held .row-conditions)
+          conditions-is = q .conditions ∙ ap (λ (ls : List (List Term)). over (conditions (joinAll ls)) (b .held .row-conditions)) (terms-given r bounds)
+
+          weights-is : ws₂ ≡ over (weights (joinAll (termLists rs))) (b .held .row-weights)
+          weights-is = q .weights ∙ ap₂ (λ (ls : List (List Term)) (l : List ℕ). over (weights (joinAll ls)) l) (terms-given r bounds) ew
+
+          rows-is : rows₂ ≡ over rowWords (b .held .rows)
+          rows-is = f .entries ∙ ap₂ (λ (x y : List (List ℕ)). x ++ y) rows-front rows-behind
+
+          bounds-is : gb ≡ over (guardBounds rs) (b .held .guard-bounds)
+          bounds-is = f .limits ∙ ap (λ (l : List ℤ). over l (b .held .guard-bounds)) bounds-given
+
+          guards-is : gn ≡ over (guardNodes rs) (b .held .guard-nodes)
+          guards-is = f .names ∙ ap₂ (λ (l v : List ℕ). over l v) guards-given eg
+
+          long-seconds : length (map (rowOfNode rs (given r bounds)) (numbers 0 j)) ≡ length (map (thresholdOf 0 (given r bounds)) (numbers 0 j))
+          long-seconds = long-mapped (rowOfNode rs (given r bounds)) ∙ sym (long-mapped (thresholdOf 0 (given r bounds)))
+
+          long-thirds : length (ends 0 (edgeLists j rs)) ≡ length (map (thresholdOf 0 (given r bounds)) (numbers 0 j))
+          long-thirds = long-edgeEnds ∙ sym (long-mapped (thresholdOf 0 (given r bounds)))
+
+          nodes-are : nodes₂ ≡ nodeEntries job
+          nodes-are =
+              g .entries ∙ ap₂ (withColumn 2) (q .named ∙ nodes-given r bounds (b .nodes) j (m .nodes-clear) (s .inside) (s .rising)) edge-ends
+              ∙ with-last (map (thresholdOf 0 (given r bounds)) (numbers 0 j)) (map (rowOfNode rs (given r bounds)) (numbers 0 j)) (replicate j 0) (ends 0 (edgeLists j rs))
+              long-seconds (length-replicate j 0 ∙ sym (long-mapped (thresholdOf 0 (given r bounds)))) long-thirds
+
+          nodes-is : nodes₂ ≡ over (nodeEntries job) (b .nodes)
+          nodes-is = nodes-are ∙ sym (over-all (nodeEntries job) (b .nodes) (nodes-long job))
+
+          edges-is : edges₁ ≡ over (map edgeRow (joinAll (edgeLists j rs))) (b .edges)
+          edges-is = g .listed ∙ ap (λ (l : List (List ℕ)). over l (b .edges)) edge-words
+
+          pub prepared : Prepared r bounds so b (built (heldRows cs₁ ws₂ rows₂ gb gn) nodes₂ edges₁ (b .links)) × (sc₃ ≡ sc)
+          unfolding builtWith
+          prepared = (
+            record {
+              many = many;
+              end = end-is;
+              left = λ i. built (heldRows (conditions-is i) (weights-is i) (rows-is i) (bounds-is i) (guards-is i)) (nodes-is i) (edges-is i) (b .links);
+            },
+            words-back,
+          )

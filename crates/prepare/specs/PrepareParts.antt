@@ -3,8 +3,8 @@ use Prim.Native.Nat.{ℕ, zero, suc, _+_, _-_, _≤_}
 use native.Mathlib.Nat.{not-suc-le-zero}
 use native.Mathlib.Omega.{arith}
 use mathlib.Core.Path.{_≡_, refl, sym, ap, ap₂, _∙_}
-use mathlib.Core.List.{List, [], _∷_, _++_, append-assoc}
-use lib.ListN.{length, take, drop, replicate, length-append, length-drop, take-append-drop}
+use mathlib.Core.List.{List, [], _∷_, _++_, append-assoc, append-nil}
+use lib.ListN.{length, take, drop, replicate, length-append, length-drop, drop-of-length-le, take-append-drop}
 use lib.Seq.{length-take-le, take-at, take-all, drop-append-le, drop-append-add, drop-drop}
 use Rattle.memory.specs.Buffers.{zeros}
 use Rattle.lists.specs.Laid.{over, joinAll}
@@ -48,6 +48,10 @@ cleared-back k l b e h q = ap₂ (λ (x y : List ℕ). x ++ y) (sym (front-zeros
 
 pub over-long : {X : Type 0} (l b : List X) → length l ≤ length b → length (over l b) ≡ length b
 over-long l b h = let p = length-append l (drop (length l) b) in let q = length-drop (length l) b in omega arith
+
+-- A list as long as the buffer is all of it.
+pub over-all : {X : Type 0} (l b : List X) → length l ≡ length b → over l b ≡ l
+over-all {X} l b e = ap (λ (t : List X). l ++ t) (drop-of-length-le b {i = length l} (omega arith)) ∙ append-nil l
 
 pub laid-over : (cs cs′ l : List ℕ) → Blank cs → length cs′ ≡ length cs → cs′ ≡ laid (length cs′) l → cs′ ≡ over l cs
 laid-over cs cs′ l e q p = p ∙ ap (λ (m : ℕ). laid m l) q ∙ ap (λ (t : List ℕ). l ++ t) (sym (blank-drop (length l) cs e))

@@ -13,7 +13,8 @@ use borrow.Author.Tests.{ltb-true}
 use Rattle.lists.specs.Laid.{numbers}
 use Rattle.numeric.specs.Threshold.{Term}
 use Rattle.row.specs.Terms.{rowTerms, sameTerms}
-use Rattle.thresholds.specs.Raw.{Raw, listAt, numberIn}
+use Rattle.memory.specs.Buffers.{RawLists}
+use Rattle.thresholds.specs.Raw.{listAt, numberIn}
 use Rattle.thresholds.specs.RawLaws.{same-refl, number-most}
 use Rattle.thresholds.specs.Rows.{Row, place, placeAll, rowNumber}
 use Rattle.thresholds.specs.Laid.{termLists}
@@ -23,7 +24,7 @@ use Rattle.prepare.specs.Given.{thresholdAt, given, givenRows}
 
 -- ---- raw lists
 
-raws-from : (r : Raw) (bounds : List ℤ) (t k : ℕ) (rs : List Row) → raws rs ≡ rawsTo r t
+raws-from : (r : RawLists) (bounds : List ℤ) (t k : ℕ) (rs : List Row) → raws rs ≡ rawsTo r t
     → raws (placeAll (map (thresholdAt r bounds) (numbers t k)) rs) ≡ rawsTo r (t + k)
 unfolding placeAll numbers rawsTo
 raws-from r bounds t zero rs e = e ∙ ap (rawsTo r) (sym (add-zero t))
@@ -33,19 +34,19 @@ raws-from r bounds t (suc k) rs e =
     ∙ ap (rawsTo r) (let q : t + 1 + k ≡ t + suc k = omega arith in q)
 
 -- THE LOOP'S RAW LISTS ARE THOSE OF THE JOB'S ROWS, whatever the bounds.
-pub raws-given : (r : Raw) (bounds : List ℤ) → rawsTo r (length (r .thresholds)) ≡ map (λ (row : Row). row .raw) (givenRows r bounds)
+pub raws-given : (r : RawLists) (bounds : List ℤ) → rawsTo r (length (r .thresholds)) ≡ map (λ (row : Row). row .raw) (givenRows r bounds)
 unfolding rawsTo
 raws-given r bounds = sym (raws-from r bounds 0 (length (r .thresholds)) [] refl ∙ ap (rawsTo r) (zero-add (length (r .thresholds))))
 
 -- ---- terms
 
 -- THE LOOP'S TERMS ARE THOSE OF THE JOB'S ROWS.
-pub terms-given : (r : Raw) (bounds : List ℤ) → termsTo r (length (r .thresholds)) ≡ termLists (givenRows r bounds)
+pub terms-given : (r : RawLists) (bounds : List ℤ) → termsTo r (length (r .thresholds)) ≡ termLists (givenRows r bounds)
 terms-given r bounds =
     ap (map (λ (l : List Term). rowTerms l)) (raws-given r bounds) ∙ sym (made-terms (givenRows r bounds) (all-made (given r bounds) [] tt))
 
 -- There are as many rows as raw lists.
-pub rows-given : (r : Raw) (bounds : List ℤ) → length (rawsTo r (length (r .thresholds))) ≡ length (givenRows r bounds)
+pub rows-given : (r : RawLists) (bounds : List ℤ) → length (rawsTo r (length (r .thresholds))) ≡ length (givenRows r bounds)
 rows-given r bounds = ap length (raws-given r bounds) ∙ length-map (givenRows r bounds) (λ (row : Row). row .raw)
 
 -- ---- numbers
@@ -89,7 +90,7 @@ number-joined ls x = by (ltb (numberIn ls x) (length ls)) refl
     by true e = (refl, ltb-true (numberIn ls x) (length ls) e)
     by false e = (number-last ls x, rw (length-append ls (x ∷ [])) (let q = number-most ls x in omega arith))
 
-number-to : (r : Raw) (x : List Term) (n t k : ℕ) → n ≡ t + k → numberIn (rawsTo r t) x < length (rawsTo r t)
+number-to : (r : RawLists) (x : List Term) (n t k : ℕ) → n ≡ t + k → numberIn (rawsTo r t) x < length (rawsTo r t)
     → (numberIn (rawsTo r n) x ≡ numberIn (rawsTo r t) x) × (numberIn (rawsTo r t) x < length (rawsTo r n))
 unfolding rawsTo
 number-to r x n t zero e h =
@@ -102,7 +103,7 @@ number-to r x (suc n) t (suc k) e h =
     (q .0 ∙ p .0, subst (λ (m : ℕ). m < length (joined (rawsTo r n) (listAt r n))) (p .0) (q .1))
 
 -- A threshold's row keeps its number to the end of the loop, and is there.
-pub row-stays : (r : Raw) (n t : ℕ) → t < n → (numberIn (rawsTo r n) (listAt r t) ≡ rowTo r t) × (rowTo r t < length (rawsTo r n))
+pub row-stays : (r : RawLists) (n t : ℕ) → t < n → (numberIn (rawsTo r n) (listAt r t) ≡ rowTo r t) × (rowTo r t < length (rawsTo r n))
 unfolding rawsTo
 row-stays r n t h =
     let x = listAt r t in
@@ -111,12 +112,12 @@ row-stays r n t h =
     (q .0 ∙ p .0, subst (λ (m : ℕ). m < length (rawsTo r n)) (p .0) (q .1))
 
 -- THE ROW OF A THRESHOLD, AS THE LOOP NUMBERS IT, IS THE JOB'S.
-pub row-given : (r : Raw) (bounds : List ℤ) (t : ℕ) → t < length (r .thresholds) → rowTo r t ≡ rowNumber (givenRows r bounds) (listAt r t)
+pub row-given : (r : RawLists) (bounds : List ℤ) (t : ℕ) → t < length (r .thresholds) → rowTo r t ≡ rowNumber (givenRows r bounds) (listAt r t)
 row-given r bounds t h =
     sym (row-stays r (length (r .thresholds)) t h .0)
     ∙ ap (λ (ls : List (List Term)). numberIn ls (listAt r t)) (raws-given r bounds) ∙ sym (number-raws (givenRows r bounds) (listAt r t))
 
-pub row-there : (r : Raw) (bounds : List ℤ) (t : ℕ) → t < length (r .thresholds) → rowNumber (givenRows r bounds) (listAt r t) < length (givenRows r bounds)
+pub row-there : (r : RawLists) (bounds : List ℤ) (t : ℕ) → t < length (r .thresholds) → rowNumber (givenRows r bounds) (listAt r t) < length (givenRows r bounds)
 row-there r bounds t h =
     subst (λ (n : ℕ). n < length (givenRows r bounds)) (row-given r bounds t h)
     (subst (λ (n : ℕ). rowTo r t < n) (rows-given r bounds) (row-stays r (length (r .thresholds)) t h .1))

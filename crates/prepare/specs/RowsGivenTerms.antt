@@ -13,7 +13,8 @@ use Rattle.numeric.specs.Threshold.{Term, terms}
 use Rattle.numeric.specs.TermsLaws.{length-terms}
 use Rattle.row.specs.Terms.{before, merge, merged, insert, sorted, rowTerms}
 use Rattle.row.specs.TermsLaws.{All, either, all-sorted, conditions-merged}
-use Rattle.thresholds.specs.Raw.{Raw, endOf, startOf, stretch, listAt, numberIn, Lists}
+use Rattle.memory.specs.Buffers.{RawLists}
+use Rattle.thresholds.specs.Raw.{endOf, startOf, stretch, listAt, numberIn, Lists}
 use Rattle.thresholds.specs.Laid.{conditions, termLists}
 use Rattle.thresholds.specs.Placed.{joined, rawsTo, termsTo}
 use Rattle.prepare.specs.Given.{givenRows}
@@ -67,14 +68,14 @@ module _ (P : ℕ → Type 0) where
   terms-of (c ∷ cs) [] h = tt
   terms-of (c ∷ cs) (w ∷ ws) h = (h .0, terms-of cs ws (h .1))
 
-  list-of : (r : Raw) (t : ℕ) → All P (r .conditions) → All Of (listAt r t)
+  list-of : (r : RawLists) (t : ℕ) → All P (r .raw-conditions) → All Of (listAt r t)
   unfolding listAt
   list-of r t h =
       let a = startOf (r .thresholds) t in
       let e = endOf (r .thresholds) t in
-      terms-of (stretch a e (r .conditions)) (stretch a e (r .weights)) (all-take P (e - a) (drop a (r .conditions)) (all-drop P a (r .conditions) h))
+      terms-of (stretch a e (r .raw-conditions)) (stretch a e (r .raw-weights)) (all-take P (e - a) (drop a (r .raw-conditions)) (all-drop P a (r .raw-conditions) h))
 
-  raws-of : (r : Raw) (t : ℕ) → All P (r .conditions) → All (λ (l : List Term). All Of l) (rawsTo r t)
+  raws-of : (r : RawLists) (t : ℕ) → All P (r .raw-conditions) → All (λ (l : List Term). All Of l) (rawsTo r t)
   unfolding rawsTo
   raws-of r zero h = tt
   raws-of r (suc t) h = by (raws-of r t h) (ltb (numberIn (rawsTo r t) (listAt r t)) (length (rawsTo r t)))
@@ -87,19 +88,19 @@ module _ (P : ℕ → Type 0) where
   row-of raw h = all-sorted Of (merged raw) (conditions-merged P raw h)
 
   -- WHAT HOLDS OF EVERY RAW CONDITION HOLDS OF EVERY CONDITION OF A ROW.
-  pub conditions-hold : (r : Raw) (t : ℕ) → All P (r .conditions) → All P (conditions (joinAll (termsTo r t)))
+  pub conditions-hold : (r : RawLists) (t : ℕ) → All P (r .raw-conditions) → All P (conditions (joinAll (termsTo r t)))
   conditions-hold r t h =
       all-figures (λ (u : Term). u .condition) Of P (joinAll (termsTo r t)) (λ u k. k)
       (all-join Of (termsTo r t)
       (all-figures (λ (l : List Term). rowTerms l) (λ (l : List Term). All Of l) (λ (l : List Term). All Of l) (rawsTo r t) row-of (raws-of r t h)))
 
 -- CONDITIONS OF ROWS ARE NODES IF RAW CONDITIONS ARE.
-pub conditions-given : (r : Raw) (bounds : List ℤ) (m : ℕ) (cs : List ℕ) → cs ≡ conditions (joinAll (termLists (givenRows r bounds)))
-    → ((i : ℕ) → i < length (r .conditions) → getD (r .conditions) i 0 < m) → (i : ℕ) → i < length cs → getD cs i 0 < m
+pub conditions-given : (r : RawLists) (bounds : List ℤ) (m : ℕ) (cs : List ℕ) → cs ≡ conditions (joinAll (termLists (givenRows r bounds)))
+    → ((i : ℕ) → i < length (r .raw-conditions) → getD (r .raw-conditions) i 0 < m) → (i : ℕ) → i < length cs → getD cs i 0 < m
 conditions-given r bounds m cs e h =
     all-at (λ (c : ℕ). c < m) cs 0
     (subst (λ (l : List ℕ). All (λ (c : ℕ). c < m) l) (ap (λ (ls : List (List Term)). conditions (joinAll ls)) (terms-given r bounds) ∙ sym e)
-    (conditions-hold (λ (c : ℕ). c < m) r (length (r .thresholds)) (all-from (λ (c : ℕ). c < m) (r .conditions) 0 h)))
+    (conditions-hold (λ (c : ℕ). c < m) r (length (r .thresholds)) (all-from (λ (c : ℕ). c < m) (r .raw-conditions) 0 h)))
 
 -- ---- how many there are
 
@@ -131,13 +132,13 @@ length-sorted (t ∷ ts) = length-insert t (sorted ts) ∙ ap suc (length-sorted
 pub row-short : (raw : List Term) → length (rowTerms raw) ≤ length raw
 row-short raw = let p = length-sorted (merged raw) in let q = length-merged raw in omega arith
 
-list-short : (r : Raw) (t : ℕ) → length (listAt r t) ≤ endOf (r .thresholds) t - startOf (r .thresholds) t
+list-short : (r : RawLists) (t : ℕ) → length (listAt r t) ≤ endOf (r .thresholds) t - startOf (r .thresholds) t
 unfolding listAt
 list-short r t =
     let a = startOf (r .thresholds) t in
     let e = endOf (r .thresholds) t in
-    let p = length-terms (stretch a e (r .conditions)) (stretch a e (r .weights)) in
-    let q = length-take (e - a) (drop a (r .conditions)) in
+    let p = length-terms (stretch a e (r .raw-conditions)) (stretch a e (r .raw-weights)) in
+    let q = length-take (e - a) (drop a (r .raw-conditions)) in
     omega arith
 
 module _ (f : List Term → List Term) where
@@ -158,7 +159,7 @@ module _ (f : List Term → List Term) where
       by false = let q = join-last ls x in omega arith
 
 -- The terms of the rows so far are no more than the raw terms so far.
-pub terms-few : (r : Raw) (n t : ℕ) → Lists r n → t ≤ n → length (joinAll (termsTo r t)) ≤ startOf (r .thresholds) t
+pub terms-few : (r : RawLists) (n t : ℕ) → Lists r n → t ≤ n → length (joinAll (termsTo r t)) ≤ startOf (r .thresholds) t
 unfolding rawsTo startOf joinAll
 terms-few r n zero l h = omega arith
 terms-few r n (suc t) l h =
@@ -170,8 +171,8 @@ terms-few r n (suc t) l h =
     omega arith
 
 -- So the next raw list has room behind them,
-pub terms-room : (r : Raw) (n t : ℕ) → Lists r n → t < n
-    → length (joinAll (termsTo r t)) + (endOf (r .thresholds) t - startOf (r .thresholds) t) ≤ length (r .conditions)
+pub terms-room : (r : RawLists) (n t : ℕ) → Lists r n → t < n
+    → length (joinAll (termsTo r t)) + (endOf (r .thresholds) t - startOf (r .thresholds) t) ≤ length (r .raw-conditions)
 terms-room r n t l h =
     let i = terms-few r n t l (omega arith) in
     let u = l .rising t h in
@@ -179,7 +180,7 @@ terms-room r n t l h =
     omega arith
 
 -- and at the end they are no more than all raw terms.
-pub terms-fit : (r : Raw) (n : ℕ) → Lists r n → length (joinAll (termsTo r n)) ≤ length (r .conditions)
+pub terms-fit : (r : RawLists) (n : ℕ) → Lists r n → length (joinAll (termsTo r n)) ≤ length (r .raw-conditions)
 unfolding rawsTo startOf joinAll
 terms-fit r zero l = omega arith
 terms-fit r (suc n) l =
@@ -188,6 +189,6 @@ terms-fit r (suc n) l =
     omega arith
 
 -- THE ROWS OF THE JOB HAVE NO MORE TERMS THAN ITS RAW LISTS.
-pub terms-most : (r : Raw) (bounds : List ℤ) → Lists r (length (r .thresholds)) → length (joinAll (termLists (givenRows r bounds))) ≤ length (r .conditions)
+pub terms-most : (r : RawLists) (bounds : List ℤ) → Lists r (length (r .thresholds)) → length (joinAll (termLists (givenRows r bounds))) ≤ length (r .raw-conditions)
 terms-most r bounds l =
-    subst (λ (ls : List (List Term)). length (joinAll ls) ≤ length (r .conditions)) (terms-given r bounds) (terms-fit r (length (r .thresholds)) l)
+    subst (λ (ls : List (List Term)). length (joinAll ls) ≤ length (r .raw-conditions)) (terms-given r bounds) (terms-fit r (length (r .thresholds)) l)

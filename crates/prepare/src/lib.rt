@@ -1,5 +1,6 @@
 // `prepare` of thresholds.rs: from the raw lists of a job to its rows, their guards and the edges of every node.
 ghost use mathlib.Core.Path.{_≡_};
+ghost use mathlib.Core.List.{[]};
 ghost use Prim.Native.Nat.{_+_, _<_, _≤_};
 ghost use lib.ListN.{length, take, set, getD};
 ghost use Rattle.lists.specs.Laid.{over};
@@ -7,10 +8,11 @@ ghost use Rattle.sort.specs.Sorted.{sorted};
 ghost use Rattle.sort.specs.Runs.{cleared};
 ghost use Rattle.thresholds.specs.Guards.{Bounds, guardKeys, nodeAt, NodesIn};
 ghost use Rattle.thresholds.specs.Incidents.{heldItems};
-ghost use Rattle.thresholds.specs.Raw.{raw, listAt, fingerprint};
+ghost use Rattle.memory.specs.Buffers.{rawLists, heldRows, built};
+ghost use Rattle.thresholds.specs.Raw.{prints, listAt, fingerprint};
 ghost use Rattle.thresholds.specs.Chain.{classOf};
 ghost use Rattle.thresholds.specs.Placed.{rowTo, rowEntry, nodeEntry, nodesTo};
-ghost use Rattle.prepare.specs.Prepare.{lent, Sound, Ample, Prepared, Placeable, Rowed, Dealable, Guarded, Indexable, Edged};
+ghost use Rattle.prepare.specs.Prepare.{Sound, Ample, Prepared, Placeable, Rowed, Dealable, Guarded, Indexable, Edged};
 ghost use Rattle.prepare.specs.Place.{Placing, Ready, Blank, rowEnds, nodesNext, rowsNext};
 use memory::clear_u16;
 use sort::clear;
@@ -26,6 +28,9 @@ use thresholds::order_guards;
 use thresholds::place;
 use thresholds::print_of;
 use thresholds::start_of;
+
+// How many fingerprints there are.
+const PRINTS: u64 = 4294967296;
 
 // How many rows there are, and where their terms end.
 pub struct Extent {
@@ -45,7 +50,7 @@ fn enter_node(thresholds: &[[u16; 2]], t: usize, row: usize, nodes: &mut [[u16; 
 
 // The row becomes the newest of the class of its fingerprint: the newest before it, both counted from 1.
 fn link_row(print: u64, row: usize, heads: &mut [u16]) -> u64
-    requires { ⌜ (print < 4294967296) × (row < 1024) × (1024 ≤ length (now heads)) ⌝ }
+    requires { ⌜ (print < prints) × (row < 1024) × (1024 ≤ length (now heads)) ⌝ }
     ensures { λ r. ⌜ (r ≡ getD (now (heads .entry)) (classOf print) 0) × (r < 65536) × (now (heads .exit) ≡ set (now (heads .entry)) (classOf print) (row + 1)) ⌝ }
 {
     let class = class_of(print);
@@ -56,8 +61,8 @@ fn link_row(print: u64, row: usize, heads: &mut [u16]) -> u64
 
 // The raw list of threshold t makes the next row: its terms behind the others, their end, and the mark by which the list is found again.
 fn add_row(
-    conditions: &[u16],
-    weights: &[u32],
+    raw_conditions: &[u16],
+    raw_weights: &[u64],
     thresholds: &[[u16; 2]],
     t: usize,
     print: u64,
@@ -68,11 +73,11 @@ fn add_row(
     scratch: &mut [u64],
     heads: &mut [u16],
 ) -> Extent
-    requires { ⌜ (Ready (raw (now conditions) (now weights) (now thresholds)) (now «row_conditions») (now «row_weights») (now rows) (now scratch))
-        × (t < length (now thresholds)) × (print ≡ fingerprint (listAt (raw (now conditions) (now weights) (now thresholds)) t))
-        × (Placing (raw (now conditions) (now weights) (now thresholds)) t so (now «row_conditions») (now «row_weights») (now scratch) (now heads))
-        × (rowTo (raw (now conditions) (now weights) (now thresholds)) t ≡ so .rows) ⌝ }
-    ensures { λ r. ⌜ (Placing (raw (now (conditions .entry)) (now (weights .entry)) (now (thresholds .entry))) (t + 1) r
+    requires { ⌜ (Ready (rawLists (now «raw_conditions») (now «raw_weights») (now thresholds)) (now «row_conditions») (now «row_weights») (now rows) (now scratch))
+        × (t < length (now thresholds)) × (print ≡ fingerprint (listAt (rawLists (now «raw_conditions») (now «raw_weights») (now thresholds)) t))
+        × (Placing (rawLists (now «raw_conditions») (now «raw_weights») (now thresholds)) t so (now «row_conditions») (now «row_weights») (now scratch) (now heads))
+        × (rowTo (rawLists (now «raw_conditions») (now «raw_weights») (now thresholds)) t ≡ so .rows) ⌝ }
+    ensures { λ r. ⌜ (Placing (rawLists (now («raw_conditions» .entry)) (now («raw_weights» .entry)) (now (thresholds .entry))) (t + 1) r
         (now («row_conditions» .exit)) (now («row_weights» .exit)) (now (scratch .exit)) (now (heads .exit)))
         × (now (rows .exit) ≡ set (now (rows .entry)) (so .rows) (rowEntry (r .end))) ⌝ }
 {
@@ -81,8 +86,8 @@ fn add_row(
     let a = start_of(thresholds, t);
     let e = end_of(thresholds, t);
     let end = build_at(
-        conditions,
-        weights,
+        raw_conditions,
+        raw_weights,
         a,
         e,
         at,
@@ -93,7 +98,7 @@ fn add_row(
     let entry = [end as u16, 0, 0];
     rows[row] = entry;
     let next = link_row(print, row, heads);
-    scratch[row] = (next * 4294967296 + print) * 1024 + t as u64;
+    scratch[row] = (next * PRINTS + print) * 1024 + t as u64;
     Extent {
         rows: row + 1,
         end: end,
@@ -102,8 +107,8 @@ fn add_row(
 
 // Threshold t joins the row of its raw list, or makes the next row.
 fn place_one(
-    conditions: &[u16],
-    weights: &[u32],
+    raw_conditions: &[u16],
+    raw_weights: &[u64],
     thresholds: &[[u16; 2]],
     t: usize,
     so: Extent,
@@ -114,19 +119,19 @@ fn place_one(
     scratch: &mut [u64],
     heads: &mut [u16],
 ) -> Extent
-    requires { ⌜ (Ready (raw (now conditions) (now weights) (now thresholds)) (now «row_conditions») (now «row_weights») (now rows) (now scratch))
+    requires { ⌜ (Ready (rawLists (now «raw_conditions») (now «raw_weights») (now thresholds)) (now «row_conditions») (now «row_weights») (now rows) (now scratch))
         × (t < length (now thresholds)) × (nodeAt (now thresholds) t < length (now nodes))
-        × (Placing (raw (now conditions) (now weights) (now thresholds)) t so (now «row_conditions») (now «row_weights») (now scratch) (now heads)) ⌝ }
-    ensures { λ r. ⌜ (Placing (raw (now (conditions .entry)) (now (weights .entry)) (now (thresholds .entry))) (t + 1) r
+        × (Placing (rawLists (now «raw_conditions») (now «raw_weights») (now thresholds)) t so (now «row_conditions») (now «row_weights») (now scratch) (now heads)) ⌝ }
+    ensures { λ r. ⌜ (Placing (rawLists (now («raw_conditions» .entry)) (now («raw_weights» .entry)) (now (thresholds .entry))) (t + 1) r
         (now («row_conditions» .exit)) (now («row_weights» .exit)) (now (scratch .exit)) (now (heads .exit)))
-        × (now (rows .exit) ≡ rowsNext (raw (now (conditions .entry)) (now (weights .entry)) (now (thresholds .entry))) t (now (rows .entry)))
-        × (now (nodes .exit) ≡ nodesNext (raw (now (conditions .entry)) (now (weights .entry)) (now (thresholds .entry))) t (now (nodes .entry))) ⌝ }
+        × (now (rows .exit) ≡ rowsNext (rawLists (now («raw_conditions» .entry)) (now («raw_weights» .entry)) (now (thresholds .entry))) t (now (rows .entry)))
+        × (now (nodes .exit) ≡ nodesNext (rawLists (now («raw_conditions» .entry)) (now («raw_weights» .entry)) (now (thresholds .entry))) t (now (nodes .entry))) ⌝ }
 {
     let count = so.rows;
-    let print = print_of(conditions, weights, thresholds, t);
+    let print = print_of(raw_conditions, raw_weights, thresholds, t);
     let found = find_row(
-        conditions,
-        weights,
+        raw_conditions,
+        raw_weights,
         thresholds,
         &scratch[..count],
         heads,
@@ -141,8 +146,8 @@ fn place_one(
         Found::Nothing => {
             enter_node(thresholds, t, count, nodes);
             add_row(
-                conditions,
-                weights,
+                raw_conditions,
+                raw_weights,
                 thresholds,
                 t,
                 print,
@@ -159,8 +164,8 @@ fn place_one(
 
 // All thresholds, in their order. The marks of the rows stay in the scratch, the newest row of each class in the heads.
 fn place_rows(
-    conditions: &[u16],
-    weights: &[u32],
+    raw_conditions: &[u16],
+    raw_weights: &[u64],
     thresholds: &[[u16; 2]],
     row_conditions: &mut [u16],
     row_weights: &mut [u64],
@@ -169,20 +174,20 @@ fn place_rows(
     scratch: &mut [u64],
     heads: &mut [u16],
 ) -> Extent
-    requires { ⌜ (Ready (raw (now conditions) (now weights) (now thresholds)) (now «row_conditions») (now «row_weights») (now rows) (now scratch))
+    requires { ⌜ (Ready (rawLists (now «raw_conditions») (now «raw_weights») (now thresholds)) (now «row_conditions») (now «row_weights») (now rows) (now scratch))
         × (NodesIn (now thresholds) (now nodes)) × (Blank (now «row_conditions»)) × (Blank (now «row_weights»)) × (Blank (now scratch))
         × (Blank (now heads)) × (1024 ≤ length (now heads)) ⌝ }
-    ensures { λ r. ⌜ (Placing (raw (now (conditions .entry)) (now (weights .entry)) (now (thresholds .entry))) (length (now (thresholds .entry))) r
+    ensures { λ r. ⌜ (Placing (rawLists (now («raw_conditions» .entry)) (now («raw_weights» .entry)) (now (thresholds .entry))) (length (now (thresholds .entry))) r
         (now («row_conditions» .exit)) (now («row_weights» .exit)) (now (scratch .exit)) (now (heads .exit)))
-        × (now (rows .exit) ≡ over (rowEnds (raw (now (conditions .entry)) (now (weights .entry)) (now (thresholds .entry))) (length (now (thresholds .entry)))) (now (rows .entry)))
-        × (now (nodes .exit) ≡ nodesTo (raw (now (conditions .entry)) (now (weights .entry)) (now (thresholds .entry))) (now (nodes .entry)) (length (now (thresholds .entry)))) ⌝ }
+        × (now (rows .exit) ≡ over (rowEnds (rawLists (now («raw_conditions» .entry)) (now («raw_weights» .entry)) (now (thresholds .entry))) (length (now (thresholds .entry)))) (now (rows .entry)))
+        × (now (nodes .exit) ≡ nodesTo (rawLists (now («raw_conditions» .entry)) (now («raw_weights» .entry)) (now (thresholds .entry))) (now (nodes .entry)) (length (now (thresholds .entry)))) ⌝ }
 {
     let mut so = Extent { rows: 0, end: 0 };
     let mut t: usize = 0;
     while t < thresholds.len() {
         so = place_one(
-            conditions,
-            weights,
+            raw_conditions,
+            raw_weights,
             thresholds,
             t,
             so,
@@ -200,8 +205,8 @@ fn place_rows(
 
 // The same with marks and heads cleared again.
 fn place_all(
-    conditions: &[u16],
-    weights: &[u32],
+    raw_conditions: &[u16],
+    raw_weights: &[u64],
     thresholds: &[[u16; 2]],
     row_conditions: &mut [u16],
     row_weights: &mut [u64],
@@ -210,17 +215,17 @@ fn place_all(
     scratch: &mut [u64],
     heads: &mut [u16],
 ) -> Extent
-    requires { ⌜ (Ready (raw (now conditions) (now weights) (now thresholds)) (now «row_conditions») (now «row_weights») (now rows) (now scratch))
+    requires { ⌜ (Ready (rawLists (now «raw_conditions») (now «raw_weights») (now thresholds)) (now «row_conditions») (now «row_weights») (now rows) (now scratch))
         × (NodesIn (now thresholds) (now nodes)) × (Blank (now «row_conditions»)) × (Blank (now «row_weights»)) × (Blank (now scratch))
         × (Blank (now heads)) × (1024 ≤ length (now heads)) ⌝ }
-    ensures { λ r. ⌜ (Rowed (raw (now (conditions .entry)) (now (weights .entry)) (now (thresholds .entry))) r
+    ensures { λ r. ⌜ (Rowed (rawLists (now («raw_conditions» .entry)) (now («raw_weights» .entry)) (now (thresholds .entry))) r
         (now («row_conditions» .entry)) (now («row_weights» .entry)) (now (rows .entry)) (now (nodes .entry))
         (now («row_conditions» .exit)) (now («row_weights» .exit)) (now (rows .exit)) (now (nodes .exit)))
         × (now (scratch .exit) ≡ now (scratch .entry)) × (now (heads .exit) ≡ now (heads .entry)) ⌝ }
 {
     let so = place_rows(
-        conditions,
-        weights,
+        raw_conditions,
+        raw_weights,
         thresholds,
         row_conditions,
         row_weights,
@@ -237,8 +242,8 @@ fn place_all(
 
 // The same in whole buffers: the marks stand behind the first 1,024 words, which stay.
 fn place_in(
-    conditions: &[u16],
-    weights: &[u32],
+    raw_conditions: &[u16],
+    raw_weights: &[u64],
     thresholds: &[[u16; 2]],
     row_conditions: &mut [u16],
     row_weights: &mut [u64],
@@ -247,16 +252,16 @@ fn place_in(
     scratch: &mut [u64],
     heads: &mut [u16],
 ) -> Extent
-    requires { ⌜ Placeable (raw (now conditions) (now weights) (now thresholds)) (now «row_conditions») (now «row_weights») (now rows) (now nodes) (now scratch) (now heads) ⌝ }
-    ensures { λ r. ⌜ (Rowed (raw (now (conditions .entry)) (now (weights .entry)) (now (thresholds .entry))) r
+    requires { ⌜ Placeable (rawLists (now «raw_conditions») (now «raw_weights») (now thresholds)) (now «row_conditions») (now «row_weights») (now rows) (now nodes) (now scratch) (now heads) ⌝ }
+    ensures { λ r. ⌜ (Rowed (rawLists (now («raw_conditions» .entry)) (now («raw_weights» .entry)) (now (thresholds .entry))) r
         (now («row_conditions» .entry)) (now («row_weights» .entry)) (now (rows .entry)) (now (nodes .entry))
         (now («row_conditions» .exit)) (now («row_weights» .exit)) (now (rows .exit)) (now (nodes .exit)))
         × (now (scratch .exit) ≡ now (scratch .entry)) × (now (heads .exit) ≡ now (heads .entry)) ⌝ }
 {
-    let total = conditions.len();
+    let total = raw_conditions.len();
     place_all(
-        conditions,
-        weights,
+        raw_conditions,
+        raw_weights,
         thresholds,
         &mut row_conditions[..total],
         &mut row_weights[..total],
@@ -334,7 +339,7 @@ fn edges_in(
 // `prepare` of thresholds.rs: rows, guards and edges of the job that the raw buffers hold.
 pub fn prepare(
     raw_conditions: &[u16],
-    raw_weights: &[u32],
+    raw_weights: &[u64],
     thresholds: &[[u16; 2]],
     bounds: &[i64],
     row_conditions: &mut [u16],
@@ -346,12 +351,14 @@ pub fn prepare(
     edges: &mut [[u64; 2]],
     scratch: &mut [u64],
 ) -> Extent
-    requires { ⌜ (Sound (raw (now «raw_conditions») (now «raw_weights») (now thresholds)) (now bounds) (length (now nodes)))
-        × (Ample (length (now «raw_conditions»)) (length (now thresholds))
-        (lent (now «row_conditions») (now «row_weights») (now rows) (now «guard_bounds») (now «guard_nodes») (now nodes) (now edges) (now scratch))) ⌝ }
-    ensures { λ r. ⌜ Prepared (raw (now («raw_conditions» .entry)) (now («raw_weights» .entry)) (now (thresholds .entry))) (now (bounds .entry)) r
-        (lent (now («row_conditions» .entry)) (now («row_weights» .entry)) (now (rows .entry)) (now («guard_bounds» .entry)) (now («guard_nodes» .entry)) (now (nodes .entry)) (now (edges .entry)) (now (scratch .entry)))
-        (lent (now («row_conditions» .exit)) (now («row_weights» .exit)) (now (rows .exit)) (now («guard_bounds» .exit)) (now («guard_nodes» .exit)) (now (nodes .exit)) (now (edges .exit)) (now (scratch .exit))) ⌝ }
+    requires { ⌜ Sound (rawLists (now «raw_conditions») (now «raw_weights») (now thresholds)) (now bounds) (length (now nodes))
+        × Ample (length (now «raw_conditions»)) (length (now thresholds))
+        (built (heldRows (now «row_conditions») (now «row_weights») (now rows) (now «guard_bounds») (now «guard_nodes»)) (now nodes) (now edges) [])
+        (now scratch) ⌝ }
+    ensures { λ r. ⌜ Prepared (rawLists (now («raw_conditions» .entry)) (now («raw_weights» .entry)) (now (thresholds .entry))) (now (bounds .entry)) r
+        (built (heldRows (now («row_conditions» .entry)) (now («row_weights» .entry)) (now (rows .entry)) (now («guard_bounds» .entry)) (now («guard_nodes» .entry))) (now (nodes .entry)) (now (edges .entry)) [])
+        (built (heldRows (now («row_conditions» .exit)) (now («row_weights» .exit)) (now (rows .exit)) (now («guard_bounds» .exit)) (now («guard_nodes» .exit))) (now (nodes .exit)) (now (edges .exit)) [])
+        × (now (scratch .exit) ≡ now (scratch .entry)) ⌝ }
 {
     order_keys(bounds, row_weights, scratch);
     let so = place_in(

@@ -2,5 +2,6 @@ pub mod Once
 pub mod Queue
 pub mod QueueLaws
 pub mod RowsLaws
+pub mod SlotLaws
 pub mod Marks
 pub mod MarksLaws

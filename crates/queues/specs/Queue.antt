@@ -1,9 +1,10 @@
 -- Queues, oldest first, in a buffer that wraps at its end; a row waits at most once.
 use Prim.Native.Nat.{ℕ, _+_, _-_, _%_, _<_, _≤_}
 use mathlib.Core.Bool.{Bool, cond}
-use mathlib.Core.List.{List}
+use mathlib.Core.List.{List, [], _∷_}
 use lib.ListN.{length, getD, set}
 use lib.Dec.{eqb}
+use Rattle.lists.specs.Columns.{column}
 use Rattle.queues.specs.declared.Ring.{Ring}
 
 abbrev pub ring : ℕ → ℕ → Ring
@@ -29,10 +30,15 @@ pub record Held (places : ℕ) (q : Queue) : Type 0 where
   pub count : q .ring .count ≤ places
   pub long : places ≤ length (q .items)
 
--- The first argument is the number of places, at which the queue wraps.
+-- The place behind all that wait; the first argument is the number of places, at which the queue wraps.
+abbrev pub behind : ℕ → Ring → ℕ
+behind places r = (r .head + r .count) % places
+
+abbrev pub longerRing : Ring → Ring
+longerRing r = ring (r .head) (r .count + 1)
+
 unfoldable pub push : ℕ → Queue → ℕ → Queue
-push places q x =
-    queue (set (q .items) ((q .ring .head + q .ring .count) % places) x) (ring (q .ring .head) (q .ring .count + 1))
+push places q x = queue (set (q .items) (behind places (q .ring)) x) (longerRing (q .ring))
 
 -- The queue without its oldest entry; its place keeps what stood there.
 abbrev pub poppedRing : ℕ → Ring → Ring
@@ -56,3 +62,17 @@ queueRow q r = cond (eqb (getD (q .pending) r 0) 1) q (rows (push 1024 (q .queue
 -- `next_row`: the flag falls when the row is taken.
 unfoldable pub nextRow : Rows → Rows
 nextRow q = rows (popped 1024 (q .queue)) (set (q .pending) (oldest (q .queue)) 0)
+
+-- ---- two queues of rows in one buffer of slots
+
+-- The queue whose entries stand in column k, and its flags, by row, in the column behind it.
+abbrev pub rowsIn : ℕ → List (List ℕ) → Ring → Rows
+rowsIn k slots r = rows (queue (column k slots) r) (column (k + 1) slots)
+
+-- The four numbers of a slot.
+abbrev pub slot : List ℕ → List ℕ
+slot l = getD l 0 0 ∷ getD l 1 0 ∷ getD l 2 0 ∷ getD l 3 0 ∷ []
+
+-- Number j of one slot is written.
+unfoldable pub put : List (List ℕ) → ℕ → ℕ → ℕ → List (List ℕ)
+put slots at j x = set slots at (set (slot (getD slots at [])) j x)

@@ -1,8 +1,10 @@
 // Nodes and rows that wait their turn: `sure`, `never`, `queue_row` and `next_row` of regions.rs.
 ghost use mathlib.Core.Path.{_≡_};
-ghost use Prim.Native.Nat.{_+_, _<_, _≤_, _%_};
+ghost use Prim.Native.Nat.{_+_, _-_, _<_, _≤_, _%_, _^_};
 ghost use lib.ListN.{length, getD};
-ghost use Rattle.queues.specs.Queue.{queue, Held, push as pushed, poppedRing, rows, queueRow, nextRow};
+ghost use Rattle.lists.specs.Columns.{column};
+ghost use Rattle.queues.specs.declared.Ring.{Ring};
+ghost use Rattle.queues.specs.Queue.{queue, Held, push as pushed, behind as behindAll, longerRing, poppedRing, rowsIn, put as puts, queueRow, nextRow};
 ghost use Rattle.queues.specs.Marks.{marks, decided, waiting, decide as decides};
 use state::Step;
 
@@ -10,6 +12,13 @@ use state::Step;
 pub struct Ring {
     pub head: usize,
     pub count: usize,
+}
+
+// The queues of nodes that wait to be drained, of rows that wait to hand on their bounds, and of rows that wait for a residual.
+pub struct Rings {
+    pub nodes: Ring,
+    pub rows: Ring,
+    pub residuals: Ring,
 }
 
 // What deciding a node did, and the queue of nodes after it.
@@ -29,15 +38,33 @@ fn wrapped(at: usize, places: usize) -> usize
     at - places
 }
 
+// The place behind all that wait.
+fn behind(ring: Ring, places: usize) -> usize
+    requires { ⌜ (ring .head < places) × (ring .count ≤ places) × (places < 2 ^ 63) ⌝ }
+    ensures { λ r. ⌜ (r ≡ behindAll places ring) × (r < places) ⌝ }
+{
+    let head = ring.head;
+    let count = ring.count;
+    wrapped(head + count, places)
+}
+
 // x waits behind all others.
 pub fn push(items: &mut [u16], ring: Ring, places: usize, x: u16) -> Ring
     requires { ⌜ Held places (queue (now items) ring) ⌝ }
     ensures { λ r. ⌜ queue (now (items .exit)) r ≡ pushed places (queue (now (items .entry)) ring) x ⌝ }
 {
+    let at = behind(ring, places);
+    items[at] = x;
+    longer(ring)
+}
+
+// One more waits.
+fn longer(ring: Ring) -> Ring
+    requires { ⌜ ring .count < 2 ^ 63 ⌝ }
+    ensures { λ r. ⌜ r ≡ longerRing ring ⌝ }
+{
     let head = ring.head;
     let count = ring.count;
-    let at = wrapped(head + count, places);
-    items[at] = x;
     Ring {
         head: head,
         count: count + 1,
@@ -58,37 +85,61 @@ pub fn popped(ring: Ring, places: usize) -> Ring
     }
 }
 
-// A row that waits already is not queued again.
-pub fn queue_row(items: &mut [u16], pending: &mut [u8], ring: Ring, row: usize) -> Ring
-    requires { ⌜ Held 1024 (queue (now items) ring) × (row < 1024) × (row < length (now pending)) ⌝ }
-    ensures { λ r. ⌜ rows (queue (now (items .exit)) r) (now (pending .exit)) ≡ queueRow (rows (queue (now (items .entry)) ring) (now (pending .entry))) row ⌝ }
+// One number of a slot is written. The slot is written whole, so that all its numbers are known whatever stood there.
+fn put(row_queues: &mut [[u16; 4]], at: usize, j: usize, x: u16)
+    requires { ⌜ (at < length (now «row_queues»)) × (j < 4) ⌝ }
+    ensures { λ _. ⌜ now («row_queues» .exit) ≡ puts (now («row_queues» .entry)) at j x ⌝ }
 {
-    if pending[row] == 1 {
+    let old = row_queues[at];
+    let mut slot = [old[0], old[1], old[2], old[3]];
+    slot[j] = x;
+    row_queues[at] = slot;
+}
+
+// The queue of rows whose columns begin at k. A row that waits already is not queued again.
+pub fn queue_row(row_queues: &mut [[u16; 4]], k: usize, ring: Ring, row: usize) -> Ring
+    requires { ⌜ (k < 4) × (k % 2 ≡ 0) × Held 1024 (queue (column k (now «row_queues»)) ring) × (row < 1024) ⌝ }
+    ensures { λ r. ⌜ (rowsIn k (now («row_queues» .exit)) r ≡ queueRow (rowsIn k (now («row_queues» .entry)) ring) row)
+        × ((other : Ring) → rowsIn (2 - k) (now («row_queues» .exit)) other ≡ rowsIn (2 - k) (now («row_queues» .entry)) other) ⌝ }
+{
+    let slot = row_queues[row];
+    if slot[k + 1] == 1 {
         return ring;
     }
-    pending[row] = 1;
-    push(items, ring, 1024, row as u16)
+    put(row_queues, row, k + 1, 1);
+    let at = behind(ring, 1024);
+    put(row_queues, at, k, row as u16);
+    longer(ring)
+}
+
+// An entry, as a place.
+fn place(x: u16) -> usize
+    ensures { λ r. ⌜ r ≡ x ⌝ }
+{
+    x as usize
 }
 
 // The oldest row is taken: its flag falls.
-pub fn next_row(pending: &mut [u8], items: &[u16], ring: Ring) -> Ring
-    requires { ⌜ Held 1024 (queue (now items) ring) × (0 < ring .count) × (getD (now items) (ring .head) 0 < length (now pending)) ⌝ }
-    ensures { λ r. ⌜ rows (queue (now (items .entry)) r) (now (pending .exit)) ≡ nextRow (rows (queue (now (items .entry)) ring) (now (pending .entry))) ⌝ }
+pub fn next_row(row_queues: &mut [[u16; 4]], k: usize, ring: Ring) -> Ring
+    requires { ⌜ (k < 4) × (k % 2 ≡ 0) × Held 1024 (queue (column k (now «row_queues»)) ring) × (0 < ring .count) × (getD (column k (now «row_queues»)) (ring .head) 0 < length (now «row_queues»)) ⌝ }
+    ensures { λ r. ⌜ (rowsIn k (now («row_queues» .exit)) r ≡ nextRow (rowsIn k (now («row_queues» .entry)) ring))
+        × ((other : Ring) → rowsIn (2 - k) (now («row_queues» .exit)) other ≡ rowsIn (2 - k) (now («row_queues» .entry)) other) ⌝ }
 {
     let head = ring.head;
-    let row = items[head] as usize;
-    pending[row] = 0;
+    let slot = row_queues[head];
+    let row = place(slot[k]);
+    put(row_queues, row, k + 1, 0);
     popped(ring, 1024)
 }
 
 // Only a node that is new waits.
-fn wait(nodes: &mut [u16], ring: Ring, step: Step, n: usize) -> Ring
-    requires { ⌜ Held 4096 (queue (now nodes) ring) × (n < 4096) ⌝ }
-    ensures { λ r. ⌜ queue (now (nodes .exit)) r ≡ waiting step (queue (now (nodes .entry)) ring) n ⌝ }
+fn wait(node_queue: &mut [u16], ring: Ring, step: Step, n: usize) -> Ring
+    requires { ⌜ Held 4096 (queue (now «node_queue») ring) × (n < 4096) ⌝ }
+    ensures { λ r. ⌜ queue (now («node_queue» .exit)) r ≡ waiting step (queue (now («node_queue» .entry)) ring) n ⌝ }
 {
     match step {
         Step::Unchanged => ring,
-        Step::Changed => push(nodes, ring, 4096, n as u16),
+        Step::Changed => push(node_queue, ring, 4096, n as u16),
         Step::Contradiction => ring,
     }
 }
@@ -98,23 +149,23 @@ pub fn decide(
     value: bool,
     sure: &mut [u64],
     never: &mut [u64],
-    nodes: &mut [u16],
+    node_queue: &mut [u16],
     ring: Ring,
     n: usize,
 ) -> Decision
-    requires { ⌜ Held 4096 (queue (now nodes) ring) × (n < 4096) × (64 ≤ length (now sure)) × (64 ≤ length (now never)) ⌝ }
-    ensures { λ r. ⌜ decided (marks (now (sure .exit)) (now (never .exit)) (queue (now (nodes .exit)) (r .ring))) (r .step) ≡ decides value (marks (now (sure .entry)) (now (never .entry)) (queue (now (nodes .entry)) ring)) n ⌝ }
+    requires { ⌜ Held 4096 (queue (now «node_queue») ring) × (n < 4096) × (64 ≤ length (now sure)) × (64 ≤ length (now never)) ⌝ }
+    ensures { λ r. ⌜ decided (marks (now (sure .exit)) (now (never .exit)) (queue (now («node_queue» .exit)) (r .ring))) (r .step) ≡ decides value (marks (now (sure .entry)) (now (never .entry)) (queue (now («node_queue» .entry)) ring)) n ⌝ }
 {
     if value {
         let step = words::learn(sure, never, n);
-        let next = wait(nodes, ring, step, n);
+        let next = wait(node_queue, ring, step, n);
         return Decision {
             step: step,
             ring: next,
         };
     }
     let step = words::learn(never, sure, n);
-    let next = wait(nodes, ring, step, n);
+    let next = wait(node_queue, ring, step, n);
     Decision {
         step: step,
         ring: next,

@@ -1,3 +1,4 @@
 pub mod Record
-pub mod Entry
+pub mod Facts
+pub mod Checks
 pub mod RecordLaws

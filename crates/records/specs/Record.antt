@@ -5,25 +5,8 @@ use mathlib.Core.List.{List, [], _∷_}
 use lib.ListN.{getD, take, drop}
 use lib.Dec.{ltb}
 use lib.IntN.{ℤ, pos, negsuc}
-
--- The kinds 0x01 to 0x08, and every other byte.
-pub data Kind : Type 0 where
-  header opens adds seals marks settles sifts areas unknown : Kind
-
-abbrev pub kindOf : ℕ → Kind
-kindOf b = getD (unknown ∷ header ∷ opens ∷ adds ∷ seals ∷ marks ∷ settles ∷ sifts ∷ areas ∷ []) b unknown
-
--- How many bytes of body follow the kind.
-abbrev pub bodyLength : Kind → ℕ
-bodyLength header = 2
-bodyLength opens = 10
-bodyLength adds = 6
-bodyLength seals = 0
-bodyLength marks = 3
-bodyLength settles = 0
-bodyLength sifts = 0
-bodyLength areas = 6
-bodyLength unknown = 0
+use Rattle.records.specs.declared.Record.{Record}
+use Rattle.records.specs.declared.Record.the-variants.{Header, Opens, Adds, Areas, Seal, Mark, Settle, Sift, Unknown}
 
 -- Bytes as a number, the lowest first.
 unfoldable pub littleEndian : List ℕ → ℕ
@@ -34,24 +17,50 @@ littleEndian (b ∷ bs) = b + 256 * littleEndian bs
 abbrev pub signed : ℕ → ℤ
 signed n = cond (ltb n (2 ^ 63)) (pos n) (negsuc (2 ^ 64 - 1 - n))
 
-pub data Record : Type 0 where
-  header : (nodes : ℕ) → Record
-  opens : (node : ℕ) (bound : ℤ) → Record
-  adds : (condition weight : ℕ) → Record
-  areas : (condition area : ℕ) → Record
-  seal : Record
-  mark : (node value : ℕ) → Record
-  settle : Record
-  sift : Record
-  unknown : Record
+-- The field of two bytes with which most bodies begin, and the field behind it.
+abbrev pub front : List ℕ → ℕ
+front body = littleEndian (take 2 body)
+
+abbrev pub behind : List ℕ → ℕ
+behind body = littleEndian (drop 2 body)
+
+-- A kind: how many bytes of body follow, and the record that they make.
+pub record Kind : Type 0 where
+  pub size : ℕ
+  pub made : List ℕ → Record
+
+abbrev pub kind : ℕ → (List ℕ → Record) → Kind
+kind n f = record { size = n; made = f }
+
+abbrev pub noKind : Kind
+noKind = kind 0 (λ (body : List ℕ). Unknown)
+
+-- Document 01's table of kinds, by the byte.
+abbrev pub kinds : List Kind
+kinds =
+    noKind
+    ∷ kind 2 (λ (body : List ℕ). Header (littleEndian body))  -- 0x01
+    ∷ kind 10 (λ (body : List ℕ). Opens (front body) (signed (behind body)))
+    ∷ kind 6 (λ (body : List ℕ). Adds (front body) (behind body))
+    ∷ kind 0 (λ (body : List ℕ). Seal)
+    ∷ kind 3 (λ (body : List ℕ). Mark (front body) (behind body))
+    ∷ kind 0 (λ (body : List ℕ). Settle)
+    ∷ kind 0 (λ (body : List ℕ). Sift)
+    ∷ kind 6 (λ (body : List ℕ). Areas (front body) (behind body))  -- 0x08
+    ∷ []
+
+abbrev pub kindOf : ℕ → Kind
+kindOf b = getD kinds b noKind
+
+abbrev pub bodyLength : Kind → ℕ
+bodyLength k = k .size
 
 abbrev pub recordOf : Kind → List ℕ → Record
-recordOf header body = header (littleEndian body)
-recordOf opens body = opens (littleEndian (take 2 body)) (signed (littleEndian (drop 2 body)))
-recordOf adds body = adds (littleEndian (take 2 body)) (littleEndian (drop 2 body))
-recordOf seals body = seal
-recordOf marks body = mark (littleEndian (take 2 body)) (littleEndian (drop 2 body))
-recordOf settles body = settle
-recordOf sifts body = sift
-recordOf areas body = areas (littleEndian (take 2 body)) (littleEndian (drop 2 body))
-recordOf unknown body = unknown
+recordOf k body = k .made body
+
+-- The kind of the record at an offset, and the record.
+abbrev pub kindAt : List ℕ → ℕ → Kind
+kindAt bytes at = kindOf (getD bytes at 0)
+
+abbrev pub recordIn : List ℕ → ℕ → Record
+recordIn bytes at = recordOf (kindAt bytes at) (take (bodyLength (kindAt bytes at)) (drop (at + 1) bytes))

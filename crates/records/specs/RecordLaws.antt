@@ -1,17 +1,19 @@
 -- Laws of the fields of records: bytes put together, and a body's fields read where they stand.
 use Prim.Native.Nat.{ℕ, zero, suc, _+_, _*_, _-_, _^_, _<_, _≤_}
 use native.Mathlib.Nat.{mul-add, mul-assoc, pow-succ', add-assoc, one-mul, zero-add, suc-add}
+use native.Mathlib.Decide.{ℕ-discrete}
 use native.Mathlib.Omega.{arith}
 use mathlib.Core.Path.{_≡_, refl, sym, ap, ap₂, _∙_, subst}
 use mathlib.Core.List.{List, [], _∷_, _++_}
-use lib.ListN.{length, getD, take, drop, length-drop}
+use lib.ListN.{length, getD, take, drop, length-drop, List·getD-eq-default}
 use lib.Seq.{take-add, drop-drop, drop-cons, take-take, length-take-le, take-nil}
 use lib.IntN.{ℤ, pos, negsuc, _-ℤ_}
 use mir.Syntax.{w64}
 use mir.Val.{SFits}
 use borrow.Author.Tests.{lt-ltb, le-ltb}
-use Rattle.records.specs.Record.{Kind, kindOf, bodyLength, littleEndian, signed, recordOf, header, opens, adds, areas, mark, unknown}
-use Rattle.records.specs.Entry.{kindAt, entryAt}
+use Rattle.records.specs.declared.Record.{Record}
+use Rattle.records.specs.declared.Record.the-variants.{Unknown}
+use Rattle.records.specs.Record.{Kind, kind, noKind, kinds, kindOf, bodyLength, littleEndian, front, behind, signed, recordOf, kindAt, recordIn}
 
 little-append : (xs ys : List ℕ) → littleEndian (xs ++ ys) ≡ littleEndian xs + 256 ^ length xs * littleEndian ys
 unfolding littleEndian
@@ -32,7 +34,7 @@ little-split l at m n h =
     ∙ ap₂ (λ (k : ℕ) (d : List ℕ). littleEndian (take m (drop at l)) + 256 ^ k * littleEndian (take n d))
     (length-take-le m (drop at l) (let q = length-drop at l in omega arith)) (drop-drop m at l)
 
-one-byte : (l : List ℕ) (at : ℕ) → at < length l → littleEndian (take 1 (drop at l)) ≡ getD l at 0
+pub one-byte : (l : List ℕ) (at : ℕ) → at < length l → littleEndian (take 1 (drop at l)) ≡ getD l at 0
 unfolding littleEndian
 one-byte l at h = ap (λ (d : List ℕ). littleEndian (take 1 d)) (drop-cons l at 0 h) ∙ omega arith
 
@@ -67,10 +69,10 @@ pub below-zero : (n : ℕ) → 9223372036854775808 ≤ n → negsuc 0 -ℤ pos (
 below-zero n h = minus-one (18446744073709551615 - n) ∙ signed-high n h
 
 -- The fields of a body are read where they stand in the input.
-front : (n m : ℕ) (l : List ℕ) → drop n (take (n + m) l) ≡ take m (drop n l)
-front zero m l = ap (λ (k : ℕ). take k l) (zero-add m)
-front (suc n) m [] = ap (λ (k : ℕ). drop (suc n) (take k [])) (suc-add n m) ∙ sym (take-nil m)
-front (suc n) m (x ∷ l) = ap (λ (k : ℕ). drop (suc n) (take k (x ∷ l))) (suc-add n m) ∙ front n m l
+cut-front : (n m : ℕ) (l : List ℕ) → drop n (take (n + m) l) ≡ take m (drop n l)
+cut-front zero m l = ap (λ (k : ℕ). take k l) (zero-add m)
+cut-front (suc n) m [] = ap (λ (k : ℕ). drop (suc n) (take k [])) (suc-add n m) ∙ sym (take-nil m)
+cut-front (suc n) m (x ∷ l) = ap (λ (k : ℕ). drop (suc n) (take k (x ∷ l))) (suc-add n m) ∙ cut-front n m l
 
 module _ (l : List ℕ) (at : ℕ) where
   abbrev field : ℕ → ℕ → ℕ
@@ -81,55 +83,49 @@ module _ (l : List ℕ) (at : ℕ) where
 
   later-field : (m : ℕ) → littleEndian (drop 2 (take (2 + m) (drop (at + 1) l))) ≡ field 3 m
   later-field m =
-      ap littleEndian (front 2 m (drop (at + 1) l) ∙ ap (take m) (drop-drop 2 (at + 1) l) ∙ ap (λ (k : ℕ). take m (drop k l)) {x = at + 1 + 2} {y = at + 3} (omega arith))
+      ap littleEndian (cut-front 2 m (drop (at + 1) l) ∙ ap (take m) (drop-drop 2 (at + 1) l) ∙ ap (λ (k : ℕ). take m (drop k l)) {x = at + 1 + 2} {y = at + 3} (omega arith))
+
+  -- The record that a kind makes here.
+  abbrev madeAt : Kind → Record
+  madeAt k = recordOf k (take (bodyLength k) (drop (at + 1) l))
 
   -- A record by the byte of its kind: how long it is at least, and what it says.
   pub room-by : (b : ℕ) → getD l at 0 ≡ b → at + 1 + bodyLength (kindAt l at) ≤ length l → at + 1 + bodyLength (kindOf b) ≤ length l
   room-by b e h = subst (λ (x : ℕ). at + 1 + bodyLength (kindOf x) ≤ length l) e h
 
-  pub entry-by : (b : ℕ) → getD l at 0 ≡ b → recordOf (kindOf b) (take (bodyLength (kindOf b)) (drop (at + 1) l)) ≡ entryAt l at
-  entry-by b e = sym (ap (λ (x : ℕ). recordOf (kindOf x) (take (bodyLength (kindOf x)) (drop (at + 1) l))) e)
+  pub record-by : (b : ℕ) → getD l at 0 ≡ b → madeAt (kindOf b) ≡ recordIn l at
+  record-by b e = sym (ap (λ (x : ℕ). madeAt (kindOf x)) e)
 
-  pub header-at : (n : ℕ) → getD l at 0 ≡ 1 → n ≡ field 1 2 → header n ≡ entryAt l at
-  header-at n e h = ap header h ∙ entry-by 1 e
+  -- A body of two bytes; one of two bytes and more behind them.
+  pub one-field : (b : ℕ) (make : ℕ → Record) (x : ℕ) → kindOf b ≡ kind 2 (λ (body : List ℕ). make (littleEndian body)) → getD l at 0 ≡ b → x ≡ field 1 2
+      → make x ≡ recordIn l at
+  one-field b make x k e h = ap make h ∙ sym (ap (λ (y : Kind). madeAt y) k) ∙ record-by b e
 
-  pub opens-at : (n : ℕ) (z : ℤ) → getD l at 0 ≡ 2 → n ≡ field 1 2 → z ≡ signed (field 3 8) → opens n z ≡ entryAt l at
-  opens-at n z e h k = ap₂ opens (h ∙ sym (first-field 8)) (k ∙ ap (λ (x : ℕ). signed x) (sym (later-field 8))) ∙ entry-by 2 e
+  pub two-fields : (b size : ℕ) (make : ℕ → ℕ → Record) (x y : ℕ) → kindOf b ≡ kind (2 + size) (λ (body : List ℕ). make (front body) (behind body)) → getD l at 0 ≡ b
+      → x ≡ field 1 2 → y ≡ field 3 size → make x y ≡ recordIn l at
+  two-fields b size make x y k e h i =
+      ap₂ make (h ∙ sym (first-field size)) (i ∙ sym (later-field size)) ∙ sym (ap (λ (z : Kind). madeAt z) k) ∙ record-by b e
 
-  pub adds-at : (c w : ℕ) → getD l at 0 ≡ 3 → c ≡ field 1 2 → w ≡ field 3 4 → adds c w ≡ entryAt l at
-  adds-at c w e h k = ap₂ adds (h ∙ sym (first-field 4)) (k ∙ sym (later-field 4)) ∙ entry-by 3 e
+-- A byte that is none of 1, 2 .. n.
+abbrev pub Missed : ℕ → ℕ → Type 0
+Missed b zero = Unit {0}
+Missed b (suc n) = Missed b n × (b ≡ suc n → ⊥)
 
-  pub areas-at : (c a : ℕ) → getD l at 0 ≡ 8 → c ≡ field 1 2 → a ≡ field 3 4 → areas c a ≡ entryAt l at
-  areas-at c a e h k = ap₂ areas (h ∙ sym (first-field 4)) (k ∙ sym (later-field 4)) ∙ entry-by 8 e
+past : (b n : ℕ) → Missed b n → (b ≡ 0 → ⊥) → n < b
+past b zero m z = omega arith
+past b (suc n) m z = let q = past b n (m .0) z in let o = m .1 in omega arith
 
-  pub mark-at : (n : ℕ) → getD l at 0 ≡ 5 → n ≡ field 1 2 → at + 3 < length l → mark n (getD l (at + 3) 0) ≡ entryAt l at
-  mark-at n e h i = ap₂ mark (h ∙ sym (first-field 1)) (sym (one-byte l (at + 3) i) ∙ sym (later-field 1)) ∙ entry-by 5 e
+-- Such a byte is no kind, where the table has no more.
+module _ (b n : ℕ) (m : Missed b n) (all : length kinds ≤ suc n) where
+  pub no-kind : kindOf b ≡ noKind
+  no-kind = by (ℕ-discrete b 0)
+    where
+      by : Dec (b ≡ 0) → kindOf b ≡ noKind
+      by (yes e) = ap kindOf e
+      by (no e) = let q = past b n m e in let w : length kinds ≤ b = omega arith in List·getD-eq-default kinds noKind w
 
--- Every other byte is no kind.
-pub kind-other : (b : ℕ) → (b ≡ 1 → ⊥) → (b ≡ 2 → ⊥) → (b ≡ 3 → ⊥) → (b ≡ 4 → ⊥) → (b ≡ 5 → ⊥) → (b ≡ 6 → ⊥) → (b ≡ 7 → ⊥) → (b ≡ 8 → ⊥) → kindOf b ≡ unknown
-kind-other zero h1 h2 h3 h4 h5 h6 h7 h8 = refl
-kind-other (suc zero) h1 h2 h3 h4 h5 h6 h7 h8 = absurd (h1 refl)
-kind-other (suc (suc zero)) h1 h2 h3 h4 h5 h6 h7 h8 = absurd (h2 refl)
-kind-other (suc (suc (suc zero))) h1 h2 h3 h4 h5 h6 h7 h8 = absurd (h3 refl)
-kind-other (suc (suc (suc (suc zero)))) h1 h2 h3 h4 h5 h6 h7 h8 = absurd (h4 refl)
-kind-other (suc (suc (suc (suc (suc zero))))) h1 h2 h3 h4 h5 h6 h7 h8 = absurd (h5 refl)
-kind-other (suc (suc (suc (suc (suc (suc zero)))))) h1 h2 h3 h4 h5 h6 h7 h8 = absurd (h6 refl)
-kind-other (suc (suc (suc (suc (suc (suc (suc zero))))))) h1 h2 h3 h4 h5 h6 h7 h8 = absurd (h7 refl)
-kind-other (suc (suc (suc (suc (suc (suc (suc (suc zero)))))))) h1 h2 h3 h4 h5 h6 h7 h8 = absurd (h8 refl)
-kind-other (suc (suc (suc (suc (suc (suc (suc (suc (suc b))))))))) h1 h2 h3 h4 h5 h6 h7 h8 = refl
+  pub body-other : 0 ≡ bodyLength (kindOf b)
+  body-other = ap (λ (k : Kind). bodyLength k) (sym no-kind)
 
--- A byte without a body.
-pub body-other : (b : ℕ) → (b ≡ 1 → ⊥) → (b ≡ 2 → ⊥) → (b ≡ 3 → ⊥) → (b ≡ 5 → ⊥) → (b ≡ 8 → ⊥) → 0 ≡ bodyLength (kindOf b)
-body-other zero h1 h2 h3 h5 h8 = refl
-body-other (suc zero) h1 h2 h3 h5 h8 = absurd (h1 refl)
-body-other (suc (suc zero)) h1 h2 h3 h5 h8 = absurd (h2 refl)
-body-other (suc (suc (suc zero))) h1 h2 h3 h5 h8 = absurd (h3 refl)
-body-other (suc (suc (suc (suc zero)))) h1 h2 h3 h5 h8 = refl
-body-other (suc (suc (suc (suc (suc zero))))) h1 h2 h3 h5 h8 = absurd (h5 refl)
-body-other (suc (suc (suc (suc (suc (suc zero)))))) h1 h2 h3 h5 h8 = refl
-body-other (suc (suc (suc (suc (suc (suc (suc zero))))))) h1 h2 h3 h5 h8 = refl
-body-other (suc (suc (suc (suc (suc (suc (suc (suc zero)))))))) h1 h2 h3 h5 h8 = absurd (h8 refl)
-body-other (suc (suc (suc (suc (suc (suc (suc (suc (suc b))))))))) h1 h2 h3 h5 h8 = refl
-
-pub other-at : (l : List ℕ) (at : ℕ) → kindOf (getD l at 0) ≡ unknown → unknown ≡ entryAt l at
-other-at l at e = sym (ap (λ (k : Kind). recordOf k (take (bodyLength k) (drop (at + 1) l))) e)
+pub other-at : (l : List ℕ) (at n : ℕ) → Missed (getD l at 0) n → length kinds ≤ suc n → Unknown ≡ recordIn l at
+other-at l at n m all = sym (ap (λ (k : Kind). madeAt l at k) (no-kind (getD l at 0) n m all))

@@ -2,19 +2,18 @@
 ghost use mathlib.Core.Path.{_≡_};
 ghost use Prim.Native.Nat.{_+_, _<_, _≤_};
 ghost use lib.ListN.{length, getD, take, drop};
-ghost use Rattle.records.specs.Record.{kindOf, bodyLength, littleEndian, signed};
-ghost use Rattle.records.specs.Entry.{said, kindAt, entryAt};
+ghost use Rattle.records.specs.Record.{kindOf, bodyLength, littleEndian, signed, kindAt, recordIn};
 
-// A record with its fields: nodes; node and bound; condition and weight; node and value; condition and area.
-pub enum Entry {
+// A record with its fields: nodes; node and bound; condition and weight; condition and area; node and value.
+pub enum Record {
     Header(u16),
     Opens(u16, i64),
     Adds(u16, u32),
+    Areas(u16, u32),
     Seal,
     Mark(u16, u8),
     Settle,
     Sift,
-    Areas(u16, u32),
     Unknown,
 }
 
@@ -26,7 +25,10 @@ pub fn body_length(kind: u8) -> usize
         1 => 2,
         2 => 10,
         3 => 6,
+        4 => 0,
         5 => 3,
+        6 => 0,
+        7 => 0,
         8 => 6,
         _ => 0,
     }
@@ -79,20 +81,20 @@ pub fn i64_at(input: &[u8], at: usize) -> i64
 }
 
 // The record that begins at an offset, all of whose body is there.
-pub fn record_at(input: &[u8], at: usize) -> Entry
+pub fn record_at(input: &[u8], at: usize) -> Record
     requires { ⌜ at + 1 + bodyLength (kindAt (now input) at) ≤ length (now input) ⌝ }
-    ensures { λ r. ⌜ said r ≡ entryAt (now (input .entry)) at ⌝ }
+    ensures { λ r. ⌜ r ≡ recordIn (now (input .entry)) at ⌝ }
 {
     let kind = input[at];
     match kind {
-        1 => Entry::Header(u16_at(input, at + 1)),
-        2 => Entry::Opens(u16_at(input, at + 1), i64_at(input, at + 3)),
-        3 => Entry::Adds(u16_at(input, at + 1), u32_at(input, at + 3)),
-        4 => Entry::Seal,
-        5 => Entry::Mark(u16_at(input, at + 1), input[at + 3]),
-        6 => Entry::Settle,
-        7 => Entry::Sift,
-        8 => Entry::Areas(u16_at(input, at + 1), u32_at(input, at + 3)),
-        _ => Entry::Unknown,
+        1 => Record::Header(u16_at(input, at + 1)),
+        2 => Record::Opens(u16_at(input, at + 1), i64_at(input, at + 3)),
+        3 => Record::Adds(u16_at(input, at + 1), u32_at(input, at + 3)),
+        4 => Record::Seal,
+        5 => Record::Mark(u16_at(input, at + 1), input[at + 3]),
+        6 => Record::Settle,
+        7 => Record::Sift,
+        8 => Record::Areas(u16_at(input, at + 1), u32_at(input, at + 3)),
+        _ => Record::Unknown,
     }
 }

@@ -5,5 +5,3 @@ pub mod Keys
 pub mod KeysLaws
 pub mod LoopLaws
 pub mod RowLaws
-pub mod Stretch
-pub mod StretchLaws

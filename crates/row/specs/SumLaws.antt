@@ -11,6 +11,7 @@ use lib.IntN.{ℤ, pos, _+ℤ_}
 use lib.Dec.{eqb}
 use lib.ListN.{length}
 use borrow.Author.Tests.{eqb-true, eq-eqb, ne-eqb}
+use Rattle.memory.specs.Limits.{listTerms, rawLimit, weightLimit}
 use Rattle.numeric.specs.Threshold.{Term, term}
 use Rattle.numeric.specs.Layout.{value, weighted}
 use Rattle.row.specs.Terms.{before, merge, merged, insert, sorted, rowTerms, total, sumOf}
@@ -94,15 +95,15 @@ sum-total v (t ∷ ts) = by (v (t .condition)) (sum-total v ts)
 
 -- ---- totals fit
 
-total-below : (ts : List Term) → All (λ (t : Term). t .weight < 4294967296) ts → total ts ≤ length ts * 4294967296
+total-below : (ts : List Term) → All (λ (t : Term). t .weight < rawLimit) ts → total ts + length ts ≤ length ts * rawLimit
 unfolding total
 total-below [] h = omega arith
 total-below (t ∷ ts) h = omega (arith, total-below ts (h .1), h .0)
 
-pub total-fits : (ts : List Term) → All (λ (t : Term). t .weight < 4294967296) ts → length ts ≤ 1024 → total ts ≤ 4398046511104
+pub total-fits : (ts : List Term) → All (λ (t : Term). t .weight < rawLimit) ts → length ts ≤ listTerms → total ts < weightLimit
 total-fits ts h n = omega (arith, total-below ts h)
 
-pub row-total-fits : (raw : List Term) → All (λ (t : Term). t .weight < 4294967296) raw → length raw ≤ 1024 → total (rowTerms raw) ≤ 4398046511104
+pub row-total-fits : (raw : List Term) → All (λ (t : Term). t .weight < rawLimit) raw → length raw ≤ listTerms → total (rowTerms raw) < weightLimit
 row-total-fits raw h n = omega (arith, row-total raw, total-fits raw h n)
 
 -- ---- what a row is, is settled by the weight of each condition

@@ -4,11 +4,11 @@ use mathlib.Core.Bool.{Bool, cond}
 use mathlib.Core.List.{List, []}
 use lib.ListN.{length, getD, take, drop}
 use lib.Dec.{eqb, leb, ltb}
-use Rattle.numeric.specs.Area.{weightOfArea}
-use Rattle.numeric.specs.Threshold.{Job, term}
-use Rattle.records.specs.Record.{bodyLength, littleEndian, Record, header, opens, adds, areas, seal, mark, settle, sift, unknown}
-use Rattle.records.specs.Entry.{kindAt, entryAt}
-use Rattle.job.specs.Job.{openRefusal, termRefusal, withThreshold, withTerm}
+use Rattle.numeric.specs.Threshold.{Job}
+use Rattle.records.specs.declared.Record.{Record}
+use Rattle.records.specs.Record.{bodyLength, littleEndian, kindAt, recordIn}
+use Rattle.records.specs.Facts.{opens, adds, Action, begins, changes, closes, decides, settles, sifts, idles, action}
+use Rattle.job.specs.Job.{openRefusal, termRefusal, withChange}
 use Rattle.rows.specs.declared.Head.{Head}
 use Rattle.rows.specs.declared.Head.the-variants.{Nodes, Nothing}
 
@@ -21,29 +21,32 @@ headOf bytes =
     cond (ltb (length bytes) 3) Nothing
     (cond (eqb (getD bytes 0 0) 1) (cond (ltb 4096 (nodesAt bytes)) Nothing (Nodes (nodesAt bytes))) Nothing)
 
--- The number that refuses a record, 0 for none; every other record is out of its turn here.
+-- The number that refuses a record, 0 for none; what changes no job is out of its turn here.
+abbrev pub refusedAs : Job → Action → ℕ
+refusedAs j (begins n) = 3
+refusedAs j (changes (opens n b)) = openRefusal j n b
+refusedAs j (changes (adds x)) = termRefusal j (x .condition)
+refusedAs j closes = 3
+refusedAs j (decides n v) = 3
+refusedAs j settles = 3
+refusedAs j sifts = 3
+refusedAs j (idles x) = 3
+
 abbrev pub refusedBy : Job → Record → ℕ
-refusedBy j (header n) = 3
-refusedBy j (opens n b) = openRefusal j n b
-refusedBy j (adds c w) = termRefusal j c
-refusedBy j (areas c a) = termRefusal j c
-refusedBy j seal = 3
-refusedBy j (mark n v) = 3
-refusedBy j settle = 3
-refusedBy j sift = 3
-refusedBy j unknown = 3
+refusedBy j r = refusedAs j (action r)
 
 -- The job after a record that was taken.
+abbrev pub changedAs : Job → Action → Job
+changedAs j (begins n) = j
+changedAs j (changes c) = withChange j c
+changedAs j closes = j
+changedAs j (decides n v) = j
+changedAs j settles = j
+changedAs j sifts = j
+changedAs j (idles x) = j
+
 abbrev pub withRecord : Job → Record → Job
-withRecord j (header n) = j
-withRecord j (opens n b) = withThreshold j n b
-withRecord j (adds c w) = withTerm j (term c w)
-withRecord j (areas c a) = withTerm j (term c (weightOfArea a))
-withRecord j seal = j
-withRecord j (mark n v) = j
-withRecord j settle = j
-withRecord j sift = j
-withRecord j unknown = j
+withRecord j r = changedAs j (action r)
 
 pub data Ended : Type 0 where
   sealed : Job → Ended
@@ -56,7 +59,7 @@ endOfJob (suc n) bytes at j =
     cond (leb (length bytes) at) nothing
     (cond (eqb (getD bytes at 0) 4) (sealed j)
     (cond (leb (length bytes - at) (bodyLength (kindAt bytes at))) nothing
-    (cond (eqb (refusedBy j (entryAt bytes at)) 0) (endOfJob n bytes (at + (1 + bodyLength (kindAt bytes at))) (withRecord j (entryAt bytes at))) nothing)))
+    (cond (eqb (refusedBy j (recordIn bytes at)) 0) (endOfJob n bytes (at + (1 + bodyLength (kindAt bytes at))) (withRecord j (recordIn bytes at))) nothing)))
 
 -- Behind the header of so many nodes.
 abbrev pub jobRead : List ℕ → ℕ → Ended

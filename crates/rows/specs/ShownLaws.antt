@@ -6,37 +6,37 @@ use mathlib.Core.Path.{_≡_, refl, sym, ap, ap₂, _∙_, subst}
 use mathlib.Core.Bool.{Bool, true, false}
 use mathlib.Core.List.{List, [], _∷_, _++_, map, map-append}
 use lib.ListN.{length, getD, take, drop, length-append, length-map, length-replicate, replicate, List·getD-map}
-use lib.Seq.{getD-drop}
 use lib.IntN.{ℤ, pos, negsuc, _-ℤ_}
 use lib.Signed.{ltZ}
 use mir.Syntax.{w64}
 use mir.Val.{SFits}
 use borrow.Author.Tests.{le-ltb, ltb-true}
-use Rattle.lists.specs.Laid.{over, joinAll, ends, triples, numbers}
+use Rattle.memory.specs.Limits.{rawLimit, weightLimit}
+use Rattle.memory.specs.Buffers.{Built, heldRows, built}
+use Rattle.lists.specs.Laid.{over, joinAll, ends, numbers}
 use Rattle.lists.specs.Columns.{column}
 use Rattle.lists.specs.ColumnsLaws.{length-column}
 use Rattle.numeric.specs.Threshold.{Term, terms, Threshold}
 use Rattle.row.specs.Terms.{total, rowTerms, sameTerms}
 use Rattle.row.specs.TermsLaws.{All}
 use Rattle.row.specs.SumLaws.{row-total-fits}
-use Rattle.row.specs.StretchLaws.{length-stretch}
 use Rattle.thresholds.specs.Raw.{stretch, listAt, startOf, endOf}
-use Rattle.thresholds.specs.RawLaws.{length-terms}
+use Rattle.thresholds.specs.RawLaws.{length-terms, stretch-length}
+use Rattle.thresholds.specs.PlacedLaws.{stretch-small}
 use Rattle.thresholds.specs.Rows.{Row, Guard, rowOf, noRow, guard, insertGuard, place, placeAll, rowsOf, edgesOf}
-use Rattle.thresholds.specs.Laid.{conditions, weights, termLists, guardLists, edgeLists, edgeRow, thresholdOf, rowOfNode}
+use Rattle.thresholds.specs.Laid.{conditions, weights, termLists, guardLists, guardBounds, guardNodes, edgeLists, edgeRow}
 use Rattle.prefixes.specs.HeldLaws.{length-numbers}
 use Rattle.prefixes.specs.Links.{neighbourLists}
 use Rattle.prepare.specs.Given.{thresholdAt, given}
 use Rattle.prepare.specs.Place.{Blank}
 use Rattle.prepare.specs.RowsGivenLaid.{startIn, endIn, length-ends, over-rising, over-inside, over-figures}
 use Rattle.prepare.specs.RowsGivenHeld.{terms-back}
-use Rattle.prepare.specs.NodesGiven.{triples-columns}
-use Rattle.prepare.specs.Prepare.{Lent, lent}
+use Rattle.prepare.specs.JobBuffers.{rowEntries, nodeEntries, builtWith, builtOf}
+use Rattle.prepare.specs.JobBuffersLaws.{entries-columns, neighbours-long, nodes-column}
 use Rattle.job.specs.declared.Counts.{Counts}
 use Rattle.job.specs.Gathered.{cut, jobIn, Gathered}
 use Rattle.job.specs.SoundLaws.{gathered-none, gathered-sound}
-use Rattle.job.specs.Built.{Empty, rowEntries, Built}
-use Rattle.job.specs.BuiltLaws.{entries-columns, neighbours-long}
+use Rattle.job.specs.Built.{Roomy}
 use Rattle.rows.specs.Shown.{Part, Fits, Shown, First}
 
 -- ---- what is laid in front of a buffer lies inside it
@@ -91,43 +91,34 @@ all-at P [] d h i k = absurd (not-suc-le-zero k)
 all-at P (x ∷ xs) d h zero k = h .0
 all-at P (x ∷ xs) d h (suc i) k = all-at P xs d (h .1) i (omega arith)
 
-module _ (k : Counts) (cs ws : List ℕ) (ts : List (List ℕ)) (bs : List ℤ) (g : Gathered k cs ws ts bs) (light : (i : ℕ) → getD ws i 0 < 4294967296) where
-  light-list : (t : ℕ) → t < length (take (k .thresholds) ts) → total (rowTerms (listAt (cut k cs ws ts) t)) ≤ 4398046511104
+module _ (k : Counts) (cs ws : List ℕ) (ts : List (List ℕ)) (bs : List ℤ) (g : Gathered k cs ws ts bs) where
+  light-list : (t : ℕ) → t < length (take (k .thresholds) ts) → total (rowTerms (listAt (cut k cs ws ts) t)) < weightLimit
   unfolding listAt
   light-list t h =
       let s = gathered-sound k cs ws ts bs g (k .nodes) refl .lists in
       let a = startOf (take (k .thresholds) ts) t in
       let e = endOf (take (k .thresholds) ts) t in
       let i = s .inside t h in
-      let c = length-stretch a e (take (k .terms) cs) i in
-      let w = length-stretch a e (take (k .terms) ws) (let v = s .weighed in omega (arith, i, v)) in
+      let c = stretch-length a e (take (k .terms) cs) i in
+      let w = stretch-length a e (take (k .terms) ws) (let v = s .weighed in omega (arith, i, v)) in
       let l = length-terms (stretch a e (take (k .terms) cs)) (stretch a e (take (k .terms) ws)) (w ∙ sym c) in
       let q = s .short t h in
       row-total-fits (terms (stretch a e (take (k .terms) cs)) (stretch a e (take (k .terms) ws)))
-      (all-terms (λ (x : ℕ). x < 4294967296) (stretch a e (take (k .terms) cs)) (stretch a e (take (k .terms) ws)) (λ i. part a e i)) (omega (arith, l, c, q))
-    where
-      zero-or : (n : ℕ) (l : List ℕ) (i : ℕ) → ((j : ℕ) → getD l j 0 < 4294967296) → getD (take n l) i 0 < 4294967296
-      zero-or zero l i h = omega arith
-      zero-or (suc n) [] i h = omega arith
-      zero-or (suc n) (x ∷ l) zero h = h 0
-      zero-or (suc n) (x ∷ l) (suc i) h = zero-or n l i (λ j. h (suc j))
+      (all-terms (λ (x : ℕ). x < rawLimit) (stretch a e (take (k .terms) cs)) (stretch a e (take (k .terms) ws))
+      (stretch-small a e (take (k .terms) ws) rawLimit (s .light))) (omega (arith, l, c, q))
 
-      part : (a e i : ℕ) → getD (stretch a e (take (k .terms) ws)) i 0 < 4294967296
-      part a e i = zero-or (e - a) (drop a (take (k .terms) ws)) i
-          (λ j. subst (λ (x : ℕ). x < 4294967296) (sym (getD-drop a (take (k .terms) ws) j 0)) (zero-or (k .terms) ws (a + j) light))
-
-  light-rows : (r : ℕ) → r < length (rowsOf (jobIn k cs ws ts bs)) → total (getD (termLists (rowsOf (jobIn k cs ws ts bs))) r []) ≤ 4398046511104
+  light-rows : (r : ℕ) → r < length (rowsOf (jobIn k cs ws ts bs)) → total (getD (termLists (rowsOf (jobIn k cs ws ts bs))) r []) < weightLimit
   light-rows r h =
-      subst (λ (l : List Term). total l ≤ 4398046511104) (sym (List·getD-map (λ (x : Row). x .terms) (rowsOf (jobIn k cs ws ts bs)) r noRow))
-      (all-at (λ (x : Row). total (x .terms) ≤ 4398046511104) (rowsOf (jobIn k cs ws ts bs)) noRow
-      (placed-all (λ (l : List Term). total l ≤ 4398046511104) (given (cut k cs ws ts) (take (k .thresholds) bs)) []
-      (all-numbers (λ (t : Threshold). total (rowTerms (t .terms)) ≤ 4398046511104) (thresholdAt (cut k cs ws ts) (take (k .thresholds) bs)) 0 (length (take (k .thresholds) ts))
+      subst (λ (l : List Term). total l < weightLimit) (sym (List·getD-map (λ (x : Row). x .terms) (rowsOf (jobIn k cs ws ts bs)) r noRow))
+      (all-at (λ (x : Row). total (x .terms) < weightLimit) (rowsOf (jobIn k cs ws ts bs)) noRow
+      (placed-all (λ (l : List Term). total l < weightLimit) (given (cut k cs ws ts) (take (k .thresholds) bs)) []
+      (all-numbers (λ (t : Threshold). total (rowTerms (t .terms)) < weightLimit) (thresholdAt (cut k cs ws ts) (take (k .thresholds) bs)) 0 (length (take (k .thresholds) ts))
       (λ t q. light-list t (omega arith))) tt)
       r h)
 
   -- ---- everything that is printed
 
-  module _ (count : ℕ) (b a : Lent) (links₀ links : List ℕ) (u : Built (jobIn k cs ws ts bs) count b a links₀ links) where
+  module _ (count : ℕ) (b a : Built) (many : count ≡ length (rowsOf (jobIn k cs ws ts bs))) (u : a ≡ builtOf (jobIn k cs ws ts bs) b) where
     abbrev rs : List Row
     rs = rowsOf (jobIn k cs ws ts bs)
 
@@ -135,19 +126,51 @@ module _ (k : Counts) (cs ws : List ℕ) (ts : List (List ℕ)) (bs : List ℤ) 
     linked = ends 0 (neighbourLists rs)
 
     abbrev behind : List (List ℕ)
-    behind = drop (length (rowEntries (jobIn k cs ws ts bs) linked)) (b .rows)
+    behind = drop (length (rowEntries (jobIn k cs ws ts bs) linked)) (b .held .rows)
 
-    columns : (column 0 (a .rows) ≡ ends 0 (termLists rs) ++ column 0 behind)
-        × ((column 1 (a .rows) ≡ ends 0 (guardLists rs) ++ column 1 behind) × (column 2 (a .rows) ≡ linked ++ column 2 behind))
+    rows-left : a .held .rows ≡ over (rowEntries (jobIn k cs ws ts bs) linked) (b .held .rows)
+    unfolding builtWith
+    rows-left = ap (λ (x : Built). x .held .rows) u
+
+    conditions-left : a .held .row-conditions ≡ over (conditions (joinAll (termLists rs))) (b .held .row-conditions)
+    unfolding builtWith
+    conditions-left = ap (λ (x : Built). x .held .row-conditions) u
+
+    weights-left : a .held .row-weights ≡ over (weights (joinAll (termLists rs))) (b .held .row-weights)
+    unfolding builtWith
+    weights-left = ap (λ (x : Built). x .held .row-weights) u
+
+    bounds-left : a .held .guard-bounds ≡ over (guardBounds rs) (b .held .guard-bounds)
+    unfolding builtWith
+    bounds-left = ap (λ (x : Built). x .held .guard-bounds) u
+
+    names-left : a .held .guard-nodes ≡ over (guardNodes rs) (b .held .guard-nodes)
+    unfolding builtWith
+    names-left = ap (λ (x : Built). x .held .guard-nodes) u
+
+    nodes-left : a .nodes ≡ over (nodeEntries (jobIn k cs ws ts bs)) (b .nodes)
+    unfolding builtWith
+    nodes-left = ap (λ (x : Built). x .nodes) u
+
+    edges-left : a .edges ≡ over (map edgeRow (joinAll (edgeLists (k .nodes) rs))) (b .edges)
+    unfolding builtWith
+    edges-left = ap (λ (x : Built). x .edges) u
+
+    links-left : a .links ≡ over (joinAll (neighbourLists rs)) (b .links)
+    unfolding builtWith
+    links-left = ap (λ (x : Built). x .links) u
+
+    columns : (column 0 (a .held .rows) ≡ ends 0 (termLists rs) ++ column 0 behind)
+        × ((column 1 (a .held .rows) ≡ ends 0 (guardLists rs) ++ column 1 behind) × (column 2 (a .held .rows) ≡ linked ++ column 2 behind))
     columns =
-        let c = entries-columns (jobIn k cs ws ts bs) linked (b .rows) (neighbours-long rs) in
-        (ap (column 0) (u .rows) ∙ c .0, (ap (column 1) (u .rows) ∙ c .1 .0, ap (column 2) (u .rows) ∙ c .1 .1))
+        let c = entries-columns (jobIn k cs ws ts bs) linked (b .held .rows) (neighbours-long rs) in
+        (ap (column 0) rows-left ∙ c .0, (ap (column 1) rows-left ∙ c .1 .0, ap (column 2) rows-left ∙ c .1 .1))
 
     many-terms : count ≡ length (termLists rs)
-    many-terms = u .laid .many ∙ sym (length-map rs (λ (r : Row). r .terms))
+    many-terms = many ∙ sym (length-map rs (λ (r : Row). r .terms))
 
     many-guards : count ≡ length (guardLists rs)
-    many-guards = u .laid .many ∙ sym (length-map rs (λ (r : Row). r .guards))
+    many-guards = many ∙ sym (length-map rs (λ (r : Row). r .guards))
 
     terms-in : {Y : Type 0} (f : Term → Y) (l d : List Y) → l ≡ over (map f (joinAll (termLists rs))) d → length (joinAll (termLists rs)) ≤ length l
     terms-in f l d e =
@@ -157,67 +180,50 @@ module _ (k : Counts) (cs ws : List ℕ) (ts : List (List ℕ)) (bs : List ℤ) 
     guards-in f l d e =
         let q = over-least (map f (joinAll (guardLists rs))) d in let m = length-map (joinAll (guardLists rs)) f in let s = ap length e in omega (arith, q, m, s)
 
-    fits : (r : ℕ) → r < count → Fits (a .rows) (a .row-conditions) (a .row-weights) r
+    fits : (r : ℕ) → r < count → Fits (a .held .rows) (a .held .row-conditions) (a .held .row-weights) r
     fits r h =
         let i : r < length (termLists rs) = subst (λ (n : ℕ). r < n) many-terms h in
-        let s = startIn 0 (a .rows) r in
-        let e = endIn 0 (a .rows) r in
-        let c = ap (stretch s e) (u .laid .conditions)
-        ∙ over-figures 0 (a .rows) (termLists rs) (column 0 behind) (columns .0) r i (λ (t : Term). t .condition) (drop (length (conditions (joinAll (termLists rs)))) (b .row-conditions)) in
-        let w = ap (stretch s e) (u .laid .weights)
-        ∙ over-figures 0 (a .rows) (termLists rs) (column 0 behind) (columns .0) r i (λ (t : Term). t .weight) (drop (length (weights (joinAll (termLists rs)))) (b .row-weights)) in
-        let q = light-rows r (subst (λ (n : ℕ). r < n) (u .laid .many) h) in
+        let s = startIn 0 (a .held .rows) r in
+        let e = endIn 0 (a .held .rows) r in
+        let c = ap (stretch s e) conditions-left
+        ∙ over-figures 0 (a .held .rows) (termLists rs) (column 0 behind) (columns .0) r i (λ (t : Term). t .condition) (drop (length (conditions (joinAll (termLists rs)))) (b .held .row-conditions)) in
+        let w = ap (stretch s e) weights-left
+        ∙ over-figures 0 (a .held .rows) (termLists rs) (column 0 behind) (columns .0) r i (λ (t : Term). t .weight) (drop (length (weights (joinAll (termLists rs)))) (b .held .row-weights)) in
+        let q = light-rows r (subst (λ (n : ℕ). r < n) (many) h) in
         subst (λ (l : List Term). total l < 2 ^ 64) (sym (ap₂ terms c w ∙ terms-back (getD (termLists rs) r []))) (omega (arith, q))
 
-    pub shown : First count (Shown (a .rows) (a .row-conditions) (a .row-weights) (a .guard-bounds) (a .guard-nodes) links)
+    pub shown : First count (Shown (a .held .rows) (a .held .row-conditions) (a .held .row-weights) (a .held .guard-bounds) (a .held .guard-nodes) (a .links))
     shown r h = record {
       conditions =
-          laid-inside 0 (a .rows) (termLists rs) (column 0 behind) (columns .0) count (length (a .row-conditions)) many-terms
-          (terms-in (λ (t : Term). t .condition) (a .row-conditions) (b .row-conditions) (u .laid .conditions)) r h;
+          laid-inside 0 (a .held .rows) (termLists rs) (column 0 behind) (columns .0) count (length (a .held .row-conditions)) many-terms
+          (terms-in (λ (t : Term). t .condition) (a .held .row-conditions) (b .held .row-conditions) conditions-left) r h;
       weights =
-          laid-inside 0 (a .rows) (termLists rs) (column 0 behind) (columns .0) count (length (a .row-weights)) many-terms
-          (terms-in (λ (t : Term). t .weight) (a .row-weights) (b .row-weights) (u .laid .weights)) r h;
+          laid-inside 0 (a .held .rows) (termLists rs) (column 0 behind) (columns .0) count (length (a .held .row-weights)) many-terms
+          (terms-in (λ (t : Term). t .weight) (a .held .row-weights) (b .held .row-weights) weights-left) r h;
       bounds =
-          laid-inside 1 (a .rows) (guardLists rs) (column 1 behind) (columns .1 .0) count (length (a .guard-bounds)) many-guards
-          (guards-in (λ (x : Guard). x .bound) (a .guard-bounds) (b .guard-bounds) (u .laid .guard-bounds)) r h;
+          laid-inside 1 (a .held .rows) (guardLists rs) (column 1 behind) (columns .1 .0) count (length (a .held .guard-bounds)) many-guards
+          (guards-in (λ (x : Guard). x .bound) (a .held .guard-bounds) (b .held .guard-bounds) bounds-left) r h;
       names =
-          laid-inside 1 (a .rows) (guardLists rs) (column 1 behind) (columns .1 .0) count (length (a .guard-nodes)) many-guards
-          (guards-in (λ (x : Guard). x .node) (a .guard-nodes) (b .guard-nodes) (u .laid .guard-nodes)) r h;
+          laid-inside 1 (a .held .rows) (guardLists rs) (column 1 behind) (columns .1 .0) count (length (a .held .guard-nodes)) many-guards
+          (guards-in (λ (x : Guard). x .node) (a .held .guard-nodes) (b .held .guard-nodes) names-left) r h;
       neighbours =
-          laid-inside 2 (a .rows) (neighbourLists rs) (column 2 behind) (columns .1 .1) count (length links)
-          (u .laid .many ∙ sym (length-map (numbers 0 (length rs)) _ ∙ length-numbers 0 (length rs)))
-          (let q = over-least (joinAll (neighbourLists rs)) links₀ in let s = ap length (u .links) in omega (arith, q, s)) r h;
+          laid-inside 2 (a .held .rows) (neighbourLists rs) (column 2 behind) (columns .1 .1) count (length (a .links))
+          (many ∙ sym (length-map (numbers 0 (length rs)) _ ∙ length-numbers 0 (length rs)))
+          (let q = over-least (joinAll (neighbourLists rs)) (b .links) in let s = ap length links-left in omega (arith, q, s)) r h;
       sum = fits r h;
     }
-
-    -- The edges of the nodes.
-    abbrev firsts : List ℕ
-    firsts = map (thresholdOf 0 (given (cut k cs ws ts) (take (k .thresholds) bs))) (numbers 0 (k .nodes))
-
-    abbrev seconds : List ℕ
-    seconds = map (rowOfNode rs (given (cut k cs ws ts) (take (k .thresholds) bs))) (numbers 0 (k .nodes))
-
-    abbrev thirds : List ℕ
-    thirds = ends 0 (edgeLists (k .nodes) rs)
 
     length-first : {X : Type 0} (f : ℕ → X) → length (map f (numbers 0 (k .nodes))) ≡ k .nodes
     length-first f = length-map (numbers 0 (k .nodes)) f ∙ length-numbers 0 (k .nodes)
 
-    edge-column : column 2 (a .nodes) ≡ thirds ++ column 2 (drop (length (triples firsts seconds thirds)) (b .nodes))
-    edge-column =
-        let l = triples firsts seconds thirds in
-        let f = length-first (thresholdOf 0 (given (cut k cs ws ts) (take (k .thresholds) bs))) in
-        ap (column 2) (u .laid .nodes) ∙ map-append (λ (v : List ℕ). getD v 2 0) l (drop (length l) (b .nodes))
-        ∙ ap (λ (x : List ℕ). x ++ column 2 (drop (length l) (b .nodes)))
-        (triples-columns firsts seconds thirds (length-first (rowOfNode rs (given (cut k cs ws ts) (take (k .thresholds) bs))) ∙ sym f)
-        (length-ends 0 (edgeLists (k .nodes) rs) ∙ length-first (edgesOf rs) ∙ sym f) .2)
-
+    -- The edges of the nodes.
     pub edged : First (k .nodes) (Part 2 (a .nodes) (length (a .edges)))
     edged =
-        laid-inside 2 (a .nodes) (edgeLists (k .nodes) rs) (column 2 (drop (length (triples firsts seconds thirds)) (b .nodes))) edge-column (k .nodes) (length (a .edges))
+        laid-inside 2 (a .nodes) (edgeLists (k .nodes) rs) (column 2 (drop (length (nodeEntries (jobIn k cs ws ts bs))) (b .nodes)))
+        (ap (column 2) nodes-left ∙ nodes-column (jobIn k cs ws ts bs) (b .nodes)) (k .nodes) (length (a .edges))
         (sym (length-first (edgesOf rs)))
         (let q = over-least (map edgeRow (joinAll (edgeLists (k .nodes) rs))) (b .edges) in
-        let m = length-map (joinAll (edgeLists (k .nodes) rs)) edgeRow in let s = ap length (u .laid .edges) in omega (arith, q, m, s))
+        let m = length-map (joinAll (edgeLists (k .nodes) rs)) edgeRow in let s = ap length edges-left in omega (arith, q, m, s))
 
 -- ---- buffers of zeros
 
@@ -228,9 +234,9 @@ least : {X : Type 0} (n : ℕ) (x : X) → n ≤ length (replicate n x)
 least n x = let l = length-replicate n x in omega (arith, l)
 
 -- The program's own buffers.
-pub empty-zeros : Empty (lent (replicate 4096 0) (replicate 4096 0) (replicate 1024 (replicate 3 0)) (replicate 1024 (pos 0)) (replicate 1024 0)
-    (replicate 4096 (replicate 3 0)) (replicate 4096 (replicate 2 0)) (replicate 3072 0))
-empty-zeros = record {
+pub roomy-zeros : Roomy (built (heldRows (replicate 4096 0) (replicate 4096 0) (replicate 1024 (replicate 3 0)) (replicate 1024 (pos 0)) (replicate 1024 0))
+    (replicate 4096 (replicate 3 0)) (replicate 4096 (replicate 2 0)) (replicate 2048 0))
+roomy-zeros = record {
   conditions = least {X = ℕ} 4096 0;
   weights = least {X = ℕ} 4096 0;
   rows = least {X = List ℕ} 1024 (replicate 3 0);
@@ -238,12 +244,10 @@ empty-zeros = record {
   guards = least {X = ℕ} 1024 0;
   nodes = least {X = List ℕ} 4096 (replicate 3 0);
   edges = least {X = List ℕ} 4096 (replicate 2 0);
-  words = least {X = ℕ} 3072 0;
   conditions-clear = zeros-blank 4096;
   weights-clear = zeros-blank 4096;
-  nodes-clear = ap (λ (m : ℕ). replicate m (replicate {A = ℕ} 3 0)) (sym (length-replicate 4096 (replicate {A = ℕ} 3 0)));
   guards-clear = zeros-blank 1024;
-  words-clear = zeros-blank 3072;
+  nodes-clear = ap (λ (m : ℕ). replicate m (replicate {A = ℕ} 3 0)) (sym (length-replicate 4096 (replicate {A = ℕ} 3 0)));
 }
 
 pub links-zeros : 2048 ≤ length (replicate {A = ℕ} 2048 0)

@@ -5,11 +5,10 @@ ghost use Prim.Native.Nat.{_<_, _≤_, _^_};
 ghost use lib.ListN.{length};
 ghost use Rattle.numeric.specs.Threshold.{terms};
 ghost use Rattle.row.specs.Terms.{total};
-ghost use Rattle.prepare.specs.Prepare.{lent};
+ghost use Rattle.memory.specs.Buffers.{heldRows, built};
 ghost use Rattle.prepare.specs.RowsGivenLaid.{startIn, endIn};
-ghost use Rattle.records.specs.Entry.{said};
 ghost use Rattle.job.specs.Gathered.{Gathered, jobIn};
-ghost use Rattle.job.specs.Built.{Empty};
+ghost use Rattle.job.specs.Built.{Roomy};
 ghost use Rattle.rows.specs.Read.{headOf, jobRead, endedOf};
 ghost use Rattle.rows.specs.ReadLaws.{Stepped};
 ghost use Rattle.rows.specs.Shown.{Part, Fits, Shown, First};
@@ -17,7 +16,7 @@ use job::Counts;
 use job::Taken;
 use libc::STDIN_FILENO;
 use libc::STDOUT_FILENO;
-use records::Entry;
+use records::Record;
 
 fn write(text: &[u8]) {
     io::write_all(STDOUT_FILENO, text);
@@ -93,24 +92,38 @@ fn read_header(input: &[u8]) -> Head
 
 // A record between the header and the seal.
 fn take_record(
-    entry: Entry,
+    entry: Record,
     counts: Counts,
-    conditions: &mut [u16],
-    weights: &mut [u32],
+    raw_conditions: &mut [u16],
+    raw_weights: &mut [u64],
     thresholds: &mut [[u16; 2]],
     bounds: &mut [i64],
 ) -> Taken
-    requires { ⌜ Gathered counts (now conditions) (now weights) (now thresholds) (now bounds) ⌝ }
-    ensures { λ r. ⌜ Gathered (r .counts) (now (conditions .exit)) (now (weights .exit)) (now (thresholds .exit)) (now (bounds .exit))
-        × Stepped (jobIn counts (now (conditions .entry)) (now (weights .entry)) (now (thresholds .entry)) (now (bounds .entry))) (said entry) r (jobIn (r .counts) (now (conditions .exit)) (now (weights .exit)) (now (thresholds .exit)) (now (bounds .exit))) ⌝ }
+    requires { ⌜ Gathered counts (now «raw_conditions») (now «raw_weights») (now thresholds) (now bounds) ⌝ }
+    ensures { λ r. ⌜ Gathered (r .counts) (now («raw_conditions» .exit)) (now («raw_weights» .exit)) (now (thresholds .exit)) (now (bounds .exit))
+        × Stepped (jobIn counts (now («raw_conditions» .entry)) (now («raw_weights» .entry)) (now (thresholds .entry)) (now (bounds .entry))) entry r (jobIn (r .counts) (now («raw_conditions» .exit)) (now («raw_weights» .exit)) (now (thresholds .exit)) (now (bounds .exit))) ⌝ }
 {
     match entry {
-        Entry::Opens(node, bound) => job::open_threshold(counts, node, bound, thresholds, bounds),
-        Entry::Adds(condition, weight) => {
-            job::add_term(counts, condition, weight, conditions, weights, thresholds)
+        Record::Opens(node, bound) => job::open_threshold(counts, node, bound, thresholds, bounds),
+        Record::Adds(condition, weight) => {
+            job::add_term(
+                counts,
+                condition,
+                weight as u64,
+                raw_conditions,
+                raw_weights,
+                thresholds,
+            )
         }
-        Entry::Areas(condition, area) => {
-            job::add_area(counts, condition, area, conditions, weights, thresholds)
+        Record::Areas(condition, area) => {
+            job::add_area(
+                counts,
+                condition,
+                area,
+                raw_conditions,
+                raw_weights,
+                thresholds,
+            )
         }
         _ => Taken {
             refusal: 3,
@@ -123,14 +136,14 @@ fn take_record(
 fn read_job(
     input: &[u8],
     nodes: usize,
-    conditions: &mut [u16],
-    weights: &mut [u32],
+    raw_conditions: &mut [u16],
+    raw_weights: &mut [u64],
     thresholds: &mut [[u16; 2]],
     bounds: &mut [i64],
 ) -> Read
-    requires { ⌜ Gathered (record { nodes = nodes; thresholds = 0; terms = 0 }) (now conditions) (now weights) (now thresholds) (now bounds) ⌝ }
-    ensures { λ r. ⌜ Gathered (r .counts) (now (conditions .exit)) (now (weights .exit)) (now (thresholds .exit)) (now (bounds .exit))
-        × (endedOf (r .sealed) (jobIn (r .counts) (now (conditions .exit)) (now (weights .exit)) (now (thresholds .exit)) (now (bounds .exit))) ≡ jobRead (now (input .entry)) nodes) ⌝ }
+    requires { ⌜ Gathered (record { nodes = nodes; thresholds = 0; terms = 0 }) (now «raw_conditions») (now «raw_weights») (now thresholds) (now bounds) ⌝ }
+    ensures { λ r. ⌜ Gathered (r .counts) (now («raw_conditions» .exit)) (now («raw_weights» .exit)) (now (thresholds .exit)) (now (bounds .exit))
+        × (endedOf (r .sealed) (jobIn (r .counts) (now («raw_conditions» .exit)) (now («raw_weights» .exit)) (now (thresholds .exit)) (now (bounds .exit))) ≡ jobRead (now (input .entry)) nodes) ⌝ }
 {
     let mut counts = Counts {
         nodes: nodes,
@@ -151,7 +164,14 @@ fn read_job(
             break;
         }
         let entry = records::record_at(input, at);
-        let taken = take_record(entry, counts, conditions, weights, thresholds, bounds);
+        let taken = take_record(
+            entry,
+            counts,
+            raw_conditions,
+            raw_weights,
+            thresholds,
+            bounds,
+        );
         let next = taken.counts;
         counts = next;
         if taken.refusal != 0 {
@@ -219,12 +239,12 @@ fn print_links(links: &[u16]) {
     write(b"\n");
 }
 
-fn print_terms_of(r: usize, rows: &[[u16; 3]], conditions: &[u16], weights: &[u64])
-    requires { ⌜ Part 0 (now rows) (length (now conditions)) r × Part 0 (now rows) (length (now weights)) r × Fits (now rows) (now conditions) (now weights) r ⌝ }
+fn print_terms_of(r: usize, rows: &[[u16; 3]], row_conditions: &[u16], row_weights: &[u64])
+    requires { ⌜ Part 0 (now rows) (length (now «row_conditions»)) r × Part 0 (now rows) (length (now «row_weights»)) r × Fits (now rows) (now «row_conditions») (now «row_weights») r ⌝ }
 {
     let a = start_in(rows, r, 0);
     let e = end_in(rows, r, 0);
-    print_terms(&conditions[a..e], &weights[a..e]);
+    print_terms(&row_conditions[a..e], &row_weights[a..e]);
 }
 
 fn print_guards_of(r: usize, rows: &[[u16; 3]], bounds: &[i64], names: &[u16])
@@ -246,17 +266,17 @@ fn print_links_of(r: usize, rows: &[[u16; 3]], links: &[u16])
 fn print_row(
     r: usize,
     rows: &[[u16; 3]],
-    conditions: &[u16],
-    weights: &[u64],
+    row_conditions: &[u16],
+    row_weights: &[u64],
     guard_bounds: &[i64],
     guard_nodes: &[u16],
     links: &[u16],
 )
-    requires { ⌜ Shown (now rows) (now conditions) (now weights) (now «guard_bounds») (now «guard_nodes») (now links) r ⌝ }
+    requires { ⌜ Shown (now rows) (now «row_conditions») (now «row_weights») (now «guard_bounds») (now «guard_nodes») (now links) r ⌝ }
 {
     write(b"row ");
     write_number(r as u64);
-    print_terms_of(r, rows, conditions, weights);
+    print_terms_of(r, rows, row_conditions, row_weights);
     print_guards_of(r, rows, guard_bounds, guard_nodes);
     print_links_of(r, rows, links);
 }
@@ -264,21 +284,21 @@ fn print_row(
 fn print_rows(
     count: usize,
     rows: &[[u16; 3]],
-    conditions: &[u16],
-    weights: &[u64],
+    row_conditions: &[u16],
+    row_weights: &[u64],
     guard_bounds: &[i64],
     guard_nodes: &[u16],
     links: &[u16],
 )
-    requires { ⌜ First count (Shown (now rows) (now conditions) (now weights) (now «guard_bounds») (now «guard_nodes») (now links)) ⌝ }
+    requires { ⌜ First count (Shown (now rows) (now «row_conditions») (now «row_weights») (now «guard_bounds») (now «guard_nodes») (now links)) ⌝ }
 {
     let mut r: usize = 0;
     while r < count {
         print_row(
             r,
             rows,
-            conditions,
-            weights,
+            row_conditions,
+            row_weights,
             guard_bounds,
             guard_nodes,
             links,
@@ -326,8 +346,8 @@ fn print_conditions(count: usize, nodes: &[[u16; 3]], edges: &[[u64; 2]])
 // Builds a sealed job in buffers that are zero, and prints it.
 fn show_in(
     counts: Counts,
-    conditions: &[u16],
-    weights: &[u32],
+    raw_conditions: &[u16],
+    raw_weights: &[u64],
     thresholds: &[[u16; 2]],
     bounds: &[i64],
     row_conditions: &mut [u16],
@@ -338,16 +358,15 @@ fn show_in(
     nodes: &mut [[u16; 3]],
     edges: &mut [[u64; 2]],
     links: &mut [u16],
-    scratch: &mut [u64],
 )
-    requires { ⌜ Gathered counts (now conditions) (now weights) (now thresholds) (now bounds)
-        × Empty (lent (now «row_conditions») (now «row_weights») (now rows) (now «guard_bounds») (now «guard_nodes») (now nodes) (now edges) (now scratch))
+    requires { ⌜ Gathered counts (now «raw_conditions») (now «raw_weights») (now thresholds) (now bounds)
+        × Roomy (built (heldRows (now «row_conditions») (now «row_weights») (now rows) (now «guard_bounds») (now «guard_nodes»)) (now nodes) (now edges) (now links))
         × (2048 ≤ length (now links)) ⌝ }
 {
     let made = job::build(
         counts,
-        conditions,
-        weights,
+        raw_conditions,
+        raw_weights,
         thresholds,
         bounds,
         row_conditions,
@@ -358,7 +377,6 @@ fn show_in(
         nodes,
         edges,
         links,
-        scratch,
     );
     print_rows(
         made,
@@ -375,12 +393,12 @@ fn show_in(
 // The same in buffers of its own.
 fn show(
     counts: Counts,
-    conditions: &[u16],
-    weights: &[u32],
+    raw_conditions: &[u16],
+    raw_weights: &[u64],
     thresholds: &[[u16; 2]],
     bounds: &[i64],
 )
-    requires { ⌜ Gathered counts (now conditions) (now weights) (now thresholds) (now bounds) ⌝ }
+    requires { ⌜ Gathered counts (now «raw_conditions») (now «raw_weights») (now thresholds) (now bounds) ⌝ }
 {
     let mut row_conditions = [0u16; 4096];
     let mut row_weights = [0u64; 4096];
@@ -392,11 +410,10 @@ fn show(
     let nothing = [0u64; 2];
     let mut edges = [nothing; 4096];
     let mut links = [0u16; 2048];
-    let mut scratch = [0u64; 3072];
     show_in(
         counts,
-        conditions,
-        weights,
+        raw_conditions,
+        raw_weights,
         thresholds,
         bounds,
         &mut row_conditions,
@@ -407,7 +424,6 @@ fn show(
         &mut nodes,
         &mut edges,
         &mut links,
-        &mut scratch,
     );
 }
 
@@ -415,20 +431,27 @@ fn show(
 fn run_in(
     input: &[u8],
     nodes: usize,
-    conditions: &mut [u16],
-    weights: &mut [u32],
+    raw_conditions: &mut [u16],
+    raw_weights: &mut [u64],
     thresholds: &mut [[u16; 2]],
     bounds: &mut [i64],
 )
-    requires { ⌜ Gathered (record { nodes = nodes; thresholds = 0; terms = 0 }) (now conditions) (now weights) (now thresholds) (now bounds) ⌝ }
+    requires { ⌜ Gathered (record { nodes = nodes; thresholds = 0; terms = 0 }) (now «raw_conditions») (now «raw_weights») (now thresholds) (now bounds) ⌝ }
 {
-    let read = read_job(input, nodes, conditions, weights, thresholds, bounds);
+    let read = read_job(
+        input,
+        nodes,
+        raw_conditions,
+        raw_weights,
+        thresholds,
+        bounds,
+    );
     if !read.sealed {
         write(b"not a job\n");
         return;
     }
     let counts = read.counts;
-    show(counts, conditions, weights, thresholds, bounds);
+    show(counts, raw_conditions, raw_weights, thresholds, bounds);
 }
 
 fn run(input: &[u8]) {
@@ -437,16 +460,16 @@ fn run(input: &[u8]) {
         write(b"not a job\n");
         return;
     };
-    let mut conditions = [0u16; 4096];
-    let mut weights = [0u32; 4096];
+    let mut raw_conditions = [0u16; 4096];
+    let mut raw_weights = [0u64; 4096];
     let none = [0u16; 2];
     let mut thresholds = [none; 1024];
     let mut bounds = [0i64; 1024];
     run_in(
         input,
         nodes,
-        &mut conditions,
-        &mut weights,
+        &mut raw_conditions,
+        &mut raw_weights,
         &mut thresholds,
         &mut bounds,
     );

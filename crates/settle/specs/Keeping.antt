@@ -10,6 +10,7 @@ use lib.Dec.{eqb}
 use lib.ListN.{length, getD, set}
 use lib.Seq.{getD-set-same, getD-set-other}
 use lib.IntN.{ℤ}
+use Rattle.memory.specs.Buffers.{HeldRows}
 use Rattle.numeric.specs.Threshold.{Threshold}
 use Rattle.state.specs.declared.State.{State}
 use Rattle.state.specs.declared.Step.the-variants.{Unchanged, Changed, Contradiction}
@@ -29,16 +30,16 @@ use Rattle.propagate.specs.Row.{wantsResidual}
 use Rattle.propagate.specs.ScanLaws.{All}
 use Rattle.propagate.specs.Told.{guardState, movedState}
 use Rattle.between.specs.Between.{Index, Live, live, Did, did, stateAt, withState, withDirty, residualQueued, linkedQueued, runWith, runRow, bounded, thresholdGuard, guardOf, conditionFrom, thresholdCondition, termCount, prefixesFrom, thresholdPrefixes}
-use Rattle.between.specs.Held.{Lent, startBy, endBy, GuardsShaped, LinksShaped, HoldsGuards, HoldsLinks}
+use Rattle.between.specs.Held.{startBy, endBy, noThreshold, rowAt, GuardsShaped, LinksShaped, HoldsGuards, HoldsLinks}
 use Rattle.between.specs.HeldLaws.{stretch-cons, stretch-none}
-use Rattle.between.specs.GuardLaws.{noThreshold, guard-not, guard-is}
+use Rattle.between.specs.GuardLaws.{guard-not, guard-is, guard-row}
 use Rattle.between.specs.KeptLaws.{Light}
 use Rattle.follows.specs.Waiting.{Queued, queued-decide}
 use Rattle.follows.specs.Keeps.{Names, run-named, run-keeps}
 use Rattle.follows.specs.RowComplete.{Ordered}
 use Rattle.settle.specs.Serves.{Among, Low, Tracked}
 
-module _ (x : Index) (h : Lent) (Q : Live → Type 0)
+module _ (x : Index) (h : HeldRows) (Q : Live → Type 0)
     (run : (v : Live) (r : ℕ) → r < length (h .rows) → Q v → Q (runRow x v r .live))
     (put : (v : Live) (r : ℕ) (s : State) → Q v → Q (withState v r s))
     (wait : (v : Live) (r : ℕ) → r < length (h .rows) → Q v → Q (withDirty v r)) where
@@ -64,17 +65,17 @@ module _ (x : Index) (h : Lent) (Q : Live → Type 0)
       by true = run _ r k (keep-linked (withState v r (g .state)) r (length (neighbours r (x .links))) k (put v r (g .state) q))
       by false = q
 
-  pub keep-guard-of : (nodes : List (List ℕ)) (limits : List ℤ) → GuardsShaped h nodes limits → HoldsGuards x nodes limits → (n : ℕ) → n < length nodes
+  pub keep-guard-of : (nodes : List (List ℕ)) (bounds : List ℤ) → GuardsShaped h nodes bounds → HoldsGuards x nodes bounds → (n : ℕ) → n < length nodes
       → (v : Live) → Q v → Q (guardOf x v (x .thresholds) n .live)
-  keep-guard-of nodes limits y z n k v q = by (ℕ-discrete (endBy 0 nodes n) 0)
+  keep-guard-of nodes bounds y z n k v q = by (ℕ-discrete (endBy 0 nodes n) 0)
     where
       by : Dec (endBy 0 nodes n ≡ 0) → Q (guardOf x v (x .thresholds) n .live)
-      by (yes e) = subst (λ (d : Did). Q (d .live)) (guard-not x nodes limits z n k v (endBy 0 nodes n) refl e) q
+      by (yes e) = subst (λ (d : Did). Q (d .live)) (guard-not x nodes bounds z n k v (endBy 0 nodes n) refl e) q
       by (no e) =
           let p : 0 < endBy 0 nodes n = omega arith in
-          let f = guard-is x nodes limits z n k v (endBy 0 nodes n) refl p in
+          let f = guard-is x nodes bounds z n k v (endBy 0 nodes n) refl p in
           let g = getD (x .thresholds) (endBy 0 nodes n - 1) noThreshold in
-          let r : rowNumber (x .rows) (g .terms) < length (h .rows) = rw (f .row ∙ z .row n k) (y .rows n k p) in
+          let r : rowAt x (endBy 0 nodes n - 1) < length (h .rows) = rw (guard-row x nodes bounds z n k v (endBy 0 nodes n) refl p (endBy 1 nodes n) refl) (y .rows n k p) in
           subst (λ (d : Did). Q (d .live)) (f .guard) (keep-guard v g r q)
 
   -- A condition.

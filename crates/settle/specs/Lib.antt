@@ -3,4 +3,3 @@ pub mod Keeping
 pub mod TurnLaws
 pub mod Settling
 pub mod Begins
-pub mod Served

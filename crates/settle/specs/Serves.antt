@@ -1,43 +1,34 @@
 -- What shared buffers and a live state must be like so that what waits can be drained.
-use Prim.Native.Nat.{ℕ, zero, suc, _+_, _-_, _*_, _<_, _≤_, _^_}
+use Prim.Native.Nat.{ℕ, zero, suc, _+_, _-_, _*_, _<_, _≤_}
 use mathlib.Core.Path.{_≡_}
 use mathlib.Core.Bool.{Bool, true, cond}
 use mathlib.Core.List.{List}
 use lib.ListN.{length, getD}
 use lib.IntN.{ℤ}
+use Rattle.memory.specs.Limits.{drainLimit, roomLimit}
+use Rattle.memory.specs.Buffers.{HeldRows, Built}
 use Rattle.queues.specs.Queue.{Rows}
 use Rattle.thresholds.specs.Rows.{noRow}
 use Rattle.between.specs.Between.{Index, Live}
-use Rattle.between.specs.Held.{Lent, startBy, endBy, Shaped, EdgesShaped, LinksShaped, GuardsShaped, Holds, HoldsEdges, HoldsLinks, HoldsGuards}
-use Rattle.between.specs.KeptLaws.{Runnable}
+use Rattle.between.specs.Held.{startBy, endBy, Shaped, EdgesShaped, LinksShaped, GuardsShaped, Holds, HoldsEdges, HoldsLinks, HoldsGuards}
+use Rattle.between.specs.Ready.{Runnable}
 use Rattle.ends.specs.Turns.{Indexed, Sound}
 use Rattle.queues.specs.Marks.{Marks, isDecided}
 use Rattle.follows.specs.RowComplete.{Ordered}
 use Rattle.follows.specs.Keeps.{Names}
 use Rattle.follows.specs.Waiting.{Queued}
 
--- The buffers that the seal filled: rows; for each node its threshold, its row and where its edges end; bounds; edges; neighbours.
-pub record Shared : Type 0 where
-  pub rows : Lent
-  pub nodes : List (List ℕ)
-  pub limits : List ℤ
-  pub edges : List (List ℕ)
-  pub links : List ℕ
-
-abbrev pub shared : Lent → List (List ℕ) → List ℤ → List (List ℕ) → List ℕ → Shared
-shared h n l e k = record { rows = h; nodes = n; limits = l; edges = e; links = k }
-
--- They hold the index, whose rows are such as a job gives. Each buffer is lent cut to what is filled of it: `nodes` has an entry for
+-- What the seal built, with the bounds of the thresholds, holds the index, whose rows are such as a job gives. Each buffer is lent cut to what is filled of it: `nodes` has an entry for
 -- each node of the job and no other, and the rows name no node behind them.
-pub record Serves (x : Index) (b : Shared) : Type 0 where
-  pub shaped : Shaped (b .rows)
-  pub edged : EdgesShaped (b .rows) (b .nodes) (b .edges)
-  pub guarded : GuardsShaped (b .rows) (b .nodes) (b .limits)
-  pub linked : LinksShaped (b .rows) (b .links)
-  pub holds : Holds x (b .rows)
+pub record Serves (x : Index) (bounds : List ℤ) (b : Built) : Type 0 where
+  pub shaped : Shaped (b .held)
+  pub edged : EdgesShaped (b .held) (b .nodes) (b .edges)
+  pub guarded : GuardsShaped (b .held) (b .nodes) bounds
+  pub linked : LinksShaped (b .held) (b .links)
+  pub holds : Holds x (b .held)
   pub holds-edges : HoldsEdges x (b .nodes) (b .edges)
-  pub holds-guards : HoldsGuards x (b .nodes) (b .limits)
-  pub holds-links : HoldsLinks x (b .rows) (b .links)
+  pub holds-guards : HoldsGuards x (b .nodes) bounds
+  pub holds-links : HoldsLinks x (b .held) (b .links)
   pub indexed : Indexed x
   pub ordered : (r : ℕ) → r < length (x .rows) → Ordered (getD (x .rows) r noRow)
   pub names : (r : ℕ) → r < length (x .rows) → Names (λ (n : ℕ). n < length (b .nodes)) (getD (x .rows) r noRow)
@@ -63,14 +54,14 @@ pub record Tracked (count n : ℕ) (taken : ℕ → Bool) (v : Live) : Type 0 wh
   pub residuals : Among n (v .residuals)
 
 -- Every row can be run, and its figures have room for the weights of all edges that are still to be drained: each moves a figure by
--- less than 2 ^ 45.
-pub record Within (h : Lent) (nodes : List (List ℕ)) (v : Live) : Type 0 where
+-- less than drainLimit.
+pub record Within (h : HeldRows) (nodes : List (List ℕ)) (v : Live) : Type 0 where
   pub taken : ℕ → Bool
   pub tracked : Tracked (length nodes) (length (h .rows)) taken v
   pub range : ℕ
   pub runnable : Runnable h range v
-  pub room : range + owed nodes taken (length nodes) * 35184372088832 ≤ 2 ^ 60
+  pub room : range + owed nodes taken (length nodes) * drainLimit ≤ roomLimit
 
-pub record Going (h : Lent) (nodes : List (List ℕ)) (v : Live) : Type 0 where
+pub record Going (h : HeldRows) (nodes : List (List ℕ)) (v : Live) : Type 0 where
   pub sound : Sound v
   pub within : Within h nodes v

@@ -3,412 +3,407 @@
 ghost use mathlib.Core.Path.{_≡_};
 ghost use mathlib.Core.Bool.{not, _&&_};
 ghost use mathlib.Core.List.{List};
-ghost use Prim.Native.Nat.{ℕ, _<_, _≤_, _^_};
+ghost use Prim.Native.Nat.{ℕ, _<_, _≤_};
 ghost use lib.Dec.{eqb};
-ghost use lib.ListN.{length, getD};
-ghost use Rattle.state.specs.declared.State.{State};
-ghost use Rattle.queues.specs.Queue.{queue, Rows, rows as queued};
+ghost use lib.ListN.{length};
+ghost use Rattle.memory.specs.Limits.{maxNodes, totalLimit, figureLimit};
+ghost use Rattle.memory.specs.Buffers.{heldRows, built};
+ghost use Rattle.queues.specs.Queue.{queue, oldest, rowsIn};
 ghost use Rattle.queues.specs.RowsLaws.{Flags};
 ghost use Rattle.queues.specs.Marks.{marks};
 ghost use Rattle.queues.specs.MarksLaws.{Waits};
-ghost use Rattle.between.specs.Between.{Index, live, did};
-ghost use Rattle.between.specs.Numbers.{statesOf, Tidy};
-ghost use Rattle.between.specs.Held.{lent, Shaped, LinksShaped, Holds, HoldsLinks};
+ghost use Rattle.between.specs.Between.{Index, did};
+ghost use Rattle.between.specs.Numbers.{statesOf, Tidy, liveOf};
+ghost use Rattle.between.specs.Held.{Shaped, LinksShaped, Holds, HoldsLinks};
 ghost use Rattle.between.specs.FirstLaws.{Totals};
-ghost use Rattle.between.specs.KeptLaws.{Runnable};
+ghost use Rattle.between.specs.Ready.{Runnable};
 ghost use Rattle.regions.specs.Drain.{mark as marked, seal as seals, takeNode, takeRow, turn as turns, settle as settles};
-ghost use Rattle.settle.specs.Serves.{shared, Serves, Among, Going};
-use between::Answer;
-use between::Handed;
-use queues::Decision;
+ghost use Rattle.settle.specs.Serves.{Serves, Among, Going};
+use between::Did;
 use queues::Ring;
+use queues::Rings;
 use state::Step;
 
 // A mark decides its node, which then waits.
 pub fn mark(
-    value: bool,
-    sure: &mut [u64],
-    never: &mut [u64],
-    nodes: &mut [u16],
-    ring: Ring,
-    n: usize,
-) -> Decision
-    requires { ⌜ Waits (marks (now sure) (now never) (queue (now nodes) ring)) × (n < 4096) ⌝ }
-    ensures { λ r. ⌜ ((ss : List State) (d q : Rows) → did (live ss (marks (now (sure .exit)) (now (never .exit)) (queue (now (nodes .exit)) (r .ring))) d q) (r .step)
-        ≡ marked (live ss (marks (now (sure .entry)) (now (never .entry)) (queue (now (nodes .entry)) ring)) d q) n value) ⌝ }
-{
-    queues::decide(value, sure, never, nodes, ring, n)
-}
-
-// A seal gives every row its first state and runs each once.
-pub fn seal(
-    conditions: &[u16],
-    weights: &[u64],
-    rows: &[[u16; 3]],
-    bounds: &[i64],
-    names: &[u16],
     figures: &mut [[i64; 4]],
     cursors: &mut [[usize; 5]],
     sure: &mut [u64],
     never: &mut [u64],
-    nodes: &mut [u16],
-    ring: Ring,
-    items: &mut [u16],
-    pending: &mut [u8],
-    residuals: Ring,
-) -> Answer
-    requires { ⌜ ((x : Index) × Holds x (lent (now conditions) (now weights) (now rows) (now bounds) (now names))) × Shaped (lent (now conditions) (now weights) (now rows) (now bounds) (now names)) × Totals (2 ^ 59) (now conditions) (now weights) (now rows) × (length (now rows) ≤ length (statesOf (now figures) (now cursors))) ⌝ }
-    requires { ⌜ Waits (marks (now sure) (now never) (queue (now nodes) ring)) × Flags (queued (queue (now items) residuals) (now pending)) ⌝ }
-    ensures { λ r. ⌜ ((x : Index) (d : Rows) → Holds x (lent (now (conditions .entry)) (now (weights .entry)) (now (rows .entry)) (now (bounds .entry)) (now (names .entry))) → did (live (statesOf (now (figures .exit)) (now (cursors .exit))) (marks (now (sure .exit)) (now (never .exit)) (queue (now (nodes .exit)) (r .ring))) d (queued (queue (now (items .exit)) (r .residuals)) (now (pending .exit)))) (r .step)
-        ≡ seals x (live (statesOf (now (figures .entry)) (now (cursors .entry))) (marks (now (sure .entry)) (now (never .entry)) (queue (now (nodes .entry)) ring)) d (queued (queue (now (items .entry)) residuals) (now (pending .entry)))))
+    node_queue: &mut [u16],
+    row_queues: &mut [[u16; 4]],
+    rings: Rings,
+    node: usize,
+    value: bool,
+) -> Did
+    requires { ⌜ Waits (marks (now sure) (now never) (queue (now «node_queue») (rings .nodes))) × (node < maxNodes) ⌝ }
+    ensures { λ r. ⌜ (did (liveOf (now (figures .exit)) (now (cursors .exit)) (now (sure .exit)) (now (never .exit)) (now («node_queue» .exit)) (now («row_queues» .exit)) (r .rings)) (r .step)
+        ≡ marked (liveOf (now (figures .entry)) (now (cursors .entry)) (now (sure .entry)) (now (never .entry)) (now («node_queue» .entry)) (now («row_queues» .entry)) rings) node value)
         × (Tidy (now (figures .entry)) (now (cursors .entry)) → Tidy (now (figures .exit)) (now (cursors .exit))) ⌝ }
 {
-    between::first_states(conditions, weights, rows, figures, cursors);
+    let ring = rings.nodes;
+    let made = queues::decide(value, sure, never, node_queue, ring, node);
+    let step = made.step;
+    let next = made.ring;
+    let rows = rings.rows;
+    let residuals = rings.residuals;
+    let stand = Rings {
+        nodes: next,
+        rows: rows,
+        residuals: residuals,
+    };
+    Did {
+        step: step,
+        rings: stand,
+    }
+}
+
+// A seal gives every row its first state and runs each once.
+pub fn seal(
+    row_conditions: &[u16],
+    row_weights: &[u64],
+    rows: &[[u16; 3]],
+    guard_bounds: &[i64],
+    guard_nodes: &[u16],
+    figures: &mut [[i64; 4]],
+    cursors: &mut [[usize; 5]],
+    sure: &mut [u64],
+    never: &mut [u64],
+    node_queue: &mut [u16],
+    row_queues: &mut [[u16; 4]],
+    rings: Rings,
+) -> Did
+    requires { ⌜ ((x : Index) × Holds x (heldRows (now «row_conditions») (now «row_weights») (now rows) (now «guard_bounds») (now «guard_nodes»)))
+        × Shaped (heldRows (now «row_conditions») (now «row_weights») (now rows) (now «guard_bounds») (now «guard_nodes»))
+        × Totals totalLimit (now «row_conditions») (now «row_weights») (now rows) × (length (now rows) ≤ length (statesOf (now figures) (now cursors))) ⌝ }
+    requires { ⌜ Waits (marks (now sure) (now never) (queue (now «node_queue») (rings .nodes))) × Flags (rowsIn 2 (now «row_queues») (rings .residuals)) ⌝ }
+    ensures { λ r. ⌜ ((x : Index) → Holds x (heldRows (now («row_conditions» .entry)) (now («row_weights» .entry)) (now (rows .entry)) (now («guard_bounds» .entry)) (now («guard_nodes» .entry)))
+        → did (liveOf (now (figures .exit)) (now (cursors .exit)) (now (sure .exit)) (now (never .exit)) (now («node_queue» .exit)) (now («row_queues» .exit)) (r .rings)) (r .step)
+        ≡ seals x (liveOf (now (figures .entry)) (now (cursors .entry)) (now (sure .entry)) (now (never .entry)) (now («node_queue» .entry)) (now («row_queues» .entry)) rings))
+        × (Tidy (now (figures .entry)) (now (cursors .entry)) → Tidy (now (figures .exit)) (now (cursors .exit))) ⌝ }
+{
+    between::first_states(row_conditions, row_weights, rows, figures, cursors);
     between::seed_thresholds(
-        conditions,
-        weights,
+        row_conditions,
+        row_weights,
         rows,
-        bounds,
-        names,
+        guard_bounds,
+        guard_nodes,
         figures,
         cursors,
         sure,
         never,
-        nodes,
-        ring,
-        items,
-        pending,
-        residuals,
+        node_queue,
+        row_queues,
+        rings,
     )
 }
 
-// An entry of a queue.
-pub fn entry(items: &[u16], at: usize) -> usize
-    requires { ⌜ at < length (now items) ⌝ }
-    ensures { λ r. ⌜ r ≡ getD (now (items .entry)) at 0 ⌝ }
+// The node that has waited longest.
+fn oldest_node(node_queue: &[u16], ring: Ring) -> usize
+    requires { ⌜ ring .head < length (now «node_queue») ⌝ }
+    ensures { λ r. ⌜ r ≡ oldest (queue (now («node_queue» .entry)) ring) ⌝ }
 {
-    thresholds::place(items[at])
+    let head = ring.head;
+    thresholds::place(node_queue[head])
+}
+
+// The row that has waited longest in the queue whose columns begin at k.
+pub fn oldest_row(row_queues: &[[u16; 4]], k: usize, ring: Ring) -> usize
+    requires { ⌜ (ring .head < length (now «row_queues»)) × (k < 4) ⌝ }
+    ensures { λ r. ⌜ r ≡ oldest (rowsIn k (now («row_queues» .entry)) ring .queue) ⌝ }
+{
+    let head = ring.head;
+    let slot = row_queues[head];
+    thresholds::place(slot[k])
 }
 
 // The oldest node is taken: its guard, then, unless that contradicts, its condition.
 fn take_node(
-    conditions: &[u16],
-    weights: &[u64],
+    row_conditions: &[u16],
+    row_weights: &[u64],
     rows: &[[u16; 3]],
+    guard_bounds: &[i64],
+    guard_nodes: &[u16],
+    nodes: &[[u16; 3]],
     bounds: &[i64],
-    names: &[u16],
-    index: &[[u16; 3]],
-    limits: &[i64],
     edges: &[[u64; 2]],
     figures: &mut [[i64; 4]],
     cursors: &mut [[usize; 5]],
     sure: &mut [u64],
     never: &mut [u64],
-    nodes: &mut [u16],
-    ring: Ring,
-    items: &mut [u16],
-    pending: &mut [u8],
-    residuals: Ring,
-    waiting: &mut [u16],
-    flags: &mut [u8],
-    dirty: Ring,
-) -> Handed
-    requires { ⌜ ((x : Index) × (links : List ℕ) × Serves x (shared (lent (now conditions) (now weights) (now rows) (now bounds) (now names)) (now index) (now limits) (now edges) links)) × (0 < ring .count) ⌝ }
-    requires { ⌜ Going (lent (now conditions) (now weights) (now rows) (now bounds) (now names)) (now index) (live (statesOf (now figures) (now cursors)) (marks (now sure) (now never) (queue (now nodes) ring)) (queued (queue (now waiting) dirty) (now flags)) (queued (queue (now items) residuals) (now pending))) ⌝ }
-    ensures { λ r. ⌜ ((x : Index) (links : List ℕ) → Serves x (shared (lent (now (conditions .entry)) (now (weights .entry)) (now (rows .entry)) (now (bounds .entry)) (now (names .entry))) (now (index .entry)) (now (limits .entry)) (now (edges .entry)) links) → did (live (statesOf (now (figures .exit)) (now (cursors .exit))) (marks (now (sure .exit)) (now (never .exit)) (queue (now (nodes .exit)) (r .answer .ring))) (queued (queue (now (waiting .exit)) (r .dirty)) (now (flags .exit))) (queued (queue (now (items .exit)) (r .answer .residuals)) (now (pending .exit)))) (r .answer .step)
-        ≡ takeNode x (live (statesOf (now (figures .entry)) (now (cursors .entry))) (marks (now (sure .entry)) (now (never .entry)) (queue (now (nodes .entry)) ring)) (queued (queue (now (waiting .entry)) dirty) (now (flags .entry))) (queued (queue (now (items .entry)) residuals) (now (pending .entry)))))
+    node_queue: &mut [u16],
+    row_queues: &mut [[u16; 4]],
+    rings: Rings,
+) -> Did
+    requires { ⌜ ((x : Index) × (links : List ℕ) × Serves x (now bounds)
+        (built (heldRows (now «row_conditions») (now «row_weights») (now rows) (now «guard_bounds») (now «guard_nodes»)) (now nodes) (now edges) links)) × (0 < rings .nodes .count) ⌝ }
+    requires { ⌜ Going (heldRows (now «row_conditions») (now «row_weights») (now rows) (now «guard_bounds») (now «guard_nodes»)) (now nodes)
+        (liveOf (now figures) (now cursors) (now sure) (now never) (now «node_queue») (now «row_queues») rings) ⌝ }
+    ensures { λ r. ⌜ ((x : Index) (links : List ℕ) → Serves x (now (bounds .entry))
+        (built (heldRows (now («row_conditions» .entry)) (now («row_weights» .entry)) (now (rows .entry)) (now («guard_bounds» .entry)) (now («guard_nodes» .entry))) (now (nodes .entry)) (now (edges .entry)) links)
+        → did (liveOf (now (figures .exit)) (now (cursors .exit)) (now (sure .exit)) (now (never .exit)) (now («node_queue» .exit)) (now («row_queues» .exit)) (r .rings)) (r .step)
+        ≡ takeNode x (liveOf (now (figures .entry)) (now (cursors .entry)) (now (sure .entry)) (now (never .entry)) (now («node_queue» .entry)) (now («row_queues» .entry)) rings))
         × (Tidy (now (figures .entry)) (now (cursors .entry)) → Tidy (now (figures .exit)) (now (cursors .exit))) ⌝ }
 {
-    let head = ring.head;
-    let node = entry(nodes, head);
+    let ring = rings.nodes;
+    let node = oldest_node(node_queue, ring);
     let next = queues::popped(ring, 4096);
-    let told = between::guard_at(
-        conditions,
-        weights,
+    let waiting = rings.rows;
+    let residuals = rings.residuals;
+    let stand = Rings {
+        nodes: next,
+        rows: waiting,
+        residuals: residuals,
+    };
+    let told = handing::guard_at(
+        row_conditions,
+        row_weights,
         rows,
+        guard_bounds,
+        guard_nodes,
+        nodes,
         bounds,
-        names,
-        index,
-        limits,
         figures,
         cursors,
-        node,
         sure,
         never,
-        nodes,
-        next,
-        items,
-        pending,
-        residuals,
-        waiting,
-        flags,
-        dirty,
+        node_queue,
+        row_queues,
+        stand,
+        node,
     );
-    let answer = told.answer;
-    let step = answer.step;
+    let step = told.step;
     if step.contradicts() {
         return told;
     }
-    let later = answer.ring;
-    let rest = answer.residuals;
-    let left = told.dirty;
+    let later = told.rings;
     let ran = between::threshold_condition(
-        conditions,
-        weights,
+        row_conditions,
+        row_weights,
         rows,
-        bounds,
-        names,
-        index,
+        guard_bounds,
+        guard_nodes,
+        nodes,
         edges,
         figures,
         cursors,
-        node,
         sure,
         never,
-        nodes,
+        node_queue,
+        row_queues,
         later,
-        items,
-        pending,
-        rest,
+        node,
     );
     let after = ran.step;
-    let last = ran.ring;
-    let kept = ran.residuals;
-    let joined = Answer {
+    let last = ran.rings;
+    Did {
         step: step.join(after),
-        ring: last,
-        residuals: kept,
-    };
-    Handed {
-        answer: joined,
-        dirty: left,
+        rings: last,
     }
 }
 
 // The oldest row that waits to hand on its bounds is taken, and hands them on.
 fn take_row(
-    conditions: &[u16],
-    weights: &[u64],
+    row_conditions: &[u16],
+    row_weights: &[u64],
     rows: &[[u16; 3]],
-    bounds: &[i64],
-    names: &[u16],
+    guard_bounds: &[i64],
+    guard_nodes: &[u16],
     links: &[u16],
     figures: &mut [[i64; 4]],
     cursors: &mut [[usize; 5]],
     sure: &mut [u64],
     never: &mut [u64],
-    nodes: &mut [u16],
-    ring: Ring,
-    items: &mut [u16],
-    pending: &mut [u8],
-    residuals: Ring,
-    waiting: &mut [u16],
-    flags: &mut [u8],
-    dirty: Ring,
-) -> Handed
-    requires { ⌜ Shaped (lent (now conditions) (now weights) (now rows) (now bounds) (now names)) × LinksShaped (lent (now conditions) (now weights) (now rows) (now bounds) (now names)) (now links) × (0 < dirty .count) × Among (length (now rows)) (queued (queue (now waiting) dirty) (now flags)) ⌝ }
-    requires { ⌜ Runnable (lent (now conditions) (now weights) (now rows) (now bounds) (now names)) (2 ^ 61) (live (statesOf (now figures) (now cursors)) (marks (now sure) (now never) (queue (now nodes) ring)) (queued (queue (now waiting) dirty) (now flags)) (queued (queue (now items) residuals) (now pending))) ⌝ }
-    ensures { λ r. ⌜ ((x : Index) → Holds x (lent (now (conditions .entry)) (now (weights .entry)) (now (rows .entry)) (now (bounds .entry)) (now (names .entry))) → HoldsLinks x (lent (now (conditions .entry)) (now (weights .entry)) (now (rows .entry)) (now (bounds .entry)) (now (names .entry))) (now (links .entry)) → did (live (statesOf (now (figures .exit)) (now (cursors .exit))) (marks (now (sure .exit)) (now (never .exit)) (queue (now (nodes .exit)) (r .answer .ring))) (queued (queue (now (waiting .exit)) (r .dirty)) (now (flags .exit))) (queued (queue (now (items .exit)) (r .answer .residuals)) (now (pending .exit)))) (r .answer .step)
-        ≡ takeRow x (live (statesOf (now (figures .entry)) (now (cursors .entry))) (marks (now (sure .entry)) (now (never .entry)) (queue (now (nodes .entry)) ring)) (queued (queue (now (waiting .entry)) dirty) (now (flags .entry))) (queued (queue (now (items .entry)) residuals) (now (pending .entry)))))
+    node_queue: &mut [u16],
+    row_queues: &mut [[u16; 4]],
+    rings: Rings,
+) -> Did
+    requires { ⌜ Shaped (heldRows (now «row_conditions») (now «row_weights») (now rows) (now «guard_bounds») (now «guard_nodes»))
+        × LinksShaped (heldRows (now «row_conditions») (now «row_weights») (now rows) (now «guard_bounds») (now «guard_nodes»)) (now links)
+        × (0 < rings .rows .count) × Among (length (now rows)) (rowsIn 0 (now «row_queues») (rings .rows)) ⌝ }
+    requires { ⌜ Runnable (heldRows (now «row_conditions») (now «row_weights») (now rows) (now «guard_bounds») (now «guard_nodes»)) figureLimit
+        (liveOf (now figures) (now cursors) (now sure) (now never) (now «node_queue») (now «row_queues») rings) ⌝ }
+    ensures { λ r. ⌜ ((x : Index) → Holds x (heldRows (now («row_conditions» .entry)) (now («row_weights» .entry)) (now (rows .entry)) (now («guard_bounds» .entry)) (now («guard_nodes» .entry)))
+        → HoldsLinks x (heldRows (now («row_conditions» .entry)) (now («row_weights» .entry)) (now (rows .entry)) (now («guard_bounds» .entry)) (now («guard_nodes» .entry))) (now (links .entry))
+        → did (liveOf (now (figures .exit)) (now (cursors .exit)) (now (sure .exit)) (now (never .exit)) (now («node_queue» .exit)) (now («row_queues» .exit)) (r .rings)) (r .step)
+        ≡ takeRow x (liveOf (now (figures .entry)) (now (cursors .entry)) (now (sure .entry)) (now (never .entry)) (now («node_queue» .entry)) (now («row_queues» .entry)) rings))
         × (Tidy (now (figures .entry)) (now (cursors .entry)) → Tidy (now (figures .exit)) (now (cursors .exit))) ⌝ }
 {
-    let head = dirty.head;
-    let row = entry(waiting, head);
-    let next = queues::next_row(flags, waiting, dirty);
-    between::threshold_prefixes(
-        conditions,
-        weights,
+    let ring = rings.rows;
+    let row = oldest_row(row_queues, 0, ring);
+    let next = queues::next_row(row_queues, 0, ring);
+    let nodes = rings.nodes;
+    let residuals = rings.residuals;
+    let stand = Rings {
+        nodes: nodes,
+        rows: next,
+        residuals: residuals,
+    };
+    handing::threshold_prefixes(
+        row_conditions,
+        row_weights,
         rows,
-        bounds,
-        names,
+        guard_bounds,
+        guard_nodes,
         links,
         figures,
         cursors,
-        row,
         sure,
         never,
-        nodes,
-        ring,
-        items,
-        pending,
-        residuals,
-        waiting,
-        flags,
-        next,
+        node_queue,
+        row_queues,
+        stand,
+        row,
     )
 }
 
 // Rows wait until no node does.
 fn turn(
-    conditions: &[u16],
-    weights: &[u64],
+    row_conditions: &[u16],
+    row_weights: &[u64],
     rows: &[[u16; 3]],
+    guard_bounds: &[i64],
+    guard_nodes: &[u16],
+    nodes: &[[u16; 3]],
     bounds: &[i64],
-    names: &[u16],
-    index: &[[u16; 3]],
-    limits: &[i64],
     edges: &[[u64; 2]],
     links: &[u16],
     figures: &mut [[i64; 4]],
     cursors: &mut [[usize; 5]],
     sure: &mut [u64],
     never: &mut [u64],
-    nodes: &mut [u16],
-    ring: Ring,
-    items: &mut [u16],
-    pending: &mut [u8],
-    residuals: Ring,
-    waiting: &mut [u16],
-    flags: &mut [u8],
-    dirty: Ring,
-) -> Handed
-    requires { ⌜ ((x : Index) × Serves x (shared (lent (now conditions) (now weights) (now rows) (now bounds) (now names)) (now index) (now limits) (now edges) (now links))) × (ring .count ≡ 0 → 0 < dirty .count) ⌝ }
-    requires { ⌜ Going (lent (now conditions) (now weights) (now rows) (now bounds) (now names)) (now index) (live (statesOf (now figures) (now cursors)) (marks (now sure) (now never) (queue (now nodes) ring)) (queued (queue (now waiting) dirty) (now flags)) (queued (queue (now items) residuals) (now pending))) ⌝ }
-    ensures { λ r. ⌜ ((x : Index) → Serves x (shared (lent (now (conditions .entry)) (now (weights .entry)) (now (rows .entry)) (now (bounds .entry)) (now (names .entry))) (now (index .entry)) (now (limits .entry)) (now (edges .entry)) (now (links .entry))) → did (live (statesOf (now (figures .exit)) (now (cursors .exit))) (marks (now (sure .exit)) (now (never .exit)) (queue (now (nodes .exit)) (r .answer .ring))) (queued (queue (now (waiting .exit)) (r .dirty)) (now (flags .exit))) (queued (queue (now (items .exit)) (r .answer .residuals)) (now (pending .exit)))) (r .answer .step)
-        ≡ turns x (live (statesOf (now (figures .entry)) (now (cursors .entry))) (marks (now (sure .entry)) (now (never .entry)) (queue (now (nodes .entry)) ring)) (queued (queue (now (waiting .entry)) dirty) (now (flags .entry))) (queued (queue (now (items .entry)) residuals) (now (pending .entry)))))
+    node_queue: &mut [u16],
+    row_queues: &mut [[u16; 4]],
+    rings: Rings,
+) -> Did
+    requires { ⌜ ((x : Index) × Serves x (now bounds)
+        (built (heldRows (now «row_conditions») (now «row_weights») (now rows) (now «guard_bounds») (now «guard_nodes»)) (now nodes) (now edges) (now links))) × (rings .nodes .count ≡ 0 → 0 < rings .rows .count) ⌝ }
+    requires { ⌜ Going (heldRows (now «row_conditions») (now «row_weights») (now rows) (now «guard_bounds») (now «guard_nodes»)) (now nodes)
+        (liveOf (now figures) (now cursors) (now sure) (now never) (now «node_queue») (now «row_queues») rings) ⌝ }
+    ensures { λ r. ⌜ ((x : Index) → Serves x (now (bounds .entry))
+        (built (heldRows (now («row_conditions» .entry)) (now («row_weights» .entry)) (now (rows .entry)) (now («guard_bounds» .entry)) (now («guard_nodes» .entry))) (now (nodes .entry)) (now (edges .entry)) (now (links .entry)))
+        → did (liveOf (now (figures .exit)) (now (cursors .exit)) (now (sure .exit)) (now (never .exit)) (now («node_queue» .exit)) (now («row_queues» .exit)) (r .rings)) (r .step)
+        ≡ turns x (liveOf (now (figures .entry)) (now (cursors .entry)) (now (sure .entry)) (now (never .entry)) (now («node_queue» .entry)) (now («row_queues» .entry)) rings))
         × (Tidy (now (figures .entry)) (now (cursors .entry)) → Tidy (now (figures .exit)) (now (cursors .exit))) ⌝ }
 {
+    let ring = rings.nodes;
     let count = ring.count;
     if count == 0 {
         return take_row(
-            conditions,
-            weights,
+            row_conditions,
+            row_weights,
             rows,
-            bounds,
-            names,
+            guard_bounds,
+            guard_nodes,
             links,
             figures,
             cursors,
             sure,
             never,
-            nodes,
-            ring,
-            items,
-            pending,
-            residuals,
-            waiting,
-            flags,
-            dirty,
+            node_queue,
+            row_queues,
+            rings,
         );
     }
     take_node(
-        conditions,
-        weights,
+        row_conditions,
+        row_weights,
         rows,
+        guard_bounds,
+        guard_nodes,
+        nodes,
         bounds,
-        names,
-        index,
-        limits,
         edges,
         figures,
         cursors,
         sure,
         never,
-        nodes,
-        ring,
-        items,
-        pending,
-        residuals,
-        waiting,
-        flags,
-        dirty,
+        node_queue,
+        row_queues,
+        rings,
     )
 }
 
 // A node waits, or a row.
-fn waits(ring: Ring, dirty: Ring) -> bool
-    ensures { λ r. ⌜ r ≡ not (eqb (ring .count) 0 && eqb (dirty .count) 0) ⌝ }
+fn waits(rings: Rings) -> bool
+    ensures { λ r. ⌜ r ≡ not (eqb (rings .nodes .count) 0 && eqb (rings .rows .count) 0) ⌝ }
 {
-    let nodes = ring.count;
-    if nodes != 0 {
+    let nodes = rings.nodes;
+    let count = nodes.count;
+    if count != 0 {
         return true;
     }
-    let rows = dirty.count;
-    rows != 0
+    let rows = rings.rows;
+    let left = rows.count;
+    left != 0
 }
 
 // Turns until nothing waits or one contradicts.
 pub fn settle(
-    conditions: &[u16],
-    weights: &[u64],
+    row_conditions: &[u16],
+    row_weights: &[u64],
     rows: &[[u16; 3]],
+    guard_bounds: &[i64],
+    guard_nodes: &[u16],
+    nodes: &[[u16; 3]],
     bounds: &[i64],
-    names: &[u16],
-    index: &[[u16; 3]],
-    limits: &[i64],
     edges: &[[u64; 2]],
     links: &[u16],
     figures: &mut [[i64; 4]],
     cursors: &mut [[usize; 5]],
     sure: &mut [u64],
     never: &mut [u64],
-    nodes: &mut [u16],
-    ring: Ring,
-    items: &mut [u16],
-    pending: &mut [u8],
-    residuals: Ring,
-    waiting: &mut [u16],
-    flags: &mut [u8],
-    dirty: Ring,
-) -> Handed
-    requires { ⌜ ((x : Index) × Serves x (shared (lent (now conditions) (now weights) (now rows) (now bounds) (now names)) (now index) (now limits) (now edges) (now links))) ⌝ }
-    requires { ⌜ Going (lent (now conditions) (now weights) (now rows) (now bounds) (now names)) (now index) (live (statesOf (now figures) (now cursors)) (marks (now sure) (now never) (queue (now nodes) ring)) (queued (queue (now waiting) dirty) (now flags)) (queued (queue (now items) residuals) (now pending))) ⌝ }
-    ensures { λ r. ⌜ ((x : Index) → Serves x (shared (lent (now (conditions .entry)) (now (weights .entry)) (now (rows .entry)) (now (bounds .entry)) (now (names .entry))) (now (index .entry)) (now (limits .entry)) (now (edges .entry)) (now (links .entry))) → did (live (statesOf (now (figures .exit)) (now (cursors .exit))) (marks (now (sure .exit)) (now (never .exit)) (queue (now (nodes .exit)) (r .answer .ring))) (queued (queue (now (waiting .exit)) (r .dirty)) (now (flags .exit))) (queued (queue (now (items .exit)) (r .answer .residuals)) (now (pending .exit)))) (r .answer .step)
-        ≡ settles x (live (statesOf (now (figures .entry)) (now (cursors .entry))) (marks (now (sure .entry)) (now (never .entry)) (queue (now (nodes .entry)) ring)) (queued (queue (now (waiting .entry)) dirty) (now (flags .entry))) (queued (queue (now (items .entry)) residuals) (now (pending .entry)))))
+    node_queue: &mut [u16],
+    row_queues: &mut [[u16; 4]],
+    rings: Rings,
+) -> Did
+    requires { ⌜ ((x : Index) × Serves x (now bounds)
+        (built (heldRows (now «row_conditions») (now «row_weights») (now rows) (now «guard_bounds») (now «guard_nodes»)) (now nodes) (now edges) (now links))) ⌝ }
+    requires { ⌜ Going (heldRows (now «row_conditions») (now «row_weights») (now rows) (now «guard_bounds») (now «guard_nodes»)) (now nodes)
+        (liveOf (now figures) (now cursors) (now sure) (now never) (now «node_queue») (now «row_queues») rings) ⌝ }
+    ensures { λ r. ⌜ ((x : Index) → Serves x (now (bounds .entry))
+        (built (heldRows (now («row_conditions» .entry)) (now («row_weights» .entry)) (now (rows .entry)) (now («guard_bounds» .entry)) (now («guard_nodes» .entry))) (now (nodes .entry)) (now (edges .entry)) (now (links .entry)))
+        → did (liveOf (now (figures .exit)) (now (cursors .exit)) (now (sure .exit)) (now (never .exit)) (now («node_queue» .exit)) (now («row_queues» .exit)) (r .rings)) (r .step)
+        ≡ settles x (liveOf (now (figures .entry)) (now (cursors .entry)) (now (sure .entry)) (now (never .entry)) (now («node_queue» .entry)) (now («row_queues» .entry)) rings))
         × (Tidy (now (figures .entry)) (now (cursors .entry)) → Tidy (now (figures .exit)) (now (cursors .exit))) ⌝ }
 {
-    let mut so_far = Answer {
+    let mut so_far = Did {
         step: Step::Unchanged,
-        ring: ring,
-        residuals: residuals,
+        rings: rings,
     };
-    let mut left = dirty;
-    let mut busy = waits(ring, dirty);
+    let mut busy = waits(rings);
     while busy {
-        let next = so_far.ring;
-        let kept = so_far.residuals;
-        let did = turn(
-            conditions,
-            weights,
+        let next = so_far.rings;
+        let turned = turn(
+            row_conditions,
+            row_weights,
             rows,
+            guard_bounds,
+            guard_nodes,
+            nodes,
             bounds,
-            names,
-            index,
-            limits,
             edges,
             links,
             figures,
             cursors,
             sure,
             never,
-            nodes,
+            node_queue,
+            row_queues,
             next,
-            items,
-            pending,
-            kept,
-            waiting,
-            flags,
-            left,
         );
-        let answer = did.answer;
-        let step = answer.step;
+        let step = turned.step;
         if step.contradicts() {
-            return did;
+            return turned;
         }
         let before = so_far.step;
-        let later = answer.ring;
-        let rest = answer.residuals;
-        let queue = did.dirty;
-        so_far = Answer {
+        let later = turned.rings;
+        so_far = Did {
             step: before.join(step),
-            ring: later,
-            residuals: rest,
+            rings: later,
         };
-        left = queue;
-        busy = waits(later, queue);
+        busy = waits(later);
     }
-    Handed {
-        answer: so_far,
-        dirty: left,
-    }
+    so_far
 }

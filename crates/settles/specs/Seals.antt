@@ -1,4 +1,4 @@
--- A SEAL on blank memory begins the invariant, or contradicts.
+-- A SEAL begins the invariant, or contradicts, whatever nodes are decided, if all of them wait and none was drained.
 use Prim.Native.Nat.{_≤_}
 use native.Mathlib.Omega.{arith}
 use lib.ListN.{length}
@@ -9,9 +9,8 @@ use Rattle.between.specs.Between.{Live, live, firstStates}
 use Rattle.regions.specs.Drain.{indexOf, seal}
 use Rattle.ends.specs.Turns as Turns
 use Rattle.ends.specs.Built.{Fits, rows-few, first-long}
-use Rattle.ends.specs.Blank.{Blank}
 use Rattle.table.specs.Table.{Table, start}
-use Rattle.follows.specs.First.{first-blank}
+use Rattle.follows.specs.First.{Undrained, first-undrained}
 use Rattle.settles.specs.Jobs.{Rises, job-built, job-ordered, job-single}
 use Rattle.settles.specs.Turned.{Goes, seeds-go}
 
@@ -19,11 +18,11 @@ use Rattle.settles.specs.Turned.{Goes, seeds-go}
 abbrev pub ownStart : Live → Table
 ownStart v = start (bit (v .marks .sure)) (bit (v .marks .never))
 
-pub seal-goes : (j : Job) → Fits j → Rises (j .thresholds) → (v : Live) → Turns.Sound v → Blank v → Goes (indexOf j) (ownStart v) (seal (indexOf j) v)
+pub seal-goes : (j : Job) → Fits j → Rises (j .thresholds) → (v : Live) → Turns.Sound v → Undrained (length (rowsOf j)) v → Goes (indexOf j) (ownStart v) (seal (indexOf j) v)
 unfolding seal
 seal-goes j f rises v s u =
     seeds-go j (indexOf j) (job-built j) (job-ordered j f) (job-single j rises) (ownStart v) (live (firstStates 0 (rowsOf j) (v .states)) (v .marks) (v .dirty) (v .residuals))
-    (first-blank (indexOf j) v (omega (arith, few, s .long)) (omega (arith, few, s .dirty .long)) (first-long 0 (rowsOf j) (v .states)) (s .waits) (u .states) (u .bits))
+    (first-undrained (indexOf j) v (omega (arith, few, s .long)) (omega (arith, few, s .dirty .long)) (first-long 0 (rowsOf j) (v .states)) u)
   where
     few : length (rowsOf j) ≤ 1024
     few = rows-few j f

@@ -9,10 +9,10 @@ use Rattle.queues.specs.RowsLaws.{Flags}
 use Rattle.thresholds.specs.Rows.{rowsOf}
 use Rattle.between.specs.Between.{Live, stateAt}
 use Rattle.regions.specs.Drain.{indexOf, atRest}
-use Rattle.records.specs.Record.{settle}
-use Rattle.planner.specs.File.{File, refusal, apply, settledFile}
+use Rattle.records.specs.declared.Record.the-variants.{Settle}
+use Rattle.planner.specs.File.{File, contradicted, refusal, settledFile, act, apply}
 use Rattle.ends.specs.Built.{Fits}
-use Rattle.ends.specs.Files.{good-apply, rests-settle}
+use Rattle.ends.specs.Files.{taken, good-apply, rests-settle}
 use Rattle.table.specs.Table.{Table, knownOf, possibleOf, AtRest, Ended}
 use Rattle.table.specs.TableLaws.{le-both, only-end, conflict-up}
 use Rattle.follows.specs.Decide.{Broken}
@@ -53,12 +53,12 @@ one-table j s v w h k =
     (k .steady .2 .stands .follows (tableAt v) (h .steady .2 .stands .above) (rests j s v h))
 
 -- A SETTLING THAT DOES NOT CONTRADICT
-pub settle-still : (f : File) → Keeps f → refusal f settle ≡ 0 → (s : Table) → From f s → apply f settle .contradicted ≡ false → Still (f .job) s (apply f settle .live)
-unfolding apply settledFile
+pub settle-still : (f : File) → Keeps f → refusal f Settle ≡ 0 → (s : Table) → From f s → contradicted (apply f Settle) ≡ false → Still (f .closed) s (apply f Settle .live)
+unfolding apply act settledFile
 settle-still f k h s from c = record {
-  fits = k .good .job;
-  rises = k .rises;
-  steady = settle-from f k s h from .0 refl c;
+  fits = k .good .closed;
+  rises = k .closed;
+  steady = settle-from f k s (taken f Settle h) from .0 refl c;
   rest = rests-settle f (k .good) c;
-  flags = good-apply f (k .good) settle h .live .dirty;
+  flags = good-apply f (k .good) Settle h .live .dirty;
 }

@@ -1,6 +1,6 @@
 -- The loop of `sift`: what holds between two rounds. Rounds never run out, since each leaves less to do than there are rounds left.
 -- Assumes nothing.
-use Prim.Native.Nat.{ℕ, zero, suc, _+_, _<_, _≤_, _^_}
+use Prim.Native.Nat.{ℕ, zero, suc, _+_, _<_, _≤_}
 use native.Mathlib.Nat.{not-suc-le-zero}
 use native.Mathlib.Omega.{arith}
 use mathlib.Core.Path.{_≡_, refl, sym, ap, subst, _∙_}
@@ -8,20 +8,22 @@ use mathlib.Core.Bool.{Bool, true, false, cond}
 use mathlib.Core.List.{List}
 use lib.ListN.{length}
 use lib.IntN.{ℤ}
+use Rattle.memory.specs.Limits.{figureLimit}
+use Rattle.memory.specs.Buffers.{Built}
 use Rattle.state.specs.declared.Step.{Step}
 use Rattle.state.specs.declared.Step.the-variants.{Unchanged, Changed, Contradiction}
 use Rattle.state.specs.Step.{joined, contradicts}
 use Rattle.queues.specs.Queue.{isEmpty}
-use Rattle.between.specs.Between.{Index, Live, Did, did}
+use Rattle.between.specs.Between.{Index, Live, Did}
 use Rattle.between.specs.LoopLaws.{joined-assoc}
 use Rattle.between.specs.KeptLaws.{runnable-more}
-use Rattle.regions.specs.Drain.{turn, atRest, drain, turns, settle}
+use Rattle.regions.specs.Drain.{turns, settle}
 use Rattle.regions.specs.Sift.{Sifted, sifted, tryRow, siftFrom, sift}
 use Rattle.ends.specs.Turns.{left, left-most}
 use Rattle.ends.specs.Settles.{settle-stays, fall-try}
 use Rattle.follows.specs.Answers.{clash}
-use Rattle.settle.specs.Serves.{Shared, Serves, Going}
-use Rattle.settle.specs.TurnLaws.{going-turn}
+use Rattle.settle.specs.Serves.{Serves, Going}
+use Rattle.settle.specs.Settling.{going-settle}
 use Rattle.sift.specs.Tries.{Scratch, Short, Tries, Round, round, once}
 use Rattle.sift.specs.TryLaws.{going-try}
 
@@ -117,40 +119,24 @@ module _ (x : Index) (v : Live) (gcds : List ℕ) (visits : ℕ) (d : Did) (made
 
 -- ---- what can be drained stays such
 
-module _ (x : Index) (b : Shared) (s : Serves x b) where
-  abbrev drains : ℕ → Live → Step → Bool → Bool → Did
-  drains n v k rest contradiction = elim rest [ true ↦ did v k | false ↦ elim contradiction [ true ↦ turn x v | false ↦ drain n x (turn x v .live) (joined k (turn x v .step)) ] ]
-
-  going-drain : (n : ℕ) (v : Live) (k : Step) → Going (b .rows) (b .nodes) v → Going (b .rows) (b .nodes) (drain n x v k .live)
-  unfolding drain
-  going-drain zero v k g = g
-  going-drain (suc n) v k g = by (λ u j h. going-drain n u j h) (atRest v) refl (contradicts (turn x v .step))
-    where
-      by : ((u : Live) (j : Step) → Going (b .rows) (b .nodes) u → Going (b .rows) (b .nodes) (drain n x u j .live)) → (a : Bool) → atRest v ≡ a → (c : Bool) → Going (b .rows) (b .nodes) (drains n v k a c .live)
-      by more true e c = g
-      by more false e true = going-turn x b s v g e
-      by more false e false = more (turn x v .live) (joined k (turn x v .step)) (going-turn x b s v g e)
-
-  pub going-settle : (v : Live) → Going (b .rows) (b .nodes) v → Going (b .rows) (b .nodes) (settle x v .live)
-  going-settle v g = going-drain turns v Unchanged g
-
+module _ (x : Index) (bounds : List ℤ) (b : Built) (s : Serves x bounds b) where
   -- What was settled can be tried.
-  pub settled-tries : (v : Live) → Going (b .rows) (b .nodes) v → (d : Did) → d ≡ settle x v → 0 < d .live .residuals .queue .ring .count → (gcds words : List ℕ) → Short (b .rows .rows) → Scratch gcds words
-      → Tries (b .rows) (d .live .states) (d .live .marks) (d .live .residuals) gcds words
+  pub settled-tries : (v : Live) → Going (b .held) (b .nodes) v → (d : Did) → d ≡ settle x v → 0 < d .live .residuals .queue .ring .count → (gcds words : List ℕ) → Short (b .held .rows) → Scratch gcds words
+      → Tries (b .held) (d .live) gcds words
   settled-tries v g d made some gcds words short scratch =
-      let w = subst (λ (o : Did). Going (b .rows) (b .nodes) (o .live)) (sym made) (going-settle v g) .within in
+      let w = subst (λ (o : Did). Going (b .held) (b .nodes) (o .live)) (sym made) (going-settle x bounds b s v g) .within in
       record {
         shaped = s .shaped;
         short = short;
-        ready = runnable-more (b .rows) (w .range) (2 ^ 61) (d .live) (omega (arith, w .room)) (w .runnable) .ready;
+        ready = runnable-more (b .held) (w .range) figureLimit (d .live) (omega (arith, w .room)) (w .runnable) .ready;
         among = w .tracked .residuals;
         some = some;
         scratch = scratch;
       }
 
   -- A round keeps it, and leaves less to do where there is another.
-  pub going-once : (v : Live) (gcds : List ℕ) (visits : ℕ) → Going (b .rows) (b .nodes) v
-      → Going (b .rows) (b .nodes) (once x v gcds visits .sifted .live) × (left (once x v gcds visits .sifted .live) + cond (once x v gcds visits .more) 1 0 ≤ left v)
+  pub going-once : (v : Live) (gcds : List ℕ) (visits : ℕ) → Going (b .held) (b .nodes) v
+      → Going (b .held) (b .nodes) (once x v gcds visits .sifted .live) × (left (once x v gcds visits .sifted .live) + cond (once x v gcds visits .more) 1 0 ≤ left v)
   unfolding once
   going-once v gcds visits g = by (contradicts (d .step)) (isEmpty (d .live .residuals .queue)) refl
     where
@@ -160,13 +146,35 @@ module _ (x : Index) (b : Shared) (s : Serves x b) where
       t : Sifted
       t = tryRow x (d .live) gcds visits
 
-      by : (a c : Bool) → isEmpty (d .live .residuals .queue) ≡ c → Going (b .rows) (b .nodes) (picks d t gcds visits a c .sifted .live) × (left (picks d t gcds visits a c .sifted .live) + cond (picks d t gcds visits a c .more) 1 0 ≤ left v)
-      by true c e = (going-settle v g, omega (arith, settle-stays x (s .indexed) v (g .sound) .1))
-      by false true e = (going-settle v g, omega (arith, settle-stays x (s .indexed) v (g .sound) .1))
+      by : (a c : Bool) → isEmpty (d .live .residuals .queue) ≡ c → Going (b .held) (b .nodes) (picks d t gcds visits a c .sifted .live) × (left (picks d t gcds visits a c .sifted .live) + cond (picks d t gcds visits a c .more) 1 0 ≤ left v)
+      by true c e = (going-settle x bounds b s v g, omega (arith, settle-stays x (s .indexed) v (g .sound) .1))
+      by false true e = (going-settle x bounds b s v g, omega (arith, settle-stays x (s .indexed) v (g .sound) .1))
       by false false e = (
-        going-try x b s (d .live) (going-settle v g) gcds visits e,
+        going-try x bounds b s (d .live) (going-settle x bounds b s v g) gcds visits e,
         omega (arith, settle-stays x (s .indexed) v (g .sound) .1, fall-try x (s .indexed) (d .live) gcds visits (settle-stays x (s .indexed) v (g .sound) .0) e .1),
       )
+
+-- Behind all rounds too, whatever they answer.
+module _ (x : Index) (bounds : List ℤ) (b : Built) (s : Serves x bounds b) where
+  going-from : (n : ℕ) (v : Live) (gcds : List ℕ) (k : Step) (visits : ℕ) → Going (b .held) (b .nodes) v → Going (b .held) (b .nodes) (siftFrom n x v gcds k visits .live)
+  unfolding siftFrom
+  going-from zero v gcds k visits g = g
+  going-from (suc n) v gcds k visits g =
+      subst (λ (t : Sifted). Going (b .held) (b .nodes) (t .live)) (sift-round x n v gcds k visits)
+      (by (λ u c i m h. going-from n u c i m h) (once x v gcds visits) (going-once x bounds b s v gcds visits g .0))
+    where
+      by : ((u : Live) (c : List ℕ) (i : Step) (m : ℕ) → Going (b .held) (b .nodes) u → Going (b .held) (b .nodes) (siftFrom n x u c i m .live))
+          → (o : Round) → Going (b .held) (b .nodes) (o .sifted .live) → Going (b .held) (b .nodes) (goesOn k o (siftFrom n x) .live)
+      by more o h = goes (contradicts (o .sifted .step)) (o .more)
+        where
+          goes : (c m : Bool) → let t = o .sifted in
+              Going (b .held) (b .nodes) (cond c t (cond m (siftFrom n x (t .live) (t .gcds) (joined k (t .step)) (t .visits)) (sifted (t .live) (t .gcds) (joined k (t .step)) (t .visits))) .live)
+          goes true m = h
+          goes false true = more (o .sifted .live) (o .sifted .gcds) (joined k (o .sifted .step)) (o .sifted .visits) h
+          goes false false = h
+
+  pub going-sift : (v : Live) (gcds : List ℕ) → Going (b .held) (b .nodes) v → Going (b .held) (b .nodes) (sift x v gcds .live)
+  going-sift v gcds g = going-from turns v gcds Unchanged 0 g
 
 -- ---- the loop
 
@@ -175,26 +183,26 @@ abbrev Rest : Index → Live → List ℕ → Step → ℕ → Bool → Live →
 Rest x v₀ gcds₀ k visits true v gcds = (n : ℕ) × (left v < n) × (siftFrom n x v gcds k visits ≡ sift x v₀ gcds₀)
 Rest x v₀ gcds₀ k visits false v gcds = sifted v gcds k visits ≡ sift x v₀ gcds₀
 
-pub record Sifting (b : Shared) (v₀ : Live) (gcds₀ : List ℕ) (k : Step) (visits : ℕ) (more : Bool) (v : Live) (gcds : List ℕ) : Type 0 where
-  pub going : Going (b .rows) (b .nodes) v
-  pub whole : (x : Index) → Serves x b → Rest x v₀ gcds₀ k visits more v gcds
+pub record Sifting (bounds : List ℤ) (b : Built) (v₀ : Live) (gcds₀ : List ℕ) (k : Step) (visits : ℕ) (more : Bool) (v : Live) (gcds : List ℕ) : Type 0 where
+  pub going : Going (b .held) (b .nodes) v
+  pub whole : (x : Index) → Serves x bounds b → Rest x v₀ gcds₀ k visits more v gcds
 
-pub sifting-first : (b : Shared) (v₀ : Live) (gcds₀ : List ℕ) → Going (b .rows) (b .nodes) v₀ → Sifting b v₀ gcds₀ Unchanged 0 true v₀ gcds₀
-sifting-first b v₀ gcds₀ g = record { going = g; whole = λ x s. (turns, left-most v₀ (g .sound), refl) }
+pub sifting-first : (bounds : List ℤ) (b : Built) (v₀ : Live) (gcds₀ : List ℕ) → Going (b .held) (b .nodes) v₀ → Sifting bounds b v₀ gcds₀ Unchanged 0 true v₀ gcds₀
+sifting-first bounds b v₀ gcds₀ g = record { going = g; whole = λ x s. (turns, left-most v₀ (g .sound), refl) }
 
-module _ (b : Shared) (v₀ : Live) (gcds₀ : List ℕ) (k : Step) (visits : ℕ) (more : Bool) (v : Live) (gcds : List ℕ) (l : Sifting b v₀ gcds₀ k visits more v gcds) where
-  pub sifting-end : more ≡ false → (x : Index) → Serves x b → sifted v gcds k visits ≡ sift x v₀ gcds₀
+module _ (bounds : List ℤ) (b : Built) (v₀ : Live) (gcds₀ : List ℕ) (k : Step) (visits : ℕ) (more : Bool) (v : Live) (gcds : List ℕ) (l : Sifting bounds b v₀ gcds₀ k visits more v gcds) where
+  pub sifting-end : more ≡ false → (x : Index) → Serves x bounds b → sifted v gcds k visits ≡ sift x v₀ gcds₀
   sifting-end e x s = subst (λ (i : Bool). Rest x v₀ gcds₀ k visits i v gcds) e (l .whole x s)
 
   -- A round was made.
-  module _ (again : more ≡ true) (o : Round) (made : (x : Index) → Serves x b → o ≡ once x v gcds visits) where
-    there : (x : Index) → Serves x b → Rest x v₀ gcds₀ k visits true v gcds
+  module _ (again : more ≡ true) (o : Round) (made : (x : Index) → Serves x bounds b → o ≡ once x v gcds visits) where
+    there : (x : Index) → Serves x bounds b → Rest x v₀ gcds₀ k visits true v gcds
     there x s = subst (λ (i : Bool). Rest x v₀ gcds₀ k visits i v gcds) again (l .whole x s)
 
-    turned : (x : Index) → Serves x b → (n : ℕ) → siftFrom (suc n) x v gcds k visits ≡ sift x v₀ gcds₀ → goesOn k o (siftFrom n x) ≡ sift x v₀ gcds₀
+    turned : (x : Index) → Serves x bounds b → (n : ℕ) → siftFrom (suc n) x v gcds k visits ≡ sift x v₀ gcds₀ → goesOn k o (siftFrom n x) ≡ sift x v₀ gcds₀
     turned x s n q = ap (λ (i : Round). goesOn k i (siftFrom n x)) (made x s) ∙ sift-round x n v gcds k visits ∙ q
 
-    pub sifting-stop : contradicts (o .sifted .step) ≡ true → (x : Index) → Serves x b → o .sifted ≡ sift x v₀ gcds₀
+    pub sifting-stop : contradicts (o .sifted .step) ≡ true → (x : Index) → Serves x bounds b → o .sifted ≡ sift x v₀ gcds₀
     sifting-stop c x s = let a = there x s in by (a .0) (a .1) (a .2)
       where
         by : (n : ℕ) → left v < n → siftFrom n x v gcds k visits ≡ sift x v₀ gcds₀ → o .sifted ≡ sift x v₀ gcds₀
@@ -204,13 +212,13 @@ module _ (b : Shared) (v₀ : Live) (gcds₀ : List ℕ) (k : Step) (visits : �
             ap (λ (i : Bool). cond i u (cond (o .more) (siftFrom n x (u .live) (u .gcds) (joined k (u .step)) (u .visits)) (sifted (u .live) (u .gcds) (joined k (u .step)) (u .visits)))) (sym c)
             ∙ turned x s n q
 
-    less : (x : Index) → Serves x b → left (o .sifted .live) + cond (o .more) 1 0 ≤ left v
-    less x s = subst (λ (i : Round). left (i .sifted .live) + cond (i .more) 1 0 ≤ left v) (sym (made x s)) (going-once x b s v gcds visits (l .going) .1)
+    less : (x : Index) → Serves x bounds b → left (o .sifted .live) + cond (o .more) 1 0 ≤ left v
+    less x s = subst (λ (i : Round). left (i .sifted .live) + cond (i .more) 1 0 ≤ left v) (sym (made x s)) (going-once x bounds b s v gcds visits (l .going) .1)
 
-    pub sifting-less : (x : Index) → Serves x b → left (o .sifted .live) + cond (o .more) 1 0 < left v + cond more 1 0
+    pub sifting-less : (x : Index) → Serves x bounds b → left (o .sifted .live) + cond (o .more) 1 0 < left v + cond more 1 0
     sifting-less x s = let e : _≡_ {A = ℕ} (cond more 1 0) 1 = ap (λ (i : Bool). cond i 1 0) again in omega (arith, less x s)
 
-    rest-next : (x : Index) → Serves x b → (n : ℕ) → left v < suc n → goesOn k o (siftFrom n x) ≡ sift x v₀ gcds₀ → contradicts (o .sifted .step) ≡ false → (j : Step) → j ≡ joined k (o .sifted .step)
+    rest-next : (x : Index) → Serves x bounds b → (n : ℕ) → left v < suc n → goesOn k o (siftFrom n x) ≡ sift x v₀ gcds₀ → contradicts (o .sifted .step) ≡ false → (j : Step) → j ≡ joined k (o .sifted .step)
         → (m : Bool) → o .more ≡ m → Rest x v₀ gcds₀ j (o .sifted .visits) m (o .sifted .live) (o .sifted .gcds)
     rest-next x s n h q c j i true e =
         let u = o .sifted in (
@@ -226,30 +234,16 @@ module _ (b : Shared) (v₀ : Live) (gcds₀ : List ℕ) (k : Step) (visits : �
         ∙ ap (λ (z : Bool). cond z (siftFrom n x (u .live) (u .gcds) (joined k (u .step)) (u .visits)) (sifted (u .live) (u .gcds) (joined k (u .step)) (u .visits))) (sym e)
         ∙ ap (λ (z : Bool). cond z u (cond (o .more) (siftFrom n x (u .live) (u .gcds) (joined k (u .step)) (u .visits)) (sifted (u .live) (u .gcds) (joined k (u .step)) (u .visits)))) (sym c) ∙ q
 
-    pub sifting-next : (x : Index) → Serves x b → contradicts (o .sifted .step) ≡ false → (j : Step) → j ≡ joined k (o .sifted .step)
-        → Sifting b v₀ gcds₀ j (o .sifted .visits) (o .more) (o .sifted .live) (o .sifted .gcds)
+    pub sifting-next : (x : Index) → Serves x bounds b → contradicts (o .sifted .step) ≡ false → (j : Step) → j ≡ joined k (o .sifted .step)
+        → Sifting bounds b v₀ gcds₀ j (o .sifted .visits) (o .more) (o .sifted .live) (o .sifted .gcds)
     sifting-next z t c j i = record {
-      going = subst (λ (r : Round). Going (b .rows) (b .nodes) (r .sifted .live)) (sym (made z t)) (going-once z b t v gcds visits (l .going) .0);
+      going = subst (λ (r : Round). Going (b .held) (b .nodes) (r .sifted .live)) (sym (made z t)) (going-once z bounds b t v gcds visits (l .going) .0);
       whole = λ x s. let a = there x s in by x s (a .0) (a .1) (a .2);
     }
       where
-        by : (x : Index) → Serves x b → (n : ℕ) → left v < n → siftFrom n x v gcds k visits ≡ sift x v₀ gcds₀ → Rest x v₀ gcds₀ j (o .sifted .visits) (o .more) (o .sifted .live) (o .sifted .gcds)
+        by : (x : Index) → Serves x bounds b → (n : ℕ) → left v < n → siftFrom n x v gcds k visits ≡ sift x v₀ gcds₀ → Rest x v₀ gcds₀ j (o .sifted .visits) (o .more) (o .sifted .live) (o .sifted .gcds)
         by x s zero h q = absurd (not-suc-le-zero h)
         by x s (suc n) h q = rest-next x s n h (turned x s n q) c j i (o .more) refl
-
--- The buffers of a sifting are as long as they were.
-pub record Lengths (fs₀ fs : List (List ℤ)) (cs₀ cs : List (List ℕ)) (s₀ s n₀ n l₀ l i₀ i p₀ p w₀ w f₀ f g₀ g u₀ u : List ℕ) : Type 0 where
-  pub figures : length fs ≡ length fs₀
-  pub cursors : length cs ≡ length cs₀
-  pub sure : length s ≡ length s₀
-  pub never : length n ≡ length n₀
-  pub nodes : length l ≡ length l₀
-  pub items : length i ≡ length i₀
-  pub pending : length p ≡ length p₀
-  pub waiting : length w ≡ length w₀
-  pub flags : length f ≡ length f₀
-  pub gcds : length g ≡ length g₀
-  pub words : length u ≡ length u₀
 
 pub scratch-next : (g h u w : List ℕ) → length h ≡ length g → w ≡ u → Scratch g u → Scratch h w
 scratch-next g h u w e f s = subst (Scratch h) (sym f) (record { room = omega (arith, s .room); long = s .long; zero = s .zero })

@@ -6,12 +6,15 @@ use mathlib.Core.Bool.{Bool, true, false}
 use mathlib.Core.List.{List, [], _∷_, List·Memᴰ, List·Memᴰ·head, List·Memᴰ·tail}
 use lib.ListN.{length, getD}
 use borrow.Author.Tests.{eqb-false}
+use lib.IntN.{ℤ}
+use Rattle.memory.specs.Limits.{listTerms}
+use Rattle.memory.specs.Buffers.{HeldRows, Built}
 use Rattle.numeric.specs.Threshold.{Term, terms}
 use Rattle.state.specs.declared.State.{State}
 use Rattle.state.specs.declared.Step.{Step}
 use Rattle.state.specs.declared.Step.the-variants.{Unchanged, Changed, Contradiction}
 use Rattle.state.specs.Step.{stepNumber, isUnchanged}
-use Rattle.state.specs.State.{noState, Figures}
+use Rattle.state.specs.State.{Figures}
 use Rattle.queues.specs.Queue.{Rows, isEmpty, oldest, nextRow}
 use Rattle.queues.specs.RowsLaws.{flags-next}
 use Rattle.queues.specs.Marks.{Marks, isDecided, Decided}
@@ -24,12 +27,13 @@ use Rattle.residual.specs.ForceLaws.{Each, force-cases, residual-keeping}
 use Rattle.possible_sums.specs.declared.Search.{Search}
 use Rattle.possible_sums.specs.Search.{search, searchStep, searchVisits}
 use Rattle.between.specs.Between.{Index, Live, live, stateAt}
-use Rattle.between.specs.Held.{Lent, startBy, endBy, heldTerms}
+use Rattle.between.specs.Held.{startBy, endBy, heldTerms}
+use Rattle.regions.specs.Drain.{withMarks}
 use Rattle.regions.specs.Sift.{Sifted, sifted, tryRow}
 use Rattle.ends.specs.Keeps.{keeps-residual}
 use Rattle.ends.specs.Settles.{fall-try}
 use Rattle.follows.specs.Waiting.{Queued, queued-decide}
-use Rattle.settle.specs.Serves.{Shared, Serves, Low, Within, Going}
+use Rattle.settle.specs.Serves.{Serves, Low, Within, Going}
 use Rattle.settle.specs.Keeping.{among-next, oldest-among, low-decide}
 use Rattle.sift.specs.Tries.{Tries, tried}
 
@@ -45,66 +49,73 @@ unchanged-no Unchanged h = absurd (h refl)
 unchanged-no Changed h = refl
 unchanged-no Contradiction h = refl
 
-module _ (ts : List Term) (s : State) (m : Marks) (gcds : List ℕ) (visits : ℕ) (ss : List State) (d q : Rows) (a : Residual) (made : a ≡ thresholdResidual ts s m gcds) (n : ℕ) (is : n ≡ stepNumber (a .step)) where
+module _ (ts : List Term) (s : State) (v : Live) (gcds : List ℕ) (visits : ℕ) (a : Residual) (made : a ≡ thresholdResidual ts s (v .marks) gcds) (n : ℕ) (is : n ≡ stepNumber (a .step)) where
   abbrev goes : Residual → Bool → Sifted
   goes r b = elim b [
-    | true ↦ sifted (live ss (r .marks) d q) (r .gcds) (searchStep (search ts s (isDecided (r .marks)))) (searchVisits visits (search ts s (isDecided (r .marks))))
-    | false ↦ sifted (live ss (r .marks) d q) (r .gcds) (r .step) visits
+    | true ↦ sifted (withMarks v (r .marks)) (r .gcds) (searchStep (search ts s (isDecided (r .marks)))) (searchVisits visits (search ts s (isDecided (r .marks))))
+    | false ↦ sifted (withMarks v (r .marks)) (r .gcds) (r .step) visits
   ]
 
-  goes-is : (b : Bool) → isUnchanged (a .step) ≡ b → goes a b ≡ tried ts s m gcds visits ss d q
+  goes-is : (b : Bool) → isUnchanged (a .step) ≡ b → goes a b ≡ tried ts s v gcds visits
   goes-is b e = ap (goes a) (sym e) ∙ ap (λ (r : Residual). goes r (isUnchanged (r .step))) made
 
   pub tried-search : n ≡ 0 → (b : Search) → b ≡ search ts s (isDecided (a .marks)) → (k : Step) → k ≡ searchStep b → (i : ℕ) → i ≡ searchVisits visits b
-      → sifted (live ss (a .marks) d q) (a .gcds) k i ≡ tried ts s m gcds visits ss d q
+      → sifted (withMarks v (a .marks)) (a .gcds) k i ≡ tried ts s v gcds visits
   tried-search z b f k g i j =
-      ap (λ (o : Step). sifted (live ss (a .marks) d q) (a .gcds) o i) g
-      ∙ ap (sifted (live ss (a .marks) d q) (a .gcds) (searchStep b)) j
-      ∙ ap (λ (o : Search). sifted (live ss (a .marks) d q) (a .gcds) (searchStep o) (searchVisits visits o)) f
+      ap (λ (o : Step). sifted (withMarks v (a .marks)) (a .gcds) o i) g
+      ∙ ap (sifted (withMarks v (a .marks)) (a .gcds) (searchStep b)) j
+      ∙ ap (λ (o : Search). sifted (withMarks v (a .marks)) (a .gcds) (searchStep o) (searchVisits visits o)) f
       ∙ goes-is true (unchanged-yes (a .step) (sym is ∙ z))
 
-  pub tried-not : (n ≡ 0 → ⊥) → sifted (live ss (a .marks) d q) (a .gcds) (a .step) visits ≡ tried ts s m gcds visits ss d q
+  pub tried-not : (n ≡ 0 → ⊥) → sifted (withMarks v (a .marks)) (a .gcds) (a .step) visits ≡ tried ts s v gcds visits
   tried-not h = goes-is false (unchanged-no (a .step) (λ (e : stepNumber (a .step) ≡ 0). h (is ∙ e)))
 
 -- ---- by the row that waits
 
-module _ (h : Lent) (ss : List State) (m : Marks) (q : Rows) (gcds words : List ℕ) (t : Tries h ss m q gcds words) (r : ℕ) (e : r ≡ oldest (q .queue)) where
-  pub try-inside : r < length (h .rows)
-  try-inside = omega (arith, oldest-among (length (h .rows)) q (t .ready .flags) (t .some) (t .among))
+-- The terms from a to b of the rows are few enough to be tried.
+pub record Cut (h : HeldRows) (a b : ℕ) : Type 0 where
+  pub rises : a ≤ b
+  pub conditions : b ≤ length (h .row-conditions)
+  pub weights : b ≤ length (h .row-weights)
+  pub few : length (stretch a b (h .row-weights)) ≤ listTerms
 
-  pub try-state : r < length ss
+module _ (h : HeldRows) (v : Live) (gcds words : List ℕ) (t : Tries h v gcds words) (r : ℕ) (e : r ≡ oldest (v .residuals .queue)) where
+  pub try-inside : r < length (h .rows)
+  try-inside = omega (arith, oldest-among (length (h .rows)) (v .residuals) (t .ready .flags) (t .some) (t .among))
+
+  pub try-state : r < length (v .states)
   try-state = omega (arith, try-inside, t .ready .long)
 
-  pub try-figures : (s : State) → s ≡ getD ss r noState → Figures s
+  pub try-figures : (s : State) → s ≡ stateAt v r → Figures s
   try-figures s f =
       let y = t .ready .fit r try-inside in
       subst Figures (sym f) (record { known = y .known; possible = y .possible; lower = y .lower; upper = y .upper })
 
   module _ (a b : ℕ) (p : a ≡ startBy 0 (h .rows) r) (i : b ≡ endBy 0 (h .rows) r) where
-    pub try-rises : a ≤ b
-    try-rises = omega (arith, t .shaped .terms .rising r try-inside)
+    pub try-cut : Cut h a b
+    try-cut =
+        let ends = t .shaped .terms .ends r try-inside in
+        let weights : b ≤ length (h .row-weights) = omega (arith, ends, t .shaped .weighed) in record {
+          rises = omega (arith, t .shaped .terms .rising r try-inside);
+          conditions = omega (arith, ends);
+          weights = weights;
+          few = omega (arith, stretch-length a b (h .row-weights) weights, t .short r try-inside);
+        }
 
-    pub try-conditions : b ≤ length (h .conditions)
-    try-conditions = omega (arith, t .shaped .terms .ends r try-inside)
-
-    pub try-weights : b ≤ length (h .weights)
-    try-weights = omega (arith, t .shaped .terms .ends r try-inside, t .shaped .weighed)
-
-    pub try-few : length (stretch a b (h .weights)) ≤ 1024
-    try-few = omega (arith, stretch-length a b (h .weights) try-weights, t .short r try-inside)
-
-    -- What was tried is the row of the index that waited longest.
-    pub try-is : (s : State) → s ≡ getD ss r noState → (n : Rows) → n ≡ nextRow q → (x : Index) (d : Rows) (visits : ℕ) → getD (x .rows) r noRow .terms ≡ heldTerms h r → (o : Sifted)
-        → o ≡ tried (terms (stretch a b (h .conditions)) (stretch a b (h .weights))) s m gcds visits ss d n → o ≡ tryRow x (live ss m d q) gcds visits
+    -- What was tried is the row of the index that waited longest; the queues of rows are given as the code has them.
+    pub try-is : (s : State) → s ≡ stateAt v r → (rows : Rows) → rows ≡ v .dirty → (residuals : Rows) → residuals ≡ nextRow (v .residuals) → (x : Index) (visits : ℕ)
+        → getD (x .rows) r noRow .terms ≡ heldTerms h r → (o : Sifted)
+        → o ≡ tried (terms (stretch a b (h .row-conditions)) (stretch a b (h .row-weights))) s (live (v .states) (v .marks) rows residuals) gcds visits → o ≡ tryRow x v gcds visits
     unfolding tryRow
-    try-is s f n g x d visits z o made =
+    try-is s f rows k residuals g x visits z o made =
         made
-        ∙ ap (λ (k : ℕ). tried (terms (stretch k b (h .conditions)) (stretch k b (h .weights))) s m gcds visits ss d n) p
-        ∙ ap (λ (k : ℕ). tried (terms (stretch (startBy 0 (h .rows) r) k (h .conditions)) (stretch (startBy 0 (h .rows) r) k (h .weights))) s m gcds visits ss d n) i
-        ∙ ap (λ (ts : List Term). tried ts s m gcds visits ss d n) (sym z)
-        ∙ ap (λ (u : State). tried (getD (x .rows) r noRow .terms) u m gcds visits ss d n) f
-        ∙ ap (tried (getD (x .rows) r noRow .terms) (getD ss r noState) m gcds visits ss d) g
-        ∙ ap (λ (k : ℕ). tried (getD (x .rows) k noRow .terms) (getD ss k noState) m gcds visits ss d (nextRow q)) e
+        ∙ ap (λ (j : ℕ). tried (terms (stretch j b (h .row-conditions)) (stretch j b (h .row-weights))) s (live (v .states) (v .marks) rows residuals) gcds visits) p
+        ∙ ap (λ (j : ℕ). tried (terms (stretch (startBy 0 (h .rows) r) j (h .row-conditions)) (stretch (startBy 0 (h .rows) r) j (h .row-weights))) s (live (v .states) (v .marks) rows residuals) gcds visits) i
+        ∙ ap (λ (ts : List Term). tried ts s (live (v .states) (v .marks) rows residuals) gcds visits) (sym z)
+        ∙ ap (λ (u : State). tried (getD (x .rows) r noRow .terms) u (live (v .states) (v .marks) rows residuals) gcds visits) f
+        ∙ ap (λ (q : Rows). tried (getD (x .rows) r noRow .terms) (stateAt v r) (live (v .states) (v .marks) q residuals) gcds visits) k
+        ∙ ap (λ (q : Rows). tried (getD (x .rows) r noRow .terms) (stateAt v r) (live (v .states) (v .marks) (v .dirty) q) gcds visits) g
+        ∙ ap (λ (j : ℕ). tried (getD (x .rows) j noRow .terms) (stateAt v j) (live (v .states) (v .marks) (v .dirty) (nextRow (v .residuals))) gcds visits) e
 
 -- ---- what can be drained stays such
 
@@ -112,7 +123,7 @@ each-of : (Q : Term → Type 0) (ts : List Term) → ((t : Term) → List·Mem�
 each-of Q [] f = tt
 each-of Q (t ∷ ts) f = (f t (List·Memᴰ·head refl), each-of Q ts (λ u i. f u (List·Memᴰ·tail i)))
 
-module _ (x : Index) (b : Shared) (s : Serves x b) (v : Live) (g : Going (b .rows) (b .nodes) v) (some : 0 < v .residuals .queue .ring .count) (gcds : List ℕ) (visits : ℕ) where
+module _ (x : Index) (bounds : List ℤ) (b : Built) (s : Serves x bounds b) (v : Live) (g : Going (b .held) (b .nodes) v) (some : 0 < v .residuals .queue .ring .count) (gcds : List ℕ) (visits : ℕ) where
   abbrev r : ℕ
   r = oldest (v .residuals .queue)
 
@@ -122,7 +133,7 @@ module _ (x : Index) (b : Shared) (s : Serves x b) (v : Live) (g : Going (b .row
   abbrev after : Live
   after = live (v .states) (a .marks) (v .dirty) (nextRow (v .residuals))
 
-  abbrev w : Within (b .rows) (b .nodes) v
+  abbrev w : Within (b .held) (b .nodes) v
   w = g .within
 
   queued : Queued (w .taken) (a .marks)
@@ -138,17 +149,17 @@ module _ (x : Index) (b : Shared) (s : Serves x b) (v : Live) (g : Going (b .row
       (λ e. low-decide (length (b .nodes)) false m (t .condition) k p))
       (getD (x .rows) r noRow .terms) (stateAt v r) (v .marks) gcds
       (each-of (λ (t : Term). t .condition < length (b .nodes)) (getD (x .rows) r noRow .terms)
-      (s .names r (omega (arith, s .holds .many, oldest-among (length (b .rows .rows)) (v .residuals) (g .sound .residuals) some (w .tracked .residuals))) .terms))
+      (s .names r (omega (arith, s .holds .many, oldest-among (length (b .held .rows)) (v .residuals) (g .sound .residuals) some (w .tracked .residuals))) .terms))
       (w .tracked .low)
 
-  within-after : Within (b .rows) (b .nodes) after
+  within-after : Within (b .held) (b .nodes) after
   within-after = record {
     taken = w .taken;
     tracked = record {
       queued = queued;
       low = low;
       dirty = w .tracked .dirty;
-      residuals = among-next (length (b .rows .rows)) (v .residuals) (g .sound .residuals) some (w .tracked .residuals);
+      residuals = among-next (length (b .held .rows)) (v .residuals) (g .sound .residuals) some (w .tracked .residuals);
     };
     range = w .range;
     runnable = record {
@@ -158,20 +169,20 @@ module _ (x : Index) (b : Shared) (s : Serves x b) (v : Live) (g : Going (b .row
     room = w .room;
   }
 
-  within-try : Within (b .rows) (b .nodes) (tryRow x v gcds visits .live)
+  within-try : Within (b .held) (b .nodes) (tryRow x v gcds visits .live)
   unfolding tryRow
   within-try = by (isUnchanged (a .step))
     where
       by : (c : Bool) → let o : Sifted = elim c [
         | true ↦ sifted after (a .gcds) (searchStep (search (getD (x .rows) r noRow .terms) (stateAt v r) (isDecided (a .marks)))) (searchVisits visits (search (getD (x .rows) r noRow .terms) (stateAt v r) (isDecided (a .marks))))
         | false ↦ sifted after (a .gcds) (a .step) visits
-      ] in Within (b .rows) (b .nodes) (o .live)
+      ] in Within (b .held) (b .nodes) (o .live)
       by true = within-after
       by false = within-after
 
-pub going-try : (x : Index) (b : Shared) → Serves x b → (v : Live) → Going (b .rows) (b .nodes) v → (gcds : List ℕ) (visits : ℕ) → isEmpty (v .residuals .queue) ≡ false
-    → Going (b .rows) (b .nodes) (tryRow x v gcds visits .live)
-going-try x b s v g gcds visits e = record {
+pub going-try : (x : Index) (bounds : List ℤ) (b : Built) → Serves x bounds b → (v : Live) → Going (b .held) (b .nodes) v → (gcds : List ℕ) (visits : ℕ) → isEmpty (v .residuals .queue) ≡ false
+    → Going (b .held) (b .nodes) (tryRow x v gcds visits .live)
+going-try x bounds b s v g gcds visits e = record {
   sound = fall-try x (s .indexed) v gcds visits (g .sound) e .0;
-  within = within-try x b s v g (omega (arith, eqb-false (v .residuals .queue .ring .count) 0 e)) gcds visits;
+  within = within-try x bounds b s v g (omega (arith, eqb-false (v .residuals .queue .ring .count) 0 e)) gcds visits;
 }

@@ -4,26 +4,27 @@ ghost use mathlib.Core.List.{List};
 ghost use Prim.Native.Nat.{ℕ, _≤_};
 ghost use lib.ListN.{length};
 ghost use lib.IntN.{ℤ};
+ghost use Rattle.memory.specs.Limits.{listTerms};
+ghost use Rattle.memory.specs.Buffers.{heldRows, built};
 ghost use Rattle.numeric.specs.Threshold.{terms};
-ghost use Rattle.state.specs.declared.State.{State};
 ghost use Rattle.state.specs.State.{Figures};
-ghost use Rattle.queues.specs.Queue.{queue, Rows, rows as queued};
+ghost use Rattle.queues.specs.Queue.{queue};
 ghost use Rattle.queues.specs.Marks.{marks};
 ghost use Rattle.queues.specs.MarksLaws.{Waits};
 ghost use Rattle.propagate.specs.Shape.{TermSlices};
-ghost use Rattle.between.specs.Between.{Index, live};
-ghost use Rattle.between.specs.Numbers.{statesOf, Tidy};
-ghost use Rattle.between.specs.Held.{lent, Holds};
+ghost use Rattle.between.specs.Between.{Index, Live};
+ghost use Rattle.between.specs.Numbers.{liveOf, Tidy};
+ghost use Rattle.between.specs.Held.{Holds};
+ghost use Rattle.regions.specs.Drain.{withMarks};
 ghost use Rattle.regions.specs.Sift.{sifted, tryRow, sift as sifts};
-ghost use Rattle.settle.specs.Serves.{shared, Serves, Going};
+ghost use Rattle.settle.specs.Serves.{Serves, Going};
 ghost use Rattle.sift.specs.Tries.{Scratch, Short, Tries, tried, round, once};
-use between::Answer;
-use between::Handed;
 use queues::Ring;
+use queues::Rings;
 use state::State;
 use state::Step;
 
-// What trying a row came to: the answer, the queue of nodes, the visits of the last search.
+// What trying the terms of a row came to: the answer, the queue of nodes, the visits of the last search.
 pub struct Tried {
     pub step: Step,
     pub ring: Ring,
@@ -37,16 +38,16 @@ fn try_terms(
     state: State,
     sure: &mut [u64],
     never: &mut [u64],
-    nodes: &mut [u16],
-    ring: Ring,
+    node_queue: &mut [u16],
     gcds: &mut [u64],
-    words: &mut [u64],
+    search: &mut [u64],
+    ring: Ring,
     visits: usize,
 ) -> Tried
-    requires { ⌜ TermSlices (now conditions) (now weights) × (length (now weights) ≤ 1024) × Figures state × Waits (marks (now sure) (now never) (queue (now nodes) ring)) × Scratch (now gcds) (now words) ⌝ }
-    ensures { λ r. ⌜ ((ss : List State) (d q : Rows) → sifted (live ss (marks (now (sure .exit)) (now (never .exit)) (queue (now (nodes .exit)) (r .ring))) d q) (now (gcds .exit)) (r .step) (r .visits)
-        ≡ tried (terms (now (conditions .entry)) (now (weights .entry))) state (marks (now (sure .entry)) (now (never .entry)) (queue (now (nodes .entry)) ring)) (now (gcds .entry)) visits ss d q)
-        × (now (words .exit) ≡ now (words .entry)) ⌝ }
+    requires { ⌜ TermSlices (now conditions) (now weights) × (length (now weights) ≤ listTerms) × Figures state × Waits (marks (now sure) (now never) (queue (now «node_queue») ring)) × Scratch (now gcds) (now search) ⌝ }
+    ensures { λ r. ⌜ ((v : Live) → sifted (withMarks v (marks (now (sure .exit)) (now (never .exit)) (queue (now («node_queue» .exit)) (r .ring)))) (now (gcds .exit)) (r .step) (r .visits)
+        ≡ tried (terms (now (conditions .entry)) (now (weights .entry))) state (withMarks v (marks (now (sure .entry)) (now (never .entry)) (queue (now («node_queue» .entry)) ring))) (now (gcds .entry)) visits)
+        × (now (search .exit) ≡ now (search .entry)) ⌝ }
 {
     let forced = residual::threshold_residual(
         conditions,
@@ -54,7 +55,7 @@ fn try_terms(
         state,
         sure,
         never,
-        nodes,
+        node_queue,
         ring,
         gcds,
     );
@@ -74,7 +75,7 @@ fn try_terms(
         state,
         sure,
         never,
-        words,
+        search,
     );
     let used = found.visits(visits);
     let last = found.step();
@@ -85,292 +86,253 @@ fn try_terms(
     }
 }
 
-// What trying the oldest row that waits came to, and the queue of rows that wait after it.
-pub struct TriedRow {
-    pub tried: Tried,
-    pub residuals: Ring,
+// What a sifting came to, or a row that was tried: the answer, where the queues stand after it, and the visits of the last search.
+pub struct Sifted {
+    pub step: Step,
+    pub rings: Rings,
+    pub visits: usize,
 }
 
 // The oldest row that waits for it is tried.
 fn try_row(
-    conditions: &[u16],
-    weights: &[u64],
+    row_conditions: &[u16],
+    row_weights: &[u64],
     rows: &[[u16; 3]],
     figures: &[[i64; 4]],
     cursors: &[[usize; 5]],
     sure: &mut [u64],
     never: &mut [u64],
-    nodes: &mut [u16],
-    ring: Ring,
-    items: &[u16],
-    pending: &mut [u8],
-    residuals: Ring,
+    node_queue: &mut [u16],
+    row_queues: &mut [[u16; 4]],
     gcds: &mut [u64],
-    words: &mut [u64],
+    search: &mut [u64],
+    rings: Rings,
     visits: usize,
-) -> TriedRow
-    requires { ⌜ ((bs : List ℤ) × (ns : List ℕ) × Tries (lent (now conditions) (now weights) (now rows) bs ns) (statesOf (now figures) (now cursors)) (marks (now sure) (now never) (queue (now nodes) ring)) (queued (queue (now items) residuals) (now pending)) (now gcds) (now words)) ⌝ }
-    ensures { λ r. ⌜ ((x : Index) (d : Rows) (bs : List ℤ) (ns : List ℕ) → Holds x (lent (now (conditions .entry)) (now (weights .entry)) (now (rows .entry)) bs ns)
-        → sifted (live (statesOf (now (figures .entry)) (now (cursors .entry))) (marks (now (sure .exit)) (now (never .exit)) (queue (now (nodes .exit)) (r .tried .ring))) d (queued (queue (now (items .entry)) (r .residuals)) (now (pending .exit)))) (now (gcds .exit)) (r .tried .step) (r .tried .visits)
-        ≡ tryRow x (live (statesOf (now (figures .entry)) (now (cursors .entry))) (marks (now (sure .entry)) (now (never .entry)) (queue (now (nodes .entry)) ring)) d (queued (queue (now (items .entry)) residuals) (now (pending .entry)))) (now (gcds .entry)) visits)
-        × (now (words .exit) ≡ now (words .entry)) ⌝ }
+) -> Sifted
+    requires { ⌜ ((bs : List ℤ) × (ns : List ℕ) × Tries (heldRows (now «row_conditions») (now «row_weights») (now rows) bs ns)
+        (liveOf (now figures) (now cursors) (now sure) (now never) (now «node_queue») (now «row_queues») rings) (now gcds) (now search)) ⌝ }
+    ensures { λ r. ⌜ ((x : Index) (bs : List ℤ) (ns : List ℕ) → Holds x (heldRows (now («row_conditions» .entry)) (now («row_weights» .entry)) (now (rows .entry)) bs ns)
+        → sifted (liveOf (now (figures .entry)) (now (cursors .entry)) (now (sure .exit)) (now (never .exit)) (now («node_queue» .exit)) (now («row_queues» .exit)) (r .rings)) (now (gcds .exit)) (r .step) (r .visits)
+        ≡ tryRow x (liveOf (now (figures .entry)) (now (cursors .entry)) (now (sure .entry)) (now (never .entry)) (now («node_queue» .entry)) (now («row_queues» .entry)) rings) (now (gcds .entry)) visits)
+        × (now (search .exit) ≡ now (search .entry)) ⌝ }
 {
-    let head = residuals.head;
-    let row = settle::entry(items, head);
-    let left = queues::next_row(pending, items, residuals);
+    let residuals = rings.residuals;
+    let row = settle::oldest_row(row_queues, 2, residuals);
+    let left = queues::next_row(row_queues, 2, residuals);
     let a = between::start_by(rows, 0, row);
     let e = between::end_by(rows, 0, row);
     let state = between::load(figures, cursors, row);
+    let ring = rings.nodes;
     let tried = try_terms(
-        &conditions[a..e],
-        &weights[a..e],
+        &row_conditions[a..e],
+        &row_weights[a..e],
         state,
         sure,
         never,
-        nodes,
-        ring,
+        node_queue,
         gcds,
-        words,
+        search,
+        ring,
         visits,
     );
-    TriedRow {
-        tried: tried,
+    let step = tried.step;
+    let next = tried.ring;
+    let used = tried.visits;
+    let waiting = rings.rows;
+    let stand = Rings {
+        nodes: next,
+        rows: waiting,
         residuals: left,
+    };
+    Sifted {
+        step: step,
+        rings: stand,
+        visits: used,
     }
 }
 
-// What a sifting came to: the answer with the queues after it, and the visits of its last search.
-pub struct Sifted {
-    pub handed: Handed,
-    pub visits: usize,
-}
-
-// The same of one round, and whether there is another.
+// What a round came to, and whether there is another.
 pub struct Round {
-    pub sift: Sifted,
+    pub step: Step,
+    pub rings: Rings,
+    pub visits: usize,
     pub more: bool,
 }
 
 // One round: settle, then try a row if one waits.
 fn sift_once(
-    conditions: &[u16],
-    weights: &[u64],
+    row_conditions: &[u16],
+    row_weights: &[u64],
     rows: &[[u16; 3]],
+    guard_bounds: &[i64],
+    guard_nodes: &[u16],
+    nodes: &[[u16; 3]],
     bounds: &[i64],
-    names: &[u16],
-    index: &[[u16; 3]],
-    limits: &[i64],
     edges: &[[u64; 2]],
     links: &[u16],
     figures: &mut [[i64; 4]],
     cursors: &mut [[usize; 5]],
     sure: &mut [u64],
     never: &mut [u64],
-    nodes: &mut [u16],
-    ring: Ring,
-    items: &mut [u16],
-    pending: &mut [u8],
-    residuals: Ring,
-    waiting: &mut [u16],
-    flags: &mut [u8],
-    dirty: Ring,
+    node_queue: &mut [u16],
+    row_queues: &mut [[u16; 4]],
     gcds: &mut [u64],
-    words: &mut [u64],
+    search: &mut [u64],
+    rings: Rings,
     visits: usize,
 ) -> Round
-    requires { ⌜ ((x : Index) × Serves x (shared (lent (now conditions) (now weights) (now rows) (now bounds) (now names)) (now index) (now limits) (now edges) (now links))) × Short (now rows) × Scratch (now gcds) (now words) ⌝ }
-    requires { ⌜ Going (lent (now conditions) (now weights) (now rows) (now bounds) (now names)) (now index) (live (statesOf (now figures) (now cursors)) (marks (now sure) (now never) (queue (now nodes) ring)) (queued (queue (now waiting) dirty) (now flags)) (queued (queue (now items) residuals) (now pending))) ⌝ }
-    ensures { λ r. ⌜ ((x : Index) → Serves x (shared (lent (now (conditions .entry)) (now (weights .entry)) (now (rows .entry)) (now (bounds .entry)) (now (names .entry))) (now (index .entry)) (now (limits .entry)) (now (edges .entry)) (now (links .entry))) → round (sifted (live (statesOf (now (figures .exit)) (now (cursors .exit))) (marks (now (sure .exit)) (now (never .exit)) (queue (now (nodes .exit)) (r .sift .handed .answer .ring))) (queued (queue (now (waiting .exit)) (r .sift .handed .dirty)) (now (flags .exit))) (queued (queue (now (items .exit)) (r .sift .handed .answer .residuals)) (now (pending .exit)))) (now (gcds .exit)) (r .sift .handed .answer .step) (r .sift .visits)) (r .more)
-        ≡ once x (live (statesOf (now (figures .entry)) (now (cursors .entry))) (marks (now (sure .entry)) (now (never .entry)) (queue (now (nodes .entry)) ring)) (queued (queue (now (waiting .entry)) dirty) (now (flags .entry))) (queued (queue (now (items .entry)) residuals) (now (pending .entry)))) (now (gcds .entry)) visits)
-        × (Tidy (now (figures .entry)) (now (cursors .entry)) → Tidy (now (figures .exit)) (now (cursors .exit))) × (now (words .exit) ≡ now (words .entry)) ⌝ }
+    requires { ⌜ ((x : Index) × Serves x (now bounds)
+        (built (heldRows (now «row_conditions») (now «row_weights») (now rows) (now «guard_bounds») (now «guard_nodes»)) (now nodes) (now edges) (now links))) × Short (now rows) × Scratch (now gcds) (now search) ⌝ }
+    requires { ⌜ Going (heldRows (now «row_conditions») (now «row_weights») (now rows) (now «guard_bounds») (now «guard_nodes»)) (now nodes)
+        (liveOf (now figures) (now cursors) (now sure) (now never) (now «node_queue») (now «row_queues») rings) ⌝ }
+    ensures { λ r. ⌜ ((x : Index) → Serves x (now (bounds .entry))
+        (built (heldRows (now («row_conditions» .entry)) (now («row_weights» .entry)) (now (rows .entry)) (now («guard_bounds» .entry)) (now («guard_nodes» .entry))) (now (nodes .entry)) (now (edges .entry)) (now (links .entry)))
+        → round (sifted (liveOf (now (figures .exit)) (now (cursors .exit)) (now (sure .exit)) (now (never .exit)) (now («node_queue» .exit)) (now («row_queues» .exit)) (r .rings)) (now (gcds .exit)) (r .step) (r .visits)) (r .more)
+        ≡ once x (liveOf (now (figures .entry)) (now (cursors .entry)) (now (sure .entry)) (now (never .entry)) (now («node_queue» .entry)) (now («row_queues» .entry)) rings) (now (gcds .entry)) visits)
+        × (Tidy (now (figures .entry)) (now (cursors .entry)) → Tidy (now (figures .exit)) (now (cursors .exit))) × (now (search .exit) ≡ now (search .entry)) ⌝ }
 {
     let settled = settle::settle(
-        conditions,
-        weights,
+        row_conditions,
+        row_weights,
         rows,
+        guard_bounds,
+        guard_nodes,
+        nodes,
         bounds,
-        names,
-        index,
-        limits,
         edges,
         links,
         figures,
         cursors,
         sure,
         never,
-        nodes,
-        ring,
-        items,
-        pending,
-        residuals,
-        waiting,
-        flags,
-        dirty,
+        node_queue,
+        row_queues,
+        rings,
     );
-    let answer = settled.answer;
-    let step = answer.step;
-    let next = answer.ring;
-    let rest = answer.residuals;
-    let waits = rest.count;
+    let step = settled.step;
+    let next = settled.rings;
     if step.contradicts() {
-        let ended = Sifted {
-            handed: settled,
-            visits: visits,
-        };
         return Round {
-            sift: ended,
+            step: step,
+            rings: next,
+            visits: visits,
             more: false,
         };
     }
-    if waits == 0 {
-        let ended = Sifted {
-            handed: settled,
-            visits: visits,
-        };
+    let residuals = next.residuals;
+    let count = residuals.count;
+    if count == 0 {
         return Round {
-            sift: ended,
+            step: step,
+            rings: next,
+            visits: visits,
             more: false,
         };
     }
-    let left = settled.dirty;
-    let row = try_row(
-        conditions,
-        weights,
+    let tried = try_row(
+        row_conditions,
+        row_weights,
         rows,
         figures,
         cursors,
         sure,
         never,
-        nodes,
-        next,
-        items,
-        pending,
-        rest,
+        node_queue,
+        row_queues,
         gcds,
-        words,
+        search,
+        next,
         visits,
     );
-    let tried = row.tried;
     let last = tried.step;
-    let later = tried.ring;
-    let kept = row.residuals;
+    let later = tried.rings;
     let used = tried.visits;
-    let joined = Answer {
-        step: step.join(last),
-        ring: later,
-        residuals: kept,
-    };
-    let handed = Handed {
-        answer: joined,
-        dirty: left,
-    };
-    let sift = Sifted {
-        handed: handed,
-        visits: used,
-    };
     Round {
-        sift: sift,
+        step: step.join(last),
+        rings: later,
+        visits: used,
         more: true,
     }
 }
 
 // Rounds until no row waits or one contradicts.
 pub fn sift(
-    conditions: &[u16],
-    weights: &[u64],
+    row_conditions: &[u16],
+    row_weights: &[u64],
     rows: &[[u16; 3]],
+    guard_bounds: &[i64],
+    guard_nodes: &[u16],
+    nodes: &[[u16; 3]],
     bounds: &[i64],
-    names: &[u16],
-    index: &[[u16; 3]],
-    limits: &[i64],
     edges: &[[u64; 2]],
     links: &[u16],
     figures: &mut [[i64; 4]],
     cursors: &mut [[usize; 5]],
     sure: &mut [u64],
     never: &mut [u64],
-    nodes: &mut [u16],
-    ring: Ring,
-    items: &mut [u16],
-    pending: &mut [u8],
-    residuals: Ring,
-    waiting: &mut [u16],
-    flags: &mut [u8],
-    dirty: Ring,
+    node_queue: &mut [u16],
+    row_queues: &mut [[u16; 4]],
     gcds: &mut [u64],
-    words: &mut [u64],
+    search: &mut [u64],
+    rings: Rings,
 ) -> Sifted
-    requires { ⌜ ((x : Index) × Serves x (shared (lent (now conditions) (now weights) (now rows) (now bounds) (now names)) (now index) (now limits) (now edges) (now links))) × Short (now rows) × Scratch (now gcds) (now words) ⌝ }
-    requires { ⌜ Going (lent (now conditions) (now weights) (now rows) (now bounds) (now names)) (now index) (live (statesOf (now figures) (now cursors)) (marks (now sure) (now never) (queue (now nodes) ring)) (queued (queue (now waiting) dirty) (now flags)) (queued (queue (now items) residuals) (now pending))) ⌝ }
-    ensures { λ r. ⌜ ((x : Index) → Serves x (shared (lent (now (conditions .entry)) (now (weights .entry)) (now (rows .entry)) (now (bounds .entry)) (now (names .entry))) (now (index .entry)) (now (limits .entry)) (now (edges .entry)) (now (links .entry))) → sifted (live (statesOf (now (figures .exit)) (now (cursors .exit))) (marks (now (sure .exit)) (now (never .exit)) (queue (now (nodes .exit)) (r .handed .answer .ring))) (queued (queue (now (waiting .exit)) (r .handed .dirty)) (now (flags .exit))) (queued (queue (now (items .exit)) (r .handed .answer .residuals)) (now (pending .exit)))) (now (gcds .exit)) (r .handed .answer .step) (r .visits)
-        ≡ sifts x (live (statesOf (now (figures .entry)) (now (cursors .entry))) (marks (now (sure .entry)) (now (never .entry)) (queue (now (nodes .entry)) ring)) (queued (queue (now (waiting .entry)) dirty) (now (flags .entry))) (queued (queue (now (items .entry)) residuals) (now (pending .entry)))) (now (gcds .entry)))
-        × (Tidy (now (figures .entry)) (now (cursors .entry)) → Tidy (now (figures .exit)) (now (cursors .exit))) × (now (words .exit) ≡ now (words .entry)) ⌝ }
+    requires { ⌜ ((x : Index) × Serves x (now bounds)
+        (built (heldRows (now «row_conditions») (now «row_weights») (now rows) (now «guard_bounds») (now «guard_nodes»)) (now nodes) (now edges) (now links))) × Short (now rows) × Scratch (now gcds) (now search) ⌝ }
+    requires { ⌜ Going (heldRows (now «row_conditions») (now «row_weights») (now rows) (now «guard_bounds») (now «guard_nodes»)) (now nodes)
+        (liveOf (now figures) (now cursors) (now sure) (now never) (now «node_queue») (now «row_queues») rings) ⌝ }
+    ensures { λ r. ⌜ ((x : Index) → Serves x (now (bounds .entry))
+        (built (heldRows (now («row_conditions» .entry)) (now («row_weights» .entry)) (now (rows .entry)) (now («guard_bounds» .entry)) (now («guard_nodes» .entry))) (now (nodes .entry)) (now (edges .entry)) (now (links .entry)))
+        → sifted (liveOf (now (figures .exit)) (now (cursors .exit)) (now (sure .exit)) (now (never .exit)) (now («node_queue» .exit)) (now («row_queues» .exit)) (r .rings)) (now (gcds .exit)) (r .step) (r .visits)
+        ≡ sifts x (liveOf (now (figures .entry)) (now (cursors .entry)) (now (sure .entry)) (now (never .entry)) (now («node_queue» .entry)) (now («row_queues» .entry)) rings) (now (gcds .entry)))
+        × (Tidy (now (figures .entry)) (now (cursors .entry)) → Tidy (now (figures .exit)) (now (cursors .exit))) × (now (search .exit) ≡ now (search .entry)) ⌝ }
 {
-    let mut so_far = Answer {
+    let mut so_far = Sifted {
         step: Step::Unchanged,
-        ring: ring,
-        residuals: residuals,
+        rings: rings,
+        visits: 0,
     };
-    let mut left = dirty;
-    let mut visits: usize = 0;
     let mut more = true;
     while more {
-        let next = so_far.ring;
-        let kept = so_far.residuals;
+        let next = so_far.rings;
+        let used = so_far.visits;
         let round = sift_once(
-            conditions,
-            weights,
+            row_conditions,
+            row_weights,
             rows,
+            guard_bounds,
+            guard_nodes,
+            nodes,
             bounds,
-            names,
-            index,
-            limits,
             edges,
             links,
             figures,
             cursors,
             sure,
             never,
-            nodes,
-            next,
-            items,
-            pending,
-            kept,
-            waiting,
-            flags,
-            left,
+            node_queue,
+            row_queues,
             gcds,
-            words,
-            visits,
+            search,
+            next,
+            used,
         );
-        let sift = round.sift;
-        let handed = sift.handed;
-        let answer = handed.answer;
-        let step = answer.step;
+        let step = round.step;
+        let later = round.rings;
+        let visits = round.visits;
         if step.contradicts() {
-            return sift;
+            return Sifted {
+                step: step,
+                rings: later,
+                visits: visits,
+            };
         }
         let before = so_far.step;
-        let later = answer.ring;
-        let rest = answer.residuals;
-        let queue = handed.dirty;
-        let used = sift.visits;
-        let again = round.more;
-        so_far = Answer {
+        so_far = Sifted {
             step: before.join(step),
-            ring: later,
-            residuals: rest,
+            rings: later,
+            visits: visits,
         };
-        left = queue;
-        visits = used;
-        more = again;
+        more = round.more;
     }
-    let handed = Handed {
-        answer: so_far,
-        dirty: left,
-    };
-    Sifted {
-        handed: handed,
-        visits: visits,
-    }
+    so_far
 }

@@ -7,19 +7,20 @@ use lib.ListN.{length, getD}
 use lib.Dec.{eqb}
 use Rattle.numeric.specs.Threshold.{Term}
 use Rattle.row.specs.Terms.{sameTerms}
-use Rattle.thresholds.specs.Raw.{Raw, listAt, fingerprint, numberIn}
+use Rattle.memory.specs.Buffers.{RawLists}
+use Rattle.thresholds.specs.Raw.{prints, listAt, fingerprint, numberIn}
 
 -- A row is marked by one word: the row before it in its class, counted from 1, 0 for none; the fingerprint of its raw list; the first threshold that has it.
 abbrev pub mark : ℕ → ℕ → ℕ → ℕ
-mark next print t = (next * 4294967296 + print) * 1024 + t
+mark next print t = (next * prints + print) * 1024 + t
 
 abbrev pub nextIn : ℕ → ℕ
-nextIn m = m / 4398046511104
+nextIn m = m / 1024 / prints
 
 abbrev pub printIn : ℕ → ℕ
-printIn m = m / 1024 % 4294967296
+printIn m = m / 1024 % prints
 
-abbrev pub markedList : Raw → ℕ → List Term
+abbrev pub markedList : RawLists → ℕ → List Term
 markedList r m = listAt r (m % 1024)
 
 -- The class of a fingerprint, one of 1,024: ten bits of a product, so that each bit of the fingerprint counts.
@@ -35,7 +36,7 @@ newest marks h zero = 0
 newest marks h (suc n) = cond (eqb (classAt marks n) h) (suc n) (newest marks h n)
 
 -- Each mark names a threshold, the fingerprint of its list, and the row before it in its class.
-pub record Marked (r : Raw) (count : ℕ) (marks : List ℕ) : Type 0 where
+pub record Marked (r : RawLists) (count : ℕ) (marks : List ℕ) : Type 0 where
   pub first : (k : ℕ) → k < length marks → getD marks k 0 % 1024 < count
   pub print : (k : ℕ) → k < length marks → printIn (getD marks k 0) ≡ fingerprint (markedList r (getD marks k 0))
   pub next : (k : ℕ) → k < length marks → nextIn (getD marks k 0) ≡ newest marks (classAt marks k) k
@@ -50,7 +51,7 @@ abbrev pub Own : List (List Term) → Type 0
 Own ls = (k : ℕ) → k < length ls → numberIn ls (getD ls k []) ≡ k
 
 -- A search for list x has come to row k, counted from 1: it is in the list's class, and the rows behind it have other lists.
-pub record Searching (r : Raw) (marks : List ℕ) (x : List Term) (k : ℕ) : Type 0 where
+pub record Searching (r : RawLists) (marks : List ℕ) (x : List Term) (k : ℕ) : Type 0 where
   pub few : k ≤ length marks
   pub class : (j : ℕ) → k ≡ suc j → classAt marks j ≡ classOf (fingerprint x)
   pub past : (i : ℕ) → k ≤ i → i < length marks → sameTerms (markedList r (getD marks i 0)) x ≡ false

@@ -13,7 +13,8 @@ use borrow.Author.Tests.{eqb-true, eqb-false, ltb-false}
 use Rattle.numeric.specs.Threshold.{Term}
 use Rattle.row.specs.Terms.{sameTerms}
 use Rattle.thresholds.specs.declared.Found.the-variants.{At, Nothing}
-use Rattle.thresholds.specs.Raw.{Raw, startOf, endOf, stretch, listAt, mixed, fingerprint, numberIn, foundOf, Lists}
+use Rattle.memory.specs.Buffers.{RawLists}
+use Rattle.thresholds.specs.Raw.{prints, startOf, endOf, stretch, listAt, mixed, fingerprint, numberIn, foundOf, Lists}
 use Rattle.thresholds.specs.RawLaws.{same-is, same-refl, length-terms, stretch-length, number-most, found-at, found-nothing}
 use Rattle.thresholds.specs.Chain.{mark, nextIn, printIn, markedList, classOf, classAt, newest, Marked, Headed, Own, Searching}
 use Rattle.thresholds.specs.Placed.{rawsTo, rowTo}
@@ -21,12 +22,12 @@ use Rattle.thresholds.specs.Placed.{rawsTo, rowTo}
 -- ---- marks as words
 
 -- A print is below 2 ^ 32, so that a mark fits its word and is taken apart again.
-mixed-small : (h : ℕ) (ts : List Term) → h < 4294967296 → mixed h ts < 4294967296
+mixed-small : (h : ℕ) (ts : List Term) → h < prints → mixed h ts < prints
 unfolding mixed
 mixed-small h [] q = q
-mixed-small h (t ∷ ts) q = mixed-small ((h * 65599 + t .condition * 257 + t .weight) % 4294967296) ts (omega arith)
+mixed-small h (t ∷ ts) q = mixed-small ((h * 65599 + t .condition * 257 + t .weight) % prints) ts (omega arith)
 
-list-short : (r : Raw) (t : ℕ) → Lists r (length (r .thresholds)) → t < length (r .thresholds) → length (listAt r t) < 4294967296
+list-short : (r : RawLists) (t : ℕ) → Lists r (length (r .thresholds)) → t < length (r .thresholds) → length (listAt r t) < prints
 unfolding listAt
 list-short r t l h =
     let a = startOf (r .thresholds) t in
@@ -34,22 +35,22 @@ list-short r t l h =
     let i = l .inside t h in
     let s = l .short t h in
     let w = l .weighed in
-    let c = stretch-length a e (r .conditions) (omega arith) in
-    let d = stretch-length a e (r .weights) (omega arith) in
-    let n = length-terms (stretch a e (r .conditions)) (stretch a e (r .weights)) (omega arith) in
+    let c = stretch-length a e (r .raw-conditions) (omega arith) in
+    let d = stretch-length a e (r .raw-weights) (omega arith) in
+    let n = length-terms (stretch a e (r .raw-conditions)) (stretch a e (r .raw-weights)) (omega arith) in
     omega arith
 
-pub print-small : (r : Raw) (t : ℕ) → Lists r (length (r .thresholds)) → t < length (r .thresholds) → fingerprint (listAt r t) < 4294967296
+pub print-small : (r : RawLists) (t : ℕ) → Lists r (length (r .thresholds)) → t < length (r .thresholds) → fingerprint (listAt r t) < prints
 unfolding fingerprint
 print-small r t l h = mixed-small (length (listAt r t)) (listAt r t) (list-short r t l h)
 
 pub mark-first : (n p t : ℕ) → t < 1024 → mark n p t % 1024 ≡ t
 mark-first n p t h = omega arith
 
-pub mark-print : (n p t : ℕ) → p < 4294967296 → t < 1024 → printIn (mark n p t) ≡ p
+pub mark-print : (n p t : ℕ) → p < prints → t < 1024 → printIn (mark n p t) ≡ p
 mark-print n p t g h = omega arith
 
-pub mark-next : (n p t : ℕ) → p < 4294967296 → t < 1024 → nextIn (mark n p t) ≡ n
+pub mark-next : (n p t : ℕ) → p < prints → t < 1024 → nextIn (mark n p t) ≡ n
 mark-next n p t g h = omega arith
 
 pub class-is : (p : ℕ) → p * 2654435769 / 4194304 % 1024 ≡ classOf p
@@ -129,7 +130,7 @@ each P ms m h q k l = by (decLt k (length ms))
         subst (λ (j : ℕ). P j (getD (ms ++ (m ∷ [])) j 0)) (let n = length-append ms (m ∷ []) in let f : length ms ≡ k = omega arith in f)
         (subst (P (length ms)) (sym (getD-append-seam ms m [] 0)) q)
 
-pub marked-one : (r : Raw) (count : ℕ) (ms : List ℕ) (m : ℕ) → Marked r count ms → m % 1024 < count → printIn m ≡ fingerprint (markedList r m)
+pub marked-one : (r : RawLists) (count : ℕ) (ms : List ℕ) (m : ℕ) → Marked r count ms → m % 1024 < count → printIn m ≡ fingerprint (markedList r m)
     → nextIn m ≡ newest ms (classOf (printIn m)) (length ms) → Marked r count (ms ++ (m ∷ []))
 marked-one r count ms m w f p n = record {
   first = each (λ (k m : ℕ). m % 1024 < count) ms m (w .first) f;
@@ -202,7 +203,7 @@ own-one ls x w e k h = by (decLt k (length ls))
         ∙ number-last ls x e ∙ sym f
 
 -- ROWS HAVE DIFFERENT RAW LISTS.
-pub raws-own : (r : Raw) (t : ℕ) → Own (rawsTo r t)
+pub raws-own : (r : RawLists) (t : ℕ) → Own (rawsTo r t)
 unfolding rawsTo
 raws-own r zero = λ k h. absurd (not-suc-le-zero h)
 raws-own r (suc t) = by (raws-own r t) (ltb (rowTo r t) (length (rawsTo r t))) refl
@@ -215,23 +216,23 @@ raws-own r (suc t) = by (raws-own r t) (ltb (rowTo r t) (length (rawsTo r t))) r
 -- ---- the search
 
 -- A list with another fingerprint is another list.
-pub prints-differ : (r : Raw) (m : ℕ) (x : List Term) → printIn m ≡ fingerprint (markedList r m) → (printIn m ≡ fingerprint x → ⊥) → sameTerms (markedList r m) x ≡ false
+pub prints-differ : (r : RawLists) (m : ℕ) (x : List Term) → printIn m ≡ fingerprint (markedList r m) → (printIn m ≡ fingerprint x → ⊥) → sameTerms (markedList r m) x ≡ false
 prints-differ r m x e n = by (sameTerms (markedList r m) x) refl
   where
     by : (b : Bool) → sameTerms (markedList r m) x ≡ b → sameTerms (markedList r m) x ≡ false
     by true q = absurd (n (e ∙ ap fingerprint (same-is (markedList r m) x q)))
     by false q = q
 
-pub length-marked : (r : Raw) (marks : List ℕ) → length (map (markedList r) marks) ≡ length marks
+pub length-marked : (r : RawLists) (marks : List ℕ) → length (map (markedList r) marks) ≡ length marks
 length-marked r [] = refl
 length-marked r (m ∷ marks) = ap suc (length-marked r marks)
 
-list-marked : (r : Raw) (marks : List ℕ) (k : ℕ) → k < length marks → getD (map (markedList r) marks) k [] ≡ markedList r (getD marks k 0)
+list-marked : (r : RawLists) (marks : List ℕ) (k : ℕ) → k < length marks → getD (map (markedList r) marks) k [] ≡ markedList r (getD marks k 0)
 list-marked r [] k h = absurd (not-suc-le-zero h)
 list-marked r (m ∷ marks) zero h = refl
 list-marked r (m ∷ marks) (suc k) h = list-marked r marks k (omega arith)
 
-number-none : (r : Raw) (marks : List ℕ) (x : List Term) → ((i : ℕ) → i < length marks → sameTerms (markedList r (getD marks i 0)) x ≡ false)
+number-none : (r : RawLists) (marks : List ℕ) (x : List Term) → ((i : ℕ) → i < length marks → sameTerms (markedList r (getD marks i 0)) x ≡ false)
     → numberIn (map (markedList r) marks) x ≡ length marks
 unfolding numberIn
 number-none r [] x h = refl
@@ -240,7 +241,7 @@ number-none r (m ∷ marks) x h =
     let i = number-none r marks x (λ j l. h (suc j) (omega arith)) in
     rw (e, numberIn) (omega arith)
 
-module _ (r : Raw) (count : ℕ) (marks : List ℕ) (x : List Term) (w : Marked r count marks) where
+module _ (r : RawLists) (count : ℕ) (marks : List ℕ) (x : List Term) (w : Marked r count marks) where
   other-class : (i : ℕ) → i < length marks → (classAt marks i ≡ classOf (fingerprint x) → ⊥) → sameTerms (markedList r (getD marks i 0)) x ≡ false
   other-class i h n = prints-differ r (getD marks i 0) x (w .print i h) (λ e. n (ap classOf e))
 

@@ -9,7 +9,8 @@ use Rattle.lists.specs.Laid.{over, joinAll, ends}
 use Rattle.numeric.specs.Threshold.{Term}
 use Rattle.row.specs.Terms.{rowTerms}
 use Rattle.row.specs.Keys.{laid, conditionsOf, weightsOf}
-use Rattle.thresholds.specs.Raw.{Raw, listAt, numberIn}
+use Rattle.memory.specs.Buffers.{RawLists}
+use Rattle.thresholds.specs.Raw.{listAt, numberIn}
 use Rattle.thresholds.specs.Chain.{markedList, Marked, Headed}
 use Rattle.thresholds.specs.Guards.{nodeAt}
 
@@ -21,16 +22,16 @@ spliced a m l x = take a l ++ (x ++ drop m (drop a l))
 abbrev pub joined : List (List Term) → List Term → List (List Term)
 joined ls x = cond (ltb (numberIn ls x) (length ls)) ls (ls ++ (x ∷ []))
 
-unfoldable pub rawsTo : Raw → ℕ → List (List Term)
+unfoldable pub rawsTo : RawLists → ℕ → List (List Term)
 rawsTo r zero = []
 rawsTo r (suc t) = joined (rawsTo r t) (listAt r t)
 
 -- The row of threshold t.
-abbrev pub rowTo : Raw → ℕ → ℕ
+abbrev pub rowTo : RawLists → ℕ → ℕ
 rowTo r t = numberIn (rawsTo r t) (listAt r t)
 
 -- The terms of the rows.
-abbrev pub termsTo : Raw → ℕ → List (List Term)
+abbrev pub termsTo : RawLists → ℕ → List (List Term)
 termsTo r t = map (λ (l : List Term). rowTerms l) (rawsTo r t)
 
 -- A row with the end of its terms.
@@ -41,17 +42,17 @@ abbrev pub nodeEntry : ℕ → ℕ → List ℕ
 nodeEntry t row = (t + 1) ∷ row ∷ 0 ∷ []
 
 -- The nodes after t thresholds.
-unfoldable pub nodesTo : Raw → List (List ℕ) → ℕ → List (List ℕ)
+unfoldable pub nodesTo : RawLists → List (List ℕ) → ℕ → List (List ℕ)
 nodesTo r nodes zero = nodes
 nodesTo r nodes (suc t) = set (nodesTo r nodes t) (nodeAt (r .thresholds) t) (nodeEntry t (rowTo r t))
 
 -- The terms of the rows in their two arrays.
-pub record Terms (r : Raw) (t : ℕ) (cs ws : List ℕ) : Type 0 where
+pub record Terms (r : RawLists) (t : ℕ) (cs ws : List ℕ) : Type 0 where
   pub conditions : cs ≡ laid (length cs) (conditionsOf (joinAll (termsTo r t)))
   pub weights : ws ≡ laid (length ws) (weightsOf (joinAll (termsTo r t)))
 
 -- The marks of the rows, behind which the scratch is zero, and the heads of their classes.
-pub record Marks (r : Raw) (t rows : ℕ) (scratch heads : List ℕ) : Type 0 where
+pub record Marks (r : RawLists) (t rows : ℕ) (scratch heads : List ℕ) : Type 0 where
   pub many : rows ≡ length (rawsTo r t)
   pub marked : Marked r (length (r .thresholds)) (take rows scratch)
   pub named : map (markedList r) (take rows scratch) ≡ rawsTo r t

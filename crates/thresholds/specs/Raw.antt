@@ -1,23 +1,17 @@
 -- The raw lists of a job as the lent buffers hold them: all terms one behind the other, and for each threshold its node and where its terms end.
-use Prim.Native.Nat.{ℕ, zero, suc, _+_, _-_, _*_, _%_, _<_, _≤_}
+use Prim.Native.Nat.{ℕ, zero, suc, _+_, _-_, _*_, _^_, _%_, _<_, _≤_}
 use mathlib.Core.Path.{_≡_}
 use mathlib.Core.Bool.{Bool, true, false, cond}
 use mathlib.Core.List.{List, [], _∷_}
 use lib.ListN.{length, take, drop, getD}
 use lib.Dec.{ltb}
 use lib.IntN.{ℤ, pos}
+use Rattle.memory.specs.Limits.{maxThresholds, listTerms, rawLimit}
+use Rattle.memory.specs.Buffers.{RawLists}
 use Rattle.numeric.specs.Threshold.{Term, Threshold, terms}
 use Rattle.row.specs.Terms.{sameTerms}
 use Rattle.thresholds.specs.declared.Found.{Found}
 use Rattle.thresholds.specs.declared.Found.the-variants.{At, Nothing}
-
-pub record Raw : Type 0 where
-  pub conditions : List ℕ
-  pub weights : List ℕ
-  pub thresholds : List (List ℕ)
-
-abbrev pub raw : List ℕ → List ℕ → List (List ℕ) → Raw
-raw cs ws ts = record { conditions = cs; weights = ws; thresholds = ts }
 
 -- Where the terms of threshold t end; where they begin: there the ones before end.
 abbrev pub endOf : List (List ℕ) → ℕ → ℕ
@@ -32,15 +26,18 @@ abbrev pub stretch : {X : Type 0} → ℕ → ℕ → List X → List X
 stretch a e l = take (e - a) (drop a l)
 
 -- The raw list of threshold t.
-unfoldable pub listAt : Raw → ℕ → List Term
+unfoldable pub listAt : RawLists → ℕ → List Term
 listAt r t =
-    terms (stretch (startOf (r .thresholds) t) (endOf (r .thresholds) t) (r .conditions))
-    (stretch (startOf (r .thresholds) t) (endOf (r .thresholds) t) (r .weights))
+    terms (stretch (startOf (r .thresholds) t) (endOf (r .thresholds) t) (r .raw-conditions))
+    (stretch (startOf (r .thresholds) t) (endOf (r .thresholds) t) (r .raw-weights))
 
--- A number made of a raw list: lists with different numbers differ.
+-- A number made of a raw list: lists with different numbers differ. There are so many.
+abbrev pub prints : ℕ
+prints = 2 ^ 32
+
 unfoldable pub mixed : ℕ → List Term → ℕ
 mixed h [] = h
-mixed h (t ∷ ts) = mixed ((h * 65599 + t .condition * 257 + t .weight) % 4294967296) ts
+mixed h (t ∷ ts) = mixed ((h * 65599 + t .condition * 257 + t .weight) % prints) ts
 
 unfoldable pub fingerprint : List Term → ℕ
 fingerprint ts = mixed (length ts) ts
@@ -53,12 +50,13 @@ numberIn (l ∷ ls) x = elim (sameTerms l x) [ true ↦ 0 | false ↦ 1 + number
 abbrev pub foundOf : ℕ → ℕ → Found
 foundOf n rows = cond (ltb n rows) (At n) Nothing
 
--- The lists of so many thresholds stand one behind the other inside the two slices, none longer than 1,024 terms.
-pub record Lists (r : Raw) (count : ℕ) : Type 0 where
-  pub many : count ≤ 1024
+-- The lists of so many thresholds stand one behind the other inside the two slices, none longer than listTerms, every weight below rawLimit.
+pub record Lists (r : RawLists) (count : ℕ) : Type 0 where
+  pub many : count ≤ maxThresholds
   pub held : count ≤ length (r .thresholds)
   pub wide : (t : ℕ) → t < count → length (getD (r .thresholds) t []) ≡ 2
   pub rising : (t : ℕ) → t < count → startOf (r .thresholds) t ≤ endOf (r .thresholds) t
-  pub short : (t : ℕ) → t < count → endOf (r .thresholds) t ≤ startOf (r .thresholds) t + 1024
-  pub inside : (t : ℕ) → t < count → endOf (r .thresholds) t ≤ length (r .conditions)
-  pub weighed : length (r .weights) ≡ length (r .conditions)
+  pub short : (t : ℕ) → t < count → endOf (r .thresholds) t ≤ startOf (r .thresholds) t + listTerms
+  pub inside : (t : ℕ) → t < count → endOf (r .thresholds) t ≤ length (r .raw-conditions)
+  pub weighed : length (r .raw-weights) ≡ length (r .raw-conditions)
+  pub light : (i : ℕ) → getD (r .raw-weights) i 0 < rawLimit

@@ -15,7 +15,8 @@ use Rattle.row.specs.Terms.{sameTerms, total}
 use Rattle.thresholds.specs.Rows.{hasNonunit}
 use Rattle.thresholds.specs.declared.Found.{Found}
 use Rattle.thresholds.specs.declared.Found.the-variants.{At, Nothing}
-use Rattle.thresholds.specs.Raw.{Raw, endOf, startOf, stretch, listAt, mixed, fingerprint, numberIn, foundOf}
+use Rattle.memory.specs.Buffers.{RawLists}
+use Rattle.thresholds.specs.Raw.{prints, endOf, startOf, stretch, listAt, mixed, fingerprint, numberIn, foundOf}
 
 pub start-next : (ts : List (List ℕ)) (t : ℕ) → 0 < t → endOf ts (t - 1) ≡ startOf ts t
 unfolding startOf
@@ -121,7 +122,7 @@ same-refl (x ∷ xs) = rw (eq-eqb (x .condition) (x .condition) refl, eq-eqb (x 
 -- ---- fingerprints
 
 pub mixed-next : (cs ws : List ℕ) (h i : ℕ) → i < length cs → i < length ws
-    → mixed h (terms (drop i cs) (drop i ws)) ≡ mixed ((h * 65599 + getD cs i 0 * 257 + getD ws i 0) % 4294967296) (terms (drop (i + 1) cs) (drop (i + 1) ws))
+    → mixed h (terms (drop i cs) (drop i ws)) ≡ mixed ((h * 65599 + getD cs i 0 * 257 + getD ws i 0) % prints) (terms (drop (i + 1) cs) (drop (i + 1) ws))
 unfolding mixed
 mixed-next cs ws h i a b = rw (terms-next cs ws i a b, mixed)
 
@@ -167,8 +168,8 @@ pub total-done : (cs ws : List ℕ) (s i : ℕ) → length cs ≤ i → s ≡ s 
 unfolding total
 total-done cs ws s i a = rw (terms-done cs ws i a, total) (omega arith)
 
-pub list-is : (r : Raw) (t a e : ℕ) → a ≡ startOf (r .thresholds) t → e ≡ endOf (r .thresholds) t
-    → terms (stretch a e (r .conditions)) (stretch a e (r .weights)) ≡ listAt r t
+pub list-is : (r : RawLists) (t a e : ℕ) → a ≡ startOf (r .thresholds) t → e ≡ endOf (r .thresholds) t
+    → terms (stretch a e (r .raw-conditions)) (stretch a e (r .raw-weights)) ≡ listAt r t
 unfolding listAt
 list-is r t a e p q = rw (p, q, listAt)
 

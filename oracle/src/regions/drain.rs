@@ -96,8 +96,10 @@ pub struct Planner {
     states: Box<[State]>,
     lists: CommonScratch,
     idle: Idle,
-    /// Entries taken so far from the node, row and residual queues.
-    pub taken: [usize; 3],
+    /// Entries taken so far from the node, row and residual queues, oldest first.
+    pub taken: [Vec<usize>; 3],
+    /// Suffix gcds, each list over those before it.
+    pub gcds: Vec<u64>,
     /// Most entries that waited at once in each queue.
     pub most: [usize; 3],
     pub events: Vec<Event>,
@@ -134,7 +136,8 @@ impl Planner {
             states,
             lists,
             idle: Idle::default(),
-            taken: [0; 3],
+            taken: std::array::from_fn(|_| Vec::new()),
+            gcds: Vec::new(),
             most: [0; 3],
             events: Vec::new(),
         }
@@ -246,21 +249,21 @@ impl Planner {
 
     fn next_node(&mut self) -> Option<(usize, bool)> {
         let entry = take_oldest(&mut self.lists.nodes)?;
-        self.taken[0] += 1;
+        self.taken[0].push(entry.0);
         Some(entry)
     }
 
     fn next_row(&mut self) -> Option<usize> {
         let row = take_oldest(&mut self.lists.threshold_rows)?;
         self.lists.pending_thresholds.remove(row);
-        self.taken[1] += 1;
+        self.taken[1].push(row);
         Some(row)
     }
 
     fn next_residual(&mut self) -> Option<usize> {
         let row = take_oldest(&mut self.lists.residual_rows)?;
         self.lists.pending_residuals.remove(row);
-        self.taken[2] += 1;
+        self.taken[2].push(row);
         Some(row)
     }
 
@@ -329,7 +332,11 @@ impl Planner {
         let step =
             self.step(|closure, index, _, work| closure.threshold_residual(index, row, work));
         let branches = !self.lists.residual_suffix.is_empty();
-        if !branches {
+        if branches {
+            let made: Vec<u64> = self.suffix().iter().map(|&gcd| gcd as u64).collect();
+            self.gcds.resize(self.gcds.len().max(made.len()), 0);
+            self.gcds[..made.len()].copy_from_slice(&made);
+        } else {
             self.lists.residual_suffix = suffix;
         }
         let after = self.counts();

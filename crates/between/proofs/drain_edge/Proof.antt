@@ -1,61 +1,88 @@
 -- `between::drain_edge` meets its contract: the weight is drained, the state stored, and the row run.
-use Prim.Native.Nat.{ℕ, _+_, _-_, _^_}
-use native.Mathlib.Omega.{arith}
-use lib.ListN.{getD}
-use Rattle.state.specs.State.{noState, drained}
-use Rattle.queues.specs.Queue.{queue, rows}
-use Rattle.queues.specs.Marks.{marks}
-use Rattle.between.specs.Numbers.{statesOf}
-use Rattle.between.specs.Held.{lent, heldRow}
-use Rattle.between.specs.ReadyLaws.{ready-more, fit-more, fit-by, fit-drained, fit-drains, drains-by, from-state}
+use Prim.Native.Nat.{ℕ, _+_, _-_}
 use mathlib.Core.Path.{_∙_, ap}
+use native.Mathlib.Omega.{arith}
+use Rattle.memory.specs.Buffers.{heldRows}
+use Rattle.state.specs.State.{drained}
+use Rattle.memory.specs.Limits.{figureLimit, drainLimit}
+use Rattle.between.specs.Between.{did, stateAt}
+use Rattle.between.specs.Numbers.{liveOf}
+use Rattle.between.specs.Held.{heldRow}
+use Rattle.between.specs.ReadyLaws.{ready-more, fit-more, fit-by, fit-drained, fit-drains, drains-by, from-state}
 use Rattle.between.proofs.drain_edge.Statement.{statement}
 use Rattle.between.proofs.drain_edge.Tie as tie
 
 load-requires : tie.Need-load-requires
-load-requires c κs = omega (arith, c .before .before .before .before .before .before .before .before .before .before .pre .1 .long, c .before .before .before .before .before .before .before .before .before .before .pre .0 .1)
+load-requires c κs =
+    let s = c .before .before .before .before .before .before .before .before in
+    let p = s .pre in
+    omega (arith, p .1 .long, p .0 .1)
 
 drained-requires : tie.Need-drained-requires
-drained-requires c κs = let a = c .before .before .before .before .before .before .before .before .before .before .before .args in
-    drains-by (c .load .result) (getD (statesOf (c .before .before .before .before .before .before .before .before .before .before .before .args .figures .now) (c .before .before .before .before .before .before .before .before .before .before .before .args .cursors .now)) (a .row) noState) (a .weight) (c .load .ensures)
-    (fit-drains (lent (c .before .before .before .before .before .before .before .before .before .before .before .args .conditions .now) (c .before .before .before .before .before .before .before .before .before .before .before .args .weights .now) (c .before .before .before .before .before .before .before .before .before .before .before .args .rows .now) (c .before .before .before .before .before .before .before .before .before .before .before .args .bounds .now) (c .before .before .before .before .before .before .before .before .before .before .before .args .names .now)) (2 ^ 61 - 35184372088832) (a .row) (getD (statesOf (c .before .before .before .before .before .before .before .before .before .before .before .args .figures .now) (c .before .before .before .before .before .before .before .before .before .before .before .args .cursors .now)) (a .row) noState) (a .weight) (omega arith) (c .before .before .before .before .before .before .before .before .before .before .before .pre .0 .2) (c .before .before .before .before .before .before .before .before .before .before .before .pre .1 .fit (a .row) (c .before .before .before .before .before .before .before .before .before .before .before .pre .0 .1)))
+drained-requires c κs =
+    let load = c .load in
+    let s = c .before .before .before .before .before .before .before .before .before in
+    let a = s .args in
+    let p = s .pre in
+    let h = heldRows (a .row-conditions .now) (a .row-weights .now) (a .rows .now) (a .guard-bounds .now) (a .guard-nodes .now) in
+    let v = liveOf (a .figures .now) (a .cursors .now) (a .sure .now) (a .never .now) (a .node-queue .now) (a .row-queues .now) (a .rings) in
+    let r = a .row in
+    drains-by (load .result) (stateAt v r) (a .weight) (load .ensures)
+    (fit-drains h (figureLimit - drainLimit) r (stateAt v r) (a .weight) (omega arith) (p .0 .2) (p .1 .fit r (p .0 .1)))
 
 run-from-requires : tie.Need-run-from-requires
-run-from-requires c κs = let a = c .before .before .before .before .before .before .before .before .before .before .before .before .before .before .before .before .before .before .before .args in
-    let n : ℕ = 2 ^ 61 - 35184372088832 in
-    let s = getD (statesOf (c .before .before .before .before .before .before .before .before .before .before .before .before .before .before .before .before .before .before .before .args .figures .now) (c .before .before .before .before .before .before .before .before .before .before .before .before .before .before .before .before .before .before .before .args .cursors .now)) (a .row) noState in
-    let t = drained (a .value) (a .weight) s in
-    let f = fit-more (lent (c .before .before .before .before .before .before .before .before .before .before .before .before .before .before .before .before .before .before .before .args .conditions .now) (c .before .before .before .before .before .before .before .before .before .before .before .before .before .before .before .before .before .before .before .args .weights .now) (c .before .before .before .before .before .before .before .before .before .before .before .before .before .before .before .before .before .before .before .args .rows .now) (c .before .before .before .before .before .before .before .before .before .before .before .before .before .before .before .before .before .before .before .args .bounds .now) (c .before .before .before .before .before .before .before .before .before .before .before .before .before .before .before .before .before .before .before .args .names .now)) (n + 35184372088832) (2 ^ 61) (a .row) t (omega arith) (fit-drained (lent (c .before .before .before .before .before .before .before .before .before .before .before .before .before .before .before .before .before .before .before .args .conditions .now) (c .before .before .before .before .before .before .before .before .before .before .before .before .before .before .before .before .before .before .before .args .weights .now) (c .before .before .before .before .before .before .before .before .before .before .before .before .before .before .before .before .before .before .before .args .rows .now) (c .before .before .before .before .before .before .before .before .before .before .before .before .before .before .before .before .before .before .before .args .bounds .now) (c .before .before .before .before .before .before .before .before .before .before .before .before .before .before .before .before .before .before .before .args .names .now)) n (a .row) s (a .value) (a .weight) (c .before .before .before .before .before .before .before .before .before .before .before .before .before .before .before .before .before .before .before .pre .0 .2) (c .before .before .before .before .before .before .before .before .before .before .before .before .before .before .before .before .before .before .before .pre .1 .fit (a .row) (c .before .before .before .before .before .before .before .before .before .before .before .before .before .before .before .before .before .before .before .pre .0 .1))) in (
-      (c .before .before .before .before .before .before .before .before .before .before .before .before .before .before .before .before .before .before .before .pre .0 .0, c .before .before .before .before .before .before .before .before .before .before .before .before .before .before .before .before .before .before .before .pre .0 .1, fit-by (lent (c .before .before .before .before .before .before .before .before .before .before .before .before .before .before .before .before .before .before .before .args .conditions .now) (c .before .before .before .before .before .before .before .before .before .before .before .before .before .before .before .before .before .before .before .args .weights .now) (c .before .before .before .before .before .before .before .before .before .before .before .before .before .before .before .before .before .before .before .args .rows .now) (c .before .before .before .before .before .before .before .before .before .before .before .before .before .before .before .before .before .before .before .args .bounds .now) (c .before .before .before .before .before .before .before .before .before .before .before .before .before .before .before .before .before .before .before .args .names .now)) (2 ^ 61) (a .row) (c .before .before .before .before .before .before .before .drained .result) t (c .before .before .before .before .before .before .before .drained .ensures ∙ ap (drained (a .value) (a .weight)) (c .before .before .before .before .before .before .before .before .load .ensures)) f),
-      ready-more (lent (c .before .before .before .before .before .before .before .before .before .before .before .before .before .before .before .before .before .before .before .args .conditions .now) (c .before .before .before .before .before .before .before .before .before .before .before .before .before .before .before .before .before .before .before .args .weights .now) (c .before .before .before .before .before .before .before .before .before .before .before .before .before .before .before .before .before .before .before .args .rows .now) (c .before .before .before .before .before .before .before .before .before .before .before .before .before .before .before .before .before .before .before .args .bounds .now) (c .before .before .before .before .before .before .before .before .before .before .before .before .before .before .before .before .before .before .before .args .names .now)) n (2 ^ 61) (statesOf (c .before .before .before .before .before .before .before .before .before .before .before .before .before .before .before .before .before .before .before .args .figures .now) (c .before .before .before .before .before .before .before .before .before .before .before .before .before .before .before .before .before .before .before .args .cursors .now)) (marks (c .before .before .before .before .before .before .before .before .before .before .before .before .before .before .before .before .before .before .before .args .sure .now) (c .before .before .before .before .before .before .before .before .before .before .before .before .before .before .before .before .before .before .before .args .never .now) (queue (c .before .before .before .before .before .before .before .before .before .before .before .before .before .before .before .before .before .before .before .args .nodes .now) (c .before .before .before .before .before .before .before .before .before .before .before .before .before .before .before .before .before .before .before .args .ring))) (rows (queue (c .before .before .before .before .before .before .before .before .before .before .before .before .before .before .before .before .before .before .before .args .items .now) (c .before .before .before .before .before .before .before .before .before .before .before .before .before .before .before .before .before .before .before .args .residuals)) (c .before .before .before .before .before .before .before .before .before .before .before .before .before .before .before .before .before .before .before .args .pending .now)) (omega arith) (c .before .before .before .before .before .before .before .before .before .before .before .before .before .before .before .before .before .before .before .pre .1),
-    )
+run-from-requires c κs =
+    let at-drained = c .before .before .before .before .before .before in
+    let moved = at-drained .drained in
+    let load = at-drained .before .load in
+    let s = at-drained .before .before .before .before .before .before .before .before .before .before in
+    let a = s .args in
+    let p = s .pre in
+    let h = heldRows (a .row-conditions .now) (a .row-weights .now) (a .rows .now) (a .guard-bounds .now) (a .guard-nodes .now) in
+    let v = liveOf (a .figures .now) (a .cursors .now) (a .sure .now) (a .never .now) (a .node-queue .now) (a .row-queues .now) (a .rings) in
+    let n : ℕ = figureLimit - drainLimit in
+    let r = a .row in
+    let t = drained (a .value) (a .weight) (stateAt v r) in
+    let f = fit-more h (n + drainLimit) figureLimit r t (omega arith) (fit-drained h n r (stateAt v r) (a .value) (a .weight) (p .0 .2) (p .1 .fit r (p .0 .1))) in
+    let fit = fit-by h figureLimit r (moved .result) t (moved .ensures ∙ ap (drained (a .value) (a .weight)) (load .ensures)) f in
+    ((p .0 .0, p .0 .1, fit), ready-more h n figureLimit (v .states) (v .marks) (v .residuals) (omega arith) (p .1))
 
 same-length : tie.Need-same-length
-same-length c = c .before .before .before .before .before .before .before .before .before .before .before .before .run-from .kept .1 .1 .1 .1 .1 .0
+same-length c = c .before .before .before .before .before .before .before .before .before .run-from .kept .1 .1 .1 .1 .1 .0
 
 same-length-2 : tie.Need-same-length-2
-same-length-2 c = c .before .before .before .before .before .before .before .before .before .before .before .before .run-from .kept .1 .1 .1 .1 .1 .1 .0
+same-length-2 c = c .before .before .before .before .before .before .before .before .before .run-from .kept .1 .1 .1 .1 .1 .1 .0
 
 same-length-3 : tie.Need-same-length-3
-same-length-3 c = c .before .before .before .before .before .before .before .before .before .before .before .before .run-from .kept .1 .1 .1 .1 .1 .1 .1 .1 .1 .0
+same-length-3 c = c .before .before .before .before .before .before .before .before .before .run-from .kept .1 .1 .1 .1 .1 .1 .1 .0
 
 same-length-4 : tie.Need-same-length-4
-same-length-4 c = c .before .before .before .before .before .before .before .before .before .before .before .before .run-from .kept .1 .1 .1 .1 .1 .1 .1 .1 .1 .1 .0
+same-length-4 c = c .before .before .before .before .before .before .before .before .before .run-from .kept .1 .1 .1 .1 .1 .1 .1 .1 .0
 
 same-length-5 : tie.Need-same-length-5
-same-length-5 c = c .before .before .before .before .before .before .before .before .before .before .before .before .run-from .kept .1 .1 .1 .1 .1 .1 .1 .1 .1 .1 .1 .0
+same-length-5 c = c .before .before .before .before .before .before .before .before .before .run-from .kept .1 .1 .1 .1 .1 .1 .1 .1 .1 .0
 
 same-length-6 : tie.Need-same-length-6
-same-length-6 c = c .before .before .before .before .before .before .before .before .before .before .before .before .run-from .kept .1 .1 .1 .1 .1 .1 .1 .1 .1 .1 .1 .1 .1 .0
-
-same-length-7 : tie.Need-same-length-7
-same-length-7 c = c .before .before .before .before .before .before .before .before .before .before .before .before .run-from .kept .1 .1 .1 .1 .1 .1 .1 .1 .1 .1 .1 .1 .1 .1 .0
+same-length-6 c = c .before .before .before .before .before .before .before .before .before .run-from .kept .1 .1 .1 .1 .1 .1 .1 .1 .1 .1 .0
 
 returns : tie.Need-returns
-returns c = let a = c .before .before .before .before .before .before .before .before .before .before .before .before .before .before .before .before .before .before .before .before .before .before .before .before .before .before .before .before .before .before .before .before .args in
-    let t = drained (a .value) (a .weight) (getD (statesOf (c .before .before .before .before .before .before .before .before .before .before .before .before .before .before .before .before .before .before .before .before .before .before .before .before .before .before .before .before .before .before .before .before .args .figures .now) (c .before .before .before .before .before .before .before .before .before .before .before .before .before .before .before .before .before .before .before .before .before .before .before .before .before .before .before .before .before .before .before .before .args .cursors .now)) (a .row) noState) in (
-      λ d. c .before .before .before .before .before .before .before .before .before .before .before .before .run-from .ensures .0 d ∙ from-state (heldRow (lent (c .before .before .before .before .before .before .before .before .before .before .before .before .before .before .before .before .before .before .before .before .before .before .before .before .before .before .before .before .before .before .before .before .args .conditions .now) (c .before .before .before .before .before .before .before .before .before .before .before .before .before .before .before .before .before .before .before .before .before .before .before .before .before .before .before .before .before .before .before .before .args .weights .now) (c .before .before .before .before .before .before .before .before .before .before .before .before .before .before .before .before .before .before .before .before .before .before .before .before .before .before .before .before .before .before .before .before .args .rows .now) (c .before .before .before .before .before .before .before .before .before .before .before .before .before .before .before .before .before .before .before .before .before .before .before .before .before .before .before .before .before .before .before .before .args .bounds .now) (c .before .before .before .before .before .before .before .before .before .before .before .before .before .before .before .before .before .before .before .before .before .before .before .before .before .before .before .before .before .before .before .before .args .names .now)) (a .row)) (statesOf (c .before .before .before .before .before .before .before .before .before .before .before .before .before .before .before .before .before .before .before .before .before .before .before .before .before .before .before .before .before .before .before .before .args .figures .now) (c .before .before .before .before .before .before .before .before .before .before .before .before .before .before .before .before .before .before .before .before .before .before .before .before .before .before .before .before .before .before .before .before .args .cursors .now)) (marks (c .before .before .before .before .before .before .before .before .before .before .before .before .before .before .before .before .before .before .before .before .before .before .before .before .before .before .before .before .before .before .before .before .args .sure .now) (c .before .before .before .before .before .before .before .before .before .before .before .before .before .before .before .before .before .before .before .before .before .before .before .before .before .before .before .before .before .before .before .before .args .never .now) (queue (c .before .before .before .before .before .before .before .before .before .before .before .before .before .before .before .before .before .before .before .before .before .before .before .before .before .before .before .before .before .before .before .before .args .nodes .now) (c .before .before .before .before .before .before .before .before .before .before .before .before .before .before .before .before .before .before .before .before .before .before .before .before .before .before .before .before .before .before .before .before .args .ring))) d (rows (queue (c .before .before .before .before .before .before .before .before .before .before .before .before .before .before .before .before .before .before .before .before .before .before .before .before .before .before .before .before .before .before .before .before .args .items .now) (c .before .before .before .before .before .before .before .before .before .before .before .before .before .before .before .before .before .before .before .before .before .before .before .before .before .before .before .before .before .before .before .before .args .residuals)) (c .before .before .before .before .before .before .before .before .before .before .before .before .before .before .before .before .before .before .before .before .before .before .before .before .before .before .before .before .before .before .before .before .args .pending .now)) (a .row) (c .before .before .before .before .before .before .before .before .before .before .before .before .before .before .before .before .before .before .before .before .drained .result) t (c .before .before .before .before .before .before .before .before .before .before .before .before .before .before .before .before .before .before .before .before .drained .ensures ∙ ap (drained (a .value) (a .weight)) (c .before .before .before .before .before .before .before .before .before .before .before .before .before .before .before .before .before .before .before .before .before .load .ensures)),
-      c .before .before .before .before .before .before .before .before .before .before .before .before .run-from .ensures .1,
+returns c =
+    let at-run-from = c .before .before .before .before .before .before .before .before .before in
+    let run-from = at-run-from .run-from in
+    let at-drained = at-run-from .before .before .before .before .before .before .before in
+    let moved = at-drained .drained in
+    let load = at-drained .before .load in
+    let s = at-drained .before .before .before .before .before .before .before .before .before .before in
+    let a = s .args in
+    let h = heldRows (a .row-conditions .now) (a .row-weights .now) (a .rows .now) (a .guard-bounds .now) (a .guard-nodes .now) in
+    let v = liveOf (a .figures .now) (a .cursors .now) (a .sure .now) (a .never .now) (a .node-queue .now) (a .row-queues .now) (a .rings) in
+    let m = run-from .last .1 .1 .1 .1 .1 in
+    let o = liveOf (m .0) (m .1 .0) (m .1 .1 .0) (m .1 .1 .1 .0) (m .1 .1 .1 .1 .0) (m .1 .1 .1 .1 .1 .0) (run-from .result .rings) in
+    let r = a .row in
+    let t = drained (a .value) (a .weight) (stateAt v r) in (
+      from-state (heldRow h r) v r (moved .result) t (moved .ensures ∙ ap (drained (a .value) (a .weight)) (load .ensures))
+          (did o (run-from .result .step)) (run-from .ensures .0),
+      run-from .ensures .1,
     )
 
 pub drain-edge-spec : {M : Type 1} → statement M
@@ -71,5 +98,4 @@ drain-edge-spec =
     same-length-4
     same-length-5
     same-length-6
-    same-length-7
     returns)

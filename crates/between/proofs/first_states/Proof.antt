@@ -1,46 +1,69 @@
 -- `between::first_states` meets its contract: the rows from here on are those that are left.
 use Prim.Native.Nat.{_-_, _<_}
+use mathlib.Core.Path.{_≡_, _∙_, refl}
 use native.Mathlib.Omega.{arith}
 use lib.ListN.{length}
 use Rattle.between.specs.Numbers.{statesOf, states-set, Tidy, tidy-store}
 use Rattle.between.specs.FirstLaws.{Starting, starting-first, starting-next, starting-end}
-use mathlib.Core.Path.{_≡_, _∙_, refl}
 use Rattle.between.proofs.first_states.Statement.{statement}
 use Rattle.between.proofs.first_states.Tie as tie
 
 abbrev Inv-loop : tie.InvT-loop
-Inv-loop conditions weights table figures₀ cursors₀ at₀ figures cursors at = Starting conditions weights table (statesOf figures₀ cursors₀) at (statesOf figures cursors)
+Inv-loop row-conditions row-weights rows figures₀ cursors₀ at₀ figures cursors at =
+    Starting row-conditions row-weights rows (statesOf figures₀ cursors₀) at (statesOf figures cursors)
     × (length figures ≡ length figures₀) × (length cursors ≡ length cursors₀) × (Tidy figures₀ cursors₀ → Tidy figures cursors)
 
 abbrev μ-loop : tie.MeasureT-loop
-μ-loop conditions weights table figures₀ cursors₀ at₀ figures cursors at = length table - at
+μ-loop row-conditions row-weights rows figures₀ cursors₀ at₀ figures cursors at = length rows - at
 
 loop-holds : tie.Need-loop-holds Inv-loop μ-loop
-loop-holds c = (starting-first (c .before .before .args .conditions .now) (c .before .before .args .weights .now) (c .before .before .args .rows .now) (statesOf (c .before .before .args .figures .now) (c .before .before .args .cursors .now)), refl, refl, λ t. t)
+loop-holds c =
+    let s = c .before .before in
+    let a = s .args in
+    (starting-first (a .row-conditions .now) (a .row-weights .now) (a .rows .now) (statesOf (a .figures .now) (a .cursors .now)), refl, refl, λ t. t)
 
 first-at-requires : tie.Need-first-at-requires Inv-loop μ-loop
-first-at-requires c κs = (c .before .before .before .before .pre .0, c .before .before .before .before .pre .1, c .before .before .before .before .pre .2, c .loop-test .taken, c .before .before .before .before .pre .4 (c .before .loop .at) (c .loop-test .taken))
+first-at-requires c κs =
+    let test = c .loop-test in
+    let s = c .before .before .before .before in
+    let p = s .pre in
+    (p .0, p .1, p .2, test .taken, p .4 (c .before .loop .at) (test .taken))
 
 store-requires : tie.Need-store-requires Inv-loop μ-loop
-store-requires c κs = omega (arith, c .before .before .before .loop-test .taken, c .before .before .before .before .before .before .before .pre .5, c .before .before .before .before .loop .inv .0 .long)
+store-requires c κs =
+    let test = c .before .before .before .loop-test in
+    let at-loop = c .before .before .before .before in
+    let w = at-loop .loop in
+    let s = at-loop .before .before .before in
+    omega (arith, test .taken, s .pre .5, w .inv .0 .long)
 
 add-at : tie.Need-add-at Inv-loop μ-loop
-add-at c = omega (arith, c .before .before .before .before .before .before .loop-test .taken, c .before .before .before .before .before .before .before .before .before .before .pre .3)
+add-at c =
+    let at-loop-test = c .before .before .before .before .before .before in
+    let test = at-loop-test .loop-test in
+    let s = at-loop-test .before .before .before .before in
+    omega (arith, test .taken, s .pre .3)
 
 loop-less : tie.Need-loop-less Inv-loop μ-loop
 loop-less c = omega (arith, c .before .before .before .before .before .before .loop-test .taken)
 
 loop-again : tie.Need-loop-again Inv-loop μ-loop
-loop-again c = let w = c .before .before .before .before .before .before .before .loop in
-    let s = c .before .before .store in
-    let k : w .at < length (statesOf (w .figures) (w .cursors)) = omega (arith, c .before .before .before .before .before .before .loop-test .taken, c .before .before .before .before .before .before .before .before .before .before .pre .5, w .inv .0 .long) in (
-      starting-next (c .before .before .before .before .before .before .before .before .before .before .args .conditions .now) (c .before .before .before .before .before .before .before .before .before .before .args .weights .now) (c .before .before .before .before .before .before .before .before .before .before .args .rows .now) (statesOf (c .before .before .before .before .before .before .before .before .before .before .args .figures .now) (c .before .before .before .before .before .before .before .before .before .before .args .cursors .now)) (w .at) (statesOf (w .figures) (w .cursors)) (w .inv .0)
-          (c .before .before .before .before .before .before .loop-test .taken) (c .before .before .before .before .before .first-at .result) (c .before .before .before .before .before .first-at .ensures) (statesOf (s .last .0) (s .last .1 .0))
-          (states-set (w .figures) (s .last .0) (w .cursors) (s .last .1 .0) (w .at) (c .before .before .before .before .before .first-at .result) k (s .ensures .0) (s .ensures .1)),
-      s .kept .0 ∙ w .inv .1,
-      s .kept .1 .0 ∙ w .inv .2,
-      λ t. tidy-store (w .figures) (s .last .0) (w .cursors) (s .last .1 .0) (w .at) (c .before .before .before .before .before .first-at .result) k (s .ensures .0) (s .ensures .1) (w .inv .3 t),
-    )
+loop-again c =
+    let store = c .before .before .store in
+    let at-first-at = c .before .before .before .before .before in
+    let first-at = at-first-at .first-at in
+    let test = at-first-at .before .loop-test in
+    let w = at-first-at .before .before .loop in
+    let s = at-first-at .before .before .before .before .before in
+    let a = s .args in
+    let f = store .last in
+    let first = first-at .result in
+    let k : w .at < length (statesOf (w .figures) (w .cursors)) = omega (arith, test .taken, s .pre .5, w .inv .0 .long) in
+    let set = states-set (w .figures) (f .0) (w .cursors) (f .1 .0) (w .at) first k (store .ensures .0) (store .ensures .1) in
+    let tidy = tidy-store (w .figures) (f .0) (w .cursors) (f .1 .0) (w .at) first k (store .ensures .0) (store .ensures .1) in
+    let next = starting-next (a .row-conditions .now) (a .row-weights .now) (a .rows .now) (statesOf (a .figures .now) (a .cursors .now)) (w .at)
+    (statesOf (w .figures) (w .cursors)) (w .inv .0) (test .taken) first (first-at .ensures) (statesOf (f .0) (f .1 .0)) set in
+    (next, store .kept .0 ∙ w .inv .1, store .kept .1 .0 ∙ w .inv .2, λ t. tidy (w .inv .3 t))
 
 same-length : tie.Need-same-length Inv-loop μ-loop
 same-length c = c .before .loop .inv .1
@@ -49,7 +72,13 @@ same-length-2 : tie.Need-same-length-2 Inv-loop μ-loop
 same-length-2 c = c .before .loop .inv .2
 
 returns : tie.Need-returns Inv-loop μ-loop
-returns c = (starting-end (c .before .before .before .before .args .conditions .now) (c .before .before .before .before .args .weights .now) (c .before .before .before .before .args .rows .now) (statesOf (c .before .before .before .before .args .figures .now) (c .before .before .before .before .args .cursors .now)) (c .before .loop .at) (statesOf (c .before .loop .figures) (c .before .loop .cursors)) (c .before .loop .inv .0) (c .loop-test .left), c .before .loop .inv .3)
+returns c =
+    let w = c .before .loop in
+    let s = c .before .before .before .before in
+    let a = s .args in
+    let end = starting-end (a .row-conditions .now) (a .row-weights .now) (a .rows .now) (statesOf (a .figures .now) (a .cursors .now)) (w .at)
+    (statesOf (w .figures) (w .cursors)) (w .inv .0) (c .loop-test .left) in
+    (end, w .inv .3)
 
 pub first-states-spec : {M : Type 1} → statement M
 first-states-spec =

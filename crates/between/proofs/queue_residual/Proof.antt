@@ -1,37 +1,47 @@
 -- `between::queue_residual` meets its contract.
-use mathlib.Core.Path.{sym, _∙_}
-use borrow.Author.Needs.{needs}
+use mathlib.Core.Path.{refl, sym, _∙_}
 use Rattle.numeric.specs.Threshold.{terms}
-use Rattle.queues.specs.Queue.{queue, rows}
+use Rattle.queues.specs.Queue.{rowsIn}
 use Rattle.thresholds.specs.Rows.{rowOf}
 use Rattle.between.specs.BetweenLaws.{residual-waits, residual-not}
+use borrow.Author.Needs.{needs}
 use Rattle.between.proofs.queue_residual.Statement.{statement}
 use Rattle.between.proofs.queue_residual.Tie as tie
 
 wants-residual-requires : tie.Need-wants-residual-requires
-wants-residual-requires c κs = search needs
+wants-residual-requires c κs =
+    search needs
 
 queue-row-requires : tie.Need-queue-row-requires
-queue-row-requires c κs = search needs
+queue-row-requires c κs =
+    search needs
 
 same-length : tie.Need-same-length
-same-length c = search needs
-
-same-length-2 : tie.Need-same-length-2
-same-length-2 c = search needs
+same-length c =
+    search needs
 
 returns : tie.Need-returns
 returns c =
-    let a = c .before .before .before .before .before .before .before .before .before .before .before .before .before .args in
-    λ raw gs. c .before .before .before .before .queue-row .ensures
-    ∙ residual-waits (rowOf raw (terms (a .conditions .now) (a .weights .now)) gs) (a .state) (rows (queue (a .items .now) (a .ring)) (a .pending .now)) (a .row)
-    (sym (c .before .before .before .before .before .before .before .before .wants-residual .ensures raw gs) ∙ c .before .before .before .before .before .before .before .if1 .taken)
+    let queue-row = c .before .queue-row in
+    let if1 = c .before .before .before .if1 in
+    let at-wants-residual = c .before .before .before .before in
+    let wants-residual = at-wants-residual .wants-residual in
+    let s = at-wants-residual .before .before .before in
+    let a = s .args in (
+      λ raw gs. queue-row .ensures .0
+          ∙ residual-waits (rowOf raw (terms (a .row-conditions .now) (a .row-weights .now)) gs) (a .state) (rowsIn 2 (a .row-queues .now) (a .ring)) (a .row)
+          (sym (wants-residual .ensures raw gs) ∙ if1 .taken),
+      queue-row .ensures .1,
+    )
 
 returns-2 : tie.Need-returns-2
 returns-2 c =
-    let a = c .before .before .before .before .before .before .args in
-    λ raw gs. residual-not (rowOf raw (terms (a .conditions .now) (a .weights .now)) gs) (a .state) (rows (queue (a .items .now) (a .ring)) (a .pending .now)) (a .row)
-    (sym (c .before .wants-residual .ensures raw gs) ∙ c .if1 .left)
+    let s = c .before .before .before .before in
+    let a = s .args in (
+      λ raw gs. residual-not (rowOf raw (terms (a .row-conditions .now) (a .row-weights .now)) gs) (a .state) (rowsIn 2 (a .row-queues .now) (a .ring)) (a .row)
+          (sym (c .before .wants-residual .ensures raw gs) ∙ c .if1 .left),
+      λ other. refl,
+    )
 
 pub queue-residual-spec : {M : Type 1} → statement M
 queue-residual-spec =
@@ -40,6 +50,5 @@ queue-residual-spec =
     wants-residual-requires
     queue-row-requires
     same-length
-    same-length-2
     returns
     returns-2)

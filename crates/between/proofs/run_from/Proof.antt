@@ -1,54 +1,81 @@
 -- `between::run_from` meets its contract: the state is stored, and the row run.
-use Prim.Native.Nat.{_^_}
+use mathlib.Core.Path.{_∙_}
 use native.Mathlib.Omega.{arith}
-use lib.ListN.{set}
-use Rattle.queues.specs.Queue.{queue, rows}
-use Rattle.queues.specs.Marks.{marks}
-use Rattle.between.specs.Numbers.{statesOf, states-set, tidy-store}
-use Rattle.between.specs.Held.{lent, heldRow}
+use lib.ListN.{length, set}
+use Rattle.memory.specs.Buffers.{heldRows}
+use Rattle.memory.specs.Limits.{figureLimit}
+use Rattle.between.specs.Between.{did}
+use Rattle.between.specs.Numbers.{statesOf, liveOf, states-set, tidy-store}
+use Rattle.between.specs.Held.{heldRow}
 use Rattle.between.specs.BetweenLaws.{store-run}
 use Rattle.between.specs.ReadyLaws.{ready-set, ready-states}
-use mathlib.Core.Path.{_∙_}
 use Rattle.between.proofs.run_from.Statement.{statement}
 use Rattle.between.proofs.run_from.Tie as tie
 
 store-requires : tie.Need-store-requires
-store-requires c κs = omega (arith, c .before .before .before .before .before .before .before .before .before .before .pre .1 .long, c .before .before .before .before .before .before .before .before .before .before .pre .0 .1)
+store-requires c κs =
+    let s = c .before .before .before .before .before .before .before .before in
+    let p = s .pre in
+    omega (arith, p .1 .long, p .0 .1)
 
 run-at-requires : tie.Need-run-at-requires
-run-at-requires c κs = let a = c .before .before .before .before .before .before .before .before .before .before .before .before .before .before .before .before .before .before .before .before .args in
-    let w = c .before .before .before .before .before .before .before .before .before .store in
-    let e = states-set (a .figures .now) (w .last .0) (a .cursors .now) (w .last .1 .0) (a .row) (a .state) (omega (arith, c .before .before .before .before .before .before .before .before .before .before .before .before .before .before .before .before .before .before .before .before .pre .1 .long, c .before .before .before .before .before .before .before .before .before .before .before .before .before .before .before .before .before .before .before .before .pre .0 .1)) (w .ensures .0) (w .ensures .1) in
-    ((c .before .before .before .before .before .before .before .before .before .before .before .before .before .before .before .before .before .before .before .before .pre .0 .0, c .before .before .before .before .before .before .before .before .before .before .before .before .before .before .before .before .before .before .before .before .pre .0 .1), ready-states (lent (c .before .before .before .before .before .before .before .before .before .before .before .before .before .before .before .before .before .before .before .before .args .conditions .now) (c .before .before .before .before .before .before .before .before .before .before .before .before .before .before .before .before .before .before .before .before .args .weights .now) (c .before .before .before .before .before .before .before .before .before .before .before .before .before .before .before .before .before .before .before .before .args .rows .now) (c .before .before .before .before .before .before .before .before .before .before .before .before .before .before .before .before .before .before .before .before .args .bounds .now) (c .before .before .before .before .before .before .before .before .before .before .before .before .before .before .before .before .before .before .before .before .args .names .now)) (2 ^ 61) (set (statesOf (c .before .before .before .before .before .before .before .before .before .before .before .before .before .before .before .before .before .before .before .before .args .figures .now) (c .before .before .before .before .before .before .before .before .before .before .before .before .before .before .before .before .before .before .before .before .args .cursors .now)) (a .row) (a .state)) (statesOf (w .last .0) (w .last .1 .0)) (marks (c .before .before .before .before .before .before .before .before .before .before .before .before .before .before .before .before .before .before .before .before .args .sure .now) (c .before .before .before .before .before .before .before .before .before .before .before .before .before .before .before .before .before .before .before .before .args .never .now) (queue (c .before .before .before .before .before .before .before .before .before .before .before .before .before .before .before .before .before .before .before .before .args .nodes .now) (c .before .before .before .before .before .before .before .before .before .before .before .before .before .before .before .before .before .before .before .before .args .ring))) (rows (queue (c .before .before .before .before .before .before .before .before .before .before .before .before .before .before .before .before .before .before .before .before .args .items .now) (c .before .before .before .before .before .before .before .before .before .before .before .before .before .before .before .before .before .before .before .before .args .residuals)) (c .before .before .before .before .before .before .before .before .before .before .before .before .before .before .before .before .before .before .before .before .args .pending .now)) e (ready-set (lent (c .before .before .before .before .before .before .before .before .before .before .before .before .before .before .before .before .before .before .before .before .args .conditions .now) (c .before .before .before .before .before .before .before .before .before .before .before .before .before .before .before .before .before .before .before .before .args .weights .now) (c .before .before .before .before .before .before .before .before .before .before .before .before .before .before .before .before .before .before .before .before .args .rows .now) (c .before .before .before .before .before .before .before .before .before .before .before .before .before .before .before .before .before .before .before .before .args .bounds .now) (c .before .before .before .before .before .before .before .before .before .before .before .before .before .before .before .before .before .before .before .before .args .names .now)) (2 ^ 61) (statesOf (c .before .before .before .before .before .before .before .before .before .before .before .before .before .before .before .before .before .before .before .before .args .figures .now) (c .before .before .before .before .before .before .before .before .before .before .before .before .before .before .before .before .before .before .before .before .args .cursors .now)) (marks (c .before .before .before .before .before .before .before .before .before .before .before .before .before .before .before .before .before .before .before .before .args .sure .now) (c .before .before .before .before .before .before .before .before .before .before .before .before .before .before .before .before .before .before .before .before .args .never .now) (queue (c .before .before .before .before .before .before .before .before .before .before .before .before .before .before .before .before .before .before .before .before .args .nodes .now) (c .before .before .before .before .before .before .before .before .before .before .before .before .before .before .before .before .before .before .before .before .args .ring))) (rows (queue (c .before .before .before .before .before .before .before .before .before .before .before .before .before .before .before .before .before .before .before .before .args .items .now) (c .before .before .before .before .before .before .before .before .before .before .before .before .before .before .before .before .before .before .before .before .args .residuals)) (c .before .before .before .before .before .before .before .before .before .before .before .before .before .before .before .before .before .before .before .before .args .pending .now)) (c .before .before .before .before .before .before .before .before .before .before .before .before .before .before .before .before .before .before .before .before .pre .1) (a .row) (a .state) (c .before .before .before .before .before .before .before .before .before .before .before .before .before .before .before .before .before .before .before .before .pre .0 .2)))
+run-at-requires c κs =
+    let at-store = c .before .before .before .before .before .before .before .before in
+    let store = at-store .store in
+    let s = at-store .before .before .before .before .before .before .before .before .before in
+    let a = s .args in
+    let p = s .pre in
+    let h = heldRows (a .row-conditions .now) (a .row-weights .now) (a .rows .now) (a .guard-bounds .now) (a .guard-nodes .now) in
+    let v = liveOf (a .figures .now) (a .cursors .now) (a .sure .now) (a .never .now) (a .node-queue .now) (a .row-queues .now) (a .rings) in
+    let f = store .last in
+    let e = states-set (a .figures .now) (f .0) (a .cursors .now) (f .1 .0) (a .row) (a .state) (omega (arith, p .1 .long, p .0 .1)) (store .ensures .0) (store .ensures .1) in
+    let stored = ready-set h figureLimit (v .states) (v .marks) (v .residuals) (p .1) (a .row) (a .state) (p .0 .2) in
+    ((p .0 .0, p .0 .1), ready-states h figureLimit (set (v .states) (a .row) (a .state)) (statesOf (f .0) (f .1 .0)) (v .marks) (v .residuals) e stored)
 
 same-length : tie.Need-same-length
-same-length c = c .before .before .before .before .before .before .before .before .before .before .before .before .run-at .kept .1 .1 .1 .1 .1 .0 ∙ c .before .before .before .before .before .before .before .before .before .before .before .before .before .before .before .before .before .before .before .before .before .before .store .kept .0
+same-length c =
+    let at-run-at = c .before .before .before .before .before .before .before .before .before in
+    let run-at = at-run-at .run-at in
+    let store = at-run-at .before .before .before .before .before .before .before .before .before .store in
+    _∙_ {b = length (store .last .0)} (run-at .kept .1 .1 .1 .1 .1 .0) (store .kept .0)
 
 same-length-2 : tie.Need-same-length-2
-same-length-2 c = c .before .before .before .before .before .before .before .before .before .before .before .before .run-at .kept .1 .1 .1 .1 .1 .1 .0 ∙ c .before .before .before .before .before .before .before .before .before .before .before .before .before .before .before .before .before .before .before .before .before .before .store .kept .1 .0
+same-length-2 c =
+    let at-run-at = c .before .before .before .before .before .before .before .before .before in
+    let run-at = at-run-at .run-at in
+    let store = at-run-at .before .before .before .before .before .before .before .before .before .store in
+    _∙_ {b = length (store .last .1 .0)} (run-at .kept .1 .1 .1 .1 .1 .1 .0) (store .kept .1 .0)
 
 same-length-3 : tie.Need-same-length-3
-same-length-3 c = c .before .before .before .before .before .before .before .before .before .before .before .before .run-at .kept .1 .1 .1 .1 .1 .1 .1 .1 .0
+same-length-3 c = c .before .before .before .before .before .before .before .before .before .run-at .kept .1 .1 .1 .1 .1 .1 .1 .0
 
 same-length-4 : tie.Need-same-length-4
-same-length-4 c = c .before .before .before .before .before .before .before .before .before .before .before .before .run-at .kept .1 .1 .1 .1 .1 .1 .1 .1 .1 .0
+same-length-4 c = c .before .before .before .before .before .before .before .before .before .run-at .kept .1 .1 .1 .1 .1 .1 .1 .1 .0
 
 same-length-5 : tie.Need-same-length-5
-same-length-5 c = c .before .before .before .before .before .before .before .before .before .before .before .before .run-at .kept .1 .1 .1 .1 .1 .1 .1 .1 .1 .1 .0
+same-length-5 c = c .before .before .before .before .before .before .before .before .before .run-at .kept .1 .1 .1 .1 .1 .1 .1 .1 .1 .0
 
 same-length-6 : tie.Need-same-length-6
-same-length-6 c = c .before .before .before .before .before .before .before .before .before .before .before .before .run-at .kept .1 .1 .1 .1 .1 .1 .1 .1 .1 .1 .1 .1 .0
-
-same-length-7 : tie.Need-same-length-7
-same-length-7 c = c .before .before .before .before .before .before .before .before .before .before .before .before .run-at .kept .1 .1 .1 .1 .1 .1 .1 .1 .1 .1 .1 .1 .1 .0
+same-length-6 c = c .before .before .before .before .before .before .before .before .before .run-at .kept .1 .1 .1 .1 .1 .1 .1 .1 .1 .1 .0
 
 returns : tie.Need-returns
-returns c = let a = c .before .before .before .before .before .before .before .before .before .before .before .before .before .before .before .before .before .before .before .before .before .before .before .before .before .before .before .before .before .before .before .before .before .args in
-    let w = c .before .before .before .before .before .before .before .before .before .before .before .before .before .before .before .before .before .before .before .before .before .before .store in
-    let e = states-set (a .figures .now) (w .last .0) (a .cursors .now) (w .last .1 .0) (a .row) (a .state) (omega (arith, c .before .before .before .before .before .before .before .before .before .before .before .before .before .before .before .before .before .before .before .before .before .before .before .before .before .before .before .before .before .before .before .before .before .pre .1 .long, c .before .before .before .before .before .before .before .before .before .before .before .before .before .before .before .before .before .before .before .before .before .before .before .before .before .before .before .before .before .before .before .before .before .pre .0 .1)) (w .ensures .0) (w .ensures .1) in (
-      λ d. c .before .before .before .before .before .before .before .before .before .before .before .before .run-at .ensures .0 d ∙ store-run (heldRow (lent (c .before .before .before .before .before .before .before .before .before .before .before .before .before .before .before .before .before .before .before .before .before .before .before .before .before .before .before .before .before .before .before .before .before .args .conditions .now) (c .before .before .before .before .before .before .before .before .before .before .before .before .before .before .before .before .before .before .before .before .before .before .before .before .before .before .before .before .before .before .before .before .before .args .weights .now) (c .before .before .before .before .before .before .before .before .before .before .before .before .before .before .before .before .before .before .before .before .before .before .before .before .before .before .before .before .before .before .before .before .before .args .rows .now) (c .before .before .before .before .before .before .before .before .before .before .before .before .before .before .before .before .before .before .before .before .before .before .before .before .before .before .before .before .before .before .before .before .before .args .bounds .now) (c .before .before .before .before .before .before .before .before .before .before .before .before .before .before .before .before .before .before .before .before .before .before .before .before .before .before .before .before .before .before .before .before .before .args .names .now)) (a .row)) (statesOf (c .before .before .before .before .before .before .before .before .before .before .before .before .before .before .before .before .before .before .before .before .before .before .before .before .before .before .before .before .before .before .before .before .before .args .figures .now) (c .before .before .before .before .before .before .before .before .before .before .before .before .before .before .before .before .before .before .before .before .before .before .before .before .before .before .before .before .before .before .before .before .before .args .cursors .now)) (statesOf (w .last .0) (w .last .1 .0)) (marks (c .before .before .before .before .before .before .before .before .before .before .before .before .before .before .before .before .before .before .before .before .before .before .before .before .before .before .before .before .before .before .before .before .before .args .sure .now) (c .before .before .before .before .before .before .before .before .before .before .before .before .before .before .before .before .before .before .before .before .before .before .before .before .before .before .before .before .before .before .before .before .before .args .never .now) (queue (c .before .before .before .before .before .before .before .before .before .before .before .before .before .before .before .before .before .before .before .before .before .before .before .before .before .before .before .before .before .before .before .before .before .args .nodes .now) (c .before .before .before .before .before .before .before .before .before .before .before .before .before .before .before .before .before .before .before .before .before .before .before .before .before .before .before .before .before .before .before .before .before .args .ring))) d (rows (queue (c .before .before .before .before .before .before .before .before .before .before .before .before .before .before .before .before .before .before .before .before .before .before .before .before .before .before .before .before .before .before .before .before .before .args .items .now) (c .before .before .before .before .before .before .before .before .before .before .before .before .before .before .before .before .before .before .before .before .before .before .before .before .before .before .before .before .before .before .before .before .before .args .residuals)) (c .before .before .before .before .before .before .before .before .before .before .before .before .before .before .before .before .before .before .before .before .before .before .before .before .before .before .before .before .before .before .before .before .before .args .pending .now)) (a .row) (a .state) e,
-      λ t. c .before .before .before .before .before .before .before .before .before .before .before .before .run-at .ensures .1
-          (tidy-store (a .figures .now) (w .last .0) (a .cursors .now) (w .last .1 .0) (a .row) (a .state) (omega (arith, c .before .before .before .before .before .before .before .before .before .before .before .before .before .before .before .before .before .before .before .before .before .before .before .before .before .before .before .before .before .before .before .before .before .pre .1 .long, c .before .before .before .before .before .before .before .before .before .before .before .before .before .before .before .before .before .before .before .before .before .before .before .before .before .before .before .before .before .before .before .before .before .pre .0 .1)) (w .ensures .0) (w .ensures .1) t),
+returns c =
+    let at-run-at = c .before .before .before .before .before .before .before .before .before in
+    let run-at = at-run-at .run-at in
+    let at-store = at-run-at .before .before .before .before .before .before .before .before .before in
+    let store = at-store .store in
+    let s = at-store .before .before .before .before .before .before .before .before .before in
+    let a = s .args in
+    let p = s .pre in
+    let h = heldRows (a .row-conditions .now) (a .row-weights .now) (a .rows .now) (a .guard-bounds .now) (a .guard-nodes .now) in
+    let v = liveOf (a .figures .now) (a .cursors .now) (a .sure .now) (a .never .now) (a .node-queue .now) (a .row-queues .now) (a .rings) in
+    let m = run-at .last .1 .1 .1 .1 .1 in
+    let o = liveOf (m .0) (m .1 .0) (m .1 .1 .0) (m .1 .1 .1 .0) (m .1 .1 .1 .1 .0) (m .1 .1 .1 .1 .1 .0) (run-at .result .rings) in
+    let f = store .last in
+    let e = states-set (a .figures .now) (f .0) (a .cursors .now) (f .1 .0) (a .row) (a .state) (omega (arith, p .1 .long, p .0 .1)) (store .ensures .0) (store .ensures .1) in (
+      store-run (heldRow h (a .row)) v (a .row) (a .state) (statesOf (f .0) (f .1 .0)) e (did o (run-at .result .step)) (run-at .ensures .0),
+      λ t. run-at .ensures .1
+          (tidy-store (a .figures .now) (f .0) (a .cursors .now) (f .1 .0) (a .row) (a .state) (omega (arith, p .1 .long, p .0 .1)) (store .ensures .0) (store .ensures .1) t),
     )
 
 pub run-from-spec : {M : Type 1} → statement M
@@ -63,5 +90,4 @@ run-from-spec =
     same-length-4
     same-length-5
     same-length-6
-    same-length-7
     returns)

@@ -1,142 +1,249 @@
 -- `between::threshold_condition` meets its contract: what was done so far, joined with the edges that are left, is the whole.
 use Prim.Native.Nat.{_-_}
+use mathlib.Core.Path.{_∙_, sym}
 use native.Mathlib.Omega.{arith}
-use Rattle.queues.specs.Queue.{queue, rows}
-use Rattle.queues.specs.Marks.{marks}
-use Rattle.between.specs.Between.{live}
-use Rattle.between.specs.Numbers.{statesOf, Tidy, Same}
-use Rattle.between.specs.Held.{lent}
-use Rattle.between.specs.Draining.{Draining, draining-first, draining-ready, draining-next, draining-stop, draining-end, condition-held, edges-end, edges-few, edge-inside, edge-light}
-use mathlib.Core.Path.{_∙_, refl, sym}
+use lib.ListN.{length}
+use Rattle.memory.specs.Buffers.{heldRows}
+use Rattle.between.specs.Numbers.{liveOf, Tidy, Same, same-self}
+use Rattle.between.specs.Draining.{Draining, edges-of, draining-first, draining-ready, draining-next, draining-stop, draining-end, condition-held}
 use borrow.Author.Needs.{needs}
 use Rattle.between.proofs.threshold_condition.Statement.{statement}
 use Rattle.between.proofs.threshold_condition.Tie as tie
 
 abbrev Inv-loop : tie.InvT-loop
-Inv-loop conditions weights table bounds names index edges figures₀ cursors₀ node sure₀ never₀ nodes₀ items₀ pending₀ value end at₀ so-far₀ figures cursors sure never nodes items pending at so-far = Draining (lent conditions weights table bounds names) edges value at₀ end (statesOf figures₀ cursors₀) (marks sure₀ never₀ (queue nodes₀ (so-far₀ .ring))) (rows (queue items₀ (so-far₀ .residuals)) pending₀)
-    at (so-far .step) (statesOf figures cursors) (marks sure never (queue nodes (so-far .ring))) (rows (queue items (so-far .residuals)) pending)
-    × Same figures₀ figures cursors₀ cursors sure₀ sure never₀ never nodes₀ nodes items₀ items pending₀ pending
+Inv-loop row-conditions row-weights rows guard-bounds guard-nodes nodes edges figures₀ cursors₀ sure₀ never₀ node-queue₀ row-queues₀ node value end at₀ so-far₀ figures cursors sure never node-queue row-queues at so-far =
+    Draining (heldRows row-conditions row-weights rows guard-bounds guard-nodes) edges value at₀ end (liveOf figures₀ cursors₀ sure₀ never₀ node-queue₀ row-queues₀ (so-far₀ .rings))
+    at (so-far .step) (liveOf figures cursors sure never node-queue row-queues (so-far .rings))
+    × Same figures₀ cursors₀ sure₀ never₀ node-queue₀ row-queues₀ figures cursors sure never node-queue row-queues
     × (Tidy figures₀ cursors₀ → Tidy figures cursors)
 
 abbrev μ-loop : tie.MeasureT-loop
-μ-loop conditions weights table bounds names index edges figures₀ cursors₀ node sure₀ never₀ nodes₀ items₀ pending₀ value end at₀ so-far₀ figures cursors sure never nodes items pending at so-far = end - at
+μ-loop row-conditions row-weights rows guard-bounds guard-nodes nodes edges figures₀ cursors₀ sure₀ never₀ node-queue₀ row-queues₀ node value end at₀ so-far₀ figures cursors sure never node-queue row-queues at so-far =
+    end - at
 
 bit-requires : tie.Need-bit-requires Inv-loop μ-loop
-bit-requires c κs = omega (arith, c .before .before .before .before .before .before .before .before .before .pre .0 .3, c .before .before .before .before .before .before .before .before .before .pre .1 .waits .sures)
+bit-requires c κs =
+    let s = c .before .before .before .before .before .before .before in
+    let p = s .pre in
+    omega (arith, p .0 .3, p .1 .waits .sures)
 
 end-by-requires : tie.Need-end-by-requires Inv-loop μ-loop
-end-by-requires c κs = (c .before .before .before .before .before .before .before .before .before .before .pre .0 .2, omega arith)
+end-by-requires c κs = (c .before .before .before .before .before .before .before .before .pre .0 .2, omega arith)
 
 start-by-requires : tie.Need-start-by-requires Inv-loop μ-loop
-start-by-requires c κs = (omega (arith, c .before .before .before .before .before .before .before .before .before .before .before .pre .0 .2), omega arith)
+start-by-requires c κs = (omega (arith, c .before .before .before .before .before .before .before .before .before .pre .0 .2), omega arith)
 
 loop-holds : tie.Need-loop-holds Inv-loop μ-loop
-loop-holds c = (
-  draining-first (lent (c .before .before .before .before .before .before .before .before .before .before .before .before .args .conditions .now) (c .before .before .before .before .before .before .before .before .before .before .before .before .args .weights .now) (c .before .before .before .before .before .before .before .before .before .before .before .before .args .rows .now) (c .before .before .before .before .before .before .before .before .before .before .before .before .args .bounds .now) (c .before .before .before .before .before .before .before .before .before .before .before .before .args .names .now)) (c .before .before .before .before .before .before .before .before .before .before .before .before .args .edges .now) (c .before .before .bit .result) (c .start-by .result) (c .before .end-by .result) (statesOf (c .before .before .before .before .before .before .before .before .before .before .before .before .args .figures .now) (c .before .before .before .before .before .before .before .before .before .before .before .before .args .cursors .now)) (marks (c .before .before .before .before .before .before .before .before .before .before .before .before .args .sure .now) (c .before .before .before .before .before .before .before .before .before .before .before .before .args .never .now) (queue (c .before .before .before .before .before .before .before .before .before .before .before .before .args .nodes .now) (c .before .before .before .before .before .before .before .before .before .before .before .before .args .ring))) (rows (queue (c .before .before .before .before .before .before .before .before .before .before .before .before .args .items .now) (c .before .before .before .before .before .before .before .before .before .before .before .before .args .residuals)) (c .before .before .before .before .before .before .before .before .before .before .before .before .args .pending .now)) (c .before .before .before .before .before .before .before .before .before .before .before .before .pre .1),
-  record { figures = refl; cursors = refl; sure = refl; never = refl; nodes = refl; items = refl; pending = refl },
-  λ t. t,
-)
+loop-holds c =
+    let start-by = c .start-by in
+    let end-by = c .before .end-by in
+    let bit = c .before .before .bit in
+    let s = c .before .before .before .before .before .before .before .before .before .before in
+    let a = s .args in
+    let p = s .pre in
+    let h = heldRows (a .row-conditions .now) (a .row-weights .now) (a .rows .now) (a .guard-bounds .now) (a .guard-nodes .now) in
+    let v = liveOf (a .figures .now) (a .cursors .now) (a .sure .now) (a .never .now) (a .node-queue .now) (a .row-queues .now) (a .rings) in
+    let own = edges-of h (a .nodes .now) (a .edges .now) (p .0 .1) (a .node) (p .0 .2) (start-by .result) (end-by .result) (start-by .ensures .0) (end-by .ensures .0) in (
+      draining-first h (a .edges .now) (bit .result) (start-by .result) (end-by .result) v own (p .1),
+      same-self (a .figures .now) (a .cursors .now) (a .sure .now) (a .never .now) (a .node-queue .now) (a .row-queues .now),
+      λ t. t,
+    )
 
 edge-row-requires : tie.Need-edge-row-requires Inv-loop μ-loop
-edge-row-requires c κs = omega (arith, c .loop-test .taken, edges-end (lent (c .before .before .before .before .before .before .before .before .before .before .before .before .before .before .args .conditions .now) (c .before .before .before .before .before .before .before .before .before .before .before .before .before .before .args .weights .now) (c .before .before .before .before .before .before .before .before .before .before .before .before .before .before .args .rows .now) (c .before .before .before .before .before .before .before .before .before .before .before .before .before .before .args .bounds .now) (c .before .before .before .before .before .before .before .before .before .before .before .before .before .before .args .names .now)) (c .before .before .before .before .before .before .before .before .before .before .before .before .before .before .args .index .now) (c .before .before .before .before .before .before .before .before .before .before .before .before .before .before .args .edges .now) (c .before .before .before .before .before .before .before .before .before .before .before .before .before .before .pre .0 .1) (c .before .before .before .before .before .before .before .before .before .before .before .before .before .before .args .node) (c .before .before .before .before .before .before .before .before .before .before .before .before .before .before .pre .0 .2) (c .before .before .start-by .result) (c .before .before .before .end-by .result) (c .before .before .start-by .ensures .0) (c .before .before .before .end-by .ensures .0))
+edge-row-requires c κs =
+    omega (arith, c .loop-test .taken, c .before .loop .inv .0 .own .inside)
 
 edge-weight-requires : tie.Need-edge-weight-requires Inv-loop μ-loop
-edge-weight-requires c κs = omega (arith, c .before .loop-test .taken, edges-end (lent (c .before .before .before .before .before .before .before .before .before .before .before .before .before .before .before .args .conditions .now) (c .before .before .before .before .before .before .before .before .before .before .before .before .before .before .before .args .weights .now) (c .before .before .before .before .before .before .before .before .before .before .before .before .before .before .before .args .rows .now) (c .before .before .before .before .before .before .before .before .before .before .before .before .before .before .before .args .bounds .now) (c .before .before .before .before .before .before .before .before .before .before .before .before .before .before .before .args .names .now)) (c .before .before .before .before .before .before .before .before .before .before .before .before .before .before .before .args .index .now) (c .before .before .before .before .before .before .before .before .before .before .before .before .before .before .before .args .edges .now) (c .before .before .before .before .before .before .before .before .before .before .before .before .before .before .before .pre .0 .1) (c .before .before .before .before .before .before .before .before .before .before .before .before .before .before .before .args .node) (c .before .before .before .before .before .before .before .before .before .before .before .before .before .before .before .pre .0 .2) (c .before .before .before .start-by .result) (c .before .before .before .before .end-by .result) (c .before .before .before .start-by .ensures .0) (c .before .before .before .before .end-by .ensures .0))
+edge-weight-requires c κs =
+    let w = c .before .before .loop in
+    omega (arith, c .before .loop-test .taken, w .inv .0 .own .inside)
 
 drain-edge-requires : tie.Need-drain-edge-requires Inv-loop μ-loop
-drain-edge-requires c κs = let w = c .before .before .before .before .before .before .before .before .before .before .before .before .loop in (
-  (c .before .before .before .before .before .before .before .before .before .before .before .before .before .before .before .before .before .before .before .before .before .before .before .before .before .pre .0 .0, edge-inside (lent (c .before .before .before .before .before .before .before .before .before .before .before .before .before .before .before .before .before .before .before .before .before .before .before .before .before .args .conditions .now) (c .before .before .before .before .before .before .before .before .before .before .before .before .before .before .before .before .before .before .before .before .before .before .before .before .before .args .weights .now) (c .before .before .before .before .before .before .before .before .before .before .before .before .before .before .before .before .before .before .before .before .before .before .before .before .before .args .rows .now) (c .before .before .before .before .before .before .before .before .before .before .before .before .before .before .before .before .before .before .before .before .before .before .before .before .before .args .bounds .now) (c .before .before .before .before .before .before .before .before .before .before .before .before .before .before .before .before .before .before .before .before .before .before .before .before .before .args .names .now)) (c .before .before .before .before .before .before .before .before .before .before .before .before .before .before .before .before .before .before .before .before .before .before .before .before .before .args .index .now) (c .before .before .before .before .before .before .before .before .before .before .before .before .before .before .before .before .before .before .before .before .before .before .before .before .before .args .edges .now) (c .before .before .before .before .before .before .before .before .before .before .before .before .before .before .before .before .before .before .before .before .before .before .before .before .before .pre .0 .1) (c .before .before .before .before .before .before .before .before .before .before .before .before .before .before .before .before .before .before .before .before .before .before .before .before .before .args .node) (c .before .before .before .before .before .before .before .before .before .before .before .before .before .before .before .before .before .before .before .before .before .before .before .before .before .pre .0 .2) (c .before .before .before .before .before .before .before .before .before .before .before .before .before .start-by .result) (c .before .before .before .before .before .before .before .before .before .before .before .before .before .before .end-by .result) (c .before .before .before .before .before .before .before .before .before .before .before .before .before .start-by .ensures .0) (c .before .before .before .before .before .before .before .before .before .before .before .before .before .before .end-by .ensures .0) (c .before .before .before .before .before .before .before .before .before .before .before .before .loop .at) (c .before .before .before .before .before .before .before .before .before .before .before .before .loop .inv .0 .above) (c .before .before .before .before .before .before .before .before .before .before .before .loop-test .taken) (c .before .before .before .before .before .before .before .before .before .before .edge-row .result) (c .before .before .before .before .before .before .before .before .before .before .edge-row .ensures), edge-light (lent (c .before .before .before .before .before .before .before .before .before .before .before .before .before .before .before .before .before .before .before .before .before .before .before .before .before .args .conditions .now) (c .before .before .before .before .before .before .before .before .before .before .before .before .before .before .before .before .before .before .before .before .before .before .before .before .before .args .weights .now) (c .before .before .before .before .before .before .before .before .before .before .before .before .before .before .before .before .before .before .before .before .before .before .before .before .before .args .rows .now) (c .before .before .before .before .before .before .before .before .before .before .before .before .before .before .before .before .before .before .before .before .before .before .before .before .before .args .bounds .now) (c .before .before .before .before .before .before .before .before .before .before .before .before .before .before .before .before .before .before .before .before .before .before .before .before .before .args .names .now)) (c .before .before .before .before .before .before .before .before .before .before .before .before .before .before .before .before .before .before .before .before .before .before .before .before .before .args .index .now) (c .before .before .before .before .before .before .before .before .before .before .before .before .before .before .before .before .before .before .before .before .before .before .before .before .before .args .edges .now) (c .before .before .before .before .before .before .before .before .before .before .before .before .before .before .before .before .before .before .before .before .before .before .before .before .before .pre .0 .1) (c .before .before .before .before .before .before .before .before .before .before .before .before .before .before .before .before .before .before .before .before .before .before .before .before .before .args .node) (c .before .before .before .before .before .before .before .before .before .before .before .before .before .before .before .before .before .before .before .before .before .before .before .before .before .pre .0 .2) (c .before .before .before .before .before .before .before .before .before .before .before .before .before .start-by .result) (c .before .before .before .before .before .before .before .before .before .before .before .before .before .before .end-by .result) (c .before .before .before .before .before .before .before .before .before .before .before .before .before .start-by .ensures .0) (c .before .before .before .before .before .before .before .before .before .before .before .before .before .before .end-by .ensures .0) (c .before .before .before .before .before .before .before .before .before .before .before .before .loop .at) (c .before .before .before .before .before .before .before .before .before .before .before .before .loop .inv .0 .above) (c .before .before .before .before .before .before .before .before .before .before .before .loop-test .taken) (c .before .before .before .before .before .before .before .before .before .edge-weight .result) (c .before .before .before .before .before .before .before .before .before .edge-weight .ensures)),
-  draining-ready (lent (c .before .before .before .before .before .before .before .before .before .before .before .before .before .before .before .before .before .before .before .before .before .before .before .before .before .args .conditions .now) (c .before .before .before .before .before .before .before .before .before .before .before .before .before .before .before .before .before .before .before .before .before .before .before .before .before .args .weights .now) (c .before .before .before .before .before .before .before .before .before .before .before .before .before .before .before .before .before .before .before .before .before .before .before .before .before .args .rows .now) (c .before .before .before .before .before .before .before .before .before .before .before .before .before .before .before .before .before .before .before .before .before .before .before .before .before .args .bounds .now) (c .before .before .before .before .before .before .before .before .before .before .before .before .before .before .before .before .before .before .before .before .before .before .before .before .before .args .names .now)) (c .before .before .before .before .before .before .before .before .before .before .before .before .before .before .before .before .before .before .before .before .before .before .before .before .before .args .edges .now) (c .before .before .before .before .before .before .before .before .before .before .before .before .before .before .before .bit .result) (c .before .before .before .before .before .before .before .before .before .before .before .before .before .start-by .result) (c .before .before .before .before .before .before .before .before .before .before .before .before .before .before .end-by .result) (statesOf (c .before .before .before .before .before .before .before .before .before .before .before .before .before .before .before .before .before .before .before .before .before .before .before .before .before .args .figures .now) (c .before .before .before .before .before .before .before .before .before .before .before .before .before .before .before .before .before .before .before .before .before .before .before .before .before .args .cursors .now)) (marks (c .before .before .before .before .before .before .before .before .before .before .before .before .before .before .before .before .before .before .before .before .before .before .before .before .before .args .sure .now) (c .before .before .before .before .before .before .before .before .before .before .before .before .before .before .before .before .before .before .before .before .before .before .before .before .before .args .never .now) (queue (c .before .before .before .before .before .before .before .before .before .before .before .before .before .before .before .before .before .before .before .before .before .before .before .before .before .args .nodes .now) (c .before .before .before .before .before .before .before .before .before .before .before .before .before .before .before .before .before .before .before .before .before .before .before .before .before .args .ring))) (rows (queue (c .before .before .before .before .before .before .before .before .before .before .before .before .before .before .before .before .before .before .before .before .before .before .before .before .before .args .items .now) (c .before .before .before .before .before .before .before .before .before .before .before .before .before .before .before .before .before .before .before .before .before .before .before .before .before .args .residuals)) (c .before .before .before .before .before .before .before .before .before .before .before .before .before .before .before .before .before .before .before .before .before .before .before .before .before .args .pending .now)) (w .at) (w .so-far .step) (statesOf (c .before .before .before .before .before .before .before .before .before .before .before .before .loop .figures) (c .before .before .before .before .before .before .before .before .before .before .before .before .loop .cursors)) (marks (c .before .before .before .before .before .before .before .before .before .before .before .before .loop .sure) (c .before .before .before .before .before .before .before .before .before .before .before .before .loop .never) (queue (c .before .before .before .before .before .before .before .before .before .before .before .before .loop .nodes) (c .before .before .before .before .before .before .before .before .before .before .before .before .loop .so-far .ring))) (rows (queue (c .before .before .before .before .before .before .before .before .before .before .before .before .loop .items) (c .before .before .before .before .before .before .before .before .before .before .before .before .loop .so-far .residuals)) (c .before .before .before .before .before .before .before .before .before .before .before .before .loop .pending)) (w .inv .0) (edges-few (lent (c .before .before .before .before .before .before .before .before .before .before .before .before .before .before .before .before .before .before .before .before .before .before .before .before .before .args .conditions .now) (c .before .before .before .before .before .before .before .before .before .before .before .before .before .before .before .before .before .before .before .before .before .before .before .before .before .args .weights .now) (c .before .before .before .before .before .before .before .before .before .before .before .before .before .before .before .before .before .before .before .before .before .before .before .before .before .args .rows .now) (c .before .before .before .before .before .before .before .before .before .before .before .before .before .before .before .before .before .before .before .before .before .before .before .before .before .args .bounds .now) (c .before .before .before .before .before .before .before .before .before .before .before .before .before .before .before .before .before .before .before .before .before .before .before .before .before .args .names .now)) (c .before .before .before .before .before .before .before .before .before .before .before .before .before .before .before .before .before .before .before .before .before .before .before .before .before .args .index .now) (c .before .before .before .before .before .before .before .before .before .before .before .before .before .before .before .before .before .before .before .before .before .before .before .before .before .args .edges .now) (c .before .before .before .before .before .before .before .before .before .before .before .before .before .before .before .before .before .before .before .before .before .before .before .before .before .pre .0 .1) (c .before .before .before .before .before .before .before .before .before .before .before .before .before .before .before .before .before .before .before .before .before .before .before .before .before .args .node) (c .before .before .before .before .before .before .before .before .before .before .before .before .before .before .before .before .before .before .before .before .before .before .before .before .before .pre .0 .2) (c .before .before .before .before .before .before .before .before .before .before .before .before .before .start-by .result) (c .before .before .before .before .before .before .before .before .before .before .before .before .before .before .end-by .result) (c .before .before .before .before .before .before .before .before .before .before .before .before .before .start-by .ensures .0) (c .before .before .before .before .before .before .before .before .before .before .before .before .before .before .end-by .ensures .0)) (c .before .before .before .before .before .before .before .before .before .before .before .loop-test .taken),
-)
+drain-edge-requires c κs =
+    let at-edge-weight = c .before .before .before .before .before .before .before in
+    let edge-weight = at-edge-weight .edge-weight in
+    let edge-row = at-edge-weight .before .edge-row in
+    let test = at-edge-weight .before .before .loop-test in
+    let w = at-edge-weight .before .before .before .loop in
+    let at-start-by = at-edge-weight .before .before .before .before in
+    let start-by = at-start-by .start-by in
+    let end-by = at-start-by .before .end-by in
+    let bit = at-start-by .before .before .bit in
+    let s = at-start-by .before .before .before .before .before .before .before .before .before .before in
+    let a = s .args in
+    let h = heldRows (a .row-conditions .now) (a .row-weights .now) (a .rows .now) (a .guard-bounds .now) (a .guard-nodes .now) in
+    let v = liveOf (a .figures .now) (a .cursors .now) (a .sure .now) (a .never .now) (a .node-queue .now) (a .row-queues .now) (a .rings) in
+    let u = liveOf (w .figures) (w .cursors) (w .sure) (w .never) (w .node-queue) (w .row-queues) (w .so-far .rings) in
+    let l = w .inv .0 in
+    let k = test .taken in
+    let row = l .own .rows (w .at) (edge-row .result) (l .above) k (edge-row .ensures) in
+    let light = l .own .light (w .at) (edge-weight .result) (l .above) k (edge-weight .ensures) in (
+      (s .pre .0 .0, row, light),
+      draining-ready h (a .edges .now) (bit .result) (start-by .result) (end-by .result) v (w .at) (w .so-far .step) u l k,
+    )
 
 contradicts-requires : tie.Need-contradicts-requires Inv-loop μ-loop
-contradicts-requires c κs = search needs
+contradicts-requires c κs =
+    search needs
 
 same-length : tie.Need-same-length Inv-loop μ-loop
-same-length c = c .before .before .before .before .before .before .before .before .before .before .before .before .before .before .drain-edge .kept .1 .1 .1 .1 .1 .0 ∙ c .before .before .before .before .before .before .before .before .before .before .before .before .before .before .before .before .before .before .before .before .before .before .before .before .before .before .before .loop .inv .1 .figures
+same-length c =
+    let at-drain-edge = c .before .before .before .before .before .before .before .before .before .before .before in
+    let drain-edge = at-drain-edge .drain-edge in
+    let w = at-drain-edge .before .before .before .before .before .before .before .before .before .before .before .loop in
+    _∙_ {b = length (w .figures)} (drain-edge .kept .1 .1 .1 .1 .1 .0) (w .inv .1 .figures)
 
 same-length-2 : tie.Need-same-length-2 Inv-loop μ-loop
-same-length-2 c = c .before .before .before .before .before .before .before .before .before .before .before .before .before .before .drain-edge .kept .1 .1 .1 .1 .1 .1 .0 ∙ c .before .before .before .before .before .before .before .before .before .before .before .before .before .before .before .before .before .before .before .before .before .before .before .before .before .before .before .loop .inv .1 .cursors
+same-length-2 c =
+    let at-drain-edge = c .before .before .before .before .before .before .before .before .before .before .before in
+    let drain-edge = at-drain-edge .drain-edge in
+    let w = at-drain-edge .before .before .before .before .before .before .before .before .before .before .before .loop in
+    _∙_ {b = length (w .cursors)} (drain-edge .kept .1 .1 .1 .1 .1 .1 .0) (w .inv .1 .cursors)
 
 same-length-3 : tie.Need-same-length-3 Inv-loop μ-loop
-same-length-3 c = c .before .before .before .before .before .before .before .before .before .before .before .before .before .before .drain-edge .kept .1 .1 .1 .1 .1 .1 .1 .1 .1 .1 .0 ∙ c .before .before .before .before .before .before .before .before .before .before .before .before .before .before .before .before .before .before .before .before .before .before .before .before .before .before .before .loop .inv .1 .sure
+same-length-3 c =
+    let at-drain-edge = c .before .before .before .before .before .before .before .before .before .before .before in
+    let drain-edge = at-drain-edge .drain-edge in
+    let w = at-drain-edge .before .before .before .before .before .before .before .before .before .before .before .loop in
+    _∙_ {b = length (w .sure)} (drain-edge .kept .1 .1 .1 .1 .1 .1 .1 .0) (w .inv .1 .sure)
 
 same-length-4 : tie.Need-same-length-4 Inv-loop μ-loop
-same-length-4 c = c .before .before .before .before .before .before .before .before .before .before .before .before .before .before .drain-edge .kept .1 .1 .1 .1 .1 .1 .1 .1 .1 .1 .1 .0 ∙ c .before .before .before .before .before .before .before .before .before .before .before .before .before .before .before .before .before .before .before .before .before .before .before .before .before .before .before .loop .inv .1 .never
+same-length-4 c =
+    let at-drain-edge = c .before .before .before .before .before .before .before .before .before .before .before in
+    let drain-edge = at-drain-edge .drain-edge in
+    let w = at-drain-edge .before .before .before .before .before .before .before .before .before .before .before .loop in
+    _∙_ {b = length (w .never)} (drain-edge .kept .1 .1 .1 .1 .1 .1 .1 .1 .0) (w .inv .1 .never)
 
 same-length-5 : tie.Need-same-length-5 Inv-loop μ-loop
-same-length-5 c = c .before .before .before .before .before .before .before .before .before .before .before .before .before .before .drain-edge .kept .1 .1 .1 .1 .1 .1 .1 .1 .1 .1 .1 .1 .0 ∙ c .before .before .before .before .before .before .before .before .before .before .before .before .before .before .before .before .before .before .before .before .before .before .before .before .before .before .before .loop .inv .1 .nodes
+same-length-5 c =
+    let at-drain-edge = c .before .before .before .before .before .before .before .before .before .before .before in
+    let drain-edge = at-drain-edge .drain-edge in
+    let w = at-drain-edge .before .before .before .before .before .before .before .before .before .before .before .loop in
+    _∙_ {b = length (w .node-queue)} (drain-edge .kept .1 .1 .1 .1 .1 .1 .1 .1 .1 .0) (w .inv .1 .node-queue)
 
 same-length-6 : tie.Need-same-length-6 Inv-loop μ-loop
-same-length-6 c = c .before .before .before .before .before .before .before .before .before .before .before .before .before .before .drain-edge .kept .1 .1 .1 .1 .1 .1 .1 .1 .1 .1 .1 .1 .1 .1 .0 ∙ c .before .before .before .before .before .before .before .before .before .before .before .before .before .before .before .before .before .before .before .before .before .before .before .before .before .before .before .loop .inv .1 .items
-
-same-length-7 : tie.Need-same-length-7 Inv-loop μ-loop
-same-length-7 c = c .before .before .before .before .before .before .before .before .before .before .before .before .before .before .drain-edge .kept .1 .1 .1 .1 .1 .1 .1 .1 .1 .1 .1 .1 .1 .1 .1 .0 ∙ c .before .before .before .before .before .before .before .before .before .before .before .before .before .before .before .before .before .before .before .before .before .before .before .before .before .before .before .loop .inv .1 .pending
+same-length-6 c =
+    let at-drain-edge = c .before .before .before .before .before .before .before .before .before .before .before in
+    let drain-edge = at-drain-edge .drain-edge in
+    let w = at-drain-edge .before .before .before .before .before .before .before .before .before .before .before .loop in
+    _∙_ {b = length (w .row-queues)} (drain-edge .kept .1 .1 .1 .1 .1 .1 .1 .1 .1 .1 .0) (w .inv .1 .row-queues)
 
 returns : tie.Need-returns Inv-loop μ-loop
-returns c = let w = c .before .before .before .before .before .before .before .before .before .before .before .before .before .before .before .before .before .before .before .before .before .before .before .before .before .before .before .loop in
-    let h = draining-stop (lent (c .before .before .before .before .before .before .before .before .before .before .before .before .before .before .before .before .before .before .before .before .before .before .before .before .before .before .before .before .before .before .before .before .before .before .before .before .before .before .before .before .args .conditions .now) (c .before .before .before .before .before .before .before .before .before .before .before .before .before .before .before .before .before .before .before .before .before .before .before .before .before .before .before .before .before .before .before .before .before .before .before .before .before .before .before .before .args .weights .now) (c .before .before .before .before .before .before .before .before .before .before .before .before .before .before .before .before .before .before .before .before .before .before .before .before .before .before .before .before .before .before .before .before .before .before .before .before .before .before .before .before .args .rows .now) (c .before .before .before .before .before .before .before .before .before .before .before .before .before .before .before .before .before .before .before .before .before .before .before .before .before .before .before .before .before .before .before .before .before .before .before .before .before .before .before .before .args .bounds .now) (c .before .before .before .before .before .before .before .before .before .before .before .before .before .before .before .before .before .before .before .before .before .before .before .before .before .before .before .before .before .before .before .before .before .before .before .before .before .before .before .before .args .names .now)) (c .before .before .before .before .before .before .before .before .before .before .before .before .before .before .before .before .before .before .before .before .before .before .before .before .before .before .before .before .before .before .before .before .before .before .before .before .before .before .before .before .args .edges .now) (c .before .before .before .before .before .before .before .before .before .before .before .before .before .before .before .before .before .before .before .before .before .before .before .before .before .before .before .before .before .before .bit .result) (c .before .before .before .before .before .before .before .before .before .before .before .before .before .before .before .before .before .before .before .before .before .before .before .before .before .before .before .before .start-by .result) (c .before .before .before .before .before .before .before .before .before .before .before .before .before .before .before .before .before .before .before .before .before .before .before .before .before .before .before .before .before .end-by .result) (statesOf (c .before .before .before .before .before .before .before .before .before .before .before .before .before .before .before .before .before .before .before .before .before .before .before .before .before .before .before .before .before .before .before .before .before .before .before .before .before .before .before .before .args .figures .now) (c .before .before .before .before .before .before .before .before .before .before .before .before .before .before .before .before .before .before .before .before .before .before .before .before .before .before .before .before .before .before .before .before .before .before .before .before .before .before .before .before .args .cursors .now)) (marks (c .before .before .before .before .before .before .before .before .before .before .before .before .before .before .before .before .before .before .before .before .before .before .before .before .before .before .before .before .before .before .before .before .before .before .before .before .before .before .before .before .args .sure .now) (c .before .before .before .before .before .before .before .before .before .before .before .before .before .before .before .before .before .before .before .before .before .before .before .before .before .before .before .before .before .before .before .before .before .before .before .before .before .before .before .before .args .never .now) (queue (c .before .before .before .before .before .before .before .before .before .before .before .before .before .before .before .before .before .before .before .before .before .before .before .before .before .before .before .before .before .before .before .before .before .before .before .before .before .before .before .before .args .nodes .now) (c .before .before .before .before .before .before .before .before .before .before .before .before .before .before .before .before .before .before .before .before .before .before .before .before .before .before .before .before .before .before .before .before .before .before .before .before .before .before .before .before .args .ring))) (rows (queue (c .before .before .before .before .before .before .before .before .before .before .before .before .before .before .before .before .before .before .before .before .before .before .before .before .before .before .before .before .before .before .before .before .before .before .before .before .before .before .before .before .args .items .now) (c .before .before .before .before .before .before .before .before .before .before .before .before .before .before .before .before .before .before .before .before .before .before .before .before .before .before .before .before .before .before .before .before .before .before .before .before .before .before .before .before .args .residuals)) (c .before .before .before .before .before .before .before .before .before .before .before .before .before .before .before .before .before .before .before .before .before .before .before .before .before .before .before .before .before .before .before .before .before .before .before .before .before .before .before .before .args .pending .now)) (w .at) (w .so-far .step) (statesOf (c .before .before .before .before .before .before .before .before .before .before .before .before .before .before .before .before .before .before .before .before .before .before .before .before .before .before .before .loop .figures) (c .before .before .before .before .before .before .before .before .before .before .before .before .before .before .before .before .before .before .before .before .before .before .before .before .before .before .before .loop .cursors)) (marks (c .before .before .before .before .before .before .before .before .before .before .before .before .before .before .before .before .before .before .before .before .before .before .before .before .before .before .before .loop .sure) (c .before .before .before .before .before .before .before .before .before .before .before .before .before .before .before .before .before .before .before .before .before .before .before .before .before .before .before .loop .never) (queue (c .before .before .before .before .before .before .before .before .before .before .before .before .before .before .before .before .before .before .before .before .before .before .before .before .before .before .before .loop .nodes) (c .before .before .before .before .before .before .before .before .before .before .before .before .before .before .before .before .before .before .before .before .before .before .before .before .before .before .before .loop .so-far .ring))) (rows (queue (c .before .before .before .before .before .before .before .before .before .before .before .before .before .before .before .before .before .before .before .before .before .before .before .before .before .before .before .loop .items) (c .before .before .before .before .before .before .before .before .before .before .before .before .before .before .before .before .before .before .before .before .before .before .before .before .before .before .before .loop .so-far .residuals)) (c .before .before .before .before .before .before .before .before .before .before .before .before .before .before .before .before .before .before .before .before .before .before .before .before .before .before .before .loop .pending)) (w .inv .0)
-    (c .before .before .before .before .before .before .before .before .before .before .before .before .before .before .before .before .before .before .before .before .before .before .before .before .before .before .before .before .before .before .before .before .before .before .before .before .before .before .before .before .pre .0 .0) (c .before .before .before .before .before .before .before .before .before .before .before .before .before .before .before .before .before .before .before .before .before .before .before .before .before .before .loop-test .taken) (edges-end (lent (c .before .before .before .before .before .before .before .before .before .before .before .before .before .before .before .before .before .before .before .before .before .before .before .before .before .before .before .before .before .before .before .before .before .before .before .before .before .before .before .before .args .conditions .now) (c .before .before .before .before .before .before .before .before .before .before .before .before .before .before .before .before .before .before .before .before .before .before .before .before .before .before .before .before .before .before .before .before .before .before .before .before .before .before .before .before .args .weights .now) (c .before .before .before .before .before .before .before .before .before .before .before .before .before .before .before .before .before .before .before .before .before .before .before .before .before .before .before .before .before .before .before .before .before .before .before .before .before .before .before .before .args .rows .now) (c .before .before .before .before .before .before .before .before .before .before .before .before .before .before .before .before .before .before .before .before .before .before .before .before .before .before .before .before .before .before .before .before .before .before .before .before .before .before .before .before .args .bounds .now) (c .before .before .before .before .before .before .before .before .before .before .before .before .before .before .before .before .before .before .before .before .before .before .before .before .before .before .before .before .before .before .before .before .before .before .before .before .before .before .before .before .args .names .now)) (c .before .before .before .before .before .before .before .before .before .before .before .before .before .before .before .before .before .before .before .before .before .before .before .before .before .before .before .before .before .before .before .before .before .before .before .before .before .before .before .before .args .index .now) (c .before .before .before .before .before .before .before .before .before .before .before .before .before .before .before .before .before .before .before .before .before .before .before .before .before .before .before .before .before .before .before .before .before .before .before .before .before .before .before .before .args .edges .now) (c .before .before .before .before .before .before .before .before .before .before .before .before .before .before .before .before .before .before .before .before .before .before .before .before .before .before .before .before .before .before .before .before .before .before .before .before .before .before .before .before .pre .0 .1) (c .before .before .before .before .before .before .before .before .before .before .before .before .before .before .before .before .before .before .before .before .before .before .before .before .before .before .before .before .before .before .before .before .before .before .before .before .before .before .before .before .args .node) (c .before .before .before .before .before .before .before .before .before .before .before .before .before .before .before .before .before .before .before .before .before .before .before .before .before .before .before .before .before .before .before .before .before .before .before .before .before .before .before .before .pre .0 .2) (c .before .before .before .before .before .before .before .before .before .before .before .before .before .before .before .before .before .before .before .before .before .before .before .before .before .before .before .before .start-by .result) (c .before .before .before .before .before .before .before .before .before .before .before .before .before .before .before .before .before .before .before .before .before .before .before .before .before .before .before .before .before .end-by .result) (c .before .before .before .before .before .before .before .before .before .before .before .before .before .before .before .before .before .before .before .before .before .before .before .before .before .before .before .before .start-by .ensures .0) (c .before .before .before .before .before .before .before .before .before .before .before .before .before .before .before .before .before .before .before .before .before .before .before .before .before .before .before .before .before .end-by .ensures .0)) (c .before .before .before .before .before .before .before .before .before .before .before .before .before .before .before .before .before .before .before .before .before .before .before .before .before .edge-row .result) (c .before .before .before .before .before .before .before .before .before .before .before .before .before .before .before .before .before .before .before .before .before .before .before .before .edge-weight .result) (c .before .before .before .before .before .before .before .before .before .before .before .before .before .before .before .before .before .before .before .before .before .before .before .before .before .edge-row .ensures) (c .before .before .before .before .before .before .before .before .before .before .before .before .before .before .before .before .before .before .before .before .before .before .before .before .edge-weight .ensures) (edge-inside (lent (c .before .before .before .before .before .before .before .before .before .before .before .before .before .before .before .before .before .before .before .before .before .before .before .before .before .before .before .before .before .before .before .before .before .before .before .before .before .before .before .before .args .conditions .now) (c .before .before .before .before .before .before .before .before .before .before .before .before .before .before .before .before .before .before .before .before .before .before .before .before .before .before .before .before .before .before .before .before .before .before .before .before .before .before .before .before .args .weights .now) (c .before .before .before .before .before .before .before .before .before .before .before .before .before .before .before .before .before .before .before .before .before .before .before .before .before .before .before .before .before .before .before .before .before .before .before .before .before .before .before .before .args .rows .now) (c .before .before .before .before .before .before .before .before .before .before .before .before .before .before .before .before .before .before .before .before .before .before .before .before .before .before .before .before .before .before .before .before .before .before .before .before .before .before .before .before .args .bounds .now) (c .before .before .before .before .before .before .before .before .before .before .before .before .before .before .before .before .before .before .before .before .before .before .before .before .before .before .before .before .before .before .before .before .before .before .before .before .before .before .before .before .args .names .now)) (c .before .before .before .before .before .before .before .before .before .before .before .before .before .before .before .before .before .before .before .before .before .before .before .before .before .before .before .before .before .before .before .before .before .before .before .before .before .before .before .before .args .index .now) (c .before .before .before .before .before .before .before .before .before .before .before .before .before .before .before .before .before .before .before .before .before .before .before .before .before .before .before .before .before .before .before .before .before .before .before .before .before .before .before .before .args .edges .now) (c .before .before .before .before .before .before .before .before .before .before .before .before .before .before .before .before .before .before .before .before .before .before .before .before .before .before .before .before .before .before .before .before .before .before .before .before .before .before .before .before .pre .0 .1) (c .before .before .before .before .before .before .before .before .before .before .before .before .before .before .before .before .before .before .before .before .before .before .before .before .before .before .before .before .before .before .before .before .before .before .before .before .before .before .before .before .args .node) (c .before .before .before .before .before .before .before .before .before .before .before .before .before .before .before .before .before .before .before .before .before .before .before .before .before .before .before .before .before .before .before .before .before .before .before .before .before .before .before .before .pre .0 .2) (c .before .before .before .before .before .before .before .before .before .before .before .before .before .before .before .before .before .before .before .before .before .before .before .before .before .before .before .before .start-by .result) (c .before .before .before .before .before .before .before .before .before .before .before .before .before .before .before .before .before .before .before .before .before .before .before .before .before .before .before .before .before .end-by .result) (c .before .before .before .before .before .before .before .before .before .before .before .before .before .before .before .before .before .before .before .before .before .before .before .before .before .before .before .before .start-by .ensures .0) (c .before .before .before .before .before .before .before .before .before .before .before .before .before .before .before .before .before .before .before .before .before .before .before .before .before .before .before .before .before .end-by .ensures .0) (c .before .before .before .before .before .before .before .before .before .before .before .before .before .before .before .before .before .before .before .before .before .before .before .before .before .before .before .loop .at) (c .before .before .before .before .before .before .before .before .before .before .before .before .before .before .before .before .before .before .before .before .before .before .before .before .before .before .before .loop .inv .0 .above) (c .before .before .before .before .before .before .before .before .before .before .before .before .before .before .before .before .before .before .before .before .before .before .before .before .before .before .loop-test .taken) (c .before .before .before .before .before .before .before .before .before .before .before .before .before .before .before .before .before .before .before .before .before .before .before .before .before .edge-row .result) (c .before .before .before .before .before .before .before .before .before .before .before .before .before .before .before .before .before .before .before .before .before .before .before .before .before .edge-row .ensures)) (edge-light (lent (c .before .before .before .before .before .before .before .before .before .before .before .before .before .before .before .before .before .before .before .before .before .before .before .before .before .before .before .before .before .before .before .before .before .before .before .before .before .before .before .before .args .conditions .now) (c .before .before .before .before .before .before .before .before .before .before .before .before .before .before .before .before .before .before .before .before .before .before .before .before .before .before .before .before .before .before .before .before .before .before .before .before .before .before .before .before .args .weights .now) (c .before .before .before .before .before .before .before .before .before .before .before .before .before .before .before .before .before .before .before .before .before .before .before .before .before .before .before .before .before .before .before .before .before .before .before .before .before .before .before .before .args .rows .now) (c .before .before .before .before .before .before .before .before .before .before .before .before .before .before .before .before .before .before .before .before .before .before .before .before .before .before .before .before .before .before .before .before .before .before .before .before .before .before .before .before .args .bounds .now) (c .before .before .before .before .before .before .before .before .before .before .before .before .before .before .before .before .before .before .before .before .before .before .before .before .before .before .before .before .before .before .before .before .before .before .before .before .before .before .before .before .args .names .now)) (c .before .before .before .before .before .before .before .before .before .before .before .before .before .before .before .before .before .before .before .before .before .before .before .before .before .before .before .before .before .before .before .before .before .before .before .before .before .before .before .before .args .index .now) (c .before .before .before .before .before .before .before .before .before .before .before .before .before .before .before .before .before .before .before .before .before .before .before .before .before .before .before .before .before .before .before .before .before .before .before .before .before .before .before .before .args .edges .now) (c .before .before .before .before .before .before .before .before .before .before .before .before .before .before .before .before .before .before .before .before .before .before .before .before .before .before .before .before .before .before .before .before .before .before .before .before .before .before .before .before .pre .0 .1) (c .before .before .before .before .before .before .before .before .before .before .before .before .before .before .before .before .before .before .before .before .before .before .before .before .before .before .before .before .before .before .before .before .before .before .before .before .before .before .before .before .args .node) (c .before .before .before .before .before .before .before .before .before .before .before .before .before .before .before .before .before .before .before .before .before .before .before .before .before .before .before .before .before .before .before .before .before .before .before .before .before .before .before .before .pre .0 .2) (c .before .before .before .before .before .before .before .before .before .before .before .before .before .before .before .before .before .before .before .before .before .before .before .before .before .before .before .before .start-by .result) (c .before .before .before .before .before .before .before .before .before .before .before .before .before .before .before .before .before .before .before .before .before .before .before .before .before .before .before .before .before .end-by .result) (c .before .before .before .before .before .before .before .before .before .before .before .before .before .before .before .before .before .before .before .before .before .before .before .before .before .before .before .before .start-by .ensures .0) (c .before .before .before .before .before .before .before .before .before .before .before .before .before .before .before .before .before .before .before .before .before .before .before .before .before .before .before .before .before .end-by .ensures .0) (c .before .before .before .before .before .before .before .before .before .before .before .before .before .before .before .before .before .before .before .before .before .before .before .before .before .before .before .loop .at) (c .before .before .before .before .before .before .before .before .before .before .before .before .before .before .before .before .before .before .before .before .before .before .before .before .before .before .before .loop .inv .0 .above) (c .before .before .before .before .before .before .before .before .before .before .before .before .before .before .before .before .before .before .before .before .before .before .before .before .before .before .loop-test .taken) (c .before .before .before .before .before .before .before .before .before .before .before .before .before .before .before .before .before .before .before .before .before .before .before .before .edge-weight .result) (c .before .before .before .before .before .before .before .before .before .before .before .before .before .before .before .before .before .before .before .before .before .before .before .before .edge-weight .ensures))
-    (statesOf (c .before .before .before .before .before .before .before .before .before .before .before .before .before .before .drain-edge .last .1 .1 .1 .1 .1 .0) (c .before .before .before .before .before .before .before .before .before .before .before .before .before .before .drain-edge .last .1 .1 .1 .1 .1 .1 .0)) (marks (c .before .before .before .before .before .before .before .before .before .before .before .before .before .before .drain-edge .last .1 .1 .1 .1 .1 .1 .1 .1 .1 .1 .0) (c .before .before .before .before .before .before .before .before .before .before .before .before .before .before .drain-edge .last .1 .1 .1 .1 .1 .1 .1 .1 .1 .1 .1 .0) (queue (c .before .before .before .before .before .before .before .before .before .before .before .before .before .before .drain-edge .last .1 .1 .1 .1 .1 .1 .1 .1 .1 .1 .1 .1 .0) (c .before .before .before .before .before .before .before .before .before .before .before .before .before .before .drain-edge .result .ring))) (rows (queue (c .before .before .before .before .before .before .before .before .before .before .before .before .before .before .drain-edge .last .1 .1 .1 .1 .1 .1 .1 .1 .1 .1 .1 .1 .1 .1 .0) (c .before .before .before .before .before .before .before .before .before .before .before .before .before .before .drain-edge .result .residuals)) (c .before .before .before .before .before .before .before .before .before .before .before .before .before .before .drain-edge .last .1 .1 .1 .1 .1 .1 .1 .1 .1 .1 .1 .1 .1 .1 .1 .0)) (c .before .before .before .before .before .before .before .before .before .before .before .before .before .before .drain-edge .result .step) (c .before .before .before .before .before .before .before .before .before .before .before .before .before .before .drain-edge .ensures .0) (sym (c .before .contradicts .ensures) ∙ c .if1 .taken) in (
-      λ x d z y. h x d z ∙ condition-held x (c .before .before .before .before .before .before .before .before .before .before .before .before .before .before .before .before .before .before .before .before .before .before .before .before .before .before .before .before .before .before .before .before .before .before .before .before .before .before .before .before .args .index .now) (c .before .before .before .before .before .before .before .before .before .before .before .before .before .before .before .before .before .before .before .before .before .before .before .before .before .before .before .before .before .before .before .before .before .before .before .before .before .before .before .before .args .edges .now) y (c .before .before .before .before .before .before .before .before .before .before .before .before .before .before .before .before .before .before .before .before .before .before .before .before .before .before .before .before .before .before .before .before .before .before .before .before .before .before .before .before .args .node) (c .before .before .before .before .before .before .before .before .before .before .before .before .before .before .before .before .before .before .before .before .before .before .before .before .before .before .before .before .before .before .before .before .before .before .before .before .before .before .before .before .pre .0 .2) (c .before .before .before .before .before .before .before .before .before .before .before .before .before .before .before .before .before .before .before .before .before .before .before .before .before .before .before .before .start-by .result) (c .before .before .before .before .before .before .before .before .before .before .before .before .before .before .before .before .before .before .before .before .before .before .before .before .before .before .before .before .before .end-by .result) (c .before .before .before .before .before .before .before .before .before .before .before .before .before .before .before .before .before .before .before .before .before .before .before .before .before .before .before .before .start-by .ensures .0) (c .before .before .before .before .before .before .before .before .before .before .before .before .before .before .before .before .before .before .before .before .before .before .before .before .before .before .before .before .before .end-by .ensures .0)
-          (live (statesOf (c .before .before .before .before .before .before .before .before .before .before .before .before .before .before .before .before .before .before .before .before .before .before .before .before .before .before .before .before .before .before .before .before .before .before .before .before .before .before .before .before .args .figures .now) (c .before .before .before .before .before .before .before .before .before .before .before .before .before .before .before .before .before .before .before .before .before .before .before .before .before .before .before .before .before .before .before .before .before .before .before .before .before .before .before .before .args .cursors .now)) (marks (c .before .before .before .before .before .before .before .before .before .before .before .before .before .before .before .before .before .before .before .before .before .before .before .before .before .before .before .before .before .before .before .before .before .before .before .before .before .before .before .before .args .sure .now) (c .before .before .before .before .before .before .before .before .before .before .before .before .before .before .before .before .before .before .before .before .before .before .before .before .before .before .before .before .before .before .before .before .before .before .before .before .before .before .before .before .args .never .now) (queue (c .before .before .before .before .before .before .before .before .before .before .before .before .before .before .before .before .before .before .before .before .before .before .before .before .before .before .before .before .before .before .before .before .before .before .before .before .before .before .before .before .args .nodes .now) (c .before .before .before .before .before .before .before .before .before .before .before .before .before .before .before .before .before .before .before .before .before .before .before .before .before .before .before .before .before .before .before .before .before .before .before .before .before .before .before .before .args .ring))) d (rows (queue (c .before .before .before .before .before .before .before .before .before .before .before .before .before .before .before .before .before .before .before .before .before .before .before .before .before .before .before .before .before .before .before .before .before .before .before .before .before .before .before .before .args .items .now) (c .before .before .before .before .before .before .before .before .before .before .before .before .before .before .before .before .before .before .before .before .before .before .before .before .before .before .before .before .before .before .before .before .before .before .before .before .before .before .before .before .args .residuals)) (c .before .before .before .before .before .before .before .before .before .before .before .before .before .before .before .before .before .before .before .before .before .before .before .before .before .before .before .before .before .before .before .before .before .before .before .before .before .before .before .before .args .pending .now))) (c .before .before .before .before .before .before .before .before .before .before .before .before .before .before .before .before .before .before .before .before .before .before .before .before .before .before .before .before .before .before .bit .result) (c .before .before .before .before .before .before .before .before .before .before .before .before .before .before .before .before .before .before .before .before .before .before .before .before .before .before .before .before .before .before .bit .ensures),
-      λ t. c .before .before .before .before .before .before .before .before .before .before .before .before .before .before .drain-edge .ensures .1 (w .inv .2 t),
+returns c =
+    let at-drain-edge = c .before .before .before .before .before .before .before .before .before .before .before in
+    let drain-edge = at-drain-edge .drain-edge in
+    let at-edge-weight = at-drain-edge .before .before .before .before .before .before .before .before in
+    let edge-weight = at-edge-weight .edge-weight in
+    let edge-row = at-edge-weight .before .edge-row in
+    let test = at-edge-weight .before .before .loop-test in
+    let w = at-edge-weight .before .before .before .loop in
+    let at-start-by = at-edge-weight .before .before .before .before in
+    let start-by = at-start-by .start-by in
+    let end-by = at-start-by .before .end-by in
+    let bit = at-start-by .before .before .bit in
+    let s = at-start-by .before .before .before .before .before .before .before .before .before .before in
+    let a = s .args in
+    let p = s .pre in
+    let h = heldRows (a .row-conditions .now) (a .row-weights .now) (a .rows .now) (a .guard-bounds .now) (a .guard-nodes .now) in
+    let v = liveOf (a .figures .now) (a .cursors .now) (a .sure .now) (a .never .now) (a .node-queue .now) (a .row-queues .now) (a .rings) in
+    let u = liveOf (w .figures) (w .cursors) (w .sure) (w .never) (w .node-queue) (w .row-queues) (w .so-far .rings) in
+    let m = drain-edge .last .1 .1 .1 .1 .1 in
+    let o = liveOf (m .0) (m .1 .0) (m .1 .1 .0) (m .1 .1 .1 .0) (m .1 .1 .1 .1 .0) (m .1 .1 .1 .1 .1 .0) (drain-edge .result .rings) in
+    let stop = draining-stop h (a .edges .now) (bit .result) (start-by .result) (end-by .result) v (w .at) (w .so-far .step) u (w .inv .0)
+    (p .0 .0) (test .taken) (edge-row .result) (edge-weight .result) (edge-row .ensures) (edge-weight .ensures)
+    o (drain-edge .result .step) (drain-edge .ensures .0) (sym (c .before .contradicts .ensures) ∙ c .if1 .taken) in (
+      λ x z y. stop x z
+          ∙ condition-held x (a .nodes .now) (a .edges .now) y (a .node) (p .0 .2) (start-by .result) (end-by .result) (start-by .ensures .0) (end-by .ensures .0) v (bit .result) (bit .ensures),
+      λ t. drain-edge .ensures .1 (w .inv .2 t),
     )
 
 join-requires : tie.Need-join-requires Inv-loop μ-loop
-join-requires c κs = search needs
+join-requires c κs =
+    search needs
 
 add-at : tie.Need-add-at Inv-loop μ-loop
-add-at c = omega (arith, c .before .before .before .before .before .before .before .before .before .before .before .before .before .before .before .before .before .before .before .before .before .before .before .before .before .before .before .before .before .loop-test .taken, c .before .before .before .before .before .before .before .before .before .before .before .before .before .before .before .before .before .before .before .before .before .before .before .before .before .before .before .before .before .before .before .before .end-by .ensures .1)
+add-at c =
+    let at-loop-test = c .before .before .before .before .before .before .before .before .before .before .before .before .before .before .before .before .before .before .before .before .before .before .before in
+    let test = at-loop-test .loop-test in
+    let end-by = at-loop-test .before .before .before .end-by in
+    omega (arith, test .taken, end-by .ensures .1)
 
 loop-less : tie.Need-loop-less Inv-loop μ-loop
-loop-less c = omega (arith, c .before .before .before .before .before .before .before .before .before .before .before .before .before .before .before .before .before .before .before .before .before .before .before .before .before .before .before .before .before .loop-test .taken)
+loop-less c = omega (arith, c .before .before .before .before .before .before .before .before .before .before .before .before .before .before .before .before .before .before .before .before .before .before .before .loop-test .taken)
 
 loop-again : tie.Need-loop-again Inv-loop μ-loop
-loop-again c = let w = c .before .before .before .before .before .before .before .before .before .before .before .before .before .before .before .before .before .before .before .before .before .before .before .before .before .before .before .before .before .before .loop in
-    let g = c .before .before .before .before .before .before .before .before .before .before .before .before .before .before .before .before .before .drain-edge .kept in
-    let h = draining-next (lent (c .before .before .before .before .before .before .before .before .before .before .before .before .before .before .before .before .before .before .before .before .before .before .before .before .before .before .before .before .before .before .before .before .before .before .before .before .before .before .before .before .before .before .before .args .conditions .now) (c .before .before .before .before .before .before .before .before .before .before .before .before .before .before .before .before .before .before .before .before .before .before .before .before .before .before .before .before .before .before .before .before .before .before .before .before .before .before .before .before .before .before .before .args .weights .now) (c .before .before .before .before .before .before .before .before .before .before .before .before .before .before .before .before .before .before .before .before .before .before .before .before .before .before .before .before .before .before .before .before .before .before .before .before .before .before .before .before .before .before .before .args .rows .now) (c .before .before .before .before .before .before .before .before .before .before .before .before .before .before .before .before .before .before .before .before .before .before .before .before .before .before .before .before .before .before .before .before .before .before .before .before .before .before .before .before .before .before .before .args .bounds .now) (c .before .before .before .before .before .before .before .before .before .before .before .before .before .before .before .before .before .before .before .before .before .before .before .before .before .before .before .before .before .before .before .before .before .before .before .before .before .before .before .before .before .before .before .args .names .now)) (c .before .before .before .before .before .before .before .before .before .before .before .before .before .before .before .before .before .before .before .before .before .before .before .before .before .before .before .before .before .before .before .before .before .before .before .before .before .before .before .before .before .before .before .args .edges .now) (c .before .before .before .before .before .before .before .before .before .before .before .before .before .before .before .before .before .before .before .before .before .before .before .before .before .before .before .before .before .before .before .before .before .bit .result) (c .before .before .before .before .before .before .before .before .before .before .before .before .before .before .before .before .before .before .before .before .before .before .before .before .before .before .before .before .before .before .before .start-by .result) (c .before .before .before .before .before .before .before .before .before .before .before .before .before .before .before .before .before .before .before .before .before .before .before .before .before .before .before .before .before .before .before .before .end-by .result) (statesOf (c .before .before .before .before .before .before .before .before .before .before .before .before .before .before .before .before .before .before .before .before .before .before .before .before .before .before .before .before .before .before .before .before .before .before .before .before .before .before .before .before .before .before .before .args .figures .now) (c .before .before .before .before .before .before .before .before .before .before .before .before .before .before .before .before .before .before .before .before .before .before .before .before .before .before .before .before .before .before .before .before .before .before .before .before .before .before .before .before .before .before .before .args .cursors .now)) (marks (c .before .before .before .before .before .before .before .before .before .before .before .before .before .before .before .before .before .before .before .before .before .before .before .before .before .before .before .before .before .before .before .before .before .before .before .before .before .before .before .before .before .before .before .args .sure .now) (c .before .before .before .before .before .before .before .before .before .before .before .before .before .before .before .before .before .before .before .before .before .before .before .before .before .before .before .before .before .before .before .before .before .before .before .before .before .before .before .before .before .before .before .args .never .now) (queue (c .before .before .before .before .before .before .before .before .before .before .before .before .before .before .before .before .before .before .before .before .before .before .before .before .before .before .before .before .before .before .before .before .before .before .before .before .before .before .before .before .before .before .before .args .nodes .now) (c .before .before .before .before .before .before .before .before .before .before .before .before .before .before .before .before .before .before .before .before .before .before .before .before .before .before .before .before .before .before .before .before .before .before .before .before .before .before .before .before .before .before .before .args .ring))) (rows (queue (c .before .before .before .before .before .before .before .before .before .before .before .before .before .before .before .before .before .before .before .before .before .before .before .before .before .before .before .before .before .before .before .before .before .before .before .before .before .before .before .before .before .before .before .args .items .now) (c .before .before .before .before .before .before .before .before .before .before .before .before .before .before .before .before .before .before .before .before .before .before .before .before .before .before .before .before .before .before .before .before .before .before .before .before .before .before .before .before .before .before .before .args .residuals)) (c .before .before .before .before .before .before .before .before .before .before .before .before .before .before .before .before .before .before .before .before .before .before .before .before .before .before .before .before .before .before .before .before .before .before .before .before .before .before .before .before .before .before .before .args .pending .now)) (w .at) (w .so-far .step) (statesOf (c .before .before .before .before .before .before .before .before .before .before .before .before .before .before .before .before .before .before .before .before .before .before .before .before .before .before .before .before .before .before .loop .figures) (c .before .before .before .before .before .before .before .before .before .before .before .before .before .before .before .before .before .before .before .before .before .before .before .before .before .before .before .before .before .before .loop .cursors)) (marks (c .before .before .before .before .before .before .before .before .before .before .before .before .before .before .before .before .before .before .before .before .before .before .before .before .before .before .before .before .before .before .loop .sure) (c .before .before .before .before .before .before .before .before .before .before .before .before .before .before .before .before .before .before .before .before .before .before .before .before .before .before .before .before .before .before .loop .never) (queue (c .before .before .before .before .before .before .before .before .before .before .before .before .before .before .before .before .before .before .before .before .before .before .before .before .before .before .before .before .before .before .loop .nodes) (c .before .before .before .before .before .before .before .before .before .before .before .before .before .before .before .before .before .before .before .before .before .before .before .before .before .before .before .before .before .before .loop .so-far .ring))) (rows (queue (c .before .before .before .before .before .before .before .before .before .before .before .before .before .before .before .before .before .before .before .before .before .before .before .before .before .before .before .before .before .before .loop .items) (c .before .before .before .before .before .before .before .before .before .before .before .before .before .before .before .before .before .before .before .before .before .before .before .before .before .before .before .before .before .before .loop .so-far .residuals)) (c .before .before .before .before .before .before .before .before .before .before .before .before .before .before .before .before .before .before .before .before .before .before .before .before .before .before .before .before .before .before .loop .pending)) (w .inv .0)
-    (c .before .before .before .before .before .before .before .before .before .before .before .before .before .before .before .before .before .before .before .before .before .before .before .before .before .before .before .before .before .before .before .before .before .before .before .before .before .before .before .before .before .before .before .pre .0 .0) (c .before .before .before .before .before .before .before .before .before .before .before .before .before .before .before .before .before .before .before .before .before .before .before .before .before .before .before .before .before .loop-test .taken) (edges-end (lent (c .before .before .before .before .before .before .before .before .before .before .before .before .before .before .before .before .before .before .before .before .before .before .before .before .before .before .before .before .before .before .before .before .before .before .before .before .before .before .before .before .before .before .before .args .conditions .now) (c .before .before .before .before .before .before .before .before .before .before .before .before .before .before .before .before .before .before .before .before .before .before .before .before .before .before .before .before .before .before .before .before .before .before .before .before .before .before .before .before .before .before .before .args .weights .now) (c .before .before .before .before .before .before .before .before .before .before .before .before .before .before .before .before .before .before .before .before .before .before .before .before .before .before .before .before .before .before .before .before .before .before .before .before .before .before .before .before .before .before .before .args .rows .now) (c .before .before .before .before .before .before .before .before .before .before .before .before .before .before .before .before .before .before .before .before .before .before .before .before .before .before .before .before .before .before .before .before .before .before .before .before .before .before .before .before .before .before .before .args .bounds .now) (c .before .before .before .before .before .before .before .before .before .before .before .before .before .before .before .before .before .before .before .before .before .before .before .before .before .before .before .before .before .before .before .before .before .before .before .before .before .before .before .before .before .before .before .args .names .now)) (c .before .before .before .before .before .before .before .before .before .before .before .before .before .before .before .before .before .before .before .before .before .before .before .before .before .before .before .before .before .before .before .before .before .before .before .before .before .before .before .before .before .before .before .args .index .now) (c .before .before .before .before .before .before .before .before .before .before .before .before .before .before .before .before .before .before .before .before .before .before .before .before .before .before .before .before .before .before .before .before .before .before .before .before .before .before .before .before .before .before .before .args .edges .now) (c .before .before .before .before .before .before .before .before .before .before .before .before .before .before .before .before .before .before .before .before .before .before .before .before .before .before .before .before .before .before .before .before .before .before .before .before .before .before .before .before .before .before .before .pre .0 .1) (c .before .before .before .before .before .before .before .before .before .before .before .before .before .before .before .before .before .before .before .before .before .before .before .before .before .before .before .before .before .before .before .before .before .before .before .before .before .before .before .before .before .before .before .args .node) (c .before .before .before .before .before .before .before .before .before .before .before .before .before .before .before .before .before .before .before .before .before .before .before .before .before .before .before .before .before .before .before .before .before .before .before .before .before .before .before .before .before .before .before .pre .0 .2) (c .before .before .before .before .before .before .before .before .before .before .before .before .before .before .before .before .before .before .before .before .before .before .before .before .before .before .before .before .before .before .before .start-by .result) (c .before .before .before .before .before .before .before .before .before .before .before .before .before .before .before .before .before .before .before .before .before .before .before .before .before .before .before .before .before .before .before .before .end-by .result) (c .before .before .before .before .before .before .before .before .before .before .before .before .before .before .before .before .before .before .before .before .before .before .before .before .before .before .before .before .before .before .before .start-by .ensures .0) (c .before .before .before .before .before .before .before .before .before .before .before .before .before .before .before .before .before .before .before .before .before .before .before .before .before .before .before .before .before .before .before .before .end-by .ensures .0)) (c .before .before .before .before .before .before .before .before .before .before .before .before .before .before .before .before .before .before .before .before .before .before .before .before .before .before .before .before .edge-row .result) (c .before .before .before .before .before .before .before .before .before .before .before .before .before .before .before .before .before .before .before .before .before .before .before .before .before .before .before .edge-weight .result) (c .before .before .before .before .before .before .before .before .before .before .before .before .before .before .before .before .before .before .before .before .before .before .before .before .before .before .before .before .edge-row .ensures) (c .before .before .before .before .before .before .before .before .before .before .before .before .before .before .before .before .before .before .before .before .before .before .before .before .before .before .before .edge-weight .ensures) (edge-inside (lent (c .before .before .before .before .before .before .before .before .before .before .before .before .before .before .before .before .before .before .before .before .before .before .before .before .before .before .before .before .before .before .before .before .before .before .before .before .before .before .before .before .before .before .before .args .conditions .now) (c .before .before .before .before .before .before .before .before .before .before .before .before .before .before .before .before .before .before .before .before .before .before .before .before .before .before .before .before .before .before .before .before .before .before .before .before .before .before .before .before .before .before .before .args .weights .now) (c .before .before .before .before .before .before .before .before .before .before .before .before .before .before .before .before .before .before .before .before .before .before .before .before .before .before .before .before .before .before .before .before .before .before .before .before .before .before .before .before .before .before .before .args .rows .now) (c .before .before .before .before .before .before .before .before .before .before .before .before .before .before .before .before .before .before .before .before .before .before .before .before .before .before .before .before .before .before .before .before .before .before .before .before .before .before .before .before .before .before .before .args .bounds .now) (c .before .before .before .before .before .before .before .before .before .before .before .before .before .before .before .before .before .before .before .before .before .before .before .before .before .before .before .before .before .before .before .before .before .before .before .before .before .before .before .before .before .before .before .args .names .now)) (c .before .before .before .before .before .before .before .before .before .before .before .before .before .before .before .before .before .before .before .before .before .before .before .before .before .before .before .before .before .before .before .before .before .before .before .before .before .before .before .before .before .before .before .args .index .now) (c .before .before .before .before .before .before .before .before .before .before .before .before .before .before .before .before .before .before .before .before .before .before .before .before .before .before .before .before .before .before .before .before .before .before .before .before .before .before .before .before .before .before .before .args .edges .now) (c .before .before .before .before .before .before .before .before .before .before .before .before .before .before .before .before .before .before .before .before .before .before .before .before .before .before .before .before .before .before .before .before .before .before .before .before .before .before .before .before .before .before .before .pre .0 .1) (c .before .before .before .before .before .before .before .before .before .before .before .before .before .before .before .before .before .before .before .before .before .before .before .before .before .before .before .before .before .before .before .before .before .before .before .before .before .before .before .before .before .before .before .args .node) (c .before .before .before .before .before .before .before .before .before .before .before .before .before .before .before .before .before .before .before .before .before .before .before .before .before .before .before .before .before .before .before .before .before .before .before .before .before .before .before .before .before .before .before .pre .0 .2) (c .before .before .before .before .before .before .before .before .before .before .before .before .before .before .before .before .before .before .before .before .before .before .before .before .before .before .before .before .before .before .before .start-by .result) (c .before .before .before .before .before .before .before .before .before .before .before .before .before .before .before .before .before .before .before .before .before .before .before .before .before .before .before .before .before .before .before .before .end-by .result) (c .before .before .before .before .before .before .before .before .before .before .before .before .before .before .before .before .before .before .before .before .before .before .before .before .before .before .before .before .before .before .before .start-by .ensures .0) (c .before .before .before .before .before .before .before .before .before .before .before .before .before .before .before .before .before .before .before .before .before .before .before .before .before .before .before .before .before .before .before .before .end-by .ensures .0) (c .before .before .before .before .before .before .before .before .before .before .before .before .before .before .before .before .before .before .before .before .before .before .before .before .before .before .before .before .before .before .loop .at) (c .before .before .before .before .before .before .before .before .before .before .before .before .before .before .before .before .before .before .before .before .before .before .before .before .before .before .before .before .before .before .loop .inv .0 .above) (c .before .before .before .before .before .before .before .before .before .before .before .before .before .before .before .before .before .before .before .before .before .before .before .before .before .before .before .before .before .loop-test .taken) (c .before .before .before .before .before .before .before .before .before .before .before .before .before .before .before .before .before .before .before .before .before .before .before .before .before .before .before .before .edge-row .result) (c .before .before .before .before .before .before .before .before .before .before .before .before .before .before .before .before .before .before .before .before .before .before .before .before .before .before .before .before .edge-row .ensures)) (edge-light (lent (c .before .before .before .before .before .before .before .before .before .before .before .before .before .before .before .before .before .before .before .before .before .before .before .before .before .before .before .before .before .before .before .before .before .before .before .before .before .before .before .before .before .before .before .args .conditions .now) (c .before .before .before .before .before .before .before .before .before .before .before .before .before .before .before .before .before .before .before .before .before .before .before .before .before .before .before .before .before .before .before .before .before .before .before .before .before .before .before .before .before .before .before .args .weights .now) (c .before .before .before .before .before .before .before .before .before .before .before .before .before .before .before .before .before .before .before .before .before .before .before .before .before .before .before .before .before .before .before .before .before .before .before .before .before .before .before .before .before .before .before .args .rows .now) (c .before .before .before .before .before .before .before .before .before .before .before .before .before .before .before .before .before .before .before .before .before .before .before .before .before .before .before .before .before .before .before .before .before .before .before .before .before .before .before .before .before .before .before .args .bounds .now) (c .before .before .before .before .before .before .before .before .before .before .before .before .before .before .before .before .before .before .before .before .before .before .before .before .before .before .before .before .before .before .before .before .before .before .before .before .before .before .before .before .before .before .before .args .names .now)) (c .before .before .before .before .before .before .before .before .before .before .before .before .before .before .before .before .before .before .before .before .before .before .before .before .before .before .before .before .before .before .before .before .before .before .before .before .before .before .before .before .before .before .before .args .index .now) (c .before .before .before .before .before .before .before .before .before .before .before .before .before .before .before .before .before .before .before .before .before .before .before .before .before .before .before .before .before .before .before .before .before .before .before .before .before .before .before .before .before .before .before .args .edges .now) (c .before .before .before .before .before .before .before .before .before .before .before .before .before .before .before .before .before .before .before .before .before .before .before .before .before .before .before .before .before .before .before .before .before .before .before .before .before .before .before .before .before .before .before .pre .0 .1) (c .before .before .before .before .before .before .before .before .before .before .before .before .before .before .before .before .before .before .before .before .before .before .before .before .before .before .before .before .before .before .before .before .before .before .before .before .before .before .before .before .before .before .before .args .node) (c .before .before .before .before .before .before .before .before .before .before .before .before .before .before .before .before .before .before .before .before .before .before .before .before .before .before .before .before .before .before .before .before .before .before .before .before .before .before .before .before .before .before .before .pre .0 .2) (c .before .before .before .before .before .before .before .before .before .before .before .before .before .before .before .before .before .before .before .before .before .before .before .before .before .before .before .before .before .before .before .start-by .result) (c .before .before .before .before .before .before .before .before .before .before .before .before .before .before .before .before .before .before .before .before .before .before .before .before .before .before .before .before .before .before .before .before .end-by .result) (c .before .before .before .before .before .before .before .before .before .before .before .before .before .before .before .before .before .before .before .before .before .before .before .before .before .before .before .before .before .before .before .start-by .ensures .0) (c .before .before .before .before .before .before .before .before .before .before .before .before .before .before .before .before .before .before .before .before .before .before .before .before .before .before .before .before .before .before .before .before .end-by .ensures .0) (c .before .before .before .before .before .before .before .before .before .before .before .before .before .before .before .before .before .before .before .before .before .before .before .before .before .before .before .before .before .before .loop .at) (c .before .before .before .before .before .before .before .before .before .before .before .before .before .before .before .before .before .before .before .before .before .before .before .before .before .before .before .before .before .before .loop .inv .0 .above) (c .before .before .before .before .before .before .before .before .before .before .before .before .before .before .before .before .before .before .before .before .before .before .before .before .before .before .before .before .before .loop-test .taken) (c .before .before .before .before .before .before .before .before .before .before .before .before .before .before .before .before .before .before .before .before .before .before .before .before .before .before .before .edge-weight .result) (c .before .before .before .before .before .before .before .before .before .before .before .before .before .before .before .before .before .before .before .before .before .before .before .before .before .before .before .edge-weight .ensures))
-    (statesOf (c .before .before .before .before .before .before .before .before .before .before .before .before .before .before .before .before .before .drain-edge .last .1 .1 .1 .1 .1 .0) (c .before .before .before .before .before .before .before .before .before .before .before .before .before .before .before .before .before .drain-edge .last .1 .1 .1 .1 .1 .1 .0)) (marks (c .before .before .before .before .before .before .before .before .before .before .before .before .before .before .before .before .before .drain-edge .last .1 .1 .1 .1 .1 .1 .1 .1 .1 .1 .0) (c .before .before .before .before .before .before .before .before .before .before .before .before .before .before .before .before .before .drain-edge .last .1 .1 .1 .1 .1 .1 .1 .1 .1 .1 .1 .0) (queue (c .before .before .before .before .before .before .before .before .before .before .before .before .before .before .before .before .before .drain-edge .last .1 .1 .1 .1 .1 .1 .1 .1 .1 .1 .1 .1 .0) (c .before .before .before .before .before .before .before .before .before .before .before .before .before .before .before .before .before .drain-edge .result .ring))) (rows (queue (c .before .before .before .before .before .before .before .before .before .before .before .before .before .before .before .before .before .drain-edge .last .1 .1 .1 .1 .1 .1 .1 .1 .1 .1 .1 .1 .1 .1 .0) (c .before .before .before .before .before .before .before .before .before .before .before .before .before .before .before .before .before .drain-edge .result .residuals)) (c .before .before .before .before .before .before .before .before .before .before .before .before .before .before .before .before .before .drain-edge .last .1 .1 .1 .1 .1 .1 .1 .1 .1 .1 .1 .1 .1 .1 .1 .0)) (c .before .before .before .before .before .before .before .before .before .before .before .before .before .before .before .before .before .drain-edge .result .step) (c .before .before .before .before .before .before .before .before .before .before .before .before .before .before .before .before .before .drain-edge .ensures .0) (sym (c .before .before .before .before .contradicts .ensures) ∙ c .before .before .before .if1 .left) (c .join .result) (c .join .ensures) in (
-      h,
+loop-again c =
+    let join = c .join in
+    let if1 = c .before .before .if1 in
+    let contradicts = c .before .before .before .contradicts in
+    let at-drain-edge = c .before .before .before .before .before .before .before .before .before .before .before .before .before in
+    let drain-edge = at-drain-edge .drain-edge in
+    let at-edge-weight = at-drain-edge .before .before .before .before .before .before .before .before in
+    let edge-weight = at-edge-weight .edge-weight in
+    let edge-row = at-edge-weight .before .edge-row in
+    let test = at-edge-weight .before .before .loop-test in
+    let w = at-edge-weight .before .before .before .loop in
+    let at-start-by = at-edge-weight .before .before .before .before in
+    let start-by = at-start-by .start-by in
+    let end-by = at-start-by .before .end-by in
+    let bit = at-start-by .before .before .bit in
+    let s = at-start-by .before .before .before .before .before .before .before .before .before .before in
+    let a = s .args in
+    let h = heldRows (a .row-conditions .now) (a .row-weights .now) (a .rows .now) (a .guard-bounds .now) (a .guard-nodes .now) in
+    let v = liveOf (a .figures .now) (a .cursors .now) (a .sure .now) (a .never .now) (a .node-queue .now) (a .row-queues .now) (a .rings) in
+    let u = liveOf (w .figures) (w .cursors) (w .sure) (w .never) (w .node-queue) (w .row-queues) (w .so-far .rings) in
+    let m = drain-edge .last .1 .1 .1 .1 .1 in
+    let o = liveOf (m .0) (m .1 .0) (m .1 .1 .0) (m .1 .1 .1 .0) (m .1 .1 .1 .1 .0) (m .1 .1 .1 .1 .1 .0) (drain-edge .result .rings) in
+    let g = drain-edge .kept .1 .1 .1 .1 .1 in
+    let same = w .inv .1 in
+    let next = draining-next h (a .edges .now) (bit .result) (start-by .result) (end-by .result) v (w .at) (w .so-far .step) u (w .inv .0)
+    (s .pre .0 .0) (test .taken) (edge-row .result) (edge-weight .result) (edge-row .ensures) (edge-weight .ensures)
+    o (drain-edge .result .step) (drain-edge .ensures .0) (sym (contradicts .ensures) ∙ if1 .left) (join .result) (join .ensures) in (
+      next,
       record {
-        figures = g .1 .1 .1 .1 .1 .0 ∙ w .inv .1 .figures;
-        cursors = g .1 .1 .1 .1 .1 .1 .0 ∙ w .inv .1 .cursors;
-        sure = g .1 .1 .1 .1 .1 .1 .1 .1 .1 .1 .0 ∙ w .inv .1 .sure;
-        never = g .1 .1 .1 .1 .1 .1 .1 .1 .1 .1 .1 .0 ∙ w .inv .1 .never;
-        nodes = g .1 .1 .1 .1 .1 .1 .1 .1 .1 .1 .1 .1 .0 ∙ w .inv .1 .nodes;
-        items = g .1 .1 .1 .1 .1 .1 .1 .1 .1 .1 .1 .1 .1 .1 .0 ∙ w .inv .1 .items;
-        pending = g .1 .1 .1 .1 .1 .1 .1 .1 .1 .1 .1 .1 .1 .1 .1 .0 ∙ w .inv .1 .pending;
+        figures = _∙_ {b = length (w .figures)} (g .0) (same .figures);
+        cursors = _∙_ {b = length (w .cursors)} (g .1 .0) (same .cursors);
+        sure = _∙_ {b = length (w .sure)} (g .1 .1 .0) (same .sure);
+        never = _∙_ {b = length (w .never)} (g .1 .1 .1 .0) (same .never);
+        node-queue = _∙_ {b = length (w .node-queue)} (g .1 .1 .1 .1 .0) (same .node-queue);
+        row-queues = _∙_ {b = length (w .row-queues)} (g .1 .1 .1 .1 .1 .0) (same .row-queues);
       },
-      λ t. c .before .before .before .before .before .before .before .before .before .before .before .before .before .before .before .before .before .drain-edge .ensures .1 (w .inv .2 t),
+      λ t. drain-edge .ensures .1 (w .inv .2 t),
     )
 
+same-length-7 : tie.Need-same-length-7 Inv-loop μ-loop
+same-length-7 c = c .before .loop .inv .1 .figures
+
 same-length-8 : tie.Need-same-length-8 Inv-loop μ-loop
-same-length-8 c = c .before .loop .inv .1 .figures
+same-length-8 c = c .before .loop .inv .1 .cursors
 
 same-length-9 : tie.Need-same-length-9 Inv-loop μ-loop
-same-length-9 c = c .before .loop .inv .1 .cursors
+same-length-9 c = c .before .loop .inv .1 .sure
 
 same-length-10 : tie.Need-same-length-10 Inv-loop μ-loop
-same-length-10 c = c .before .loop .inv .1 .sure
+same-length-10 c = c .before .loop .inv .1 .never
 
 same-length-11 : tie.Need-same-length-11 Inv-loop μ-loop
-same-length-11 c = c .before .loop .inv .1 .never
+same-length-11 c = c .before .loop .inv .1 .node-queue
 
 same-length-12 : tie.Need-same-length-12 Inv-loop μ-loop
-same-length-12 c = c .before .loop .inv .1 .nodes
-
-same-length-13 : tie.Need-same-length-13 Inv-loop μ-loop
-same-length-13 c = c .before .loop .inv .1 .items
-
-same-length-14 : tie.Need-same-length-14 Inv-loop μ-loop
-same-length-14 c = c .before .loop .inv .1 .pending
+same-length-12 c = c .before .loop .inv .1 .row-queues
 
 returns-2 : tie.Need-returns-2 Inv-loop μ-loop
-returns-2 c = let w = c .before .loop in
-    let h = draining-end (lent (c .before .before .before .before .before .before .before .before .before .before .before .before .before .before .args .conditions .now) (c .before .before .before .before .before .before .before .before .before .before .before .before .before .before .args .weights .now) (c .before .before .before .before .before .before .before .before .before .before .before .before .before .before .args .rows .now) (c .before .before .before .before .before .before .before .before .before .before .before .before .before .before .args .bounds .now) (c .before .before .before .before .before .before .before .before .before .before .before .before .before .before .args .names .now)) (c .before .before .before .before .before .before .before .before .before .before .before .before .before .before .args .edges .now) (c .before .before .before .before .bit .result) (c .before .before .start-by .result) (c .before .before .before .end-by .result) (statesOf (c .before .before .before .before .before .before .before .before .before .before .before .before .before .before .args .figures .now) (c .before .before .before .before .before .before .before .before .before .before .before .before .before .before .args .cursors .now)) (marks (c .before .before .before .before .before .before .before .before .before .before .before .before .before .before .args .sure .now) (c .before .before .before .before .before .before .before .before .before .before .before .before .before .before .args .never .now) (queue (c .before .before .before .before .before .before .before .before .before .before .before .before .before .before .args .nodes .now) (c .before .before .before .before .before .before .before .before .before .before .before .before .before .before .args .ring))) (rows (queue (c .before .before .before .before .before .before .before .before .before .before .before .before .before .before .args .items .now) (c .before .before .before .before .before .before .before .before .before .before .before .before .before .before .args .residuals)) (c .before .before .before .before .before .before .before .before .before .before .before .before .before .before .args .pending .now)) (w .at) (w .so-far .step) (statesOf (c .before .loop .figures) (c .before .loop .cursors)) (marks (c .before .loop .sure) (c .before .loop .never) (queue (c .before .loop .nodes) (c .before .loop .so-far .ring))) (rows (queue (c .before .loop .items) (c .before .loop .so-far .residuals)) (c .before .loop .pending)) (w .inv .0) (c .loop-test .left) in (
-      λ x d z y. h x d z ∙ condition-held x (c .before .before .before .before .before .before .before .before .before .before .before .before .before .before .args .index .now) (c .before .before .before .before .before .before .before .before .before .before .before .before .before .before .args .edges .now) y (c .before .before .before .before .before .before .before .before .before .before .before .before .before .before .args .node) (c .before .before .before .before .before .before .before .before .before .before .before .before .before .before .pre .0 .2) (c .before .before .start-by .result) (c .before .before .before .end-by .result) (c .before .before .start-by .ensures .0) (c .before .before .before .end-by .ensures .0)
-          (live (statesOf (c .before .before .before .before .before .before .before .before .before .before .before .before .before .before .args .figures .now) (c .before .before .before .before .before .before .before .before .before .before .before .before .before .before .args .cursors .now)) (marks (c .before .before .before .before .before .before .before .before .before .before .before .before .before .before .args .sure .now) (c .before .before .before .before .before .before .before .before .before .before .before .before .before .before .args .never .now) (queue (c .before .before .before .before .before .before .before .before .before .before .before .before .before .before .args .nodes .now) (c .before .before .before .before .before .before .before .before .before .before .before .before .before .before .args .ring))) d (rows (queue (c .before .before .before .before .before .before .before .before .before .before .before .before .before .before .args .items .now) (c .before .before .before .before .before .before .before .before .before .before .before .before .before .before .args .residuals)) (c .before .before .before .before .before .before .before .before .before .before .before .before .before .before .args .pending .now))) (c .before .before .before .before .bit .result) (c .before .before .before .before .bit .ensures),
+returns-2 c =
+    let w = c .before .loop in
+    let start-by = c .before .before .start-by in
+    let end-by = c .before .before .before .end-by in
+    let at-bit = c .before .before .before .before in
+    let bit = at-bit .bit in
+    let s = at-bit .before .before .before .before .before .before .before .before in
+    let a = s .args in
+    let h = heldRows (a .row-conditions .now) (a .row-weights .now) (a .rows .now) (a .guard-bounds .now) (a .guard-nodes .now) in
+    let v = liveOf (a .figures .now) (a .cursors .now) (a .sure .now) (a .never .now) (a .node-queue .now) (a .row-queues .now) (a .rings) in
+    let u = liveOf (w .figures) (w .cursors) (w .sure) (w .never) (w .node-queue) (w .row-queues) (w .so-far .rings) in
+    let last = draining-end h (a .edges .now) (bit .result) (start-by .result) (end-by .result) v (w .at) (w .so-far .step) u (w .inv .0) (c .loop-test .left) in (
+      λ x z y. last x z
+          ∙ condition-held x (a .nodes .now) (a .edges .now) y (a .node) (s .pre .0 .2) (start-by .result) (end-by .result) (start-by .ensures .0) (end-by .ensures .0) v (bit .result) (bit .ensures),
       w .inv .2,
     )
 
@@ -160,17 +267,15 @@ threshold-condition-spec =
     same-length-4
     same-length-5
     same-length-6
-    same-length-7
     returns
     join-requires
     add-at
     loop-less
     loop-again
+    same-length-7
     same-length-8
     same-length-9
     same-length-10
     same-length-11
     same-length-12
-    same-length-13
-    same-length-14
     returns-2)

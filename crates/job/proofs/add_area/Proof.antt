@@ -9,6 +9,9 @@ use Rattle.job.proofs.add_area.Tie as tie
 weight-of-area-requires : tie.Need-weight-of-area-requires
 weight-of-area-requires c κs = search needs
 
+cast-weight : tie.Need-cast-weight
+cast-weight c = search needs
+
 add-term-requires : tie.Need-add-term-requires
 add-term-requires c κs = search needs
 
@@ -22,13 +25,21 @@ same-length-3 : tie.Need-same-length-3
 same-length-3 c = search needs
 
 returns : tie.Need-returns
-returns c = subst (λ (w : ℕ). Added (c .before .before .before .before .before .before .before .before .before .before .before .before .args .counts) (c .before .before .before .before .before .before .before .before .before .before .before .before .args .condition) w (c .before .before .before .before .before .before .before .before .before .before .before .before .args .conditions .now) (c .before .before .before .before .before .before .before .before .before .before .before .before .args .weights .now) (c .before .before .before .before .before .before .before .before .before .before .before .before .args .thresholds .now) (c .before .before .before .before .before .add-term .result) (c .before .before .before .before .before .add-term .last .1 .1 .1 .0) (c .before .before .before .before .before .add-term .last .1 .1 .1 .1 .0) (c .before .before .before .before .before .add-term .last .1 .1 .1 .1 .1 .0)) (c .before .before .before .before .before .before .before .before .before .weight-of-area .ensures) (c .before .before .before .before .before .add-term .ensures)
+returns c =
+    let t = c .before .before .before .before .before .add-term in
+    let w = c .before .before .before .before .before .before .before .before .before in
+    let g = w .before .before .before .args in
+    subst
+    (λ (x : ℕ). Added (g .counts) (g .condition) x (g .raw-conditions .now) (g .raw-weights .now) (g .thresholds .now) (t .result) (t .last .1 .1 .1 .0)
+    (t .last .1 .1 .1 .1 .0) (t .last .1 .1 .1 .1 .1 .0))
+    (w .weight-of-area .ensures) (t .ensures)
 
 pub add-area-spec : {M : Type 1} → statement M
 add-area-spec =
     tie.close
     (tie.spec
     weight-of-area-requires
+    cast-weight
     add-term-requires
     same-length
     same-length-2

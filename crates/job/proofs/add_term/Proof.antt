@@ -4,6 +4,7 @@ use mathlib.Core.List.{List}
 use Prim.Native.Nat.{ℕ, _+_}
 use native.Mathlib.Omega.{arith}
 use lib.ListN.{set}
+use Rattle.job.specs.declared.Counts.{Counts}
 use Rattle.job.specs.Gathered.{Added}
 use Rattle.job.specs.TakenLaws.{term-room, term-open, added, not-added}
 use borrow.Author.Needs.{needs}
@@ -17,22 +18,36 @@ same-length : tie.Need-same-length
 same-length c = search needs
 
 returns : tie.Need-returns
-returns c = not-added (c .before .before .before .before .before .args .counts) (c .before .before .before .before .before .args .condition) (c .before .before .before .before .before .args .weight) (c .before .before .before .before .before .args .conditions .now) (c .before .before .before .before .before .args .weights .now) (c .before .before .before .before .before .args .thresholds .now) (c .before .term-refusal .result) (c .before .before .before .before .before .pre .0) (c .before .before .before .before .before .pre .1) (c .before .term-refusal .ensures) (c .if1 .taken)
+returns c =
+    let s = c .before .before .before .before .before in
+    let g = s .args in
+    let t = c .before .term-refusal in
+    not-added (g .counts) (g .condition) (g .weight) (g .raw-conditions .now) (g .raw-weights .now) (g .thresholds .now) (t .result) (s .pre .0) (s .pre .1) (t .ensures) (c .if1 .taken)
 
-mul-conditions : tie.Need-mul-conditions
-mul-conditions c = search needs
+mul-raw-conditions : tie.Need-mul-raw-conditions
+mul-raw-conditions c = search needs
 
-slice-write-conditions : tie.Need-slice-write-conditions
-slice-write-conditions c = omega (arith, term-room (c .before .before .before .before .before .args .counts) (c .before .before .before .before .before .args .condition) (c .before .before .before .before .before .args .weight) (c .before .before .before .before .before .args .conditions .now) (c .before .before .before .before .before .args .weights .now) (c .before .before .before .before .before .args .thresholds .now) (c .before .before .before .before .before .pre .0) (c .before .before .before .before .before .pre .1) (sym (c .before .term-refusal .ensures) ∙ c .if1 .left), c .before .before .before .before .before .pre .1 .conditions)
+slice-write-raw-conditions : tie.Need-slice-write-raw-conditions
+slice-write-raw-conditions c =
+    let s = c .before .before .before .before .before in
+    let g = s .args in
+    omega (arith, term-room (g .counts) (g .condition) (g .weight) (g .raw-conditions .now) (g .raw-weights .now) (g .thresholds .now) (s .pre .0) (s .pre .1) (sym (c .before .term-refusal .ensures) ∙ c .if1 .left), s .pre .1 .conditions)
 
-mul-weights : tie.Need-mul-weights
-mul-weights c = search needs
+mul-raw-weights : tie.Need-mul-raw-weights
+mul-raw-weights c = search needs
 
-slice-write-weights : tie.Need-slice-write-weights
-slice-write-weights c = omega (arith, term-room (c .before .before .before .before .before .args .counts) (c .before .before .before .before .before .args .condition) (c .before .before .before .before .before .args .weight) (c .before .before .before .before .before .args .conditions .now) (c .before .before .before .before .before .args .weights .now) (c .before .before .before .before .before .args .thresholds .now) (c .before .before .before .before .before .pre .0) (c .before .before .before .before .before .pre .1) (sym (c .before .term-refusal .ensures) ∙ c .if1 .left), c .before .before .before .before .before .pre .1 .weights)
+slice-write-raw-weights : tie.Need-slice-write-raw-weights
+slice-write-raw-weights c =
+    let s = c .before .before .before .before .before in
+    let g = s .args in
+    omega (arith, term-room (g .counts) (g .condition) (g .weight) (g .raw-conditions .now) (g .raw-weights .now) (g .thresholds .now) (s .pre .0) (s .pre .1) (sym (c .before .term-refusal .ensures) ∙ c .if1 .left), s .pre .1 .weights)
 
 sub-set-end : tie.Need-sub-set-end
-sub-set-end c = let e = term-open (c .before .before .before .before .before .before .args .counts) (c .before .before .before .before .before .before .args .condition) (c .before .before .before .before .before .before .args .weight) (c .before .before .before .before .before .before .args .conditions .now) (c .before .before .before .before .before .before .args .weights .now) (c .before .before .before .before .before .before .args .thresholds .now) (c .before .before .before .before .before .before .pre .0) (c .before .before .before .before .before .before .pre .1) (sym (c .before .before .term-refusal .ensures) ∙ c .before .if1 .left) in omega (arith, e)
+sub-set-end c =
+    let s = c .before .before .before .before .before .before in
+    let g = s .args in
+    let e = term-open (g .counts) (g .condition) (g .weight) (g .raw-conditions .now) (g .raw-weights .now) (g .thresholds .now) (s .pre .0) (s .pre .1) (sym (c .before .before .term-refusal .ensures) ∙ c .before .if1 .left) in
+    omega (arith, e)
 
 add-set-end : tie.Need-add-set-end
 add-set-end c = search needs
@@ -53,7 +68,15 @@ same-length-4 : tie.Need-same-length-4
 same-length-4 c = search needs
 
 returns-2 : tie.Need-returns-2
-returns-2 c = subst (λ (l : List (List ℕ)). Added (c .before .before .before .before .before .before .before .before .args .counts) (c .before .before .before .before .before .before .before .before .args .condition) (c .before .before .before .before .before .before .before .before .args .weight) (c .before .before .before .before .before .before .before .before .args .conditions .now) (c .before .before .before .before .before .before .before .before .args .weights .now) (c .before .before .before .before .before .before .before .before .args .thresholds .now) (record { refusal = 0; counts = record { nodes = c .before .before .before .before .before .before .before .before .args .counts .nodes; thresholds = c .before .before .before .before .before .before .before .before .args .counts .thresholds; terms = c .before .before .before .before .before .before .before .before .args .counts .terms + 1 } }) (set (c .before .before .before .before .before .before .before .before .args .conditions .now) (c .before .before .before .before .before .before .before .before .args .counts .terms) (c .before .before .before .before .before .before .before .before .args .condition)) (set (c .before .before .before .before .before .before .before .before .args .weights .now) (c .before .before .before .before .before .before .before .before .args .counts .terms) (c .before .before .before .before .before .before .before .before .args .weight)) l) (sym (c .before .set-end .ensures)) (added (c .before .before .before .before .before .before .before .before .args .counts) (c .before .before .before .before .before .before .before .before .args .condition) (c .before .before .before .before .before .before .before .before .args .weight) (c .before .before .before .before .before .before .before .before .args .conditions .now) (c .before .before .before .before .before .before .before .before .args .weights .now) (c .before .before .before .before .before .before .before .before .args .thresholds .now) (c .before .before .before .before .before .before .before .before .pre .0) (c .before .before .before .before .before .before .before .before .pre .1) (sym (c .before .before .before .before .term-refusal .ensures) ∙ c .before .before .before .if1 .left))
+returns-2 c =
+    let s = c .before .before .before .before .before .before .before .before in
+    let g = s .args in
+    let n : Counts = record { nodes = g .counts .nodes; thresholds = g .counts .thresholds; terms = g .counts .terms + 1 } in
+    let at = g .counts .terms in
+    let passed = sym (c .before .before .before .before .term-refusal .ensures) ∙ c .before .before .before .if1 .left in
+    subst
+    (λ (l : List (List ℕ)). Added (g .counts) (g .condition) (g .weight) (g .raw-conditions .now) (g .raw-weights .now) (g .thresholds .now) (record { refusal = 0; counts = n }) (set (g .raw-conditions .now) at (g .condition)) (set (g .raw-weights .now) at (g .weight)) l)
+    (sym (c .before .set-end .ensures)) (added (g .counts) (g .condition) (g .weight) (g .raw-conditions .now) (g .raw-weights .now) (g .thresholds .now) (s .pre .0) (s .pre .1) passed (s .pre .2))
 
 pub add-term-spec : {M : Type 1} → statement M
 add-term-spec =
@@ -62,10 +85,10 @@ add-term-spec =
     term-refusal-requires
     same-length
     returns
-    mul-conditions
-    slice-write-conditions
-    mul-weights
-    slice-write-weights
+    mul-raw-conditions
+    slice-write-raw-conditions
+    mul-raw-weights
+    slice-write-raw-weights
     sub-set-end
     add-set-end
     set-end-requires

@@ -3,7 +3,8 @@ use Prim.Native.Nat.{ℕ, _+_}
 use lib.ListN.{getD, set}
 use native.Mathlib.Omega.{arith}
 use Rattle.numeric.specs.Threshold.{terms}
-use Rattle.thresholds.specs.Raw.{raw, stretch}
+use Rattle.memory.specs.Buffers.{rawLists}
+use Rattle.thresholds.specs.Raw.{stretch}
 use Rattle.thresholds.specs.RawLaws.{list-is}
 use Rattle.prepare.specs.RowsGivenTerms.{terms-room}
 use Rattle.prepare.specs.PlaceLaws.{within, marks-tail, placing-new}
@@ -23,7 +24,7 @@ end-of-requires c κs = search needs
 build-at-requires : tie.Need-build-at-requires
 build-at-requires c κs = let g = c .before .before .before .before .before .before .before .before .before .before .before .args in
     let p = c .before .before .before .before .before .before .before .before .before .before .before .pre in
-    let r = raw (g .conditions .now) (g .weights .now) (g .thresholds .now) in
+    let r = rawLists (g .raw-conditions .now) (g .raw-weights .now) (g .thresholds .now) in
     let l = p .0 .lists in
     let w = within r (g .t) (g .so) (g .row-conditions .now) (g .row-weights .now) (g .rows .now) (g .scratch .now) (g .heads .now) (p .0) (p .3) (p .1) in
     let rising = l .rising (g .t) (p .1) in
@@ -34,12 +35,12 @@ build-at-requires c κs = let g = c .before .before .before .before .before .bef
     let end = p .3 .end in
     let fit = terms-room r _ (g .t) l (p .1) in
     let room = p .0 .room in
-    (omega arith, omega arith, l .weighed, omega arith, omega arith, p .0 .even, p .0 .below, p .0 .words, marks-tail r (g .t) (g .so .rows) (g .scratch .now) (g .heads .now) (p .3 .marks) (omega arith))
+    (omega arith, omega arith, l .weighed, omega arith, omega arith, p .0 .even, p .0 .below, l .light, p .0 .words, marks-tail r (g .t) (g .so .rows) (g .scratch .now) (g .heads .now) (p .3 .marks) (omega arith))
 
 cast-t25 : tie.Need-cast-t25
 cast-t25 c = let g = c .before .before .before .before .before .before .before .before .before .before .before .before .before .before .before .before .before .before .args in
     let p = c .before .before .before .before .before .before .before .before .before .before .before .before .before .before .before .before .before .before .pre in
-    let r = raw (g .conditions .now) (g .weights .now) (g .thresholds .now) in
+    let r = rawLists (g .raw-conditions .now) (g .raw-weights .now) (g .thresholds .now) in
     let a = c .before .before .before .before .before .before .before .before .before .before .before .start-of .ensures in
     let e = c .before .before .before .before .before .before .before .before .before .before .end-of .ensures in
     let end = p .3 .end in
@@ -52,21 +53,21 @@ cast-t25 c = let g = c .before .before .before .before .before .before .before .
 mul-entry : tie.Need-mul-entry
 mul-entry c = let g = c .before .before .before .before .before .before .before .before .before .before .before .before .before .before .before .before .before .before .args in
     let p = c .before .before .before .before .before .before .before .before .before .before .before .before .before .before .before .before .before .before .pre in
-    let w = within (raw (g .conditions .now) (g .weights .now) (g .thresholds .now)) (g .t) (g .so) (g .row-conditions .now) (g .row-weights .now) (g .rows .now) (g .scratch .now) (g .heads .now) (p .0) (p .3) (p .1) in
+    let w = within (rawLists (g .raw-conditions .now) (g .raw-weights .now) (g .thresholds .now)) (g .t) (g .so) (g .row-conditions .now) (g .row-weights .now) (g .rows .now) (g .scratch .now) (g .heads .now) (p .0) (p .3) (p .1) in
     record { fits = omega arith }
 
 slice-set-from-entry : tie.Need-slice-set-from-entry
 slice-set-from-entry c = let g = c .before .before .before .before .before .before .before .before .before .before .before .before .before .before .before .before .before .before .args in
     let p = c .before .before .before .before .before .before .before .before .before .before .before .before .before .before .before .before .before .before .pre in
-    let w = within (raw (g .conditions .now) (g .weights .now) (g .thresholds .now)) (g .t) (g .so) (g .row-conditions .now) (g .row-weights .now) (g .rows .now) (g .scratch .now) (g .heads .now) (p .0) (p .3) (p .1) in
+    let w = within (rawLists (g .raw-conditions .now) (g .raw-weights .now) (g .thresholds .now)) (g .t) (g .so) (g .row-conditions .now) (g .row-weights .now) (g .rows .now) (g .scratch .now) (g .heads .now) (p .0) (p .3) (p .1) in
     w .row
 
 link-row-requires : tie.Need-link-row-requires
 link-row-requires c κs = let g = c .before .before .before .before .before .before .before .before .before .before .before .before .before .before .before .before .before .before .before .args in
     let p = c .before .before .before .before .before .before .before .before .before .before .before .before .before .before .before .before .before .before .before .pre in
-    let s = print-small (raw (g .conditions .now) (g .weights .now) (g .thresholds .now)) (g .t) (p .0 .lists) (p .1) in
+    let s = print-small (rawLists (g .raw-conditions .now) (g .raw-weights .now) (g .thresholds .now)) (g .t) (p .0 .lists) (p .1) in
     let e = p .2 in
-    let w = within (raw (g .conditions .now) (g .weights .now) (g .thresholds .now)) (g .t) (g .so) (g .row-conditions .now) (g .row-weights .now) (g .rows .now) (g .scratch .now) (g .heads .now) (p .0) (p .3) (p .1) in
+    let w = within (rawLists (g .raw-conditions .now) (g .raw-weights .now) (g .thresholds .now)) (g .t) (g .so) (g .row-conditions .now) (g .row-weights .now) (g .rows .now) (g .scratch .now) (g .heads .now) (p .0) (p .3) (p .1) in
     let turn = w .turn in
     let few = w .few in
     (omega arith, omega arith, p .3 .marks .headed .wide)
@@ -77,7 +78,7 @@ mul-scratch c = let n = c .before .before .link-row .ensures .1 in record { fits
 add-scratch : tie.Need-add-scratch
 add-scratch c = let g = c .before .before .before .before .before .before .before .before .before .before .before .before .before .before .before .before .before .before .before .before .before .before .args in
     let p = c .before .before .before .before .before .before .before .before .before .before .before .before .before .before .before .before .before .before .before .before .before .before .pre in
-    let s = print-small (raw (g .conditions .now) (g .weights .now) (g .thresholds .now)) (g .t) (p .0 .lists) (p .1) in
+    let s = print-small (rawLists (g .raw-conditions .now) (g .raw-weights .now) (g .thresholds .now)) (g .t) (p .0 .lists) (p .1) in
     let e = p .2 in
     let n = c .before .before .link-row .ensures .1 in
     record { fits = omega arith }
@@ -85,7 +86,7 @@ add-scratch c = let g = c .before .before .before .before .before .before .befor
 mul-scratch-2 : tie.Need-mul-scratch-2
 mul-scratch-2 c = let g = c .before .before .before .before .before .before .before .before .before .before .before .before .before .before .before .before .before .before .before .before .before .before .args in
     let p = c .before .before .before .before .before .before .before .before .before .before .before .before .before .before .before .before .before .before .before .before .before .before .pre in
-    let s = print-small (raw (g .conditions .now) (g .weights .now) (g .thresholds .now)) (g .t) (p .0 .lists) (p .1) in
+    let s = print-small (rawLists (g .raw-conditions .now) (g .raw-weights .now) (g .thresholds .now)) (g .t) (p .0 .lists) (p .1) in
     let e = p .2 in
     let n = c .before .before .link-row .ensures .1 in
     record { fits = omega arith }
@@ -93,30 +94,30 @@ mul-scratch-2 c = let g = c .before .before .before .before .before .before .bef
 add-scratch-2 : tie.Need-add-scratch-2
 add-scratch-2 c = let g = c .before .before .before .before .before .before .before .before .before .before .before .before .before .before .before .before .before .before .before .before .before .before .args in
     let p = c .before .before .before .before .before .before .before .before .before .before .before .before .before .before .before .before .before .before .before .before .before .before .pre in
-    let s = print-small (raw (g .conditions .now) (g .weights .now) (g .thresholds .now)) (g .t) (p .0 .lists) (p .1) in
+    let s = print-small (rawLists (g .raw-conditions .now) (g .raw-weights .now) (g .thresholds .now)) (g .t) (p .0 .lists) (p .1) in
     let e = p .2 in
     let n = c .before .before .link-row .ensures .1 in
-    let w = within (raw (g .conditions .now) (g .weights .now) (g .thresholds .now)) (g .t) (g .so) (g .row-conditions .now) (g .row-weights .now) (g .rows .now) (g .scratch .now) (g .heads .now) (p .0) (p .3) (p .1) in
+    let w = within (rawLists (g .raw-conditions .now) (g .raw-weights .now) (g .thresholds .now)) (g .t) (g .so) (g .row-conditions .now) (g .row-weights .now) (g .rows .now) (g .scratch .now) (g .heads .now) (p .0) (p .3) (p .1) in
     let turn = w .turn in
     record { fits = omega arith }
 
 mul-scratch-3 : tie.Need-mul-scratch-3
 mul-scratch-3 c = let g = c .before .before .before .before .before .before .before .before .before .before .before .before .before .before .before .before .before .before .before .before .before .before .args in
     let p = c .before .before .before .before .before .before .before .before .before .before .before .before .before .before .before .before .before .before .before .before .before .before .pre in
-    let w = within (raw (g .conditions .now) (g .weights .now) (g .thresholds .now)) (g .t) (g .so) (g .row-conditions .now) (g .row-weights .now) (g .rows .now) (g .scratch .now) (g .heads .now) (p .0) (p .3) (p .1) in
+    let w = within (rawLists (g .raw-conditions .now) (g .raw-weights .now) (g .thresholds .now)) (g .t) (g .so) (g .row-conditions .now) (g .row-weights .now) (g .rows .now) (g .scratch .now) (g .heads .now) (p .0) (p .3) (p .1) in
     record { fits = omega arith }
 
 slice-write-scratch : tie.Need-slice-write-scratch
 slice-write-scratch c = let g = c .before .before .before .before .before .before .before .before .before .before .before .before .before .before .before .before .before .before .before .before .before .before .args in
     let p = c .before .before .before .before .before .before .before .before .before .before .before .before .before .before .before .before .before .before .before .before .before .before .pre in
-    let w = within (raw (g .conditions .now) (g .weights .now) (g .thresholds .now)) (g .t) (g .so) (g .row-conditions .now) (g .row-weights .now) (g .rows .now) (g .scratch .now) (g .heads .now) (p .0) (p .3) (p .1) in
+    let w = within (rawLists (g .raw-conditions .now) (g .raw-weights .now) (g .thresholds .now)) (g .t) (g .so) (g .row-conditions .now) (g .row-weights .now) (g .rows .now) (g .scratch .now) (g .heads .now) (p .0) (p .3) (p .1) in
     let k = c .before .before .before .before .before .before .before .before .before .before .build-at .kept .1 .1 .1 .1 .1 .1 .1 .0 in
     omega arith
 
 add-t26 : tie.Need-add-t26
 add-t26 c = let g = c .before .before .before .before .before .before .before .before .before .before .before .before .before .before .before .before .before .before .before .before .before .before .args in
     let p = c .before .before .before .before .before .before .before .before .before .before .before .before .before .before .before .before .before .before .before .before .before .before .pre in
-    let w = within (raw (g .conditions .now) (g .weights .now) (g .thresholds .now)) (g .t) (g .so) (g .row-conditions .now) (g .row-weights .now) (g .rows .now) (g .scratch .now) (g .heads .now) (p .0) (p .3) (p .1) in
+    let w = within (rawLists (g .raw-conditions .now) (g .raw-weights .now) (g .thresholds .now)) (g .t) (g .so) (g .row-conditions .now) (g .row-weights .now) (g .rows .now) (g .scratch .now) (g .heads .now) (p .0) (p .3) (p .1) in
     record { fits = omega arith }
 
 same-length : tie.Need-same-length
@@ -137,7 +138,7 @@ same-length-5 c = search needs
 returns : tie.Need-returns
 returns c = let g = c .before .before .before .before .before .before .before .before .before .before .before .before .before .before .before .before .before .before .before .before .before .before .args in
     let p = c .before .before .before .before .before .before .before .before .before .before .before .before .before .before .before .before .before .before .before .before .before .before .pre in
-    let r = raw (g .conditions .now) (g .weights .now) (g .thresholds .now) in
+    let r = rawLists (g .raw-conditions .now) (g .raw-weights .now) (g .thresholds .now) in
     let w = within r (g .t) (g .so) (g .row-conditions .now) (g .row-weights .now) (g .rows .now) (g .scratch .now) (g .heads .now) (p .0) (p .3) (p .1) in
     let l = p .0 .lists in
     let a = c .before .before .before .before .before .before .before .before .before .before .before .before .before .before .before .start-of .ensures in
@@ -148,7 +149,7 @@ returns c = let g = c .before .before .before .before .before .before .before .b
     let small = print-small r (g .t) l (p .1) in
     let pe = p .2 in
     let f : printIn (mark n (g .print) (g .t)) ≡ g .print = mark-print n (g .print) (g .t) (omega arith) (w .turn) in
-    let x = terms (stretch (c .before .before .before .before .before .before .before .before .before .before .before .before .before .before .before .start-of .result) (c .before .before .before .before .before .before .before .before .before .before .before .before .before .before .end-of .result) (g .conditions .now)) (stretch (c .before .before .before .before .before .before .before .before .before .before .before .before .before .before .before .start-of .result) (c .before .before .before .before .before .before .before .before .before .before .before .before .before .before .end-of .result) (g .weights .now)) in (
+    let x = terms (stretch (c .before .before .before .before .before .before .before .before .before .before .before .before .before .before .before .start-of .result) (c .before .before .before .before .before .before .before .before .before .before .before .before .before .before .end-of .result) (g .raw-conditions .now)) (stretch (c .before .before .before .before .before .before .before .before .before .before .before .before .before .before .before .start-of .result) (c .before .before .before .before .before .before .before .before .before .before .before .before .before .before .end-of .result) (g .raw-weights .now)) in (
       placing-new r (g .t) (g .so) (g .row-conditions .now) (g .row-weights .now) (g .scratch .now) (g .heads .now) (p .3) l (p .1) (c .before .before .before .before .before .before .before .before .before .before .before .before .before .before .before .start-of .result) (c .before .before .before .before .before .before .before .before .before .before .before .before .before .before .end-of .result) x a e (list-is r (g .t) _ _ a e) (s .1) (p .4)
           (c .before .before .before .before .before .before .before .before .before .before .build-at .result) (mark n (g .print) (g .t)) _ _ _ _ (p .0 .room) (p .0 .even) (w .word) (s .0)
           (c .before .before .before .before .before .before .before .before .before .before .build-at .kept .1 .1 .1 .1 .1 .0) (s .2) (c .before .before .before .before .before .before .before .before .before .before .build-at .kept .1 .1 .1 .1 .1 .1 .0) (s .3) (mark-first n (g .print) (g .t) (w .turn)) (f ∙ p .2)

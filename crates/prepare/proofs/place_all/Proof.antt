@@ -4,7 +4,7 @@ use lib.ListN.{length}
 use lib.Seq.{length-take-le}
 use Rattle.lists.specs.Laid.{joinAll}
 use Rattle.row.specs.Keys.{conditionsOf, weightsOf}
-use Rattle.thresholds.specs.Raw.{raw}
+use Rattle.memory.specs.Buffers.{rawLists}
 use Rattle.thresholds.specs.Placed.{termsTo}
 use Rattle.prepare.specs.PlaceLaws.{marks-few}
 use Rattle.prepare.specs.PrepareParts.{laid-over, cleared-part, zeros-back}
@@ -21,7 +21,7 @@ place-rows-requires c κs = let p = c .before .before .before .before .before .b
 slice-relend-prefix-clear : tie.Need-slice-relend-prefix-clear
 slice-relend-prefix-clear c = let g = c .before .before .before .before .before .before .before .before .before .before .before .before .before .before .before .before .before .before .before .before .before .before .before .args in
     let p = c .before .before .before .before .before .before .before .before .before .before .before .before .before .before .before .before .before .before .before .before .before .before .before .pre in
-    let few = marks-few (raw (g .conditions .now) (g .weights .now) (g .thresholds .now)) _ _ _ _ (c .before .before .before .before .before .before .before .before .before .before .place-rows .ensures .0 .marks) in
+    let few = marks-few (rawLists (g .raw-conditions .now) (g .raw-weights .now) (g .thresholds .now)) _ _ _ _ (c .before .before .before .before .before .before .before .before .before .before .place-rows .ensures .0 .marks) in
     let many = p .0 .lists .many in
     let words = p .0 .words in
     let k = c .before .before .before .before .before .before .before .before .before .before .place-rows .kept .1 .1 .1 .1 .1 .1 .1 .0 in
@@ -30,7 +30,7 @@ slice-relend-prefix-clear c = let g = c .before .before .before .before .before 
 slice-aggregate-clear : tie.Need-slice-aggregate-clear
 slice-aggregate-clear c = let g = c .before .before .before .before .before .before .before .before .before .before .before .before .before .before .before .before .before .before .before .before .before .before .before .before .args in
     let p = c .before .before .before .before .before .before .before .before .before .before .before .before .before .before .before .before .before .before .before .before .before .before .before .before .pre in
-    let few = marks-few (raw (g .conditions .now) (g .weights .now) (g .thresholds .now)) _ _ _ _ (c .before .before .before .before .before .before .before .before .before .before .before .place-rows .ensures .0 .marks) in
+    let few = marks-few (rawLists (g .raw-conditions .now) (g .raw-weights .now) (g .thresholds .now)) _ _ _ _ (c .before .before .before .before .before .before .before .before .before .before .before .place-rows .ensures .0 .marks) in
     let many = p .0 .lists .many in
     let words = p .0 .words in
     let k = c .before .before .before .before .before .before .before .before .before .before .before .place-rows .kept .1 .1 .1 .1 .1 .1 .1 .0 in
@@ -63,7 +63,7 @@ same-length-6 c = search needs
 returns : tie.Need-returns
 returns c = let g = c .before .before .before .before .before .before .before .before .before .before .before .before .before .before .before .before .before .before .before .before .before .before .before .before .before .before .before .before .before .before .before .args in
     let p = c .before .before .before .before .before .before .before .before .before .before .before .before .before .before .before .before .before .before .before .before .before .before .before .before .before .before .before .before .before .before .before .pre in
-    let r = raw (g .conditions .now) (g .weights .now) (g .thresholds .now) in
+    let r = rawLists (g .raw-conditions .now) (g .raw-weights .now) (g .thresholds .now) in
     let s = c .before .before .before .before .before .before .before .before .before .before .before .before .before .before .before .before .before .before .place-rows .ensures in
     let J = joinAll (termsTo r (length (g .thresholds .now))) in
     let k = c .before .before .before .before .before .before .before .before .before .before .before .before .before .before .before .before .before .before .place-rows .kept .1 .1 .1 .1 .1 .1 .1 .0 in

@@ -7,7 +7,7 @@ use lib.Seq.{length-take-le}
 use Rattle.lists.specs.Laid.{joinAll}
 use Rattle.numeric.specs.Threshold.{Term}
 use Rattle.row.specs.Keys.{conditionsOf, weightsOf}
-use Rattle.thresholds.specs.Raw.{raw}
+use Rattle.memory.specs.Buffers.{rawLists}
 use Rattle.thresholds.specs.Placed.{termsTo}
 use Rattle.prepare.specs.RowsGivenTerms.{terms-fit}
 use Rattle.prepare.specs.PrepareParts.{over-part, tail-kept}
@@ -22,14 +22,14 @@ slice-relend-prefix-place-all c = c .before .before .before .before .before .bef
 
 slice-aggregate-place-all : tie.Need-slice-aggregate-place-all
 slice-aggregate-place-all c = let g = c .before .before .before .before .before .before .before .args in
-    sym (length-take-le (length (g .conditions .now)) (g .row-conditions .now) (c .before .before .before .before .before .before .before .pre .conditions))
+    sym (length-take-le (length (g .raw-conditions .now)) (g .row-conditions .now) (c .before .before .before .before .before .before .before .pre .conditions))
 
 slice-relend-prefix-place-all-2 : tie.Need-slice-relend-prefix-place-all-2
 slice-relend-prefix-place-all-2 c = c .before .before .before .before .before .before .before .pre .weights
 
 slice-aggregate-place-all-2 : tie.Need-slice-aggregate-place-all-2
 slice-aggregate-place-all-2 c = let g = c .before .before .before .before .before .before .before .before .args in
-    sym (length-take-le (length (g .conditions .now)) (g .row-weights .now) (c .before .before .before .before .before .before .before .before .pre .weights))
+    sym (length-take-le (length (g .raw-conditions .now)) (g .row-weights .now) (c .before .before .before .before .before .before .before .before .pre .weights))
 
 sub-place-all : tie.Need-sub-place-all
 sub-place-all c = search needs
@@ -42,7 +42,7 @@ part-place-all-end c = search needs
 
 place-all-requires : tie.Need-place-all-requires
 place-all-requires c κs = let g = c .before .before .before .before .before .before .before .before .before .before .before .before .args in
-    let r = raw (g .conditions .now) (g .weights .now) (g .thresholds .now) in
+    let r = rawLists (g .raw-conditions .now) (g .raw-weights .now) (g .thresholds .now) in
     open-ready r (g .row-conditions .now) (g .row-weights .now) (g .rows .now) (g .nodes .now) (g .scratch .now) (g .heads .now) (c .before .before .before .before .before .before .before .before .before .before .before .before .pre)
 
 same-length : tie.Need-same-length
@@ -66,7 +66,7 @@ same-length-6 c = search needs
 returns : tie.Need-returns
 returns c = let g = c .before .before .before .before .before .before .before .before .before .before .before .before .before .before .before .before .before .before .before .before .before .before .before .args in
     let p = c .before .before .before .before .before .before .before .before .before .before .before .before .before .before .before .before .before .before .before .before .before .before .before .pre in
-    let r = raw (g .conditions .now) (g .weights .now) (g .thresholds .now) in
+    let r = rawLists (g .raw-conditions .now) (g .raw-weights .now) (g .thresholds .now) in
     let s = c .before .before .before .before .before .before .before .before .before .before .place-all .ensures in
     let J = joinAll (termsTo r (length (g .thresholds .now))) in
     let fit = terms-fit r (length (g .thresholds .now)) (p .lists) in
@@ -75,10 +75,10 @@ returns c = let g = c .before .before .before .before .before .before .before .b
       record {
         many = s .0 .many;
         end = s .0 .end;
-        conditions = ap (λ (l : List ℕ). l ++ drop (length (g .conditions .now)) (g .row-conditions .now)) (s .0 .conditions)
-            ∙ over-part (conditionsOf J) (g .row-conditions .now) (length (g .conditions .now)) (omega arith) (p .conditions);
-        weights = ap (λ (l : List ℕ). l ++ drop (length (g .conditions .now)) (g .row-weights .now)) (s .0 .weights)
-            ∙ over-part (weightsOf J) (g .row-weights .now) (length (g .conditions .now)) (omega arith) (p .weights);
+        conditions = ap (λ (l : List ℕ). l ++ drop (length (g .raw-conditions .now)) (g .row-conditions .now)) (s .0 .conditions)
+            ∙ over-part (conditionsOf J) (g .row-conditions .now) (length (g .raw-conditions .now)) (omega arith) (p .conditions);
+        weights = ap (λ (l : List ℕ). l ++ drop (length (g .raw-conditions .now)) (g .row-weights .now)) (s .0 .weights)
+            ∙ over-part (weightsOf J) (g .row-weights .now) (length (g .raw-conditions .now)) (omega arith) (p .weights);
         entries = s .0 .entries;
         named = s .0 .named;
       },

@@ -4,7 +4,7 @@ use native.Mathlib.Omega.{arith}
 use lib.ListN.{take, set}
 use lib.Seq.{length-take-le}
 use Rattle.thresholds.specs.Guards.{nodeAt}
-use Rattle.thresholds.specs.Raw.{raw}
+use Rattle.memory.specs.Buffers.{rawLists}
 use Rattle.thresholds.specs.Placed.{nodeEntry}
 use Rattle.thresholds.specs.Chain.{Own}
 use Rattle.thresholds.specs.ChainLaws.{raws-own}
@@ -20,18 +20,18 @@ print-of-requires c κs = search needs
 slice-reshare-prefix-find-row : tie.Need-slice-reshare-prefix-find-row
 slice-reshare-prefix-find-row c = let g = c .before .before .before .before .before .before .before .args in
     let p = c .before .before .before .before .before .before .before .pre in
-    let w = within (raw (g .conditions .now) (g .weights .now) (g .thresholds .now)) (g .t) (g .so) (g .row-conditions .now) (g .row-weights .now) (g .rows .now) (g .scratch .now) (g .heads .now) (p .0) (p .3) (p .1) in
+    let w = within (rawLists (g .raw-conditions .now) (g .raw-weights .now) (g .thresholds .now)) (g .t) (g .so) (g .row-conditions .now) (g .row-weights .now) (g .rows .now) (g .scratch .now) (g .heads .now) (p .0) (p .3) (p .1) in
     omega arith
 
 slice-aggregate-find-row : tie.Need-slice-aggregate-find-row
 slice-aggregate-find-row c = let g = c .before .before .before .before .before .before .before .before .args in
     let p = c .before .before .before .before .before .before .before .before .pre in
-    let w = within (raw (g .conditions .now) (g .weights .now) (g .thresholds .now)) (g .t) (g .so) (g .row-conditions .now) (g .row-weights .now) (g .rows .now) (g .scratch .now) (g .heads .now) (p .0) (p .3) (p .1) in
+    let w = within (rawLists (g .raw-conditions .now) (g .raw-weights .now) (g .thresholds .now)) (g .t) (g .so) (g .row-conditions .now) (g .row-weights .now) (g .rows .now) (g .scratch .now) (g .heads .now) (p .0) (p .3) (p .1) in
     sym (length-take-le (g .so .rows) (g .scratch .now) (omega arith))
 
 find-row-requires : tie.Need-find-row-requires
 find-row-requires c κs = let g = c .before .before .before .before .before .before .before .before .before .args in
-    let r = raw (g .conditions .now) (g .weights .now) (g .thresholds .now) in
+    let r = rawLists (g .raw-conditions .now) (g .raw-weights .now) (g .thresholds .now) in
     let p = c .before .before .before .before .before .before .before .before .before .pre in
     (p .0 .lists, p .1, p .3 .marks .marked, p .3 .marks .headed, subst Own (sym (p .3 .marks .named)) (raws-own r (g .t)), c .before .before .print-of .ensures)
 
@@ -41,7 +41,7 @@ enum-known-found c = search needs
 enter-node-requires : tie.Need-enter-node-requires
 enter-node-requires c κs = let g = c .before .before .before .before .before .before .before .before .before .before .before .before .before .before .args in
     let p = c .before .before .before .before .before .before .before .before .before .before .before .before .before .before .pre in
-    let r = raw (g .conditions .now) (g .weights .now) (g .thresholds .now) in
+    let r = rawLists (g .raw-conditions .now) (g .raw-weights .now) (g .thresholds .now) in
     let f = found-old r (g .t) (take (g .so .rows) (g .scratch .now)) (p .3 .marks .named) _ (sym (c .before .before .before .before .find-row .ensures) ∙ c .before .before .found .given .1) in
     let w = within r (g .t) (g .so) (g .row-conditions .now) (g .row-weights .now) (g .rows .now) (g .scratch .now) (g .heads .now) (p .0) (p .3) (p .1) in
     let a = f .0 in
@@ -55,13 +55,13 @@ enum-told c = search needs
 enter-node-requires-2 : tie.Need-enter-node-requires-2
 enter-node-requires-2 c κs = let g = c .before .before .before .before .before .before .before .before .before .before .before .before .before .args in
     let p = c .before .before .before .before .before .before .before .before .before .before .before .before .before .pre in
-    let w = within (raw (g .conditions .now) (g .weights .now) (g .thresholds .now)) (g .t) (g .so) (g .row-conditions .now) (g .row-weights .now) (g .rows .now) (g .scratch .now) (g .heads .now) (p .0) (p .3) (p .1) in
+    let w = within (rawLists (g .raw-conditions .now) (g .raw-weights .now) (g .thresholds .now)) (g .t) (g .so) (g .row-conditions .now) (g .row-weights .now) (g .rows .now) (g .scratch .now) (g .heads .now) (p .0) (p .3) (p .1) in
     (p .1, omega arith, omega arith, p .2)
 
 add-row-requires : tie.Need-add-row-requires
 add-row-requires c κs = let g = c .before .before .before .before .before .before .before .before .before .before .before .before .before .before .before .before .before .before .before .before .args in
     let p = c .before .before .before .before .before .before .before .before .before .before .before .before .before .before .before .before .before .before .before .before .pre in
-    let r = raw (g .conditions .now) (g .weights .now) (g .thresholds .now) in
+    let r = rawLists (g .raw-conditions .now) (g .raw-weights .now) (g .thresholds .now) in
     let f = found-new r (g .t) (take (g .so .rows) (g .scratch .now)) (p .3 .marks .named) (sym (c .before .before .before .before .before .before .before .before .before .before .find-row .ensures) ∙ c .before .before .before .before .before .before .before .before .enum-told .given .1) in
     (p .0, p .1, c .before .before .before .before .before .before .before .before .before .before .before .before .before .print-of .ensures, p .3, f ∙ sym (p .3 .marks .many))
 
@@ -77,7 +77,7 @@ same-length-3 c = search needs
 returns : tie.Need-returns
 returns c = let g = c .before .before .before .before .before .before .before .before .before .before .before .before .before .before .before .before .args in
     let p = c .before .before .before .before .before .before .before .before .before .before .before .before .before .before .before .before .pre in
-    let r = raw (g .conditions .now) (g .weights .now) (g .thresholds .now) in
+    let r = rawLists (g .raw-conditions .now) (g .raw-weights .now) (g .thresholds .now) in
     let f = found-old r (g .t) (take (g .so .rows) (g .scratch .now)) (p .3 .marks .named) _ (sym (c .before .before .before .before .before .before .find-row .ensures) ∙ c .before .before .before .before .found .given .1) in (
       placing-old r (g .t) (g .so) (g .row-conditions .now) (g .row-weights .now) (g .scratch .now) (g .heads .now) (p .3) (p .0 .lists) (p .1) (f .1),
       rows-old r (g .t) (g .rows .now) (f .1),
@@ -105,7 +105,7 @@ same-length-9 c = search needs
 returns-2 : tie.Need-returns-2
 returns-2 c = let g = c .before .before .before .before .before .before .before .before .before .before .before .before .before .before .before .before .before .before .before .before .before .before .before .before .before .before .before .before .before .before .args in
     let p = c .before .before .before .before .before .before .before .before .before .before .before .before .before .before .before .before .before .before .before .before .before .before .before .before .before .before .before .before .before .before .pre in
-    let r = raw (g .conditions .now) (g .weights .now) (g .thresholds .now) in
+    let r = rawLists (g .raw-conditions .now) (g .raw-weights .now) (g .thresholds .now) in
     let f = found-new r (g .t) (take (g .so .rows) (g .scratch .now)) (p .3 .marks .named) (sym (c .before .before .before .before .before .before .before .before .before .before .before .before .before .before .before .before .before .before .before .before .find-row .ensures) ∙ c .before .before .before .before .before .before .before .before .before .before .before .before .before .before .before .before .before .before .enum-told .given .1) in
     let s = c .before .before .before .before .before .before .before .before .before .add-row .ensures in (
       s .0,

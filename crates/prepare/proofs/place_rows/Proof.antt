@@ -3,7 +3,7 @@ use Prim.Native.Nat.{_-_, _≤_}
 use native.Mathlib.Omega.{arith}
 use lib.ListN.{length}
 use Rattle.lists.specs.Laid.{over}
-use Rattle.thresholds.specs.Raw.{raw}
+use Rattle.memory.specs.Buffers.{rawLists}
 use Rattle.thresholds.specs.Placed.{nodesTo}
 use Rattle.prepare.specs.Place.{Placing, rowEnds}
 use Rattle.prepare.specs.PlaceLaws.{Same, ready-by, placing-start, rows-start, nodes-start, raws-few, rows-next, nodes-next, placed-end}
@@ -14,8 +14,8 @@ use Rattle.prepare.proofs.place_rows.Tie as tie
 
 abbrev Inv-loop : tie.InvT-loop
 Inv-loop conditions weights thresholds row-conditions₀ row-weights₀ rows₀ nodes₀ scratch₀ heads₀ so₀ t₀ row-conditions row-weights rows nodes scratch heads so t = (t ≤ length thresholds) × (Same row-conditions₀ row-weights₀ rows₀ nodes₀ scratch₀ heads₀ row-conditions row-weights rows nodes scratch heads)
-    × (Placing (raw conditions weights thresholds) t so row-conditions row-weights scratch heads)
-    × (rows ≡ over (rowEnds (raw conditions weights thresholds) t) rows₀) × (nodes ≡ nodesTo (raw conditions weights thresholds) nodes₀ t)
+    × (Placing (rawLists conditions weights thresholds) t so row-conditions row-weights scratch heads)
+    × (rows ≡ over (rowEnds (rawLists conditions weights thresholds) t) rows₀) × (nodes ≡ nodesTo (rawLists conditions weights thresholds) nodes₀ t)
 
 abbrev μ-loop : tie.MeasureT-loop
 μ-loop conditions weights thresholds row-conditions₀ row-weights₀ rows₀ nodes₀ scratch₀ heads₀ so₀ t₀ row-conditions row-weights rows nodes scratch heads so t = length thresholds - t
@@ -23,7 +23,7 @@ abbrev μ-loop : tie.MeasureT-loop
 loop-holds : tie.Need-loop-holds Inv-loop μ-loop
 loop-holds c = let g = c .before .before .before .before .before .before .args in
     let p = c .before .before .before .before .before .before .pre in
-    let r = raw (g .conditions .now) (g .weights .now) (g .thresholds .now) in (
+    let r = rawLists (g .raw-conditions .now) (g .raw-weights .now) (g .thresholds .now) in (
       omega arith,
       record { row-conditions = refl; row-weights = refl; rows = refl; nodes = refl; scratch = refl; heads = refl },
       placing-start r (g .row-conditions .now) (g .row-weights .now) (g .scratch .now) (g .heads .now) (p .2) (p .3) (p .4) (p .5) (p .6),
@@ -35,7 +35,7 @@ place-one-requires : tie.Need-place-one-requires Inv-loop μ-loop
 place-one-requires c κs = let g = c .before .before .before .before .before .before .before .before .before .before .before .before .before .before .args in
     let p = c .before .before .before .before .before .before .before .before .before .before .before .before .before .before .pre in
     let w = c .before .before .before .before .before .before .before .loop in
-    let r = raw (g .conditions .now) (g .weights .now) (g .thresholds .now) in
+    let r = rawLists (g .raw-conditions .now) (g .raw-weights .now) (g .thresholds .now) in
     let k = w .inv .1 in
     let n = k .nodes in
     let h = p .1 (w .t) (c .before .before .before .before .before .before .loop-test .taken) in (
@@ -58,7 +58,7 @@ loop-again : tie.Need-loop-again Inv-loop μ-loop
 loop-again c = let g = c .before .before .before .before .before .before .before .before .before .before .before .before .before .before .before .before .before .before .before .before .before .before .before .before .before .args in
     let p = c .before .before .before .before .before .before .before .before .before .before .before .before .before .before .before .before .before .before .before .before .before .before .before .before .before .pre in
     let w = c .before .before .before .before .before .before .before .before .before .before .before .before .before .before .before .before .before .before .loop in
-    let r = raw (g .conditions .now) (g .weights .now) (g .thresholds .now) in
+    let r = rawLists (g .raw-conditions .now) (g .raw-weights .now) (g .thresholds .now) in
     let k = w .inv .1 in
     let s = c .before .before .before .before .before .before .before .before .before .before .place-one .ensures in
     let h = c .before .before .before .before .before .before .before .before .before .before .before .before .before .before .before .before .before .loop-test .taken in
@@ -99,7 +99,7 @@ same-length-6 c = c .before .loop .inv .1 .heads
 returns : tie.Need-returns Inv-loop μ-loop
 returns c = let g = c .before .before .before .before .before .before .before .before .args in
     let w = c .before .loop in
-    let r = raw (g .conditions .now) (g .weights .now) (g .thresholds .now) in
+    let r = rawLists (g .raw-conditions .now) (g .raw-weights .now) (g .thresholds .now) in
     let h = c .loop-test .left in
     let a = w .inv .0 in
     let e : w .t ≡ length (g .thresholds .now) = omega arith in

@@ -1,7 +1,7 @@
 -- `prepare::prepare` meets its contract. Assumes nothing.
 use native.Mathlib.Omega.{arith}
-use Rattle.thresholds.specs.Raw.{raw}
-use Rattle.prepare.specs.Prepare.{lent}
+use mathlib.Core.List.{[]}
+use Rattle.memory.specs.Buffers.{rawLists, heldRows, built}
 use Rattle.prepare.specs.PrepareLaws.{opened, guards-ready, edges-ready, prepared}
 use mathlib.Core.Path.{_∙_}
 use Rattle.prepare.proofs.prepare.Statement.{statement}
@@ -18,29 +18,29 @@ order-keys-requires c κs = let p = c .before .before .before .before .before .b
 place-in-requires : tie.Need-place-in-requires
 place-in-requires c κs = let g = c .before .before .before .before .before .before .before .before .before .before .before .before .before .before .before .before .before .before .before .args in
     let p = c .before .before .before .before .before .before .before .before .before .before .before .before .before .before .before .before .before .before .before .pre in
-    let r = raw (g .raw-conditions .now) (g .raw-weights .now) (g .thresholds .now) in
-    let b = lent (g .row-conditions .now) (g .row-weights .now) (g .rows .now) (g .guard-bounds .now) (g .guard-nodes .now) (g .nodes .now) (g .edges .now) (g .scratch .now) in
+    let r = rawLists (g .raw-conditions .now) (g .raw-weights .now) (g .thresholds .now) in
+    let b = built (heldRows (g .row-conditions .now) (g .row-weights .now) (g .rows .now) (g .guard-bounds .now) (g .guard-nodes .now)) (g .nodes .now) (g .edges .now) [] in
     let o = c .before .before .before .before .before .before .before .before .before .before .order-keys .ensures in
-    opened r (g .bounds .now) b (p .0) (p .1) _ _ (o .0) (o .1)
+    opened r (g .bounds .now) b (g .scratch .now) (p .0) (p .1) _ _ (o .0) (o .1)
 
 guards-in-requires : tie.Need-guards-in-requires
 guards-in-requires c κs = let g = c .before .before .before .before .before .before .before .before .before .before .before .before .before .before .before .before .before .before .before .before .before .before .before .before .before .before .before .before .before .before .before .before .before .before .before .args in
     let p = c .before .before .before .before .before .before .before .before .before .before .before .before .before .before .before .before .before .before .before .before .before .before .before .before .before .before .before .before .before .before .before .before .before .before .before .pre in
-    let r = raw (g .raw-conditions .now) (g .raw-weights .now) (g .thresholds .now) in
-    let b = lent (g .row-conditions .now) (g .row-weights .now) (g .rows .now) (g .guard-bounds .now) (g .guard-nodes .now) (g .nodes .now) (g .edges .now) (g .scratch .now) in
+    let r = rawLists (g .raw-conditions .now) (g .raw-weights .now) (g .thresholds .now) in
+    let b = built (heldRows (g .row-conditions .now) (g .row-weights .now) (g .rows .now) (g .guard-bounds .now) (g .guard-nodes .now)) (g .nodes .now) (g .edges .now) [] in
     let o = c .before .before .before .before .before .before .before .before .before .before .before .before .before .before .before .before .before .before .before .before .before .before .before .before .before .before .order-keys .ensures in
     let q = c .before .before .before .before .before .before .before .before .before .before .before .before .before .before .before .place-in .ensures in
-    guards-ready r (g .bounds .now) b (p .0) (p .1) _ _ (o .0) (o .1) (c .before .before .before .before .before .before .before .before .before .before .before .before .before .before .before .place-in .result) _ _ _ _ _ _ (q .0) (q .1) (q .2)
+    guards-ready r (g .bounds .now) b (g .scratch .now) (p .0) (p .1) _ _ (o .0) (o .1) (c .before .before .before .before .before .before .before .before .before .before .before .before .before .before .before .place-in .result) _ _ _ _ _ _ (q .0) (q .1) (q .2)
 
 edges-in-requires : tie.Need-edges-in-requires
 edges-in-requires c κs = let g = c .before .before .before .before .before .before .before .before .before .before .before .before .before .before .before .before .before .before .before .before .before .before .before .before .before .before .before .before .before .before .before .before .before .before .before .before .before .before .before .before .before .before .before .before .before .before .before .args in
     let p = c .before .before .before .before .before .before .before .before .before .before .before .before .before .before .before .before .before .before .before .before .before .before .before .before .before .before .before .before .before .before .before .before .before .before .before .before .before .before .before .before .before .before .before .before .before .before .before .pre in
-    let r = raw (g .raw-conditions .now) (g .raw-weights .now) (g .thresholds .now) in
-    let b = lent (g .row-conditions .now) (g .row-weights .now) (g .rows .now) (g .guard-bounds .now) (g .guard-nodes .now) (g .nodes .now) (g .edges .now) (g .scratch .now) in
+    let r = rawLists (g .raw-conditions .now) (g .raw-weights .now) (g .thresholds .now) in
+    let b = built (heldRows (g .row-conditions .now) (g .row-weights .now) (g .rows .now) (g .guard-bounds .now) (g .guard-nodes .now)) (g .nodes .now) (g .edges .now) [] in
     let o = c .before .before .before .before .before .before .before .before .before .before .before .before .before .before .before .before .before .before .before .before .before .before .before .before .before .before .before .before .before .before .before .before .before .before .before .before .before .before .order-keys .ensures in
     let q = c .before .before .before .before .before .before .before .before .before .before .before .before .before .before .before .before .before .before .before .before .before .before .before .before .before .before .before .place-in .ensures in
     let h = c .before .before .before .before .before .before .before .before .before .before .before .guards-in .ensures in
-    edges-ready r (g .bounds .now) b (p .0) (p .1) _ _ (o .0) (o .1) (c .before .before .before .before .before .before .before .before .before .before .before .before .before .before .before .before .before .before .before .before .before .before .before .before .before .before .before .place-in .result) _ _ _ _ _ _ (q .0) (q .1) (q .2) _ _ _ _ (h .0) (h .1) (c .before .before .before .before .before .before .before .before .before .before .before .guards-in .kept .1 .1 .1 .1 .0)
+    edges-ready r (g .bounds .now) b (g .scratch .now) (p .0) (p .1) _ _ (o .0) (o .1) (c .before .before .before .before .before .before .before .before .before .before .before .before .before .before .before .before .before .before .before .before .before .before .before .before .before .before .before .place-in .result) _ _ _ _ _ _ (q .0) (q .1) (q .2) _ _ _ _ (h .0) (h .1) (c .before .before .before .before .before .before .before .before .before .before .before .guards-in .kept .1 .1 .1 .1 .0)
 
 same-length : tie.Need-same-length
 same-length c = c .before .before .before .before .before .before .before .before .before .before .before .before .before .before .before .before .before .before .before .before .before .before .before .before .before .before .before .before .before .before .place-in .kept .1 .1 .1 .0
@@ -69,12 +69,12 @@ same-length-8 c = c .before .before .before .before .before .before .before .bef
 returns : tie.Need-returns
 returns c = let g = c .before .before .before .before .before .before .before .before .before .before .before .before .before .before .before .before .before .before .before .before .before .before .before .before .before .before .before .before .before .before .before .before .before .before .before .before .before .before .before .before .before .before .before .before .before .before .before .before .before .before .args in
     let p = c .before .before .before .before .before .before .before .before .before .before .before .before .before .before .before .before .before .before .before .before .before .before .before .before .before .before .before .before .before .before .before .before .before .before .before .before .before .before .before .before .before .before .before .before .before .before .before .before .before .before .pre in
-    let r = raw (g .raw-conditions .now) (g .raw-weights .now) (g .thresholds .now) in
-    let b = lent (g .row-conditions .now) (g .row-weights .now) (g .rows .now) (g .guard-bounds .now) (g .guard-nodes .now) (g .nodes .now) (g .edges .now) (g .scratch .now) in
+    let r = rawLists (g .raw-conditions .now) (g .raw-weights .now) (g .thresholds .now) in
+    let b = built (heldRows (g .row-conditions .now) (g .row-weights .now) (g .rows .now) (g .guard-bounds .now) (g .guard-nodes .now)) (g .nodes .now) (g .edges .now) [] in
     let o = c .before .before .before .before .before .before .before .before .before .before .before .before .before .before .before .before .before .before .before .before .before .before .before .before .before .before .before .before .before .before .before .before .before .before .before .before .before .before .before .before .before .order-keys .ensures in
     let q = c .before .before .before .before .before .before .before .before .before .before .before .before .before .before .before .before .before .before .before .before .before .before .before .before .before .before .before .before .before .before .place-in .ensures in
     let h = c .before .before .before .before .before .before .before .before .before .before .before .before .before .before .guards-in .ensures in
-    let z = prepared r (g .bounds .now) b (p .0) (p .1) _ _ (o .0) (o .1) (c .before .before .before .before .before .before .before .before .before .before .before .before .before .before .before .before .before .before .before .before .before .before .before .before .before .before .before .before .before .before .place-in .result) _ _ _ _ _ _ (q .0) (q .1) (q .2) _ _ _ _ (h .0) (h .1) _ _ (c .before .before .edges-in .ensures) in
+    let z = prepared r (g .bounds .now) b (g .scratch .now) (p .0) (p .1) _ _ (o .0) (o .1) (c .before .before .before .before .before .before .before .before .before .before .before .before .before .before .before .before .before .before .before .before .before .before .before .before .before .before .before .before .before .before .place-in .result) _ _ _ _ _ _ (q .0) (q .1) (q .2) _ _ _ _ (h .0) (h .1) _ _ (c .before .before .edges-in .ensures) in
     z
 
 pub prepare-spec : {M : Type 1} → statement M

@@ -24,7 +24,7 @@ returns : tie.Need-returns
 returns c =
     let a = c .before .before .before .before .before .before .before .before .before .before .before .before .before .args in
     let l = c .before .before .before .before .before .before .learn in
-    decide-sure (a .sure .now) (a .never .now) (queue (a .nodes .now) (a .ring)) (a .n) (a .value)
+    decide-sure (a .sure .now) (a .never .now) (queue (a .node-queue .now) (a .ring)) (a .n) (a .value)
     (l .last .0) (l .result) (queue (c .before .before .wait .last .0) (c .before .before .wait .result)) (c .before .before .wait .ensures) (c .before .before .before .before .before .before .before .before .before .if1 .taken) (l .ensures .0) (l .ensures .1)
 
 learn-requires-2 : tie.Need-learn-requires-2
@@ -46,7 +46,7 @@ returns-2 : tie.Need-returns-2
 returns-2 c =
     let a = c .before .before .before .before .before .before .before .before .before .before .before .before .before .args in
     let l = c .before .before .before .before .before .before .learn2 in
-    decide-never (a .sure .now) (a .never .now) (queue (a .nodes .now) (a .ring)) (a .n) (a .value)
+    decide-never (a .sure .now) (a .never .now) (queue (a .node-queue .now) (a .ring)) (a .n) (a .value)
     (l .last .0) (l .result) (queue (c .before .before .wait2 .last .0) (c .before .before .wait2 .result)) (c .before .before .wait2 .ensures) (c .before .before .before .before .before .before .before .before .before .if1 .left) (l .ensures .0) (l .ensures .1)
 
 pub decide-spec : {M : Type 1} → statement M

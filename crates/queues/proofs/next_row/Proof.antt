@@ -1,23 +1,34 @@
 -- `queues::next_row` meets its contract. Assumes nothing.
-use mathlib.Core.Path.{ap}
-use lib.ListN.{getD, set}
-use Rattle.queues.specs.declared.Ring.{Ring}
-use Rattle.queues.specs.Queue.{queue, popped, rows, nextRow}
+use native.Mathlib.Omega.{arith}
+use Rattle.lists.specs.ColumnsLaws.{length-column, column-at}
+use Rattle.queues.specs.SlotLaws.{slots-next, next-beside}
 use borrow.Author.Needs.{needs}
 use Rattle.queues.proofs.next_row.Statement.{statement}
 use Rattle.queues.proofs.next_row.Tie as tie
 
-mul-row : tie.Need-mul-row
-mul-row c = search needs
+mul-slot : tie.Need-mul-slot
+mul-slot c = let a = c .args in search (needs, length-column (a .k) (a .row-queues .now))
 
-shared-slice-read-row : tie.Need-shared-slice-read-row
-shared-slice-read-row c = search needs
+slice-copy-out-slot : tie.Need-slice-copy-out-slot
+slice-copy-out-slot c = let a = c .args in omega (arith, c .pre .2 .head, c .pre .2 .long, length-column (a .k) (a .row-queues .now))
 
-cast-row : tie.Need-cast-row
-cast-row c = search needs
+mul-place : tie.Need-mul-place
+mul-place c = search needs
 
-slice-write-pending : tie.Need-slice-write-pending
-slice-write-pending c = search needs
+array-read-place : tie.Need-array-read-place
+array-read-place c = search needs
+
+place-requires : tie.Need-place-requires
+place-requires c κs = search needs
+
+add-put : tie.Need-add-put
+add-put c = search needs
+
+put-requires : tie.Need-put-requires
+put-requires c κs =
+    let s = c .before .before .before in
+    let a = s .args in
+    (omega (arith, s .pre .4, column-at (a .k) (a .row-queues .now) (a .ring .head), c .before .place .ensures), omega (arith, s .pre .0, s .pre .1))
 
 popped-requires : tie.Need-popped-requires
 popped-requires c κs = search needs
@@ -26,19 +37,27 @@ same-length : tie.Need-same-length
 same-length c = search needs
 
 returns : tie.Need-returns
-unfolding nextRow popped
 returns c =
-    let a = c .before .before .before .before .args in
-    ap (λ (r : Ring). rows (queue (a .items .now) r) (set (a .pending .now) (getD (a .items .now) (a .ring .head) 0) 0)) (c .popped .ensures)
+    let s = c .before .before .before .before .before .before in
+    let a = s .args in
+    let l = a .row-queues .now in
+    let x = c .before .before .before .before .place in
+    let p = c .before .before .put in (
+      slots-next (a .k) (s .pre .0) (s .pre .1) l (a .ring) (x .result) (x .ensures) (p .last .0) (p .ensures) (c .popped .result) (c .popped .ensures),
+      next-beside (a .k) (s .pre .0) (s .pre .1) l (a .ring) (x .result) (x .ensures) (p .last .0) (p .ensures),
+    )
 
 pub next-row-spec : {M : Type 1} → statement M
 next-row-spec =
     tie.close
     (tie.spec
-    mul-row
-    shared-slice-read-row
-    cast-row
-    slice-write-pending
+    mul-slot
+    slice-copy-out-slot
+    mul-place
+    array-read-place
+    place-requires
+    add-put
+    put-requires
     popped-requires
     same-length
     returns)

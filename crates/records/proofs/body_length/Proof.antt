@@ -1,4 +1,5 @@
 -- `records::body_length` meets its contract: a number for each kind.
+use native.Mathlib.Omega.{arith}
 use Rattle.records.specs.RecordLaws.{body-other}
 use borrow.Author.Needs.{needs}
 use Rattle.records.proofs.body_length.Statement.{statement}
@@ -20,7 +21,16 @@ returns-5 : tie.Need-returns-5
 returns-5 c = search needs
 
 returns-6 : tie.Need-returns-6
-returns-6 c = body-other (c .before .args .kind) (c .match .rest .0 .0 .0 .0 .1) (c .match .rest .0 .0 .0 .1) (c .match .rest .0 .0 .1) (c .match .rest .0 .1) (c .match .rest .1)
+returns-6 c = search needs
+
+returns-7 : tie.Need-returns-7
+returns-7 c = search needs
+
+returns-8 : tie.Need-returns-8
+returns-8 c = search needs
+
+returns-9 : tie.Need-returns-9
+returns-9 c = body-other (c .before .args .kind) 8 (c .match .rest) (omega arith)
 
 pub body-length-spec : {M : Type 1} → statement M
-body-length-spec = tie.close (tie.spec returns returns-2 returns-3 returns-4 returns-5 returns-6)
+body-length-spec = tie.close (tie.spec returns returns-2 returns-3 returns-4 returns-5 returns-6 returns-7 returns-8 returns-9)

@@ -1,7 +1,7 @@
 -- `rows::print_terms_of` is safe: the part of the row lies inside both buffers.
 use mathlib.Core.Path.{sym, _∙_}
 use native.Mathlib.Omega.{arith}
-use Rattle.row.specs.StretchLaws.{length-stretch}
+use Rattle.thresholds.specs.RawLaws.{stretch-length}
 use Rattle.rows.specs.ShownLaws.{fits-by}
 use borrow.Author.Needs.{needs}
 use Rattle.rows.proofs.print_terms_of.Statement.{statement}
@@ -38,7 +38,7 @@ part-print-terms-end-2 : tie.Need-part-print-terms-end-2
 part-print-terms-end-2 c = search needs
 
 print-terms-requires : tie.Need-print-terms-requires
-print-terms-requires c κs = let g = c .before .before .before .before .before .before .args in let p = c .before .before .before .before .before .before .pre in let s = c .before .before .before .start-in .ensures in let e = c .before .before .end-in .ensures in let v = p .0 .inside in let w = p .1 .inside in (length-stretch (c .before .before .before .start-in .result) (c .before .before .end-in .result) (g .weights .now) (omega (arith, e, w)) ∙ sym (length-stretch (c .before .before .before .start-in .result) (c .before .before .end-in .result) (g .conditions .now) (omega (arith, e, v))), fits-by (g .rows .now) (g .conditions .now) (g .weights .now) (g .r) (c .before .before .before .start-in .result) (c .before .before .end-in .result) s e (p .2))
+print-terms-requires c κs = let g = c .before .before .before .before .before .before .args in let p = c .before .before .before .before .before .before .pre in let s = c .before .before .before .start-in .ensures in let e = c .before .before .end-in .ensures in let v = p .0 .inside in let w = p .1 .inside in (stretch-length (c .before .before .before .start-in .result) (c .before .before .end-in .result) (g .row-weights .now) (omega (arith, e, w)) ∙ sym (stretch-length (c .before .before .before .start-in .result) (c .before .before .end-in .result) (g .row-conditions .now) (omega (arith, e, v))), fits-by (g .rows .now) (g .row-conditions .now) (g .row-weights .now) (g .r) (c .before .before .before .start-in .result) (c .before .before .end-in .result) s e (p .2))
 
 returns : tie.Need-returns
 returns c = search needs

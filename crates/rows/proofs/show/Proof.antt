@@ -1,6 +1,6 @@
 -- `rows::show` is safe: its buffers are as the job needs them.
 use mathlib.Core.Path.{refl}
-use Rattle.rows.specs.ShownLaws.{empty-zeros, links-zeros}
+use Rattle.rows.specs.ShownLaws.{roomy-zeros, links-zeros}
 use Rattle.rows.proofs.show.Statement.{statement}
 use Rattle.rows.proofs.show.Tie as tie
 
@@ -28,11 +28,8 @@ slice-aggregate-show-in-7 c = refl
 slice-aggregate-show-in-8 : tie.Need-slice-aggregate-show-in-8
 slice-aggregate-show-in-8 c = refl
 
-slice-aggregate-show-in-9 : tie.Need-slice-aggregate-show-in-9
-slice-aggregate-show-in-9 c = refl
-
 show-in-requires : tie.Need-show-in-requires
-show-in-requires c κs = (c .before .before .before .before .before .before .before .before .before .before .before .pre, empty-zeros, links-zeros)
+show-in-requires c κs = (c .before .before .before .before .before .before .before .before .before .before .pre, roomy-zeros, links-zeros)
 
 returns : tie.Need-returns
 returns c = tt
@@ -49,6 +46,5 @@ show-spec =
     slice-aggregate-show-in-6
     slice-aggregate-show-in-7
     slice-aggregate-show-in-8
-    slice-aggregate-show-in-9
     show-in-requires
     returns)

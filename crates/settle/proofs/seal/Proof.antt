@@ -1,67 +1,98 @@
 -- `settle::seal` meets its contract: the first states, then each row once.
-use Prim.Native.Nat.{_^_}
 use native.Mathlib.Omega.{arith}
-use Rattle.queues.specs.Queue.{queue, rows}
-use Rattle.queues.specs.Marks.{marks}
-use Rattle.between.specs.Between.{live, did}
-use Rattle.between.specs.Numbers.{statesOf}
-use Rattle.between.specs.Held.{lent}
+use mathlib.Core.List.{List}
+use Rattle.memory.specs.Limits.{totalLimit, roomLimit}
+use Rattle.memory.specs.Buffers.{HeldRows, heldRows}
+use Rattle.state.specs.declared.State.{State}
+use Rattle.between.specs.Between.{Live, did}
+use Rattle.between.specs.Numbers.{statesOf, liveOf}
 use Rattle.settle.specs.Begins.{totals-more, seal-ready, seal-is}
 use mathlib.Core.Path.{_∙_}
 use Rattle.settle.proofs.seal.Statement.{statement}
 use Rattle.settle.proofs.seal.Tie as tie
 
+-- The rows as the buffers hold them.
+abbrev held : tie.Start → HeldRows
+held p = let a = p .args in
+    heldRows (a .row-conditions .now) (a .row-weights .now) (a .rows .now) (a .guard-bounds .now) (a .guard-nodes .now)
+
+-- The live state that is lent.
+abbrev entry : tie.Start → Live
+entry p = let a = p .args in
+    liveOf (a .figures .now) (a .cursors .now) (a .sure .now) (a .never .now) (a .node-queue .now) (a .row-queues .now) (a .rings)
+
+-- The first states.
+abbrev first : tie.After-first-states → List State
+first p = let l = p .first-states .last .1 .1 .1 in statesOf (l .0) (l .1 .0)
+
+-- The live state behind `seed_thresholds`.
+abbrev last : tie.After-seed-thresholds → Live
+last p = let l = p .seed-thresholds .last .1 .1 .1 .1 .1 in
+    liveOf (l .0) (l .1 .0) (l .1 .1 .0) (l .1 .1 .1 .0) (l .1 .1 .1 .1 .0) (l .1 .1 .1 .1 .1 .0) (p .seed-thresholds .result .rings)
+
 first-states-requires : tie.Need-first-states-requires
 first-states-requires c κs =
-    let pre = c .before .before .before .before .before .before .before .before .before .before .pre in
-    let args = c .before .before .before .before .before .before .before .before .before .before .args in
-    let y = pre .0 .1 in
-    (y .terms, y .weighed, y .guards .rising, y .few, totals-more (2 ^ 59) (2 ^ 60) (args .conditions .now) (args .weights .now) (args .rows .now) (omega arith) (pre .0 .2), pre .0 .3)
+    let start = c .before .before .before .before .before .before .before .before in
+    let w = start .pre .0 in
+    let h = held start in
+    let y = w .1 in
+    (y .terms, y .weighed, y .guards .rising, y .few, totals-more totalLimit roomLimit (h .row-conditions) (h .row-weights) (h .rows) (omega arith) (w .2), w .3)
 
 seed-thresholds-requires : tie.Need-seed-thresholds-requires
 seed-thresholds-requires c κs =
-    let pre = c .before .before .before .before .before .before .before .before .before .before .before .before .before .before .before .before .before .before .before .before .pre in
-    let args = c .before .before .before .before .before .before .before .before .before .before .before .before .before .before .before .before .before .before .before .before .args in
-    let first-states = c .before .before .before .before .before .before .before .before .before .first-states in
-    let x = pre .0 .0 .0 in
-    let z = pre .0 .0 .1 in (
-      pre .0 .1,
-      seal-ready x (lent (args .conditions .now) (args .weights .now) (args .rows .now) (args .bounds .now) (args .names .now)) z (pre .0 .1) (pre .0 .2) (statesOf (args .figures .now) (args .cursors .now)) (statesOf (first-states .last .1 .1 .1 .0) (first-states .last .1 .1 .1 .1 .0)) (pre .0 .3)
-          (first-states .ensures .0 x (args .bounds .now) (args .names .now) (pre .0 .1) z) (marks (args .sure .now) (args .never .now) (queue (args .nodes .now) (args .ring))) (pre .1 .0) (rows (queue (args .items .now) (args .residuals)) (args .pending .now)) (pre .1 .1),
-    )
+    let after-first-states = c .before .before .before .before .before .before .before .before in
+    let start = after-first-states .before .before .before .before .before .before .before .before .before in
+    let w = start .pre in
+    let h = held start in
+    let v = entry start in
+    let x = w .0 .0 .0 in
+    let z = w .0 .0 .1 in
+    let e = after-first-states .first-states .ensures .0 x (h .guard-bounds) (h .guard-nodes) (w .0 .1) z in
+    (w .0 .1, seal-ready x h z (w .0 .1) (w .0 .2) (v .states) (first after-first-states) (w .0 .3) e (v .marks) (w .1 .0) (v .residuals) (w .1 .1))
 
 same-length : tie.Need-same-length
-same-length c = c .before .before .before .before .before .before .before .before .before .before .before .before .seed-thresholds .kept .1 .1 .1 .1 .1 .0 ∙ c .before .before .before .before .before .before .before .before .before .before .before .before .before .before .before .before .before .before .before .before .before .before .first-states .kept .1 .1 .1 .0
+same-length c =
+    let after-seed-thresholds = c .before .before .before .before .before .before .before .before .before in
+    let after-first-states = after-seed-thresholds .before .before .before .before .before .before .before .before .before in
+    after-seed-thresholds .seed-thresholds .kept .1 .1 .1 .1 .1 .0 ∙ after-first-states .first-states .kept .1 .1 .1 .0
 
 same-length-2 : tie.Need-same-length-2
-same-length-2 c = c .before .before .before .before .before .before .before .before .before .before .before .before .seed-thresholds .kept .1 .1 .1 .1 .1 .1 .0 ∙ c .before .before .before .before .before .before .before .before .before .before .before .before .before .before .before .before .before .before .before .before .before .before .first-states .kept .1 .1 .1 .1 .0
+same-length-2 c =
+    let after-seed-thresholds = c .before .before .before .before .before .before .before .before .before in
+    let after-first-states = after-seed-thresholds .before .before .before .before .before .before .before .before .before in
+    after-seed-thresholds .seed-thresholds .kept .1 .1 .1 .1 .1 .1 .0 ∙ after-first-states .first-states .kept .1 .1 .1 .1 .0
 
 same-length-3 : tie.Need-same-length-3
-same-length-3 c = c .before .before .before .before .before .before .before .before .before .before .before .before .seed-thresholds .kept .1 .1 .1 .1 .1 .1 .1 .0
+same-length-3 c =
+    let after-seed-thresholds = c .before .before .before .before .before .before .before .before .before in
+    after-seed-thresholds .seed-thresholds .kept .1 .1 .1 .1 .1 .1 .1 .0
 
 same-length-4 : tie.Need-same-length-4
-same-length-4 c = c .before .before .before .before .before .before .before .before .before .before .before .before .seed-thresholds .kept .1 .1 .1 .1 .1 .1 .1 .1 .0
+same-length-4 c =
+    let after-seed-thresholds = c .before .before .before .before .before .before .before .before .before in
+    after-seed-thresholds .seed-thresholds .kept .1 .1 .1 .1 .1 .1 .1 .1 .0
 
 same-length-5 : tie.Need-same-length-5
-same-length-5 c = c .before .before .before .before .before .before .before .before .before .before .before .before .seed-thresholds .kept .1 .1 .1 .1 .1 .1 .1 .1 .1 .0
+same-length-5 c =
+    let after-seed-thresholds = c .before .before .before .before .before .before .before .before .before in
+    after-seed-thresholds .seed-thresholds .kept .1 .1 .1 .1 .1 .1 .1 .1 .1 .0
 
 same-length-6 : tie.Need-same-length-6
-same-length-6 c = c .before .before .before .before .before .before .before .before .before .before .before .before .seed-thresholds .kept .1 .1 .1 .1 .1 .1 .1 .1 .1 .1 .1 .0
-
-same-length-7 : tie.Need-same-length-7
-same-length-7 c = c .before .before .before .before .before .before .before .before .before .before .before .before .seed-thresholds .kept .1 .1 .1 .1 .1 .1 .1 .1 .1 .1 .1 .1 .0
+same-length-6 c =
+    let after-seed-thresholds = c .before .before .before .before .before .before .before .before .before in
+    after-seed-thresholds .seed-thresholds .kept .1 .1 .1 .1 .1 .1 .1 .1 .1 .1 .0
 
 returns : tie.Need-returns
 returns c =
-    let args = c .before .before .before .before .before .before .before .before .before .before .before .before .before .before .before .before .before .before .before .before .before .before .before .before .before .before .before .before .before .before .before .before .before .args in
-    let first-states = c .before .before .before .before .before .before .before .before .before .before .before .before .before .before .before .before .before .before .before .before .before .before .first-states in
-    let seed-thresholds = c .before .before .before .before .before .before .before .before .before .before .before .before .seed-thresholds in (
-      λ x d z.
-          seal-is x (live (statesOf (args .figures .now) (args .cursors .now)) (marks (args .sure .now) (args .never .now) (queue (args .nodes .now) (args .ring))) d (rows (queue (args .items .now) (args .residuals)) (args .pending .now))) (statesOf (first-states .last .1 .1 .1 .0) (first-states .last .1 .1 .1 .1 .0)) (first-states .ensures .0 x (args .bounds .now) (args .names .now) (c .before .before .before .before .before .before .before .before .before .before .before .before .before .before .before .before .before .before .before .before .before .before .before .before .before .before .before .before .before .before .before .before .before .pre .0 .1) z)
-          (did (live (statesOf (seed-thresholds .last .1 .1 .1 .1 .1 .0) (seed-thresholds .last .1 .1 .1 .1 .1 .1 .0)) (marks (seed-thresholds .last .1 .1 .1 .1 .1 .1 .1 .0) (seed-thresholds .last .1 .1 .1 .1 .1 .1 .1 .1 .0) (queue (seed-thresholds .last .1 .1 .1 .1 .1 .1 .1 .1 .1 .0) (seed-thresholds .result .ring))) d
-          (rows (queue (seed-thresholds .last .1 .1 .1 .1 .1 .1 .1 .1 .1 .1 .1 .0) (seed-thresholds .result .residuals)) (seed-thresholds .last .1 .1 .1 .1 .1 .1 .1 .1 .1 .1 .1 .1 .0))) (seed-thresholds .result .step))
-          (seed-thresholds .ensures .0 x d z),
-      λ t. seed-thresholds .ensures .1 (first-states .ensures .1 t),
+    let after-seed-thresholds = c .before .before .before .before .before .before .before .before .before in
+    let after-first-states = after-seed-thresholds .before .before .before .before .before .before .before .before .before in
+    let start = after-first-states .before .before .before .before .before .before .before .before .before in
+    let h = held start in
+    let t = after-seed-thresholds .seed-thresholds in (
+      λ x z.
+          let e = after-first-states .first-states .ensures .0 x (h .guard-bounds) (h .guard-nodes) (start .pre .0 .1) z in
+          seal-is x (entry start) (first after-first-states) e (did (last after-seed-thresholds) (t .result .step)) (t .ensures .0 x z),
+      λ i. t .ensures .1 (after-first-states .first-states .ensures .1 i),
     )
 
 pub seal-spec : {M : Type 1} → statement M
@@ -76,5 +107,4 @@ seal-spec =
     same-length-4
     same-length-5
     same-length-6
-    same-length-7
     returns)

@@ -1,79 +1,109 @@
--- `settle::take_row` meets its contract: the row's flag falls, and its neighbours are told.
+-- `settle::take_row` meets its contract: the row waits no longer, and hands its bounds on.
 use native.Mathlib.Omega.{arith}
 use lib.ListN.{length}
-use Rattle.queues.specs.Queue.{queue, rows}
-use Rattle.queues.specs.RowsLaws.{oldest-row}
-use Rattle.queues.specs.Marks.{marks}
-use Rattle.between.specs.Between.{live, did}
-use Rattle.between.specs.Numbers.{statesOf}
-use Rattle.settle.specs.TurnLaws.{row-there, row-flags, row-is}
-use mathlib.Core.Path.{_∙_}
+use Rattle.memory.specs.Limits.{figureLimit}
+use Rattle.memory.specs.Buffers.{HeldRows, heldRows}
+use Rattle.queues.specs.Queue.{rowsIn}
+use Rattle.between.specs.Between.{Live, did}
+use Rattle.between.specs.Numbers.{liveOf}
+use Rattle.settle.specs.TurnLaws.{slots-head, slots-oldest, row-there, row-run, row-is}
+use mathlib.Core.Path.{_∙_, refl}
 use Rattle.settle.proofs.take_row.Statement.{statement}
 use Rattle.settle.proofs.take_row.Tie as tie
 
-entry-requires : tie.Need-entry-requires
-entry-requires c κs =
-    let pre = c .before .before .before .before .before .before .before .before .before .before .before .before .pre in
-    omega (arith, pre .1 .dirty .held .head, pre .1 .dirty .held .long)
+-- The rows as the buffers hold them.
+abbrev held : tie.Start → HeldRows
+held p = let a = p .args in
+    heldRows (a .row-conditions .now) (a .row-weights .now) (a .rows .now) (a .guard-bounds .now) (a .guard-nodes .now)
+
+-- The live state that is lent.
+abbrev entry : tie.Start → Live
+entry p = let a = p .args in
+    liveOf (a .figures .now) (a .cursors .now) (a .sure .now) (a .never .now) (a .node-queue .now) (a .row-queues .now) (a .rings)
+
+-- The live state behind `threshold_prefixes`.
+abbrev last : tie.After-threshold-prefixes → Live
+last p = let l = p .threshold-prefixes .last .1 .1 .1 .1 .1 .1 in
+    liveOf (l .0) (l .1 .0) (l .1 .1 .0) (l .1 .1 .1 .0) (l .1 .1 .1 .1 .0) (l .1 .1 .1 .1 .1 .0) (p .threshold-prefixes .result .rings)
+
+oldest-row-requires : tie.Need-oldest-row-requires
+oldest-row-requires c κs =
+    let start = c .before .before .before .before .before .before .before .before .before in
+    (slots-head 0 (start .args .row-queues .now) (start .args .rings .rows) (start .pre .1 .dirty), omega arith)
 
 next-row-requires : tie.Need-next-row-requires
 next-row-requires c κs =
-    let pre = c .before .before .before .before .before .before .before .before .before .before .before .before .before .before .before .pre in
-    let args = c .before .before .before .before .before .before .before .before .before .before .before .before .before .before .before .args in
-    (pre .1 .dirty .held, pre .0 .2, oldest-row (rows (queue (args .waiting .now) (args .dirty)) (args .flags .now)) (pre .1 .dirty) (pre .0 .2))
+    let start = c .before .before .before .before .before .before .before .before .before .before .before in
+    let f = start .pre .1 .dirty in
+    let some = start .pre .0 .2 in
+    (omega arith, refl, f .held, some, slots-oldest 0 (start .args .row-queues .now) (start .args .rings .rows) f some)
 
 threshold-prefixes-requires : tie.Need-threshold-prefixes-requires
 threshold-prefixes-requires c κs =
-    let pre = c .before .before .before .before .before .before .before .before .before .before .before .before .before .before .before .before .before .before .before .before .before .before .before .before .before .before .before .pre in
-    let args = c .before .before .before .before .before .before .before .before .before .before .before .before .before .before .before .before .before .before .before .before .before .before .before .before .before .before .before .args in
-    let entry = c .before .before .before .before .before .before .before .before .before .before .before .before .before .before .entry in
-    let next-row = c .before .before .before .before .before .before .before .before .before .before .before .next-row in (
-      (pre .0 .0, pre .0 .1, row-there (length (args .rows .now)) (rows (queue (args .waiting .now) (args .dirty)) (args .flags .now)) (pre .1 .dirty) (pre .0 .2) (pre .0 .3) (entry .result) (entry .ensures)),
-      (pre .1 .ready, row-flags (rows (queue (args .waiting .now) (args .dirty)) (args .flags .now)) (rows (queue (args .waiting .now) (next-row .result)) (next-row .last .0)) (next-row .ensures) (pre .1 .dirty) (pre .0 .2)),
-    )
+    let after-next-row = c .before .before .before .before .before .before .before .before .before in
+    let after-oldest-row = after-next-row .before .before in
+    let start = after-oldest-row .before .before .before .before .before .before .before .before .before .before in
+    let v = entry start in
+    let w = start .pre .0 in
+    let n = after-next-row .next-row in
+    let q = n .last .0 in
+    let r = start .args .rings in
+    let i = row-there (length (start .args .rows .now)) (v .dirty) (start .pre .1 .dirty) (w .2) (w .3) (after-oldest-row .oldest-row .result) (after-oldest-row .oldest-row .ensures) in
+    ((w .0, w .1, i), row-run v (w .2) (rowsIn 0 q (n .result)) (rowsIn 2 q (r .residuals)) (n .ensures .0) (n .ensures .1 (r .residuals)) (held start) figureLimit (start .pre .1))
 
 same-length : tie.Need-same-length
-same-length c = c .before .before .before .before .before .before .before .before .before .before .before .before .before .before .before .before .threshold-prefixes .kept .1 .1 .1 .1 .1 .1 .0
+same-length c =
+    let after-threshold-prefixes = c .before .before .before .before .before .before .before .before .before in
+    after-threshold-prefixes .threshold-prefixes .kept .1 .1 .1 .1 .1 .1 .0
 
 same-length-2 : tie.Need-same-length-2
-same-length-2 c = c .before .before .before .before .before .before .before .before .before .before .before .before .before .before .before .before .threshold-prefixes .kept .1 .1 .1 .1 .1 .1 .1 .0
+same-length-2 c =
+    let after-threshold-prefixes = c .before .before .before .before .before .before .before .before .before in
+    after-threshold-prefixes .threshold-prefixes .kept .1 .1 .1 .1 .1 .1 .1 .0
 
 same-length-3 : tie.Need-same-length-3
-same-length-3 c = c .before .before .before .before .before .before .before .before .before .before .before .before .before .before .before .before .threshold-prefixes .kept .1 .1 .1 .1 .1 .1 .1 .1 .1 .0
+same-length-3 c =
+    let after-threshold-prefixes = c .before .before .before .before .before .before .before .before .before in
+    after-threshold-prefixes .threshold-prefixes .kept .1 .1 .1 .1 .1 .1 .1 .1 .0
 
 same-length-4 : tie.Need-same-length-4
-same-length-4 c = c .before .before .before .before .before .before .before .before .before .before .before .before .before .before .before .before .threshold-prefixes .kept .1 .1 .1 .1 .1 .1 .1 .1 .1 .1 .0
+same-length-4 c =
+    let after-threshold-prefixes = c .before .before .before .before .before .before .before .before .before in
+    after-threshold-prefixes .threshold-prefixes .kept .1 .1 .1 .1 .1 .1 .1 .1 .1 .0
 
 same-length-5 : tie.Need-same-length-5
-same-length-5 c = c .before .before .before .before .before .before .before .before .before .before .before .before .before .before .before .before .threshold-prefixes .kept .1 .1 .1 .1 .1 .1 .1 .1 .1 .1 .1 .0
+same-length-5 c =
+    let after-threshold-prefixes = c .before .before .before .before .before .before .before .before .before in
+    after-threshold-prefixes .threshold-prefixes .kept .1 .1 .1 .1 .1 .1 .1 .1 .1 .1 .0
 
 same-length-6 : tie.Need-same-length-6
-same-length-6 c = c .before .before .before .before .before .before .before .before .before .before .before .before .before .before .before .before .threshold-prefixes .kept .1 .1 .1 .1 .1 .1 .1 .1 .1 .1 .1 .1 .1 .0
-
-same-length-7 : tie.Need-same-length-7
-same-length-7 c = c .before .before .before .before .before .before .before .before .before .before .before .before .before .before .before .before .threshold-prefixes .kept .1 .1 .1 .1 .1 .1 .1 .1 .1 .1 .1 .1 .1 .1 .0
-
-same-length-8 : tie.Need-same-length-8
-same-length-8 c = c .before .before .before .before .before .before .before .before .before .before .before .before .before .before .before .before .threshold-prefixes .kept .1 .1 .1 .1 .1 .1 .1 .1 .1 .1 .1 .1 .1 .1 .1 .1 .0
-
-same-length-9 : tie.Need-same-length-9
-same-length-9 c = c .before .before .before .before .before .before .before .before .before .before .before .before .before .before .before .before .threshold-prefixes .kept .1 .1 .1 .1 .1 .1 .1 .1 .1 .1 .1 .1 .1 .1 .1 .1 .1 .0 ∙ c .before .before .before .before .before .before .before .before .before .before .before .before .before .before .before .before .before .before .before .before .before .before .before .before .before .before .before .before .next-row .kept .0
+same-length-6 c =
+    let after-threshold-prefixes = c .before .before .before .before .before .before .before .before .before in
+    let after-next-row = after-threshold-prefixes .before .before .before .before .before .before .before .before .before .before in
+    after-threshold-prefixes .threshold-prefixes .kept .1 .1 .1 .1 .1 .1 .1 .1 .1 .1 .1 .0 ∙ after-next-row .next-row .kept .0
 
 returns : tie.Need-returns
 returns c =
-    let args = c .before .before .before .before .before .before .before .before .before .before .before .before .before .before .before .before .before .before .before .before .before .before .before .before .before .before .before .before .before .before .before .before .before .before .before .before .before .before .before .before .before .before .before .before .args in
-    let entry = c .before .before .before .before .before .before .before .before .before .before .before .before .before .before .before .before .before .before .before .before .before .before .before .before .before .before .before .before .before .before .before .entry in
-    let next-row = c .before .before .before .before .before .before .before .before .before .before .before .before .before .before .before .before .before .before .before .before .before .before .before .before .before .before .before .before .next-row in
-    let threshold-prefixes = c .before .before .before .before .before .before .before .before .before .before .before .before .before .before .before .before .threshold-prefixes in (
-      λ x z y. row-is x (live (statesOf (args .figures .now) (args .cursors .now)) (marks (args .sure .now) (args .never .now) (queue (args .nodes .now) (args .ring))) (rows (queue (args .waiting .now) (args .dirty)) (args .flags .now)) (rows (queue (args .items .now) (args .residuals)) (args .pending .now))) (entry .result) (entry .ensures) (rows (queue (args .waiting .now) (next-row .result)) (next-row .last .0)) (next-row .ensures) (did (live (statesOf (threshold-prefixes .last .1 .1 .1 .1 .1 .1 .0) (threshold-prefixes .last .1 .1 .1 .1 .1 .1 .1 .0)) (marks (threshold-prefixes .last .1 .1 .1 .1 .1 .1 .1 .1 .1 .0) (threshold-prefixes .last .1 .1 .1 .1 .1 .1 .1 .1 .1 .1 .0) (queue (threshold-prefixes .last .1 .1 .1 .1 .1 .1 .1 .1 .1 .1 .1 .0) (threshold-prefixes .result .answer .ring))) (rows (queue (threshold-prefixes .last .1 .1 .1 .1 .1 .1 .1 .1 .1 .1 .1 .1 .1 .1 .1 .1 .0) (threshold-prefixes .result .dirty)) (threshold-prefixes .last .1 .1 .1 .1 .1 .1 .1 .1 .1 .1 .1 .1 .1 .1 .1 .1 .1 .0)) (rows (queue (threshold-prefixes .last .1 .1 .1 .1 .1 .1 .1 .1 .1 .1 .1 .1 .1 .0) (threshold-prefixes .result .answer .residuals)) (threshold-prefixes .last .1 .1 .1 .1 .1 .1 .1 .1 .1 .1 .1 .1 .1 .1 .0))) (threshold-prefixes .result .answer .step)) (threshold-prefixes .ensures .0 x z y),
-      threshold-prefixes .ensures .1,
+    let after-threshold-prefixes = c .before .before .before .before .before .before .before .before .before in
+    let after-next-row = after-threshold-prefixes .before .before .before .before .before .before .before .before .before .before in
+    let after-oldest-row = after-next-row .before .before in
+    let start = after-oldest-row .before .before .before .before .before .before .before .before .before .before in
+    let v = entry start in
+    let n = after-next-row .next-row in
+    let q = n .last .0 in
+    let r = start .args .rings in
+    let t = after-threshold-prefixes .threshold-prefixes in (
+      λ x z y.
+          row-is v (start .pre .0 .2) (rowsIn 0 q (n .result)) (rowsIn 2 q (r .residuals)) (n .ensures .0) (n .ensures .1 (r .residuals)) x (after-oldest-row .oldest-row .result) (after-oldest-row .oldest-row .ensures)
+          (did (last after-threshold-prefixes) (t .result .step)) (t .ensures .0 x z y),
+      t .ensures .1,
     )
 
 pub take-row-spec : {M : Type 1} → statement M
 take-row-spec =
     tie.close
     (tie.spec
-    entry-requires
+    oldest-row-requires
     next-row-requires
     threshold-prefixes-requires
     same-length
@@ -82,7 +112,4 @@ take-row-spec =
     same-length-4
     same-length-5
     same-length-6
-    same-length-7
-    same-length-8
-    same-length-9
     returns)

@@ -1,92 +1,126 @@
 -- `settle::turn` meets its contract: a node if one waits, else a row.
 use native.Mathlib.Omega.{arith}
+use mathlib.Core.Bool.{true, false}
 use borrow.Author.Tests.{eq-eqb, ne-eqb}
-use Rattle.queues.specs.Queue.{queue, rows}
-use Rattle.queues.specs.Marks.{marks}
-use Rattle.between.specs.Between.{live, did}
-use Rattle.between.specs.Numbers.{statesOf}
-use Rattle.between.specs.Held.{lent}
-use Rattle.settle.specs.TurnLaws.{going-run, turn-node, turn-row}
+use Rattle.memory.specs.Buffers.{HeldRows, heldRows}
+use Rattle.between.specs.Between.{Live, did}
+use Rattle.between.specs.Numbers.{liveOf}
+use Rattle.settle.specs.TurnLaws.{going-run, turn-is}
 use Rattle.settle.proofs.turn.Statement.{statement}
 use Rattle.settle.proofs.turn.Tie as tie
 
+-- The rows as the buffers hold them.
+abbrev held : tie.Start → HeldRows
+held p = let a = p .args in
+    heldRows (a .row-conditions .now) (a .row-weights .now) (a .rows .now) (a .guard-bounds .now) (a .guard-nodes .now)
+
+-- The live state that is lent.
+abbrev entry : tie.Start → Live
+entry p = let a = p .args in
+    liveOf (a .figures .now) (a .cursors .now) (a .sure .now) (a .never .now) (a .node-queue .now) (a .row-queues .now) (a .rings)
+
+-- The live state behind `take_row`.
+abbrev row : tie.After-take-row → Live
+row p = let l = p .take-row .last .1 .1 .1 .1 .1 .1 in
+    liveOf (l .0) (l .1 .0) (l .1 .1 .0) (l .1 .1 .1 .0) (l .1 .1 .1 .1 .0) (l .1 .1 .1 .1 .1 .0) (p .take-row .result .rings)
+
+-- The live state behind `take_node`.
+abbrev node : tie.After-take-node → Live
+node p = let l = p .take-node .last .1 .1 .1 .1 .1 .1 .1 .1 in
+    liveOf (l .0) (l .1 .0) (l .1 .1 .0) (l .1 .1 .1 .0) (l .1 .1 .1 .1 .0) (l .1 .1 .1 .1 .1 .0) (p .take-node .result .rings)
+
 take-row-requires : tie.Need-take-row-requires
 take-row-requires c κs =
-    let pre = c .before .before .before .before .before .before .before .before .before .before .before .before .before .before .before .before .before .before .before .before .before .pre in
-    let args = c .before .before .before .before .before .before .before .before .before .before .before .before .before .before .before .before .before .before .before .before .before .args in
-    let s = pre .0 .0 .1 in
-    ((s .shaped, s .linked, pre .0 .1 (c .before .before .before .before .before .before .before .before .before .if1 .taken), pre .1 .within .tracked .dirty), going-run (lent (args .conditions .now) (args .weights .now) (args .rows .now) (args .bounds .now) (args .names .now)) (args .index .now) (live (statesOf (args .figures .now) (args .cursors .now)) (marks (args .sure .now) (args .never .now) (queue (args .nodes .now) (args .ring))) (rows (queue (args .waiting .now) (args .dirty)) (args .flags .now)) (rows (queue (args .items .now) (args .residuals)) (args .pending .now))) (pre .1))
+    let then1 = c .before .before .before .before .before .before in
+    let start = then1 .before .before .before .before .before .before .before .before .before in
+    let w = start .pre in
+    let s = w .0 .0 .1 in
+    ((s .shaped, s .linked, w .0 .1 (then1 .if1 .taken), w .1 .within .tracked .dirty), going-run (held start) (start .args .nodes .now) (entry start) (w .1))
 
 same-length : tie.Need-same-length
-same-length c = c .before .before .before .before .before .before .before .before .before .before .before .before .before .before .before .before .take-row .kept .1 .1 .1 .1 .1 .1 .0
+same-length c =
+    let after-take-row = c .before .before .before .before .before .before .before .before .before in
+    after-take-row .take-row .kept .1 .1 .1 .1 .1 .1 .0
 
 same-length-2 : tie.Need-same-length-2
-same-length-2 c = c .before .before .before .before .before .before .before .before .before .before .before .before .before .before .before .before .take-row .kept .1 .1 .1 .1 .1 .1 .1 .0
+same-length-2 c =
+    let after-take-row = c .before .before .before .before .before .before .before .before .before in
+    after-take-row .take-row .kept .1 .1 .1 .1 .1 .1 .1 .0
 
 same-length-3 : tie.Need-same-length-3
-same-length-3 c = c .before .before .before .before .before .before .before .before .before .before .before .before .before .before .before .before .take-row .kept .1 .1 .1 .1 .1 .1 .1 .1 .0
+same-length-3 c =
+    let after-take-row = c .before .before .before .before .before .before .before .before .before in
+    after-take-row .take-row .kept .1 .1 .1 .1 .1 .1 .1 .1 .0
 
 same-length-4 : tie.Need-same-length-4
-same-length-4 c = c .before .before .before .before .before .before .before .before .before .before .before .before .before .before .before .before .take-row .kept .1 .1 .1 .1 .1 .1 .1 .1 .1 .0
+same-length-4 c =
+    let after-take-row = c .before .before .before .before .before .before .before .before .before in
+    after-take-row .take-row .kept .1 .1 .1 .1 .1 .1 .1 .1 .1 .0
 
 same-length-5 : tie.Need-same-length-5
-same-length-5 c = c .before .before .before .before .before .before .before .before .before .before .before .before .before .before .before .before .take-row .kept .1 .1 .1 .1 .1 .1 .1 .1 .1 .1 .0
+same-length-5 c =
+    let after-take-row = c .before .before .before .before .before .before .before .before .before in
+    after-take-row .take-row .kept .1 .1 .1 .1 .1 .1 .1 .1 .1 .1 .0
 
 same-length-6 : tie.Need-same-length-6
-same-length-6 c = c .before .before .before .before .before .before .before .before .before .before .before .before .before .before .before .before .take-row .kept .1 .1 .1 .1 .1 .1 .1 .1 .1 .1 .1 .1 .0
-
-same-length-7 : tie.Need-same-length-7
-same-length-7 c = c .before .before .before .before .before .before .before .before .before .before .before .before .before .before .before .before .take-row .kept .1 .1 .1 .1 .1 .1 .1 .1 .1 .1 .1 .1 .1 .0
-
-same-length-8 : tie.Need-same-length-8
-same-length-8 c = c .before .before .before .before .before .before .before .before .before .before .before .before .before .before .before .before .take-row .kept .1 .1 .1 .1 .1 .1 .1 .1 .1 .1 .1 .1 .1 .1 .1 .0
-
-same-length-9 : tie.Need-same-length-9
-same-length-9 c = c .before .before .before .before .before .before .before .before .before .before .before .before .before .before .before .before .take-row .kept .1 .1 .1 .1 .1 .1 .1 .1 .1 .1 .1 .1 .1 .1 .1 .1 .0
+same-length-6 c =
+    let after-take-row = c .before .before .before .before .before .before .before .before .before in
+    after-take-row .take-row .kept .1 .1 .1 .1 .1 .1 .1 .1 .1 .1 .1 .0
 
 returns : tie.Need-returns
 returns c =
-    let args = c .before .before .before .before .before .before .before .before .before .before .before .before .before .before .before .before .before .before .before .before .before .before .before .before .before .before .before .before .before .before .before .before .before .before .before .before .before .before .args in
-    let take-row = c .before .before .before .before .before .before .before .before .before .before .before .before .before .before .before .before .take-row in
-    (λ x s. turn-row x (live (statesOf (args .figures .now) (args .cursors .now)) (marks (args .sure .now) (args .never .now) (queue (args .nodes .now) (args .ring))) (rows (queue (args .waiting .now) (args .dirty)) (args .flags .now)) (rows (queue (args .items .now) (args .residuals)) (args .pending .now))) (did (live (statesOf (take-row .last .1 .1 .1 .1 .1 .1 .0) (take-row .last .1 .1 .1 .1 .1 .1 .1 .0)) (marks (take-row .last .1 .1 .1 .1 .1 .1 .1 .1 .0) (take-row .last .1 .1 .1 .1 .1 .1 .1 .1 .1 .0) (queue (take-row .last .1 .1 .1 .1 .1 .1 .1 .1 .1 .1 .0) (take-row .result .answer .ring))) (rows (queue (take-row .last .1 .1 .1 .1 .1 .1 .1 .1 .1 .1 .1 .1 .1 .1 .1 .0) (take-row .result .dirty)) (take-row .last .1 .1 .1 .1 .1 .1 .1 .1 .1 .1 .1 .1 .1 .1 .1 .1 .0)) (rows (queue (take-row .last .1 .1 .1 .1 .1 .1 .1 .1 .1 .1 .1 .1 .0) (take-row .result .answer .residuals)) (take-row .last .1 .1 .1 .1 .1 .1 .1 .1 .1 .1 .1 .1 .1 .0))) (take-row .result .answer .step)) (eq-eqb (args .ring .count) 0 (c .before .before .before .before .before .before .before .before .before .before .before .before .before .before .before .before .before .before .before .before .before .before .before .before .before .before .if1 .taken)) (take-row .ensures .0 x (s .holds) (s .holds-links)), take-row .ensures .1)
+    let after-take-row = c .before .before .before .before .before .before .before .before .before in
+    let then1 = after-take-row .before .before .before .before .before .before .before in
+    let start = then1 .before .before .before .before .before .before .before .before .before in
+    let t = after-take-row .take-row in
+    let e = eq-eqb (start .args .rings .nodes .count) 0 (then1 .if1 .taken) in
+    (λ x s. turn-is x (entry start) (did (row after-take-row) (t .result .step)) true e (t .ensures .0 x (s .holds) (s .holds-links)), t .ensures .1)
 
 take-node-requires : tie.Need-take-node-requires
 take-node-requires c κs =
-    let pre = c .before .before .before .before .before .before .before .before .before .before .before .before .before .before .before .before .before .before .before .before .before .pre in
-    (((pre .0 .0 .0, c .before .before .before .before .before .before .before .before .before .before .before .before .before .before .before .before .before .before .before .before .before .args .links .now, pre .0 .0 .1), omega (arith, c .before .before .before .before .before .before .before .before .before .if1 .left)), pre .1)
+    let else1 = c .before .before .before .before .before .before in
+    let start = else1 .before .before .before .before .before .before .before .before .before in
+    let w = start .pre in
+    (((w .0 .0 .0, start .args .links .now, w .0 .0 .1), omega (arith, else1 .if1 .left)), w .1)
+
+same-length-7 : tie.Need-same-length-7
+same-length-7 c =
+    let after-take-node = c .before .before .before .before .before .before .before .before .before in
+    after-take-node .take-node .kept .1 .1 .1 .1 .1 .1 .1 .1 .0
+
+same-length-8 : tie.Need-same-length-8
+same-length-8 c =
+    let after-take-node = c .before .before .before .before .before .before .before .before .before in
+    after-take-node .take-node .kept .1 .1 .1 .1 .1 .1 .1 .1 .1 .0
+
+same-length-9 : tie.Need-same-length-9
+same-length-9 c =
+    let after-take-node = c .before .before .before .before .before .before .before .before .before in
+    after-take-node .take-node .kept .1 .1 .1 .1 .1 .1 .1 .1 .1 .1 .0
 
 same-length-10 : tie.Need-same-length-10
-same-length-10 c = c .before .before .before .before .before .before .before .before .before .before .before .before .before .before .before .before .take-node .kept .1 .1 .1 .1 .1 .1 .1 .1 .0
+same-length-10 c =
+    let after-take-node = c .before .before .before .before .before .before .before .before .before in
+    after-take-node .take-node .kept .1 .1 .1 .1 .1 .1 .1 .1 .1 .1 .1 .0
 
 same-length-11 : tie.Need-same-length-11
-same-length-11 c = c .before .before .before .before .before .before .before .before .before .before .before .before .before .before .before .before .take-node .kept .1 .1 .1 .1 .1 .1 .1 .1 .1 .0
+same-length-11 c =
+    let after-take-node = c .before .before .before .before .before .before .before .before .before in
+    after-take-node .take-node .kept .1 .1 .1 .1 .1 .1 .1 .1 .1 .1 .1 .1 .0
 
 same-length-12 : tie.Need-same-length-12
-same-length-12 c = c .before .before .before .before .before .before .before .before .before .before .before .before .before .before .before .before .take-node .kept .1 .1 .1 .1 .1 .1 .1 .1 .1 .1 .0
-
-same-length-13 : tie.Need-same-length-13
-same-length-13 c = c .before .before .before .before .before .before .before .before .before .before .before .before .before .before .before .before .take-node .kept .1 .1 .1 .1 .1 .1 .1 .1 .1 .1 .1 .0
-
-same-length-14 : tie.Need-same-length-14
-same-length-14 c = c .before .before .before .before .before .before .before .before .before .before .before .before .before .before .before .before .take-node .kept .1 .1 .1 .1 .1 .1 .1 .1 .1 .1 .1 .1 .0
-
-same-length-15 : tie.Need-same-length-15
-same-length-15 c = c .before .before .before .before .before .before .before .before .before .before .before .before .before .before .before .before .take-node .kept .1 .1 .1 .1 .1 .1 .1 .1 .1 .1 .1 .1 .1 .1 .0
-
-same-length-16 : tie.Need-same-length-16
-same-length-16 c = c .before .before .before .before .before .before .before .before .before .before .before .before .before .before .before .before .take-node .kept .1 .1 .1 .1 .1 .1 .1 .1 .1 .1 .1 .1 .1 .1 .1 .0
-
-same-length-17 : tie.Need-same-length-17
-same-length-17 c = c .before .before .before .before .before .before .before .before .before .before .before .before .before .before .before .before .take-node .kept .1 .1 .1 .1 .1 .1 .1 .1 .1 .1 .1 .1 .1 .1 .1 .1 .1 .0
-
-same-length-18 : tie.Need-same-length-18
-same-length-18 c = c .before .before .before .before .before .before .before .before .before .before .before .before .before .before .before .before .take-node .kept .1 .1 .1 .1 .1 .1 .1 .1 .1 .1 .1 .1 .1 .1 .1 .1 .1 .1 .0
+same-length-12 c =
+    let after-take-node = c .before .before .before .before .before .before .before .before .before in
+    after-take-node .take-node .kept .1 .1 .1 .1 .1 .1 .1 .1 .1 .1 .1 .1 .1 .0
 
 returns-2 : tie.Need-returns-2
 returns-2 c =
-    let args = c .before .before .before .before .before .before .before .before .before .before .before .before .before .before .before .before .before .before .before .before .before .before .before .before .before .before .before .before .before .before .before .before .before .before .before .before .before .before .args in
-    let take-node = c .before .before .before .before .before .before .before .before .before .before .before .before .before .before .before .before .take-node in
-    (λ x s. turn-node x (live (statesOf (args .figures .now) (args .cursors .now)) (marks (args .sure .now) (args .never .now) (queue (args .nodes .now) (args .ring))) (rows (queue (args .waiting .now) (args .dirty)) (args .flags .now)) (rows (queue (args .items .now) (args .residuals)) (args .pending .now))) (did (live (statesOf (take-node .last .1 .1 .1 .1 .1 .1 .1 .1 .0) (take-node .last .1 .1 .1 .1 .1 .1 .1 .1 .1 .0)) (marks (take-node .last .1 .1 .1 .1 .1 .1 .1 .1 .1 .1 .0) (take-node .last .1 .1 .1 .1 .1 .1 .1 .1 .1 .1 .1 .0) (queue (take-node .last .1 .1 .1 .1 .1 .1 .1 .1 .1 .1 .1 .1 .0) (take-node .result .answer .ring))) (rows (queue (take-node .last .1 .1 .1 .1 .1 .1 .1 .1 .1 .1 .1 .1 .1 .1 .1 .1 .1 .0) (take-node .result .dirty)) (take-node .last .1 .1 .1 .1 .1 .1 .1 .1 .1 .1 .1 .1 .1 .1 .1 .1 .1 .1 .0)) (rows (queue (take-node .last .1 .1 .1 .1 .1 .1 .1 .1 .1 .1 .1 .1 .1 .1 .0) (take-node .result .answer .residuals)) (take-node .last .1 .1 .1 .1 .1 .1 .1 .1 .1 .1 .1 .1 .1 .1 .1 .0))) (take-node .result .answer .step)) (ne-eqb (args .ring .count) 0 (c .before .before .before .before .before .before .before .before .before .before .before .before .before .before .before .before .before .before .before .before .before .before .before .before .before .before .if1 .left)) (take-node .ensures .0 x (args .links .now) s), take-node .ensures .1)
+    let after-take-node = c .before .before .before .before .before .before .before .before .before in
+    let else1 = after-take-node .before .before .before .before .before .before .before in
+    let start = else1 .before .before .before .before .before .before .before .before .before in
+    let t = after-take-node .take-node in
+    let e = ne-eqb (start .args .rings .nodes .count) 0 (else1 .if1 .left) in
+    (λ x s. turn-is x (entry start) (did (node after-take-node) (t .result .step)) false e (t .ensures .0 x (start .args .links .now) s), t .ensures .1)
 
 pub turn-spec : {M : Type 1} → statement M
 turn-spec =
@@ -99,18 +133,12 @@ turn-spec =
     same-length-4
     same-length-5
     same-length-6
+    returns
+    take-node-requires
     same-length-7
     same-length-8
     same-length-9
-    returns
-    take-node-requires
     same-length-10
     same-length-11
     same-length-12
-    same-length-13
-    same-length-14
-    same-length-15
-    same-length-16
-    same-length-17
-    same-length-18
     returns-2)

@@ -1,158 +1,202 @@
--- `sift::sift_once` meets its contract: what was settled, and the row that was tried after it.
+-- `sift::sift_once` meets its contract: what is settled, and then a row that waits is tried.
 use native.Mathlib.Omega.{arith}
 use borrow.Author.Tests.{eq-eqb, ne-eqb}
-use Rattle.queues.specs.Queue.{queue, rows}
-use Rattle.queues.specs.Marks.{marks}
-use Rattle.between.specs.Between.{live, did}
-use Rattle.between.specs.Numbers.{statesOf}
-use Rattle.between.specs.Held.{lent}
-use Rattle.regions.specs.Sift.{sifted}
-use Rattle.settle.specs.Serves.{shared}
+use Rattle.memory.specs.Buffers.{heldRows, Built, built}
+use Rattle.between.specs.Between.{Live, Did, did}
+use Rattle.between.specs.Numbers.{liveOf}
+use Rattle.regions.specs.Sift.{Sifted, sifted}
 use Rattle.sift.specs.Sifting.{once-stop, once-none, once-try, settled-tries}
 use mathlib.Core.Path.{_∙_, refl, sym}
 use borrow.Author.Needs.{needs}
 use Rattle.sift.proofs.sift_once.Statement.{statement}
 use Rattle.sift.proofs.sift_once.Tie as tie
 
+-- What the seal built.
+abbrev buffers : tie.Start → Built
+buffers p = let a = p .args in
+    built (heldRows (a .row-conditions .now) (a .row-weights .now) (a .rows .now) (a .guard-bounds .now) (a .guard-nodes .now)) (a .nodes .now) (a .edges .now) (a .links .now)
+
+-- The live state that is lent.
+abbrev entry : tie.Start → Live
+entry p = let a = p .args in
+    liveOf (a .figures .now) (a .cursors .now) (a .sure .now) (a .never .now) (a .node-queue .now) (a .row-queues .now) (a .rings)
+
+-- What was settled.
+abbrev settled : tie.After-settle → Did
+settled p = let l = p .settle .last .1 .1 .1 .1 .1 .1 .1 .1 .1 in
+    let d = p .settle .result in
+    did (liveOf (l .0) (l .1 .0) (l .1 .1 .0) (l .1 .1 .1 .0) (l .1 .1 .1 .1 .0) (l .1 .1 .1 .1 .1 .0) (d .rings)) (d .step)
+
+-- What trying a row came to; the states are those that were settled.
+abbrev tried : tie.After-settle → tie.After-try-row → Sifted
+tried p q = let s = p .settle .last .1 .1 .1 .1 .1 .1 .1 .1 .1 in
+    let l = q .try-row .last .1 .1 .1 .1 .1 in
+    let o = q .try-row .result in
+    sifted (liveOf (s .0) (s .1 .0) (l .0) (l .1 .0) (l .1 .1 .0) (l .1 .1 .1 .0) (o .rings)) (l .1 .1 .1 .1 .0) (o .step) (o .visits)
+
 settle-requires : tie.Need-settle-requires
 settle-requires c κs =
-    let pre = c .before .before .before .before .before .before .before .before .before .before .before .before .before .before .before .before .before .before .before .before .before .before .pre in
-    (pre .0 .0, pre .1)
+    let start = c .before .before .before .before .before .before .before .before .before .before .before .before .before .before .before in
+    (start .pre .0 .0, start .pre .1)
 
 contradicts-requires : tie.Need-contradicts-requires
 contradicts-requires c κs = search needs
 
 same-length : tie.Need-same-length
-same-length c = c .before .before .before .before .before .before .before .before .before .before .before .before .before .before .before .before .before .before .before .before .before .settle .kept .1 .1 .1 .1 .1 .1 .1 .1 .1 .0
+same-length c =
+    let after-settle = c .before .before .before .before .before .before .before .before .before .before .before .before in
+    after-settle .settle .kept .1 .1 .1 .1 .1 .1 .1 .1 .1 .0
 
 same-length-2 : tie.Need-same-length-2
-same-length-2 c = c .before .before .before .before .before .before .before .before .before .before .before .before .before .before .before .before .before .before .before .before .before .settle .kept .1 .1 .1 .1 .1 .1 .1 .1 .1 .1 .0
+same-length-2 c =
+    let after-settle = c .before .before .before .before .before .before .before .before .before .before .before .before in
+    after-settle .settle .kept .1 .1 .1 .1 .1 .1 .1 .1 .1 .1 .0
 
 same-length-3 : tie.Need-same-length-3
-same-length-3 c = c .before .before .before .before .before .before .before .before .before .before .before .before .before .before .before .before .before .before .before .before .before .settle .kept .1 .1 .1 .1 .1 .1 .1 .1 .1 .1 .1 .0
+same-length-3 c =
+    let after-settle = c .before .before .before .before .before .before .before .before .before .before .before .before in
+    after-settle .settle .kept .1 .1 .1 .1 .1 .1 .1 .1 .1 .1 .1 .0
 
 same-length-4 : tie.Need-same-length-4
-same-length-4 c = c .before .before .before .before .before .before .before .before .before .before .before .before .before .before .before .before .before .before .before .before .before .settle .kept .1 .1 .1 .1 .1 .1 .1 .1 .1 .1 .1 .1 .0
+same-length-4 c =
+    let after-settle = c .before .before .before .before .before .before .before .before .before .before .before .before in
+    after-settle .settle .kept .1 .1 .1 .1 .1 .1 .1 .1 .1 .1 .1 .1 .0
 
 same-length-5 : tie.Need-same-length-5
-same-length-5 c = c .before .before .before .before .before .before .before .before .before .before .before .before .before .before .before .before .before .before .before .before .before .settle .kept .1 .1 .1 .1 .1 .1 .1 .1 .1 .1 .1 .1 .1 .0
+same-length-5 c =
+    let after-settle = c .before .before .before .before .before .before .before .before .before .before .before .before in
+    after-settle .settle .kept .1 .1 .1 .1 .1 .1 .1 .1 .1 .1 .1 .1 .1 .0
 
 same-length-6 : tie.Need-same-length-6
-same-length-6 c = c .before .before .before .before .before .before .before .before .before .before .before .before .before .before .before .before .before .before .before .before .before .settle .kept .1 .1 .1 .1 .1 .1 .1 .1 .1 .1 .1 .1 .1 .1 .1 .0
-
-same-length-7 : tie.Need-same-length-7
-same-length-7 c = c .before .before .before .before .before .before .before .before .before .before .before .before .before .before .before .before .before .before .before .before .before .settle .kept .1 .1 .1 .1 .1 .1 .1 .1 .1 .1 .1 .1 .1 .1 .1 .1 .0
-
-same-length-8 : tie.Need-same-length-8
-same-length-8 c = c .before .before .before .before .before .before .before .before .before .before .before .before .before .before .before .before .before .before .before .before .before .settle .kept .1 .1 .1 .1 .1 .1 .1 .1 .1 .1 .1 .1 .1 .1 .1 .1 .1 .1 .0
-
-same-length-9 : tie.Need-same-length-9
-same-length-9 c = c .before .before .before .before .before .before .before .before .before .before .before .before .before .before .before .before .before .before .before .before .before .settle .kept .1 .1 .1 .1 .1 .1 .1 .1 .1 .1 .1 .1 .1 .1 .1 .1 .1 .1 .1 .0
+same-length-6 c =
+    let after-settle = c .before .before .before .before .before .before .before .before .before .before .before .before in
+    after-settle .settle .kept .1 .1 .1 .1 .1 .1 .1 .1 .1 .1 .1 .1 .1 .1 .0
 
 returns : tie.Need-returns
 returns c =
-    let args = c .before .before .before .before .before .before .before .before .before .before .before .before .before .before .before .before .before .before .before .before .before .before .before .before .before .before .before .before .before .before .before .before .before .before .before .before .before .before .before .before .before .before .before .before .args in
-    let settle = c .before .before .before .before .before .before .before .before .before .before .before .before .before .before .before .before .before .before .before .before .before .settle in (
-      λ x s. once-stop x (live (statesOf (args .figures .now) (args .cursors .now)) (marks (args .sure .now) (args .never .now) (queue (args .nodes .now) (args .ring))) (rows (queue (args .waiting .now) (args .dirty)) (args .flags .now)) (rows (queue (args .items .now) (args .residuals)) (args .pending .now))) (args .gcds .now) (args .visits) (did (live (statesOf (settle .last .1 .1 .1 .1 .1 .1 .1 .1 .1 .0) (settle .last .1 .1 .1 .1 .1 .1 .1 .1 .1 .1 .0)) (marks (settle .last .1 .1 .1 .1 .1 .1 .1 .1 .1 .1 .1 .0) (settle .last .1 .1 .1 .1 .1 .1 .1 .1 .1 .1 .1 .1 .0) (queue (settle .last .1 .1 .1 .1 .1 .1 .1 .1 .1 .1 .1 .1 .1 .0) (settle .result .answer .ring))) (rows (queue (settle .last .1 .1 .1 .1 .1 .1 .1 .1 .1 .1 .1 .1 .1 .1 .1 .1 .1 .1 .0) (settle .result .dirty)) (settle .last .1 .1 .1 .1 .1 .1 .1 .1 .1 .1 .1 .1 .1 .1 .1 .1 .1 .1 .1 .0)) (rows (queue (settle .last .1 .1 .1 .1 .1 .1 .1 .1 .1 .1 .1 .1 .1 .1 .1 .0) (settle .result .answer .residuals)) (settle .last .1 .1 .1 .1 .1 .1 .1 .1 .1 .1 .1 .1 .1 .1 .1 .1 .0))) (settle .result .answer .step)) (settle .ensures .0 x s) (sym (c .before .contradicts .ensures) ∙ c .if1 .taken),
-      settle .ensures .1,
-      refl,
-    )
+    let after-contradicts = c .before in
+    let after-settle = after-contradicts .before .before .before .before .before .before .before .before .before .before .before in
+    let start = after-settle .before .before .before .before .before .before .before .before .before .before .before .before .before .before .before .before in
+    let t = after-settle .settle in
+    (λ x s. once-stop x (entry start) (start .args .gcds .now) (start .args .visits) (settled after-settle) (t .ensures .0 x s) (sym (after-contradicts .contradicts .ensures) ∙ c .if1 .taken), t .ensures .1, refl)
+
+same-length-7 : tie.Need-same-length-7
+same-length-7 c =
+    let after-settle = c .before .before .before .before .before .before .before .before .before .before .before .before .before .before in
+    after-settle .settle .kept .1 .1 .1 .1 .1 .1 .1 .1 .1 .0
+
+same-length-8 : tie.Need-same-length-8
+same-length-8 c =
+    let after-settle = c .before .before .before .before .before .before .before .before .before .before .before .before .before .before in
+    after-settle .settle .kept .1 .1 .1 .1 .1 .1 .1 .1 .1 .1 .0
+
+same-length-9 : tie.Need-same-length-9
+same-length-9 c =
+    let after-settle = c .before .before .before .before .before .before .before .before .before .before .before .before .before .before in
+    after-settle .settle .kept .1 .1 .1 .1 .1 .1 .1 .1 .1 .1 .1 .0
 
 same-length-10 : tie.Need-same-length-10
-same-length-10 c = c .before .before .before .before .before .before .before .before .before .before .before .before .before .before .before .before .before .before .before .before .before .before .settle .kept .1 .1 .1 .1 .1 .1 .1 .1 .1 .0
+same-length-10 c =
+    let after-settle = c .before .before .before .before .before .before .before .before .before .before .before .before .before .before in
+    after-settle .settle .kept .1 .1 .1 .1 .1 .1 .1 .1 .1 .1 .1 .1 .0
 
 same-length-11 : tie.Need-same-length-11
-same-length-11 c = c .before .before .before .before .before .before .before .before .before .before .before .before .before .before .before .before .before .before .before .before .before .before .settle .kept .1 .1 .1 .1 .1 .1 .1 .1 .1 .1 .0
+same-length-11 c =
+    let after-settle = c .before .before .before .before .before .before .before .before .before .before .before .before .before .before in
+    after-settle .settle .kept .1 .1 .1 .1 .1 .1 .1 .1 .1 .1 .1 .1 .1 .0
 
 same-length-12 : tie.Need-same-length-12
-same-length-12 c = c .before .before .before .before .before .before .before .before .before .before .before .before .before .before .before .before .before .before .before .before .before .before .settle .kept .1 .1 .1 .1 .1 .1 .1 .1 .1 .1 .1 .0
-
-same-length-13 : tie.Need-same-length-13
-same-length-13 c = c .before .before .before .before .before .before .before .before .before .before .before .before .before .before .before .before .before .before .before .before .before .before .settle .kept .1 .1 .1 .1 .1 .1 .1 .1 .1 .1 .1 .1 .0
-
-same-length-14 : tie.Need-same-length-14
-same-length-14 c = c .before .before .before .before .before .before .before .before .before .before .before .before .before .before .before .before .before .before .before .before .before .before .settle .kept .1 .1 .1 .1 .1 .1 .1 .1 .1 .1 .1 .1 .1 .0
-
-same-length-15 : tie.Need-same-length-15
-same-length-15 c = c .before .before .before .before .before .before .before .before .before .before .before .before .before .before .before .before .before .before .before .before .before .before .settle .kept .1 .1 .1 .1 .1 .1 .1 .1 .1 .1 .1 .1 .1 .1 .1 .0
-
-same-length-16 : tie.Need-same-length-16
-same-length-16 c = c .before .before .before .before .before .before .before .before .before .before .before .before .before .before .before .before .before .before .before .before .before .before .settle .kept .1 .1 .1 .1 .1 .1 .1 .1 .1 .1 .1 .1 .1 .1 .1 .1 .0
-
-same-length-17 : tie.Need-same-length-17
-same-length-17 c = c .before .before .before .before .before .before .before .before .before .before .before .before .before .before .before .before .before .before .before .before .before .before .settle .kept .1 .1 .1 .1 .1 .1 .1 .1 .1 .1 .1 .1 .1 .1 .1 .1 .1 .1 .0
-
-same-length-18 : tie.Need-same-length-18
-same-length-18 c = c .before .before .before .before .before .before .before .before .before .before .before .before .before .before .before .before .before .before .before .before .before .before .settle .kept .1 .1 .1 .1 .1 .1 .1 .1 .1 .1 .1 .1 .1 .1 .1 .1 .1 .1 .1 .0
+same-length-12 c =
+    let after-settle = c .before .before .before .before .before .before .before .before .before .before .before .before .before .before in
+    after-settle .settle .kept .1 .1 .1 .1 .1 .1 .1 .1 .1 .1 .1 .1 .1 .1 .0
 
 returns-2 : tie.Need-returns-2
 returns-2 c =
-    let args = c .before .before .before .before .before .before .before .before .before .before .before .before .before .before .before .before .before .before .before .before .before .before .before .before .before .before .before .before .before .before .before .before .before .before .before .before .before .before .before .before .before .before .before .before .before .args in
-    let settle = c .before .before .before .before .before .before .before .before .before .before .before .before .before .before .before .before .before .before .before .before .before .before .settle in (
-      λ x s.
-          once-none x (live (statesOf (args .figures .now) (args .cursors .now)) (marks (args .sure .now) (args .never .now) (queue (args .nodes .now) (args .ring))) (rows (queue (args .waiting .now) (args .dirty)) (args .flags .now)) (rows (queue (args .items .now) (args .residuals)) (args .pending .now))) (args .gcds .now) (args .visits) (did (live (statesOf (settle .last .1 .1 .1 .1 .1 .1 .1 .1 .1 .0) (settle .last .1 .1 .1 .1 .1 .1 .1 .1 .1 .1 .0)) (marks (settle .last .1 .1 .1 .1 .1 .1 .1 .1 .1 .1 .1 .0) (settle .last .1 .1 .1 .1 .1 .1 .1 .1 .1 .1 .1 .1 .0) (queue (settle .last .1 .1 .1 .1 .1 .1 .1 .1 .1 .1 .1 .1 .1 .0) (settle .result .answer .ring))) (rows (queue (settle .last .1 .1 .1 .1 .1 .1 .1 .1 .1 .1 .1 .1 .1 .1 .1 .1 .1 .1 .0) (settle .result .dirty)) (settle .last .1 .1 .1 .1 .1 .1 .1 .1 .1 .1 .1 .1 .1 .1 .1 .1 .1 .1 .1 .0)) (rows (queue (settle .last .1 .1 .1 .1 .1 .1 .1 .1 .1 .1 .1 .1 .1 .1 .1 .0) (settle .result .answer .residuals)) (settle .last .1 .1 .1 .1 .1 .1 .1 .1 .1 .1 .1 .1 .1 .1 .1 .1 .0))) (settle .result .answer .step)) (settle .ensures .0 x s) (sym (c .before .before .contradicts .ensures) ∙ c .before .if1 .left) (eq-eqb (settle .result .answer .residuals .count) 0 (c .if2 .taken)),
-      settle .ensures .1,
-      refl,
-    )
+    let else1 = c .before .before in
+    let after-contradicts = else1 .before in
+    let after-settle = after-contradicts .before .before .before .before .before .before .before .before .before .before .before in
+    let start = after-settle .before .before .before .before .before .before .before .before .before .before .before .before .before .before .before .before in
+    let t = after-settle .settle in
+    let e = eq-eqb (t .result .rings .residuals .count) 0 (c .if2 .taken) in
+    (λ x s. once-none x (entry start) (start .args .gcds .now) (start .args .visits) (settled after-settle) (t .ensures .0 x s) (sym (after-contradicts .contradicts .ensures) ∙ else1 .if1 .left) e, t .ensures .1, refl)
 
 try-row-requires : tie.Need-try-row-requires
 try-row-requires c κs =
-    let pre = c .before .before .before .before .before .before .before .before .before .before .before .before .before .before .before .before .before .before .before .before .before .before .before .before .before .before .before .before .before .before .before .before .before .before .before .before .before .before .before .before .before .before .before .before .before .before .before .before .before .before .before .before .before .before .before .pre in
-    let args = c .before .before .before .before .before .before .before .before .before .before .before .before .before .before .before .before .before .before .before .before .before .before .before .before .before .before .before .before .before .before .before .before .before .before .before .before .before .before .before .before .before .before .before .before .before .before .before .before .before .before .before .before .before .before .before .args in
-    let settle = c .before .before .before .before .before .before .before .before .before .before .before .before .before .before .before .before .before .before .before .before .before .before .before .before .before .before .before .before .before .before .before .before .settle in
-    let x = pre .0 .0 .0 in
-    let s = pre .0 .0 .1 in (
-      args .bounds .now,
-      args .names .now,
-      settled-tries x (shared (lent (args .conditions .now) (args .weights .now) (args .rows .now) (args .bounds .now) (args .names .now)) (args .index .now) (args .limits .now) (args .edges .now) (args .links .now)) s (live (statesOf (args .figures .now) (args .cursors .now)) (marks (args .sure .now) (args .never .now) (queue (args .nodes .now) (args .ring))) (rows (queue (args .waiting .now) (args .dirty)) (args .flags .now)) (rows (queue (args .items .now) (args .residuals)) (args .pending .now))) (pre .1) (did (live (statesOf (settle .last .1 .1 .1 .1 .1 .1 .1 .1 .1 .0) (settle .last .1 .1 .1 .1 .1 .1 .1 .1 .1 .1 .0)) (marks (settle .last .1 .1 .1 .1 .1 .1 .1 .1 .1 .1 .1 .0) (settle .last .1 .1 .1 .1 .1 .1 .1 .1 .1 .1 .1 .1 .0) (queue (settle .last .1 .1 .1 .1 .1 .1 .1 .1 .1 .1 .1 .1 .1 .0) (settle .result .answer .ring))) (rows (queue (settle .last .1 .1 .1 .1 .1 .1 .1 .1 .1 .1 .1 .1 .1 .1 .1 .1 .1 .1 .0) (settle .result .dirty)) (settle .last .1 .1 .1 .1 .1 .1 .1 .1 .1 .1 .1 .1 .1 .1 .1 .1 .1 .1 .1 .0)) (rows (queue (settle .last .1 .1 .1 .1 .1 .1 .1 .1 .1 .1 .1 .1 .1 .1 .1 .0) (settle .result .answer .residuals)) (settle .last .1 .1 .1 .1 .1 .1 .1 .1 .1 .1 .1 .1 .1 .1 .1 .1 .0))) (settle .result .answer .step)) (settle .ensures .0 x s) (omega (arith, c .before .before .before .before .before .before .before .before .before .before .if2 .left)) (args .gcds .now) (args .words .now) (pre .0 .1) (pre .0 .2),
-    )
+    let else2 = c .before .before .before .before .before .before .before .before in
+    let after-settle = else2 .before .before .before .before .before .before .before .before .before .before .before .before .before .before in
+    let start = after-settle .before .before .before .before .before .before .before .before .before .before .before .before .before .before .before .before in
+    let w = start .pre in
+    let x = w .0 .0 .0 in
+    let s = w .0 .0 .1 in
+    let v = settled-tries x (start .args .bounds .now) (buffers start) s (entry start) (w .1) (settled after-settle) (after-settle .settle .ensures .0 x s) (omega (arith, else2 .if2 .left)) in
+    (start .args .guard-bounds .now, start .args .guard-nodes .now, v (start .args .gcds .now) (start .args .search .now) (w .0 .1) (w .0 .2))
 
 join-requires : tie.Need-join-requires
 join-requires c κs = search needs
 
+same-length-13 : tie.Need-same-length-13
+same-length-13 c =
+    let after-contradicts = c .before .before .before .before .before .before .before .before .before .before .before .before .before .before .before .before .before .before .before .before .before .before .before .before .before in
+    let after-settle = after-contradicts .before .before .before .before .before .before .before .before .before .before .before in
+    after-settle .settle .kept .1 .1 .1 .1 .1 .1 .1 .1 .1 .0
+
+same-length-14 : tie.Need-same-length-14
+same-length-14 c =
+    let after-contradicts = c .before .before .before .before .before .before .before .before .before .before .before .before .before .before .before .before .before .before .before .before .before .before .before .before .before in
+    let after-settle = after-contradicts .before .before .before .before .before .before .before .before .before .before .before in
+    after-settle .settle .kept .1 .1 .1 .1 .1 .1 .1 .1 .1 .1 .0
+
+same-length-15 : tie.Need-same-length-15
+same-length-15 c =
+    let after-try-row = c .before .before .before .before .before .before .before .before .before .before .before .before .before in
+    let after-settle = after-try-row .before .before .before .before .before .before .before .before .before .before .before .before .before .before .before .before .before .before .before .before .before .before .before in
+    after-try-row .try-row .kept .1 .1 .1 .1 .1 .0 ∙ after-settle .settle .kept .1 .1 .1 .1 .1 .1 .1 .1 .1 .1 .1 .0
+
+same-length-16 : tie.Need-same-length-16
+same-length-16 c =
+    let after-try-row = c .before .before .before .before .before .before .before .before .before .before .before .before .before in
+    let after-settle = after-try-row .before .before .before .before .before .before .before .before .before .before .before .before .before .before .before .before .before .before .before .before .before .before .before in
+    after-try-row .try-row .kept .1 .1 .1 .1 .1 .1 .0 ∙ after-settle .settle .kept .1 .1 .1 .1 .1 .1 .1 .1 .1 .1 .1 .1 .0
+
+same-length-17 : tie.Need-same-length-17
+same-length-17 c =
+    let after-try-row = c .before .before .before .before .before .before .before .before .before .before .before .before .before in
+    let after-settle = after-try-row .before .before .before .before .before .before .before .before .before .before .before .before .before .before .before .before .before .before .before .before .before .before .before in
+    after-try-row .try-row .kept .1 .1 .1 .1 .1 .1 .1 .0 ∙ after-settle .settle .kept .1 .1 .1 .1 .1 .1 .1 .1 .1 .1 .1 .1 .1 .0
+
+same-length-18 : tie.Need-same-length-18
+same-length-18 c =
+    let after-try-row = c .before .before .before .before .before .before .before .before .before .before .before .before .before in
+    let after-settle = after-try-row .before .before .before .before .before .before .before .before .before .before .before .before .before .before .before .before .before .before .before .before .before .before .before in
+    after-try-row .try-row .kept .1 .1 .1 .1 .1 .1 .1 .1 .0 ∙ after-settle .settle .kept .1 .1 .1 .1 .1 .1 .1 .1 .1 .1 .1 .1 .1 .1 .0
+
 same-length-19 : tie.Need-same-length-19
-same-length-19 c = c .before .before .before .before .before .before .before .before .before .before .before .before .before .before .before .before .before .before .before .before .before .before .before .before .before .before .before .before .before .before .before .before .before .before .before .before .before .before .before .before .before .before .before .before .before .before .before .before .before .settle .kept .1 .1 .1 .1 .1 .1 .1 .1 .1 .0
+same-length-19 c =
+    let after-try-row = c .before .before .before .before .before .before .before .before .before .before .before .before .before in
+    after-try-row .try-row .kept .1 .1 .1 .1 .1 .1 .1 .1 .1 .0
 
 same-length-20 : tie.Need-same-length-20
-same-length-20 c = c .before .before .before .before .before .before .before .before .before .before .before .before .before .before .before .before .before .before .before .before .before .before .before .before .before .before .before .before .before .before .before .before .before .before .before .before .before .before .before .before .before .before .before .before .before .before .before .before .before .settle .kept .1 .1 .1 .1 .1 .1 .1 .1 .1 .1 .0
-
-same-length-21 : tie.Need-same-length-21
-same-length-21 c = c .before .before .before .before .before .before .before .before .before .before .before .before .before .before .before .before .try-row .kept .1 .1 .1 .1 .1 .0 ∙ c .before .before .before .before .before .before .before .before .before .before .before .before .before .before .before .before .before .before .before .before .before .before .before .before .before .before .before .before .before .before .before .before .before .before .before .before .before .before .before .before .before .before .before .before .before .before .before .before .before .settle .kept .1 .1 .1 .1 .1 .1 .1 .1 .1 .1 .1 .0
-
-same-length-22 : tie.Need-same-length-22
-same-length-22 c = c .before .before .before .before .before .before .before .before .before .before .before .before .before .before .before .before .try-row .kept .1 .1 .1 .1 .1 .1 .0 ∙ c .before .before .before .before .before .before .before .before .before .before .before .before .before .before .before .before .before .before .before .before .before .before .before .before .before .before .before .before .before .before .before .before .before .before .before .before .before .before .before .before .before .before .before .before .before .before .before .before .before .settle .kept .1 .1 .1 .1 .1 .1 .1 .1 .1 .1 .1 .1 .0
-
-same-length-23 : tie.Need-same-length-23
-same-length-23 c = c .before .before .before .before .before .before .before .before .before .before .before .before .before .before .before .before .try-row .kept .1 .1 .1 .1 .1 .1 .1 .0 ∙ c .before .before .before .before .before .before .before .before .before .before .before .before .before .before .before .before .before .before .before .before .before .before .before .before .before .before .before .before .before .before .before .before .before .before .before .before .before .before .before .before .before .before .before .before .before .before .before .before .before .settle .kept .1 .1 .1 .1 .1 .1 .1 .1 .1 .1 .1 .1 .1 .0
-
-same-length-24 : tie.Need-same-length-24
-same-length-24 c = c .before .before .before .before .before .before .before .before .before .before .before .before .before .before .before .before .before .before .before .before .before .before .before .before .before .before .before .before .before .before .before .before .before .before .before .before .before .before .before .before .before .before .before .before .before .before .before .before .before .settle .kept .1 .1 .1 .1 .1 .1 .1 .1 .1 .1 .1 .1 .1 .1 .1 .0
-
-same-length-25 : tie.Need-same-length-25
-same-length-25 c = c .before .before .before .before .before .before .before .before .before .before .before .before .before .before .before .before .try-row .kept .1 .1 .1 .1 .1 .1 .1 .1 .1 .1 .0 ∙ c .before .before .before .before .before .before .before .before .before .before .before .before .before .before .before .before .before .before .before .before .before .before .before .before .before .before .before .before .before .before .before .before .before .before .before .before .before .before .before .before .before .before .before .before .before .before .before .before .before .settle .kept .1 .1 .1 .1 .1 .1 .1 .1 .1 .1 .1 .1 .1 .1 .1 .1 .0
-
-same-length-26 : tie.Need-same-length-26
-same-length-26 c = c .before .before .before .before .before .before .before .before .before .before .before .before .before .before .before .before .before .before .before .before .before .before .before .before .before .before .before .before .before .before .before .before .before .before .before .before .before .before .before .before .before .before .before .before .before .before .before .before .before .settle .kept .1 .1 .1 .1 .1 .1 .1 .1 .1 .1 .1 .1 .1 .1 .1 .1 .1 .1 .0
-
-same-length-27 : tie.Need-same-length-27
-same-length-27 c = c .before .before .before .before .before .before .before .before .before .before .before .before .before .before .before .before .before .before .before .before .before .before .before .before .before .before .before .before .before .before .before .before .before .before .before .before .before .before .before .before .before .before .before .before .before .before .before .before .before .settle .kept .1 .1 .1 .1 .1 .1 .1 .1 .1 .1 .1 .1 .1 .1 .1 .1 .1 .1 .1 .0
-
-same-length-28 : tie.Need-same-length-28
-same-length-28 c = c .before .before .before .before .before .before .before .before .before .before .before .before .before .before .before .before .try-row .kept .1 .1 .1 .1 .1 .1 .1 .1 .1 .1 .1 .1 .0
-
-same-length-29 : tie.Need-same-length-29
-same-length-29 c = c .before .before .before .before .before .before .before .before .before .before .before .before .before .before .before .before .try-row .kept .1 .1 .1 .1 .1 .1 .1 .1 .1 .1 .1 .1 .1 .0
+same-length-20 c =
+    let after-try-row = c .before .before .before .before .before .before .before .before .before .before .before .before .before in
+    after-try-row .try-row .kept .1 .1 .1 .1 .1 .1 .1 .1 .1 .1 .0
 
 returns-3 : tie.Need-returns-3
 returns-3 c =
-    let args = c .before .before .before .before .before .before .before .before .before .before .before .before .before .before .before .before .before .before .before .before .before .before .before .before .before .before .before .before .before .before .before .before .before .before .before .before .before .before .before .before .before .before .before .before .before .before .before .before .before .before .before .before .before .before .before .before .before .before .before .before .before .before .before .before .before .before .before .before .before .before .before .before .args in
-    let settle = c .before .before .before .before .before .before .before .before .before .before .before .before .before .before .before .before .before .before .before .before .before .before .before .before .before .before .before .before .before .before .before .before .before .before .before .before .before .before .before .before .before .before .before .before .before .before .before .before .before .settle in
-    let try-row = c .before .before .before .before .before .before .before .before .before .before .before .before .before .before .before .before .try-row in (
+    let after-try-row = c .before .before .before .before .before .before .before .before .before .before .before .before .before in
+    let else2 = after-try-row .before .before .before .before .before .before .before .before .before in
+    let else1 = else2 .before .before in
+    let after-contradicts = else1 .before in
+    let after-settle = after-contradicts .before .before .before .before .before .before .before .before .before .before .before in
+    let start = after-settle .before .before .before .before .before .before .before .before .before .before .before .before .before .before .before .before in
+    let a = start .args in
+    let t = after-settle .settle in
+    let o = after-try-row .try-row in
+    let e = ne-eqb (t .result .rings .residuals .count) 0 (else2 .if2 .left) in (
       λ x s.
-          once-try x (live (statesOf (args .figures .now) (args .cursors .now)) (marks (args .sure .now) (args .never .now) (queue (args .nodes .now) (args .ring))) (rows (queue (args .waiting .now) (args .dirty)) (args .flags .now)) (rows (queue (args .items .now) (args .residuals)) (args .pending .now))) (args .gcds .now) (args .visits) (did (live (statesOf (settle .last .1 .1 .1 .1 .1 .1 .1 .1 .1 .0) (settle .last .1 .1 .1 .1 .1 .1 .1 .1 .1 .1 .0)) (marks (settle .last .1 .1 .1 .1 .1 .1 .1 .1 .1 .1 .1 .0) (settle .last .1 .1 .1 .1 .1 .1 .1 .1 .1 .1 .1 .1 .0) (queue (settle .last .1 .1 .1 .1 .1 .1 .1 .1 .1 .1 .1 .1 .1 .0) (settle .result .answer .ring))) (rows (queue (settle .last .1 .1 .1 .1 .1 .1 .1 .1 .1 .1 .1 .1 .1 .1 .1 .1 .1 .1 .0) (settle .result .dirty)) (settle .last .1 .1 .1 .1 .1 .1 .1 .1 .1 .1 .1 .1 .1 .1 .1 .1 .1 .1 .1 .0)) (rows (queue (settle .last .1 .1 .1 .1 .1 .1 .1 .1 .1 .1 .1 .1 .1 .1 .1 .0) (settle .result .answer .residuals)) (settle .last .1 .1 .1 .1 .1 .1 .1 .1 .1 .1 .1 .1 .1 .1 .1 .1 .0))) (settle .result .answer .step)) (settle .ensures .0 x s) (sym (c .before .before .before .before .before .before .before .before .before .before .before .before .before .before .before .before .before .before .before .before .before .before .before .before .before .before .before .before .before .contradicts .ensures) ∙ c .before .before .before .before .before .before .before .before .before .before .before .before .before .before .before .before .before .before .before .before .before .before .before .before .before .before .before .before .if1 .left) (ne-eqb (settle .result .answer .residuals .count) 0 (c .before .before .before .before .before .before .before .before .before .before .before .before .before .before .before .before .before .before .before .before .before .before .before .before .before .before .before .if2 .left))
-          (sifted (live (statesOf (settle .last .1 .1 .1 .1 .1 .1 .1 .1 .1 .0) (settle .last .1 .1 .1 .1 .1 .1 .1 .1 .1 .1 .0)) (marks (try-row .last .1 .1 .1 .1 .1 .0) (try-row .last .1 .1 .1 .1 .1 .1 .0) (queue (try-row .last .1 .1 .1 .1 .1 .1 .1 .0) (try-row .result .tried .ring))) (rows (queue (settle .last .1 .1 .1 .1 .1 .1 .1 .1 .1 .1 .1 .1 .1 .1 .1 .1 .1 .1 .0) (settle .result .dirty)) (settle .last .1 .1 .1 .1 .1 .1 .1 .1 .1 .1 .1 .1 .1 .1 .1 .1 .1 .1 .1 .0)) (rows (queue (settle .last .1 .1 .1 .1 .1 .1 .1 .1 .1 .1 .1 .1 .1 .1 .1 .0) (try-row .result .residuals)) (try-row .last .1 .1 .1 .1 .1 .1 .1 .1 .1 .1 .0))) (try-row .last .1 .1 .1 .1 .1 .1 .1 .1 .1 .1 .1 .1 .0) (try-row .result .tried .step) (try-row .result .tried .visits)) (try-row .ensures .0 x (rows (queue (settle .last .1 .1 .1 .1 .1 .1 .1 .1 .1 .1 .1 .1 .1 .1 .1 .1 .1 .1 .0) (settle .result .dirty)) (settle .last .1 .1 .1 .1 .1 .1 .1 .1 .1 .1 .1 .1 .1 .1 .1 .1 .1 .1 .1 .0)) (args .bounds .now) (args .names .now) (s .holds)) (c .join .result) (c .join .ensures),
-      settle .ensures .1,
-      try-row .ensures .1,
+          once-try x (entry start) (a .gcds .now) (a .visits) (settled after-settle) (t .ensures .0 x s) (sym (after-contradicts .contradicts .ensures) ∙ else1 .if1 .left) e (tried after-settle after-try-row)
+          (o .ensures .0 x (a .guard-bounds .now) (a .guard-nodes .now) (s .holds)) (c .join .result) (c .join .ensures),
+      t .ensures .1,
+      o .ensures .1,
     )
 
 pub sift-once-spec : {M : Type 1} → statement M
@@ -167,31 +211,22 @@ sift-once-spec =
     same-length-4
     same-length-5
     same-length-6
+    returns
     same-length-7
     same-length-8
     same-length-9
-    returns
     same-length-10
     same-length-11
     same-length-12
+    returns-2
+    try-row-requires
+    join-requires
     same-length-13
     same-length-14
     same-length-15
     same-length-16
     same-length-17
     same-length-18
-    returns-2
-    try-row-requires
-    join-requires
     same-length-19
     same-length-20
-    same-length-21
-    same-length-22
-    same-length-23
-    same-length-24
-    same-length-25
-    same-length-26
-    same-length-27
-    same-length-28
-    same-length-29
     returns-3)

@@ -1,48 +1,85 @@
 -- `sift::try_terms` meets its contract: divisibility, then a search where that left all as it was.
 use native.Mathlib.Omega.{arith}
-use Rattle.numeric.specs.Threshold.{terms}
+use mathlib.Core.List.{List}
+use Rattle.numeric.specs.Threshold.{Term, terms}
 use Rattle.queues.specs.Queue.{queue}
-use Rattle.queues.specs.Marks.{marks}
-use Rattle.residual.specs.Residual.{residual}
+use Rattle.queues.specs.Marks.{Marks, marks}
+use Rattle.residual.specs.Residual.{Residual, residual}
+use Rattle.regions.specs.Drain.{withMarks}
 use Rattle.sift.specs.TryLaws.{tried-search, tried-not}
 use mathlib.Core.Path.{refl}
 use borrow.Author.Needs.{needs}
 use Rattle.sift.proofs.try_terms.Statement.{statement}
 use Rattle.sift.proofs.try_terms.Tie as tie
 
+-- The row's terms.
+abbrev row : tie.Start → List Term
+row p = terms (p .args .conditions .now) (p .args .weights .now)
+
+-- The marks that are lent.
+abbrev entry : tie.Start → Marks
+entry p = let a = p .args in marks (a .sure .now) (a .never .now) (queue (a .node-queue .now) (a .ring))
+
+-- What divisibility came to.
+abbrev forced : tie.After-threshold-residual → Residual
+forced p = let r = p .threshold-residual in
+    let l = r .last .1 .1 .1 in
+    residual (marks (l .0) (l .1 .0) (queue (l .1 .1 .0) (r .result .ring))) (r .result .step) (l .1 .1 .1 .1 .0)
+
 threshold-residual-requires : tie.Need-threshold-residual-requires
-threshold-residual-requires c κs = (
-  record { same = c .before .before .before .before .before .before .before .before .before .before .before .pre .0 .same; below = c .before .before .before .before .before .before .before .before .before .before .before .pre .0 .below; inSure = omega (arith, c .before .before .before .before .before .before .before .before .before .before .before .pre .3 .sures); inNever = omega (arith, c .before .before .before .before .before .before .before .before .before .before .before .pre .3 .nevers) },
-  (omega (arith, c .before .before .before .before .before .before .before .before .before .before .before .pre .1, c .before .before .before .before .before .before .before .before .before .before .before .pre .4 .room), c .before .before .before .before .before .before .before .before .before .before .before .pre .0 .light, c .before .before .before .before .before .before .before .before .before .before .before .pre .3),
-)
+threshold-residual-requires c κs =
+    let start = c .before .before .before .before .before .before .before .before .before .before .before in
+    let w = start .pre in
+    let m = w .3 in
+    let t = w .0 in (
+      record { same = t .same; below = t .below; inSure = omega (arith, m .sures); inNever = omega (arith, m .nevers) },
+      (omega (arith, w .1, w .4 .room), t .light, m),
+    )
 
 number-requires : tie.Need-number-requires
 number-requires c κs = search needs
 
 same-length : tie.Need-same-length
-same-length c = c .before .before .before .before .before .before .before .before .before .before .before .threshold-residual .kept .1 .1 .1 .0
+same-length c =
+    let after-threshold-residual = c .before .before .before .before .before .before .before .before .before .before .before in
+    after-threshold-residual .threshold-residual .kept .1 .1 .1 .0
 
 same-length-2 : tie.Need-same-length-2
-same-length-2 c = c .before .before .before .before .before .before .before .before .before .before .before .threshold-residual .kept .1 .1 .1 .1 .0
+same-length-2 c =
+    let after-threshold-residual = c .before .before .before .before .before .before .before .before .before .before .before in
+    after-threshold-residual .threshold-residual .kept .1 .1 .1 .1 .0
 
 same-length-3 : tie.Need-same-length-3
-same-length-3 c = c .before .before .before .before .before .before .before .before .before .before .before .threshold-residual .kept .1 .1 .1 .1 .1 .0
+same-length-3 c =
+    let after-threshold-residual = c .before .before .before .before .before .before .before .before .before .before .before in
+    after-threshold-residual .threshold-residual .kept .1 .1 .1 .1 .1 .0
 
 same-length-4 : tie.Need-same-length-4
-same-length-4 c = c .before .before .before .before .before .before .before .before .before .before .before .threshold-residual .kept .1 .1 .1 .1 .1 .1 .1 .0
+same-length-4 c =
+    let after-threshold-residual = c .before .before .before .before .before .before .before .before .before .before .before in
+    after-threshold-residual .threshold-residual .kept .1 .1 .1 .1 .1 .1 .1 .0
 
 returns : tie.Need-returns
-returns c = (
-  λ ss d q.
-      tried-not (terms (c .before .before .before .before .before .before .before .before .before .before .before .before .before .before .before .before .before .before .before .before .before .before .before .args .conditions .now) (c .before .before .before .before .before .before .before .before .before .before .before .before .before .before .before .before .before .before .before .before .before .before .before .args .weights .now)) (c .before .before .before .before .before .before .before .before .before .before .before .before .before .before .before .before .before .before .before .before .before .before .before .args .state) (marks (c .before .before .before .before .before .before .before .before .before .before .before .before .before .before .before .before .before .before .before .before .before .before .before .args .sure .now) (c .before .before .before .before .before .before .before .before .before .before .before .before .before .before .before .before .before .before .before .before .before .before .before .args .never .now) (queue (c .before .before .before .before .before .before .before .before .before .before .before .before .before .before .before .before .before .before .before .before .before .before .before .args .nodes .now) (c .before .before .before .before .before .before .before .before .before .before .before .before .before .before .before .before .before .before .before .before .before .before .before .args .ring))) (c .before .before .before .before .before .before .before .before .before .before .before .before .before .before .before .before .before .before .before .before .before .before .before .args .gcds .now) (c .before .before .before .before .before .before .before .before .before .before .before .before .before .before .before .before .before .before .before .before .before .before .before .args .visits) ss d q (residual (marks (c .before .before .before .before .before .before .before .before .before .before .before .threshold-residual .last .1 .1 .1 .0) (c .before .before .before .before .before .before .before .before .before .before .before .threshold-residual .last .1 .1 .1 .1 .0) (queue (c .before .before .before .before .before .before .before .before .before .before .before .threshold-residual .last .1 .1 .1 .1 .1 .0) (c .before .before .before .before .before .before .before .before .before .before .before .threshold-residual .result .ring))) (c .before .before .before .before .before .before .before .before .before .before .before .threshold-residual .result .step) (c .before .before .before .before .before .before .before .before .before .before .before .threshold-residual .last .1 .1 .1 .1 .1 .1 .1 .0)) (c .before .before .before .before .before .before .before .before .before .before .before .threshold-residual .ensures) (c .before .number .result) (c .before .number .ensures) (c .if1 .taken),
-  refl,
-)
+returns c =
+    let after-number = c .before in
+    let after-threshold-residual = after-number .before .before .before .before .before .before .before .before .before .before in
+    let start = after-threshold-residual .before .before .before .before .before .before .before .before .before .before .before .before in (
+      λ v.
+          tried-not (row start) (start .args .state) (withMarks v (entry start)) (start .args .gcds .now) (start .args .visits) (forced after-threshold-residual) (after-threshold-residual .threshold-residual .ensures)
+          (after-number .number .result) (after-number .number .ensures) (c .if1 .taken),
+      refl,
+    )
 
 threshold-possible-sums-requires : tie.Need-threshold-possible-sums-requires
-threshold-possible-sums-requires c κs = (
-  (record { same = c .before .before .before .before .before .before .before .before .before .before .before .before .before .before .before .before .before .before .before .before .before .before .before .before .before .before .pre .0 .same; below = c .before .before .before .before .before .before .before .before .before .before .before .before .before .before .before .before .before .before .before .before .before .before .before .before .before .before .pre .0 .below; inSure = omega (arith, c .before .before .before .before .before .before .before .before .before .before .before .before .before .before .before .before .before .before .before .before .before .before .before .before .before .before .pre .3 .sures, c .before .before .before .before .before .before .before .before .before .before .before .before .before .before .threshold-residual .kept .1 .1 .1 .0); inNever = omega (arith, c .before .before .before .before .before .before .before .before .before .before .before .before .before .before .before .before .before .before .before .before .before .before .before .before .before .before .pre .3 .nevers, c .before .before .before .before .before .before .before .before .before .before .before .before .before .before .threshold-residual .kept .1 .1 .1 .1 .0) }, c .before .before .before .before .before .before .before .before .before .before .before .before .before .before .before .before .before .before .before .before .before .before .before .before .before .before .pre .1, c .before .before .before .before .before .before .before .before .before .before .before .before .before .before .before .before .before .before .before .before .before .before .before .before .before .before .pre .2),
-  (c .before .before .before .before .before .before .before .before .before .before .before .before .before .before .before .before .before .before .before .before .before .before .before .before .before .before .pre .4 .long, c .before .before .before .before .before .before .before .before .before .before .before .before .before .before .before .before .before .before .before .before .before .before .before .before .before .before .pre .4 .zero),
-)
+threshold-possible-sums-requires c κs =
+    let after-threshold-residual = c .before .before .before .before .before .before .before .before .before .before .before .before .before .before in
+    let start = after-threshold-residual .before .before .before .before .before .before .before .before .before .before .before .before in
+    let w = start .pre in
+    let t = w .0 in
+    let k = after-threshold-residual .threshold-residual .kept .1 .1 .1 in (
+      (record { same = t .same; below = t .below; inSure = omega (arith, w .3 .sures, k .0); inNever = omega (arith, w .3 .nevers, k .1 .0) }, w .1, w .2),
+      (w .4 .long, w .4 .zero),
+    )
 
 visits-requires : tie.Need-visits-requires
 visits-requires c κs = search needs
@@ -51,27 +88,44 @@ step-requires : tie.Need-step-requires
 step-requires c κs = search needs
 
 same-length-5 : tie.Need-same-length-5
-same-length-5 c = c .before .before .before .before .before .before .before .before .before .before .before .before .before .before .before .before .before .before .before .threshold-residual .kept .1 .1 .1 .0
+same-length-5 c =
+    let after-threshold-residual = c .before .before .before .before .before .before .before .before .before .before .before .before .before .before .before .before .before .before .before in
+    after-threshold-residual .threshold-residual .kept .1 .1 .1 .0
 
 same-length-6 : tie.Need-same-length-6
-same-length-6 c = c .before .before .before .before .before .before .before .before .before .before .before .before .before .before .before .before .before .before .before .threshold-residual .kept .1 .1 .1 .1 .0
+same-length-6 c =
+    let after-threshold-residual = c .before .before .before .before .before .before .before .before .before .before .before .before .before .before .before .before .before .before .before in
+    after-threshold-residual .threshold-residual .kept .1 .1 .1 .1 .0
 
 same-length-7 : tie.Need-same-length-7
-same-length-7 c = c .before .before .before .before .before .before .before .before .before .before .before .before .before .before .before .before .before .before .before .threshold-residual .kept .1 .1 .1 .1 .1 .0
+same-length-7 c =
+    let after-threshold-residual = c .before .before .before .before .before .before .before .before .before .before .before .before .before .before .before .before .before .before .before in
+    after-threshold-residual .threshold-residual .kept .1 .1 .1 .1 .1 .0
 
 same-length-8 : tie.Need-same-length-8
-same-length-8 c = c .before .before .before .before .before .before .before .before .before .before .before .before .before .before .before .before .before .before .before .threshold-residual .kept .1 .1 .1 .1 .1 .1 .1 .0
+same-length-8 c =
+    let after-threshold-residual = c .before .before .before .before .before .before .before .before .before .before .before .before .before .before .before .before .before .before .before in
+    after-threshold-residual .threshold-residual .kept .1 .1 .1 .1 .1 .1 .1 .0
 
 same-length-9 : tie.Need-same-length-9
-same-length-9 c = c .before .before .before .before .threshold-possible-sums .kept .1 .1 .1 .1 .1 .0
+same-length-9 c =
+    let after-threshold-possible-sums = c .before .before .before .before in
+    after-threshold-possible-sums .threshold-possible-sums .kept .1 .1 .1 .1 .1 .0
 
 returns-2 : tie.Need-returns-2
-returns-2 c = (
-  λ ss d q.
-      tried-search (terms (c .before .before .before .before .before .before .before .before .before .before .before .before .before .before .before .before .before .before .before .before .before .before .before .before .before .before .before .before .before .before .before .args .conditions .now) (c .before .before .before .before .before .before .before .before .before .before .before .before .before .before .before .before .before .before .before .before .before .before .before .before .before .before .before .before .before .before .before .args .weights .now)) (c .before .before .before .before .before .before .before .before .before .before .before .before .before .before .before .before .before .before .before .before .before .before .before .before .before .before .before .before .before .before .before .args .state) (marks (c .before .before .before .before .before .before .before .before .before .before .before .before .before .before .before .before .before .before .before .before .before .before .before .before .before .before .before .before .before .before .before .args .sure .now) (c .before .before .before .before .before .before .before .before .before .before .before .before .before .before .before .before .before .before .before .before .before .before .before .before .before .before .before .before .before .before .before .args .never .now) (queue (c .before .before .before .before .before .before .before .before .before .before .before .before .before .before .before .before .before .before .before .before .before .before .before .before .before .before .before .before .before .before .before .args .nodes .now) (c .before .before .before .before .before .before .before .before .before .before .before .before .before .before .before .before .before .before .before .before .before .before .before .before .before .before .before .before .before .before .before .args .ring))) (c .before .before .before .before .before .before .before .before .before .before .before .before .before .before .before .before .before .before .before .before .before .before .before .before .before .before .before .before .before .before .before .args .gcds .now) (c .before .before .before .before .before .before .before .before .before .before .before .before .before .before .before .before .before .before .before .before .before .before .before .before .before .before .before .before .before .before .before .args .visits) ss d q (residual (marks (c .before .before .before .before .before .before .before .before .before .before .before .before .before .before .before .before .before .before .before .threshold-residual .last .1 .1 .1 .0) (c .before .before .before .before .before .before .before .before .before .before .before .before .before .before .before .before .before .before .before .threshold-residual .last .1 .1 .1 .1 .0) (queue (c .before .before .before .before .before .before .before .before .before .before .before .before .before .before .before .before .before .before .before .threshold-residual .last .1 .1 .1 .1 .1 .0) (c .before .before .before .before .before .before .before .before .before .before .before .before .before .before .before .before .before .before .before .threshold-residual .result .ring))) (c .before .before .before .before .before .before .before .before .before .before .before .before .before .before .before .before .before .before .before .threshold-residual .result .step) (c .before .before .before .before .before .before .before .before .before .before .before .before .before .before .before .before .before .before .before .threshold-residual .last .1 .1 .1 .1 .1 .1 .1 .0)) (c .before .before .before .before .before .before .before .before .before .before .before .before .before .before .before .before .before .before .before .threshold-residual .ensures) (c .before .before .before .before .before .before .before .before .before .number .result) (c .before .before .before .before .before .before .before .before .before .number .ensures) (c .before .before .before .before .before .before .before .before .if1 .left)
-      (c .before .before .before .before .threshold-possible-sums .result) (c .before .before .before .before .threshold-possible-sums .ensures .0) (c .step .result) (c .step .ensures) (c .before .visits .result) (c .before .visits .ensures),
-  c .before .before .before .before .threshold-possible-sums .ensures .1,
-)
+returns-2 c =
+    let after-visits = c .before in
+    let after-threshold-possible-sums = after-visits .before .before .before in
+    let else1 = after-threshold-possible-sums .before .before .before .before in
+    let after-number = else1 .before in
+    let after-threshold-residual = after-number .before .before .before .before .before .before .before .before .before .before in
+    let start = after-threshold-residual .before .before .before .before .before .before .before .before .before .before .before .before in
+    let f = after-threshold-possible-sums .threshold-possible-sums in (
+      λ v.
+          tried-search (row start) (start .args .state) (withMarks v (entry start)) (start .args .gcds .now) (start .args .visits) (forced after-threshold-residual) (after-threshold-residual .threshold-residual .ensures)
+          (after-number .number .result) (after-number .number .ensures) (else1 .if1 .left) (f .result) (f .ensures .0) (c .step .result) (c .step .ensures) (after-visits .visits .result) (after-visits .visits .ensures),
+      f .ensures .1,
+    )
 
 pub try-terms-spec : {M : Type 1} → statement M
 try-terms-spec =

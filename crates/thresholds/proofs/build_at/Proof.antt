@@ -1,4 +1,5 @@
 -- `thresholds::build_at` meets its contract. Assumes nothing.
+use Rattle.memory.specs.Limits.{maxNodes, rawLimit}
 use Rattle.numeric.specs.Threshold.{terms}
 use Rattle.row.specs.Terms.{rowTerms}
 use Rattle.row.specs.Keys.{conditionsOf, weightsOf}
@@ -81,8 +82,8 @@ build-row-requires : tie.Need-build-row-requires
 build-row-requires c κs =
     let g = c .before .before .before .before .before .before .before .before .before .before .args in
     let p = c .before .before .before .before .before .before .before .before .before .before .pre in
-    let cs = g .conditions .now in
-    let ws = g .weights .now in
+    let cs = g .raw-conditions .now in
+    let ws = g .raw-weights .now in
     let lc = stretch-length (g .a) (g .e) cs (p .1) in
     let to = g .at + (g .e - g .a) in
     let lw = stretch-length (g .a) (g .e) ws (omega arith) in
@@ -93,8 +94,9 @@ build-row-requires c κs =
       omega (arith, lr, lc),
       omega (arith, lv, lc),
       omega (arith, lc, p .3, p .0),
-      omega (arith, lc, p .3, p .0, ls, p .7),
-      stretch-small (g .a) (g .e) cs 4096 (p .6),
+      omega (arith, lc, p .3, p .0, ls, p .8),
+      stretch-small (g .a) (g .e) cs maxNodes (p .6),
+      stretch-small (g .a) (g .e) ws rawLimit (p .7),
     )
 
 add-result : tie.Need-add-result
@@ -113,8 +115,8 @@ returns : tie.Need-returns
 returns c =
     let g = c .before .before .before .before .before .before .before .before .before .before .before .before .before .before .before .before .before .args in
     let p = c .before .before .before .before .before .before .before .before .before .before .before .before .before .before .before .before .before .pre in
-    let cs = g .conditions .now in
-    let ws = g .weights .now in
+    let cs = g .raw-conditions .now in
+    let ws = g .raw-weights .now in
     let lc = stretch-length (g .a) (g .e) cs (p .1) in
     let x = rowTerms (terms (stretch (g .a) (g .e) cs) (stretch (g .a) (g .e) ws)) in
     let s = c .before .before .before .before .before .before .build-row .ensures in
@@ -128,7 +130,7 @@ returns c =
       splice-by at m (at + m - at) _ (g .row-conditions .now) _ (conditionsOf x) (s .2) lc f,
       splice-by at m (at + m - at) _ (g .row-weights .now) _ (weightsOf x) (s .3) lc f,
       ap (λ (y : List ℕ). take 1024 (g .scratch .now) ++ (y ++ drop (length (g .scratch .now) - 1024) (drop 1024 (g .scratch .now)))) (s .4)
-          ∙ clear-part (g .scratch .now) 1024 (length (stretch (g .a) (g .e) cs)) (omega (arith, p .7)) (p .8) (omega (arith, lc, p .3, p .0, p .7)),
+          ∙ clear-part (g .scratch .now) 1024 (length (stretch (g .a) (g .e) cs)) (omega (arith, p .8)) (p .9) (omega (arith, lc, p .3, p .0, p .8)),
     )
 
 pub build-at-spec : {M : Type 1} → statement M

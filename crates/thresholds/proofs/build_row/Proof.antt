@@ -21,11 +21,11 @@ new-row-requires c κs =
     let g = c .before .before .before .before .before .before .before .before .before .before .before .before .before .before .before .args in
     let p = c .before .before .before .before .before .before .before .before .before .before .before .before .before .before .before .pre in
     let k = c .before .before .before .before .before .before .before .copy-list .ensures in
-    let r : Raw (g .conditions .now) (g .weights .now) = record {
+    let r : Raw (g .raw-conditions .now) (g .raw-weights .now) = record {
       even = sym (p .0);
       few = p .3;
       conditions = p .5;
-      weights = λ i. omega (arith, c .before .before .before .before .before .before .before .before .before .before .before .before .before .shared-slice-known2 .given i);
+      weights = p .6;
     } in
     (raw-by _ _ _ _ (k .0) (k .1) r, subst (λ (n : ℕ). n ≤ length (g .scratch .now)) (sym (ap length (k .0))) (p .4))
 
@@ -46,8 +46,8 @@ returns c =
     let a = s .1 ∙ ap₂ (λ (cs ws : List ℕ). laid (length cs) (conditionsOf (rowTerms (terms cs ws)))) (k .0) (k .1) in
     let n = s .0 ∙ ap₂ (λ (cs ws : List ℕ). length (rowTerms (terms cs ws))) (k .0) (k .1) in (
       n,
-      subst (λ (m : ℕ). m ≤ length (g .conditions .now)) (sym n)
-          (laid-fits (λ (t : Term). t .condition) (rowTerms (terms (g .conditions .now) (g .weights .now))) _ (length (g .conditions .now)) a (c .before .before .before .before .before .before .new-row .kept .0 ∙ ap length (k .0))),
+      subst (λ (m : ℕ). m ≤ length (g .raw-conditions .now)) (sym n)
+          (laid-fits (λ (t : Term). t .condition) (rowTerms (terms (g .raw-conditions .now) (g .raw-weights .now))) _ (length (g .raw-conditions .now)) a (c .before .before .before .before .before .before .new-row .kept .0 ∙ ap length (k .0))),
       a,
       s .2 ∙ ap₂ (λ (cs ws : List ℕ). laid (length cs) (weightsOf (rowTerms (terms cs ws)))) (k .0) (k .1),
       s .3 ∙ ap (λ (cs : List ℕ). cleared (length cs) (g .scratch .now)) (k .0),

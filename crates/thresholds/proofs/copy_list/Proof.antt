@@ -39,9 +39,6 @@ mul-row-weights c = search needs
 shared-slice-read-row-weights : tie.Need-shared-slice-read-row-weights Inv-loop μ-loop
 shared-slice-read-row-weights c = search needs
 
-cast-row-weights : tie.Need-cast-row-weights Inv-loop μ-loop
-cast-row-weights c = omega (arith, c .shared-slice-known2 .given (c .before .before .before .loop .i))
-
 mul-row-weights-2 : tie.Need-mul-row-weights-2 Inv-loop μ-loop
 mul-row-weights-2 c = search needs
 
@@ -64,8 +61,8 @@ loop-again c =
     let p = c .before .before .before .before .pre in
     let t = c .before .before .loop-test .taken in (
       omega arith,
-      ap (λ (l : List ℕ). set l (w .i) (getD (g .conditions .now) (w .i) 0)) (w .inv .1) ∙ blend-next (w .i) (g .conditions .now) (g .row-conditions .now) 0 t (omega (arith, p .1, t)),
-      ap (λ (l : List ℕ). set l (w .i) (getD (g .weights .now) (w .i) 0)) (w .inv .2) ∙ blend-next (w .i) (g .weights .now) (g .row-weights .now) 0 (omega (arith, p .0, t)) (omega (arith, p .2, t)),
+      ap (λ (l : List ℕ). set l (w .i) (getD (g .raw-conditions .now) (w .i) 0)) (w .inv .1) ∙ blend-next (w .i) (g .raw-conditions .now) (g .row-conditions .now) 0 t (omega (arith, p .1, t)),
+      ap (λ (l : List ℕ). set l (w .i) (getD (g .raw-weights .now) (w .i) 0)) (w .inv .2) ∙ blend-next (w .i) (g .raw-weights .now) (g .row-weights .now) 0 (omega (arith, p .0, t)) (omega (arith, p .2, t)),
       simp length-set (w .inv .3),
       simp length-set (w .inv .4),
     )
@@ -82,8 +79,8 @@ returns c =
     let w = c .before .loop in
     let p = c .before .before .pre in
     let t = c .loop-test .left in (
-      w .inv .1 ∙ blend-all (w .i) (g .conditions .now) (g .row-conditions .now) t (omega (arith, p .1, t)),
-      w .inv .2 ∙ blend-all (w .i) (g .weights .now) (g .row-weights .now) (omega (arith, p .0, t)) (omega (arith, p .2, t)),
+      w .inv .1 ∙ blend-all (w .i) (g .raw-conditions .now) (g .row-conditions .now) t (omega (arith, p .1, t)),
+      w .inv .2 ∙ blend-all (w .i) (g .raw-weights .now) (g .row-weights .now) (omega (arith, p .0, t)) (omega (arith, p .2, t)),
     )
 
 pub copy-list-spec : {M : Type 1} → statement M
@@ -99,7 +96,6 @@ copy-list-spec =
     slice-write-row-conditions
     mul-row-weights
     shared-slice-read-row-weights
-    cast-row-weights
     mul-row-weights-2
     slice-write-row-weights
     add-i

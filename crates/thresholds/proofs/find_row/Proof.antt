@@ -1,7 +1,8 @@
 -- `thresholds::find_row` meets its contract. Assumes nothing.
 use Rattle.thresholds.specs.ChainLaws.{print-small, search-start, search-on, search-found, search-none}
 use Rattle.thresholds.specs.Chain.{classOf, Searching}
-use Rattle.thresholds.specs.Raw.{raw, listAt}
+use Rattle.memory.specs.Buffers.{rawLists}
+use Rattle.thresholds.specs.Raw.{listAt}
 use mathlib.Core.Path.{refl, sym, ap, _∙_}
 use Prim.Native.Nat.{ℕ, _-_, _<_}
 use native.Mathlib.Omega.{arith}
@@ -11,7 +12,7 @@ use Rattle.thresholds.proofs.find_row.Statement.{statement}
 use Rattle.thresholds.proofs.find_row.Tie as tie
 
 abbrev Inv-loop : tie.InvT-loop
-Inv-loop conditions weights thresholds marks heads print t class k₀ k = Searching (raw conditions weights thresholds) marks (listAt (raw conditions weights thresholds) t) k
+Inv-loop conditions weights thresholds marks heads print t class k₀ k = Searching (rawLists conditions weights thresholds) marks (listAt (rawLists conditions weights thresholds) t) k
 
 abbrev μ-loop : tie.MeasureT-loop
 μ-loop conditions weights thresholds marks heads print t class k₀ k = k
@@ -20,7 +21,7 @@ class-of-requires : tie.Need-class-of-requires Inv-loop μ-loop
 class-of-requires c κs = let g = c .before .before .before .before .args in
     let p = c .before .before .before .before .pre in
     let e = p .5 in
-    let h = print-small (raw (g .conditions .now) (g .weights .now) (g .thresholds .now)) (g .t) (p .0) (p .1) in
+    let h = print-small (rawLists (g .raw-conditions .now) (g .raw-weights .now) (g .thresholds .now)) (g .t) (p .0) (p .1) in
     omega arith
 
 mul-place : tie.Need-mul-place Inv-loop μ-loop
@@ -35,7 +36,7 @@ place-requires c κs = search needs
 loop-holds : tie.Need-loop-holds Inv-loop μ-loop
 loop-holds c = let g = c .before .before .before .before .before .before .before .args in
     let p = c .before .before .before .before .before .before .before .pre in
-    let r = raw (g .conditions .now) (g .weights .now) (g .thresholds .now) in
+    let r = rawLists (g .raw-conditions .now) (g .raw-weights .now) (g .thresholds .now) in
     search-start r (length (g .thresholds .now)) (g .marks .now) (listAt r (g .t)) (p .2) (g .heads .now) _ (p .3)
     (c .place .ensures .0 ∙ ap (λ (h : ℕ). getD (g .heads .now) h 0) (c .before .before .class-of .ensures .0 ∙ ap classOf (p .5)))
 
@@ -67,7 +68,7 @@ sub-t20 c = let h = c .before .before .before .loop-test .taken in omega arith
 returns : tie.Need-returns Inv-loop μ-loop
 returns c = let g = c .before .before .before .before .before .before .before .before .before .before .before .before .args in
     let p = c .before .before .before .before .before .before .before .before .before .before .before .before .pre in
-    let r = raw (g .conditions .now) (g .weights .now) (g .thresholds .now) in
+    let r = rawLists (g .raw-conditions .now) (g .raw-weights .now) (g .thresholds .now) in
     let w = c .before .before .before .before .loop in
     let t = c .before .before .before .loop-test .taken in
     let f = w .inv .few in
@@ -76,21 +77,21 @@ returns c = let g = c .before .before .before .before .before .before .before .b
 loop-less : tie.Need-loop-less Inv-loop μ-loop
 loop-less c = let g = c .before .before .before .before .before .before .before .before .before .before .before .before .args in
     let p = c .before .before .before .before .before .before .before .before .before .before .before .before .pre in
-    let r = raw (g .conditions .now) (g .weights .now) (g .thresholds .now) in
+    let r = rawLists (g .raw-conditions .now) (g .raw-weights .now) (g .thresholds .now) in
     let w = c .before .before .before .before .loop in
     search-on r (length (g .thresholds .now)) (g .marks .now) (listAt r (g .t)) (p .2) (w .k) _ (w .inv) (c .before .before .before .loop-test .taken) (sym (c .before .is-marked .ensures) ∙ c .if1 .left) refl .1
 
 loop-again : tie.Need-loop-again Inv-loop μ-loop
 loop-again c = let g = c .before .before .before .before .before .before .before .before .before .before .before .before .args in
     let p = c .before .before .before .before .before .before .before .before .before .before .before .before .pre in
-    let r = raw (g .conditions .now) (g .weights .now) (g .thresholds .now) in
+    let r = rawLists (g .raw-conditions .now) (g .raw-weights .now) (g .thresholds .now) in
     let w = c .before .before .before .before .loop in
     search-on r (length (g .thresholds .now)) (g .marks .now) (listAt r (g .t)) (p .2) (w .k) _ (w .inv) (c .before .before .before .loop-test .taken) (sym (c .before .is-marked .ensures) ∙ c .if1 .left) refl .0
 
 returns-2 : tie.Need-returns-2 Inv-loop μ-loop
 returns-2 c = let g = c .before .before .before .before .before .before .before .before .before .args in
     let p = c .before .before .before .before .before .before .before .before .before .pre in
-    let r = raw (g .conditions .now) (g .weights .now) (g .thresholds .now) in
+    let r = rawLists (g .raw-conditions .now) (g .raw-weights .now) (g .thresholds .now) in
     let h = c .loop-test .left in
     search-none r (length (g .thresholds .now)) (g .marks .now) (listAt r (g .t)) (p .2) (c .before .loop .k) (omega arith) (c .before .loop .inv)
 

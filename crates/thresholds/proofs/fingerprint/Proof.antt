@@ -3,7 +3,7 @@ use lib.Dec.{lit<}
 use native.Mathlib.Nat.{mod-lt}
 use Rattle.thresholds.specs.RawLaws.{mixed-next, mixed-done, fingerprint-of}
 use Rattle.numeric.specs.Threshold.{terms}
-use Rattle.thresholds.specs.Raw.{mixed as mixedOf}
+use Rattle.thresholds.specs.Raw.{prints, mixed as mixedOf}
 use mathlib.Core.Path.{_≡_, refl, sym, _∙_}
 use Prim.Native.Nat.{_+_, _*_, _-_, _<_, _≤_}
 use native.Mathlib.Omega.{arith}
@@ -13,7 +13,7 @@ use Rattle.thresholds.proofs.fingerprint.Statement.{statement}
 use Rattle.thresholds.proofs.fingerprint.Tie as tie
 
 abbrev Inv-loop : tie.InvT-loop
-Inv-loop conditions weights mixed₀ i₀ mixed i = (i ≤ length conditions) × (mixed < 4294967296) × (mixedOf mixed (terms (drop i conditions) (drop i weights)) ≡ mixedOf (length conditions) (terms conditions weights))
+Inv-loop conditions weights mixed₀ i₀ mixed i = (i ≤ length conditions) × (mixed < prints) × (mixedOf mixed (terms (drop i conditions) (drop i weights)) ≡ mixedOf (length conditions) (terms conditions weights))
 
 abbrev μ-loop : tie.MeasureT-loop
 μ-loop conditions weights mixed₀ i₀ mixed i = length conditions - i
@@ -45,11 +45,10 @@ mul-mixed-4 c = search needs
 shared-slice-read-mixed-2 : tie.Need-shared-slice-read-mixed-2 Inv-loop μ-loop
 shared-slice-read-mixed-2 c = search needs
 
-cast-mixed-2 : tie.Need-cast-mixed-2 Inv-loop μ-loop
-cast-mixed-2 c = omega (arith, c .shared-slice-known2 .given (c .before .before .before .loop .i))
-
 add-mixed-2 : tie.Need-add-mixed-2 Inv-loop μ-loop
-add-mixed-2 c = omega (arith, c .shared-slice-known2 .given (c .before .before .before .loop .i), c .before .shared-slice-known .given (c .before .before .before .loop .i))
+add-mixed-2 c =
+    let i = c .before .before .before .loop .i in
+    omega (arith, c .before .before .before .before .pre .2 i, c .before .shared-slice-known .given i)
 
 add-i : tie.Need-add-i Inv-loop μ-loop
 add-i c = search needs
@@ -84,7 +83,6 @@ fingerprint-spec =
     add-mixed
     mul-mixed-4
     shared-slice-read-mixed-2
-    cast-mixed-2
     add-mixed-2
     add-i
     loop-less

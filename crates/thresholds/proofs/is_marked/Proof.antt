@@ -1,7 +1,8 @@
 -- `thresholds::is_marked` meets its contract. Assumes nothing.
 use Rattle.thresholds.specs.RawLaws.{list-is}
 use Rattle.thresholds.specs.ChainLaws.{prints-differ}
-use Rattle.thresholds.specs.Raw.{raw, startOf, endOf, listAt}
+use Rattle.memory.specs.Buffers.{rawLists}
+use Rattle.thresholds.specs.Raw.{startOf, endOf, listAt}
 use Rattle.row.specs.Terms.{sameTerms}
 use mathlib.Core.Path.{_≡_, sym, ap₂, _∙_}
 use Prim.Native.Nat.{_%_}
@@ -13,7 +14,7 @@ use Rattle.thresholds.proofs.is_marked.Tie as tie
 returns : tie.Need-returns
 returns c = let g = c .before .before .before .args in
     let p = c .before .before .before .pre in
-    let r = raw (g .conditions .now) (g .weights .now) (g .thresholds .now) in
+    let r = rawLists (g .raw-conditions .now) (g .raw-weights .now) (g .thresholds .now) in
     sym (prints-differ r (g .mark) (listAt r (g .t)) (p .3) (λ e. c .if1 .taken (e ∙ sym (p .4))))
 
 start-of-requires : tie.Need-start-of-requires
@@ -42,7 +43,7 @@ same-stretch-requires c κs = let g = c .before .before .before .before .before 
 
 returns-2 : tie.Need-returns-2
 returns-2 c = let g = c .before .before .before .before .before .before .before .before .args in
-    let r = raw (g .conditions .now) (g .weights .now) (g .thresholds .now) in
+    let r = rawLists (g .raw-conditions .now) (g .raw-weights .now) (g .thresholds .now) in
     c .same-stretch .ensures
     ∙ ap₂ sameTerms (list-is r (g .mark % 1024) (c .before .before .before .before .start-of .result) (c .before .before .before .end-of .result) (c .before .before .before .before .start-of .ensures) (c .before .before .before .end-of .ensures))
     (list-is r (g .t) (c .before .before .start-of2 .result) (c .before .end-of2 .result) (c .before .before .start-of2 .ensures) (c .before .end-of2 .ensures))

@@ -1,6 +1,7 @@
 -- `thresholds::print_of` meets its contract. Assumes nothing.
 use Rattle.thresholds.specs.RawLaws.{list-is}
-use Rattle.thresholds.specs.Raw.{raw, startOf, endOf, fingerprint}
+use Rattle.memory.specs.Buffers.{rawLists}
+use Rattle.thresholds.specs.Raw.{startOf, endOf, fingerprint}
 use mathlib.Core.Path.{_≡_, ap, _∙_}
 use native.Mathlib.Omega.{arith}
 use borrow.Author.Needs.{needs}
@@ -20,13 +21,13 @@ print-stretch-requires c κs =
     let ts = g .thresholds .now in
     let a : c .before .start-of .result ≡ startOf ts (g .t) = c .before .start-of .ensures in
     let e : c .end-of .result ≡ endOf ts (g .t) = c .end-of .ensures in
-    (omega (arith, p .0 .rising (g .t) (p .1)), omega (arith, p .0 .inside (g .t) (p .1)), omega (arith, p .0 .short (g .t) (p .1)), p .0 .weighed)
+    (omega (arith, p .0 .rising (g .t) (p .1)), omega (arith, p .0 .inside (g .t) (p .1)), omega (arith, p .0 .short (g .t) (p .1)), p .0 .weighed, p .0 .light)
 
 returns : tie.Need-returns
 returns c =
     let g = c .before .before .before .before .before .args in
     c .print-stretch .ensures
-    ∙ ap fingerprint (list-is (raw (g .conditions .now) (g .weights .now) (g .thresholds .now)) (g .t) _ _ (c .before .before .start-of .ensures) (c .before .end-of .ensures))
+    ∙ ap fingerprint (list-is (rawLists (g .raw-conditions .now) (g .raw-weights .now) (g .thresholds .now)) (g .t) _ _ (c .before .before .start-of .ensures) (c .before .end-of .ensures))
 
 pub print-of-spec : {M : Type 1} → statement M
 print-of-spec =
