@@ -2,7 +2,6 @@ pub mod Cases
 pub mod Reading
 pub mod Demands
 pub mod RefusalLaws
-pub mod JobLaws
 pub mod ReadLaws
 pub mod ShutOutLaws
 pub mod MemoryLaws

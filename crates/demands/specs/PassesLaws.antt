@@ -3,14 +3,14 @@
 use Prim.Native.Nat.{ℕ}
 use native.Mathlib.Omega.{arith}
 use mathlib.Core.Path.{_≡_, refl, sym, ap, _∙_, subst}
-use mathlib.Core.Bool.{Bool, false}
+use mathlib.Core.Bool.{false}
 use mathlib.Core.List.{List, [], _∷_, _++_}
 use lib.ListN.{length, length-append}
-use Rattle.numeric.specs.Threshold.{Job}
 use Rattle.records.specs.declared.Record.{Record}
-use Rattle.records.specs.Facts.{Action, begins, changes, closes, decides, settles, sifts, idles, action, facts}
-use Rattle.records.specs.Checks.{Standing, first, checks}
-use Rattle.job.specs.Job.{lastNode, lastTerms, allTerms, isEmptyList}
+use Rattle.records.specs.Facts.{Action, begins, changes, closes, decides, settles, sifts, idles, action}
+use Rattle.records.specs.declared.Standing.{Standing}
+use Rattle.records.specs.Checks.{refusedBy}
+use Rattle.job.specs.Job.{standingOf}
 use Rattle.planner.specs.File.{File, Answer, contradicted, begun, standing, refusal, sealedFile, markedFile, settledFile, siftedFile, act, apply, planned}
 use Rattle.ends.specs.Files.{taken, Passed, planned-passed}
 use Rattle.demands.specs.Reading.{records, decoded, plain, plainly, Passes}
@@ -24,24 +24,10 @@ pub record Alike (f g : File) : Type 0 where
 
 alike-standing : (f g : File) → Alike f g → standing f ≡ standing g
 alike-standing f g a = λ i. standingOf (a .level .started i) (a .level .sealed i) (a .contradicted i) (a .level .job i) (a .answers i)
-  where
-    standingOf : Bool → Bool → Bool → Job → ℕ → Standing
-    standingOf s e c j n = record {
-      started = s;
-      sealed = e;
-      contradicted = c;
-      empty = isEmptyList (j .thresholds);
-      nodes = j .nodes;
-      last = lastNode (j .thresholds);
-      listed = lastTerms (j .thresholds);
-      thresholds = length (j .thresholds);
-      terms = allTerms (j .thresholds);
-      answers = n;
-    }
 
 alike-refusal : (f g : File) (r : Record) → Alike f g → refusal f r ≡ refusal g r
 unfolding refusal
-alike-refusal f g r a = ap (λ (s : Standing). first (checks s false false (facts (action r)))) (alike-standing f g a)
+alike-refusal f g r a = ap (λ (s : Standing). refusedBy s r) (alike-standing f g a)
 
 more-answers : (xs ys : List Answer) (x y : Answer) → length xs ≡ length ys → length (xs ++ (x ∷ [])) ≡ length (ys ++ (y ∷ []))
 more-answers xs ys x y e = omega (arith, length-append xs (x ∷ []), e, length-append ys (y ∷ []))

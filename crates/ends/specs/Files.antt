@@ -25,9 +25,10 @@ use Rattle.records.specs.declared.Record.{Record}
 use Rattle.records.specs.declared.Record.the-variants.{Settle, Sift}
 use Rattle.records.specs.Record.{kindOf, bodyLength}
 use Rattle.records.specs.Facts.{building, within, serving, Facts, Change, opens, adds, Action, begins, changes, closes, decides, settles, sifts, idles, action, facts}
-use Rattle.records.specs.Checks.{anyOf, wrongTurn, notRising, badBound, tooMany, Check, check, first}
-use Rattle.job.specs.Job.{changed, isEmptyList, lastTerms, allTerms}
-use Rattle.planner.specs.File.{File, contradicted, begun, standing, refusal, sealedFile, markedFile, settledFile, siftedFile, act, apply, Outcome, outcome, recordAt, unknownKind, cutBody, refusalAt, readFrom, fileOf, planned, after}
+use Rattle.records.specs.Checks.{noThreshold, wrongTurn}
+use Rattle.records.specs.CheckLaws.{Passes, passes}
+use Rattle.job.specs.Job.{changed, lastTerms, allTerms}
+use Rattle.planner.specs.File.{File, contradicted, noJob, begun, standing, refusal, sealedFile, markedFile, settledFile, siftedFile, act, apply, Outcome, outcome, recordAt, unknownKind, cutBody, refusalAt, readFrom, fileOf, planned, after}
 use Rattle.planner.specs.FileLaws.{checked, after-snoc}
 use Rattle.ends.specs.Rooms.{Bounded, none-bounded}
 use Rattle.ends.specs.Turns.{Sound}
@@ -64,35 +65,13 @@ good-begun = record {
 
 -- ---- what a record that is not refused has
 
-first-not : (b : Bool) (n : ℕ) (cs : List Check) → 0 < n → first (check b n ∷ cs) ≡ 0 → (b ≡ false) × (first cs ≡ 0)
-unfolding first
-first-not true n cs h e = absurd (omega arith)
-first-not false n cs h e = (refl, e)
-
 -- Each check that it passed.
-pub record Taken (f : File) (x : Facts) : Type 0 where
-  pub turn : wrongTurn (standing f) (x .turn) ≡ false
-  pub fine : contradicted f ≡ false
-  pub nodes : anyOf (leb (f .job .nodes)) (x .nodes) ≡ false
-  pub rising : anyOf (notRising (standing f)) (x .rising) ≡ false
-  pub bounds : anyOf badBound (x .bounds) ≡ false
-  pub values : anyOf (ltb 1) (x .values) ≡ false
-  pub room : tooMany (standing f) (x .counts) ≡ false
+abbrev pub Taken : File → Facts → Type 0
+Taken f x = Passes (standing f) x
 
 pub taken : (f : File) (r : Record) → refusal f r ≡ 0 → Taken f (facts (action r))
 unfolding refusal
-taken f r h =
-    let x = facts (action r) in
-    let u = first-not false 2 _ (omega arith) h in
-    let v = first-not false 1 _ (omega arith) (u .1) in
-    let a = first-not (wrongTurn (standing f) (x .turn)) 3 _ (omega arith) (v .1) in
-    let b = first-not (contradicted f) 9 _ (omega arith) (a .1) in
-    let c = first-not (anyOf (leb (f .job .nodes)) (x .nodes)) 5 _ (omega arith) (b .1) in
-    let d = first-not (anyOf (notRising (standing f)) (x .rising)) 6 _ (omega arith) (c .1) in
-    let e = first-not (anyOf badBound (x .bounds)) 7 _ (omega arith) (d .1) in
-    let g = first-not (anyOf (ltb 1) (x .values)) 8 _ (omega arith) (e .1) in
-    let k = first-not (tooMany (standing f) (x .counts)) 4 _ (omega arith) (g .1) in
-    record { turn = a .0; fine = b .0; nodes = c .0; rising = d .0; bounds = e .0; values = g .0; room = k .0 }
+taken f r h = passes (standing f) (facts (action r)) h
 
 -- What the turns say of the file.
 pub building-turn : (f : File) → wrongTurn (standing f) building ≡ false → (f .started ≡ true) × (f .sealed ≡ false)
@@ -105,7 +84,7 @@ building-turn f h = by (f .started) (f .sealed) h
 pub within-turn : (f : File) → wrongTurn (standing f) within ≡ false → (f .started ≡ true) × (f .sealed ≡ false)
 within-turn f h = by (f .started) (f .sealed) h
   where
-    by : (s e : Bool) → (not s || e || isEmptyList (f .job .thresholds)) ≡ false → (s ≡ true) × (e ≡ false)
+    by : (s e : Bool) → (not s || e || noThreshold (standing f)) ≡ false → (s ≡ true) × (e ≡ false)
     by true true q = absurd (both refl q)
     by true false q = (refl, refl)
     by false e q = absurd (both refl q)

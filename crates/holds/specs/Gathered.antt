@@ -16,7 +16,7 @@ use Rattle.thresholds.specs.Raw.{startOf, endOf, stretch, listAt}
 use Rattle.thresholds.specs.RawLaws.{stretch-length}
 use Rattle.prepare.specs.Given.{thresholdAt}
 use Rattle.prepare.specs.JobBuffers.{builtOf}
-use Rattle.job.specs.declared.Counts.{Counts}
+use Rattle.records.specs.declared.Standing.{Standing}
 use Rattle.job.specs.Gathered.{jobIn, Gathered}
 use Rattle.job.specs.GatheredLaws.{gathered, many, length-at, all-terms}
 use Rattle.ends.specs.Built.{Fit, Fits, Light}
@@ -51,7 +51,7 @@ every-weight P [] ws a = tt
 every-weight P (c ∷ cs) [] a = tt
 every-weight P (c ∷ cs) (w ∷ ws) a = (a .0, every-weight P cs ws (a .1))
 
-module _ (k : Counts) (cs ws : List ℕ) (ts : List (List ℕ)) (bs : List ℤ) (g : Gathered k cs ws ts bs) where
+module _ (k : Standing) (cs ws : List ℕ) (ts : List (List ℕ)) (bs : List ℤ) (g : Gathered k cs ws ts bs) where
   abbrev at : ℕ → Threshold
   at t = thresholdAt (rawLists cs ws ts) bs t
 

@@ -15,8 +15,7 @@ use Rattle.lists.specs.Columns.{column}
 use Rattle.numeric.specs.Threshold.{Job}
 use Rattle.thresholds.specs.Rows.{Row, rowsOf}
 use Rattle.thresholds.specs.Laid.{conditions, weights, termLists, guardLists}
-use Rattle.prefixes.specs.Held.{Held}
-use Rattle.prefixes.specs.Held as Held
+use Rattle.prefixes.specs.Held.{Held, rowsHeld}
 use Rattle.prefixes.specs.Links.{neighbourLists}
 use Rattle.prefixes.specs.Pass.{Clear}
 use Rattle.prefixes.specs.Neighbours as Neighbours
@@ -29,7 +28,7 @@ use Rattle.prepare.specs.JobBuffers.{rowEntries, nodeEntries, builtWith, builtO
 use Rattle.prepare.specs.JobBuffersLaws.{guards-even, rows-even, entries-long, entries-columns, nodes-long, neighbours-long}
 use Rattle.prepare.specs.Prepare.{Prepared}
 use Rattle.prepare.specs.declared.Extent.{Extent}
-use Rattle.job.specs.declared.Counts.{Counts}
+use Rattle.records.specs.declared.Standing.{Standing}
 use Rattle.job.specs.Gathered.{cut, jobIn}
 use Rattle.job.specs.Built.{Roomy, Spare}
 
@@ -52,7 +51,7 @@ over-behind x y b r d e h =
 
 -- ---- what `prepare` leaves, the nodes put back behind those of the job
 
-module _ (k : Counts) (cs ws : List ℕ) (ts : List (List ℕ)) (bs : List ℤ) (b : Built) (inside : k .nodes ≤ length (b .nodes)) (so : Extent) (a : Built)
+module _ (k : Standing) (cs ws : List ℕ) (ts : List (List ℕ)) (bs : List ℤ) (b : Built) (inside : k .nodes ≤ length (b .nodes)) (so : Extent) (a : Built)
     (p : Prepared (cut k cs ws ts) (take (k .thresholds) bs) so (built (b .held) (take (k .nodes) (b .nodes)) (b .edges) (b .links)) a) where
   abbrev all : Job
   all = jobIn k cs ws ts bs
@@ -96,7 +95,7 @@ module _ (j : Job) (count : ℕ) (b a : Built) (h : Roomy b) (many : count ≡ l
   linked = rowEntries j (ends 0 (neighbourLists rs))
 
   abbrev held : List Row
-  held = Held.heldRows (a .held .rows) (a .held .row-conditions) (a .held .row-weights) count
+  held = rowsHeld (a .held .rows) (a .held .row-conditions) (a .held .row-weights) count
 
   rows-left : a .held .rows ≡ over plain (b .held .rows)
   unfolding builtWith
@@ -134,7 +133,7 @@ module _ (j : Job) (count : ℕ) (b a : Built) (h : Roomy b) (many : count ≡ l
   module _ (rows : List (List ℕ)) (links₁ sc₀ sc₁ : List ℕ) (p : Neighbours.Prepared held count (a .held .rows) rows (b .links) links₁ sc₀ sc₁) where
     same-links : neighbourLists held ≡ neighbourLists rs
     same-links =
-        ap (λ (n : ℕ). neighbourLists (Held.heldRows (a .held .rows) (a .held .row-conditions) (a .held .row-weights) n)) many
+        ap (λ (n : ℕ). neighbourLists (rowsHeld (a .held .rows) (a .held .row-conditions) (a .held .row-weights) n)) many
         ∙ neighbours-given (a .held .row-conditions) (a .held .row-weights) (a .held .rows) rs _ _ _ conditions-left weights-left ends-there
 
     rows-at : (r : ℕ) → getD rows r [] ≡ getD (over linked (b .held .rows)) r []

@@ -1,4 +1,4 @@
--- Laws of the job that the buffers hold: its thresholds one by one, its open threshold, and that the checks by counts are those by the job.
+-- Laws of the job that the buffers hold: its thresholds one by one.
 use Prim.Native.Nat.{ℕ, zero, suc, _+_, _-_, _<_, _≤_}
 use native.Mathlib.Decide.{decLt}
 use native.Mathlib.Omega.{arith}
@@ -6,22 +6,18 @@ use mathlib.Core.Path.{_≡_, refl, sym, ap, ap₂, _∙_, subst}
 use mathlib.Core.List.{List, [], _∷_, _++_, map}
 use lib.ListN.{length, getD, take, length-map}
 use lib.Seq.{getD-take, length-take-le}
-use lib.Dec.{eqb}
 use lib.IntN.{ℤ, pos}
-use borrow.Author.Tests.{ne-eqb}
 use Rattle.lists.specs.Laid.{numbers}
 use Rattle.numeric.specs.Threshold.{Term, terms, Threshold}
 use Rattle.memory.specs.Buffers.{RawLists, rawLists}
 use Rattle.thresholds.specs.Raw.{startOf, endOf, stretch, listAt}
-use Rattle.thresholds.specs.RawLaws.{length-terms, start-suc, stretch-length}
-use Rattle.thresholds.specs.Guards.{nodeAt}
+use Rattle.thresholds.specs.RawLaws.{length-terms, stretch-length}
 use Rattle.prefixes.specs.HeldLaws.{length-numbers}
 use Rattle.prepare.specs.Given.{thresholdAt, given}
-use Rattle.records.specs.Checks.{first}
-use Rattle.job.specs.Job.{lastNode, lastTerms, allTerms, isEmptyList, openChecks, openRefusal, termChecks, termRefusal}
-use Rattle.job.specs.declared.Counts.{Counts}
-use Rattle.job.specs.Gathered.{cut, jobIn, Listed, Termed, openIn, termIn}
-use Rattle.job.specs.JobLaws.{map-more, map-same, empty-more, node-more, terms-more, all-more, stretch-cut}
+use Rattle.records.specs.declared.Standing.{Standing}
+use Rattle.job.specs.Job.{allTerms}
+use Rattle.job.specs.Gathered.{cut, Listed, Termed}
+use Rattle.job.specs.JobLaws.{map-more, map-same, all-more, stretch-cut}
 
 pub threshold-by : {n m : ℕ} {b d : ℤ} {l r : List Term} → n ≡ m → b ≡ d → l ≡ r
     → _≡_ {A = Threshold} (record { node = n; bound = b; terms = l }) (record { node = m; bound = d; terms = r })
@@ -40,13 +36,6 @@ unfolding startOf
 start-cut n zero ts h = refl
 start-cut n (suc t) ts h = ap (λ (p : List ℕ). getD p 1 0) (getD-take n ts t [] h)
 
--- The open threshold begins inside the terms.
-pub last-within : (k : Counts) (ts : List (List ℕ)) → Listed k ts → 0 < k .thresholds → startOf ts (k .thresholds - 1) ≤ k .terms
-last-within k ts g h =
-    let a = g .rising (k .thresholds - 1) (omega arith) in
-    let b = g .within (k .thresholds - 1) (omega arith) in
-    omega (arith, a, b)
-
 pub list-by : (r s : RawLists) (t : ℕ) → startOf (r .thresholds) t ≡ startOf (s .thresholds) t → endOf (r .thresholds) t ≡ endOf (s .thresholds) t
     → stretch (startOf (s .thresholds) t) (endOf (s .thresholds) t) (r .raw-conditions) ≡ stretch (startOf (s .thresholds) t) (endOf (s .thresholds) t) (s .raw-conditions)
     → stretch (startOf (s .thresholds) t) (endOf (s .thresholds) t) (r .raw-weights) ≡ stretch (startOf (s .thresholds) t) (endOf (s .thresholds) t) (s .raw-weights)
@@ -54,7 +43,7 @@ pub list-by : (r s : RawLists) (t : ℕ) → startOf (r .thresholds) t ≡ start
 unfolding listAt
 list-by r s t a e c w = ap₂ (λ (x y : ℕ). terms (stretch x y (r .raw-conditions)) (stretch x y (r .raw-weights))) a e ∙ ap₂ terms c w
 
-module _ (k : Counts) (cs ws : List ℕ) (ts : List (List ℕ)) (bs : List ℤ) (g : Listed k ts) where
+module _ (k : Standing) (cs ws : List ℕ) (ts : List (List ℕ)) (bs : List ℤ) (g : Listed k ts) where
   abbrev at : ℕ → Threshold
   at t = thresholdAt (rawLists cs ws ts) bs t
 
@@ -78,29 +67,6 @@ module _ (k : Counts) (cs ws : List ℕ) (ts : List (List ℕ)) (bs : List ℤ) 
   pub many : length (given (cut k cs ws ts) (take (k .thresholds) bs)) ≡ k .thresholds
   many = ap length gathered ∙ length-map (numbers 0 (k .thresholds)) at ∙ length-numbers 0 (k .thresholds)
 
-  none : k .thresholds ≡ 0 → given (cut k cs ws ts) (take (k .thresholds) bs) ≡ []
-  unfolding numbers
-  none e = gathered ∙ ap (λ (n : ℕ). map at (numbers 0 n)) e
-
-  -- The checks of a threshold, by the counts and by the job.
-  pub open-is : (n : ℕ) (b : ℤ) → openIn k ts n b ≡ openRefusal (jobIn k cs ws ts bs) n b
-  open-is n b = by (k .thresholds) refl
-    where
-      all : List Threshold
-      all = given (cut k cs ws ts) (take (k .thresholds) bs)
-
-      by : (m : ℕ) → k .thresholds ≡ m → openIn k ts n b ≡ openRefusal (jobIn k cs ws ts bs) n b
-      by zero e =
-          ap (λ (x : ℕ). openChecks (k .nodes) (eqb x 0) (nodeAt ts (x - 1)) x n b) e
-          ∙ sym (ap (λ (l : List Threshold). openChecks (k .nodes) (isEmptyList l) (lastNode l) (length l) n b) (none e))
-      by (suc m) e = λ i. openChecks (k .nodes) (p i) (q i) (sym many i) n b
-        where
-          p : eqb (k .thresholds) 0 ≡ isEmptyList all
-          p = ne-eqb (k .thresholds) 0 (λ z. absurd (let y : _≡_ {A = ℕ} (suc m) 0 = sym e ∙ z in omega arith)) ∙ sym (ap isEmptyList (gathered-last m e) ∙ empty-more (at m) (map at (numbers 0 m)))
-
-          q : nodeAt ts (k .thresholds - 1) ≡ lastNode all
-          q = ap (nodeAt ts) {x = k .thresholds - 1} {y = m} (omega arith) ∙ sym (ap lastNode (gathered-last m e) ∙ node-more (at m) (map at (numbers 0 m)))
-
   -- The terms of the first thresholds end where the next begins.
   module _ (h : Termed k cs ws) where
     pub length-at : (t : ℕ) → t < k .thresholds → length (listAt (rawLists cs ws ts) t) ≡ endOf ts t - startOf ts t
@@ -119,28 +85,3 @@ module _ (k : Counts) (cs ws : List ℕ) (ts : List (List ℕ)) (bs : List ℤ) 
 
     pub all-terms : allTerms (given (cut k cs ws ts) (take (k .thresholds) bs)) ≡ k .terms
     all-terms = ap allTerms gathered ∙ all-to (k .thresholds) (omega arith) ∙ g .ended
-
-    -- The checks of a term, by the counts and by the job.
-    pub term-is : (c : ℕ) → termIn k ts c ≡ termRefusal (jobIn k cs ws ts bs) c
-    unfolding first
-    term-is c = by (k .thresholds) refl
-      where
-        all : List Threshold
-        all = given (cut k cs ws ts) (take (k .thresholds) bs)
-
-        by : (m : ℕ) → k .thresholds ≡ m → termIn k ts c ≡ termRefusal (jobIn k cs ws ts bs) c
-        by zero e =
-            ap (λ (x : ℕ). termChecks (k .nodes) (eqb x 0) (k .terms - startOf ts (x - 1)) (k .terms) c) e
-            ∙ sym (ap (λ (l : List Threshold). termChecks (k .nodes) (isEmptyList l) (lastTerms l) (allTerms l) c) (none e))
-        by (suc m) e = λ i. termChecks (k .nodes) (p i) (q i) (sym all-terms i) c
-          where
-            p : eqb (k .thresholds) 0 ≡ isEmptyList all
-            p = ne-eqb (k .thresholds) 0 (λ z. absurd (let y : _≡_ {A = ℕ} (suc m) 0 = sym e ∙ z in omega arith)) ∙ sym (ap isEmptyList (gathered-last m e) ∙ empty-more (at m) (map at (numbers 0 m)))
-
-            ends : k .terms ≡ endOf ts m
-            ends = sym (g .ended) ∙ ap (startOf ts) e ∙ ap (startOf ts) {x = suc m} {y = m + 1} (omega arith) ∙ start-suc ts m
-
-            q : k .terms - startOf ts (k .thresholds - 1) ≡ lastTerms all
-            q =
-                ap₂ (λ (x y : ℕ). x - startOf ts y) {x = k .terms} {y = endOf ts m} {u = k .thresholds - 1} {v = m} ends (omega arith)
-                ∙ sym (ap lastTerms (gathered-last m e) ∙ terms-more (at m) (map at (numbers 0 m)) ∙ length-at m (omega arith))

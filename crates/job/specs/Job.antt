@@ -1,12 +1,12 @@
--- A job while its records come in: its open threshold, document 01's checks of thresholds and terms, and what each adds.
+-- A job while its records come in: its open threshold, what the checks read of it, and what thresholds and terms add.
 use Prim.Native.Nat.{ℕ, _+_}
-use mathlib.Core.Bool.{Bool, true, false}
+use mathlib.Core.Bool.{Bool}
 use mathlib.Core.List.{List, [], _∷_, _++_}
 use lib.ListN.{length}
 use lib.IntN.{ℤ}
-use Rattle.numeric.specs.Threshold.{Term, term, Threshold, Job}
-use Rattle.records.specs.Facts.{Change, opens, adds, changes, facts}
-use Rattle.records.specs.Checks.{Standing, first, checks}
+use Rattle.numeric.specs.Threshold.{Term, Threshold, Job}
+use Rattle.records.specs.declared.Standing.{Standing}
+use Rattle.records.specs.Facts.{Change, opens, adds}
 
 -- The last threshold of the list is the open one: its node, and how many terms it has.
 unfoldable pub lastNode : List Threshold → ℕ
@@ -23,40 +23,50 @@ unfoldable pub allTerms : List Threshold → ℕ
 allTerms [] = 0
 allTerms (t ∷ ts) = length (t .terms) + allTerms ts
 
-abbrev pub isEmptyList : {X : Type 0} → List X → Bool
-isEmptyList [] = true
-isEmptyList (x ∷ xs) = false
+-- What the checks read of a file with this job.
+abbrev pub standingOf : (started sealed contradicted : Bool) → Job → (answers : ℕ) → Standing
+standingOf s e c j n =
+    let ts = j .thresholds in
+    record {
+      started = s;
+      sealed = e;
+      contradicted = c;
+      nodes = j .nodes;
+      thresholds = length ts;
+      «last_node» = lastNode ts;
+      «last_terms» = lastTerms ts;
+      terms = allTerms ts;
+      answers = n;
+    }
 
--- What the checks read of a started job that is not sealed, by its numbers: nodes, whether it has no threshold, the last
--- threshold's node and number of terms, all thresholds, all terms.
-abbrev pub standingIn : ℕ → Bool → (last listed thresholds terms : ℕ) → Standing
-standingIn nodes empty last listed thresholds terms = record {
-  started = true;
-  sealed = false;
-  contradicted = false;
-  empty = empty;
-  nodes = nodes;
-  last = last;
-  listed = listed;
-  thresholds = thresholds;
-  terms = terms;
-  answers = 0;
+-- After a threshold, and after a term.
+abbrev pub openedBy : Standing → ℕ → Standing
+openedBy s n = record {
+  started = s .started;
+  sealed = s .sealed;
+  contradicted = s .contradicted;
+  nodes = s .nodes;
+  thresholds = s .thresholds + 1;
+  «last_node» = n;
+  «last_terms» = 0;
+  terms = s .terms;
+  answers = s .answers;
 }
 
--- A threshold's refusal and a term's.
-abbrev pub openChecks : ℕ → Bool → ℕ → ℕ → ℕ → ℤ → ℕ
-openChecks nodes none last many n b = first (checks (standingIn nodes none last 0 many 0) false false (facts (changes (opens n b))))
+abbrev pub addedTo : Standing → Standing
+addedTo s = record {
+  started = s .started;
+  sealed = s .sealed;
+  contradicted = s .contradicted;
+  nodes = s .nodes;
+  thresholds = s .thresholds;
+  «last_node» = s .«last_node»;
+  «last_terms» = s .«last_terms» + 1;
+  terms = s .terms + 1;
+  answers = s .answers;
+}
 
-abbrev pub openRefusal : Job → ℕ → ℤ → ℕ
-openRefusal j n b = openChecks (j .nodes) (isEmptyList (j .thresholds)) (lastNode (j .thresholds)) (length (j .thresholds)) n b
-
-abbrev pub termChecks : ℕ → Bool → ℕ → ℕ → ℕ → ℕ
-termChecks nodes none listed all c = first (checks (standingIn nodes none 0 listed 0 all) false false (facts (changes (adds (term c 0)))))
-
-abbrev pub termRefusal : Job → ℕ → ℕ
-termRefusal j c = termChecks (j .nodes) (isEmptyList (j .thresholds)) (lastTerms (j .thresholds)) (allTerms (j .thresholds)) c
-
--- What they add.
+-- What a change makes of the thresholds.
 unfoldable pub addTerm : Term → List Threshold → List Threshold
 addTerm x [] = []
 addTerm x (t ∷ []) = record { node = t .node; bound = t .bound; terms = t .terms ++ (x ∷ []) } ∷ []

@@ -1,17 +1,17 @@
 -- Laws of lists that grow at their end: thresholds, terms, stretches, and lists over the first numbers.
 use Prim.Native.Nat.{ℕ, zero, suc, _+_, _-_, _<_, _≤_}
-use native.Mathlib.Nat.{add-zero, zero-add, suc-add, le-refl}
+use native.Mathlib.Nat.{add-zero, zero-add, suc-add, le-refl, not-suc-le-zero}
 use native.Mathlib.Omega.{arith}
 use mathlib.Core.Path.{_≡_, refl, sym, ap, ap₂, _∙_}
-use mathlib.Core.Bool.{Bool, true, false, _||_, _&&_, not}
+use mathlib.Core.Bool.{Bool, true, false, _||_}
 use mathlib.Core.List.{List, [], _∷_, _++_, map}
-use lib.ListN.{length, take, drop, set, length-drop}
+use lib.ListN.{length, take, drop, set, length-drop, length-append}
+use lib.IntN.{ℤ}
 use lib.Seq.{take-nil, take-take, take-set-le, drop-set-add, take-suc-set}
 use Rattle.lists.specs.Laid.{numbers}
-use Rattle.numeric.specs.Threshold.{Term, term, terms, Threshold}
+use Rattle.numeric.specs.Threshold.{Term, term, terms, Threshold, Job}
 use Rattle.thresholds.specs.Raw.{stretch}
-use Rattle.job.specs.Job.{lastNode, lastTerms, allTerms, isEmptyList, addTerm}
-use Rattle.records.specs.Checks.{Check, check, first}
+use Rattle.job.specs.Job.{lastNode, lastTerms, allTerms, standingOf, openedBy, addedTo, addTerm, withThreshold, withTerm}
 
 -- ---- the first numbers
 
@@ -40,10 +40,6 @@ map-same f g n h = map-from f g 0 n (λ t q. h t (omega arith))
 -- ---- one threshold more
 
 module _ (t : Threshold) where
-  pub empty-more : (ts : List Threshold) → isEmptyList (ts ++ (t ∷ [])) ≡ false
-  empty-more [] = refl
-  empty-more (u ∷ ts) = refl
-
   pub node-more : (ts : List Threshold) → lastNode (ts ++ (t ∷ [])) ≡ t .node
   unfolding lastNode
   node-more [] = refl
@@ -67,6 +63,75 @@ module _ (t : Threshold) where
   add-more x [] = refl
   add-more x (u ∷ []) = refl
   add-more x (u ∷ v ∷ ts) = ap (λ (l : List Threshold). u ∷ l) (add-more x (v ∷ ts))
+
+-- ---- one term more in the last threshold
+
+module _ (x : Term) where
+  pub length-added : (ts : List Threshold) → length (addTerm x ts) ≡ length ts
+  unfolding addTerm
+  length-added [] = refl
+  length-added (t ∷ []) = refl
+  length-added (t ∷ u ∷ ts) = ap suc (length-added (u ∷ ts))
+
+  node-added : (ts : List Threshold) → lastNode (addTerm x ts) ≡ lastNode ts
+  unfolding addTerm lastNode
+  node-added [] = refl
+  node-added (t ∷ []) = refl
+  node-added (t ∷ u ∷ []) = refl
+  node-added (t ∷ u ∷ v ∷ ts) = node-added (u ∷ v ∷ ts)
+
+  terms-added : (ts : List Threshold) → 0 < length ts → lastTerms (addTerm x ts) ≡ lastTerms ts + 1
+  unfolding addTerm lastTerms
+  terms-added [] h = absurd (not-suc-le-zero h)
+  terms-added (t ∷ []) h = length-append (t .terms) (x ∷ [])
+  terms-added (t ∷ u ∷ []) h = length-append (u .terms) (x ∷ [])
+  terms-added (t ∷ u ∷ v ∷ ts) h = terms-added (u ∷ v ∷ ts) (omega arith)
+
+  pub all-added : (ts : List Threshold) → 0 < length ts → allTerms (addTerm x ts) ≡ allTerms ts + 1
+  unfolding addTerm allTerms
+  all-added [] h = absurd (not-suc-le-zero h)
+  all-added (t ∷ []) h = let q = length-append (t .terms) (x ∷ []) in omega (arith, q)
+  all-added (t ∷ u ∷ ts) h = let q = all-added (u ∷ ts) (omega arith) in omega (arith, q)
+
+-- WHAT THE CHECKS READ of the job with a change.
+module _ (s e c : Bool) (j : Job) (m : ℕ) where
+  pub standing-opened : (n : ℕ) (b : ℤ) → standingOf s e c (withThreshold j n b) m ≡ openedBy (standingOf s e c j m) n
+  standing-opened n b = λ i. record {
+    started = s;
+    sealed = e;
+    contradicted = c;
+    nodes = j .nodes;
+    thresholds = many i;
+    «last_node» = node-more t ts i;
+    «last_terms» = terms-more t ts i;
+    terms = all i;
+    answers = m;
+  }
+    where
+      t : Threshold
+      t = record { node = n; bound = b; terms = [] }
+
+      ts : List Threshold
+      ts = j .thresholds
+
+      many : length (ts ++ (t ∷ [])) ≡ length ts + 1
+      many = length-append ts (t ∷ [])
+
+      all : allTerms (ts ++ (t ∷ [])) ≡ allTerms ts
+      all = let q = all-more t ts in omega (arith, q)
+
+  pub standing-added : (x : Term) → 0 < length (j .thresholds) → standingOf s e c (withTerm j x) m ≡ addedTo (standingOf s e c j m)
+  standing-added x h = λ i. record {
+    started = s;
+    sealed = e;
+    contradicted = c;
+    nodes = j .nodes;
+    thresholds = length-added x (j .thresholds) i;
+    «last_node» = node-added x (j .thresholds) i;
+    «last_terms» = terms-added x (j .thresholds) h i;
+    terms = all-added x (j .thresholds) h i;
+    answers = m;
+  }
 
 -- ---- one term more
 
@@ -100,53 +165,8 @@ stretch-more a i x l h k =
     ∙ ap (λ (j : ℕ). take j (set (drop a l) (i - a) x)) {x = i + 1 - a} {y = suc (i - a)} (omega arith)
     ∙ take-suc-set (drop a l) (i - a) x (let q = length-drop a l in omega arith)
 
--- ---- the first check that applies
-
-pub first-here : (p : Bool) (n : ℕ) (cs : List Check) → p ≡ true → n ≡ first (check p n ∷ cs)
-unfolding first
-first-here true n cs e = refl
-first-here false n cs e = absurd (let z : _≡_ {A = ℕ} 0 1 = cc in omega arith)
-
-pub first-next : (p : Bool) (n x : ℕ) (cs : List Check) → p ≡ false → x ≡ first cs → x ≡ first (check p n ∷ cs)
-unfolding first
-first-next true n x cs e h = absurd (let z : _≡_ {A = ℕ} 0 1 = cc in omega arith)
-first-next false n x cs e h = h
-
--- A check that does not apply, whatever its number, and those before a threshold's and a term's own.
-pub first-skip : (n x : ℕ) (cs : List Check) → x ≡ first cs → x ≡ first (check false n ∷ cs)
-unfolding first
-first-skip n x cs h = h
-
-pub first-known : (x : ℕ) (cs : List Check) → x ≡ first cs → x ≡ first (check false 2 ∷ check false 1 ∷ cs)
-first-known x cs h = first-skip 2 x (check false 1 ∷ cs) (first-skip 1 x cs h)
-
-pub first-in-turn : (x : ℕ) (cs : List Check) → x ≡ first cs → x ≡ first (check false 2 ∷ check false 1 ∷ check false 3 ∷ check false 9 ∷ cs)
-first-in-turn x cs h = first-known x (check false 3 ∷ check false 9 ∷ cs) (first-skip 3 x (check false 9 ∷ cs) (first-skip 9 x cs h))
-
-pub first-none : 0 ≡ first []
-unfolding first
-first-none = refl
-
-pub or-left : (a b : Bool) → a ≡ true → a || b ≡ true
-or-left true b e = refl
-or-left false b e = absurd (let z : _≡_ {A = ℕ} 0 1 = cc in omega arith)
-
-pub or-right : (a b : Bool) → a ≡ false → b ≡ true → a || b ≡ true
-or-right true b e h = refl
-or-right false b e h = h
-
-pub or-none : (a b : Bool) → a ≡ false → b ≡ false → a || b ≡ false
-or-none true b e h = e
-or-none false b e h = h
+-- ---- answers
 
 pub or-false : (a b : Bool) → a || b ≡ false → (a ≡ false) × (b ≡ false)
 or-false true b e = absurd (let z : _≡_ {A = ℕ} 0 1 = cc in omega arith)
 or-false false b e = (refl, e)
-
-pub and-none : (a b : Bool) → a ≡ true → false ≡ (not a && b)
-and-none true b e = refl
-and-none false b e = absurd (let z : _≡_ {A = ℕ} 0 1 = cc in omega arith)
-
-pub and-rest : (a b : Bool) → a ≡ false → b ≡ (not a && b)
-and-rest true b e = absurd (let z : _≡_ {A = ℕ} 0 1 = cc in omega arith)
-and-rest false b e = refl

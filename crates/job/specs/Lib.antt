@@ -3,6 +3,7 @@ pub mod Gathered
 pub mod JobLaws
 pub mod GatheredLaws
 pub mod TakenLaws
+pub mod RawLaws
 pub mod Built
 pub mod SoundLaws
 pub mod BuiltLaws

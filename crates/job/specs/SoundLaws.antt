@@ -8,39 +8,41 @@ use mathlib.Core.List.{List, [], _∷_}
 use lib.ListN.{length, getD, take, replicate, List·getD-eq-default}
 use lib.Seq.{getD-take, length-take-le}
 use lib.IntN.{ℤ, pos}
-use Rattle.memory.specs.Limits.{rawLimit}
+use Rattle.memory.specs.Limits.{maxNodes, maxTerms, maxThresholds, rawLimit}
 use Rattle.memory.specs.Buffers.{Built, built}
 use Rattle.thresholds.specs.Raw.{startOf, endOf, Lists}
 use Rattle.thresholds.specs.Guards.{Bound, nodeAt}
 use Rattle.prepare.specs.Prepare.{Sound, Ample}
-use Rattle.job.specs.declared.Counts.{Counts}
+use Rattle.records.specs.declared.Standing.{Standing}
 use Rattle.job.specs.Gathered.{cut, Gathered}
 use Rattle.job.specs.GatheredLaws.{start-cut}
 use Rattle.job.specs.Built.{Roomy, Spare}
 
 -- NO THRESHOLDS YET
-pub gathered-none : (n : ℕ) (cs ws : List ℕ) (ts : List (List ℕ)) (bs : List ℤ) → n ≤ 4096 → 4096 ≤ length cs → 4096 ≤ length ws → 1024 ≤ length ts → 1024 ≤ length bs
-    → Gathered (record { nodes = n; thresholds = 0; terms = 0 }) cs ws ts bs
+pub gathered-none : (k : Standing) (cs ws : List ℕ) (ts : List (List ℕ)) (bs : List ℤ) → k .nodes ≤ maxNodes → k .thresholds ≡ 0 → k .terms ≡ 0
+    → maxTerms ≤ length cs → maxTerms ≤ length ws → maxThresholds ≤ length ts → maxThresholds ≤ length bs → Gathered k cs ws ts bs
 unfolding startOf
-gathered-none n cs ws ts bs h c w t b = record {
+gathered-none k cs ws ts bs h e z c w t b = record {
   listed = record {
     nodes = h;
-    terms = omega arith;
-    many = omega arith;
+    terms = omega (arith, z);
+    many = omega (arith, e);
     room = t;
-    wide = λ t q. absurd (not-suc-le-zero q);
-    rising = λ t q. absurd (not-suc-le-zero q);
-    short = λ t q. absurd (not-suc-le-zero q);
-    within = λ t q. absurd (not-suc-le-zero q);
-    ended = refl;
-    inside = λ t q. absurd (not-suc-le-zero q);
-    ordered = λ t q. absurd (not-suc-le-zero q);
+    wide = λ t q. absurd (omega (arith, e, q));
+    rising = λ t q. absurd (omega (arith, e, q));
+    short = λ t q. absurd (omega (arith, e, q));
+    within = λ t q. absurd (omega (arith, e, q));
+    ended = ap (startOf ts) e ∙ sym z;
+    inside = λ t q. absurd (omega (arith, e, q));
+    ordered = λ t q. absurd (omega (arith, e, q));
+    last = λ t q. absurd (omega (arith, e, q));
+    filled = λ t q. absurd (omega (arith, e, q));
   };
-  bounded = record { room = b; bound = λ t q. absurd (not-suc-le-zero q) };
-  termed = record { conditions = c; weights = w; below = λ i q. absurd (not-suc-le-zero q); light = λ i q. absurd (not-suc-le-zero q) };
+  bounded = record { room = b; bound = λ t q. absurd (omega (arith, e, q)) };
+  termed = record { conditions = c; weights = w; below = λ i q. absurd (omega (arith, z, q)); light = λ i q. absurd (omega (arith, z, q)) };
 }
 
-module _ (k : Counts) (cs ws : List ℕ) (ts : List (List ℕ)) (bs : List ℤ) (g : Gathered k cs ws ts bs) where
+module _ (k : Standing) (cs ws : List ℕ) (ts : List (List ℕ)) (bs : List ℤ) (g : Gathered k cs ws ts bs) where
   pub long : length (take (k .thresholds) ts) ≡ k .thresholds
   long = length-take-le (k .thresholds) ts (let a = g .listed .room in let b = g .listed .many in omega (arith, a, b))
 

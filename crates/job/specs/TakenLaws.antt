@@ -3,7 +3,7 @@ use Prim.Native.Nat.{ℕ, zero, suc, _+_, _-_, _<_, _≤_}
 use native.Mathlib.Nat.{le-refl}
 use native.Mathlib.Omega.{arith}
 use mathlib.Core.Path.{_≡_, refl, sym, ap, ap₂, _∙_, subst}
-use mathlib.Core.Bool.{Bool, true, false, cond, not, _&&_, _||_}
+use mathlib.Core.Bool.{Bool, false, not, _&&_, _||_}
 use mathlib.Core.List.{List, [], _∷_, _++_, map}
 use lib.ListN.{length, getD, take, drop, set, length-set}
 use lib.Seq.{getD-set-same, getD-set-other}
@@ -20,13 +20,15 @@ use Rattle.thresholds.specs.Raw.{startOf, endOf, stretch, listAt}
 use Rattle.thresholds.specs.RawLaws.{start-suc, stretch-length}
 use Rattle.thresholds.specs.Guards.{Bound, nodeAt}
 use Rattle.prepare.specs.Given.{thresholdAt, given}
-use Rattle.records.specs.Checks.{check, first}
-use Rattle.job.specs.Job.{addTerm, withThreshold, withTerm}
-use Rattle.job.specs.declared.Counts.{Counts}
-use Rattle.job.specs.declared.Taken.{Taken}
-use Rattle.job.specs.Gathered.{cut, jobIn, Listed, Bounded, Termed, Gathered, openIn, termIn, Opened, Added}
+use Rattle.records.specs.declared.Record.the-variants.{Opens, Adds}
+use Rattle.records.specs.declared.Standing.{Standing}
+use Rattle.records.specs.Facts.{action, facts}
+use Rattle.records.specs.Checks.{refusedBy}
+use Rattle.records.specs.CheckLaws.{Passes, passes}
+use Rattle.job.specs.Job.{openedBy, addedTo, addTerm, withThreshold, withTerm}
+use Rattle.job.specs.Gathered.{cut, jobIn, Listed, Bounded, Termed, Gathered, Opened, Added}
 use Rattle.job.specs.JobLaws.{map-same, add-more, term-more, stretch-set, stretch-more, or-false}
-use Rattle.job.specs.GatheredLaws.{threshold-by, by-last, list-by, gathered, gathered-last, open-is, term-is}
+use Rattle.job.specs.GatheredLaws.{threshold-by, by-last, list-by, gathered, gathered-last}
 
 abbrev node-of : List ℕ → ℕ
 node-of p = getD p 0 0
@@ -36,38 +38,26 @@ end-of p = getD p 1 0
 
 -- ---- a threshold
 
-open-none : (p q r s : Bool) → first (check p 5 ∷ check q 6 ∷ check r 7 ∷ check s 4 ∷ []) ≡ 0 → (p ≡ false) × ((q ≡ false) × ((r ≡ false) × (s ≡ false)))
-unfolding first
-open-none true q r s e = absurd (let z : _≡_ {A = ℕ} 5 0 = e in omega arith)
-open-none false true r s e = absurd (let z : _≡_ {A = ℕ} 6 0 = e in omega arith)
-open-none false false true s e = absurd (let z : _≡_ {A = ℕ} 7 0 = e in omega arith)
-open-none false false false true e = absurd (let z : _≡_ {A = ℕ} 4 0 = e in omega arith)
-open-none false false false false e = (refl, (refl, (refl, refl)))
-
-module _ (k : Counts) (n : ℕ) (b : ℤ) (ts : List (List ℕ)) (bs : List ℤ) (g : Listed k ts) (h : Bounded k bs) (none : openIn k ts n b ≡ 0) where
-  passed : (leb (k .nodes) n ≡ false) × ((not (eqb (k .thresholds) 0) && leb n (nodeAt ts (k .thresholds - 1)) ≡ false)
-      × ((ltZ b (negsuc 4503599627370495) || ltZ (pos 4503599627370496) b ≡ false) × (leb 1024 (k .thresholds) ≡ false)))
-  unfolding first
-  passed = open-none (leb (k .nodes) n) (not (eqb (k .thresholds) 0) && leb n (nodeAt ts (k .thresholds - 1)))
-      (ltZ b (negsuc 4503599627370495) || ltZ (pos 4503599627370496) b) (leb 1024 (k .thresholds)) none
+module _ (k : Standing) (n : ℕ) (b : ℤ) (ts : List (List ℕ)) (bs : List ℤ) (g : Listed k ts) (h : Bounded k bs) (none : refusedBy k (Opens n b) ≡ 0) where
+  abbrev passed : Passes k (facts (action (Opens n b)))
+  passed = passes k (facts (action (Opens n b))) none
 
   pub open-room : k .thresholds < 1024
-  open-room = leb-false 1024 (k .thresholds) (passed .1 .1 .1)
+  open-room = leb-false 1024 (k .thresholds) (passed .room)
 
   range : Bound b
   range =
-      let o = or-false (ltZ b (negsuc 4503599627370495)) (ltZ (pos 4503599627370496) b) (passed .1 .1 .0) in
+      let o = or-false (ltZ b (negsuc 4503599627370495)) (ltZ (pos 4503599627370496) b) (passed .bounds) in
       record { low = nlt-leZ b (negsuc 4503599627370495) (o .0); high = nlt-leZ (pos 4503599627370496) b (o .1) }
 
   above : (t : ℕ) → t + 1 ≡ k .thresholds → nodeAt ts t < n
   above t e =
       let z = ne-eqb (k .thresholds) 0 (λ (q : k .thresholds ≡ 0). omega arith) in
-      let l : leb n (nodeAt ts (k .thresholds - 1)) ≡ false = sym (ap (λ (x : Bool). not x && leb n (nodeAt ts (k .thresholds - 1))) z) ∙ passed .1 .0 in
-      let u : k .thresholds - 1 ≡ t = omega arith in
-      subst (λ (x : ℕ). nodeAt ts x < n) u (leb-false n (nodeAt ts (k .thresholds - 1)) l)
+      let l : leb n (k .«last_node») ≡ false = sym (ap (λ (x : Bool). not x && leb n (k .«last_node»)) z) ∙ passed .rising in
+      subst (λ (x : ℕ). x < n) (sym (g .last t e)) (leb-false n (k .«last_node») l)
 
-  abbrev next : Counts
-  next = record { nodes = k .nodes; thresholds = k .thresholds + 1; terms = k .terms }
+  abbrev next : Standing
+  next = openedBy k n
 
   abbrev entry : List ℕ
   entry = n ∷ k .terms ∷ []
@@ -117,9 +107,11 @@ module _ (k : Counts) (n : ℕ) (b : ℤ) (ts : List (List ℕ)) (bs : List ℤ)
     inside =
         by-last (λ (t : ℕ). nodeAt ts′ t < k .nodes) (k .thresholds) (k .thresholds + 1) refl
         (λ t q. let e : nodeAt ts′ t ≡ nodeAt ts t = ap node-of (old t q) in let r = g .inside t q in omega (arith, e, r))
-        (let e : nodeAt ts′ (k .thresholds) ≡ n = ap node-of new in let r = leb-false (k .nodes) n (passed .0) in omega (arith, e, r));
+        (let e : nodeAt ts′ (k .thresholds) ≡ n = ap node-of new in let r = leb-false (k .nodes) n (passed .nodes) in omega (arith, e, r));
     ordered = λ t q.
         subst (λ (x : ℕ). x < nodeAt ts′ (t + 1)) (sym (ap node-of (old t (omega arith)))) (behind (t + 1) q t refl);
+    last = λ t e. let q : t ≡ k .thresholds = omega arith in ap (nodeAt ts′) q ∙ ap node-of new;
+    filled = λ t e. let q : t ≡ k .thresholds = omega arith in let r = ap (startOf ts′) q ∙ starts in omega (arith, r);
   }
     where
       behind : (s : ℕ) → s < k .thresholds + 1 → (r : ℕ) → r + 1 ≡ s → nodeAt ts r < nodeAt ts′ s
@@ -167,66 +159,45 @@ module _ (k : Counts) (n : ℕ) (b : ℤ) (ts : List (List ℕ)) (bs : List ℤ)
             (map-same (thresholdAt (rawLists cs ws ts′) bs′) (thresholdAt (rawLists cs ws ts) bs) (k .thresholds) old-at ∙ sym (gathered k cs ws ts bs g)) new-at
 
   -- THE THRESHOLD TAKEN
-  pub opened : Opened k n b ts bs (record { refusal = 0; counts = next }) ts′ bs′
+  pub opened : Opened k n b ts bs next ts′ bs′
   opened = record {
-    number = λ cs ws. sym none ∙ open-is k cs ws ts bs g n b;
+    standing = refl;
     job = λ cs ws. job-open cs ws;
     thresholds = refl;
     bounds = refl;
     listed = listed-open;
     bounded = bounded-open;
-    nodes = refl;
-    terms = refl;
   }
-
--- THE THRESHOLD REFUSED
-pub not-opened : (k : Counts) (n : ℕ) (b : ℤ) (ts : List (List ℕ)) (bs : List ℤ) (x : ℕ) → Listed k ts → Bounded k bs → x ≡ openIn k ts n b → (x ≡ 0 → ⊥)
-    → Opened k n b ts bs (record { refusal = x; counts = k }) ts bs
-not-opened k n b ts bs x g h e z = record {
-  number = λ cs ws. e ∙ open-is k cs ws ts bs g n b;
-  job = λ cs ws. sym (ap (λ (t : Bool). cond t (withThreshold (jobIn k cs ws ts bs) n b) (jobIn k cs ws ts bs)) (ne-eqb x 0 z));
-  thresholds = sym (ap (λ (t : Bool). cond t (set ts (k .thresholds) (n ∷ k .terms ∷ [])) ts) (ne-eqb x 0 z));
-  bounds = sym (ap (λ (t : Bool). cond t (set bs (k .thresholds) b) bs) (ne-eqb x 0 z));
-  listed = g;
-  bounded = h;
-  nodes = refl;
-  terms = refl;
-}
 
 -- ---- a term
 
-term-none : (p q r : Bool) → first (check p 3 ∷ check q 5 ∷ check r 4 ∷ []) ≡ 0 → (p ≡ false) × ((q ≡ false) × (r ≡ false))
-unfolding first
-term-none true q r e = absurd (let z : _≡_ {A = ℕ} 3 0 = e in omega arith)
-term-none false true r e = absurd (let z : _≡_ {A = ℕ} 5 0 = e in omega arith)
-term-none false false true e = absurd (let z : _≡_ {A = ℕ} 4 0 = e in omega arith)
-term-none false false false e = (refl, (refl, refl))
-
-module _ (k : Counts) (c w : ℕ) (cs ws : List ℕ) (ts : List (List ℕ)) (g : Listed k ts) (h : Termed k cs ws) (none : termIn k ts c ≡ 0) where
+module _ (k : Standing) (c w : ℕ) (cs ws : List ℕ) (ts : List (List ℕ)) (g : Listed k ts) (h : Termed k cs ws) (none : refusedBy k (Adds c w) ≡ 0) where
   abbrev last : ℕ
   last = k .thresholds - 1
 
-  term-passed : (eqb (k .thresholds) 0 ≡ false) × ((leb (k .nodes) c ≡ false) × (leb 1024 (k .terms - startOf ts last) || leb 4096 (k .terms) ≡ false))
-  unfolding first
-  term-passed = term-none (eqb (k .thresholds) 0) (leb (k .nodes) c) (leb 1024 (k .terms - startOf ts last) || leb 4096 (k .terms)) none
+  abbrev fine : Passes k (facts (action (Adds c w)))
+  fine = passes k (facts (action (Adds c w))) none
 
   pub term-open : k .thresholds ≡ last + 1
-  term-open = let z = eqb-false (k .thresholds) 0 (term-passed .0) in by (k .thresholds) refl z
+  term-open =
+      let o = or-false (not (k .started) || k .sealed) (eqb (k .thresholds) 0) (fine .turn) in
+      let z = eqb-false (k .thresholds) 0 (o .1) in
+      by (k .thresholds) refl z
     where
       by : (m : ℕ) → k .thresholds ≡ m → (k .thresholds ≡ 0 → ⊥) → k .thresholds ≡ k .thresholds - 1 + 1
       by zero e z = absurd (z e)
       by (suc m) e z = omega arith
 
-  counts-left : (k .terms - startOf ts last < 1024) × (k .terms < 4096)
+  pub counts-left : (k .«last_terms» < 1024) × (k .terms < 4096)
   counts-left =
-      let o = or-false (leb 1024 (k .terms - startOf ts last)) (leb 4096 (k .terms)) (term-passed .1 .1) in
-      (leb-false 1024 (k .terms - startOf ts last) (o .0), leb-false 4096 (k .terms) (o .1))
+      let o = or-false (leb 1024 (k .«last_terms»)) (leb 4096 (k .terms)) (fine .room) in
+      (leb-false 1024 (k .«last_terms») (o .0), leb-false 4096 (k .terms) (o .1))
 
   pub term-room : k .terms < 4096
   term-room = counts-left .1
 
-  abbrev with-one : Counts
-  with-one = record { nodes = k .nodes; thresholds = k .thresholds; terms = k .terms + 1 }
+  abbrev with-one : Standing
+  with-one = addedTo k
 
   abbrev longer : List ℕ
   longer = nodeAt ts last ∷ (k .terms + 1) ∷ []
@@ -277,7 +248,7 @@ module _ (k : Counts) (c w : ℕ) (cs ws : List ℕ) (ts : List (List ℕ)) (g :
     short =
         by-last (λ (t : ℕ). endOf ts″ t ≤ startOf ts″ t + 1024) last (k .thresholds) term-open
         (λ t q. let a = before-start t (omega arith) in let e : endOf ts″ t ≡ endOf ts t = ap end-of (before t q) in let r = g .short t (earlier t q) in omega (arith, a, e, r))
-        (let a = last-start in let e = new-end in let r = counts-left .0 in omega (arith, a, e, r));
+        (let a = last-start in let e = new-end in let r = counts-left .0 in let o = g .filled last (sym term-open) in omega (arith, a, e, r, o));
     within =
         by-last (λ (t : ℕ). endOf ts″ t ≤ k .terms + 1) last (k .thresholds) term-open
         (λ t q. let e : endOf ts″ t ≡ endOf ts t = ap end-of (before t q) in let r = g .within t (earlier t q) in omega (arith, e, r)) (let e = new-end in omega (arith, e));
@@ -285,6 +256,9 @@ module _ (k : Counts) (c w : ℕ) (cs ws : List ℕ) (ts : List (List ℕ)) (g :
     inside = λ t q. subst (λ (x : ℕ). x < k .nodes) (sym (same-node t q)) (g .inside t q);
     ordered = λ t q.
         subst (λ (x : ℕ). x < nodeAt ts″ (t + 1)) (sym (same-node t (omega arith))) (subst (λ (x : ℕ). nodeAt ts t < x) (sym (same-node (t + 1) q)) (g .ordered t q));
+    last = λ t e. same-node t (omega (arith, e)) ∙ g .last t e;
+    filled = λ t e.
+        let o = term-open in let a = before-start t (omega (arith, e, o)) in let r = g .filled t e in omega (arith, a, r);
   }
 
   termed-add : w < rawLimit → Termed with-one (set cs (k .terms) c) (set ws (k .terms) w)
@@ -295,7 +269,7 @@ module _ (k : Counts) (c w : ℕ) (cs ws : List ℕ) (ts : List (List ℕ)) (g :
         by-last (λ (i : ℕ). getD (set cs (k .terms) c) i 0 < k .nodes) (k .terms) (k .terms + 1) refl
         (λ i q. subst (λ (x : ℕ). x < k .nodes) (sym (getD-set-other cs (k .terms) i c 0 (λ (e : i ≡ k .terms). omega arith))) (h .below i q))
         (subst (λ (x : ℕ). x < k .nodes) (sym (getD-set-same cs (k .terms) c 0 (let r = term-room in let l = h .conditions in omega (arith, r, l))))
-        (leb-false (k .nodes) c (term-passed .1 .0)));
+        (leb-false (k .nodes) c (fine .nodes)));
     light =
         by-last (λ (i : ℕ). getD (set ws (k .terms) w) i 0 < rawLimit) (k .terms) (k .terms + 1) refl
         (λ i q. subst (λ (x : ℕ). x < rawLimit) (sym (getD-set-other ws (k .terms) i w 0 (λ (e : i ≡ k .terms). omega arith))) (h .light i q))
@@ -344,53 +318,42 @@ module _ (k : Counts) (c w : ℕ) (cs ws : List ℕ) (ts : List (List ℕ)) (g :
             ∙ add-more (thresholdAt (rawLists cs ws ts) bs last) (term c w) (map (thresholdAt (rawLists cs ws ts) bs) (numbers 0 last)))
 
   -- THE TERM TAKEN
-  pub added : w < rawLimit → Added k c w cs ws ts (record { refusal = 0; counts = with-one }) (set cs (k .terms) c) (set ws (k .terms) w) ts″
+  pub added : w < rawLimit → Added k c w cs ws ts with-one (set cs (k .terms) c) (set ws (k .terms) w) ts″
   added small = record {
-    number = λ bs. sym none ∙ term-is k cs ws ts bs g h c;
+    standing = refl;
     job = λ bs. job-add bs;
     conditions = refl;
     weights = refl;
     thresholds = refl;
     listed = listed-add;
     termed = termed-add small;
-    nodes = refl;
-    many = refl;
   }
-
--- THE TERM REFUSED
-pub not-added : (k : Counts) (c w : ℕ) (cs ws : List ℕ) (ts : List (List ℕ)) (x : ℕ) → Listed k ts → Termed k cs ws → x ≡ termIn k ts c → (x ≡ 0 → ⊥)
-    → Added k c w cs ws ts (record { refusal = x; counts = k }) cs ws ts
-not-added k c w cs ws ts x g h e z = record {
-  number = λ bs. e ∙ term-is k cs ws ts bs g h c;
-  job = λ bs. sym (ap (λ (t : Bool). cond t (withTerm (jobIn k cs ws ts bs) (term c w)) (jobIn k cs ws ts bs)) (ne-eqb x 0 z));
-  conditions = sym (ap (λ (t : Bool). cond t (set cs (k .terms) c) cs) (ne-eqb x 0 z));
-  weights = sym (ap (λ (t : Bool). cond t (set ws (k .terms) w) ws) (ne-eqb x 0 z));
-  thresholds = sym (ap (λ (t : Bool). cond t (set ts (k .thresholds - 1) (nodeAt ts (k .thresholds - 1) ∷ (k .terms + 1) ∷ [])) ts) (ne-eqb x 0 z));
-  listed = g;
-  termed = h;
-  nodes = refl;
-  many = refl;
-}
 
 -- ---- both keep the invariant
 
-pub opened-gathered : (k : Counts) (n : ℕ) (b : ℤ) (cs ws : List ℕ) (ts : List (List ℕ)) (bs : List ℤ) (r : Taken) (ts′ : List (List ℕ)) (bs′ : List ℤ)
-    → Gathered k cs ws ts bs → Opened k n b ts bs r ts′ bs′ → Gathered (r .counts) cs ws ts′ bs′
+pub opened-gathered : (k : Standing) (n : ℕ) (b : ℤ) (cs ws : List ℕ) (ts : List (List ℕ)) (bs : List ℤ) (r : Standing) (ts′ : List (List ℕ)) (bs′ : List ℤ)
+    → Gathered k cs ws ts bs → Opened k n b ts bs r ts′ bs′ → Gathered r cs ws ts′ bs′
 opened-gathered k n b cs ws ts bs r ts′ bs′ g o = record {
   listed = o .listed;
   bounded = o .bounded;
   termed = record {
     conditions = g .termed .conditions;
     weights = g .termed .weights;
-    below = λ i q. subst (λ (x : ℕ). getD cs i 0 < x) (sym (o .nodes)) (g .termed .below i (subst (λ (x : ℕ). i < x) (o .terms) q));
-    light = λ i q. g .termed .light i (subst (λ (x : ℕ). i < x) (o .terms) q);
+    below = λ i q. subst (λ (x : ℕ). getD cs i 0 < x) (sym same-nodes) (g .termed .below i (subst (λ (x : ℕ). i < x) same-terms q));
+    light = λ i q. g .termed .light i (subst (λ (x : ℕ). i < x) same-terms q);
   };
 }
+  where
+    same-nodes : r .nodes ≡ k .nodes
+    same-nodes = ap (λ (x : Standing). x .nodes) (o .standing)
 
-pub added-gathered : (k : Counts) (c w : ℕ) (cs ws : List ℕ) (ts : List (List ℕ)) (bs : List ℤ) (r : Taken) (cs′ ws′ : List ℕ) (ts′ : List (List ℕ))
-    → Gathered k cs ws ts bs → Added k c w cs ws ts r cs′ ws′ ts′ → Gathered (r .counts) cs′ ws′ ts′ bs
+    same-terms : r .terms ≡ k .terms
+    same-terms = ap (λ (x : Standing). x .terms) (o .standing)
+
+pub added-gathered : (k : Standing) (c w : ℕ) (cs ws : List ℕ) (ts : List (List ℕ)) (bs : List ℤ) (r : Standing) (cs′ ws′ : List ℕ) (ts′ : List (List ℕ))
+    → Gathered k cs ws ts bs → Added k c w cs ws ts r cs′ ws′ ts′ → Gathered r cs′ ws′ ts′ bs
 added-gathered k c w cs ws ts bs r cs′ ws′ ts′ g o = record {
   listed = o .listed;
-  bounded = record { room = g .bounded .room; bound = λ t q. g .bounded .bound t (subst (λ (x : ℕ). t < x) (o .many) q) };
+  bounded = record { room = g .bounded .room; bound = λ t q. g .bounded .bound t (subst (λ (x : ℕ). t < x) (ap (λ (x : Standing). x .thresholds) (o .standing)) q) };
   termed = o .termed;
 }

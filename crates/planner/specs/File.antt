@@ -1,9 +1,9 @@
 -- A whole job file: what each record does, and the first refusal with its offset.
 use Prim.Native.Nat.{ℕ, zero, suc, _+_}
-use mathlib.Core.Bool.{Bool, true, false, _||_}
+use mathlib.Core.Bool.{Bool, true, false}
 use mathlib.Core.List.{List, [], _∷_, _++_}
-use lib.ListN.{length, take, drop, replicate}
-use lib.Dec.{eqb, leb, ltb}
+use lib.ListN.{length, drop, replicate}
+use lib.Dec.{eqb, ltb}
 use Rattle.numeric.specs.Threshold.{Job}
 use Rattle.state.specs.declared.Step.{Step}
 use Rattle.state.specs.declared.Step.the-variants.{Unchanged}
@@ -15,11 +15,14 @@ use Rattle.between.specs.Between.{Live, live}
 use Rattle.regions.specs.Drain as Drain
 use Rattle.regions.specs.Drain.{indexOf}
 use Rattle.regions.specs.Sift as Sift
-use Rattle.job.specs.Job.{lastNode, lastTerms, allTerms, isEmptyList, withChange}
+use Rattle.job.specs.Job.{standingOf, withChange}
 use Rattle.records.specs.declared.Record.{Record}
-use Rattle.records.specs.Record.{kinds, kindOf, bodyLength, recordOf}
-use Rattle.records.specs.Facts.{Action, begins, changes, closes, decides, settles, sifts, idles, action, facts}
-use Rattle.records.specs.Checks.{Standing, first, checks}
+use Rattle.records.specs.declared.Standing.{Standing}
+use Rattle.records.specs.Record.{kindOf, bodyLength}
+use Rattle.records.specs.Facts.{Action, begins, changes, closes, decides, settles, sifts, idles, action}
+use Rattle.records.specs.Checks.{refusedBy, refusedAt}
+pub use Rattle.records.specs.Record.{bodyOf, recordAt}
+pub use Rattle.records.specs.Checks.{unknownKind, cutBody}
 
 -- The answer of a settle or of a sift, a sift's with its visits.
 pub data Answer : Type 0 where
@@ -64,23 +67,10 @@ begun = record {
 
 -- THE CHECKS: what they read of a file, and the number of the first that applies to a record; 0 for none.
 abbrev pub standing : File → Standing
-standing f =
-    let ts = f .job .thresholds in
-    record {
-      started = f .started;
-      sealed = f .sealed;
-      contradicted = contradicted f;
-      empty = isEmptyList ts;
-      nodes = f .job .nodes;
-      last = lastNode ts;
-      listed = lastTerms ts;
-      thresholds = length ts;
-      terms = allTerms ts;
-      answers = length (f .answers);
-    }
+standing f = standingOf (f .started) (f .sealed) (contradicted f) (f .job) (length (f .answers))
 
 unfoldable pub refusal : File → Record → ℕ
-refusal f r = first (checks (standing f) false false (facts (action r)))
+refusal f r = refusedBy (standing f) r
 
 -- WHAT A RECORD DOES that is not refused.
 
@@ -152,21 +142,9 @@ pub record Outcome : Type 0 where
 abbrev pub outcome : File → List Record → ℕ → ℕ → Outcome
 outcome f rs r o = record { file = f; records = rs; refused = r; at = o }
 
--- The record that begins with this kind, and what stands before the other checks: kind, then body.
-abbrev pub bodyOf : ℕ → List ℕ → List ℕ
-bodyOf kind rest = take (bodyLength (kindOf kind)) rest
-
-abbrev pub recordAt : ℕ → List ℕ → Record
-recordAt kind rest = recordOf (kindOf kind) (bodyOf kind rest)
-
-abbrev pub unknownKind : ℕ → Bool
-unknownKind kind = eqb kind 0 || leb (length kinds) kind
-
-abbrev pub cutBody : ℕ → List ℕ → Bool
-cutBody kind rest = ltb (length (bodyOf kind rest)) (bodyLength (kindOf kind))
-
+-- With what stands before the other checks: kind, then body.
 abbrev pub refusalAt : File → ℕ → List ℕ → ℕ
-refusalAt f kind rest = first (checks (standing f) (unknownKind kind) (cutBody kind rest) (facts (action (recordAt kind rest))))
+refusalAt f kind rest = refusedAt (standing f) kind rest
 
 -- Records from an offset on; the first argument bounds their number.
 unfoldable pub readFrom : ℕ → ℕ → List ℕ → File → List Record → Outcome

@@ -1,21 +1,21 @@
 -- Laws of whole files: refusals are one of ten numbers; what was taken makes the file; a refused record leaves what the file
 -- cut before it leaves.
-use Prim.Native.Nat.{ℕ, zero, suc, _+_, _-_, _≤_, _<_, min}
-use native.Mathlib.Nat.{le-refl, not-suc-le-zero, le-of-suc-le-suc}
+use Prim.Native.Nat.{ℕ, zero, suc, _+_, _-_, _≤_}
+use native.Mathlib.Nat.{le-refl, not-suc-le-zero}
 use native.Mathlib.Omega.{arith}
 use mathlib.Core.Path.{_≡_, refl, sym, ap, ap₂, _∙_, subst}
 use mathlib.Core.Bool.{Bool, true, false, cond}
-use mathlib.Core.List.{List, [], _∷_, _++_, append-assoc}
-use lib.ListN.{length, take, drop, length-take, length-drop}
+use mathlib.Core.List.{List, [], _∷_, _++_}
+use lib.ListN.{length, take, drop, length-drop}
 use lib.Seq.{take-take, take-nil}
 use lib.Dec.{eqb, ltb}
 use mathlib.Core.Logic.{_⊎_, inl, inr, ⊎-elim}
 use borrow.Author.Tests.{eq-eqb, ne-eqb}
 use Rattle.records.specs.declared.Record.{Record}
 use Rattle.records.specs.Record.{kindOf, bodyLength, recordOf}
-use Rattle.records.specs.Facts.{Facts, action, facts}
-use Rattle.records.specs.Checks.{Check, check, first, checks}
-use Rattle.planner.specs.File.{File, standing, refusal, apply, Outcome, outcome, bodyOf, recordAt, unknownKind, cutBody, refusalAt, readFrom, fileOf, begun, planned, after}
+use Rattle.records.specs.Facts.{action, facts}
+use Rattle.records.specs.Checks.{Check, first, checks}
+use Rattle.planner.specs.File.{File, standing, refusal, apply, Outcome, outcome, bodyOf, recordAt, unknownKind, cutBody, refusalAt, readFrom, after}
 
 -- ONE OF TEN NUMBERS
 
@@ -95,17 +95,17 @@ module _ (n o kind : ℕ) (rest : List ℕ) (f : File) (taken : List Record) whe
     | false ↦ outcome f taken (refusalAt f kind rest) o
   ]
 
-  read-on : refusalAt f kind rest ≡ 0
+  pub read-on : refusalAt f kind rest ≡ 0
       → readFrom (suc n) o (kind ∷ rest) f taken
       ≡ readFrom n (o + 1 + bodyLength (kindOf kind)) (drop (bodyLength (kindOf kind)) rest) (apply f (recordAt kind rest)) (taken ++ (recordAt kind rest ∷ []))
   unfolding readFrom goes
   read-on h = ap goes (eq-eqb (refusalAt f kind rest) 0 h)
 
-  read-stop : (refusalAt f kind rest ≡ 0 → ⊥) → readFrom (suc n) o (kind ∷ rest) f taken ≡ outcome f taken (refusalAt f kind rest) o
+  pub read-stop : (refusalAt f kind rest ≡ 0 → ⊥) → readFrom (suc n) o (kind ∷ rest) f taken ≡ outcome f taken (refusalAt f kind rest) o
   unfolding readFrom goes
   read-stop h = ap goes (ne-eqb (refusalAt f kind rest) 0 h)
 
-zero-or : (n : ℕ) → (n ≡ 0) ⊎ (n ≡ 0 → ⊥)
+pub zero-or : (n : ℕ) → (n ≡ 0) ⊎ (n ≡ 0 → ⊥)
 zero-or zero = inl refl
 zero-or (suc n) = inr (λ e. omega arith)
 

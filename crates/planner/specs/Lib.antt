@@ -2,3 +2,7 @@ pub mod File
 pub mod Listing
 pub mod Contents
 pub mod FileLaws
+pub mod JobPart
+pub mod JobPartLaws
+pub mod Held
+pub mod HeldLaws

@@ -1,1 +1,188 @@
 // The whole file: records, refusals, answers, and the lent buffers.
+ghost use mathlib.Core.Path.{_≡_};
+ghost use mathlib.Core.Bool.{false};
+ghost use Prim.Native.Nat.{_<_};
+ghost use lib.ListN.{length};
+ghost use Rattle.memory.specs.Buffers.{rawLists, raw};
+ghost use Rattle.records.specs.Facts.{action, closing};
+ghost use Rattle.records.specs.Checks.{refusedBy};
+ghost use Rattle.job.specs.Gathered.{Gathered};
+ghost use Rattle.planner.specs.JobPart.{jobPartOf};
+ghost use Rattle.planner.specs.Held.{headed, Room, Takes, HeldPart, Reads};
+use records::Next;
+use records::Record;
+use records::Standing;
+
+// Where reading a job ended: the offset, the number of the refusal (0 for none), whether a seal is next, and what the checks read then.
+pub struct JobRead {
+    pub at: usize,
+    pub refusal: u8,
+    pub sealing: bool,
+    pub standing: Standing,
+}
+
+// Behind a header.
+fn begin(standing: Standing, nodes: u16) -> Standing
+    ensures { λ r. ⌜ r ≡ headed standing nodes ⌝ }
+{
+    Standing {
+        started: true,
+        sealed: standing.sealed,
+        contradicted: standing.contradicted,
+        nodes: nodes as usize,
+        thresholds: 0,
+        last_node: 0,
+        last_terms: 0,
+        terms: 0,
+        answers: standing.answers,
+    }
+}
+
+// A record of the job that passed its checks. What the checks read afterwards.
+fn take_record(
+    entry: Record,
+    standing: Standing,
+    raw_conditions: &mut [u16],
+    raw_weights: &mut [u64],
+    thresholds: &mut [[u16; 2]],
+    bounds: &mut [i64],
+) -> Standing
+    requires { ⌜ Gathered standing (now «raw_conditions») (now «raw_weights») (now thresholds) (now bounds)
+        × (refusedBy standing entry ≡ 0) × (standing .sealed ≡ false) × (closing (action entry) ≡ false) ⌝ }
+    ensures { λ r. ⌜ Takes entry standing (now («raw_conditions» .entry)) (now («raw_weights» .entry)) (now (thresholds .entry)) (now (bounds .entry))
+        r (now («raw_conditions» .exit)) (now («raw_weights» .exit)) (now (thresholds .exit)) (now (bounds .exit)) ⌝ }
+{
+    match entry {
+        Record::Header(nodes) => begin(standing, nodes),
+        Record::Opens(node, bound) => {
+            job::open_threshold(standing, node, bound, thresholds, bounds)
+        }
+        Record::Adds(condition, weight) => {
+            job::add_term(
+                standing,
+                condition,
+                weight as u64,
+                raw_conditions,
+                raw_weights,
+                thresholds,
+            )
+        }
+        Record::Areas(condition, area) => {
+            let weight = numeric::weight_of_area(area) as u64;
+            job::add_term(
+                standing,
+                condition,
+                weight,
+                raw_conditions,
+                raw_weights,
+                thresholds,
+            )
+        }
+        Record::Seal => standing,
+        Record::Mark(_, _) => standing,
+        Record::Settle => standing,
+        Record::Sift => standing,
+        Record::Unknown => standing,
+    }
+}
+
+// The record at an offset: refused, a seal, or taken.
+fn read_record(
+    input: &[u8],
+    at: usize,
+    standing: Standing,
+    raw_conditions: &mut [u16],
+    raw_weights: &mut [u64],
+    thresholds: &mut [[u16; 2]],
+    bounds: &mut [i64],
+) -> JobRead
+    requires { ⌜ (at < length (now input)) × (standing .sealed ≡ false)
+        × Gathered standing (now «raw_conditions») (now «raw_weights») (now thresholds) (now bounds) ⌝ }
+    ensures { λ r. ⌜ Reads (now (input .entry)) at standing
+        (now («raw_conditions» .entry)) (now («raw_weights» .entry)) (now (thresholds .entry)) (now (bounds .entry))
+        r (now («raw_conditions» .exit)) (now («raw_weights» .exit)) (now (thresholds .exit)) (now (bounds .exit)) ⌝ }
+{
+    let next = records::next_record(input, at, standing);
+    match next {
+        Next::Refused(number) => JobRead {
+            at: at,
+            refusal: number,
+            sealing: false,
+            standing: standing,
+        },
+        Next::Taken(entry) => {
+            if records::closes(entry) {
+                return JobRead {
+                    at: at,
+                    refusal: 0,
+                    sealing: true,
+                    standing: standing,
+                };
+            }
+            let size = records::body_length(input[at]);
+            let after = take_record(
+                entry,
+                standing,
+                raw_conditions,
+                raw_weights,
+                thresholds,
+                bounds,
+            );
+            JobRead {
+                at: at + 1 + size,
+                refusal: 0,
+                sealing: false,
+                standing: after,
+            }
+        }
+    }
+}
+
+// The records of an input up to its seal, into buffers for the job that they give.
+pub fn read_job(
+    input: &[u8],
+    raw_conditions: &mut [u16],
+    raw_weights: &mut [u64],
+    thresholds: &mut [[u16; 2]],
+    bounds: &mut [i64],
+) -> JobRead
+    requires { ⌜ Room (raw (rawLists (now «raw_conditions») (now «raw_weights») (now thresholds)) (now bounds)) ⌝ }
+    ensures { λ r. ⌜ HeldPart (jobPartOf (now (input .entry)))
+        (raw (rawLists (now («raw_conditions» .entry)) (now («raw_weights» .entry)) (now (thresholds .entry))) (now (bounds .entry))) r
+        (now («raw_conditions» .exit)) (now («raw_weights» .exit)) (now (thresholds .exit)) (now (bounds .exit)) ⌝ }
+{
+    let standing = Standing {
+        started: false,
+        sealed: false,
+        contradicted: false,
+        nodes: 0,
+        thresholds: 0,
+        last_node: 0,
+        last_terms: 0,
+        terms: 0,
+        answers: 0,
+    };
+    let mut read = JobRead {
+        at: 0,
+        refusal: 0,
+        sealing: false,
+        standing: standing,
+    };
+    while read.at < input.len() {
+        let so_far = read.standing;
+        let next = read_record(
+            input,
+            read.at,
+            so_far,
+            raw_conditions,
+            raw_weights,
+            thresholds,
+            bounds,
+        );
+        if (next.refusal != 0) | next.sealing {
+            return next;
+        }
+        read = next;
+    }
+    read
+}

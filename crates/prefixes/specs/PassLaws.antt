@@ -17,7 +17,7 @@ use Rattle.prefixes.specs.Links.{Link, termsAt, common, orderFrom, ances
 use Rattle.prefixes.specs.LinksLaws.{link}
 use Rattle.prefixes.specs.WordsLaws.{common-right}
 use Rattle.prefixes.specs.OrderLaws.{Distinct, order-distinct, order-length, order-range}
-use Rattle.prefixes.specs.Held.{heldTerms, heldRows, HeldRow, Held}
+use Rattle.prefixes.specs.Held.{heldTerms, rowsHeld, HeldRow, Held}
 use Rattle.thresholds.specs.Incidents.{rowStart, rowEnd}
 use Rattle.prefixes.specs.HeldLaws.{held-terms, held-length, stretch-length, length-numbers}
 use Rattle.lists.specs.Laid.{numbers}
@@ -297,41 +297,41 @@ module _ (rows : List (List ℕ)) (cs ws : List ℕ) where
     pub on : top ≤ length rows
     pub stack : List ℕ
     pub chain : Chain s top stack
-    pub passed : (a : ℕ) → List·Memᴰ a stack → (k : ℕ) × (k < i) × (getD (orderFrom (heldRows rows cs ws (length rows)) 0 (heldRows rows cs ws (length rows))) k 0 ≡ a)
+    pub passed : (a : ℕ) → List·Memᴰ a stack → (k : ℕ) × (k < i) × (getD (orderFrom (rowsHeld rows cs ws (length rows)) 0 (rowsHeld rows cs ws (length rows))) k 0 ≡ a)
     pub done : List Link
-    pub rest : done ++ linksFrom (heldRows rows cs ws (length rows)) (drop i (orderFrom (heldRows rows cs ws (length rows)) 0 (heldRows rows cs ws (length rows))))
-        (named (termsAt (heldRows rows cs ws (length rows))) top) stack ≡ links (heldRows rows cs ws (length rows))
+    pub rest : done ++ linksFrom (rowsHeld rows cs ws (length rows)) (drop i (orderFrom (rowsHeld rows cs ws (length rows)) 0 (rowsHeld rows cs ws (length rows))))
+        (named (termsAt (rowsHeld rows cs ws (length rows))) top) stack ≡ links (rowsHeld rows cs ws (length rows))
     pub words : (x : ℕ) → x < length rows → getD s (1024 + x) 0 ≡ linkWord x done
-    pub fresh : (k : ℕ) → i ≤ k → k < length rows → linkWord (getD (orderFrom (heldRows rows cs ws (length rows)) 0 (heldRows rows cs ws (length rows))) k 0) done ≡ 0
+    pub fresh : (k : ℕ) → i ≤ k → k < length rows → linkWord (getD (orderFrom (rowsHeld rows cs ws (length rows)) 0 (rowsHeld rows cs ws (length rows))) k 0) done ≡ 0
 
-  module _ (held : Held rows cs ws (length rows)) (s₀ : List ℕ) (ready : Ordered (heldRows rows cs ws (length rows)) (length rows) s₀) where
+  module _ (held : Held rows cs ws (length rows)) (s₀ : List ℕ) (ready : Ordered (rowsHeld rows cs ws (length rows)) (length rows) s₀) where
     n : ℕ
     n = length rows
 
     rs : List Row
-    rs = heldRows rows cs ws (length rows)
+    rs = rowsHeld rows cs ws (length rows)
 
     order : List ℕ
-    order = orderFrom (heldRows rows cs ws (length rows)) 0 (heldRows rows cs ws (length rows))
+    order = orderFrom (rowsHeld rows cs ws (length rows)) 0 (rowsHeld rows cs ws (length rows))
 
     T : ℕ → List Term
-    T = termsAt (heldRows rows cs ws (length rows))
+    T = termsAt (rowsHeld rows cs ws (length rows))
 
     many-rows : length order ≡ length rows
     unfolding order
-    many-rows = order-length (heldRows rows cs ws (length rows)) 0 (heldRows rows cs ws (length rows)) ∙ held-length rows cs ws (length rows)
+    many-rows = order-length (rowsHeld rows cs ws (length rows)) 0 (rowsHeld rows cs ws (length rows)) ∙ held-length rows cs ws (length rows)
 
     order-row : (k : ℕ) → k < length rows → getD order k 0 < length rows
     unfolding order
     order-row k h =
-        let m = order-range (heldRows rows cs ws (length rows)) 0 (heldRows rows cs ws (length rows)) (getD order k 0) (mem-at order k (omega (arith, many-rows))) in
+        let m = order-range (rowsHeld rows cs ws (length rows)) 0 (rowsHeld rows cs ws (length rows)) (getD order k 0) (mem-at order k (omega (arith, many-rows))) in
         omega (arith, held-length rows cs ws (length rows))
 
     order-once : (i k : ℕ) → i < k → k < length rows → getD order i 0 ≡ getD order k 0 → ⊥
     unfolding order
-    order-once i k h l e = distinct-at order (order-distinct (heldRows rows cs ws (length rows)) 0 (heldRows rows cs ws (length rows))) i k h (omega (arith, many-rows)) e
+    order-once i k h l e = distinct-at order (order-distinct (rowsHeld rows cs ws (length rows)) 0 (rowsHeld rows cs ws (length rows))) i k h (omega (arith, many-rows)) e
 
-    pub row-length-is : (a : ℕ) → a < length rows → lengthAt rows a ≡ length (termsAt (heldRows rows cs ws (length rows)) a)
+    pub row-length-is : (a : ℕ) → a < length rows → lengthAt rows a ≡ length (termsAt (rowsHeld rows cs ws (length rows)) a)
     row-length-is a h =
         let r = held a h in
         sym (ap length (held-terms rows cs ws (length rows) a h) ∙ stretch-length cs ws (rowStart rows a) (rowEnd rows a) (r .conditions) (r .weights))
@@ -351,7 +351,7 @@ module _ (rows : List (List ℕ)) (cs ws : List ℕ) where
           chain = refl;
           passed = λ a i. absurd (List·Memᴰ·not-nil i);
           done = [];
-          rest = ap (λ (p : List Term). linksFrom (heldRows rows cs ws (length rows)) (orderFrom (heldRows rows cs ws (length rows)) 0 (heldRows rows cs ws (length rows))) p []) (named-zero (termsAt (heldRows rows cs ws (length rows))));
+          rest = ap (λ (p : List Term). linksFrom (rowsHeld rows cs ws (length rows)) (orderFrom (rowsHeld rows cs ws (length rows)) 0 (rowsHeld rows cs ws (length rows))) p []) (named-zero (termsAt (rowsHeld rows cs ws (length rows))));
           words = λ x h. ready .no-links x h;
           fresh = λ k h l. refl;
         }
@@ -405,25 +405,25 @@ module _ (rows : List (List ℕ)) (cs ws : List ℕ) where
 
         K-mem : (a : ℕ) → List·Memᴰ a K → List·Memᴰ a (p .stack)
         unfolding K
-        K-mem a m = kept-from (heldRows rows cs ws (length rows)) (lengthAt rows) shared a (p .stack) m
+        K-mem a m = kept-from (rowsHeld rows cs ws (length rows)) (lengthAt rows) shared a (p .stack) m
 
-        lengths : (a : ℕ) → List·Memᴰ a (p .stack) → lengthAt rows a ≡ length (termsAt (heldRows rows cs ws (length rows)) a)
+        lengths : (a : ℕ) → List·Memᴰ a (p .stack) → lengthAt rows a ≡ length (termsAt (rowsHeld rows cs ws (length rows)) a)
         lengths a m = row-length-is a (st-row a m)
 
-        shared-is : shared ≡ common (named (termsAt (heldRows rows cs ws (length rows))) top) (termsAt (heldRows rows cs ws (length rows)) (getD s i 0))
+        shared-is : shared ≡ common (named (termsAt (rowsHeld rows cs ws (length rows))) top) (termsAt (rowsHeld rows cs ws (length rows)) (getD s i 0))
         shared-is =
-            e ∙ ap₂ common (named-same (heldTerms rows cs ws) (termsAt (heldRows rows cs ws (length rows))) top (length rows) (p .on) (λ a h. sym (held-terms rows cs ws (length rows) a h)))
+            e ∙ ap₂ common (named-same (heldTerms rows cs ws) (termsAt (rowsHeld rows cs ws (length rows))) top (length rows) (p .on) (λ a h. sym (held-terms rows cs ws (length rows) a h)))
             (sym (held-terms rows cs ws (length rows) (getD s i 0) next-small))
 
         kept-here : ancestors rs (common (named T top) (T r)) (p .stack) ≡ K
         unfolding rs T r K
         kept-here =
-            ap (λ (c : ℕ). ancestors (heldRows rows cs ws (length rows)) c (p .stack)) (sym shared-is)
-            ∙ kept-is (heldRows rows cs ws (length rows)) (lengthAt rows) shared (p .stack) lengths
+            ap (λ (c : ℕ). ancestors (rowsHeld rows cs ws (length rows)) c (p .stack)) (sym shared-is)
+            ∙ kept-is (rowsHeld rows cs ws (length rows)) (lengthAt rows) shared (p .stack) lengths
 
         stack-here : stacked rs r K ≡ r ∷ underBy (lengthAt rows) r K
         unfolding rs r
-        stack-here = under-is (heldRows rows cs ws (length rows)) (lengthAt rows) (getD s i 0) K (row-length-is (getD s i 0) next-small) (λ a m. lengths a (K-mem a m))
+        stack-here = under-is (rowsHeld rows cs ws (length rows)) (lengthAt rows) (getD s i 0) K (row-length-is (getD s i 0) next-small) (λ a m. lengths a (K-mem a m))
 
         chain-K : Chain s t K
         unfolding K
@@ -433,7 +433,7 @@ module _ (rows : List (List ℕ)) (cs ws : List ℕ) where
         unfolding order
         new-mem a (inl q) = (i, omega arith, sym next-row ∙ sym q)
         new-mem a (inr m) =
-            let w = p .passed a (K-mem a (under-from (heldRows rows cs ws (length rows)) (lengthAt rows) (getD s i 0) a K m)) in
+            let w = p .passed a (K-mem a (under-from (rowsHeld rows cs ws (length rows)) (lengthAt rows) (getD s i 0) a K m)) in
             (w .0, (let z = w .1 in omega arith), w .2)
 
         new-falling : (a : ℕ) → a < length rows → Dec (a ≡ getD s i 0) → (getD s′ (2048 + a) 0 ≤ length rows) × (depth rows (getD s′ (2048 + a) 0) < depth rows (a + 1))
@@ -489,7 +489,7 @@ module _ (rows : List (List ℕ)) (cs ws : List ℕ) where
                 refl,
                 subst (λ (w : ℕ). Chain s′ w (underBy (lengthAt rows) (getD s i 0) K)) (sym up-at)
                     (chain-same s s′ u (underBy (lengthAt rows) (getD s i 0) K)
-                    (λ a m. let b = K-mem a (under-from (heldRows rows cs ws (length rows)) (lengthAt rows) (getD s i 0) a K m) in up-else a (st-row a b) (st-old a b))
+                    (λ a m. let b = K-mem a (under-from (rowsHeld rows cs ws (length rows)) (lengthAt rows) (getD s i 0) a K m) in up-else a (st-row a b) (st-old a b))
                     (under .chain K chain-K)),
               );
               passed = λ a m. new-mem a (List·Memᴰ·cases-cons m);
@@ -503,19 +503,19 @@ module _ (rows : List (List ℕ)) (cs ws : List ℕ) where
             more′ = omega arith
 
     -- and all of them
-    pub passing-end : (s : List ℕ) (i top : ℕ) → Passing s₀ s i top → i ≡ length rows → (x : ℕ) → x < length rows → getD s (1024 + x) 0 ≡ linkWord x (links (heldRows rows cs ws (length rows)))
+    pub passing-end : (s : List ℕ) (i top : ℕ) → Passing s₀ s i top → i ≡ length rows → (x : ℕ) → x < length rows → getD s (1024 + x) 0 ≡ linkWord x (links (rowsHeld rows cs ws (length rows)))
     passing-end s i top p e x h =
         p .words x h ∙ ap (linkWord x) (sym (append-nil (p .done)) ∙ ap (λ (l : List Link). p .done ++ l) (sym none) ∙ p .rest)
       where
-        none : linksFrom (heldRows rows cs ws (length rows)) (drop i (orderFrom (heldRows rows cs ws (length rows)) 0 (heldRows rows cs ws (length rows))))
-            (named (termsAt (heldRows rows cs ws (length rows))) top) (p .stack) ≡ []
+        none : linksFrom (rowsHeld rows cs ws (length rows)) (drop i (orderFrom (rowsHeld rows cs ws (length rows)) 0 (rowsHeld rows cs ws (length rows))))
+            (named (termsAt (rowsHeld rows cs ws (length rows))) top) (p .stack) ≡ []
         none =
-            let m = order-length (heldRows rows cs ws (length rows)) 0 (heldRows rows cs ws (length rows)) ∙ held-length rows cs ws (length rows) in
-            ap (λ (l : List ℕ). linksFrom (heldRows rows cs ws (length rows)) l (named (termsAt (heldRows rows cs ws (length rows))) top) (p .stack))
-            (drop-of-length-le (orderFrom (heldRows rows cs ws (length rows)) 0 (heldRows rows cs ws (length rows))) {i = i} (omega arith))
-            ∙ links-over (heldRows rows cs ws (length rows)) (named (termsAt (heldRows rows cs ws (length rows))) top) (p .stack)
+            let m = order-length (rowsHeld rows cs ws (length rows)) 0 (rowsHeld rows cs ws (length rows)) ∙ held-length rows cs ws (length rows) in
+            ap (λ (l : List ℕ). linksFrom (rowsHeld rows cs ws (length rows)) l (named (termsAt (rowsHeld rows cs ws (length rows))) top) (p .stack))
+            (drop-of-length-le (orderFrom (rowsHeld rows cs ws (length rows)) 0 (rowsHeld rows cs ws (length rows))) {i = i} (omega arith))
+            ∙ links-over (rowsHeld rows cs ws (length rows)) (named (termsAt (rowsHeld rows cs ws (length rows))) top) (p .stack)
 
-    pub passing-linked : (s : List ℕ) (i top : ℕ) → Passing s₀ s i top → i ≡ length rows → Linked (heldRows rows cs ws (length rows)) (length rows) s₀ s
+    pub passing-linked : (s : List ℕ) (i top : ℕ) → Passing s₀ s i top → i ≡ length rows → Linked (rowsHeld rows cs ws (length rows)) (length rows) s₀ s
     passing-linked s i top p e = record { sized = p .sized; front = p .front; words = passing-end s i top p e; between = p .between; far = p .far }
 
     module _ (s : List ℕ) (i top : ℕ) (p : Passing s₀ s i top) (more : i < length rows) where
@@ -611,12 +611,12 @@ module _ (rs : List Row) (s₀ : List ℕ) (clear : Clear s₀) (small : length 
 
 -- the sort's order is the definition's
 pub sorted-order : (rows : List (List ℕ)) (cs ws : List ℕ) (n : ℕ) → n ≡ length rows
-    → orderBy (heldTerms rows cs ws) 0 (n - 0) ≡ orderFrom (heldRows rows cs ws (length rows)) 0 (heldRows rows cs ws (length rows))
+    → orderBy (heldTerms rows cs ws) 0 (n - 0) ≡ orderFrom (rowsHeld rows cs ws (length rows)) 0 (rowsHeld rows cs ws (length rows))
 sorted-order rows cs ws n e =
     let q : n - 0 ≡ length rows = omega arith in
     let m = held-length rows cs ws (length rows) in
     ap (orderBy (heldTerms rows cs ws) 0) (q ∙ sym m)
-    ∙ sym (order-by (heldTerms rows cs ws) (heldRows rows cs ws (length rows)) 0 (heldRows rows cs ws (length rows)) (λ x h l. sym (held-terms rows cs ws (length rows) x (omega arith))))
+    ∙ sym (order-by (heldTerms rows cs ws) (rowsHeld rows cs ws (length rows)) 0 (rowsHeld rows cs ws (length rows)) (λ x h l. sym (held-terms rows cs ws (length rows) x (omega arith))))
 
 links-none : (rs : List Row) (s : List ℕ) → length rs ≡ 0 → s ≡ withLinks rs s
 unfolding orderFrom numbers
@@ -624,30 +624,30 @@ links-none [] s e = sym (laid-none (laid s 0 []) 1024 ∙ laid-none s 0)
 links-none (r ∷ rs) s e = absurd (omega arith)
 
 module _ (rows : List (List ℕ)) (cs ws : List ℕ) (s₀ : List ℕ) (clear : Clear s₀) (small : length rows ≤ 1024) where
-  is-held : length (heldRows rows cs ws (length rows)) ≡ length rows
+  is-held : length (rowsHeld rows cs ws (length rows)) ≡ length rows
   is-held = held-length rows cs ws (length rows)
 
-  fits : length (heldRows rows cs ws (length rows)) ≤ 1024
+  fits : length (rowsHeld rows cs ws (length rows)) ≤ 1024
   fits = omega (arith, is-held)
 
-  pub held-none : length rows ≡ 0 → s₀ ≡ withLinks (heldRows rows cs ws (length rows)) s₀
-  held-none e = links-none (heldRows rows cs ws (length rows)) s₀ (is-held ∙ e)
+  pub held-none : length rows ≡ 0 → s₀ ≡ withLinks (rowsHeld rows cs ws (length rows)) s₀
+  held-none e = links-none (rowsHeld rows cs ws (length rows)) s₀ (is-held ∙ e)
 
   module _ (s₁ : List ℕ) (e : s₁ ≡ laid s₀ 0 (orderBy (heldTerms rows cs ws) 0 (length rows - 0))) where
-    in-order : s₁ ≡ laid s₀ 0 (orderFrom (heldRows rows cs ws (length rows)) 0 (heldRows rows cs ws (length rows)))
+    in-order : s₁ ≡ laid s₀ 0 (orderFrom (rowsHeld rows cs ws (length rows)) 0 (rowsHeld rows cs ws (length rows)))
     in-order = e ∙ ap (laid s₀ 0) (sorted-order rows cs ws (length rows) refl)
 
-    pub held-ready : Ordered (heldRows rows cs ws (length rows)) (length rows) s₁
+    pub held-ready : Ordered (rowsHeld rows cs ws (length rows)) (length rows) s₁
     held-ready =
-        subst (λ (k : ℕ). Ordered (heldRows rows cs ws (length rows)) k s₁) is-held (sorted-ready (heldRows rows cs ws (length rows)) s₀ clear fits s₁ in-order)
+        subst (λ (k : ℕ). Ordered (rowsHeld rows cs ws (length rows)) k s₁) is-held (sorted-ready (rowsHeld rows cs ws (length rows)) s₀ clear fits s₁ in-order)
 
-    pub held-end : (s₂ s₃ : List ℕ) → Linked (heldRows rows cs ws (length rows)) (length rows) s₁ s₂ → s₃ ≡ laid s₂ 2048 (zeros (2048 + length rows - 2048))
-        → s₃ ≡ withLinks (heldRows rows cs ws (length rows)) s₀
+    pub held-end : (s₂ s₃ : List ℕ) → Linked (rowsHeld rows cs ws (length rows)) (length rows) s₁ s₂ → s₃ ≡ laid s₂ 2048 (zeros (2048 + length rows - 2048))
+        → s₃ ≡ withLinks (rowsHeld rows cs ws (length rows)) s₀
     held-end s₂ s₃ l q =
-        linked-end (heldRows rows cs ws (length rows)) s₀ clear fits s₁ s₂ s₃ in-order (subst (λ (k : ℕ). Linked (heldRows rows cs ws (length rows)) k s₁ s₂) (sym is-held) l)
+        linked-end (rowsHeld rows cs ws (length rows)) s₀ clear fits s₁ s₂ s₃ in-order (subst (λ (k : ℕ). Linked (rowsHeld rows cs ws (length rows)) k s₁ s₂) (sym is-held) l)
         (q ∙ ap (λ (k : ℕ). laid s₂ 2048 (zeros (2048 + k - 2048))) (sym is-held))
 
-    pub held-room : (s₂ : List ℕ) → Linked (heldRows rows cs ws (length rows)) (length rows) s₁ s₂ → 3072 ≤ length s₂
+    pub held-room : (s₂ : List ℕ) → Linked (rowsHeld rows cs ws (length rows)) (length rows) s₁ s₂ → 3072 ≤ length s₂
     held-room s₂ l = omega (arith, held-ready .room, l .sized)
 
 -- ---- reading the words with links

@@ -13,7 +13,7 @@ use lib.Seq.{getD-append-add, length-take-le, ext-getD, getD-take}
 use Rattle.lists.specs.Laid.{numbers, joinAll, ends, over}
 use Rattle.numeric.specs.Threshold.{Term}
 use Rattle.thresholds.specs.Rows.{Row, rowOf}
-use Rattle.prefixes.specs.Held.{stretch, heldTerms, heldRows, HeldRow, Held}
+use Rattle.prefixes.specs.Held.{stretch, heldTerms, rowsHeld, HeldRow, Held}
 use Rattle.thresholds.specs.Incidents.{rowStart, rowEnd}
 use Rattle.prefixes.specs.HeldLaws.{held-length}
 use Rattle.prefixes.specs.Links.{Link, termsAt, common, orderFrom, ancestors, stacked, linked, linksFrom, links, neighbours, neighbourLists}
@@ -400,8 +400,8 @@ module _ (rows : List (List ℕ)) (cs ws : List ℕ) (n : ℕ) (fits : n ≤ len
   all-same a zero h = refl
   all-same a (suc k) h = ap₂ (λ (t : List Term) (l : List Row). rowOf [] t [] ∷ l) (terms-same a (omega arith)) (all-same (a + 1) k (omega arith))
 
-  pub front-rows : heldRows (take n rows) cs ws (length (take n rows)) ≡ heldRows rows cs ws n
-  front-rows = ap (heldRows (take n rows) cs ws) front-length ∙ all-same 0 n (omega arith)
+  pub front-rows : rowsHeld (take n rows) cs ws (length (take n rows)) ≡ rowsHeld rows cs ws n
+  front-rows = ap (rowsHeld (take n rows) cs ws) front-length ∙ all-same 0 n (omega arith)
 
   pub front-held : Held rows cs ws n → Held (take n rows) cs ws (length (take n rows))
   front-held h r k =
@@ -411,7 +411,7 @@ module _ (rows : List (List ℕ)) (cs ws : List ℕ) (n : ℕ) (fits : n ≤ len
       let q = h r l in
       record { listed = k; rising = omega (arith, q .rising); conditions = omega (arith, q .conditions); weights = omega (arith, q .weights) }
 
-  pub front-many : length (heldRows (take n rows) cs ws (length (take n rows))) ≡ n
+  pub front-many : length (rowsHeld (take n rows) cs ws (length (take n rows))) ≡ n
   front-many = held-length (take n rows) cs ws (length (take n rows)) ∙ front-length
 
 module _ (rs : List Row) (n : ℕ) (many : length rs ≡ n) (s₀ : List ℕ) (clear : Clear s₀) (small : n ≤ 1024) (s₁ : List ℕ) (e₁ : s₁ ≡ withLinks rs s₀) where
@@ -455,5 +455,5 @@ module _ (rs : List Row) (n : ℕ) (many : length rs ≡ n) (s₀ : List ℕ) (c
             }
 
 pub prepared-front : (rows₀ : List (List ℕ)) (cs ws : List ℕ) (n : ℕ) → n ≤ length rows₀ → {rows : List (List ℕ)} {links₀ out s₀ s₅ : List ℕ}
-    → Prepared (heldRows (take n rows₀) cs ws (length (take n rows₀))) n rows₀ rows links₀ out s₀ s₅ → Prepared (heldRows rows₀ cs ws n) n rows₀ rows links₀ out s₀ s₅
+    → Prepared (rowsHeld (take n rows₀) cs ws (length (take n rows₀))) n rows₀ rows links₀ out s₀ s₅ → Prepared (rowsHeld rows₀ cs ws n) n rows₀ rows links₀ out s₀ s₅
 prepared-front rows₀ cs ws n h {rows} {links₀} {out} {s₀} {s₅} p = subst (λ (q : List Row). Prepared q n rows₀ rows links₀ out s₀ s₅) (front-rows rows₀ cs ws n h) p

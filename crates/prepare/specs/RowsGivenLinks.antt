@@ -14,7 +14,7 @@ use Rattle.thresholds.specs.Laid.{conditions, weights, termLists}
 use Rattle.thresholds.specs.Incidents.{rowEnd, heldTerms as rowTermsHeld}
 use Rattle.prefixes.specs.Links.{termsAt, neighbourLists}
 use Rattle.prefixes.specs.LinksLaws.{neighbourLists-same}
-use Rattle.prefixes.specs.Held.{stretch, heldTerms, heldRows, Held}
+use Rattle.prefixes.specs.Held.{stretch, heldTerms, rowsHeld, Held}
 use Rattle.prefixes.specs.HeldLaws.{held-terms, held-length}
 use Rattle.prepare.specs.RowsGivenLaid.{length-ends, over-rising, over-inside}
 use Rattle.prepare.specs.RowsGivenHeld.{row-start, held-over}
@@ -45,19 +45,19 @@ module _ (cs ws : List ℕ) (rows : List (List ℕ)) (ls : List (List Term)) (cm
 module _ (cs ws : List ℕ) (rows : List (List ℕ)) (rs : List Row) (cmore wmore more : List ℕ)
     (c : cs ≡ conditions (joinAll (termLists rs)) ++ cmore) (w : ws ≡ weights (joinAll (termLists rs)) ++ wmore)
     (e : column 0 rows ≡ ends 0 (termLists rs) ++ more) where
-  same : (k : ℕ) → termsAt (heldRows rows cs ws (length rs)) k ≡ termsAt rs k
+  same : (k : ℕ) → termsAt (rowsHeld rows cs ws (length rs)) k ≡ termsAt rs k
   same k = by (decLt k (length rs))
     where
-      by : Dec (k < length rs) → termsAt (heldRows rows cs ws (length rs)) k ≡ termsAt rs k
+      by : Dec (k < length rs) → termsAt (rowsHeld rows cs ws (length rs)) k ≡ termsAt rs k
       by (yes h) =
           held-terms rows cs ws (length rs) k h ∙ same-terms rows cs ws k
           ∙ held-over cs ws rows (termLists rs) cmore wmore more c w e k (subst (λ (n : ℕ). k < n) (sym (length-map rs (λ (r : Row). r .terms))) h)
           ∙ List·getD-map (λ (r : Row). r .terms) rs k noRow
       by (no h) =
-          let p : length (heldRows rows cs ws (length rs)) ≤ k = let q = held-length rows cs ws (length rs) in omega arith in
+          let p : length (rowsHeld rows cs ws (length rs)) ≤ k = let q = held-length rows cs ws (length rs) in omega arith in
           let q : length rs ≤ k = omega arith in
-          ap (λ (r : Row). r .terms) (List·getD-eq-default (heldRows rows cs ws (length rs)) noRow p ∙ sym (List·getD-eq-default rs noRow q))
+          ap (λ (r : Row). r .terms) (List·getD-eq-default (rowsHeld rows cs ws (length rs)) noRow p ∙ sym (List·getD-eq-default rs noRow q))
 
   -- THE NEIGHBOURS OF THE ROWS THAT THE BUFFERS HOLD ARE THOSE OF THE ROWS.
-  pub neighbours-given : neighbourLists (heldRows rows cs ws (length rs)) ≡ neighbourLists rs
-  neighbours-given = neighbourLists-same (heldRows rows cs ws (length rs)) rs same (held-length rows cs ws (length rs))
+  pub neighbours-given : neighbourLists (rowsHeld rows cs ws (length rs)) ≡ neighbourLists rs
+  neighbours-given = neighbourLists-same (rowsHeld rows cs ws (length rs)) rs same (held-length rows cs ws (length rs))

@@ -82,13 +82,13 @@ fn guard_turn(
     node: u16,
     sure: &mut [u64],
     never: &mut [u64],
-    nodes: &mut [u16],
+    node_queue: &mut [u16],
     scan: Scan,
 ) -> Turn
-    requires { ⌜ Waits (marks (now sure) (now never) (queue (now nodes) (scan .ring))) × (node < 4096) × (scan .passed + 1 < 2 ^ 64) ⌝ }
-    ensures { λ r. ⌜ turnOf (scanned (r .scan .passed) (marks (now (sure .exit)) (now (never .exit)) (queue (now (nodes .exit)) (r .scan .ring))) (r .scan .step)) (r .ends)
-        ≡ turned waits (decide value (marks (now (sure .entry)) (now (never .entry)) (queue (now (nodes .entry)) (scan .ring))) node)
-        (scanned (scan .passed) (marks (now (sure .entry)) (now (never .entry)) (queue (now (nodes .entry)) (scan .ring))) (scan .step)) ⌝ }
+    requires { ⌜ Waits (marks (now sure) (now never) (queue (now «node_queue») (scan .ring))) × (node < 4096) × (scan .passed + 1 < 2 ^ 64) ⌝ }
+    ensures { λ r. ⌜ turnOf (scanned (r .scan .passed) (marks (now (sure .exit)) (now (never .exit)) (queue (now («node_queue» .exit)) (r .scan .ring))) (r .scan .step)) (r .ends)
+        ≡ turned waits (decide value (marks (now (sure .entry)) (now (never .entry)) (queue (now («node_queue» .entry)) (scan .ring))) node)
+        (scanned (scan .passed) (marks (now (sure .entry)) (now (never .entry)) (queue (now («node_queue» .entry)) (scan .ring))) (scan .step)) ⌝ }
 {
     if waits {
         return Turn {
@@ -97,7 +97,7 @@ fn guard_turn(
         };
     }
     let ring = scan.ring;
-    let made = queues::decide(value, sure, never, nodes, ring, node as usize);
+    let made = queues::decide(value, sure, never, node_queue, ring, node as usize);
     passed_turn(scan, made)
 }
 
@@ -108,14 +108,14 @@ fn term_turn(
     node: u16,
     sure: &mut [u64],
     never: &mut [u64],
-    nodes: &mut [u16],
+    node_queue: &mut [u16],
     scan: Scan,
 ) -> Turn
-    requires { ⌜ Waits (marks (now sure) (now never) (queue (now nodes) (scan .ring))) × (node < 4096) × (scan .passed + 1 < 2 ^ 64) ⌝ }
-    ensures { λ r. ⌜ turnOf (scanned (r .scan .passed) (marks (now (sure .exit)) (now (never .exit)) (queue (now (nodes .exit)) (r .scan .ring))) (r .scan .step)) (r .ends)
-        ≡ turned (not (isDecided (marks (now (sure .entry)) (now (never .entry)) (queue (now (nodes .entry)) (scan .ring))) node) && waits)
-        (force value (marks (now (sure .entry)) (now (never .entry)) (queue (now (nodes .entry)) (scan .ring))) node)
-        (scanned (scan .passed) (marks (now (sure .entry)) (now (never .entry)) (queue (now (nodes .entry)) (scan .ring))) (scan .step)) ⌝ }
+    requires { ⌜ Waits (marks (now sure) (now never) (queue (now «node_queue») (scan .ring))) × (node < 4096) × (scan .passed + 1 < 2 ^ 64) ⌝ }
+    ensures { λ r. ⌜ turnOf (scanned (r .scan .passed) (marks (now (sure .exit)) (now (never .exit)) (queue (now («node_queue» .exit)) (r .scan .ring))) (r .scan .step)) (r .ends)
+        ≡ turned (not (isDecided (marks (now (sure .entry)) (now (never .entry)) (queue (now («node_queue» .entry)) (scan .ring))) node) && waits)
+        (force value (marks (now (sure .entry)) (now (never .entry)) (queue (now («node_queue» .entry)) (scan .ring))) node)
+        (scanned (scan .passed) (marks (now (sure .entry)) (now (never .entry)) (queue (now («node_queue» .entry)) (scan .ring))) (scan .step)) ⌝ }
 {
     let ring = scan.ring;
     if words::decided(sure, never, node) {
@@ -125,7 +125,7 @@ fn term_turn(
         };
         return passed_turn(scan, made);
     }
-    guard_turn(value, waits, node, sure, never, nodes, scan)
+    guard_turn(value, waits, node, sure, never, node_queue, scan)
 }
 
 // The bound is above what is reached.
@@ -154,12 +154,12 @@ fn sure_guards(
     state: State,
     sure: &mut [u64],
     never: &mut [u64],
-    nodes: &mut [u16],
+    node_queue: &mut [u16],
     ring: Ring,
 ) -> Scan
-    requires { ⌜ GuardSlices (now bounds) (now names) × Waits (marks (now sure) (now never) (queue (now nodes) ring)) ⌝ }
-    ensures { λ r. ⌜ scanned (r .passed) (marks (now (sure .exit)) (now (never .exit)) (queue (now (nodes .exit)) (r .ring))) (r .step)
-        ≡ sureGuards (guards (now (bounds .entry)) (now (names .entry))) state (marks (now (sure .entry)) (now (never .entry)) (queue (now (nodes .entry)) ring)) ⌝ }
+    requires { ⌜ GuardSlices (now bounds) (now names) × Waits (marks (now sure) (now never) (queue (now «node_queue») ring)) ⌝ }
+    ensures { λ r. ⌜ scanned (r .passed) (marks (now (sure .exit)) (now (never .exit)) (queue (now («node_queue» .exit)) (r .ring))) (r .step)
+        ≡ sureGuards (guards (now (bounds .entry)) (now (names .entry))) state (marks (now (sure .entry)) (now (never .entry)) (queue (now («node_queue» .entry)) ring)) ⌝ }
 {
     let mut at = state.sure_guard;
     let mut so_far = Scan {
@@ -171,7 +171,7 @@ fn sure_guards(
         let bound = bounds[at];
         let node = names[at];
         let waits = sure_waits(state, bound);
-        let turn = guard_turn(true, waits, node, sure, never, nodes, so_far);
+        let turn = guard_turn(true, waits, node, sure, never, node_queue, so_far);
         let next = turn.scan;
         so_far = next;
         if turn.ends {
@@ -189,13 +189,13 @@ fn never_guards(
     state: State,
     sure: &mut [u64],
     never: &mut [u64],
-    nodes: &mut [u16],
+    node_queue: &mut [u16],
     ring: Ring,
     before: Step,
 ) -> Scan
-    requires { ⌜ GuardSlices (now bounds) (now names) × (state .«never_guard» ≤ length (now bounds)) × Waits (marks (now sure) (now never) (queue (now nodes) ring)) ⌝ }
-    ensures { λ r. ⌜ scanned (r .passed) (marks (now (sure .exit)) (now (never .exit)) (queue (now (nodes .exit)) (r .ring))) (r .step)
-        ≡ neverGuards (guards (now (bounds .entry)) (now (names .entry))) state (marks (now (sure .entry)) (now (never .entry)) (queue (now (nodes .entry)) ring)) before ⌝ }
+    requires { ⌜ GuardSlices (now bounds) (now names) × (state .«never_guard» ≤ length (now bounds)) × Waits (marks (now sure) (now never) (queue (now «node_queue») ring)) ⌝ }
+    ensures { λ r. ⌜ scanned (r .passed) (marks (now (sure .exit)) (now (never .exit)) (queue (now («node_queue» .exit)) (r .ring))) (r .step)
+        ≡ neverGuards (guards (now (bounds .entry)) (now (names .entry))) state (marks (now (sure .entry)) (now (never .entry)) (queue (now («node_queue» .entry)) ring)) before ⌝ }
 {
     let mut at = state.never_guard;
     let mut so_far = Scan {
@@ -207,7 +207,7 @@ fn never_guards(
         let bound = bounds[at - 1];
         let node = names[at - 1];
         let waits = never_waits(state, bound);
-        let turn = guard_turn(false, waits, node, sure, never, nodes, so_far);
+        let turn = guard_turn(false, waits, node, sure, never, node_queue, so_far);
         let next = turn.scan;
         so_far = next;
         if turn.ends {
@@ -225,15 +225,15 @@ pub fn threshold_guards(
     state: State,
     sure: &mut [u64],
     never: &mut [u64],
-    nodes: &mut [u16],
+    node_queue: &mut [u16],
     ring: Ring,
 ) -> Ran
-    requires { ⌜ GuardSlices (now bounds) (now names) × (state .«never_guard» ≤ length (now bounds)) × Waits (marks (now sure) (now never) (queue (now nodes) ring)) ⌝ }
-    ensures { λ r. ⌜ ranOf (r .state) (marks (now (sure .exit)) (now (never .exit)) (queue (now (nodes .exit)) (r .ring))) (r .step)
-        ≡ thresholdGuards (guards (now (bounds .entry)) (now (names .entry))) state (marks (now (sure .entry)) (now (never .entry)) (queue (now (nodes .entry)) ring)) ⌝ }
+    requires { ⌜ GuardSlices (now bounds) (now names) × (state .«never_guard» ≤ length (now bounds)) × Waits (marks (now sure) (now never) (queue (now «node_queue») ring)) ⌝ }
+    ensures { λ r. ⌜ ranOf (r .state) (marks (now (sure .exit)) (now (never .exit)) (queue (now («node_queue» .exit)) (r .ring))) (r .step)
+        ≡ thresholdGuards (guards (now (bounds .entry)) (now (names .entry))) state (marks (now (sure .entry)) (now (never .entry)) (queue (now («node_queue» .entry)) ring)) ⌝ }
 {
     let low = state.never_guard;
-    let first = sure_guards(bounds, names, state, sure, never, nodes, ring);
+    let first = sure_guards(bounds, names, state, sure, never, node_queue, ring);
     let up = state.sure_guard + first.passed;
     let step = first.step;
     let next = first.ring;
@@ -245,7 +245,7 @@ pub fn threshold_guards(
             ring: next,
         };
     }
-    let second = never_guards(bounds, names, state, sure, never, nodes, next, step);
+    let second = never_guards(bounds, names, state, sure, never, node_queue, next, step);
     let moved = state.with_guards(up, low - second.passed);
     let last = second.step;
     let left = second.ring;
@@ -284,12 +284,12 @@ fn forced_terms(
     cutoff: Cutoff,
     sure: &mut [u64],
     never: &mut [u64],
-    nodes: &mut [u16],
+    node_queue: &mut [u16],
     ring: Ring,
 ) -> Scan
-    requires { ⌜ TermSlices (now conditions) (now weights) × Waits (marks (now sure) (now never) (queue (now nodes) ring)) ⌝ }
-    ensures { λ r. ⌜ scanned (r .passed) (marks (now (sure .exit)) (now (never .exit)) (queue (now (nodes .exit)) (r .ring))) (r .step)
-        ≡ forced (cutoff .value) (light cutoff) (drop from (terms (now (conditions .entry)) (now (weights .entry)))) (marks (now (sure .entry)) (now (never .entry)) (queue (now (nodes .entry)) ring)) ⌝ }
+    requires { ⌜ TermSlices (now conditions) (now weights) × Waits (marks (now sure) (now never) (queue (now «node_queue») ring)) ⌝ }
+    ensures { λ r. ⌜ scanned (r .passed) (marks (now (sure .exit)) (now (never .exit)) (queue (now («node_queue» .exit)) (r .ring))) (r .step)
+        ≡ forced (cutoff .value) (light cutoff) (drop from (terms (now (conditions .entry)) (now (weights .entry)))) (marks (now (sure .entry)) (now (never .entry)) (queue (now («node_queue» .entry)) ring)) ⌝ }
 {
     let value = cutoff.value;
     let mut at = from;
@@ -302,7 +302,7 @@ fn forced_terms(
         let weight = weights[at];
         let node = conditions[at];
         let waits = cutoff.waits(weight);
-        let turn = term_turn(value, waits, node, sure, never, nodes, so_far);
+        let turn = term_turn(value, waits, node, sure, never, node_queue, so_far);
         let next = turn.scan;
         so_far = next;
         if turn.ends {
@@ -320,12 +320,12 @@ fn true_terms(
     state: State,
     sure: &mut [u64],
     never: &mut [u64],
-    nodes: &mut [u16],
+    node_queue: &mut [u16],
     ring: Ring,
 ) -> Ran
-    requires { ⌜ TermSlices (now conditions) (now weights) × Figures state × Waits (marks (now sure) (now never) (queue (now nodes) ring)) ⌝ }
-    ensures { λ r. ⌜ ranOf (r .state) (marks (now (sure .exit)) (now (never .exit)) (queue (now (nodes .exit)) (r .ring))) (r .step)
-        ≡ trueTerms (terms (now (conditions .entry)) (now (weights .entry))) state (marks (now (sure .entry)) (now (never .entry)) (queue (now (nodes .entry)) ring)) ⌝ }
+    requires { ⌜ TermSlices (now conditions) (now weights) × Figures state × Waits (marks (now sure) (now never) (queue (now «node_queue») ring)) ⌝ }
+    ensures { λ r. ⌜ ranOf (r .state) (marks (now (sure .exit)) (now (never .exit)) (queue (now («node_queue» .exit)) (r .ring))) (r .step)
+        ≡ trueTerms (terms (now (conditions .entry)) (now (weights .entry))) state (marks (now (sure .entry)) (now (never .entry)) (queue (now («node_queue» .entry)) ring)) ⌝ }
 {
     let known = state.known;
     let lower = state.lower;
@@ -342,7 +342,16 @@ fn true_terms(
         weight: possible - lower,
     };
     let from = state.true_term;
-    let scan = forced_terms(conditions, weights, from, cutoff, sure, never, nodes, ring);
+    let scan = forced_terms(
+        conditions,
+        weights,
+        from,
+        cutoff,
+        sure,
+        never,
+        node_queue,
+        ring,
+    );
     let moved = state.with_terms(from + scan.passed, state.false_term);
     let step = scan.step;
     let next = scan.ring;
@@ -360,12 +369,12 @@ fn false_terms(
     state: State,
     sure: &mut [u64],
     never: &mut [u64],
-    nodes: &mut [u16],
+    node_queue: &mut [u16],
     ring: Ring,
 ) -> Ran
-    requires { ⌜ TermSlices (now conditions) (now weights) × Figures state × Waits (marks (now sure) (now never) (queue (now nodes) ring)) ⌝ }
-    ensures { λ r. ⌜ ranOf (r .state) (marks (now (sure .exit)) (now (never .exit)) (queue (now (nodes .exit)) (r .ring))) (r .step)
-        ≡ falseTerms (terms (now (conditions .entry)) (now (weights .entry))) state (marks (now (sure .entry)) (now (never .entry)) (queue (now (nodes .entry)) ring)) ⌝ }
+    requires { ⌜ TermSlices (now conditions) (now weights) × Figures state × Waits (marks (now sure) (now never) (queue (now «node_queue») ring)) ⌝ }
+    ensures { λ r. ⌜ ranOf (r .state) (marks (now (sure .exit)) (now (never .exit)) (queue (now («node_queue» .exit)) (r .ring))) (r .step)
+        ≡ falseTerms (terms (now (conditions .entry)) (now (weights .entry))) state (marks (now (sure .entry)) (now (never .entry)) (queue (now («node_queue» .entry)) ring)) ⌝ }
 {
     let known = state.known;
     let upper = state.upper;
@@ -381,7 +390,16 @@ fn false_terms(
                 weight: limit - known,
             };
             let from = state.false_term;
-            let scan = forced_terms(conditions, weights, from, cutoff, sure, never, nodes, ring);
+            let scan = forced_terms(
+                conditions,
+                weights,
+                from,
+                cutoff,
+                sure,
+                never,
+                node_queue,
+                ring,
+            );
             let moved = state.with_terms(state.true_term, from + scan.passed);
             let step = scan.step;
             let next = scan.ring;
@@ -401,23 +419,23 @@ fn row_terms(
     before: Ran,
     sure: &mut [u64],
     never: &mut [u64],
-    nodes: &mut [u16],
+    node_queue: &mut [u16],
 ) -> Ran
-    requires { ⌜ TermSlices (now conditions) (now weights) × Figures (before .state) × Waits (marks (now sure) (now never) (queue (now nodes) (before .ring))) ⌝ }
-    ensures { λ r. ⌜ ranOf (r .state) (marks (now (sure .exit)) (now (never .exit)) (queue (now (nodes .exit)) (r .ring))) (r .step)
+    requires { ⌜ TermSlices (now conditions) (now weights) × Figures (before .state) × Waits (marks (now sure) (now never) (queue (now «node_queue») (before .ring))) ⌝ }
+    ensures { λ r. ⌜ ranOf (r .state) (marks (now (sure .exit)) (now (never .exit)) (queue (now («node_queue» .exit)) (r .ring))) (r .step)
         ≡ rowTerms (terms (now (conditions .entry)) (now (weights .entry)))
-        (ranOf (before .state) (marks (now (sure .entry)) (now (never .entry)) (queue (now (nodes .entry)) (before .ring))) (before .step)) ⌝ }
+        (ranOf (before .state) (marks (now (sure .entry)) (now (never .entry)) (queue (now («node_queue» .entry)) (before .ring))) (before .step)) ⌝ }
 {
     let start = before.state;
     let ring = before.ring;
-    let first = true_terms(conditions, weights, start, sure, never, nodes, ring);
+    let first = true_terms(conditions, weights, start, sure, never, node_queue, ring);
     let step = first.step;
     if step.contradicts() {
         return first;
     }
     let state = first.state;
     let next = first.ring;
-    let second = false_terms(conditions, weights, state, sure, never, nodes, next);
+    let second = false_terms(conditions, weights, state, sure, never, node_queue, next);
     let guards = before.step;
     let last = second.step;
     let end = second.state;
@@ -440,12 +458,12 @@ pub fn threshold_row(
     state: State,
     sure: &mut [u64],
     never: &mut [u64],
-    nodes: &mut [u16],
+    node_queue: &mut [u16],
     ring: Ring,
 ) -> Ran
-    requires { ⌜ TermSlices (now conditions) (now weights) × GuardSlices (now bounds) (now names) × Figures state × (state .«never_guard» ≤ length (now bounds)) × Waits (marks (now sure) (now never) (queue (now nodes) ring)) ⌝ }
-    ensures { λ r. ⌜ ((raw : List Term) → ranOf (r .state) (marks (now (sure .exit)) (now (never .exit)) (queue (now (nodes .exit)) (r .ring))) (r .step)
-        ≡ thresholdRow (rowOf raw (terms (now (conditions .entry)) (now (weights .entry))) (guards (now (bounds .entry)) (now (names .entry)))) state (marks (now (sure .entry)) (now (never .entry)) (queue (now (nodes .entry)) ring))) ⌝ }
+    requires { ⌜ TermSlices (now conditions) (now weights) × GuardSlices (now bounds) (now names) × Figures state × (state .«never_guard» ≤ length (now bounds)) × Waits (marks (now sure) (now never) (queue (now «node_queue») ring)) ⌝ }
+    ensures { λ r. ⌜ ((raw : List Term) → ranOf (r .state) (marks (now (sure .exit)) (now (never .exit)) (queue (now («node_queue» .exit)) (r .ring))) (r .step)
+        ≡ thresholdRow (rowOf raw (terms (now (conditions .entry)) (now (weights .entry))) (guards (now (bounds .entry)) (now (names .entry)))) state (marks (now (sure .entry)) (now (never .entry)) (queue (now («node_queue» .entry)) ring))) ⌝ }
 {
     if state.conflict() {
         return Ran {
@@ -454,12 +472,12 @@ pub fn threshold_row(
             ring: ring,
         };
     }
-    let first = threshold_guards(bounds, names, state, sure, never, nodes, ring);
+    let first = threshold_guards(bounds, names, state, sure, never, node_queue, ring);
     let step = first.step;
     if step.contradicts() {
         return first;
     }
-    row_terms(conditions, weights, first, sure, never, nodes)
+    row_terms(conditions, weights, first, sure, never, node_queue)
 }
 
 // A row in no conflict with a weight above 1 waits for a residual when both its limits cut.

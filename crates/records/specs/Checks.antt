@@ -1,30 +1,27 @@
 -- The refusal table: which check of a record applies first, by what the file so far has and what the record's facts say.
-use Prim.Native.Nat.{ℕ}
-use mathlib.Core.Bool.{Bool, true, false, _&&_, _||_, not}
+use Prim.Native.Nat.{ℕ, _+_}
+use mathlib.Core.Bool.{Bool, true, false, cond, _&&_, _||_, not}
 use mathlib.Core.List.{List, [], _∷_}
-use lib.Dec.{leb, ltb}
+use lib.ListN.{length, getD, drop}
+use lib.Dec.{eqb, leb, ltb}
 use lib.IntN.{ℤ, pos, negsuc}
 use lib.Signed.{ltZ}
-use Rattle.records.specs.Facts.{Turn, opening, building, within, serving, whenever, Counted, ofNodes, ofThresholds, ofTerms, ofAnswers, ofNothing, Facts}
+use Rattle.records.specs.declared.Record.{Record}
+use Rattle.records.specs.declared.Next.{Next}
+use Rattle.records.specs.declared.Next.the-variants.{Refused, Taken}
+use Rattle.records.specs.declared.Standing.{Standing}
+use Rattle.records.specs.Record.{kinds, kindOf, bodyLength, bodyOf, recordAt, recordIn}
+use Rattle.records.specs.Facts.{Turn, opening, building, within, serving, whenever, Counted, ofNodes, ofThresholds, ofTerms, ofAnswers, ofNothing, Facts, action, facts}
 
--- What the checks read of the file so far: whether it has a header, a seal, a contradiction and a threshold; its nodes; the last
--- threshold's node and number of terms; how many thresholds, terms and answers there are.
-pub record Standing : Type 0 where
-  pub started : Bool
-  pub sealed : Bool
-  pub contradicted : Bool
-  pub empty : Bool
-  pub nodes : ℕ
-  pub last : ℕ
-  pub listed : ℕ
-  pub thresholds : ℕ
-  pub terms : ℕ
-  pub answers : ℕ
+-- What the checks read of the file so far is a `Standing`, declared in the code.
+
+abbrev pub noThreshold : Standing → Bool
+noThreshold s = eqb (s .thresholds) 0
 
 abbrev pub wrongTurn : Standing → Turn → Bool
 wrongTurn s opening = s .started
 wrongTurn s building = not (s .started) || s .sealed
-wrongTurn s within = not (s .started) || s .sealed || s .empty
+wrongTurn s within = not (s .started) || s .sealed || noThreshold s
 wrongTurn s serving = not (s .sealed)
 wrongTurn s whenever = false
 
@@ -34,7 +31,7 @@ anyOf p (x ∷ []) = p x
 anyOf p (x ∷ y ∷ ys) = p x || anyOf p (y ∷ ys)
 
 abbrev pub notRising : Standing → ℕ → Bool
-notRising s n = not (s .empty) && leb n (s .last)
+notRising s n = not (noThreshold s) && leb n (s .«last_node»)
 
 -- Outside -2^52 to 2^52.
 abbrev pub badBound : ℤ → Bool
@@ -43,7 +40,7 @@ badBound b = ltZ b (negsuc 4503599627370495) || ltZ (pos 4503599627370496) b
 abbrev pub tooMany : Standing → Counted → Bool
 tooMany s (ofNodes n) = ltb 4096 n
 tooMany s ofThresholds = leb 1024 (s .thresholds)
-tooMany s ofTerms = leb 1024 (s .listed) || leb 4096 (s .terms)
+tooMany s ofTerms = leb 1024 (s .«last_terms») || leb 4096 (s .terms)
 tooMany s ofAnswers = leb 64 (s .answers)
 tooMany s ofNothing = false
 
@@ -73,3 +70,24 @@ checks s unknown cut x =
     ∷ check (anyOf (ltb 1) (x .values)) 8
     ∷ check (tooMany s (x .counts)) 4
     ∷ []
+
+-- The number that refuses a record whose kind is known and whose body is whole.
+abbrev pub refusedBy : Standing → Record → ℕ
+refusedBy s r = first (checks s false false (facts (action r)))
+
+-- The number that refuses the record that begins with this kind: kind, then body, then the other checks.
+abbrev pub unknownKind : ℕ → Bool
+unknownKind kind = eqb kind 0 || leb (length kinds) kind
+
+abbrev pub cutBody : ℕ → List ℕ → Bool
+cutBody kind rest = ltb (length (bodyOf kind rest)) (bodyLength (kindOf kind))
+
+abbrev pub refusedAt : Standing → ℕ → List ℕ → ℕ
+refusedAt s kind rest = first (checks s (unknownKind kind) (cutBody kind rest) (facts (action (recordAt kind rest))))
+
+-- The record at an offset, or the number that refuses it.
+abbrev pub taking : ℕ → Record → Next
+taking n r = cond (eqb n 0) (Taken r) (Refused n)
+
+abbrev pub nextAt : Standing → List ℕ → ℕ → Next
+nextAt s bytes at = taking (refusedAt s (getD bytes at 0) (drop (at + 1) bytes)) (recordIn bytes at)

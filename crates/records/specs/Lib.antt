@@ -2,3 +2,4 @@ pub mod Record
 pub mod Facts
 pub mod Checks
 pub mod RecordLaws
+pub mod CheckLaws

@@ -1,6 +1,6 @@
 -- The records of a job file: kinds, bodies and their fields.
 use Prim.Native.Nat.{ℕ, _+_, _-_, _*_, _^_}
-use mathlib.Core.Bool.{Bool, true, false, cond}
+use mathlib.Core.Bool.{cond}
 use mathlib.Core.List.{List, [], _∷_}
 use lib.ListN.{getD, take, drop}
 use lib.Dec.{ltb}
@@ -58,9 +58,16 @@ bodyLength k = k .size
 abbrev pub recordOf : Kind → List ℕ → Record
 recordOf k body = k .made body
 
+-- The record that begins with this kind.
+abbrev pub bodyOf : ℕ → List ℕ → List ℕ
+bodyOf kind rest = take (bodyLength (kindOf kind)) rest
+
+abbrev pub recordAt : ℕ → List ℕ → Record
+recordAt kind rest = recordOf (kindOf kind) (bodyOf kind rest)
+
 -- The kind of the record at an offset, and the record.
 abbrev pub kindAt : List ℕ → ℕ → Kind
 kindAt bytes at = kindOf (getD bytes at 0)
 
 abbrev pub recordIn : List ℕ → ℕ → Record
-recordIn bytes at = recordOf (kindAt bytes at) (take (bodyLength (kindAt bytes at)) (drop (at + 1) bytes))
+recordIn bytes at = recordAt (getD bytes at 0) (drop (at + 1) bytes)

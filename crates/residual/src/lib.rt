@@ -362,13 +362,13 @@ fn force_term(
     divisor: u64,
     sure: &mut [u64],
     never: &mut [u64],
-    nodes: &mut [u16],
+    node_queue: &mut [u16],
     ring: Ring,
 ) -> Decision
     requires { ⌜ i .known + weight < 2 ^ 64 ⌝ }
-    requires { ⌜ Held 4096 (queue (now nodes) ring) × (node < 4096) × (64 ≤ length (now sure)) × (64 ≤ length (now never)) ⌝ }
-    ensures { λ r. ⌜ decidedOf (marks (now (sure .exit)) (now (never .exit)) (queue (now (nodes .exit)) (r .ring))) (r .step)
-        ≡ forceTerm i (marks (now (sure .entry)) (now (never .entry)) (queue (now (nodes .entry)) ring)) (term node weight) divisor ⌝ }
+    requires { ⌜ Held 4096 (queue (now «node_queue») ring) × (node < 4096) × (64 ≤ length (now sure)) × (64 ≤ length (now never)) ⌝ }
+    ensures { λ r. ⌜ decidedOf (marks (now (sure .exit)) (now (never .exit)) (queue (now («node_queue» .exit)) (r .ring))) (r .step)
+        ≡ forceTerm i (marks (now (sure .entry)) (now (never .entry)) (queue (now («node_queue» .entry)) ring)) (term node weight) divisor ⌝ }
 {
     let same = Decision {
         step: Step::Unchanged,
@@ -387,10 +387,10 @@ fn force_term(
                 ring: ring,
             };
         }
-        return queues::decide(true, sure, never, nodes, ring, n);
+        return queues::decide(true, sure, never, node_queue, ring, n);
     }
     if on {
-        return queues::decide(false, sure, never, nodes, ring, n);
+        return queues::decide(false, sure, never, node_queue, ring, n);
     }
     same
 }
@@ -418,12 +418,12 @@ fn force_from(
     i: Interval,
     sure: &mut [u64],
     never: &mut [u64],
-    nodes: &mut [u16],
+    node_queue: &mut [u16],
     ring: Ring,
 ) -> Decision
     requires { ⌜ Shape (now conditions) (now weights) (now sure) (now never) ⌝ }
-    requires { ⌜ (length (now weights) < length (now gcds)) × (i .known < 2 ^ 63) × Below (2 ^ 63) (now weights) × Waits (marks (now sure) (now never) (queue (now nodes) ring)) ⌝ }
-    ensures { λ r. ⌜ decidedOf (marks (now (sure .exit)) (now (never .exit)) (queue (now (nodes .exit)) (r .ring))) (r .step) ≡ forceFrom i (now (gcds .entry)) (terms (now (conditions .entry)) (now (weights .entry))) 0 (marks (now (sure .entry)) (now (never .entry)) (queue (now (nodes .entry)) ring)) Unchanged ⌝ }
+    requires { ⌜ (length (now weights) < length (now gcds)) × (i .known < 2 ^ 63) × Below (2 ^ 63) (now weights) × Waits (marks (now sure) (now never) (queue (now «node_queue») ring)) ⌝ }
+    ensures { λ r. ⌜ decidedOf (marks (now (sure .exit)) (now (never .exit)) (queue (now («node_queue» .exit)) (r .ring))) (r .step) ≡ forceFrom i (now (gcds .entry)) (terms (now (conditions .entry)) (now (weights .entry))) 0 (marks (now (sure .entry)) (now (never .entry)) (queue (now («node_queue» .entry)) ring)) Unchanged ⌝ }
 {
     let mut position: usize = 0;
     let mut prefix: u64 = 0;
@@ -439,7 +439,16 @@ fn force_from(
         }
         let weight = weights[position];
         let divisor = gcd(prefix, gcds[weights.len() - position - 1]);
-        let forced = force_term(i, node, weight, divisor, sure, never, nodes, so_far.ring);
+        let forced = force_term(
+            i,
+            node,
+            weight,
+            divisor,
+            sure,
+            never,
+            node_queue,
+            so_far.ring,
+        );
         so_far = joined_decision(so_far, forced);
         let step = forced.step;
         if step.contradicts() {
@@ -480,13 +489,13 @@ pub fn threshold_residual(
     state: State,
     sure: &mut [u64],
     never: &mut [u64],
-    nodes: &mut [u16],
+    node_queue: &mut [u16],
     ring: Ring,
     gcds: &mut [u64],
 ) -> Decision
     requires { ⌜ Shape (now conditions) (now weights) (now sure) (now never) ⌝ }
-    requires { ⌜ (length (now weights) < length (now gcds)) × Below (2 ^ 63) (now weights) × Waits (marks (now sure) (now never) (queue (now nodes) ring)) ⌝ }
-    ensures { λ r. ⌜ residual (marks (now (sure .exit)) (now (never .exit)) (queue (now (nodes .exit)) (r .ring))) (r .step) (now (gcds .exit)) ≡ thresholdResidual (terms (now (conditions .entry)) (now (weights .entry))) state (marks (now (sure .entry)) (now (never .entry)) (queue (now (nodes .entry)) ring)) (now (gcds .entry)) ⌝ }
+    requires { ⌜ (length (now weights) < length (now gcds)) × Below (2 ^ 63) (now weights) × Waits (marks (now sure) (now never) (queue (now «node_queue») ring)) ⌝ }
+    ensures { λ r. ⌜ residual (marks (now (sure .exit)) (now (never .exit)) (queue (now («node_queue» .exit)) (r .ring))) (r .step) (now (gcds .exit)) ≡ thresholdResidual (terms (now (conditions .entry)) (now (weights .entry))) state (marks (now (sure .entry)) (now (never .entry)) (queue (now («node_queue» .entry)) ring)) (now (gcds .entry)) ⌝ }
 {
     let checked = threshold_residual_check(conditions, weights, state, sure, never);
     if checked.contradicts() {
@@ -509,7 +518,7 @@ pub fn threshold_residual(
         interval_of(state),
         sure,
         never,
-        nodes,
+        node_queue,
         ring,
     )
 }

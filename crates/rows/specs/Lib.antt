@@ -1,4 +1,2 @@
 pub mod Shown
 pub mod ShownLaws
-pub mod Read
-pub mod ReadLaws

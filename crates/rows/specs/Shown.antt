@@ -1,4 +1,4 @@
--- Where the parts of the buffers that are printed begin and end, and what the program reads.
+-- Where the parts of the buffers that are printed begin and end.
 use Prim.Native.Nat.{ℕ, _<_, _≤_, _^_}
 use mathlib.Core.List.{List}
 use lib.ListN.{length}
@@ -7,13 +7,6 @@ use Rattle.numeric.specs.Threshold.{terms}
 use Rattle.row.specs.Terms.{total}
 use Rattle.thresholds.specs.Raw.{stretch}
 use Rattle.prepare.specs.RowsGivenLaid.{startIn, endIn}
-use Rattle.rows.specs.declared.Head.{Head}
-use Rattle.rows.specs.declared.Head.the-variants.{Nodes, Nothing}
-
--- The nodes of a header fit the masks.
-abbrev pub Small : Head → Type 0
-Small (Nodes n) = n ≤ 4096
-Small Nothing = Unit {0}
 
 -- List k of those that lie one behind the other, by the ends in column j: inside so many places.
 pub record Part (j : ℕ) (lists : List (List ℕ)) (size k : ℕ) : Type 0 where

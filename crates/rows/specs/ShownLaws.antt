@@ -4,7 +4,7 @@ use native.Mathlib.Nat.{not-suc-le-zero}
 use native.Mathlib.Omega.{arith}
 use mathlib.Core.Path.{_≡_, refl, sym, ap, ap₂, _∙_, subst}
 use mathlib.Core.Bool.{Bool, true, false}
-use mathlib.Core.List.{List, [], _∷_, _++_, map, map-append}
+use mathlib.Core.List.{List, [], _∷_, _++_, map}
 use lib.ListN.{length, getD, take, drop, length-append, length-map, length-replicate, replicate, List·getD-map}
 use lib.IntN.{ℤ, pos, negsuc, _-ℤ_}
 use lib.Signed.{ltZ}
@@ -33,9 +33,9 @@ use Rattle.prepare.specs.RowsGivenLaid.{startIn, endIn, length-ends, over-risin
 use Rattle.prepare.specs.RowsGivenHeld.{terms-back}
 use Rattle.prepare.specs.JobBuffers.{rowEntries, nodeEntries, builtWith, builtOf}
 use Rattle.prepare.specs.JobBuffersLaws.{entries-columns, neighbours-long, nodes-column}
-use Rattle.job.specs.declared.Counts.{Counts}
+use Rattle.records.specs.declared.Standing.{Standing}
 use Rattle.job.specs.Gathered.{cut, jobIn, Gathered}
-use Rattle.job.specs.SoundLaws.{gathered-none, gathered-sound}
+use Rattle.job.specs.SoundLaws.{gathered-sound}
 use Rattle.job.specs.Built.{Roomy}
 use Rattle.rows.specs.Shown.{Part, Fits, Shown, First}
 
@@ -91,7 +91,7 @@ all-at P [] d h i k = absurd (not-suc-le-zero k)
 all-at P (x ∷ xs) d h zero k = h .0
 all-at P (x ∷ xs) d h (suc i) k = all-at P xs d (h .1) i (omega arith)
 
-module _ (k : Counts) (cs ws : List ℕ) (ts : List (List ℕ)) (bs : List ℤ) (g : Gathered k cs ws ts bs) where
+module _ (k : Standing) (cs ws : List ℕ) (ts : List (List ℕ)) (bs : List ℤ) (g : Gathered k cs ws ts bs) where
   light-list : (t : ℕ) → t < length (take (k .thresholds) ts) → total (rowTerms (listAt (cut k cs ws ts) t)) < weightLimit
   unfolding listAt
   light-list t h =
@@ -252,12 +252,6 @@ roomy-zeros = record {
 
 pub links-zeros : 2048 ≤ length (replicate {A = ℕ} 2048 0)
 links-zeros = least {X = ℕ} 2048 0
-
-pub job-zeros : (n : ℕ) → n ≤ 4096
-    → Gathered (record { nodes = n; thresholds = 0; terms = 0 }) (replicate 4096 0) (replicate 4096 0) (replicate 1024 (replicate 2 0)) (replicate 1024 (pos 0))
-job-zeros n h =
-    gathered-none n (replicate 4096 0) (replicate 4096 0) (replicate 1024 (replicate 2 0)) (replicate 1024 (pos 0)) h
-    (least {X = ℕ} 4096 0) (least {X = ℕ} 4096 0) (least {X = List ℕ} 1024 (replicate 2 0)) (least {X = ℤ} 1024 (pos 0))
 
 -- ---- a negative number is printed by the number before its magnitude
 

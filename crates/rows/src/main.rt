@@ -5,18 +5,15 @@ ghost use Prim.Native.Nat.{_<_, _≤_, _^_};
 ghost use lib.ListN.{length};
 ghost use Rattle.numeric.specs.Threshold.{terms};
 ghost use Rattle.row.specs.Terms.{total};
-ghost use Rattle.memory.specs.Buffers.{heldRows, built};
+ghost use Rattle.memory.specs.Buffers.{rawLists, raw, heldRows, built};
 ghost use Rattle.prepare.specs.RowsGivenLaid.{startIn, endIn};
-ghost use Rattle.job.specs.Gathered.{Gathered, jobIn};
+ghost use Rattle.job.specs.Gathered.{Gathered};
 ghost use Rattle.job.specs.Built.{Roomy};
-ghost use Rattle.rows.specs.Read.{headOf, jobRead, endedOf};
-ghost use Rattle.rows.specs.ReadLaws.{Stepped};
+ghost use Rattle.planner.specs.Held.{Room};
 ghost use Rattle.rows.specs.Shown.{Part, Fits, Shown, First};
-use job::Counts;
-use job::Taken;
 use libc::STDIN_FILENO;
 use libc::STDOUT_FILENO;
-use records::Record;
+use records::Standing;
 
 fn write(text: &[u8]) {
     io::write_all(STDOUT_FILENO, text);
@@ -58,131 +55,6 @@ fn write_guard(node: u16, bound: i64) {
 fn write_link(row: u16) {
     write(b" ");
     write_number(row as u64);
-}
-
-// ---- reading
-
-// A job read up to its seal, or not.
-struct Read {
-    sealed: bool,
-    counts: Counts,
-}
-
-// The nodes of the header, where the first record is one and the job fits.
-enum Head {
-    Nodes(usize),
-    Nothing,
-}
-
-fn read_header(input: &[u8]) -> Head
-    ensures { λ r. ⌜ r ≡ headOf (now (input .entry)) ⌝ }
-{
-    if input.len() < 3 {
-        return Head::Nothing;
-    }
-    if input[0] != 1 {
-        return Head::Nothing;
-    }
-    let nodes = records::u16_at(input, 1) as usize;
-    if nodes > 4096 {
-        return Head::Nothing;
-    }
-    Head::Nodes(nodes)
-}
-
-// A record between the header and the seal.
-fn take_record(
-    entry: Record,
-    counts: Counts,
-    raw_conditions: &mut [u16],
-    raw_weights: &mut [u64],
-    thresholds: &mut [[u16; 2]],
-    bounds: &mut [i64],
-) -> Taken
-    requires { ⌜ Gathered counts (now «raw_conditions») (now «raw_weights») (now thresholds) (now bounds) ⌝ }
-    ensures { λ r. ⌜ Gathered (r .counts) (now («raw_conditions» .exit)) (now («raw_weights» .exit)) (now (thresholds .exit)) (now (bounds .exit))
-        × Stepped (jobIn counts (now («raw_conditions» .entry)) (now («raw_weights» .entry)) (now (thresholds .entry)) (now (bounds .entry))) entry r (jobIn (r .counts) (now («raw_conditions» .exit)) (now («raw_weights» .exit)) (now (thresholds .exit)) (now (bounds .exit))) ⌝ }
-{
-    match entry {
-        Record::Opens(node, bound) => job::open_threshold(counts, node, bound, thresholds, bounds),
-        Record::Adds(condition, weight) => {
-            job::add_term(
-                counts,
-                condition,
-                weight as u64,
-                raw_conditions,
-                raw_weights,
-                thresholds,
-            )
-        }
-        Record::Areas(condition, area) => {
-            job::add_area(
-                counts,
-                condition,
-                area,
-                raw_conditions,
-                raw_weights,
-                thresholds,
-            )
-        }
-        _ => Taken {
-            refusal: 3,
-            counts: counts,
-        },
-    }
-}
-
-// The records behind the header, up to the seal.
-fn read_job(
-    input: &[u8],
-    nodes: usize,
-    raw_conditions: &mut [u16],
-    raw_weights: &mut [u64],
-    thresholds: &mut [[u16; 2]],
-    bounds: &mut [i64],
-) -> Read
-    requires { ⌜ Gathered (record { nodes = nodes; thresholds = 0; terms = 0 }) (now «raw_conditions») (now «raw_weights») (now thresholds) (now bounds) ⌝ }
-    ensures { λ r. ⌜ Gathered (r .counts) (now («raw_conditions» .exit)) (now («raw_weights» .exit)) (now (thresholds .exit)) (now (bounds .exit))
-        × (endedOf (r .sealed) (jobIn (r .counts) (now («raw_conditions» .exit)) (now («raw_weights» .exit)) (now (thresholds .exit)) (now (bounds .exit))) ≡ jobRead (now (input .entry)) nodes) ⌝ }
-{
-    let mut counts = Counts {
-        nodes: nodes,
-        thresholds: 0,
-        terms: 0,
-    };
-    let mut at: usize = 3;
-    while at < input.len() {
-        let kind = input[at];
-        if kind == 4 {
-            return Read {
-                sealed: true,
-                counts: counts,
-            };
-        }
-        let size = records::body_length(kind);
-        if input.len() - at <= size {
-            break;
-        }
-        let entry = records::record_at(input, at);
-        let taken = take_record(
-            entry,
-            counts,
-            raw_conditions,
-            raw_weights,
-            thresholds,
-            bounds,
-        );
-        let next = taken.counts;
-        counts = next;
-        if taken.refusal != 0 {
-            break;
-        }
-        at += 1 + size;
-    }
-    Read {
-        sealed: false,
-        counts: counts,
-    }
 }
 
 // ---- printing
@@ -345,7 +217,7 @@ fn print_conditions(count: usize, nodes: &[[u16; 3]], edges: &[[u64; 2]])
 
 // Builds a sealed job in buffers that are zero, and prints it.
 fn show_in(
-    counts: Counts,
+    standing: Standing,
     raw_conditions: &[u16],
     raw_weights: &[u64],
     thresholds: &[[u16; 2]],
@@ -359,12 +231,12 @@ fn show_in(
     edges: &mut [[u64; 2]],
     links: &mut [u16],
 )
-    requires { ⌜ Gathered counts (now «raw_conditions») (now «raw_weights») (now thresholds) (now bounds)
+    requires { ⌜ Gathered standing (now «raw_conditions») (now «raw_weights») (now thresholds) (now bounds)
         × Roomy (built (heldRows (now «row_conditions») (now «row_weights») (now rows) (now «guard_bounds») (now «guard_nodes»)) (now nodes) (now edges) (now links))
         × (2048 ≤ length (now links)) ⌝ }
 {
     let made = job::build(
-        counts,
+        standing,
         raw_conditions,
         raw_weights,
         thresholds,
@@ -387,18 +259,18 @@ fn show_in(
         guard_nodes,
         links,
     );
-    print_conditions(counts.nodes, nodes, edges);
+    print_conditions(standing.nodes, nodes, edges);
 }
 
 // The same in buffers of its own.
 fn show(
-    counts: Counts,
+    standing: Standing,
     raw_conditions: &[u16],
     raw_weights: &[u64],
     thresholds: &[[u16; 2]],
     bounds: &[i64],
 )
-    requires { ⌜ Gathered counts (now «raw_conditions») (now «raw_weights») (now thresholds) (now bounds) ⌝ }
+    requires { ⌜ Gathered standing (now «raw_conditions») (now «raw_weights») (now thresholds) (now bounds) ⌝ }
 {
     let mut row_conditions = [0u16; 4096];
     let mut row_weights = [0u64; 4096];
@@ -411,7 +283,7 @@ fn show(
     let mut edges = [nothing; 4096];
     let mut links = [0u16; 2048];
     show_in(
-        counts,
+        standing,
         raw_conditions,
         raw_weights,
         thresholds,
@@ -427,39 +299,26 @@ fn show(
     );
 }
 
-// Reads the records behind the header and prints the job, in buffers for the job that the records give.
+// Reads the job and prints it, in buffers for the job that the records give.
 fn run_in(
     input: &[u8],
-    nodes: usize,
     raw_conditions: &mut [u16],
     raw_weights: &mut [u64],
     thresholds: &mut [[u16; 2]],
     bounds: &mut [i64],
 )
-    requires { ⌜ Gathered (record { nodes = nodes; thresholds = 0; terms = 0 }) (now «raw_conditions») (now «raw_weights») (now thresholds) (now bounds) ⌝ }
+    requires { ⌜ Room (raw (rawLists (now «raw_conditions») (now «raw_weights») (now thresholds)) (now bounds)) ⌝ }
 {
-    let read = read_job(
-        input,
-        nodes,
-        raw_conditions,
-        raw_weights,
-        thresholds,
-        bounds,
-    );
-    if !read.sealed {
+    let read = planner::read_job(input, raw_conditions, raw_weights, thresholds, bounds);
+    if !read.sealing {
         write(b"not a job\n");
         return;
     }
-    let counts = read.counts;
-    show(counts, raw_conditions, raw_weights, thresholds, bounds);
+    let standing = read.standing;
+    show(standing, raw_conditions, raw_weights, thresholds, bounds);
 }
 
 fn run(input: &[u8]) {
-    let head = read_header(input);
-    let Head::Nodes(nodes) = head else {
-        write(b"not a job\n");
-        return;
-    };
     let mut raw_conditions = [0u16; 4096];
     let mut raw_weights = [0u64; 4096];
     let none = [0u16; 2];
@@ -467,7 +326,6 @@ fn run(input: &[u8]) {
     let mut bounds = [0i64; 1024];
     run_in(
         input,
-        nodes,
         &mut raw_conditions,
         &mut raw_weights,
         &mut thresholds,

@@ -1,20 +1,20 @@
 -- A JOB OF A FILE meets what the invariant of draining asks: its nodes are in range, and as the nodes of its thresholds rise, none
 -- guards twice.
-use Prim.Native.Nat.{ℕ, _≤_, _<_}
+use Prim.Native.Nat.{ℕ, suc, _≤_, _<_}
 use native.Mathlib.Nat.{le-refl}
 use native.Mathlib.Omega.{arith}
 use mathlib.Core.Path.{_≡_, refl, sym, ap, _∙_}
-use mathlib.Core.Bool.{false, not, _&&_}
+use mathlib.Core.Bool.{Bool, false, not, _&&_}
 use mathlib.Core.List.{List, [], _∷_, _++_, List·Memᴰ, List·Memᴰ·cases-cons, List·Memᴰ·not-nil}
 use mathlib.Core.Logic.{_⊎_, inl, inr}
-use lib.ListN.{getD}
-use lib.Dec.{leb}
-use borrow.Author.Tests.{leb-false}
+use lib.ListN.{length, getD}
+use lib.Dec.{eqb, leb}
+use borrow.Author.Tests.{leb-false, ne-eqb}
 use Rattle.numeric.specs.Threshold.{Term, Threshold, Job}
 use Rattle.row.specs.TermsLaws.{All as Every, all-map}
 use Rattle.thresholds.specs.Rows.{noRow, rowsOf}
 use Rattle.regions.specs.Drain.{indexOf}
-use Rattle.job.specs.Job.{lastNode, isEmptyList, addTerm}
+use Rattle.job.specs.Job.{lastNode, addTerm}
 use Rattle.ends.specs.Built.{Fits, every-last, every-each, fits-node, fits-condition}
 use Rattle.table.specs.Table.{IsRow}
 use Rattle.follows.specs.RowComplete.{Ordered}
@@ -50,10 +50,11 @@ rises-last : (ts : List Threshold) (x : Threshold) → Rises ts → Every (λ (u
 rises-last [] x h e = (tt, tt)
 rises-last (t ∷ ts) x h e = (every-last (λ (u : Threshold). t .node < u .node) ts x (h .0) (e .0), rises-last ts x (h .1) (e .1))
 
-pub rises-opens : (ts : List Threshold) (x : Threshold) → Rises ts → (not (isEmptyList ts) && leb (x .node) (lastNode ts)) ≡ false → Rises (ts ++ (x ∷ []))
+pub rises-opens : (ts : List Threshold) (x : Threshold) → Rises ts → (not (eqb (length ts) 0) && leb (x .node) (lastNode ts)) ≡ false → Rises (ts ++ (x ∷ []))
 rises-opens [] x h e = (tt, tt)
 rises-opens (t ∷ ts) x h e =
-    let k = leb-false (x .node) (lastNode (t ∷ ts)) e in
+    let some = ne-eqb (length (t ∷ ts)) 0 (λ (z : suc (length ts) ≡ 0). omega arith) in
+    let k = leb-false (x .node) (lastNode (t ∷ ts)) (sym (ap (λ (b : Bool). not b && leb (x .node) (lastNode (t ∷ ts))) some) ∙ e) in
     rises-last (t ∷ ts) x h
     (all-map (λ (u : Threshold). u .node ≤ lastNode (t ∷ ts)) (λ (u : Threshold). u .node < x .node) (t ∷ ts) (λ u l. omega arith) (below-last t ts h))
 

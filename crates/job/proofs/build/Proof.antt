@@ -28,7 +28,7 @@ prepare-requires c κs =
     let g = s .args in
     let p = s .pre in
     let b = built (heldRows (g .row-conditions .now) (g .row-weights .now) (g .rows .now) (g .guard-bounds .now) (g .guard-nodes .now)) (g .nodes .now) (g .edges .now) (g .links .now) in
-    let j = jobIn (g .counts) (g .raw-conditions .now) (g .raw-weights .now) (g .thresholds .now) (g .bounds .now) in
+    let j = jobIn (g .standing) (g .raw-conditions .now) (g .raw-weights .now) (g .thresholds .now) (g .bounds .now) in
     let n = d .build-rows .result in
     let e = d .build-rows .ensures in (
       rows-held j n b _ (p .1) (e .0) (e .1) (e .2),
@@ -69,7 +69,7 @@ returns c =
     let s = d .before .before .before .before .before .before .before .before .before .before .before .before .before .before .before in
     let g = s .args in
     let b = built (heldRows (g .row-conditions .now) (g .row-weights .now) (g .rows .now) (g .guard-bounds .now) (g .guard-nodes .now)) (g .nodes .now) (g .edges .now) (g .links .now) in
-    let j = jobIn (g .counts) (g .raw-conditions .now) (g .raw-weights .now) (g .thresholds .now) (g .bounds .now) in
+    let j = jobIn (g .standing) (g .raw-conditions .now) (g .raw-weights .now) (g .thresholds .now) (g .bounds .now) in
     let n = d .build-rows .result in
     let e = d .build-rows .ensures in
     (e .0, all-built j n b _ (s .pre .1) (e .0) (e .1) (e .2) _ _ _ _ (q .prepare .ensures))

@@ -15,25 +15,25 @@ slice-aggregate-prepare : tie.Need-slice-aggregate-prepare
 slice-aggregate-prepare c =
     let s = c .before .before .before .before .before .before .before in
     let g = s .args in
-    sym (conditions-long (g .counts) (g .raw-conditions .now) (g .raw-weights .now) (g .thresholds .now) (g .bounds .now) (s .pre .0))
+    sym (conditions-long (g .standing) (g .raw-conditions .now) (g .raw-weights .now) (g .thresholds .now) (g .bounds .now) (s .pre .0))
 
 slice-aggregate-prepare-2 : tie.Need-slice-aggregate-prepare-2
 slice-aggregate-prepare-2 c =
     let s = c .before .before .before .before .before .before .before .before in
     let g = s .args in
-    sym (weights-long (g .counts) (g .raw-conditions .now) (g .raw-weights .now) (g .thresholds .now) (g .bounds .now) (s .pre .0))
+    sym (weights-long (g .standing) (g .raw-conditions .now) (g .raw-weights .now) (g .thresholds .now) (g .bounds .now) (s .pre .0))
 
 slice-aggregate-prepare-3 : tie.Need-slice-aggregate-prepare-3
 slice-aggregate-prepare-3 c =
     let s = c .before .before .before .before .before .before .before .before .before in
     let g = s .args in
-    sym (long (g .counts) (g .raw-conditions .now) (g .raw-weights .now) (g .thresholds .now) (g .bounds .now) (s .pre .0))
+    sym (long (g .standing) (g .raw-conditions .now) (g .raw-weights .now) (g .thresholds .now) (g .bounds .now) (s .pre .0))
 
 slice-aggregate-prepare-4 : tie.Need-slice-aggregate-prepare-4
 slice-aggregate-prepare-4 c =
     let s = c .before .before .before .before .before .before .before .before .before .before in
     let g = s .args in
-    sym (bounds-long (g .counts) (g .raw-conditions .now) (g .raw-weights .now) (g .thresholds .now) (g .bounds .now) (s .pre .0))
+    sym (bounds-long (g .standing) (g .raw-conditions .now) (g .raw-weights .now) (g .thresholds .now) (g .bounds .now) (s .pre .0))
 
 slice-relend-prefix-prepare : tie.Need-slice-relend-prefix-prepare
 slice-relend-prefix-prepare c = search needs
@@ -43,7 +43,7 @@ slice-aggregate-prepare-5 c =
     let s = c .before .before .before .before .before .before .before .before .before .before .before .before .before .before .before .before in
     let g = s .args in
     let b = built (heldRows (g .row-conditions .now) (g .row-weights .now) (g .rows .now) (g .guard-bounds .now) (g .guard-nodes .now)) (g .nodes .now) (g .edges .now) [] in
-    sym (length-take-le (g .counts .nodes) (g .nodes .now) (nodes-inside (g .counts) (g .raw-conditions .now) (g .raw-weights .now) (g .thresholds .now) (g .bounds .now) (s .pre .0) b (s .pre .1)))
+    sym (length-take-le (g .standing .nodes) (g .nodes .now) (nodes-inside (g .standing) (g .raw-conditions .now) (g .raw-weights .now) (g .thresholds .now) (g .bounds .now) (s .pre .0) b (s .pre .1)))
 
 prepare-requires : tie.Need-prepare-requires
 prepare-requires c κs =
@@ -51,9 +51,9 @@ prepare-requires c κs =
     let g = s .args in
     let p = s .pre in
     let b = built (heldRows (g .row-conditions .now) (g .row-weights .now) (g .rows .now) (g .guard-bounds .now) (g .guard-nodes .now)) (g .nodes .now) (g .edges .now) [] in
-    let i = nodes-inside (g .counts) (g .raw-conditions .now) (g .raw-weights .now) (g .thresholds .now) (g .bounds .now) (p .0) b (p .1) in (
-      gathered-sound (g .counts) (g .raw-conditions .now) (g .raw-weights .now) (g .thresholds .now) (g .bounds .now) (p .0) (length (take (g .counts .nodes) (g .nodes .now))) (length-take-le (g .counts .nodes) (g .nodes .now) i),
-      gathered-ample (g .counts) (g .raw-conditions .now) (g .raw-weights .now) (g .thresholds .now) (g .bounds .now) (p .0) b (g .scratch .now) (p .1) (p .2),
+    let i = nodes-inside (g .standing) (g .raw-conditions .now) (g .raw-weights .now) (g .thresholds .now) (g .bounds .now) (p .0) b (p .1) in (
+      gathered-sound (g .standing) (g .raw-conditions .now) (g .raw-weights .now) (g .thresholds .now) (g .bounds .now) (p .0) (length (take (g .standing .nodes) (g .nodes .now))) (length-take-le (g .standing .nodes) (g .nodes .now) i),
+      gathered-ample (g .standing) (g .raw-conditions .now) (g .raw-weights .now) (g .thresholds .now) (g .bounds .now) (p .0) b (g .scratch .now) (p .1) (p .2),
     )
 
 same-length : tie.Need-same-length
@@ -87,11 +87,11 @@ returns c =
     let g = s .args in
     let p = s .pre in
     let b = built (heldRows (g .row-conditions .now) (g .row-weights .now) (g .rows .now) (g .guard-bounds .now) (g .guard-nodes .now)) (g .nodes .now) (g .edges .now) [] in
-    let i = nodes-inside (g .counts) (g .raw-conditions .now) (g .raw-weights .now) (g .thresholds .now) (g .bounds .now) (p .0) b (p .1) in
+    let i = nodes-inside (g .standing) (g .raw-conditions .now) (g .raw-weights .now) (g .thresholds .now) (g .bounds .now) (p .0) b (p .1) in
     let e = d .prepare .ensures in
-    let r = rows-few (g .counts) (g .raw-conditions .now) (g .raw-weights .now) (g .thresholds .now) (g .bounds .now) b i (d .prepare .result) _ (e .0) in
-    let l = long (g .counts) (g .raw-conditions .now) (g .raw-weights .now) (g .thresholds .now) (g .bounds .now) (p .0) in
-    (e .0 .many, omega (arith, e .0 .many, r, l, p .0 .listed .many), unlinked (g .counts) (g .raw-conditions .now) (g .raw-weights .now) (g .thresholds .now) (g .bounds .now) b i (d .prepare .result) _ (e .0), e .1)
+    let r = rows-few (g .standing) (g .raw-conditions .now) (g .raw-weights .now) (g .thresholds .now) (g .bounds .now) b i (d .prepare .result) _ (e .0) in
+    let l = long (g .standing) (g .raw-conditions .now) (g .raw-weights .now) (g .thresholds .now) (g .bounds .now) (p .0) in
+    (e .0 .many, omega (arith, e .0 .many, r, l, p .0 .listed .many), unlinked (g .standing) (g .raw-conditions .now) (g .raw-weights .now) (g .thresholds .now) (g .bounds .now) b i (d .prepare .result) _ (e .0), e .1)
 
 pub build-rows-spec : {M : Type 1} → statement M
 build-rows-spec =

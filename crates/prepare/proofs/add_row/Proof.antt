@@ -22,16 +22,20 @@ end-of-requires : tie.Need-end-of-requires
 end-of-requires c κs = search needs
 
 build-at-requires : tie.Need-build-at-requires
-build-at-requires c κs = let g = c .before .before .before .before .before .before .before .before .before .before .before .args in
-    let p = c .before .before .before .before .before .before .before .before .before .before .before .pre in
+build-at-requires c κs =
+    let end-of = c .before .before .before in
+    let start-of = end-of .before in
+    let s = start-of .before .before .before .before .before .before .before in
+    let g = s .args in
+    let p = s .pre in
     let r = rawLists (g .raw-conditions .now) (g .raw-weights .now) (g .thresholds .now) in
     let l = p .0 .lists in
     let w = within r (g .t) (g .so) (g .row-conditions .now) (g .row-weights .now) (g .rows .now) (g .scratch .now) (g .heads .now) (p .0) (p .3) (p .1) in
     let rising = l .rising (g .t) (p .1) in
     let short = l .short (g .t) (p .1) in
     let inside = l .inside (g .t) (p .1) in
-    let a = c .before .before .before .before .start-of .ensures in
-    let e = c .before .before .before .end-of .ensures in
+    let a = start-of .start-of .ensures in
+    let e = end-of .end-of .ensures in
     let end = p .3 .end in
     let fit = terms-room r _ (g .t) l (p .1) in
     let room = p .0 .room in
@@ -51,20 +55,26 @@ cast-t25 c = let g = c .before .before .before .before .before .before .before .
     record { fits = omega arith }
 
 mul-entry : tie.Need-mul-entry
-mul-entry c = let g = c .before .before .before .before .before .before .before .before .before .before .before .before .before .before .before .before .before .before .args in
-    let p = c .before .before .before .before .before .before .before .before .before .before .before .before .before .before .before .before .before .before .pre in
+mul-entry c =
+    let s = c .before .before .before .before .before .before .before .before .before .before .before .before .before .before .before .before .before .before in
+    let g = s .args in
+    let p = s .pre in
     let w = within (rawLists (g .raw-conditions .now) (g .raw-weights .now) (g .thresholds .now)) (g .t) (g .so) (g .row-conditions .now) (g .row-weights .now) (g .rows .now) (g .scratch .now) (g .heads .now) (p .0) (p .3) (p .1) in
     record { fits = omega arith }
 
 slice-set-from-entry : tie.Need-slice-set-from-entry
-slice-set-from-entry c = let g = c .before .before .before .before .before .before .before .before .before .before .before .before .before .before .before .before .before .before .args in
-    let p = c .before .before .before .before .before .before .before .before .before .before .before .before .before .before .before .before .before .before .pre in
+slice-set-from-entry c =
+    let s = c .before .before .before .before .before .before .before .before .before .before .before .before .before .before .before .before .before .before in
+    let g = s .args in
+    let p = s .pre in
     let w = within (rawLists (g .raw-conditions .now) (g .raw-weights .now) (g .thresholds .now)) (g .t) (g .so) (g .row-conditions .now) (g .row-weights .now) (g .rows .now) (g .scratch .now) (g .heads .now) (p .0) (p .3) (p .1) in
     w .row
 
 link-row-requires : tie.Need-link-row-requires
-link-row-requires c κs = let g = c .before .before .before .before .before .before .before .before .before .before .before .before .before .before .before .before .before .before .before .args in
-    let p = c .before .before .before .before .before .before .before .before .before .before .before .before .before .before .before .before .before .before .before .pre in
+link-row-requires c κs =
+    let s′ = c .before .before .before .before .before .before .before .before .before .before .before .before .before .before .before .before .before .before .before in
+    let g = s′ .args in
+    let p = s′ .pre in
     let s = print-small (rawLists (g .raw-conditions .now) (g .raw-weights .now) (g .thresholds .now)) (g .t) (p .0 .lists) (p .1) in
     let e = p .2 in
     let w = within (rawLists (g .raw-conditions .now) (g .raw-weights .now) (g .thresholds .now)) (g .t) (g .so) (g .row-conditions .now) (g .row-weights .now) (g .rows .now) (g .scratch .now) (g .heads .now) (p .0) (p .3) (p .1) in
@@ -76,47 +86,63 @@ mul-scratch : tie.Need-mul-scratch
 mul-scratch c = let n = c .before .before .link-row .ensures .1 in record { fits = omega arith }
 
 add-scratch : tie.Need-add-scratch
-add-scratch c = let g = c .before .before .before .before .before .before .before .before .before .before .before .before .before .before .before .before .before .before .before .before .before .before .args in
-    let p = c .before .before .before .before .before .before .before .before .before .before .before .before .before .before .before .before .before .before .before .before .before .before .pre in
+add-scratch c =
+    let link-row = c .before .before in
+    let s′ = link-row .before .before .before .before .before .before .before .before .before .before .before .before .before .before .before .before .before .before .before .before in
+    let g = s′ .args in
+    let p = s′ .pre in
     let s = print-small (rawLists (g .raw-conditions .now) (g .raw-weights .now) (g .thresholds .now)) (g .t) (p .0 .lists) (p .1) in
     let e = p .2 in
-    let n = c .before .before .link-row .ensures .1 in
+    let n = link-row .link-row .ensures .1 in
     record { fits = omega arith }
 
 mul-scratch-2 : tie.Need-mul-scratch-2
-mul-scratch-2 c = let g = c .before .before .before .before .before .before .before .before .before .before .before .before .before .before .before .before .before .before .before .before .before .before .args in
-    let p = c .before .before .before .before .before .before .before .before .before .before .before .before .before .before .before .before .before .before .before .before .before .before .pre in
+mul-scratch-2 c =
+    let link-row = c .before .before in
+    let s′ = link-row .before .before .before .before .before .before .before .before .before .before .before .before .before .before .before .before .before .before .before .before in
+    let g = s′ .args in
+    let p = s′ .pre in
     let s = print-small (rawLists (g .raw-conditions .now) (g .raw-weights .now) (g .thresholds .now)) (g .t) (p .0 .lists) (p .1) in
     let e = p .2 in
-    let n = c .before .before .link-row .ensures .1 in
+    let n = link-row .link-row .ensures .1 in
     record { fits = omega arith }
 
 add-scratch-2 : tie.Need-add-scratch-2
-add-scratch-2 c = let g = c .before .before .before .before .before .before .before .before .before .before .before .before .before .before .before .before .before .before .before .before .before .before .args in
-    let p = c .before .before .before .before .before .before .before .before .before .before .before .before .before .before .before .before .before .before .before .before .before .before .pre in
+add-scratch-2 c =
+    let link-row = c .before .before in
+    let s′ = link-row .before .before .before .before .before .before .before .before .before .before .before .before .before .before .before .before .before .before .before .before in
+    let g = s′ .args in
+    let p = s′ .pre in
     let s = print-small (rawLists (g .raw-conditions .now) (g .raw-weights .now) (g .thresholds .now)) (g .t) (p .0 .lists) (p .1) in
     let e = p .2 in
-    let n = c .before .before .link-row .ensures .1 in
+    let n = link-row .link-row .ensures .1 in
     let w = within (rawLists (g .raw-conditions .now) (g .raw-weights .now) (g .thresholds .now)) (g .t) (g .so) (g .row-conditions .now) (g .row-weights .now) (g .rows .now) (g .scratch .now) (g .heads .now) (p .0) (p .3) (p .1) in
     let turn = w .turn in
     record { fits = omega arith }
 
 mul-scratch-3 : tie.Need-mul-scratch-3
-mul-scratch-3 c = let g = c .before .before .before .before .before .before .before .before .before .before .before .before .before .before .before .before .before .before .before .before .before .before .args in
-    let p = c .before .before .before .before .before .before .before .before .before .before .before .before .before .before .before .before .before .before .before .before .before .before .pre in
+mul-scratch-3 c =
+    let s = c .before .before .before .before .before .before .before .before .before .before .before .before .before .before .before .before .before .before .before .before .before .before in
+    let g = s .args in
+    let p = s .pre in
     let w = within (rawLists (g .raw-conditions .now) (g .raw-weights .now) (g .thresholds .now)) (g .t) (g .so) (g .row-conditions .now) (g .row-weights .now) (g .rows .now) (g .scratch .now) (g .heads .now) (p .0) (p .3) (p .1) in
     record { fits = omega arith }
 
 slice-write-scratch : tie.Need-slice-write-scratch
-slice-write-scratch c = let g = c .before .before .before .before .before .before .before .before .before .before .before .before .before .before .before .before .before .before .before .before .before .before .args in
-    let p = c .before .before .before .before .before .before .before .before .before .before .before .before .before .before .before .before .before .before .before .before .before .before .pre in
+slice-write-scratch c =
+    let build-at = c .before .before .before .before .before .before .before .before .before .before in
+    let s = build-at .before .before .before .before .before .before .before .before .before .before .before .before in
+    let g = s .args in
+    let p = s .pre in
     let w = within (rawLists (g .raw-conditions .now) (g .raw-weights .now) (g .thresholds .now)) (g .t) (g .so) (g .row-conditions .now) (g .row-weights .now) (g .rows .now) (g .scratch .now) (g .heads .now) (p .0) (p .3) (p .1) in
-    let k = c .before .before .before .before .before .before .before .before .before .before .build-at .kept .1 .1 .1 .1 .1 .1 .1 .0 in
+    let k = build-at .build-at .kept .1 .1 .1 .1 .1 .1 .1 .0 in
     omega arith
 
 add-t26 : tie.Need-add-t26
-add-t26 c = let g = c .before .before .before .before .before .before .before .before .before .before .before .before .before .before .before .before .before .before .before .before .before .before .args in
-    let p = c .before .before .before .before .before .before .before .before .before .before .before .before .before .before .before .before .before .before .before .before .before .before .pre in
+add-t26 c =
+    let s = c .before .before .before .before .before .before .before .before .before .before .before .before .before .before .before .before .before .before .before .before .before .before in
+    let g = s .args in
+    let p = s .pre in
     let w = within (rawLists (g .raw-conditions .now) (g .raw-weights .now) (g .thresholds .now)) (g .t) (g .so) (g .row-conditions .now) (g .row-weights .now) (g .rows .now) (g .scratch .now) (g .heads .now) (p .0) (p .3) (p .1) in
     record { fits = omega arith }
 
@@ -136,23 +162,29 @@ same-length-5 : tie.Need-same-length-5
 same-length-5 c = search needs
 
 returns : tie.Need-returns
-returns c = let g = c .before .before .before .before .before .before .before .before .before .before .before .before .before .before .before .before .before .before .before .before .before .before .args in
-    let p = c .before .before .before .before .before .before .before .before .before .before .before .before .before .before .before .before .before .before .before .before .before .before .pre in
+returns c =
+    let link-row = c .before .before in
+    let build-at = link-row .before .before .before .before .before .before .before .before in
+    let end-of = build-at .before .before .before .before in
+    let start-of = end-of .before in
+    let s′ = start-of .before .before .before .before .before .before .before in
+    let g = s′ .args in
+    let p = s′ .pre in
     let r = rawLists (g .raw-conditions .now) (g .raw-weights .now) (g .thresholds .now) in
     let w = within r (g .t) (g .so) (g .row-conditions .now) (g .row-weights .now) (g .rows .now) (g .scratch .now) (g .heads .now) (p .0) (p .3) (p .1) in
     let l = p .0 .lists in
-    let a = c .before .before .before .before .before .before .before .before .before .before .before .before .before .before .before .start-of .ensures in
-    let e = c .before .before .before .before .before .before .before .before .before .before .before .before .before .before .end-of .ensures in
-    let s = c .before .before .before .before .before .before .before .before .before .before .build-at .ensures in
-    let q = c .before .before .link-row .ensures in
-    let n = c .before .before .link-row .result in
+    let a = start-of .start-of .ensures in
+    let e = end-of .end-of .ensures in
+    let s = build-at .build-at .ensures in
+    let q = link-row .link-row .ensures in
+    let n = link-row .link-row .result in
     let small = print-small r (g .t) l (p .1) in
     let pe = p .2 in
     let f : printIn (mark n (g .print) (g .t)) ≡ g .print = mark-print n (g .print) (g .t) (omega arith) (w .turn) in
-    let x = terms (stretch (c .before .before .before .before .before .before .before .before .before .before .before .before .before .before .before .start-of .result) (c .before .before .before .before .before .before .before .before .before .before .before .before .before .before .end-of .result) (g .raw-conditions .now)) (stretch (c .before .before .before .before .before .before .before .before .before .before .before .before .before .before .before .start-of .result) (c .before .before .before .before .before .before .before .before .before .before .before .before .before .before .end-of .result) (g .raw-weights .now)) in (
-      placing-new r (g .t) (g .so) (g .row-conditions .now) (g .row-weights .now) (g .scratch .now) (g .heads .now) (p .3) l (p .1) (c .before .before .before .before .before .before .before .before .before .before .before .before .before .before .before .start-of .result) (c .before .before .before .before .before .before .before .before .before .before .before .before .before .before .end-of .result) x a e (list-is r (g .t) _ _ a e) (s .1) (p .4)
-          (c .before .before .before .before .before .before .before .before .before .before .build-at .result) (mark n (g .print) (g .t)) _ _ _ _ (p .0 .room) (p .0 .even) (w .word) (s .0)
-          (c .before .before .before .before .before .before .before .before .before .before .build-at .kept .1 .1 .1 .1 .1 .0) (s .2) (c .before .before .before .before .before .before .before .before .before .before .build-at .kept .1 .1 .1 .1 .1 .1 .0) (s .3) (mark-first n (g .print) (g .t) (w .turn)) (f ∙ p .2)
+    let x = terms (stretch (start-of .start-of .result) (end-of .end-of .result) (g .raw-conditions .now)) (stretch (start-of .start-of .result) (end-of .end-of .result) (g .raw-weights .now)) in (
+      placing-new r (g .t) (g .so) (g .row-conditions .now) (g .row-weights .now) (g .scratch .now) (g .heads .now) (p .3) l (p .1) (start-of .start-of .result) (end-of .end-of .result) x a e (list-is r (g .t) _ _ a e) (s .1) (p .4)
+          (build-at .build-at .result) (mark n (g .print) (g .t)) _ _ _ _ (p .0 .room) (p .0 .even) (w .word) (s .0)
+          (build-at .build-at .kept .1 .1 .1 .1 .1 .0) (s .2) (build-at .build-at .kept .1 .1 .1 .1 .1 .1 .0) (s .3) (mark-first n (g .print) (g .t) (w .turn)) (f ∙ p .2)
           (mark-next n (g .print) (g .t) (omega arith) (w .turn) ∙ q .0 ∙ ap (λ (h : ℕ). getD (g .heads .now) (classOf h) 0) (sym f)) (s .4)
           (q .2 ∙ ap (λ (h : ℕ). set (g .heads .now) (classOf h) (g .so .rows + 1)) (sym f)),
       refl,

@@ -41,9 +41,11 @@ part-place-all-end : tie.Need-part-place-all-end
 part-place-all-end c = search needs
 
 place-all-requires : tie.Need-place-all-requires
-place-all-requires c κs = let g = c .before .before .before .before .before .before .before .before .before .before .before .before .args in
+place-all-requires c κs =
+    let s = c .before .before .before .before .before .before .before .before .before .before .before .before in
+    let g = s .args in
     let r = rawLists (g .raw-conditions .now) (g .raw-weights .now) (g .thresholds .now) in
-    open-ready r (g .row-conditions .now) (g .row-weights .now) (g .rows .now) (g .nodes .now) (g .scratch .now) (g .heads .now) (c .before .before .before .before .before .before .before .before .before .before .before .before .pre)
+    open-ready r (g .row-conditions .now) (g .row-weights .now) (g .rows .now) (g .nodes .now) (g .scratch .now) (g .heads .now) (s .pre)
 
 same-length : tie.Need-same-length
 same-length c = search needs
@@ -64,10 +66,13 @@ same-length-6 : tie.Need-same-length-6
 same-length-6 c = search needs
 
 returns : tie.Need-returns
-returns c = let g = c .before .before .before .before .before .before .before .before .before .before .before .before .before .before .before .before .before .before .before .before .before .before .before .args in
-    let p = c .before .before .before .before .before .before .before .before .before .before .before .before .before .before .before .before .before .before .before .before .before .before .before .pre in
+returns c =
+    let place-all = c .before .before .before .before .before .before .before .before .before .before in
+    let s′ = place-all .before .before .before .before .before .before .before .before .before .before .before .before .before in
+    let g = s′ .args in
+    let p = s′ .pre in
     let r = rawLists (g .raw-conditions .now) (g .raw-weights .now) (g .thresholds .now) in
-    let s = c .before .before .before .before .before .before .before .before .before .before .place-all .ensures in
+    let s = place-all .place-all .ensures in
     let J = joinAll (termsTo r (length (g .thresholds .now))) in
     let fit = terms-fit r (length (g .thresholds .now)) (p .lists) in
     let lc = length-map J (λ (t : Term). t .condition) in

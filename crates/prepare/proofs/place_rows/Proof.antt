@@ -47,31 +47,39 @@ place-one-requires c κs = let g = c .before .before .before .before .before .be
     )
 
 add-t : tie.Need-add-t Inv-loop μ-loop
-add-t c = let h = c .before .before .before .before .before .before .before .before .before .before .before .before .before .before .before .before .before .loop-test .taken in
-    let many = c .before .before .before .before .before .before .before .before .before .before .before .before .before .before .before .before .before .before .before .before .before .before .before .before .before .pre .0 .lists .many in
+add-t c =
+    let loop-test = c .before .before .before .before .before .before .before .before .before .before .before .before .before .before .before .before .before in
+    let s = loop-test .before .before .before .before .before .before .before .before in
+    let h = loop-test .loop-test .taken in
+    let many = s .pre .0 .lists .many in
     record { fits = omega arith }
 
 loop-less : tie.Need-loop-less Inv-loop μ-loop
 loop-less c = search needs
 
 loop-again : tie.Need-loop-again Inv-loop μ-loop
-loop-again c = let g = c .before .before .before .before .before .before .before .before .before .before .before .before .before .before .before .before .before .before .before .before .before .before .before .before .before .args in
-    let p = c .before .before .before .before .before .before .before .before .before .before .before .before .before .before .before .before .before .before .before .before .before .before .before .before .before .pre in
-    let w = c .before .before .before .before .before .before .before .before .before .before .before .before .before .before .before .before .before .before .loop in
+loop-again c =
+    let place-one = c .before .before .before .before .before .before .before .before .before .before in
+    let loop-test = place-one .before .before .before .before .before .before .before in
+    let loop = loop-test .before in
+    let s′ = loop .before .before .before .before .before .before .before in
+    let g = s′ .args in
+    let p = s′ .pre in
+    let w = loop .loop in
     let r = rawLists (g .raw-conditions .now) (g .raw-weights .now) (g .thresholds .now) in
     let k = w .inv .1 in
-    let s = c .before .before .before .before .before .before .before .before .before .before .place-one .ensures in
-    let h = c .before .before .before .before .before .before .before .before .before .before .before .before .before .before .before .before .before .loop-test .taken in
+    let s = place-one .place-one .ensures in
+    let h = loop-test .loop-test .taken in
     let few = raws-few r (w .t) in
     let many = p .0 .many in (
       omega arith,
       record {
-        row-conditions = c .before .before .before .before .before .before .before .before .before .before .place-one .kept .1 .1 .1 .1 .1 .0 ∙ k .row-conditions;
-        row-weights = c .before .before .before .before .before .before .before .before .before .before .place-one .kept .1 .1 .1 .1 .1 .1 .0 ∙ k .row-weights;
-        rows = c .before .before .before .before .before .before .before .before .before .before .place-one .kept .1 .1 .1 .1 .1 .1 .1 .0 ∙ k .rows;
-        nodes = c .before .before .before .before .before .before .before .before .before .before .place-one .kept .1 .1 .1 .1 .1 .1 .1 .1 .0 ∙ k .nodes;
-        scratch = c .before .before .before .before .before .before .before .before .before .before .place-one .kept .1 .1 .1 .1 .1 .1 .1 .1 .1 .0 ∙ k .scratch;
-        heads = c .before .before .before .before .before .before .before .before .before .before .place-one .kept .1 .1 .1 .1 .1 .1 .1 .1 .1 .1 .0 ∙ k .heads;
+        row-conditions = place-one .place-one .kept .1 .1 .1 .1 .1 .0 ∙ k .row-conditions;
+        row-weights = place-one .place-one .kept .1 .1 .1 .1 .1 .1 .0 ∙ k .row-weights;
+        rows = place-one .place-one .kept .1 .1 .1 .1 .1 .1 .1 .0 ∙ k .rows;
+        nodes = place-one .place-one .kept .1 .1 .1 .1 .1 .1 .1 .1 .0 ∙ k .nodes;
+        scratch = place-one .place-one .kept .1 .1 .1 .1 .1 .1 .1 .1 .1 .0 ∙ k .scratch;
+        heads = place-one .place-one .kept .1 .1 .1 .1 .1 .1 .1 .1 .1 .1 .0 ∙ k .heads;
       },
       s .0,
       rows-next r (w .t) (g .rows .now) (w .rows) _ (omega arith) (w .inv .3) (s .1),
@@ -97,7 +105,9 @@ same-length-6 : tie.Need-same-length-6 Inv-loop μ-loop
 same-length-6 c = c .before .loop .inv .1 .heads
 
 returns : tie.Need-returns Inv-loop μ-loop
-returns c = let g = c .before .before .before .before .before .before .before .before .args in
+returns c =
+    let s = c .before .before .before .before .before .before .before .before in
+    let g = s .args in
     let w = c .before .loop in
     let r = rawLists (g .raw-conditions .now) (g .raw-weights .now) (g .thresholds .now) in
     let h = c .loop-test .left in

@@ -24,57 +24,90 @@ place-in-requires c κs = let g = c .before .before .before .before .before .bef
     opened r (g .bounds .now) b (g .scratch .now) (p .0) (p .1) _ _ (o .0) (o .1)
 
 guards-in-requires : tie.Need-guards-in-requires
-guards-in-requires c κs = let g = c .before .before .before .before .before .before .before .before .before .before .before .before .before .before .before .before .before .before .before .before .before .before .before .before .before .before .before .before .before .before .before .before .before .before .before .args in
-    let p = c .before .before .before .before .before .before .before .before .before .before .before .before .before .before .before .before .before .before .before .before .before .before .before .before .before .before .before .before .before .before .before .before .before .before .before .pre in
+guards-in-requires c κs =
+    let place-in = c .before .before .before .before .before .before .before .before .before .before .before .before .before .before .before in
+    let order-keys = place-in .before .before .before .before .before .before .before .before .before .before .before in
+    let s = order-keys .before .before .before .before .before .before .before .before .before in
+    let g = s .args in
+    let p = s .pre in
     let r = rawLists (g .raw-conditions .now) (g .raw-weights .now) (g .thresholds .now) in
     let b = built (heldRows (g .row-conditions .now) (g .row-weights .now) (g .rows .now) (g .guard-bounds .now) (g .guard-nodes .now)) (g .nodes .now) (g .edges .now) [] in
-    let o = c .before .before .before .before .before .before .before .before .before .before .before .before .before .before .before .before .before .before .before .before .before .before .before .before .before .before .order-keys .ensures in
-    let q = c .before .before .before .before .before .before .before .before .before .before .before .before .before .before .before .place-in .ensures in
-    guards-ready r (g .bounds .now) b (g .scratch .now) (p .0) (p .1) _ _ (o .0) (o .1) (c .before .before .before .before .before .before .before .before .before .before .before .before .before .before .before .place-in .result) _ _ _ _ _ _ (q .0) (q .1) (q .2)
+    let o = order-keys .order-keys .ensures in
+    let q = place-in .place-in .ensures in
+    guards-ready r (g .bounds .now) b (g .scratch .now) (p .0) (p .1) _ _ (o .0) (o .1) (place-in .place-in .result) _ _ _ _ _ _ (q .0) (q .1) (q .2)
 
 edges-in-requires : tie.Need-edges-in-requires
-edges-in-requires c κs = let g = c .before .before .before .before .before .before .before .before .before .before .before .before .before .before .before .before .before .before .before .before .before .before .before .before .before .before .before .before .before .before .before .before .before .before .before .before .before .before .before .before .before .before .before .before .before .before .before .args in
-    let p = c .before .before .before .before .before .before .before .before .before .before .before .before .before .before .before .before .before .before .before .before .before .before .before .before .before .before .before .before .before .before .before .before .before .before .before .before .before .before .before .before .before .before .before .before .before .before .before .pre in
+edges-in-requires c κs =
+    let guards-in = c .before .before .before .before .before .before .before .before .before .before .before in
+    let place-in = guards-in .before .before .before .before .before .before .before .before .before .before .before .before .before .before .before .before in
+    let order-keys = place-in .before .before .before .before .before .before .before .before .before .before .before in
+    let s = order-keys .before .before .before .before .before .before .before .before .before in
+    let g = s .args in
+    let p = s .pre in
     let r = rawLists (g .raw-conditions .now) (g .raw-weights .now) (g .thresholds .now) in
     let b = built (heldRows (g .row-conditions .now) (g .row-weights .now) (g .rows .now) (g .guard-bounds .now) (g .guard-nodes .now)) (g .nodes .now) (g .edges .now) [] in
-    let o = c .before .before .before .before .before .before .before .before .before .before .before .before .before .before .before .before .before .before .before .before .before .before .before .before .before .before .before .before .before .before .before .before .before .before .before .before .before .before .order-keys .ensures in
-    let q = c .before .before .before .before .before .before .before .before .before .before .before .before .before .before .before .before .before .before .before .before .before .before .before .before .before .before .before .place-in .ensures in
-    let h = c .before .before .before .before .before .before .before .before .before .before .before .guards-in .ensures in
-    edges-ready r (g .bounds .now) b (g .scratch .now) (p .0) (p .1) _ _ (o .0) (o .1) (c .before .before .before .before .before .before .before .before .before .before .before .before .before .before .before .before .before .before .before .before .before .before .before .before .before .before .before .place-in .result) _ _ _ _ _ _ (q .0) (q .1) (q .2) _ _ _ _ (h .0) (h .1) (c .before .before .before .before .before .before .before .before .before .before .before .guards-in .kept .1 .1 .1 .1 .0)
+    let o = order-keys .order-keys .ensures in
+    let q = place-in .place-in .ensures in
+    let h = guards-in .guards-in .ensures in
+    edges-ready r (g .bounds .now) b (g .scratch .now) (p .0) (p .1) _ _ (o .0) (o .1) (place-in .place-in .result) _ _ _ _ _ _ (q .0) (q .1) (q .2) _ _ _ _ (h .0) (h .1) (guards-in .guards-in .kept .1 .1 .1 .1 .0)
 
 same-length : tie.Need-same-length
-same-length c = c .before .before .before .before .before .before .before .before .before .before .before .before .before .before .before .before .before .before .before .before .before .before .before .before .before .before .before .before .before .before .place-in .kept .1 .1 .1 .0
+same-length c =
+    let place-in = c .before .before .before .before .before .before .before .before .before .before .before .before .before .before .before .before .before .before .before .before .before .before .before .before .before .before .before .before .before .before in
+    place-in .place-in .kept .1 .1 .1 .0
 
 same-length-2 : tie.Need-same-length-2
-same-length-2 c = c .before .before .before .before .before .before .before .before .before .before .before .before .before .before .before .before .before .before .before .before .before .before .before .before .before .before .before .before .before .before .place-in .kept .1 .1 .1 .1 .0 ∙ c .before .before .before .before .before .before .before .before .before .before .before .before .before .before .before .before .before .before .before .before .before .before .before .before .before .before .before .before .before .before .before .before .before .before .before .before .before .before .before .before .before .order-keys .kept .1 .0
+same-length-2 c =
+    let place-in = c .before .before .before .before .before .before .before .before .before .before .before .before .before .before .before .before .before .before .before .before .before .before .before .before .before .before .before .before .before .before in
+    let order-keys = place-in .before .before .before .before .before .before .before .before .before .before .before in
+    place-in .place-in .kept .1 .1 .1 .1 .0 ∙ order-keys .order-keys .kept .1 .0
 
 same-length-3 : tie.Need-same-length-3
-same-length-3 c = c .before .before .before .before .before .before .before .before .before .before .before .before .before .before .guards-in .kept .1 .1 .1 .1 .0 ∙ c .before .before .before .before .before .before .before .before .before .before .before .before .before .before .before .before .before .before .before .before .before .before .before .before .before .before .before .before .before .before .place-in .kept .1 .1 .1 .1 .1 .0
+same-length-3 c =
+    let guards-in = c .before .before .before .before .before .before .before .before .before .before .before .before .before .before in
+    let place-in = guards-in .before .before .before .before .before .before .before .before .before .before .before .before .before .before .before .before in
+    guards-in .guards-in .kept .1 .1 .1 .1 .0 ∙ place-in .place-in .kept .1 .1 .1 .1 .1 .0
 
 same-length-4 : tie.Need-same-length-4
 same-length-4 c = c .before .before .before .before .before .before .before .before .before .before .before .before .before .before .guards-in .kept .1 .1 .1 .1 .1 .0
 
 same-length-5 : tie.Need-same-length-5
-same-length-5 c = c .before .before .before .before .before .before .before .before .before .before .before .before .before .before .guards-in .kept .1 .1 .1 .1 .1 .1 .0 ∙ c .before .before .before .before .before .before .before .before .before .before .before .before .before .before .before .before .before .before .before .before .before .before .before .before .before .before .before .before .before .before .place-in .kept .1 .1 .1 .1 .1 .1 .1 .1 .0
+same-length-5 c =
+    let guards-in = c .before .before .before .before .before .before .before .before .before .before .before .before .before .before in
+    let place-in = guards-in .before .before .before .before .before .before .before .before .before .before .before .before .before .before .before .before in
+    guards-in .guards-in .kept .1 .1 .1 .1 .1 .1 .0 ∙ place-in .place-in .kept .1 .1 .1 .1 .1 .1 .1 .1 .0
 
 same-length-6 : tie.Need-same-length-6
-same-length-6 c = c .before .before .edges-in .kept .1 .1 .1 .1 .1 .0 ∙ c .before .before .before .before .before .before .before .before .before .before .before .before .before .before .before .before .before .before .before .before .before .before .before .before .before .before .before .before .before .before .place-in .kept .1 .1 .1 .1 .1 .1 .0
+same-length-6 c =
+    let edges-in = c .before .before in
+    let place-in = edges-in .before .before .before .before .before .before .before .before .before .before .before .before .before .before .before .before .before .before .before .before .before .before .before .before .before .before .before .before in
+    edges-in .edges-in .kept .1 .1 .1 .1 .1 .0 ∙ place-in .place-in .kept .1 .1 .1 .1 .1 .1 .0
 
 same-length-7 : tie.Need-same-length-7
 same-length-7 c = c .before .before .edges-in .kept .1 .1 .1 .1 .1 .1 .0
 
 same-length-8 : tie.Need-same-length-8
-same-length-8 c = c .before .before .before .before .before .before .before .before .before .before .before .before .before .before .guards-in .kept .1 .1 .1 .1 .1 .1 .1 .0 ∙ c .before .before .before .before .before .before .before .before .before .before .before .before .before .before .before .before .before .before .before .before .before .before .before .before .before .before .before .before .before .before .place-in .kept .1 .1 .1 .1 .1 .1 .1 .0 ∙ c .before .before .before .before .before .before .before .before .before .before .before .before .before .before .before .before .before .before .before .before .before .before .before .before .before .before .before .before .before .before .before .before .before .before .before .before .before .before .before .before .before .order-keys .kept .1 .1 .0
+same-length-8 c =
+    let guards-in = c .before .before .before .before .before .before .before .before .before .before .before .before .before .before in
+    let place-in = guards-in .before .before .before .before .before .before .before .before .before .before .before .before .before .before .before .before in
+    let order-keys = place-in .before .before .before .before .before .before .before .before .before .before .before in
+    guards-in .guards-in .kept .1 .1 .1 .1 .1 .1 .1 .0 ∙ place-in .place-in .kept .1 .1 .1 .1 .1 .1 .1 .0 ∙ order-keys .order-keys .kept .1 .1 .0
 
 returns : tie.Need-returns
-returns c = let g = c .before .before .before .before .before .before .before .before .before .before .before .before .before .before .before .before .before .before .before .before .before .before .before .before .before .before .before .before .before .before .before .before .before .before .before .before .before .before .before .before .before .before .before .before .before .before .before .before .before .before .args in
-    let p = c .before .before .before .before .before .before .before .before .before .before .before .before .before .before .before .before .before .before .before .before .before .before .before .before .before .before .before .before .before .before .before .before .before .before .before .before .before .before .before .before .before .before .before .before .before .before .before .before .before .before .pre in
+returns c =
+    let edges-in = c .before .before in
+    let guards-in = edges-in .before .before .before .before .before .before .before .before .before .before .before .before in
+    let place-in = guards-in .before .before .before .before .before .before .before .before .before .before .before .before .before .before .before .before in
+    let order-keys = place-in .before .before .before .before .before .before .before .before .before .before .before in
+    let s = order-keys .before .before .before .before .before .before .before .before .before in
+    let g = s .args in
+    let p = s .pre in
     let r = rawLists (g .raw-conditions .now) (g .raw-weights .now) (g .thresholds .now) in
     let b = built (heldRows (g .row-conditions .now) (g .row-weights .now) (g .rows .now) (g .guard-bounds .now) (g .guard-nodes .now)) (g .nodes .now) (g .edges .now) [] in
-    let o = c .before .before .before .before .before .before .before .before .before .before .before .before .before .before .before .before .before .before .before .before .before .before .before .before .before .before .before .before .before .before .before .before .before .before .before .before .before .before .before .before .before .order-keys .ensures in
-    let q = c .before .before .before .before .before .before .before .before .before .before .before .before .before .before .before .before .before .before .before .before .before .before .before .before .before .before .before .before .before .before .place-in .ensures in
-    let h = c .before .before .before .before .before .before .before .before .before .before .before .before .before .before .guards-in .ensures in
-    let z = prepared r (g .bounds .now) b (g .scratch .now) (p .0) (p .1) _ _ (o .0) (o .1) (c .before .before .before .before .before .before .before .before .before .before .before .before .before .before .before .before .before .before .before .before .before .before .before .before .before .before .before .before .before .before .place-in .result) _ _ _ _ _ _ (q .0) (q .1) (q .2) _ _ _ _ (h .0) (h .1) _ _ (c .before .before .edges-in .ensures) in
+    let o = order-keys .order-keys .ensures in
+    let q = place-in .place-in .ensures in
+    let h = guards-in .guards-in .ensures in
+    let z = prepared r (g .bounds .now) b (g .scratch .now) (p .0) (p .1) _ _ (o .0) (o .1) (place-in .place-in .result) _ _ _ _ _ _ (q .0) (q .1) (q .2) _ _ _ _ (h .0) (h .1) _ _ (edges-in .edges-in .ensures) in
     z
 
 pub prepare-spec : {M : Type 1} → statement M

@@ -53,7 +53,7 @@ add-with-terms c =
     let l : limit (a .state .upper) ≡ v = ap limit (u .1) in
     let hu : toZ w64 (ofZ w64 v) ≡ v = signed v (omega (arith, p .1 .upper, ap mag l)) in
     let hk : toZ w64 (ofZ w64 (a .state .known)) ≡ a .state .known = signed (a .state .known) (p .1 .known) in
-    let m = marks (a .sure .now) (a .never .now) (queue (a .nodes .now) (a .ring)) in
+    let m = marks (a .sure .now) (a .never .now) (queue (a .node-queue .now) (a .ring)) in
     let z = toZ w64 (ofZ w64 (toZ w64 (ofZ w64 v) -ℤ toZ w64 (ofZ w64 (a .state .known)))) in
     omega (
       arith,
@@ -70,7 +70,7 @@ with-terms-requires c κs = search needs
 returns : tie.Need-returns
 returns c =
     let a = c .before .before .before .before .before .before .before .before .args in
-    false-none (terms (a .conditions .now) (a .weights .now)) (a .state) (marks (a .sure .now) (a .never .now) (queue (a .nodes .now) (a .ring))) (ap limited (c .enum-told .given .1))
+    false-none (terms (a .conditions .now) (a .weights .now)) (a .state) (marks (a .sure .now) (a .never .now) (queue (a .node-queue .now) (a .ring))) (ap limited (c .enum-told .given .1))
 
 same-length : tie.Need-same-length
 same-length c = search needs
@@ -91,7 +91,7 @@ returns-2 c =
     let l : limit (a .state .upper) ≡ v = ap limit (u .1) in
     let hu : toZ w64 (ofZ w64 v) ≡ v = signed v (omega (arith, p .1 .upper, ap mag l)) in
     let hk : toZ w64 (ofZ w64 (a .state .known)) ≡ a .state .known = signed (a .state .known) (p .1 .known) in
-    let m = marks (a .sure .now) (a .never .now) (queue (a .nodes .now) (a .ring)) in
+    let m = marks (a .sure .now) (a .never .now) (queue (a .node-queue .now) (a .ring)) in
     let z = toZ w64 (ofZ w64 (toZ w64 (ofZ w64 v) -ℤ toZ w64 (ofZ w64 (a .state .known)))) in
     let d : toZ w64 (ofZ w64 (v -ℤ (a .state .known))) ≡ v -ℤ (a .state .known) = toZ-ofZ (sub-sfits v (a .state .known) (omega (arith, p .1 .upper, p .1 .known, ap mag l))) in
     false-forced (terms (a .conditions .now) (a .weights .now)) (a .state) m z

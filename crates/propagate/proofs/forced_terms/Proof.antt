@@ -70,7 +70,7 @@ returns c =
     let same = c .before .before .before .before .before .before .before .before .before .before .before .before .before .before .before .before .before .before .before .before .before .before .pre .0 .same in
     let b = g .weights .now in
     let n = g .conditions .now in
-    let m = marks (w .sure) (w .never) (queue (w .nodes) (w .so-far .ring)) in
+    let m = marks (w .sure) (w .never) (queue (w .node-queue) (w .so-far .ring)) in
     let x = term (getD n (w .at) 0) (getD b (w .at) 0) in
     let here : drop (w .at) (terms n b) ≡ x ∷ drop (w .at + 1) (terms n b) = up-terms n b (w .at) (omega arith) (omega arith) ∙ ap (λ (j : ℕ). x ∷ drop j (terms n b)) (sym (add-one (w .at))) in
     let v : (not (isDecided m (getD n (w .at) 0)) && c .before .before .before .before .before .before .before .before .before .before .before .before .waits .result) ≡ termWaits (light (g .cutoff)) x m = ap (λ (y : Bool). not (isDecided m (getD n (w .at) 0)) && y) (c .before .before .before .before .before .before .before .before .before .before .before .before .waits .ensures) in
@@ -94,7 +94,7 @@ loop-again c =
     let same = c .before .before .before .before .before .before .before .before .before .before .before .before .before .before .before .before .before .before .before .before .before .before .pre .0 .same in
     let b = g .weights .now in
     let n = g .conditions .now in
-    let m = marks (w .sure) (w .never) (queue (w .nodes) (w .so-far .ring)) in
+    let m = marks (w .sure) (w .never) (queue (w .node-queue) (w .so-far .ring)) in
     let x = term (getD n (w .at) 0) (getD b (w .at) 0) in
     let here : drop (w .at) (terms n b) ≡ x ∷ drop (w .at + 1) (terms n b) = up-terms n b (w .at) (omega arith) (omega arith) ∙ ap (λ (j : ℕ). x ∷ drop j (terms n b)) (sym (add-one (w .at))) in
     let v : (not (isDecided m (getD n (w .at) 0)) && c .before .before .before .before .before .before .before .before .before .before .before .before .waits .result) ≡ termWaits (light (g .cutoff)) x m = ap (λ (y : Bool). not (isDecided m (getD n (w .at) 0)) && y) (c .before .before .before .before .before .before .before .before .before .before .before .before .waits .ensures) in
@@ -126,7 +126,7 @@ returns-2 : tie.Need-returns-2 Inv-loop μ-loop
 returns-2 c =
     let g = c .before .before .before .before .before .before .before .args in
     let w = c .before .loop in
-    let m = marks (w .sure) (w .never) (queue (w .nodes) (w .so-far .ring)) in
+    let m = marks (w .sure) (w .never) (queue (w .node-queue) (w .so-far .ring)) in
     let e : drop (w .at) (terms (g .conditions .now) (g .weights .now)) ≡ [] = drop-of-length-le (terms (g .conditions .now) (g .weights .now)) {i = w .at} (omega (arith, length-terms (g .conditions .now) (g .weights .now))) in
     sym
     (ap (λ (l : List Term). scan (termWaits (light (g .cutoff))) (forces (g .cutoff .value)) l (w .so-far .passed) m (w .so-far .step)) e

@@ -10,7 +10,7 @@ use Rattle.propagate.proofs.guard_turn.Tie as tie
 returns : tie.Need-returns
 returns c =
     let a = c .before .before .before .before .args in
-    let m = marks (a .sure .now) (a .never .now) (queue (a .nodes .now) (a .scan .ring)) in
+    let m = marks (a .sure .now) (a .never .now) (queue (a .node-queue .now) (a .scan .ring)) in
     waits-turn (a .waits) (decide (a .value) m (a .node)) (scanned (a .scan .passed) m (a .scan .step)) (c .if1 .taken)
 
 decide-requires : tie.Need-decide-requires
@@ -35,7 +35,7 @@ returns-2 c =
     let a = c .before .before .before .before .before .before .before .before .before .before .before .before .before .before .before .before .args in
     let d = c .before .before .before .before .before .before .before .decide in
     let t = c .passed-turn in
-    guard-passed (a .value) (a .waits) (marks (a .sure .now) (a .never .now) (queue (a .nodes .now) (a .scan .ring))) (a .node) (a .scan .passed) (a .scan .step)
+    guard-passed (a .value) (a .waits) (marks (a .sure .now) (a .never .now) (queue (a .node-queue .now) (a .scan .ring))) (a .node) (a .scan .passed) (a .scan .step)
     (d .last .1 .0) (d .last .1 .1 .0) (d .last .1 .1 .1 .0) (d .result .ring) (t .result .scan .ring) (d .result .step) (t .result .scan .passed) (t .result .scan .step) (t .result .ends)
     (t .ensures .1) (t .ensures .0) (c .before .before .before .before .before .before .before .before .before .before .before .before .if1 .left) (d .ensures)
 

@@ -80,7 +80,7 @@ returns c =
     let room = c .before .before .before .before .before .before .before .before .before .before .before .before .before .before .before .before .before .before .before .before .before .pre .1 in
     let b = g .bounds .now in
     let n = g .names .now in
-    let m = marks (w .sure) (w .never) (queue (w .nodes) (w .so-far .ring)) in
+    let m = marks (w .sure) (w .never) (queue (w .node-queue) (w .so-far .ring)) in
     let x = guard (getD b (w .at - 1) (pos 0)) (getD n (w .at - 1) 0) in
     let here : reverse (take (w .at) (guards b n)) ≡ x ∷ reverse (take (w .at - 1) (guards b n)) = (let z : w .at ≡ w .at - 1 + 1 = omega arith in ap (λ (j : ℕ). reverse (take j (guards b n))) z) ∙ down-guards b n (w .at - 1) (omega arith) (omega arith) in
     let hb : toZ w64 (ofZ w64 (getD b (w .at - 1) (pos 0))) ≡ getD b (w .at - 1) (pos 0) = search needs in
@@ -106,7 +106,7 @@ loop-again c =
     let room = c .before .before .before .before .before .before .before .before .before .before .before .before .before .before .before .before .before .before .before .before .before .pre .1 in
     let b = g .bounds .now in
     let n = g .names .now in
-    let m = marks (w .sure) (w .never) (queue (w .nodes) (w .so-far .ring)) in
+    let m = marks (w .sure) (w .never) (queue (w .node-queue) (w .so-far .ring)) in
     let x = guard (getD b (w .at - 1) (pos 0)) (getD n (w .at - 1) 0) in
     let here : reverse (take (w .at) (guards b n)) ≡ x ∷ reverse (take (w .at - 1) (guards b n)) = (let z : w .at ≡ w .at - 1 + 1 = omega arith in ap (λ (j : ℕ). reverse (take j (guards b n))) z) ∙ down-guards b n (w .at - 1) (omega arith) (omega arith) in
     let hb : toZ w64 (ofZ w64 (getD b (w .at - 1) (pos 0))) ≡ getD b (w .at - 1) (pos 0) = search needs in
@@ -139,7 +139,7 @@ returns-2 : tie.Need-returns-2 Inv-loop μ-loop
 returns-2 c =
     let g = c .before .before .before .before .before .before .args in
     let w = c .before .loop in
-    let m = marks (w .sure) (w .never) (queue (w .nodes) (w .so-far .ring)) in
+    let m = marks (w .sure) (w .never) (queue (w .node-queue) (w .so-far .ring)) in
     let e : reverse (take (w .at) (guards (g .bounds .now) (g .names .now))) ≡ [] = let z : w .at ≡ 0 = omega (arith, c .loop-test .left) in ap (λ (j : ℕ). reverse (take j (guards (g .bounds .now) (g .names .now)))) z in
     sym
     (ap (λ (l : List Guard). scan (neverWaits (g .state)) (decides false) l (w .so-far .passed) m (w .so-far .step)) e

@@ -31,7 +31,7 @@ returns : tie.Need-returns
 returns c =
     let a = c .before .before .before .before .before .before .before .before .before .before .before .before .before .before .before .before .before .before .before .args in
     let f = c .before .before .before .before .before .before .before .before .true-terms in
-    let m = marks (a .sure .now) (a .never .now) (queue (a .nodes .now) (a .before .ring)) in
+    let m = marks (a .sure .now) (a .never .now) (queue (a .node-queue .now) (a .before .ring)) in
     terms-stop (terms (a .conditions .now) (a .weights .now)) (ran (a .before .state) m (a .before .step))
     (ran (f .result .state) (marks (f .last .1 .1 .1 .0) (f .last .1 .1 .1 .1 .0) (queue (f .last .1 .1 .1 .1 .1 .0) (f .result .ring))) (f .result .step))
     (f .ensures) (sym (c .before .contradicts .ensures) ∙ c .if1 .taken)
@@ -41,7 +41,7 @@ false-terms-requires c κs =
     let a = c .before .before .before .before .before .before .before .before .before .before .before .before .before .before .before .before .before .before .before .before .before .before .before .before .args in
     let p = c .before .before .before .before .before .before .before .before .before .before .before .before .before .before .before .before .before .before .before .before .before .before .before .before .pre in
     let f = c .before .before .before .before .before .before .before .before .before .before .before .before .before .true-terms in
-    let m = marks (a .sure .now) (a .never .now) (queue (a .nodes .now) (a .before .ring)) in
+    let m = marks (a .sure .now) (a .never .now) (queue (a .node-queue .now) (a .before .ring)) in
     let ts = terms (a .conditions .now) (a .weights .now) in
     let k = kept-by (a .before .state) (ran (f .result .state) (marks (f .last .1 .1 .1 .0) (f .last .1 .1 .1 .1 .0) (queue (f .last .1 .1 .1 .1 .1 .0) (f .result .ring))) (f .result .step))
     (trueTerms ts (a .before .state) m) (f .ensures) (kept-true ts (a .before .state) m (all-terms (a .conditions .now) (a .weights .now) (p .0 .below)) (p .2)) in
@@ -67,7 +67,7 @@ returns-2 c =
     let a = c .before .before .before .before .before .before .before .before .before .before .before .before .before .before .before .before .before .before .before .before .before .before .before .before .before .before .before .before .before .before .before .before .before .before .before .args in
     let f = c .before .before .before .before .before .before .before .before .before .before .before .before .before .before .before .before .before .before .before .before .before .before .before .before .true-terms in
     let g = c .before .before .before .before .before .before .before .before .before .before .false-terms in
-    let m = marks (a .sure .now) (a .never .now) (queue (a .nodes .now) (a .before .ring)) in
+    let m = marks (a .sure .now) (a .never .now) (queue (a .node-queue .now) (a .before .ring)) in
     terms-more (terms (a .conditions .now) (a .weights .now)) (ran (a .before .state) m (a .before .step))
     (ran (f .result .state) (marks (f .last .1 .1 .1 .0) (f .last .1 .1 .1 .1 .0) (queue (f .last .1 .1 .1 .1 .1 .0) (f .result .ring))) (f .result .step))
     (f .ensures) (sym (c .before .before .before .before .before .before .before .before .before .before .before .before .before .before .before .before .before .contradicts .ensures) ∙ c .before .before .before .before .before .before .before .before .before .before .before .before .before .before .before .before .if1 .left)

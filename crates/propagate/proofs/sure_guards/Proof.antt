@@ -73,7 +73,7 @@ returns c =
     let same = c .before .before .before .before .before .before .before .before .before .before .before .before .before .before .before .before .before .before .before .before .before .pre .0 .same in
     let b = g .bounds .now in
     let n = g .names .now in
-    let m = marks (w .sure) (w .never) (queue (w .nodes) (w .so-far .ring)) in
+    let m = marks (w .sure) (w .never) (queue (w .node-queue) (w .so-far .ring)) in
     let x = guard (getD b (w .at) (pos 0)) (getD n (w .at) 0) in
     let here : drop (w .at) (guards b n) ≡ x ∷ drop (w .at + 1) (guards b n) = up-guards b n (w .at) (omega arith) (omega arith) in
     let hb : toZ w64 (ofZ w64 (getD b (w .at) (pos 0))) ≡ getD b (w .at) (pos 0) = search needs in
@@ -98,7 +98,7 @@ loop-again c =
     let same = c .before .before .before .before .before .before .before .before .before .before .before .before .before .before .before .before .before .before .before .before .before .pre .0 .same in
     let b = g .bounds .now in
     let n = g .names .now in
-    let m = marks (w .sure) (w .never) (queue (w .nodes) (w .so-far .ring)) in
+    let m = marks (w .sure) (w .never) (queue (w .node-queue) (w .so-far .ring)) in
     let x = guard (getD b (w .at) (pos 0)) (getD n (w .at) 0) in
     let here : drop (w .at) (guards b n) ≡ x ∷ drop (w .at + 1) (guards b n) = up-guards b n (w .at) (omega arith) (omega arith) in
     let hb : toZ w64 (ofZ w64 (getD b (w .at) (pos 0))) ≡ getD b (w .at) (pos 0) = search needs in
@@ -131,7 +131,7 @@ returns-2 : tie.Need-returns-2 Inv-loop μ-loop
 returns-2 c =
     let g = c .before .before .before .before .before .before .args in
     let w = c .before .loop in
-    let m = marks (w .sure) (w .never) (queue (w .nodes) (w .so-far .ring)) in
+    let m = marks (w .sure) (w .never) (queue (w .node-queue) (w .so-far .ring)) in
     let e : drop (w .at) (guards (g .bounds .now) (g .names .now)) ≡ [] = drop-of-length-le (guards (g .bounds .now) (g .names .now)) {i = w .at} (omega (arith, length-guards (g .bounds .now) (g .names .now))) in
     sym
     (ap (λ (l : List Guard). scan (sureWaits (g .state)) (decides true) l (w .so-far .passed) m (w .so-far .step)) e

@@ -25,9 +25,9 @@ returns : tie.Need-returns
 returns c =
     let a = c .before .before .before .before .before .before .before .before .before .args in
     let t = c .passed-turn in
-    let m = marks (a .sure .now) (a .never .now) (queue (a .nodes .now) (a .scan .ring)) in
+    let m = marks (a .sure .now) (a .never .now) (queue (a .node-queue .now) (a .scan .ring)) in
     term-passed (a .value) (a .waits) m (a .node) (a .scan .passed) (a .scan .step)
-    (a .sure .now) (a .never .now) (a .nodes .now) (a .scan .ring) (t .result .scan .ring) Unchanged (t .result .scan .passed) (t .result .scan .step) (t .result .ends)
+    (a .sure .now) (a .never .now) (a .node-queue .now) (a .scan .ring) (t .result .scan .ring) Unchanged (t .result .scan .passed) (t .result .scan .step) (t .result .ends)
     (t .ensures .1) (t .ensures .0) refl refl (sym (c .before .before .decided .ensures) ∙ c .before .if1 .taken)
 
 guard-turn-requires : tie.Need-guard-turn-requires
@@ -45,7 +45,7 @@ same-length-5 c = search needs
 returns-2 : tie.Need-returns-2
 returns-2 c =
     let a = c .before .before .before .before .before .before .before .before .before .before .before .before .before .before .before .before .before .before .args in
-    let m = marks (a .sure .now) (a .never .now) (queue (a .nodes .now) (a .scan .ring)) in
+    let m = marks (a .sure .now) (a .never .now) (queue (a .node-queue .now) (a .scan .ring)) in
     c .before .before .before .before .before .before .guard-turn .ensures
     ∙ term-free (a .value) (a .waits) m (a .node) (scanned (a .scan .passed) m (a .scan .step)) (sym (c .before .before .before .before .before .before .before .before .before .before .before .decided .ensures) ∙ c .before .before .before .before .before .before .before .before .before .before .if1 .left)
 

@@ -20,7 +20,7 @@ add-up : tie.Need-add-up
 add-up c =
     let a = c .before .before .before .before .before .before .before .before .before .before .before .before .before .before .before .before .args in
     let gs = guards (a .bounds .now) (a .names .now) in
-    let m = marks (a .sure .now) (a .never .now) (queue (a .nodes .now) (a .ring)) in
+    let m = marks (a .sure .now) (a .never .now) (queue (a .node-queue .now) (a .ring)) in
     omega (arith, sure-within gs (a .state) m, ap (λ (x : Scanned). x .passed) (c .before .before .before .before .before .before .before .before .sure-guards .ensures), length-guards (a .bounds .now) (a .names .now))
 
 contradicts-requires : tie.Need-contradicts-requires
@@ -43,7 +43,7 @@ returns c =
     let a = c .before .before .before .before .before .before .before .before .before .before .before .before .before .before .before .before .before .before .before .before .args in
     let f = c .before .before .before .before .before .before .before .before .before .before .before .before .sure-guards in
     let gs = guards (a .bounds .now) (a .names .now) in
-    let m = marks (a .sure .now) (a .never .now) (queue (a .nodes .now) (a .ring)) in
+    let m = marks (a .sure .now) (a .never .now) (queue (a .node-queue .now) (a .ring)) in
     guards-stop gs (a .state) m (scanned (f .result .passed) (marks (f .last .1 .1 .1 .0) (f .last .1 .1 .1 .1 .0) (queue (f .last .1 .1 .1 .1 .1 .0) (f .result .ring))) (f .result .step)) (f .ensures)
     (c .with-guards .result) (sym (c .before .before .contradicts .ensures) ∙ c .before .if1 .taken) (c .with-guards .ensures)
 
@@ -53,7 +53,7 @@ never-guards-requires c κs =
     let p = c .before .before .before .before .before .before .before .before .before .before .before .before .before .before .before .before .before .before .before .before .before .before .pre in
     let f = c .before .before .before .before .before .before .before .before .before .before .before .before .before .before .sure-guards in
     let gs = guards (a .bounds .now) (a .names .now) in
-    let m = marks (a .sure .now) (a .never .now) (queue (a .nodes .now) (a .ring)) in
+    let m = marks (a .sure .now) (a .never .now) (queue (a .node-queue .now) (a .ring)) in
     let e : marks (f .last .1 .1 .1 .0) (f .last .1 .1 .1 .1 .0) (queue (f .last .1 .1 .1 .1 .1 .0) (f .result .ring)) ≡ _ = ap (λ (x : Scanned). x .marks) (f .ensures) in
     (p .0, p .1, rw e (sure-keeps gs (a .state) m (all-guards (a .bounds .now) (a .names .now) (p .0 .below)) (p .2)))
 
@@ -84,7 +84,7 @@ returns-2 c =
     let f = c .before .before .before .before .before .before .before .before .before .before .before .before .before .before .before .before .before .before .before .before .before .before .before .before .sure-guards in
     let n = c .before .before .before .before .before .before .before .before .before .never-guards in
     let gs = guards (a .bounds .now) (a .names .now) in
-    let m = marks (a .sure .now) (a .never .now) (queue (a .nodes .now) (a .ring)) in
+    let m = marks (a .sure .now) (a .never .now) (queue (a .node-queue .now) (a .ring)) in
     guards-more gs (a .state) m (scanned (f .result .passed) (marks (f .last .1 .1 .1 .0) (f .last .1 .1 .1 .1 .0) (queue (f .last .1 .1 .1 .1 .1 .0) (f .result .ring))) (f .result .step)) (f .ensures)
     (c .before .with-guards2 .result) (sym (c .before .before .before .before .before .before .before .before .before .before .before .before .before .before .contradicts .ensures) ∙ c .before .before .before .before .before .before .before .before .before .before .before .before .before .if1 .left)
     (scanned (n .result .passed) (marks (n .last .1 .1 .1 .0) (n .last .1 .1 .1 .1 .0) (queue (n .last .1 .1 .1 .1 .1 .0) (n .result .ring))) (n .result .step)) (n .ensures)

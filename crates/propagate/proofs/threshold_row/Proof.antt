@@ -18,7 +18,7 @@ returns : tie.Need-returns
 returns c =
     let a = c .before .before .before .before .before .before .before .before .args in
     λ raw. row-conflict (rowOf raw (terms (a .conditions .now) (a .weights .now)) (guards (a .bounds .now) (a .names .now))) (a .state)
-    (marks (a .sure .now) (a .never .now) (queue (a .nodes .now) (a .ring))) (sym (c .before .conflict .ensures) ∙ c .if1 .taken)
+    (marks (a .sure .now) (a .never .now) (queue (a .node-queue .now) (a .ring))) (sym (c .before .conflict .ensures) ∙ c .if1 .taken)
 
 threshold-guards-requires : tie.Need-threshold-guards-requires
 threshold-guards-requires c κs = let p = c .before .before .before .before .before .before .before .before .before .before .before .pre in (p .1, p .3, p .4)
@@ -40,7 +40,7 @@ returns-2 c =
     let a = c .before .before .before .before .before .before .before .before .before .before .before .before .before .before .before .before .before .before .before .before .args in
     let f = c .before .before .before .before .before .before .before .before .threshold-guards in
     λ raw. row-guards (rowOf raw (terms (a .conditions .now) (a .weights .now)) (guards (a .bounds .now) (a .names .now))) (a .state)
-    (marks (a .sure .now) (a .never .now) (queue (a .nodes .now) (a .ring))) (sym (c .before .before .before .before .before .before .before .before .before .before .before .before .before .conflict .ensures) ∙ c .before .before .before .before .before .before .before .before .before .before .before .before .if1 .left)
+    (marks (a .sure .now) (a .never .now) (queue (a .node-queue .now) (a .ring))) (sym (c .before .before .before .before .before .before .before .before .before .before .before .before .before .conflict .ensures) ∙ c .before .before .before .before .before .before .before .before .before .before .before .before .if1 .left)
     (ran (f .result .state) (marks (f .last .1 .1 .1 .0) (f .last .1 .1 .1 .1 .0) (queue (f .last .1 .1 .1 .1 .1 .0) (f .result .ring))) (f .result .step))
     (f .ensures) (sym (c .before .contradicts .ensures) ∙ c .if2 .taken)
 
@@ -49,7 +49,7 @@ row-terms-requires c κs =
     let a = c .before .before .before .before .before .before .before .before .before .before .before .before .before .before .before .before .before .before .before .before .before .before .before .args in
     let p = c .before .before .before .before .before .before .before .before .before .before .before .before .before .before .before .before .before .before .before .before .before .before .before .pre in
     let f = c .before .before .before .before .before .before .before .before .before .before .before .threshold-guards in
-    let m = marks (a .sure .now) (a .never .now) (queue (a .nodes .now) (a .ring)) in
+    let m = marks (a .sure .now) (a .never .now) (queue (a .node-queue .now) (a .ring)) in
     let gs = guards (a .bounds .now) (a .names .now) in
     let k = kept-by (a .state) (ran (f .result .state) (marks (f .last .1 .1 .1 .0) (f .last .1 .1 .1 .1 .0) (queue (f .last .1 .1 .1 .1 .1 .0) (f .result .ring))) (f .result .step))
     (thresholdGuards gs (a .state) m) (f .ensures) (kept-guards gs (a .state) m (all-guards (a .bounds .now) (a .names .now) (p .1 .below)) (p .4)) in
@@ -70,7 +70,7 @@ returns-3 c =
     let f = c .before .before .before .before .before .before .before .before .before .before .before .before .before .before .before .before .before .before .threshold-guards in
     let t = c .before .before .before .before .before .before .row-terms in
     λ raw. row-terms (rowOf raw (terms (a .conditions .now) (a .weights .now)) (guards (a .bounds .now) (a .names .now))) (a .state)
-    (marks (a .sure .now) (a .never .now) (queue (a .nodes .now) (a .ring))) (sym (c .before .before .before .before .before .before .before .before .before .before .before .before .before .before .before .before .before .before .before .before .before .before .before .conflict .ensures) ∙ c .before .before .before .before .before .before .before .before .before .before .before .before .before .before .before .before .before .before .before .before .before .before .if1 .left)
+    (marks (a .sure .now) (a .never .now) (queue (a .node-queue .now) (a .ring))) (sym (c .before .before .before .before .before .before .before .before .before .before .before .before .before .before .before .before .before .before .before .before .before .before .before .conflict .ensures) ∙ c .before .before .before .before .before .before .before .before .before .before .before .before .before .before .before .before .before .before .before .before .before .before .if1 .left)
     (ran (f .result .state) (marks (f .last .1 .1 .1 .0) (f .last .1 .1 .1 .1 .0) (queue (f .last .1 .1 .1 .1 .1 .0) (f .result .ring))) (f .result .step))
     (f .ensures) (sym (c .before .before .before .before .before .before .before .before .before .before .before .contradicts .ensures) ∙ c .before .before .before .before .before .before .before .before .before .before .if2 .left)
     (ran (t .result .state) (marks (t .last .1 .1 .1 .0) (t .last .1 .1 .1 .1 .0) (queue (t .last .1 .1 .1 .1 .1 .0) (t .result .ring))) (t .result .step)) (t .ensures)

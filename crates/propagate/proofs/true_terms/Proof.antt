@@ -29,7 +29,7 @@ returns c =
     let p = c .before .before .before .before .before .before .before .before .before .pre in
     let hk : toZ w64 (ofZ w64 (a .state .known)) ≡ a .state .known = signed (a .state .known) (p .1 .known) in
     let hl : toZ w64 (ofZ w64 (a .state .lower)) ≡ a .state .lower = signed (a .state .lower) (p .1 .lower) in
-    true-none (terms (a .conditions .now) (a .weights .now)) (a .state) (marks (a .sure .now) (a .never .now) (queue (a .nodes .now) (a .ring))) (simp (hk, hl) at (c .if1 .taken))
+    true-none (terms (a .conditions .now) (a .weights .now)) (a .state) (marks (a .sure .now) (a .never .now) (queue (a .node-queue .now) (a .ring))) (simp (hk, hl) at (c .if1 .taken))
 
 sub-t19 : tie.Need-sub-t19
 sub-t19 c =
@@ -46,7 +46,7 @@ add-with-terms : tie.Need-add-with-terms
 add-with-terms c =
     let a = c .before .before .before .before .before .before .before .before .before .before .before .before .before .before .before .before .before .before .before .before .args in
     let p = c .before .before .before .before .before .before .before .before .before .before .before .before .before .before .before .before .before .before .before .before .pre in
-    let m = marks (a .sure .now) (a .never .now) (queue (a .nodes .now) (a .ring)) in
+    let m = marks (a .sure .now) (a .never .now) (queue (a .node-queue .now) (a .ring)) in
     let z = toZ w64 (ofZ w64 (toZ w64 (ofZ w64 (a .state .possible)) -ℤ toZ w64 (ofZ w64 (a .state .lower)))) in
     omega (
       arith,
@@ -77,7 +77,7 @@ returns-2 c =
     let hk : toZ w64 (ofZ w64 (a .state .known)) ≡ a .state .known = signed (a .state .known) (p .1 .known) in
     let hp : toZ w64 (ofZ w64 (a .state .possible)) ≡ a .state .possible = signed (a .state .possible) (p .1 .possible) in
     let hl : toZ w64 (ofZ w64 (a .state .lower)) ≡ a .state .lower = signed (a .state .lower) (p .1 .lower) in
-    let m = marks (a .sure .now) (a .never .now) (queue (a .nodes .now) (a .ring)) in
+    let m = marks (a .sure .now) (a .never .now) (queue (a .node-queue .now) (a .ring)) in
     let z = toZ w64 (ofZ w64 (toZ w64 (ofZ w64 (a .state .possible)) -ℤ toZ w64 (ofZ w64 (a .state .lower)))) in
     let d : toZ w64 (ofZ w64 ((a .state .possible) -ℤ (a .state .lower))) ≡ (a .state .possible) -ℤ (a .state .lower) = toZ-ofZ (sub-sfits (a .state .possible) (a .state .lower) (omega (arith, p .1 .possible, p .1 .lower))) in
     true-forced (terms (a .conditions .now) (a .weights .now)) (a .state) m z

@@ -59,7 +59,7 @@ loop-again c =
       w .inv .4,
       sym
           (force-skip (g .i) (g .gcds .now) (g .conditions .now) (g .weights .now) (w .position) (w .prefix)
-          (marks (w .sure) (w .never) (queue (w .nodes) (w .so-far .ring))) (w .so-far .step) (omega arith) (omega arith)
+          (marks (w .sure) (w .never) (queue (w .node-queue) (w .so-far .ring))) (w .so-far .step) (omega arith) (omega arith)
           (sym (c .before .decided .ensures) ∙ c .if1 .taken))
           ∙ w .inv .5,
     )
@@ -127,7 +127,7 @@ returns c =
     let j = b .before .joined-decision in
     let f = b .before .before .before .before .before .before .before .before .force-term in
     (turn-stops (g .i) (g .gcds .now) (g .conditions .now) (g .weights .now) (w .position) (w .prefix)
-    (marks (w .sure) (w .never) (queue (w .nodes) (w .so-far .ring))) (w .so-far .step) (omega (arith, t, p .same)) (omega (arith, t)) (p .same)
+    (marks (w .sure) (w .never) (queue (w .node-queue) (w .so-far .ring))) (w .so-far .step) (omega (arith, t, p .same)) (omega (arith, t)) (p .same)
     (sym (b .before .before .before .before .before .before .before .before .before .before .before .before .before .before .before .before .decided .ensures) ∙ b .before .before .before .before .before .before .before .before .before .before .before .before .before .before .before .if1 .left) (b .before .before .before .before .before .before .before .before .before .before .before .before .gcd .result) (b .before .before .before .before .before .before .before .before .before .before .before .before .gcd .ensures)
     (f .last .1 .1 .1 .1 .0) (f .last .1 .1 .1 .1 .1 .0) (f .last .1 .1 .1 .1 .1 .1 .0) (f .result .ring) (j .result .ring) (f .result .step) (j .result .step)
     (f .ensures) (j .ensures .1) (j .ensures .0) (sym (b .contradicts .ensures) ∙ c .if2 .taken))
@@ -156,12 +156,12 @@ loop-again-2 c =
       f .kept .1 .1 .1 .1 .1 .0 ∙ w .inv .2,
       f .kept .1 .1 .1 .1 .1 .1 .0 ∙ w .inv .3,
       turn-waits (g .i) (g .gcds .now) (g .conditions .now) (g .weights .now) (w .position) (w .prefix)
-          (marks (w .sure) (w .never) (queue (w .nodes) (w .so-far .ring))) (w .so-far .step) (omega (arith, t, p .same)) (omega (arith, t)) (p .same)
+          (marks (w .sure) (w .never) (queue (w .node-queue) (w .so-far .ring))) (w .so-far .step) (omega (arith, t, p .same)) (omega (arith, t)) (p .same)
           (sym (b .before .before .before .before .before .before .before .before .before .before .before .before .before .before .before .before .decided .ensures) ∙ b .before .before .before .before .before .before .before .before .before .before .before .before .before .before .before .if1 .left) (b .before .before .before .before .before .before .before .before .before .before .before .before .gcd .result) (b .before .before .before .before .before .before .before .before .before .before .before .before .gcd .ensures)
           (f .last .1 .1 .1 .1 .0) (f .last .1 .1 .1 .1 .1 .0) (f .last .1 .1 .1 .1 .1 .1 .0) (f .result .ring) (j .result .ring) (f .result .step) (j .result .step)
           (f .ensures) (j .ensures .1) (j .ensures .0) (p .below (w .position) (omega (arith, t, p .same))) (w .inv .4),
       (turn-goes-on (g .i) (g .gcds .now) (g .conditions .now) (g .weights .now) (w .position) (w .prefix)
-          (marks (w .sure) (w .never) (queue (w .nodes) (w .so-far .ring))) (w .so-far .step) (omega (arith, t, p .same)) (omega (arith, t)) (p .same)
+          (marks (w .sure) (w .never) (queue (w .node-queue) (w .so-far .ring))) (w .so-far .step) (omega (arith, t, p .same)) (omega (arith, t)) (p .same)
           (sym (b .before .before .before .before .before .before .before .before .before .before .before .before .before .before .before .before .decided .ensures) ∙ b .before .before .before .before .before .before .before .before .before .before .before .before .before .before .before .if1 .left) (b .before .before .before .before .before .before .before .before .before .before .before .before .gcd .result) (b .before .before .before .before .before .before .before .before .before .before .before .before .gcd .ensures)
           (f .last .1 .1 .1 .1 .0) (f .last .1 .1 .1 .1 .1 .0) (f .last .1 .1 .1 .1 .1 .1 .0) (f .result .ring) (j .result .ring) (f .result .step) (j .result .step)
           (f .ensures) (j .ensures .1) (j .ensures .0) (c .gcd2 .result) (c .gcd2 .ensures) (sym (b .contradicts .ensures) ∙ c .before .if2 .left))
@@ -183,7 +183,7 @@ returns-2 c =
     let w = c .before .loop in
     sym
     (force-end (g .i) (g .gcds .now) (g .conditions .now) (g .weights .now) (w .position) (w .prefix)
-    (marks (w .sure) (w .never) (queue (w .nodes) (w .so-far .ring))) (w .so-far .step) (c .loop-test .left))
+    (marks (w .sure) (w .never) (queue (w .node-queue) (w .so-far .ring))) (w .so-far .step) (c .loop-test .left))
     ∙ w .inv .5
 
 pub force-from-spec : {M : Type 1} → statement M

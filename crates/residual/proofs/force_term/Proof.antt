@@ -10,7 +10,7 @@ use Rattle.residual.proofs.force_term.Tie as tie
 returns : tie.Need-returns
 returns c =
     let g = c .before .before .before .before .args in
-    sym (force-unit (g .i) (marks (g .sure .now) (g .never .now) (queue (g .nodes .now) (g .ring))) (term (g .node) (g .weight)) (g .divisor) (c .if1 .taken))
+    sym (force-unit (g .i) (marks (g .sure .now) (g .never .now) (queue (g .node-queue .now) (g .ring))) (term (g .node) (g .weight)) (g .divisor) (c .if1 .taken))
 
 off-misses-requires : tie.Need-off-misses-requires
 off-misses-requires c κs = tt
@@ -23,7 +23,7 @@ returns-2 c =
     let e = c .before .before in
     let g = e .before .before .before .before .before .before .args in
     sym
-    (force-none (g .i) (marks (g .sure .now) (g .never .now) (queue (g .nodes .now) (g .ring))) (term (g .node) (g .weight)) (g .divisor) (e .before .before .if1 .left)
+    (force-none (g .i) (marks (g .sure .now) (g .never .now) (queue (g .node-queue .now) (g .ring))) (term (g .node) (g .weight)) (g .divisor) (e .before .before .if1 .left)
     (sym (e .before .off-misses .ensures) ∙ c .before .if2 .taken)
     (sym (e .on-misses .ensures) ∙ c .if3 .taken))
 
@@ -45,7 +45,7 @@ returns-3 c =
     let g = e .before .before .before .before .before .before .args in
     c .before .before .before .before .before .before .decide .ensures
     ∙ sym
-    (force-sure (g .i) (marks (g .sure .now) (g .never .now) (queue (g .nodes .now) (g .ring))) (term (g .node) (g .weight)) (g .divisor) (e .before .before .if1 .left)
+    (force-sure (g .i) (marks (g .sure .now) (g .never .now) (queue (g .node-queue .now) (g .ring))) (term (g .node) (g .weight)) (g .divisor) (e .before .before .if1 .left)
     (sym (e .before .off-misses .ensures) ∙ c .before .before .before .before .before .before .before .before .before .before .before .if2 .taken)
     (sym (e .on-misses .ensures) ∙ c .before .before .before .before .before .before .before .before .before .before .if3 .left))
 
@@ -67,7 +67,7 @@ returns-4 c =
     let g = e .before .before .before .before .before .before .args in
     c .before .before .before .before .before .before .decide2 .ensures
     ∙ sym
-    (force-never (g .i) (marks (g .sure .now) (g .never .now) (queue (g .nodes .now) (g .ring))) (term (g .node) (g .weight)) (g .divisor) (e .before .before .if1 .left)
+    (force-never (g .i) (marks (g .sure .now) (g .never .now) (queue (g .node-queue .now) (g .ring))) (term (g .node) (g .weight)) (g .divisor) (e .before .before .if1 .left)
     (sym (e .before .off-misses .ensures) ∙ c .before .before .before .before .before .before .before .before .before .before .before .if2 .left)
     (sym (e .on-misses .ensures) ∙ c .before .before .before .before .before .before .before .before .before .before .if4 .taken))
 
@@ -76,7 +76,7 @@ returns-5 c =
     let e = c .before .before in
     let g = e .before .before .before .before .before .before .args in
     sym
-    (force-free (g .i) (marks (g .sure .now) (g .never .now) (queue (g .nodes .now) (g .ring))) (term (g .node) (g .weight)) (g .divisor) (e .before .before .if1 .left)
+    (force-free (g .i) (marks (g .sure .now) (g .never .now) (queue (g .node-queue .now) (g .ring))) (term (g .node) (g .weight)) (g .divisor) (e .before .before .if1 .left)
     (sym (e .before .off-misses .ensures) ∙ c .before .if2 .left)
     (sym (e .on-misses .ensures) ∙ c .if4 .left))
 

@@ -32,7 +32,7 @@ returns : tie.Need-returns
 returns c =
     let g = c .before .before .before .before .before .before .before .before .before .before .before .args in
     sym
-    (residual-none (terms (g .conditions .now) (g .weights .now)) (g .state) (marks (g .sure .now) (g .never .now) (queue (g .nodes .now) (g .ring))) (g .gcds .now)
+    (residual-none (terms (g .conditions .now) (g .weights .now)) (g .state) (marks (g .sure .now) (g .never .now) (queue (g .node-queue .now) (g .ring))) (g .gcds .now)
     (sym (c .before .contradicts .ensures ∙ ap contradicts (c .before .before .threshold-residual-check .ensures)) ∙ c .if1 .taken))
 
 nothing-forced-requires : tie.Need-nothing-forced-requires
@@ -49,7 +49,7 @@ returns-2 c =
     let g = c .before .before .before .before .before .before .before .before .before .before .before .before .before .before .before .args in
     let e = c .before .before .before .before in
     sym
-    (residual-rest (terms (g .conditions .now) (g .weights .now)) (g .state) (marks (g .sure .now) (g .never .now) (queue (g .nodes .now) (g .ring))) (g .gcds .now)
+    (residual-rest (terms (g .conditions .now) (g .weights .now)) (g .state) (marks (g .sure .now) (g .never .now) (queue (g .node-queue .now) (g .ring))) (g .gcds .now)
     (sym (e .before .contradicts .ensures ∙ ap contradicts (e .before .before .threshold-residual-check .ensures)) ∙ e .if1 .left)
     (sym (c .before .nothing-forced .ensures) ∙ c .if2 .taken))
 
@@ -88,12 +88,12 @@ returns-3 c =
     let s = c .before .before .before .before .before .before .before .before .before .before .before .before .before .before .prepare-suffix in
     let e = c .before .before .before .before .before .before .before .before .before .before .before .before .before .before .before .before .before .before .before .before .before .before in
     let l = f .last .1 .1 .1 .1 in
-    residual-forced (terms (g .conditions .now) (g .weights .now)) (g .state) (marks (g .sure .now) (g .never .now) (queue (g .nodes .now) (g .ring))) (g .gcds .now)
+    residual-forced (terms (g .conditions .now) (g .weights .now)) (g .state) (marks (g .sure .now) (g .never .now) (queue (g .node-queue .now) (g .ring))) (g .gcds .now)
     (sym (e .before .contradicts .ensures ∙ ap contradicts (e .before .before .threshold-residual-check .ensures)) ∙ e .if1 .left)
     (sym (c .before .before .before .before .before .before .before .before .before .before .before .before .before .before .before .before .before .before .before .nothing-forced .ensures) ∙ c .before .before .before .before .before .before .before .before .before .before .before .before .before .before .before .before .before .before .if2 .left)
     (decided (marks (l .0) (l .1 .0) (queue (l .1 .1 .0) (f .result .ring))) (f .result .step)) (s .last .1 .1 .1 .1 .0) (s .ensures)
     (f .ensures
-    ∙ ap (λ (i : Interval). forceFrom i (s .last .1 .1 .1 .1 .0) (terms (g .conditions .now) (g .weights .now)) 0 (marks (g .sure .now) (g .never .now) (queue (g .nodes .now) (g .ring))) Unchanged)
+    ∙ ap (λ (i : Interval). forceFrom i (s .last .1 .1 .1 .1 .0) (terms (g .conditions .now) (g .weights .now)) 0 (marks (g .sure .now) (g .never .now) (queue (g .node-queue .now) (g .ring))) Unchanged)
     (c .before .before .before .before .before .before .before .before .before .before .interval-of .ensures))
 
 pub threshold-residual-spec : {M : Type 1} → statement M

@@ -38,7 +38,20 @@ part-print-terms-end-2 : tie.Need-part-print-terms-end-2
 part-print-terms-end-2 c = search needs
 
 print-terms-requires : tie.Need-print-terms-requires
-print-terms-requires c κs = let g = c .before .before .before .before .before .before .args in let p = c .before .before .before .before .before .before .pre in let s = c .before .before .before .start-in .ensures in let e = c .before .before .end-in .ensures in let v = p .0 .inside in let w = p .1 .inside in (stretch-length (c .before .before .before .start-in .result) (c .before .before .end-in .result) (g .row-weights .now) (omega (arith, e, w)) ∙ sym (stretch-length (c .before .before .before .start-in .result) (c .before .before .end-in .result) (g .row-conditions .now) (omega (arith, e, v))), fits-by (g .rows .now) (g .row-conditions .now) (g .row-weights .now) (g .r) (c .before .before .before .start-in .result) (c .before .before .end-in .result) s e (p .2))
+print-terms-requires c κs =
+    let end-in = c .before .before in
+    let start-in = end-in .before in
+    let s′ = start-in .before .before .before in
+    let g = s′ .args in
+    let p = s′ .pre in
+    let s = start-in .start-in .ensures in
+    let e = end-in .end-in .ensures in
+    let v = p .0 .inside in
+    let w = p .1 .inside in
+    let from = start-in .start-in .result in
+    let to = end-in .end-in .result in
+    let even = stretch-length from to (g .row-weights .now) (omega (arith, e, w)) ∙ sym (stretch-length from to (g .row-conditions .now) (omega (arith, e, v))) in
+    (even, fits-by (g .rows .now) (g .row-conditions .now) (g .row-weights .now) (g .r) from to s e (p .2))
 
 returns : tie.Need-returns
 returns c = search needs

@@ -13,8 +13,9 @@ print-rows-requires c κs =
     let d = c .before .before .before .before .before .before .before .before .before .before .before .before .before .before .before .before .before .before in
     let s = d .before .before .before .before .before .before .before .before .before .before .before .before .before .before .before in
     let g = s .args in
+    let b = built (heldRows (g .row-conditions .now) (g .row-weights .now) (g .rows .now) (g .guard-bounds .now) (g .guard-nodes .now)) (g .nodes .now) (g .edges .now) (g .links .now) in
     let e = d .build .ensures in
-    let z = shown (g .counts) (g .raw-conditions .now) (g .raw-weights .now) (g .thresholds .now) (g .bounds .now) (s .pre .0) (d .build .result) (built (heldRows (g .row-conditions .now) (g .row-weights .now) (g .rows .now) (g .guard-bounds .now) (g .guard-nodes .now)) (g .nodes .now) (g .edges .now) (g .links .now)) _ (e .0) (e .1) in
+    let z = shown (g .standing) (g .raw-conditions .now) (g .raw-weights .now) (g .thresholds .now) (g .bounds .now) (s .pre .0) (d .build .result) b _ (e .0) (e .1) in
     z
 
 print-conditions-requires : tie.Need-print-conditions-requires
@@ -22,8 +23,9 @@ print-conditions-requires c κs =
     let d = c .before .before .before .before .before .before .before .before .before .before .before .before .before .before .before .before .before .before .before .before .before in
     let s = d .before .before .before .before .before .before .before .before .before .before .before .before .before .before .before in
     let g = s .args in
+    let b = built (heldRows (g .row-conditions .now) (g .row-weights .now) (g .rows .now) (g .guard-bounds .now) (g .guard-nodes .now)) (g .nodes .now) (g .edges .now) (g .links .now) in
     let e = d .build .ensures in
-    let z = edged (g .counts) (g .raw-conditions .now) (g .raw-weights .now) (g .thresholds .now) (g .bounds .now) (s .pre .0) (d .build .result) (built (heldRows (g .row-conditions .now) (g .row-weights .now) (g .rows .now) (g .guard-bounds .now) (g .guard-nodes .now)) (g .nodes .now) (g .edges .now) (g .links .now)) _ (e .0) (e .1) in
+    let z = edged (g .standing) (g .raw-conditions .now) (g .raw-weights .now) (g .thresholds .now) (g .bounds .now) (s .pre .0) (d .build .result) b _ (e .0) (e .1) in
     z
 
 same-length : tie.Need-same-length

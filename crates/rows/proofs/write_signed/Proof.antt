@@ -18,13 +18,41 @@ write-requires : tie.Need-write-requires
 write-requires c κs = search needs
 
 sub-write-number : tie.Need-sub-write-number
-sub-write-number c = let z = c .before .before .before .args .z in let hz : toZ w64 (ofZ w64 z) ≡ z = search needs in let f : SFits w64 z = search needs in let m = below-zero z (simp hz at (c .before .before .if1 .taken)) f in rw (hz, m .1 .0) (record { sfits = m .1 .1 })
+sub-write-number c =
+    let if1 = c .before .before in
+    let s = if1 .before in
+    let g = s .args in
+    let z = g .z in
+    let hz : toZ w64 (ofZ w64 z) ≡ z = search needs in
+    let f : SFits w64 z = search needs in
+    let m = below-zero z (simp hz at (if1 .if1 .taken)) f in
+    rw (hz, m .1 .0) (record { sfits = m .1 .1 })
 
 cast-write-number : tie.Need-cast-write-number
-cast-write-number c = let z = c .before .before .before .args .z in let hz : toZ w64 (ofZ w64 z) ≡ z = search needs in let f : SFits w64 z = search needs in let m = below-zero z (simp hz at (c .before .before .if1 .taken)) f in let k : toZ w64 (ofZ w64 (pos (m .0))) ≡ pos (m .0) = toZ-ofZ {w = w64} (record { sfits = m .1 .1 }) in let l = m .1 .1 in rw (hz, m .1 .0, k) (tt, record { fits = omega (arith, l) })
+cast-write-number c =
+    let if1 = c .before .before in
+    let s = if1 .before in
+    let g = s .args in
+    let z = g .z in
+    let hz : toZ w64 (ofZ w64 z) ≡ z = search needs in
+    let f : SFits w64 z = search needs in
+    let m = below-zero z (simp hz at (if1 .if1 .taken)) f in
+    let k : toZ w64 (ofZ w64 (pos (m .0))) ≡ pos (m .0) = toZ-ofZ {w = w64} (record { sfits = m .1 .1 }) in
+    let l = m .1 .1 in
+    rw (hz, m .1 .0, k) (tt, record { fits = omega (arith, l) })
 
 add-write-number : tie.Need-add-write-number
-add-write-number c = let z = c .before .before .before .args .z in let hz : toZ w64 (ofZ w64 z) ≡ z = search needs in let f : SFits w64 z = search needs in let m = below-zero z (simp hz at (c .before .before .if1 .taken)) f in let k : toZ w64 (ofZ w64 (pos (m .0))) ≡ pos (m .0) = toZ-ofZ {w = w64} (record { sfits = m .1 .1 }) in let l = m .1 .1 in rw (hz, m .1 .0, k) (record { fits = omega (arith, l) })
+add-write-number c =
+    let if1 = c .before .before in
+    let s = if1 .before in
+    let g = s .args in
+    let z = g .z in
+    let hz : toZ w64 (ofZ w64 z) ≡ z = search needs in
+    let f : SFits w64 z = search needs in
+    let m = below-zero z (simp hz at (if1 .if1 .taken)) f in
+    let k : toZ w64 (ofZ w64 (pos (m .0))) ≡ pos (m .0) = toZ-ofZ {w = w64} (record { sfits = m .1 .1 }) in
+    let l = m .1 .1 in
+    rw (hz, m .1 .0, k) (record { fits = omega (arith, l) })
 
 write-number-requires : tie.Need-write-number-requires
 write-number-requires c κs = search needs

@@ -1,0 +1,57 @@
+-- `listing::decimal` meets its contract: its digits, put behind one another.
+use mathlib.Core.Path.{_≡_, ap, _∙_}
+use Prim.Native.Nat.{_-_}
+use native.Mathlib.Omega.{arith}
+use lib.ListN.{length, take, drop, length-drop}
+use lib.Seq.{take-all}
+use Rattle.planner.specs.Listing.{decimal}
+use Rattle.listing.specs.TextLaws.{wrote-as}
+use Rattle.listing.specs.NumberLaws.{decimal-short}
+use borrow.Author.Needs.{needs}
+use Rattle.listing.proofs.decimal.Statement.{statement}
+use Rattle.listing.proofs.decimal.Tie as tie
+
+slice-aggregate-digits : tie.Need-slice-aggregate-digits
+slice-aggregate-digits c = search needs
+
+digits-requires : tie.Need-digits-requires
+digits-requires c κs = search needs
+
+sub-put : tie.Need-sub-put
+sub-put c = search needs
+
+part-put-start : tie.Need-part-put-start
+part-put-start c = search needs
+
+part-put-end : tie.Need-part-put-end
+part-put-end c = search needs
+
+put-requires : tie.Need-put-requires
+put-requires c κs = search needs
+
+same-length : tie.Need-same-length
+same-length c = search needs
+
+returns : tie.Need-returns
+returns c =
+    let at-put = c .before .before in
+    let at-digits = at-put .before .before .before .before .before in
+    let s = at-digits .before .before .before in
+    let d = at-digits .digits in
+    let l = at-digits .digits .last .0 in
+    let e : take (20 - d .result) (drop (d .result) l) ≡ decimal (s .args .n) =
+    take-all (20 - d .result) (drop (d .result) l) (omega (arith, length-drop (d .result) l, d .kept .0)) ∙ d .ensures .1 in
+    wrote-as (omega (arith, ap length e, decimal-short (s .args .n))) e (at-put .put .ensures)
+
+pub decimal-spec : {M : Type 1} → statement M
+decimal-spec =
+    tie.close
+    (tie.spec
+    slice-aggregate-digits
+    digits-requires
+    sub-put
+    part-put-start
+    part-put-end
+    put-requires
+    same-length
+    returns)

@@ -1,0 +1,37 @@
+-- `listing::figure` meets its contract: two texts, one behind the other.
+use mathlib.Core.Path.{_≡_, ap}
+use Prim.Native.Nat.{_≤_}
+use native.Mathlib.Omega.{arith}
+use lib.ListN.{length}
+use borrow.Author.Needs.{needs}
+use Rattle.planner.specs.Listing.{text, decimalZ}
+use Rattle.listing.specs.TextLaws.{wrote-same, wrote-then}
+use Rattle.listing.specs.NumberLaws.{held}
+use Rattle.listing.proofs.figure.Statement.{statement}
+use Rattle.listing.proofs.figure.Tie as tie
+
+signed-requires : tie.Need-signed-requires
+signed-requires c κs = search needs
+
+slice-aggregate-put : tie.Need-slice-aggregate-put
+slice-aggregate-put c = search needs
+
+put-requires : tie.Need-put-requires
+put-requires c κs = search needs
+
+same-length : tie.Need-same-length
+same-length c = search needs
+
+returns : tie.Need-returns
+unfolding text
+returns c =
+    let at-put = c .before .before in
+    let at-signed = at-put .before .before .before .before .before in
+    let s = at-signed .before .before .before in
+    let h : s .args .at ≤ length (s .args .out .now) = omega arith in
+    let e : held (s .args .z) ≡ s .args .z = search needs in
+    wrote-then h (wrote-same (ap decimalZ e) (at-signed .signed .ensures)) (at-put .put .ensures)
+
+pub figure-spec : {M : Type 1} → statement M
+figure-spec =
+    tie.close (tie.spec signed-requires slice-aggregate-put put-requires same-length returns)

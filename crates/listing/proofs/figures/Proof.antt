@@ -1,0 +1,57 @@
+-- `listing::figures` meets its contract: three figures, a space behind each, and the upper limit.
+use mathlib.Core.Path.{_≡_, ap}
+use mathlib.Core.List.{_++_}
+use Prim.Native.Nat.{_≤_}
+use native.Mathlib.Omega.{arith}
+use lib.ListN.{length}
+use lib.IntN.{ℤ}
+use borrow.Author.Needs.{needs}
+use Rattle.planner.specs.Listing.{text, decimalZ}
+use Rattle.listing.specs.TextLaws.{wrote-same, wrote-then, wrote-both}
+use Rattle.listing.specs.NumberLaws.{held}
+use Rattle.listing.proofs.figures.Statement.{statement}
+use Rattle.listing.proofs.figures.Tie as tie
+
+figure-requires : tie.Need-figure-requires
+figure-requires c κs = search needs
+
+figure-requires-2 : tie.Need-figure-requires-2
+figure-requires-2 c κs = search needs
+
+figure-requires-3 : tie.Need-figure-requires-3
+figure-requires-3 c κs = search needs
+
+upper-requires : tie.Need-upper-requires
+upper-requires c κs = search needs
+
+same-length : tie.Need-same-length
+same-length c = search needs
+
+as-held : (s : tie.Start) → let x = s .args .state in (held (x .known) ≡ x .known) × (held (x .possible) ≡ x .possible) × (held (x .lower) ≡ x .lower)
+as-held s = (search needs, search needs, search needs)
+
+returns : tie.Need-returns
+returns c =
+    let at-upper = c .before .before in
+    let at-figure3 = at-upper .before .before .before .before in
+    let at-figure2 = at-figure3 .before .before .before .before .before in
+    let at-figure = at-figure2 .before .before .before .before .before in
+    let s = at-figure .before .before .before .before in
+    let x = s .args .state in
+    let k = as-held s in
+    let h : s .args .at ≤ length (s .args .out .now) = omega arith in
+    let a = wrote-same (ap (λ (z : ℤ). decimalZ z ++ text " ") (k .0)) (at-figure .figure .ensures) in
+    let b = wrote-both (decimalZ (x .possible)) (text " ") h a (wrote-same (ap (λ (z : ℤ). decimalZ z ++ text " ") (k .1)) (at-figure2 .figure2 .ensures)) in
+    let d = wrote-both (decimalZ (x .lower)) (text " ") h b (wrote-same (ap (λ (z : ℤ). decimalZ z ++ text " ") (k .2)) (at-figure3 .figure3 .ensures)) in
+    wrote-then h d (at-upper .upper .ensures)
+
+pub figures-spec : {M : Type 1} → statement M
+figures-spec =
+    tie.close
+    (tie.spec
+    figure-requires
+    figure-requires-2
+    figure-requires-3
+    upper-requires
+    same-length
+    returns)

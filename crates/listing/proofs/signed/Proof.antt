@@ -1,0 +1,73 @@
+-- `listing::signed` meets its contract: its size, behind a minus where it is below zero.
+use mathlib.Core.Path.{_≡_, sym, ap, _∙_}
+use mathlib.Core.List.{_∷_}
+use Prim.Native.Nat.{ℕ, _≤_}
+use native.Mathlib.Omega.{arith}
+use lib.ListN.{length}
+use lib.IntN.{natAbs}
+use mir.Syntax.{w64}
+use mir.Val.{SFits}
+use mir.Facts.{toZ-ofZ}
+use borrow.Author.Needs.{needs}
+use Rattle.planner.specs.Listing.{decimal}
+use Rattle.listing.specs.TextLaws.{wrote-as, wrote-then}
+use Rattle.listing.specs.NumberLaws.{held, signed-below, signed-from}
+use Rattle.listing.proofs.signed.Statement.{statement}
+use Rattle.listing.proofs.signed.Tie as tie
+
+magnitude-requires : tie.Need-magnitude-requires
+magnitude-requires c κs = search needs
+
+slice-aggregate-put : tie.Need-slice-aggregate-put
+slice-aggregate-put c = search needs
+
+put-requires : tie.Need-put-requires
+put-requires c κs = search needs
+
+decimal-requires : tie.Need-decimal-requires
+decimal-requires c κs = search needs
+
+same-length : tie.Need-same-length
+same-length c = search needs
+
+returns : tie.Need-returns
+returns c =
+    let at-decimal = c .before .before in
+    let at-put = at-decimal .before .before .before .before in
+    let at-if1 = at-put .before .before .before in
+    let at-magnitude = at-if1 .before in
+    let s = at-magnitude .before .before in
+    let h : s .args .at ≤ length (s .args .out .now) = omega arith in
+    let f : SFits w64 (s .args .z) = search needs in
+    let e : held (s .args .z) ≡ s .args .z = toZ-ofZ {w = w64} f in
+    wrote-as (omega arith) (ap (λ (n : ℕ). 45 ∷ decimal n) (at-magnitude .magnitude .ensures ∙ ap natAbs e) ∙ sym (signed-below (s .args .z) (rw e at (at-if1 .if1 .taken)))) (wrote-then h (at-put .put .ensures) (at-decimal .decimal .ensures))
+
+decimal-requires-2 : tie.Need-decimal-requires-2
+decimal-requires-2 c κs = search needs
+
+same-length-2 : tie.Need-same-length-2
+same-length-2 c = search needs
+
+returns-2 : tie.Need-returns-2
+returns-2 c =
+    let at-decimal2 = c .before .before in
+    let at-if1 = at-decimal2 .before .before in
+    let at-magnitude = at-if1 .before in
+    let s = at-magnitude .before .before in
+    let f : SFits w64 (s .args .z) = search needs in
+    let e : held (s .args .z) ≡ s .args .z = toZ-ofZ {w = w64} f in
+    wrote-as (omega arith) (ap (λ (n : ℕ). decimal n) (at-magnitude .magnitude .ensures ∙ ap natAbs e) ∙ sym (signed-from (s .args .z) (rw e at (at-if1 .if1 .left)))) (at-decimal2 .decimal2 .ensures)
+
+pub signed-spec : {M : Type 1} → statement M
+signed-spec =
+    tie.close
+    (tie.spec
+    magnitude-requires
+    slice-aggregate-put
+    put-requires
+    decimal-requires
+    same-length
+    returns
+    decimal-requires-2
+    same-length-2
+    returns-2)

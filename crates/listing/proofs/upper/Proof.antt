@@ -1,0 +1,60 @@
+-- `listing::upper` meets its contract: `-` for none.
+use mathlib.Core.Path.{_≡_, sym, ap, _∙_}
+use native.Mathlib.Omega.{arith}
+use borrow.Author.Needs.{needs}
+use Rattle.planner.specs.Listing.{decimalZ, upperText}
+use Rattle.listing.specs.TextLaws.{wrote-as}
+use Rattle.listing.specs.NumberLaws.{held}
+use Rattle.listing.proofs.upper.Statement.{statement}
+use Rattle.listing.proofs.upper.Tie as tie
+
+enum-told : tie.Need-enum-told
+enum-told c = search needs
+
+slice-aggregate-put : tie.Need-slice-aggregate-put
+slice-aggregate-put c = search needs
+
+put-requires : tie.Need-put-requires
+put-requires c κs = search needs
+
+enum-known-limit : tie.Need-enum-known-limit
+enum-known-limit c = search needs
+
+signed-requires : tie.Need-signed-requires
+signed-requires c κs = search needs
+
+same-length : tie.Need-same-length
+same-length c = search needs
+
+returns : tie.Need-returns
+returns c =
+    let at-put = c .before .before in
+    let at-enum-told = at-put .before .before .before in
+    let s = at-enum-told .before .before .before in
+    wrote-as (omega arith) (ap upperText (sym (at-enum-told .enum-told .given .1))) (at-put .put .ensures)
+
+same-length-2 : tie.Need-same-length-2
+same-length-2 c = search needs
+
+returns-2 : tie.Need-returns-2
+returns-2 c =
+    let at-signed = c .before .before in
+    let at-limit = at-signed .before .before .before in
+    let s = at-limit .before .before .before in
+    let z = at-limit .limit .given .0 .0 in
+    let e : held z ≡ z = search needs in
+    wrote-as (omega arith) (ap decimalZ e ∙ ap upperText (sym (at-limit .limit .given .1))) (at-signed .signed .ensures)
+
+pub upper-spec : {M : Type 1} → statement M
+upper-spec =
+    tie.close
+    (tie.spec
+    enum-told
+    slice-aggregate-put
+    put-requires
+    enum-known-limit
+    signed-requires
+    same-length
+    returns
+    same-length-2
+    returns-2)

@@ -1,0 +1,7 @@
+pub mod Text
+pub mod TextLaws
+pub mod NumberLaws
+pub mod Lines
+pub mod LinesLaws
+pub mod Shows
+pub mod ShowsLaws

@@ -1,0 +1,320 @@
+// The listing of document 01: what the call gave back and what it left in its buffers, as bytes in a lent buffer of fixed length.
+ghost use mathlib.Core.Path.{_≡_};
+ghost use mathlib.Core.Bool.{true};
+ghost use mathlib.Core.List.{_++_};
+ghost use Prim.Native.Nat.{_+_, _*_, _<_, _≤_, _%_};
+ghost use lib.ListN.{length, drop};
+ghost use lib.IntN.{natAbs};
+ghost use Rattle.planner.specs.Listing.{text as textOf, decimal as decimalOf, decimalZ, upperText, stepWord, figures as figuresText, answerLine};
+ghost use Rattle.between.specs.Numbers.{statesOf};
+ghost use Rattle.listing.specs.Text.{Wrote, joined};
+ghost use Rattle.listing.specs.Lines.{maxDecimal, maxSigned, maxStep, maxFigures, maxAnswerLine, maxNodeLine, maxRowLine, maxLastLine, maxStateLines, maxListing};
+ghost use Rattle.listing.specs.Lines.{stepOf, answerOf, answerAt, nodeAt, rowLine, rowAt, endLine, refusedLine, decided, stateText, lastText, Sealed, Listable};
+ghost use Rattle.listing.specs.Shows.{Listed};
+use state::State;
+use state::Upper;
+
+// What the call gives back.
+pub struct Given {
+    pub refused: u8,
+    pub at: usize,
+    pub sealed: bool,
+    pub nodes: usize,
+    pub rows: usize,
+    pub answered: usize,
+}
+
+// A byte string at a place. This and every function below that writes gives back where its text ends.
+fn put(out: &mut [u8], at: usize, text: &[u8]) -> usize
+    requires { ⌜ at + length (now text) ≤ length (now out) ⌝ }
+    ensures { λ r. ⌜ Wrote (length (now (text .entry))) (now (out .entry)) (now (out .exit)) at r (now (text .entry)) ⌝ }
+{
+    let mut i = 0;
+    while i < text.len() {
+        out[at + i] = text[i];
+        i += 1;
+    }
+    at + i
+}
+
+// ---- numbers
+
+fn digit(n: u64) -> u8
+    ensures { λ r. ⌜ r ≡ 48 + n % 10 ⌝ }
+{
+    b'0' + (n % 10) as u8
+}
+
+// The digits of a number, the last one at the end; where the first one stands.
+fn digits(into: &mut [u8], n: u64) -> usize
+    requires { ⌜ length (now into) ≡ 20 ⌝ }
+    ensures { λ r. ⌜ (r < 20) × (drop r (now (into .exit)) ≡ decimalOf n) ⌝ }
+{
+    let mut first = 19;
+    let mut rest = n;
+    into[first] = digit(rest);
+    while rest >= 10 {
+        rest = rest / 10;
+        first -= 1;
+        into[first] = digit(rest);
+    }
+    first
+}
+
+fn decimal(out: &mut [u8], at: usize, n: u64) -> usize
+    requires { ⌜ at + maxDecimal ≤ length (now out) ⌝ }
+    ensures { λ r. ⌜ Wrote maxDecimal (now (out .entry)) (now (out .exit)) at r (decimalOf n) ⌝ }
+{
+    let mut buffer = [0; 20];
+    let first = digits(&mut buffer, n);
+    put(out, at, &buffer[first..])
+}
+
+// A byte string and a number behind it.
+fn labelled(out: &mut [u8], at: usize, label: &[u8], n: u64) -> usize
+    requires { ⌜ at + (length (now label) + maxDecimal) ≤ length (now out) ⌝ }
+    ensures { λ r. ⌜ Wrote (length (now (label .entry)) + maxDecimal) (now (out .entry)) (now (out .exit)) at r (now (label .entry) ++ decimalOf n) ⌝ }
+{
+    let next = put(out, at, label);
+    decimal(out, next, n)
+}
+
+fn magnitude(z: i64) -> u64
+    ensures { λ r. ⌜ r ≡ natAbs z ⌝ }
+{
+    if z < 0 {
+        return (-1 - z) as u64 + 1;
+    }
+    z as u64
+}
+
+fn signed(out: &mut [u8], at: usize, z: i64) -> usize
+    requires { ⌜ at + maxSigned ≤ length (now out) ⌝ }
+    ensures { λ r. ⌜ Wrote maxSigned (now (out .entry)) (now (out .exit)) at r (decimalZ z) ⌝ }
+{
+    let n = magnitude(z);
+    if z < 0 {
+        let next = put(out, at, b"-");
+        return decimal(out, next, n);
+    }
+    decimal(out, at, n)
+}
+
+// ---- answers
+
+fn step(out: &mut [u8], at: usize, number: u16) -> usize
+    requires { ⌜ at + maxStep ≤ length (now out) ⌝ }
+    ensures { λ r. ⌜ Wrote maxStep (now (out .entry)) (now (out .exit)) at r (stepWord (stepOf number)) ⌝ }
+{
+    if number == 0 {
+        return put(out, at, b"unchanged");
+    }
+    if number == 1 {
+        return put(out, at, b"changed");
+    }
+    put(out, at, b"contradiction")
+}
+
+fn answer(out: &mut [u8], at: usize, number: u16, visits: u16) -> usize
+    requires { ⌜ at + maxAnswerLine ≤ length (now out) ⌝ }
+    ensures { λ r. ⌜ Wrote maxAnswerLine (now (out .entry)) (now (out .exit)) at r (answerLine (answerOf number visits)) ⌝ }
+{
+    if number < 4 {
+        let a = put(out, at, b"settle ");
+        let b = step(out, a, number);
+        return put(out, b, b"\n");
+    }
+    let a = put(out, at, b"sift ");
+    let b = step(out, a, number - 4);
+    let c = labelled(out, b, b" ", visits as u64);
+    put(out, c, b"\n")
+}
+
+fn answer_lines(out: &mut [u8], at: usize, answers: &[[u16; 2]], count: usize) -> usize
+    requires { ⌜ (count ≤ length (now answers)) × (at + maxAnswerLine * count ≤ length (now out)) ⌝ }
+    ensures { λ r. ⌜ Wrote (maxAnswerLine * count) (now (out .entry)) (now (out .exit)) at r (joined (answerAt (now (answers .entry))) count) ⌝ }
+{
+    let mut end = at;
+    let mut i = 0;
+    while i < count {
+        let number = answers[i][0];
+        let visits = answers[i][1];
+        end = answer(out, end, number, visits);
+        i += 1;
+    }
+    end
+}
+
+// ---- nodes
+
+fn node(out: &mut [u8], at: usize, n: usize, value: &[u8]) -> usize
+    requires { ⌜ at + (25 + length (now value)) ≤ length (now out) ⌝ }
+    ensures { λ r. ⌜ Wrote (25 + length (now (value .entry))) (now (out .entry)) (now (out .exit)) at r (textOf "node " ++ decimalOf n ++ now (value .entry)) ⌝ }
+{
+    let a = labelled(out, at, b"node ", n as u64);
+    put(out, a, value)
+}
+
+// Nothing for a node that is undecided.
+fn node_line(out: &mut [u8], at: usize, n: usize, sure: &[u64], never: &[u64]) -> usize
+    requires { ⌜ (at + maxNodeLine ≤ length (now out)) × (n < 64 * length (now sure)) × (n < 64 * length (now never)) ⌝ }
+    ensures { λ r. ⌜ Wrote maxNodeLine (now (out .entry)) (now (out .exit)) at r (nodeAt (now (sure .entry)) (now (never .entry)) n) ⌝ }
+{
+    if words::bit(sure, n) {
+        return node(out, at, n, b" sure\n");
+    }
+    if words::bit(never, n) {
+        return node(out, at, n, b" never\n");
+    }
+    at
+}
+
+fn node_lines(out: &mut [u8], at: usize, count: usize, sure: &[u64], never: &[u64]) -> usize
+    requires { ⌜ (at + maxNodeLine * count ≤ length (now out)) × (count ≤ 64 * length (now sure)) × (count ≤ 64 * length (now never)) ⌝ }
+    ensures { λ r. ⌜ Wrote (maxNodeLine * count) (now (out .entry)) (now (out .exit)) at r (joined (nodeAt (now (sure .entry)) (now (never .entry))) count) ⌝ }
+{
+    let mut end = at;
+    let mut n = 0;
+    while n < count {
+        end = node_line(out, end, n, sure, never);
+        n += 1;
+    }
+    end
+}
+
+// ---- rows
+
+fn upper(out: &mut [u8], at: usize, limit: Upper) -> usize
+    requires { ⌜ at + maxSigned ≤ length (now out) ⌝ }
+    ensures { λ r. ⌜ Wrote maxSigned (now (out .entry)) (now (out .exit)) at r (upperText limit) ⌝ }
+{
+    match limit {
+        Upper::Open => put(out, at, b"-"),
+        Upper::Under(z) => signed(out, at, z),
+    }
+}
+
+// A figure and a space.
+fn figure(out: &mut [u8], at: usize, z: i64) -> usize
+    requires { ⌜ at + (maxSigned + 1) ≤ length (now out) ⌝ }
+    ensures { λ r. ⌜ Wrote (maxSigned + 1) (now (out .entry)) (now (out .exit)) at r (decimalZ z ++ textOf " ") ⌝ }
+{
+    let end = signed(out, at, z);
+    put(out, end, b" ")
+}
+
+fn figures(out: &mut [u8], at: usize, state: State) -> usize
+    requires { ⌜ at + maxFigures ≤ length (now out) ⌝ }
+    ensures { λ r. ⌜ Wrote maxFigures (now (out .entry)) (now (out .exit)) at r (figuresText state) ⌝ }
+{
+    let a = figure(out, at, state.known);
+    let b = figure(out, a, state.possible);
+    let c = figure(out, b, state.lower);
+    let limit = state.upper;
+    upper(out, c, limit)
+}
+
+fn row_line(out: &mut [u8], at: usize, r: usize, state: State) -> usize
+    requires { ⌜ at + maxRowLine ≤ length (now out) ⌝ }
+    ensures { λ end. ⌜ Wrote maxRowLine (now (out .entry)) (now (out .exit)) at end (rowLine r state) ⌝ }
+{
+    let a = labelled(out, at, b"row ", r as u64);
+    let b = put(out, a, b" ");
+    let c = figures(out, b, state);
+    put(out, c, b"\n")
+}
+
+fn row_lines(
+    out: &mut [u8],
+    at: usize,
+    count: usize,
+    figures: &[[i64; 4]],
+    cursors: &[[usize; 5]],
+) -> usize
+    requires { ⌜ (at + maxRowLine * count ≤ length (now out)) × (count ≤ length (statesOf (now figures) (now cursors))) ⌝ }
+    ensures { λ r. ⌜ Wrote (maxRowLine * count) (now (out .entry)) (now (out .exit)) at r (joined (rowAt (statesOf (now (figures .entry)) (now (cursors .entry)))) count) ⌝ }
+{
+    let mut end = at;
+    let mut r = 0;
+    while r < count {
+        let state = between::load(figures, cursors, r);
+        end = row_line(out, end, r, state);
+        r += 1;
+    }
+    end
+}
+
+// ---- the last line
+
+fn end_line(out: &mut [u8], at: usize, sure: &[u64], never: &[u64]) -> usize
+    requires { ⌜ (at + maxLastLine ≤ length (now out)) × (64 ≤ length (now sure)) × (64 ≤ length (now never)) ⌝ }
+    ensures { λ r. ⌜ Wrote maxLastLine (now (out .entry)) (now (out .exit)) at r (endLine (decided (now (sure .entry))) (decided (now (never .entry)))) ⌝ }
+{
+    let sures = words::count(&sure[..64]);
+    let nevers = words::count(&never[..64]);
+    let a = labelled(out, at, b"end ", sures as u64);
+    let b = labelled(out, a, b" ", nevers as u64);
+    put(out, b, b"\n")
+}
+
+fn refused_line(out: &mut [u8], at: usize, number: u8, offset: usize) -> usize
+    requires { ⌜ at + maxLastLine ≤ length (now out) ⌝ }
+    ensures { λ r. ⌜ Wrote maxLastLine (now (out .entry)) (now (out .exit)) at r (refusedLine number offset) ⌝ }
+{
+    let a = labelled(out, at, b"refused ", number as u64);
+    let b = labelled(out, a, b" at ", offset as u64);
+    put(out, b, b"\n")
+}
+
+// ---- the whole
+
+// If sealed, the nodes that are decided, rising, and the rows.
+fn state_lines(
+    out: &mut [u8],
+    at: usize,
+    given: Given,
+    figures: &[[i64; 4]],
+    cursors: &[[usize; 5]],
+    sure: &[u64],
+    never: &[u64],
+) -> usize
+    requires { ⌜ (at + maxStateLines ≤ length (now out)) × (given .sealed ≡ true → Sealed given (statesOf (now figures) (now cursors)) (now sure) (now never)) ⌝ }
+    ensures { λ r. ⌜ Wrote maxStateLines (now (out .entry)) (now (out .exit)) at r (stateText given (statesOf (now (figures .entry)) (now (cursors .entry))) (now (sure .entry)) (now (never .entry))) ⌝ }
+{
+    let sealed = given.sealed;
+    if sealed {
+        let end = node_lines(out, at, given.nodes, sure, never);
+        return row_lines(out, end, given.rows, figures, cursors);
+    }
+    at
+}
+
+fn last_line(out: &mut [u8], at: usize, given: Given, sure: &[u64], never: &[u64]) -> usize
+    requires { ⌜ (at + maxLastLine ≤ length (now out)) × (given .refused ≡ 0 → (64 ≤ length (now sure)) × (64 ≤ length (now never))) ⌝ }
+    ensures { λ r. ⌜ Wrote maxLastLine (now (out .entry)) (now (out .exit)) at r (lastText given (now (sure .entry)) (now (never .entry))) ⌝ }
+{
+    let refused = given.refused;
+    if refused == 0 {
+        return end_line(out, at, sure, never);
+    }
+    refused_line(out, at, refused, given.at)
+}
+
+// THE LISTING of the file whose outcome these show, from the start of the buffer; how many bytes it has.
+pub fn list(
+    out: &mut [u8],
+    given: Given,
+    answers: &[[u16; 2]],
+    figures: &[[i64; 4]],
+    cursors: &[[usize; 5]],
+    sure: &[u64],
+    never: &[u64],
+) -> usize
+    requires { ⌜ Listable given (now answers) (statesOf (now figures) (now cursors)) (now sure) (now never) ⌝ }
+    requires { ⌜ maxListing ≤ length (now out) ⌝ }
+    ensures { λ r. ⌜ Listed given (now (answers .entry)) (statesOf (now (figures .entry)) (now (cursors .entry))) (now (sure .entry)) (now (never .entry)) (now (out .entry)) (now (out .exit)) r ⌝ }
+{
+    let a = answer_lines(out, 0, answers, given.answered);
+    let b = state_lines(out, a, given, figures, cursors, sure, never);
+    last_line(out, b, given, sure, never)
+}

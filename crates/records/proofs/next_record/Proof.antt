@@ -1,0 +1,71 @@
+-- `records::next_record` meets its contract: kind, body, then the other checks.
+use mathlib.Core.Path.{ap, _∙_}
+use native.Mathlib.Omega.{arith}
+use Rattle.records.specs.Checks.{refusedBy}
+use Rattle.records.specs.CheckLaws.{next-unknown, next-cut, next-refused, next-taken}
+use borrow.Author.Needs.{needs}
+use Rattle.records.proofs.next_record.Statement.{statement}
+use Rattle.records.proofs.next_record.Tie as tie
+
+shared-slice-read-kind : tie.Need-shared-slice-read-kind
+shared-slice-read-kind c = search needs
+
+returns : tie.Need-returns
+returns c = let a = c .before .before .before .args in next-unknown (a .standing) (a .input .now) (a .at) (c .if1 .taken)
+
+body-length-requires : tie.Need-body-length-requires
+body-length-requires c κs = search needs
+
+sub-if2 : tie.Need-sub-if2
+sub-if2 c = search needs
+
+returns-2 : tie.Need-returns-2
+returns-2 c =
+    let a = c .before .before .before .before .before .args in
+    let e = c .before .body-length .ensures in
+    let l = c .if2 .taken in
+    next-cut (a .standing) (a .input .now) (a .at) (c .before .before .if1 .left) (c .before .before .before .before .before .pre) (omega (arith, e, l))
+
+record-at-requires : tie.Need-record-at-requires
+record-at-requires c κs = search needs
+
+refusal-requires : tie.Need-refusal-requires
+refusal-requires c κs = search needs
+
+returns-3 : tie.Need-returns-3
+returns-3 c =
+    let at-number = c .before in
+    let at-record = at-number .before in
+    let at-size = at-record .before .before in
+    let s = at-size .before .before .before .before in
+    let a = s .args in
+    let e = at-size .body-length .ensures in
+    let l = at-record .before .if2 .left in
+    let n = at-number .refusal .ensures ∙ ap (refusedBy (a .standing)) (at-record .record-at .ensures) in
+    next-refused (a .standing) (a .input .now) (a .at) (at-size .before .if1 .left) (s .pre) (omega (arith, e, l)) (at-number .refusal .result) n (c .if3 .taken)
+
+returns-4 : tie.Need-returns-4
+returns-4 c =
+    let at-number = c .before in
+    let at-record = at-number .before in
+    let at-size = at-record .before .before in
+    let s = at-size .before .before .before .before in
+    let a = s .args in
+    let e = at-size .body-length .ensures in
+    let l = at-record .before .if2 .left in
+    let n = at-number .refusal .ensures ∙ ap (refusedBy (a .standing)) (at-record .record-at .ensures) in
+    next-taken (a .standing) (a .input .now) (a .at) (at-size .before .if1 .left) (s .pre) (omega (arith, e, l)) (at-number .refusal .result) n (at-record .record-at .result) (at-record .record-at .ensures) (c .if3 .left)
+
+pub next-record-spec : {M : Type 1} → statement M
+next-record-spec =
+    tie.close
+    (tie.spec
+    shared-slice-read-kind
+    returns
+    body-length-requires
+    sub-if2
+    returns-2
+    record-at-requires
+    refusal-requires
+    returns-3
+    returns-4)

@@ -1,0 +1,15 @@
+-- `records::plain_refusal` meets its contract: the checks that it leaves out say nothing.
+use Rattle.records.specs.Checks.{first}
+use borrow.Author.Needs.{needs}
+use Rattle.records.proofs.plain_refusal.Statement.{statement}
+use Rattle.records.proofs.plain_refusal.Tie as tie
+
+first-number-requires : tie.Need-first-number-requires
+first-number-requires c κs = search needs
+
+returns : tie.Need-returns
+unfolding first
+returns c = c .first-number .ensures
+
+pub plain-refusal-spec : {M : Type 1} → statement M
+plain-refusal-spec = tie.close (tie.spec first-number-requires returns)

@@ -1,0 +1,23 @@
+-- `records::term_refusal` meets its contract: what each check says of a term.
+use Rattle.records.specs.CheckLaws.{adds-number}
+use borrow.Author.Needs.{needs}
+use Rattle.records.proofs.term_refusal.Statement.{statement}
+use Rattle.records.proofs.term_refusal.Tie as tie
+
+not-within-requires : tie.Need-not-within-requires
+not-within-requires c κs = search needs
+
+too-many-terms-requires : tie.Need-too-many-terms-requires
+too-many-terms-requires c κs = search needs
+
+first-number-requires : tie.Need-first-number-requires
+first-number-requires c κs = search needs
+
+returns : tie.Need-returns
+returns c =
+    let s = c .before .before .before .before .args in
+    adds-number (s .standing) (c .first-number .result) (s .condition) _ _ (c .before .before .not-within .ensures) (c .before .too-many-terms .ensures) (c .first-number .ensures)
+
+pub term-refusal-spec : {M : Type 1} → statement M
+term-refusal-spec =
+    tie.close (tie.spec not-within-requires too-many-terms-requires first-number-requires returns)
