@@ -13,7 +13,7 @@ use Rattle.state.specs.State.{drained}
 use Rattle.words.specs.Mask.{bit}
 use Rattle.thresholds.specs.Rows.{Edge, edgesOf}
 use Rattle.thresholds.specs.Raw.{stretch}
-use Rattle.memory.specs.Limits.{figureLimit, roomLimit, weightLimit, drainLimit}
+use Rattle.memory.specs.Limits.{figureLimit, roomLimit, weightLimit, drainLimit, maxTerms}
 use Rattle.between.specs.Between.{Index, Live, stateAt, withState, did, runWith, runRow, after, conditionFrom, thresholdCondition}
 use Rattle.between.specs.Held.{startBy, endBy, heldRow, edgeIn, edgesIn, Shaped, EdgesShaped, Holds, HoldsEdges}
 use Rattle.between.specs.HeldLaws.{stretch-cons, stretch-none, run-held, edges-back}
@@ -24,7 +24,7 @@ use Rattle.between.specs.LoopLaws.{turn, condition-next, condition-stop,
 -- The edges from one place to another: each names a row, and is light.
 pub record Edges (h : HeldRows) (edges : List (List ℕ)) (from end : ℕ) : Type 0 where
   pub inside : end ≤ length edges
-  pub few : end ≤ 4096
+  pub few : end ≤ maxTerms
   pub rows : (at r : ℕ) → from ≤ at → at < end → r ≡ edgeIn (getD edges at []) .row → r < length (h .rows)
   pub light : (at w : ℕ) → from ≤ at → at < end → w ≡ edgeIn (getD edges at []) .weight → w < weightLimit
 

@@ -13,7 +13,7 @@ use Rattle.thresholds.specs.Laid.{edgeRow, thresholdOf}
 use Rattle.prefixes.specs.Links.{neighbours}
 use Rattle.numeric.specs.Slices.{Below}
 use Rattle.propagate.specs.Guards.{guards}
-use Rattle.memory.specs.Limits.{figureLimit, weightLimit}
+use Rattle.memory.specs.Limits.{figureLimit, weightLimit, maxNodes, maxTerms, maxThresholds}
 use Rattle.between.specs.Between.{Index}
 
 -- By column j, where the stretch of entry n ends; it begins where the one before ends.
@@ -56,19 +56,19 @@ Rising j table = (n : ℕ) → n < length table → startBy j table n ≤ endBy 
 
 -- Of the rows: conditions and guards are nodes, weights fit a signed number.
 pub record Shaped (h : HeldRows) : Type 0 where
-  pub few : length (h .rows) ≤ 1024
+  pub few : length (h .rows) ≤ maxThresholds
   pub terms : Inside 0 (h .rows) (length (h .row-conditions))
   pub weighed : length (h .row-weights) ≡ length (h .row-conditions)
-  pub nodes : Below 4096 (h .row-conditions)
+  pub nodes : Below maxNodes (h .row-conditions)
   pub light : Below (2 ^ 63) (h .row-weights)
   pub guards : Inside 1 (h .rows) (length (h .guard-bounds))
   pub named : length (h .guard-nodes) ≡ length (h .guard-bounds)
-  pub guarded : Below 4096 (h .guard-nodes)
+  pub guarded : Below maxNodes (h .guard-nodes)
 
 -- Of the edges by column 2 of the nodes: each names a row.
 pub record EdgesShaped (h : HeldRows) (nodes edges : List (List ℕ)) : Type 0 where
   pub inside : Inside 2 nodes (length edges)
-  pub few : length edges ≤ 4096
+  pub few : length edges ≤ maxTerms
   pub rows : (n i : ℕ) → n < length nodes → startBy 2 nodes n ≤ i → i < endBy 2 nodes n → edgeIn (getD edges i []) .row < length (h .rows)
   pub light : (n i : ℕ) → n < length nodes → startBy 2 nodes n ≤ i → i < endBy 2 nodes n → edgeIn (getD edges i []) .weight < weightLimit
 

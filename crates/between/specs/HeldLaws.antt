@@ -7,6 +7,7 @@ use mathlib.Core.Path.{_≡_, refl, sym, ap, ap₂, _∙_}
 use mathlib.Core.List.{List, [], _∷_, map}
 use lib.ListN.{length, getD, set, drop, length-take, length-drop}
 use lib.Seq.{drop-cons, getD-drop, getD-take}
+use Rattle.memory.specs.Limits.{maxNodes}
 use Rattle.memory.specs.Buffers.{HeldRows}
 use Rattle.numeric.specs.Threshold.{Term, terms}
 use Rattle.thresholds.specs.Rows.{rowOf, noRow, Guard, Edge}
@@ -55,7 +56,7 @@ module _ (h : HeldRows) (s : Shaped h) (r : ℕ) (k : r < length (h .rows)) wher
     same =
         stretch-length a e (h .row-conditions) (omega (arith, s .terms .ends r k))
         ∙ sym (stretch-length a e (h .row-weights) (omega (arith, s .terms .ends r k, s .weighed)));
-    below = below-stretch 4096 (h .row-conditions) a e (s .nodes);
+    below = below-stretch maxNodes (h .row-conditions) a e (s .nodes);
     light = below-stretch (2 ^ 63) (h .row-weights) a e (s .light);
   }
 
@@ -64,7 +65,7 @@ module _ (h : HeldRows) (s : Shaped h) (r : ℕ) (k : r < length (h .rows)) wher
     same =
         stretch-length a e (h .guard-bounds) (omega (arith, s .guards .ends r k))
         ∙ sym (stretch-length a e (h .guard-nodes) (omega (arith, s .guards .ends r k, s .named)));
-    below = below-stretch 4096 (h .guard-nodes) a e (s .guarded);
+    below = below-stretch maxNodes (h .guard-nodes) a e (s .guarded);
   }
 
 -- ---- a row that the buffers hold

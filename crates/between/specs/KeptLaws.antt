@@ -21,7 +21,7 @@ use Rattle.prefixes.specs.Links.{neighbours}
 use Rattle.propagate.specs.declared.Tightened.{Tightened}
 use Rattle.propagate.specs.ScanLaws.{All}
 use Rattle.propagate.specs.Told.{guardState, movedState}
-use Rattle.memory.specs.Limits.{figureLimit, weightLimit, drainLimit}
+use Rattle.memory.specs.Limits.{figureLimit, weightLimit, drainLimit, maxThresholds}
 use Rattle.between.specs.Between.{Index, Live, Did, stateAt, withState, withBound, linkedQueued, runWith, runRow, bounded, thresholdGuard, conditionFrom, termCount, handedOn, prefixesFrom, thresholdPrefixes, seedFrom}
 use Rattle.between.specs.Held.{Shaped, Holds}
 use Rattle.between.specs.HeldLaws.{run-held}
@@ -67,7 +67,7 @@ module _ (x : Index) (h : HeldRows) (z : Holds x h) (y : Shaped h) where
       (runnable-more h (n + drainLimit + length es * drainLimit) (n + length (e ∷ es) * drainLimit) (conditionFrom x value es (d .live) .live) (omega arith) rest))
 
   -- A guard.
-  flags-linked : (n : ℕ) (q : Rows) (r : ℕ) → r < 1024 → Flags q → Flags (linkedQueued n q r)
+  flags-linked : (n : ℕ) (q : Rows) (r : ℕ) → r < maxThresholds → Flags q → Flags (linkedQueued n q r)
   flags-linked n q r k f = by (eqb n 0)
     where
       by : (b : Bool) → Flags (cond b q (queueRow q r))

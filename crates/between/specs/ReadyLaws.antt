@@ -27,7 +27,7 @@ use Rattle.propagate.specs.Row.{wantsResidual, thresholdRow}
 use Rattle.propagate.specs.RowLaws.{Moved, kept-row}
 use Rattle.propagate.specs.declared.Tightened.{Tightened}
 use Rattle.propagate.specs.Told.{guardState, movedLower, movedState, under}
-use Rattle.memory.specs.Limits.{figureLimit, weightLimit, drainLimit}
+use Rattle.memory.specs.Limits.{figureLimit, weightLimit, drainLimit, maxThresholds}
 use Rattle.between.specs.Between.{Live, withState, Did, residualQueued, runWith}
 use Rattle.between.specs.Numbers.{Runs}
 use Rattle.between.specs.Held.{endBy, startBy, heldRow, Shaped}
@@ -83,7 +83,7 @@ module _ (h : HeldRows) (n : ℕ) where
     inside = omega (arith, f .inside, stretch-length a e (h .guard-bounds) (omega (arith, y .guards .ends r k)));
   }
 
-flags-residual : (row : Row) (s : State) (q : Rows) (r : ℕ) → r < 1024 → Flags q → Flags (residualQueued row s q r)
+flags-residual : (row : Row) (s : State) (q : Rows) (r : ℕ) → r < maxThresholds → Flags q → Flags (residualQueued row s q r)
 flags-residual row s q r k f = by (wantsResidual row s)
   where
     by : (b : Bool) → Flags (cond b (queueRow q r) q)

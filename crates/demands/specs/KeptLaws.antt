@@ -7,6 +7,7 @@ use mathlib.Core.List.{List, [], _∷_, _++_}
 use lib.ListN.{length, length-append, getD, set, length-set, length-replicate}
 use lib.Dec.{eqb, leb}
 use borrow.Author.Tests.{leb-false}
+use Rattle.memory.specs.Limits.{listTerms, maxGcds, maxNodes, maxThresholds}
 use Rattle.numeric.specs.Threshold.{Term, Threshold}
 use Rattle.state.specs.declared.Step.{Step}
 use Rattle.state.specs.declared.Step.the-variants.{Unchanged, Changed, Contradiction}
@@ -45,14 +46,14 @@ use Rattle.ends.specs.Files.{Good, good-begun, taken, good-apply, Passed, read-
 -- ---- QUEUES KEEP THEIR LENGTH
 
 pub record Long (v : Live) : Type 0 where
-  pub nodes : length (v .marks .nodes .items) ≡ 4096
-  pub dirty : length (v .dirty .queue .items) ≡ 1024
-  pub residuals : length (v .residuals .queue .items) ≡ 1024
+  pub nodes : length (v .marks .nodes .items) ≡ maxNodes
+  pub dirty : length (v .dirty .queue .items) ≡ maxThresholds
+  pub residuals : length (v .residuals .queue .items) ≡ maxThresholds
 
 waiting-long : (k : Step) (q : Queue) (n : ℕ) → length (waiting k q n .items) ≡ length (q .items)
 unfolding push
 waiting-long Unchanged q n = refl
-waiting-long Changed q n = length-set (q .items) ((q .ring .head + q .ring .count) % 4096) n
+waiting-long Changed q n = length-set (q .items) ((q .ring .head + q .ring .count) % maxNodes) n
 waiting-long Contradiction q n = refl
 
 decide-long : (value : Bool) (m : Marks) (n : ℕ) → length (decide value m n .marks .nodes .items) ≡ length (m .nodes .items)
@@ -63,9 +64,9 @@ row-long : (q : Rows) (r : ℕ) → length (queueRow q r .queue .items) ≡ leng
 unfolding queueRow push
 row-long q r = by (eqb (getD (q .pending) r 0) 1)
   where
-    by : (b : Bool) → length (cond b q (rows (push 1024 (q .queue) r) (set (q .pending) r 1)) .queue .items) ≡ length (q .queue .items)
+    by : (b : Bool) → length (cond b q (rows (push maxThresholds (q .queue) r) (set (q .pending) r 1)) .queue .items) ≡ length (q .queue .items)
     by true = refl
-    by false = length-set (q .queue .items) ((q .queue .ring .head + q .queue .ring .count) % 1024) r
+    by false = length-set (q .queue .items) ((q .queue .ring .head + q .queue .ring .count) % maxThresholds) r
 
 residual-long : (row : Row) (s : State) (q : Rows) (r : ℕ) → length (residualQueued row s q r .queue .items) ≡ length (q .queue .items)
 residual-long row s q r = by (wantsResidual row s)
@@ -87,7 +88,7 @@ module _ (x : Index) (ix : Indexed x) where
   long-run v r l =
       let row = getD (x .rows) r noRow in
       record {
-        nodes = keeps-row (λ (m : Marks). length (m .nodes .items) ≡ 4096) (λ m value n h p. decide-long value m n ∙ p) row (stateAt v r) (v .marks) (ix .nodes r) (ix .conditions r) (l .nodes);
+        nodes = keeps-row (λ (m : Marks). length (m .nodes .items) ≡ maxNodes) (λ m value n h p. decide-long value m n ∙ p) row (stateAt v r) (v .marks) (ix .nodes r) (ix .conditions r) (l .nodes);
         dirty = l .dirty;
         residuals = residual-long row (stateAt v r) (v .residuals) r ∙ l .residuals;
       }
@@ -173,7 +174,7 @@ module _ (x : Index) (ix : Indexed x) where
       n = oldest (v .marks .nodes)
 
       w : Live
-      w = withMarks v (marks (v .marks .sure) (v .marks .never) (popped 4096 (v .marks .nodes)))
+      w = withMarks v (marks (v .marks .sure) (v .marks .never) (popped maxNodes (v .marks .nodes)))
 
       g : Did
       g = guardOf x w (x .thresholds) n
@@ -235,11 +236,11 @@ module _ (x : Index) (ix : Indexed x) where
 
   -- ---- a sift: its queues, and its gcds
 
-  module _ (few : (r : ℕ) → length (getD (x .rows) r noRow .terms) ≤ 1024) where
+  module _ (few : (r : ℕ) → length (getD (x .rows) r noRow .terms) ≤ listTerms) where
     abbrev Sifts : Sifted → Type 0
-    Sifts s = Long (s .live) × (length (s .gcds) ≡ 1025)
+    Sifts s = Long (s .live) × (length (s .gcds) ≡ maxGcds)
 
-    sifts-try : (v : Live) (gcds : List ℕ) (visits : ℕ) → Long v → length gcds ≡ 1025 → Sifts (tryRow x v gcds visits)
+    sifts-try : (v : Live) (gcds : List ℕ) (visits : ℕ) → Long v → length gcds ≡ maxGcds → Sifts (tryRow x v gcds visits)
     unfolding tryRow nextRow popped
     sifts-try v gcds visits l e = by (isUnchanged (a .step))
       where
@@ -257,12 +258,12 @@ module _ (x : Index) (ix : Indexed x) where
 
         long : Long w
         long = record {
-          nodes = keeps-residual (λ (m : Marks). length (m .nodes .items) ≡ 4096) (λ m value n h p. decide-long value m n ∙ p) ts (stateAt v r) (v .marks) gcds (ix .conditions r) (l .nodes);
+          nodes = keeps-residual (λ (m : Marks). length (m .nodes .items) ≡ maxNodes) (λ m value n h p. decide-long value m n ∙ p) ts (stateAt v r) (v .marks) gcds (ix .conditions r) (l .nodes);
           dirty = l .dirty;
           residuals = l .residuals;
         }
 
-        gcds-long : length (a .gcds) ≡ 1025
+        gcds-long : length (a .gcds) ≡ maxGcds
         gcds-long = gcds-length ts (stateAt v r) (v .marks) gcds (omega (arith, few r, e)) ∙ e
 
         by : (b : Bool)
@@ -273,7 +274,7 @@ module _ (x : Index) (ix : Indexed x) where
         by true = (long, gcds-long)
         by false = (long, gcds-long)
 
-    sifts-from : (n : ℕ) (v : Live) (gcds : List ℕ) (k : Step) (visits : ℕ) → Long v → length gcds ≡ 1025 → Sifts (siftFrom n x v gcds k visits)
+    sifts-from : (n : ℕ) (v : Live) (gcds : List ℕ) (k : Step) (visits : ℕ) → Long v → length gcds ≡ maxGcds → Sifts (siftFrom n x v gcds k visits)
     unfolding siftFrom
     sifts-from zero v gcds k visits l e = (l, e)
     sifts-from (suc n) v gcds k visits l e =
@@ -283,13 +284,13 @@ module _ (x : Index) (ix : Indexed x) where
         tried : Sifts (tryRow x (Drain.settle x v .live) gcds visits)
         tried = sifts-try (Drain.settle x v .live) gcds visits (long-settle v l) e
 
-        by : ((u : Live) (g : List ℕ) (i : Step) (m : ℕ) → Long u → length g ≡ 1025 → Sifts (siftFrom n x u g i m)) → (a b c : Bool) → Sifts (tries x n v gcds k visits a b c)
+        by : ((u : Live) (g : List ℕ) (i : Step) (m : ℕ) → Long u → length g ≡ maxGcds → Sifts (siftFrom n x u g i m)) → (a b c : Bool) → Sifts (tries x n v gcds k visits a b c)
         by ih true b c = (long-settle v l, e)
         by ih false true c = (long-settle v l, e)
         by ih false false true = tried
         by ih false false false = ih _ _ _ _ (tried .0) (tried .1)
 
-    sifts-long : (v : Live) (gcds : List ℕ) → Long v → length gcds ≡ 1025 → Sifts (Sift.sift x v gcds)
+    sifts-long : (v : Live) (gcds : List ℕ) → Long v → length gcds ≡ maxGcds → Sifts (Sift.sift x v gcds)
     sifts-long v gcds l e = sifts-from Drain.turns v gcds Unchanged 0 l e
 
 -- ---- THE FILE
@@ -298,15 +299,15 @@ module _ (x : Index) (ix : Indexed x) where
 pub record Kept (f : File) : Type 0 where
   pub good : Good f
   pub live : Long (f .live)
-  pub gcds : length (f .gcds) ≡ 1025
+  pub gcds : length (f .gcds) ≡ maxGcds
   pub answers : length (f .answers) ≤ 64
 
 kept-begun : Kept begun
 unfolding begun
 kept-begun = record {
   good = good-begun;
-  live = record { nodes = length-replicate {A = ℕ} 4096 0; dirty = length-replicate {A = ℕ} 1024 0; residuals = length-replicate {A = ℕ} 1024 0 };
-  gcds = length-replicate {A = ℕ} 1025 0;
+  live = record { nodes = length-replicate {A = ℕ} maxNodes 0; dirty = length-replicate {A = ℕ} maxThresholds 0; residuals = length-replicate {A = ℕ} maxThresholds 0 };
+  gcds = length-replicate {A = ℕ} maxGcds 0;
   answers = omega arith;
 }
 

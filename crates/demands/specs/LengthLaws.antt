@@ -15,7 +15,7 @@ use Rattle.prefixes.specs.Links.{neighbourLists}
 use Rattle.prefixes.specs.HeldLaws.{length-numbers}
 use Rattle.prepare.specs.RowsGivenLaid.{length-ends}
 use Rattle.between.specs.Numbers.{figuresOf, cursorsOf}
-use Rattle.memory.specs.Limits.{maxNodes, maxTerms, maxThresholds}
+use Rattle.memory.specs.Limits.{maxNodes, maxTerms, maxThresholds, maxGcds, maxLinks}
 use Rattle.memory.specs.Buffers.{Work, rawLengths, builtLengths, keptLengths, fits, zeros, cleared, clearRaw, clearBuilt, clearKept}
 use Rattle.memory.specs.Lengths.{Sized, fits-sized}
 use Rattle.job.specs.Job.{allTerms}
@@ -90,7 +90,7 @@ module _ (f : File) (k : Kept f) (w : Work) (s : Sized w) where
       let p5 = laid-long (replicate 3 0) (triples firsts seconds lasts) (w .built .nodes) maxNodes
       (omega (arith, triples-few firsts seconds lasts, length-map (numbers 0 m) (thresholdOf 0 ts), length-numbers 0 m, k .good .closed .nodes)) (s 9) in
       let p6 = laid-long (replicate 2 0) (map edgeRow e) (w .built .edges) maxTerms (omega (arith, length-map e edgeRow, edges-most (f .closed) (k .good .closed))) (s 10) in
-      let p7 = laid-long 0 (joinAll (neighbourLists rs)) (w .built .links) 2048 (links-most (f .closed) (k .good .closed)) (s 11) in
+      let p7 = laid-long 0 (joinAll (neighbourLists rs)) (w .built .links) maxLinks (links-most (f .closed) (k .good .closed)) (s 11) in
       λ i. p0 i ∷ p1 i ∷ p2 i ∷ p3 i ∷ p4 i ∷ p5 i ∷ p6 i ∷ p7 i ∷ []
 
   unbuilt-long : builtLengths (clearBuilt (w .built)) ≡ builtLengths (w .built)
@@ -120,7 +120,7 @@ module _ (f : File) (k : Kept f) (w : Work) (s : Sized w) where
       let p2 = laid-long 0 (v .marks .sure) (b .sure) 64 (omega (arith, g .waits .sures)) (s 14) in
       let p3 = laid-long 0 (v .marks .never) (b .never) 64 (omega (arith, g .waits .nevers)) (s 15) in
       let p4 = zeros-long 0 (b .search) in
-      let p5 = laid-long 0 (f .gcds) (b .gcds) 1025 (omega (arith, k .gcds)) (s 17) in
+      let p5 = laid-long 0 (f .gcds) (b .gcds) maxGcds (omega (arith, k .gcds)) (s 17) in
       let p6 = laid-long 0 (v .marks .nodes .items) (b .node-queue) maxNodes (omega (arith, k .live .nodes)) (s 18) in
       let p7 = laid-long (replicate 4 0) (quads (d .queue .items) (d .pending) (r .queue .items) (r .pending)) (b .row-queues) maxThresholds
       (omega (arith, quads-few (d .queue .items) (d .pending) (r .queue .items) (r .pending), k .live .dirty)) (s 19) in

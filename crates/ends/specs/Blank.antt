@@ -7,6 +7,7 @@ use mathlib.Core.List.{List}
 use lib.ListN.{length, getD, replicate, List·getD-eq-default}
 use lib.Dec.{eqb}
 use lib.Pow.{pow-pos}
+use Rattle.memory.specs.Limits.{maxThresholds}
 use Rattle.state.specs.State.{noState}
 use Rattle.words.specs.Mask.{bit, digit}
 use Rattle.words.specs.Digits.{digit-high}
@@ -39,7 +40,7 @@ bit-none k n = bit-zero (replicate k 0) n (same-at k (n / 64) 0)
 -- A FILE BEGINS with blank memory
 pub blank-begun : Blank (begun .live)
 unfolding begun
-blank-begun = record { states = λ r. same-at 1024 r noState; bits = bits }
+blank-begun = record { states = λ r. same-at maxThresholds r noState; bits = bits }
   where
     bits : (b : Bool) (n : ℕ) → bit (mask b (begun .live .marks)) n ≡ false
     bits true n = bit-none 64 n

@@ -61,10 +61,10 @@ every-each P [] a y m = absurd (List·Memᴰ·not-nil m)
 every-each P (x ∷ xs) a y m = ⊎-elim (λ (e : y ≡ x). subst P (sym e) (a .0)) (λ k. every-each P xs (a .1) y k) (List·Memᴰ·cases-cons m)
 
 -- what a job within the limits says of one threshold and of one term
-pub fits-node : (j : Job) → Fits j → (t : Threshold) → List·Memᴰ t (j .thresholds) → t .node < 4096
+pub fits-node : (j : Job) → Fits j → (t : Threshold) → List·Memᴰ t (j .thresholds) → t .node < maxNodes
 fits-node j f t m = omega (arith, every-each (Fit (j .nodes)) (j .thresholds) (f .each) t m .node, f .nodes)
 
-pub fits-condition : (j : Job) → Fits j → (t : Threshold) → List·Memᴰ t (j .thresholds) → (u : Term) → List·Memᴰ u (t .terms) → u .condition < 4096
+pub fits-condition : (j : Job) → Fits j → (t : Threshold) → List·Memᴰ t (j .thresholds) → (u : Term) → List·Memᴰ u (t .terms) → u .condition < maxNodes
 fits-condition j f t m u i =
     omega (arith, every-each (λ (v : Term). v .condition < j .nodes) (t .terms) (every-each (Fit (j .nodes)) (j .thresholds) (f .each) t m .conditions) u i, f .nodes)
 
@@ -185,13 +185,13 @@ insert-fits g (h ∷ hs) n a = by (insert-fits g hs n (a .1)) (below g h)
     by ih false = (a .0, ih)
 
 terms-fit : (raw : List Term) → Every Condition raw → Every Condition (rowTerms raw)
-terms-fit raw h = all-sorted Condition (merged raw) (conditions-merged (λ (n : ℕ). n < 4096) raw h)
+terms-fit raw h = all-sorted Condition (merged raw) (conditions-merged (λ (n : ℕ). n < maxNodes) raw h)
 
-row-fits : (n : ℕ) → n ≤ 4096 → (t : Threshold) → Fit n t → RowFits (rowOf (t .terms) (rowTerms (t .terms)) (guard (t .bound) (t .node) ∷ []))
+row-fits : (n : ℕ) → n ≤ maxNodes → (t : Threshold) → Fit n t → RowFits (rowOf (t .terms) (rowTerms (t .terms)) (guard (t .bound) (t .node) ∷ []))
 row-fits n h t f =
     ((omega (arith, f .node), tt), terms-fit (t .terms) (all-map (λ (u : Term). u .condition < n) Condition (t .terms) (λ u k. omega arith) (f .conditions)))
 
-guard-fits : (n : ℕ) → n ≤ 4096 → (t : Threshold) (r : Row) → Fit n t → RowFits r
+guard-fits : (n : ℕ) → n ≤ maxNodes → (t : Threshold) (r : Row) → Fit n t → RowFits r
     → RowFits (rowOf (r .raw) (r .terms) (insertGuard (guard (t .bound) (t .node)) (r .guards)))
 guard-fits n h t r f a = (insert-fits (guard (t .bound) (t .node)) (r .guards) (omega (arith, f .node)) (a .0), a .1)
 
@@ -212,7 +212,7 @@ unfolding placeAll
 all-few [] rs = omega arith
 all-few (t ∷ ts) rs = omega (arith, all-few ts (place t rs), place-few t rs)
 
-pub rows-few : (j : Job) → Fits j → length (rowsOf j) ≤ 1024
+pub rows-few : (j : Job) → Fits j → length (rowsOf j) ≤ maxThresholds
 rows-few j f = omega (arith, all-few (j .thresholds) [], f .few)
 
 -- ---- a threshold's row is one of the rows
@@ -270,8 +270,8 @@ unfolding placeAll
 all-there [] rs = tt
 all-there (t ∷ ts) rs = (all-keep ts (place t rs) (t .terms) (place-there t rs), all-there ts (place t rs))
 
-placed : (n : ℕ) (rs : List Row) (ts : List Threshold) → length rs ≤ 1024 → Every (Fit n) ts → Every (λ (t : Threshold). There (t .terms) rs) ts
-    → Every (λ (t : Threshold). Bound (t .bound) × (rowNumber rs (t .terms) < 1024)) ts
+placed : (n : ℕ) (rs : List Row) (ts : List Threshold) → length rs ≤ maxThresholds → Every (Fit n) ts → Every (λ (t : Threshold). There (t .terms) rs) ts
+    → Every (λ (t : Threshold). Bound (t .bound) × (rowNumber rs (t .terms) < maxThresholds)) ts
 placed n rs [] h f a = tt
 placed n rs (t ∷ ts) h f a = ((f .0 .bound, (let k = a .0 in omega arith)), placed n rs ts h (f .1) (a .1))
 
@@ -306,14 +306,14 @@ indexed j f = record {
   nodes = λ r. every-all Node (getD (rowsOf j) r noRow .guards) (fit r .0);
   conditions = λ r. every-all Condition (getD (rowsOf j) r noRow .terms) (fit r .1);
   thresholds = placed (j .nodes) (rowsOf j) (j .thresholds) few (f .each) (all-there (j .thresholds) []);
-  edges = λ n. edges-from n 0 (rowsOf j) 1024 (omega (arith, few));
-  linked = λ r. linked-rows (rowsOf j) 1024 r few;
+  edges = λ n. edges-from n 0 (rowsOf j) maxThresholds (omega (arith, few));
+  linked = λ r. linked-rows (rowsOf j) maxThresholds r few;
 }
   where
     fit : (r : ℕ) → RowFits (getD (rowsOf j) r noRow)
     fit = rows-every RowFits (Fit (j .nodes)) (row-fits (j .nodes) (f .nodes)) (guard-fits (j .nodes) (f .nodes)) (tt, tt) j (f .each)
 
-    few : length (rowsOf j) ≤ 1024
+    few : length (rowsOf j) ≤ maxThresholds
     few = rows-few j f
 
 -- ---- the seal
@@ -329,7 +329,7 @@ unfolding firstStates
 first-long r [] ss = refl
 first-long r (x ∷ xs) ss = first-long (r + 1) xs (set ss r (stateOfRow x)) ∙ length-set ss r (stateOfRow x)
 
-seed-sound : (x : Index) → Indexed x → (r : ℕ) (rs : List Row) (v : Live) (k : Step) → r + length rs ≤ 1024 → Sound v → Sound (seedFrom x r rs v k .live)
+seed-sound : (x : Index) → Indexed x → (r : ℕ) (rs : List Row) (v : Live) (k : Step) → r + length rs ≤ maxThresholds → Sound v → Sound (seedFrom x r rs v k .live)
 unfolding seedFrom
 seed-sound x ix r [] v k h s = s
 seed-sound x ix r (y ∷ rs) v k h s =
@@ -344,7 +344,7 @@ seed-sound x ix r (y ∷ rs) v k h s =
     by ih false = ih
 
 -- A SEAL LEAVES SOUND VALUES
-pub seal-stays : (x : Index) → Indexed x → length (x .rows) ≤ 1024 → (v : Live) → Sound v → Sound (seal x v .live)
+pub seal-stays : (x : Index) → Indexed x → length (x .rows) ≤ maxThresholds → (v : Live) → Sound v → Sound (seal x v .live)
 unfolding seal
 seal-stays x ix few v s =
     seed-sound x ix 0 (x .rows) (live (firstStates 0 (x .rows) (v .states)) (v .marks) (v .dirty) (v .residuals)) Unchanged (omega arith)

@@ -11,6 +11,7 @@ use lib.Dec.{eqb, ltb, leb}
 use lib.IntN.{ℤ, pos, negsuc}
 use lib.Signed.{ltZ}
 use borrow.Author.Tests.{ltb-false, leb-false, eqb-true}
+use Rattle.memory.specs.Limits.{listTerms, maxNodes, maxTerms, maxThresholds}
 use Rattle.signed.specs.Signed.{nlt-leZ}
 use Rattle.state.specs.declared.State.{State}
 use Rattle.state.specs.State.{noState}
@@ -53,11 +54,11 @@ good-begun = record {
   job = fits-none 0 (omega arith);
   closed = fits-none 0 (omega arith);
   live = record {
-    long = length-replicate {A = State} 1024 noState;
-    states = λ r. subst Bounded (sym (same-at 1024 r noState)) none-bounded;
-    waits = waits-none (replicate 4096 0) (let e = length-replicate {A = ℕ} 4096 0 in omega arith);
-    dirty = flags-none (replicate 1024 0) (let e = length-replicate {A = ℕ} 1024 0 in omega arith);
-    residuals = flags-none (replicate 1024 0) (let e = length-replicate {A = ℕ} 1024 0 in omega arith);
+    long = length-replicate {A = State} maxThresholds noState;
+    states = λ r. subst Bounded (sym (same-at maxThresholds r noState)) none-bounded;
+    waits = waits-none (replicate maxNodes 0) (let e = length-replicate {A = ℕ} maxNodes 0 in omega arith);
+    dirty = flags-none (replicate maxThresholds 0) (let e = length-replicate {A = ℕ} maxThresholds 0 in omega arith);
+    residuals = flags-none (replicate maxThresholds 0) (let e = length-replicate {A = ℕ} maxThresholds 0 in omega arith);
   };
   unstarted = λ e. refl;
   same = λ e. refl;
@@ -117,7 +118,7 @@ bound-of b h = record {
 -- ---- EVERY RECORD KEEPS A FILE GOOD
 
 module _ (f : File) (g : Good f) where
-  pub node-small : (c : ℕ) → leb (f .job .nodes) c ≡ false → c < 4096
+  pub node-small : (c : ℕ) → leb (f .job .nodes) c ≡ false → c < maxNodes
   node-small c h = let k = leb-false (f .job .nodes) c h in omega (arith, g .job .nodes)
 
   -- what a seal, a mark, a settle or a sift leaves of the rest
@@ -132,17 +133,17 @@ module _ (f : File) (g : Good f) where
 
   changed-fits : (c : Change) → Taken f (facts (changes c)) → Fits (record { nodes = f .job .nodes; thresholds = changed c (f .job .thresholds) })
   changed-fits (opens n b) t =
-      fits-threshold (f .job) (g .job) n b (leb-false (f .job .nodes) n (t .nodes)) (bound-of b (t .bounds)) (leb-false 1024 (length (f .job .thresholds)) (t .room))
+      fits-threshold (f .job) (g .job) n b (leb-false (f .job .nodes) n (t .nodes)) (bound-of b (t .bounds)) (leb-false maxThresholds (length (f .job .thresholds)) (t .room))
   changed-fits (adds x) t =
       let ts = f .job .thresholds in
       fits-term (f .job) (g .job) x (leb-false (f .job .nodes) (x .condition) (t .nodes))
-      (leb-false 1024 (lastTerms ts) (or-left (leb 1024 (lastTerms ts)) (leb 4096 (allTerms ts)) (t .room)))
-      (leb-false 4096 (allTerms ts) (or-right (leb 1024 (lastTerms ts)) (leb 4096 (allTerms ts)) (t .room)))
+      (leb-false listTerms (lastTerms ts) (or-left (leb listTerms (lastTerms ts)) (leb maxTerms (allTerms ts)) (t .room)))
+      (leb-false maxTerms (allTerms ts) (or-right (leb listTerms (lastTerms ts)) (leb maxTerms (allTerms ts)) (t .room)))
 
   kept : (a : Action) → Taken f (facts a) → Good (act f a)
   unfolding act sealedFile markedFile settledFile siftedFile Drain.mark
   kept (begins n) t = record {
-    job = fits-none n (ltb-false 4096 n (t .room));
+    job = fits-none n (ltb-false maxNodes n (t .room));
     closed = g .closed;
     live = g .live;
     unstarted = λ e. g .unstarted (t .turn);

@@ -5,6 +5,7 @@ use mathlib.Core.List.{List, [], _∷_, reverse}
 use lib.ListN.{take, drop}
 use lib.IntN.{pos, _-ℤ_}
 use lib.Signed.{leZ, ltZ}
+use Rattle.memory.specs.Limits.{maxNodes}
 use Rattle.numeric.specs.Threshold.{Term}
 use Rattle.state.specs.declared.Step.the-variants.{Unchanged, Contradiction}
 use Rattle.state.specs.declared.State.{State}
@@ -20,8 +21,8 @@ use Rattle.residual.specs.Residual.{thresholdResidual}
 use Rattle.residual.specs.declared.Interval.{Interval}
 use Rattle.residual.specs.ForceLaws.{Each, force-cases, residual-keeping}
 
-module _ (P : Marks → Type 0) (one : (m : Marks) (value : Bool) (n : ℕ) → n < 4096 → P m → P (decide value m n .marks)) where
-  keeps-force : (value : Bool) (m : Marks) (n : ℕ) → n < 4096 → P m → P (force value m n .marks)
+module _ (P : Marks → Type 0) (one : (m : Marks) (value : Bool) (n : ℕ) → n < maxNodes → P m → P (decide value m n .marks)) where
+  keeps-force : (value : Bool) (m : Marks) (n : ℕ) → n < maxNodes → P m → P (force value m n .marks)
   keeps-force value m n h p = by (isDecided m n)
     where
       by : (b : Bool) → P (cond b (decided m Unchanged) (decide value m n) .marks)
@@ -110,7 +111,7 @@ module _ (P : Marks → Type 0) (one : (m : Marks) (value : Bool) (n : ℕ) → 
       by false true = keeps-guards (r .guards) s m nodes p
       by false false = keeps-terms (r .terms) conditions a (keeps-guards (r .guards) s m nodes p)
 
-  inside : (ts : List Term) → All Condition ts → Each (λ (t : Term). t .condition < 4096) ts
+  inside : (ts : List Term) → All Condition ts → Each (λ (t : Term). t .condition < maxNodes) ts
   unfolding All
   inside [] h = tt
   inside (t ∷ ts) h = (h .0, inside ts (h .1))
@@ -118,7 +119,7 @@ module _ (P : Marks → Type 0) (one : (m : Marks) (value : Bool) (n : ℕ) → 
   -- A RESIDUAL
   pub keeps-residual : (ts : List Term) (s : State) (m : Marks) (gcds : List ℕ) → All Condition ts → P m → P (thresholdResidual ts s m gcds .marks)
   keeps-residual ts s m gcds conditions p =
-      residual-keeping (λ (t : Term). t .condition < 4096) P
+      residual-keeping (λ (t : Term). t .condition < maxNodes) P
       (λ (i : Interval) (k : Marks) (t : Term) (divisor : ℕ) h v.
       force-cases (λ (x : Decided). P (x .marks)) i k t divisor v (λ f g. v) (λ f. one k true (t .condition) h v) (λ f. one k false (t .condition) h v))
       ts s m gcds (inside ts conditions) p

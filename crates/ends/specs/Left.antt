@@ -8,6 +8,7 @@ use mathlib.Core.Path.{_≡_, refl, sym, ap, ap₂, _∙_}
 use mathlib.Core.Bool.{Bool, true, false, cond, not, _||_, or-true}
 use mathlib.Core.Logic.{_≢_}
 use lib.ListN.{length}
+use Rattle.memory.specs.Limits.{maxNodes}
 use Rattle.state.specs.declared.Step.{Step}
 use Rattle.state.specs.declared.Step.the-variants.{Changed, Contradiction}
 use Rattle.words.specs.Mask.{bit}
@@ -55,9 +56,9 @@ undecided-one f g at e d other (suc n) h = by (λ l. undecided-one f g at e d ot
 
 -- A node counts twice what it counts when it waits.
 abbrev pub load : Marks → ℕ
-load m = 4000 * undecided (isDecided m) 4096 + 2000 * m .nodes .ring .count
+load m = 4000 * undecided (isDecided m) maxNodes + 2000 * m .nodes .ring .count
 
-module _ (m : Marks) (w : Waits m) (value : Bool) (n : ℕ) (h : n < 4096) where
+module _ (m : Marks) (w : Waits m) (value : Bool) (n : ℕ) (h : n < maxNodes) where
   long : (v : Bool) → length (mask v m) ≡ 64
   long true = w .sures
   long false = w .nevers
@@ -86,7 +87,7 @@ module _ (m : Marks) (w : Waits m) (value : Bool) (n : ℕ) (h : n < 4096) where
       let count : after .nodes .ring .count ≡ m .nodes .ring .count + 1 =
       ap (λ (q : Queue). q .ring .count) (decide-waits value m n ∙ ap (λ (k : Step). waiting k (m .nodes) n) step) in
       let one = undecided-one (isDecided m) (isDecided after) n (undecided-before value e f) (decided-after value has)
-      (λ k d. ap₂ (λ (a b : Bool). a || b) (decide-other value m n true k d) (decide-other value m n false k d)) 4096 h in
+      (λ k d. ap₂ (λ (a b : Bool). a || b) (decide-other value m n true k d) (decide-other value m n false k d)) maxNodes h in
       omega arith
 
   -- DECIDING A NODE ADDS NOTHING
@@ -100,9 +101,9 @@ module _ (m : Marks) (w : Waits m) (value : Bool) (n : ℕ) (h : n < 4096) where
       by false e false f = new e f
 
 -- Taking the oldest node.
-pub load-popped : (m : Marks) → 0 < m .nodes .ring .count → load (marks (m .sure) (m .never) (popped 4096 (m .nodes))) + 2000 ≡ load m
+pub load-popped : (m : Marks) → 0 < m .nodes .ring .count → load (marks (m .sure) (m .never) (popped maxNodes (m .nodes))) + 2000 ≡ load m
 unfolding popped
 load-popped m h = omega arith
 
 pub load-most : (m : Marks) → Waits m → load m ≤ 24576000
-load-most m w = omega (arith, undecided-most (isDecided m) 4096, w .held .count)
+load-most m w = omega (arith, undecided-most (isDecided m) maxNodes, w .held .count)

@@ -8,6 +8,7 @@ use mathlib.Core.Bool.{Bool, true, false, _&&_}
 use mathlib.Core.List.{List}
 use lib.ListN.{getD}
 use borrow.Author.Tests.{eqb-false}
+use Rattle.memory.specs.Limits.{maxNodes}
 use Rattle.numeric.specs.Threshold.{Term}
 use Rattle.state.specs.declared.Step.{Step}
 use Rattle.state.specs.declared.Step.the-variants.{Unchanged, Contradiction}
@@ -67,7 +68,7 @@ module _ (x : Index) (ix : Indexed x) where
       n = oldest (v .marks .nodes)
 
       m : Marks
-      m = marks (v .marks .sure) (v .marks .never) (popped 4096 (v .marks .nodes))
+      m = marks (v .marks .sure) (v .marks .never) (popped maxNodes (v .marks .nodes))
 
       w : Live
       w = withMarks v m

@@ -7,7 +7,7 @@ use mathlib.Core.Path.{_≡_, refl, ap}
 use mathlib.Core.Bool.{Bool, true, false}
 use mathlib.Core.List.{List, [], _∷_, map}
 use lib.ListN.{length, getD, length-append, length-map}
-use Rattle.memory.specs.Limits.{maxTerms}
+use Rattle.memory.specs.Limits.{maxTerms, listTerms, maxLinks}
 use Rattle.memory.specs.Buffers.{zeros}
 use Rattle.lists.specs.Laid.{joinAll, pairs, triples, quads}
 use Rattle.lists.specs.Deal.{Keyed}
@@ -104,9 +104,9 @@ guards-few j =
 
 -- ---- each row is as short as its raw list
 
-pub row-terms-few : (j : Job) → Fits j → (r : ℕ) → length (getD (rowsOf j) r noRow .terms) ≤ 1024
+pub row-terms-few : (j : Job) → Fits j → (r : ℕ) → length (getD (rowsOf j) r noRow .terms) ≤ listTerms
 row-terms-few j f r =
-    rows-every (λ (y : Row). length (y .terms) ≤ 1024) (Fit (j .nodes)) (λ t k. omega (arith, row-short (t .terms), k .short)) (λ t y k a. a) (omega arith) j (f .each) r
+    rows-every (λ (y : Row). length (y .terms) ≤ listTerms) (Fit (j .nodes)) (λ t k. omega (arith, row-short (t .terms), k .short)) (λ t y k a. a) (omega arith) j (f .each) r
 
 -- ---- EDGES: each term is an edge of one node at most
 
@@ -138,7 +138,7 @@ neighbours-few rs =
 pub edges-most : (j : Job) → Fits j → length (joinAll (edgeLists (j .nodes) (rowsOf j))) ≤ maxTerms
 edges-most j f = omega (arith, edges-few (j .nodes) (rowsOf j), terms-few j, f .terms)
 
-pub links-most : (j : Job) → Fits j → length (joinAll (neighbourLists (rowsOf j))) ≤ 2048
+pub links-most : (j : Job) → Fits j → length (joinAll (neighbourLists (rowsOf j))) ≤ maxLinks
 links-most j f = omega (arith, neighbours-few (rowsOf j), rows-few j f)
 
 -- ---- cleared lists, lists side by side

@@ -9,6 +9,7 @@ use mathlib.Core.Bool.{Bool, true, false, cond}
 use mathlib.Core.List.{List, [], _∷_}
 use lib.ListN.{length, getD, set, length-set}
 use lib.Dec.{eqb}
+use Rattle.memory.specs.Limits.{maxNodes, maxThresholds}
 use Rattle.numeric.specs.Threshold.{Threshold}
 use Rattle.state.specs.declared.Step.the-variants.{Unchanged, Changed, Contradiction}
 use Rattle.state.specs.declared.State.{State}
@@ -39,13 +40,13 @@ use Rattle.ends.specs.Keeps.{keeps-row}
 pub record Indexed (x : Index) : Type 0 where
   pub nodes : (r : ℕ) → All Node (getD (x .rows) r noRow .guards)
   pub conditions : (r : ℕ) → All Condition (getD (x .rows) r noRow .terms)
-  pub thresholds : Every (λ (t : Threshold). Bound (t .bound) × (rowNumber (x .rows) (t .terms) < 1024)) (x .thresholds)
-  pub edges : (n : ℕ) → Every (λ (e : Edge). e .row < 1024) (edgesOf (x .rows) n)
-  pub linked : (r : ℕ) → Every (λ (q : ℕ). q < 1024) (neighbours r (x .links))
+  pub thresholds : Every (λ (t : Threshold). Bound (t .bound) × (rowNumber (x .rows) (t .terms) < maxThresholds)) (x .thresholds)
+  pub edges : (n : ℕ) → Every (λ (e : Edge). e .row < maxThresholds) (edgesOf (x .rows) n)
+  pub linked : (r : ℕ) → Every (λ (q : ℕ). q < maxThresholds) (neighbours r (x .links))
 
 -- What is asked of the rest: each row and each node waits at most once, and bounds are in the range.
 pub record Sound (v : Live) : Type 0 where
-  pub long : length (v .states) ≡ 1024
+  pub long : length (v .states) ≡ maxThresholds
   pub states : AllBounded (v .states)
   pub waits : Waits (v .marks)
   pub dirty : Flags (v .dirty)
@@ -89,20 +90,20 @@ pub record Queued (q p : Rows) : Type 0 where
   pub flags : Flags p
   pub count : p .queue .ring .count ≤ q .queue .ring .count + 1
 
-queued : (q : Rows) (r : ℕ) → Flags q → r < 1024 → Queued q (queueRow q r)
+queued : (q : Rows) (r : ℕ) → Flags q → r < maxThresholds → Queued q (queueRow q r)
 queued q r f h = record { flags = flags-queue q f r h; count = count-queue q r }
 
 queued-not : (q : Rows) → Flags q → Queued q q
 queued-not q f = record { flags = f; count = omega arith }
 
-queued-residual : (row : Row) (s : State) (q : Rows) (r : ℕ) → Flags q → r < 1024 → Queued q (residualQueued row s q r)
+queued-residual : (row : Row) (s : State) (q : Rows) (r : ℕ) → Flags q → r < maxThresholds → Queued q (residualQueued row s q r)
 queued-residual row s q r f h = by (wantsResidual row s)
   where
     by : (b : Bool) → Queued q (cond b (queueRow q r) q)
     by true = queued q r f h
     by false = queued-not q f
 
-queued-linked : (n : ℕ) (q : Rows) (r : ℕ) → Flags q → r < 1024 → Queued q (linkedQueued n q r)
+queued-linked : (n : ℕ) (q : Rows) (r : ℕ) → Flags q → r < maxThresholds → Queued q (linkedQueued n q r)
 queued-linked n q r f h = by (eqb n 0)
   where
     by : (b : Bool) → Queued q (cond b q (queueRow q r))
@@ -115,11 +116,11 @@ queued-linked n q r f h = by (eqb n 0)
 abbrev Less : Marks → Marks → Type 0
 Less m k = Waits k × (load k ≤ load m)
 
-pub less-decide : (m k : Marks) (value : Bool) (n : ℕ) → n < 4096 → Less m k → Less m (decide value k n .marks)
+pub less-decide : (m k : Marks) (value : Bool) (n : ℕ) → n < maxNodes → Less m k → Less m (decide value k n .marks)
 less-decide m k value n h p = (waits-decide k (p .0) value n h, omega (arith, load-decide k (p .0) value n h, p .1))
 
 -- A state that is put anew with the bounds that it had.
-put-same : (ss : List State) (r : ℕ) (s : State) → length ss ≡ 1024 → r < 1024 → s .lower ≡ getD ss r noState .lower → s .upper ≡ getD ss r noState .upper
+put-same : (ss : List State) (r : ℕ) (s : State) → length ss ≡ maxThresholds → r < maxThresholds → s .lower ≡ getD ss r noState .lower → s .upper ≡ getD ss r noState .upper
     → rooms (set ss r s) ≡ rooms ss
 put-same ss r s l h e f = omega (arith, rooms-set ss r s (omega arith), room-same (getD ss r noState) s e f)
 
@@ -129,7 +130,7 @@ pub record Run (v w : Live) : Type 0 where
   pub more : w .residuals .queue .ring .count ≤ v .residuals .queue .ring .count + 1
 
 module _ (x : Index) (ix : Indexed x) where
-  pub run-row : (v : Live) (r : ℕ) → Sound v → r < 1024 → Run v (runRow x v r .live)
+  pub run-row : (v : Live) (r : ℕ) → Sound v → r < maxThresholds → Run v (runRow x v r .live)
   unfolding runWith runRow
   run-row v r s h = record {
     go = record {
@@ -164,7 +165,7 @@ module _ (x : Index) (ix : Indexed x) where
       queue = queued-residual row (stateAt v r) (v .residuals) r (s .residuals) h
 
   -- A bound that moves, and its row that may wait to hand it on.
-  told : (v : Live) (r : ℕ) (t : State) (q : Rows) → Sound v → r < 1024 → Bounded t → room t < room (stateAt v r) → Queued (v .dirty) q
+  told : (v : Live) (r : ℕ) (t : State) (q : Rows) → Sound v → r < maxThresholds → Bounded t → room t < room (stateAt v r) → Queued (v .dirty) q
       → let w = live (set (v .states) r t) (v .marks) q (v .residuals) in Sound w × (core w + 3 ≤ core v)
   told v r t q s h b less k = (
     record {
@@ -178,7 +179,7 @@ module _ (x : Index) (ix : Indexed x) where
   )
 
   -- With it the row is run.
-  told-run : (v : Live) (r : ℕ) (t : State) (q : Rows) → Sound v → r < 1024 → Bounded t → room t < room (stateAt v r) → Queued (v .dirty) q
+  told-run : (v : Live) (r : ℕ) (t : State) (q : Rows) → Sound v → r < maxThresholds → Bounded t → room t < room (stateAt v r) → Queued (v .dirty) q
       → let w = runRow x (live (set (v .states) r t) (v .marks) q (v .residuals)) r .live in Then v w × (left w ≤ left v)
   told-run v r t q s h b less k =
       let a = told v r t q s h b less k in
@@ -189,7 +190,7 @@ module _ (x : Index) (ix : Indexed x) where
 
   -- ---- a drained guard
 
-  run-guard : (v : Live) (t : Threshold) → Sound v → Bound (t .bound) → rowNumber (x .rows) (t .terms) < 1024 → Then v (thresholdGuard x v t .live)
+  run-guard : (v : Live) (t : Threshold) → Sound v → Bound (t .bound) → rowNumber (x .rows) (t .terms) < maxThresholds → Then v (thresholdGuard x v t .live)
   unfolding thresholdGuard bounded
   run-guard v t s b h = by (g .changed) refl
     where
@@ -209,7 +210,7 @@ module _ (x : Index) (ix : Indexed x) where
       by false e = same v s
 
   pub run-guards : (v : Live) (ts : List Threshold) (n : ℕ) → Sound v
-      → Every (λ (t : Threshold). Bound (t .bound) × (rowNumber (x .rows) (t .terms) < 1024)) ts → Then v (guardOf x v ts n .live)
+      → Every (λ (t : Threshold). Bound (t .bound) × (rowNumber (x .rows) (t .terms) < maxThresholds)) ts → Then v (guardOf x v ts n .live)
   unfolding guardOf
   run-guards v [] n s h = same v s
   run-guards v (t ∷ ts) n s h = by (run-guards v ts n s (h .1)) (eqb (t .node) n)
@@ -230,7 +231,7 @@ module _ (x : Index) (ix : Indexed x) where
   drained-upper true w s = refl
   drained-upper false w s = refl
 
-  drain-term : (v : Live) (value : Bool) (e : Edge) → Sound v → e .row < 1024 → Then v (withState v (e .row) (drained value (e .weight) (stateAt v (e .row))))
+  drain-term : (v : Live) (value : Bool) (e : Edge) → Sound v → e .row < maxThresholds → Then v (withState v (e .row) (drained value (e .weight) (stateAt v (e .row))))
   drain-term v value e s h =
       let t = drained value (e .weight) (stateAt v (e .row)) in
       let a = drained-lower value (e .weight) (stateAt v (e .row)) in
@@ -246,7 +247,7 @@ module _ (x : Index) (ix : Indexed x) where
         core = omega (arith, put-same (v .states) (e .row) t (s .long) h a b);
       }
 
-  pub run-edges : (value : Bool) (es : List Edge) (v : Live) → Sound v → Every (λ (e : Edge). e .row < 1024) es → Then v (conditionFrom x value es v .live)
+  pub run-edges : (value : Bool) (es : List Edge) (v : Live) → Sound v → Every (λ (e : Edge). e .row < maxThresholds) es → Then v (conditionFrom x value es v .live)
   unfolding conditionFrom
   run-edges value [] v s h = same v s
   run-edges value (e ∷ es) v s h = by (run-edges value es (d .live) (after .sound) (h .1)) (contradicts (d .step))
@@ -275,7 +276,7 @@ module _ (x : Index) (ix : Indexed x) where
 
   -- ---- bounds that a row hands on
 
-  pub run-prefixes : (row : ℕ) (source : State) (rs : List ℕ) (v : Live) → Bounded source → Sound v → Every (λ (q : ℕ). q < 1024) rs
+  pub run-prefixes : (row : ℕ) (source : State) (rs : List ℕ) (v : Live) → Bounded source → Sound v → Every (λ (q : ℕ). q < maxThresholds) rs
       → Sound (prefixesFrom x row source rs v .live) × (left (prefixesFrom x row source rs v .live) ≤ left v)
   unfolding prefixesFrom
   run-prefixes row source [] v o s h = (s, le-refl (left v))

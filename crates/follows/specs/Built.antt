@@ -9,6 +9,7 @@ use mathlib.Core.List.{List, [], _∷_, List·Memᴰ, List·Memᴰ·head, List·
 use mathlib.Core.Logic.{_⊎_, inl, inr, ⊎-elim, _≢_}
 use lib.ListN.{length, getD}
 use lib.Signed.{leZ, ltZ}
+use Rattle.memory.specs.Limits.{maxNodes}
 use Rattle.signed.specs.Signed.{leZ-trans, ltZ-weaken, nlt-leZ}
 use Rattle.numeric.specs.Threshold.{Term, Threshold, Job}
 use Rattle.row.specs.Terms.{rowTerms, merged, sameTerms}
@@ -266,8 +267,8 @@ from-at all (x ∷ xs) (suc r) h k = from-at all xs r (h .1) (le-of-suc-le-suc k
 
 -- All nodes that a job names have a place in the masks.
 pub record InRange (j : Job) : Type 0 where
-  pub nodes : (t : Threshold) → List·Memᴰ t (j .thresholds) → t .node < 4096
-  pub conditions : (t : Threshold) → List·Memᴰ t (j .thresholds) → All (λ (u : Term). u .condition < 4096) (t .terms)
+  pub nodes : (t : Threshold) → List·Memᴰ t (j .thresholds) → t .node < maxNodes
+  pub conditions : (t : Threshold) → List·Memᴰ t (j .thresholds) → All (λ (u : Term). u .condition < maxNodes) (t .terms)
 
 pub rows-ordered : (j : Job) → InRange j → (r : ℕ) → IsRow (rowsOf j) r → Ordered (getD (rowsOf j) r noRow)
 rows-ordered j ok r i =
@@ -277,9 +278,9 @@ rows-ordered j ok r i =
     record {
       rising = rises-at (rowsOf j) r (all-rise (j .thresholds) [] tt) i;
       falling = subst Falling (sym (m .terms)) (falls (rowTerms raw) (sorted-falling raw));
-      guards = λ g k. let o = m .guards g k in subst (λ (y : Guard). y .node < 4096) (sym (o .3)) (ok .nodes (o .0) (o .1));
-      terms = subst (All (λ (u : Term). u .condition < 4096)) (sym (m .terms))
-          (each (λ (u : Term). u .condition < 4096) (rowTerms raw)
-          (all-sorted (λ (u : Term). u .condition < 4096) (merged raw) (conditions-merged (λ (n : ℕ). n < 4096) raw
-          (together (λ (u : Term). u .condition < 4096) raw (subst (All (λ (u : Term). u .condition < 4096)) (from .2) (ok .conditions (from .0) (from .1)))))));
+      guards = λ g k. let o = m .guards g k in subst (λ (y : Guard). y .node < maxNodes) (sym (o .3)) (ok .nodes (o .0) (o .1));
+      terms = subst (All (λ (u : Term). u .condition < maxNodes)) (sym (m .terms))
+          (each (λ (u : Term). u .condition < maxNodes) (rowTerms raw)
+          (all-sorted (λ (u : Term). u .condition < maxNodes) (merged raw) (conditions-merged (λ (n : ℕ). n < maxNodes) raw
+          (together (λ (u : Term). u .condition < maxNodes) raw (subst (All (λ (u : Term). u .condition < maxNodes)) (from .2) (ok .conditions (from .0) (from .1)))))));
     }

@@ -10,6 +10,7 @@ use lib.ListN.{length, take, drop, take-append-drop, length-take, length-append,
 use lib.Seq.{take-add, take-append-seam, drop-append-seam}
 use lib.IntN.{ℤ, pos}
 use lib.Signed.{leZ}
+use Rattle.memory.specs.Limits.{maxNodes}
 use Rattle.signed.specs.Signed.{leZ-refl, leZ-trans, leZ-nlt}
 use Rattle.numeric.specs.Threshold.{Term}
 use Rattle.state.specs.declared.Step.{Step}
@@ -114,7 +115,7 @@ pub has-stays : (v : Bool) (k : ℕ) (value : Bool) (m : Marks) (n : ℕ) → Ha
 has-stays true k value m n h = decide-grows value m n (λ _. pos 0) (λ _. Open) .sure k h
 has-stays false k value m n h = decide-grows value m n (λ _. pos 0) (λ _. Open) .never k h
 
-has-after : (v : Bool) (m : Marks) (n : ℕ) → n < 4096 → Wide m → contradicts (decide v m n .step) ≡ false → Has v n (decide v m n .marks)
+has-after : (v : Bool) (m : Marks) (n : ℕ) → n < maxNodes → Wide m → contradicts (decide v m n .step) ≡ false → Has v n (decide v m n .marks)
 has-after true m n h w c = decide-has true m n (let k = w .sure in omega arith) (λ e. absurd (let z : _≡_ {A = ℕ} 0 1 = cc in omega arith))
 has-after false m n h w c = decide-has false m n (let k = w .never in omega arith) (λ e. absurd (let z : _≡_ {A = ℕ} 0 1 = cc in omega arith))
 
@@ -164,7 +165,7 @@ rising-drop (suc n) [] h = h
 rising-drop (suc n) (x ∷ xs) h = rising-drop n xs (h .1)
 
 -- RULE 2 IS DONE: every guard whose bound is reached is sure, and so is every guard that the cursor passed.
-pub sure-complete : (gs : List Guard) (st : State) (m : Marks) → Rising gs → All (λ (g : Guard). g .node < 4096) gs → Wide m
+pub sure-complete : (gs : List Guard) (st : State) (m : Marks) → Rising gs → All (λ (g : Guard). g .node < maxNodes) gs → Wide m
     → All (λ (g : Guard). Has true (g .node) m) (take (st .«sure_guard») gs) → contradicts (sureGuards gs st m .step) ≡ false
     → let a = sureGuards gs st m in
     All (λ (g : Guard). Has true (g .node) (a .marks)) (take (st .«sure_guard» + a .passed) gs)
@@ -220,7 +221,7 @@ force-stays k value m n h = by (isDecided m n)
     by true = h
     by false = decided-stays k value m n h
 
-force-makes : (value : Bool) (m : Marks) (n : ℕ) → n < 4096 → Wide m → contradicts (force value m n .step) ≡ false → isDecided (force value m n .marks) n ≡ true
+force-makes : (value : Bool) (m : Marks) (n : ℕ) → n < maxNodes → Wide m → contradicts (force value m n .step) ≡ false → isDecided (force value m n .marks) n ≡ true
 force-makes value m n s w c = by (isDecided m n) refl c
   where
     by : (b : Bool) → isDecided m n ≡ b → contradicts (cond b (decided m Unchanged) (decide value m n) .step) ≡ false → isDecided (cond b (decided m Unchanged) (decide value m n) .marks) n ≡ true
@@ -236,7 +237,7 @@ force-has v k value m n h = by (isDecided m n)
 
 -- RULES 4 AND 5 ARE DONE: every term that the cutoff forces is decided, and so is every term that the cursor passed.
 pub forced-complete : (value : Bool) (light : ℕ → Bool) → ((a b : ℕ) → a ≤ b → light b ≡ true → light a ≡ true)
-    → (ts : List Term) (n : ℕ) (m : Marks) → Falling ts → All (λ (t : Term). t .condition < 4096) ts → Wide m
+    → (ts : List Term) (n : ℕ) (m : Marks) → Falling ts → All (λ (t : Term). t .condition < maxNodes) ts → Wide m
     → All (λ (t : Term). isDecided m (t .condition) ≡ true) (take n ts) → contradicts (forced value light (drop n ts) m .step) ≡ false
     → let a = forced value light (drop n ts) m in
     All (λ (t : Term). isDecided (a .marks) (t .condition) ≡ true) (take (n + a .passed) ts)
@@ -308,7 +309,7 @@ reach-down st a b h k = both-true (leZ-trans a b (st .possible) h (and-left (leZ
     under (Under u) e = below u (leZ u a) refl e
 
 -- RULE 3 IS DONE: every guard whose bound is out of reach is never, and so is every guard behind the cursor.
-pub never-complete : (gs : List Guard) (st : State) (m : Marks) (k : Step) → Rising gs → All (λ (g : Guard). g .node < 4096) gs → Wide m → st .«never_guard» ≤ length gs
+pub never-complete : (gs : List Guard) (st : State) (m : Marks) (k : Step) → Rising gs → All (λ (g : Guard). g .node < maxNodes) gs → Wide m → st .«never_guard» ≤ length gs
     → All (λ (g : Guard). Has false (g .node) m) (drop (st .«never_guard») gs) → contradicts k ≡ false → contradicts (neverGuards gs st m k .step) ≡ false
     → let a = neverGuards gs st m k in
     All (λ (g : Guard). Has false (g .node) (a .marks)) (drop (st .«never_guard» - a .passed) gs)

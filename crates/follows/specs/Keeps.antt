@@ -10,6 +10,7 @@ use mathlib.Core.List.{List, [], _∷_, reverse, List·Memᴰ, List·Memᴰ·hea
 use lib.ListN.{length, getD, take, drop, List·getD-eq-default}
 use lib.IntN.{pos, _-ℤ_}
 use lib.Signed.{leZ, ltZ}
+use Rattle.memory.specs.Limits.{maxNodes}
 use Rattle.numeric.specs.Threshold.{Term, Threshold}
 use Rattle.state.specs.declared.Step.{Step}
 use Rattle.state.specs.declared.Step.the-variants.{Unchanged, Changed, Contradiction}
@@ -208,25 +209,25 @@ module _ (P : Marks → Type 0) (Ok : ℕ → Type 0) (each : (value : Bool) (m 
 
 -- EVERY NODE BELOW 4,096: ordered rows name no other
 
-ordered-names : (row : Row) → Ordered row → Names (λ (n : ℕ). n < 4096) row
+ordered-names : (row : Row) → Ordered row → Names (λ (n : ℕ). n < maxNodes) row
 ordered-names row o = record { guards = o .guards; terms = o .terms }
 
-module _ (P : Marks → Type 0) (each : (value : Bool) (m : Marks) (n : ℕ) → n < 4096 → P m → P (decide value m n .marks)) where
+module _ (P : Marks → Type 0) (each : (value : Bool) (m : Marks) (n : ℕ) → n < maxNodes → P m → P (decide value m n .marks)) where
   pub row-keeps : (row : Row) → Ordered row → (s : State) (m : Marks) → P m → P (thresholdRow row s m .marks)
-  row-keeps row o s m p = row-named P (λ (n : ℕ). n < 4096) each row (ordered-names row o) s m p
+  row-keeps row o s m p = row-named P (λ (n : ℕ). n < maxNodes) each row (ordered-names row o) s m p
 
   module _ (x : Index) (ordered : (r : ℕ) → r < length (x .rows) → Ordered (getD (x .rows) r noRow)) where
-    names-all : (r : ℕ) → r < length (x .rows) → Names (λ (n : ℕ). n < 4096) (getD (x .rows) r noRow)
+    names-all : (r : ℕ) → r < length (x .rows) → Names (λ (n : ℕ). n < maxNodes) (getD (x .rows) r noRow)
     names-all r h = ordered-names (getD (x .rows) r noRow) (ordered r h)
 
     pub run-keeps : (v : Live) (r : ℕ) → P (v .marks) → P (runRow x v r .live .marks)
-    run-keeps v r p = run-named P (λ (n : ℕ). n < 4096) each x names-all v r p
+    run-keeps v r p = run-named P (λ (n : ℕ). n < maxNodes) each x names-all v r p
 
     pub guard-keeps : (v : Live) (t : Threshold) → P (v .marks) → P (thresholdGuard x v t .live .marks)
-    guard-keeps v t p = guard-named P (λ (n : ℕ). n < 4096) each x names-all v t p
+    guard-keeps v t p = guard-named P (λ (n : ℕ). n < maxNodes) each x names-all v t p
 
     pub condition-keeps : (v : Live) (n : ℕ) → P (v .marks) → P (thresholdCondition x v n .live .marks)
-    condition-keeps v n p = condition-named P (λ (n : ℕ). n < 4096) each x names-all v n p
+    condition-keeps v n p = condition-named P (λ (n : ℕ). n < maxNodes) each x names-all v n p
 
     pub prefixes-keeps : (v : Live) (row : ℕ) → P (v .marks) → P (thresholdPrefixes x v row .live .marks)
-    prefixes-keeps v row p = prefixes-named P (λ (n : ℕ). n < 4096) each x names-all v row p
+    prefixes-keeps v row p = prefixes-named P (λ (n : ℕ). n < maxNodes) each x names-all v row p

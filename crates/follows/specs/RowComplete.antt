@@ -7,6 +7,7 @@ use mathlib.Core.List.{List, List·Memᴰ, reverse}
 use lib.ListN.{length, take, drop}
 use lib.IntN.{ℤ, pos, _-ℤ_}
 use lib.Signed.{leZ, ltZ}
+use Rattle.memory.specs.Limits.{maxNodes}
 use Rattle.signed.specs.Signed.{leZ-trans, leZ-ltZ, leZ-pos}
 use borrow.Author.Tests.{le-leb}
 use Rattle.numeric.specs.Threshold.{Term}
@@ -30,8 +31,8 @@ use Rattle.follows.specs.Complete.{All, Wide, Has, wide-decide, wide-for
 pub record Ordered (row : Row) : Type 0 where
   pub rising : Rising (row .guards)
   pub falling : Falling (row .terms)
-  pub guards : All (λ (g : Guard). g .node < 4096) (row .guards)
-  pub terms : All (λ (t : Term). t .condition < 4096) (row .terms)
+  pub guards : All (λ (g : Guard). g .node < maxNodes) (row .guards)
+  pub terms : All (λ (t : Term). t .condition < maxNodes) (row .terms)
 
 -- What the cursors passed is decided.
 pub record Passed (row : Row) (st : State) (m : Marks) : Type 0 where

@@ -11,6 +11,7 @@ use lib.ListN.{length, getD, drop-of-length-le}
 use lib.Dec.{eqb}
 use lib.IntN.{ℤ, pos}
 use lib.Signed.{_≤ℤ_, ≤ℤ-refl}
+use Rattle.memory.specs.Limits.{maxNodes}
 use Rattle.numeric.specs.Threshold.{Term}
 use Rattle.state.specs.declared.State.{State}
 use Rattle.state.specs.declared.Upper.{Upper}
@@ -87,7 +88,7 @@ module _ (x : Index) (s : Table) (l : Ledger) (v : Live) (h : Sound x s l v) whe
   -- THE OLDEST NODE IS TAKEN
   pub node-taken : 0 < v .marks .nodes .ring .count
       → Sound x s (record { drained = l .drained; told = l .told; taken = also (oldest (v .marks .nodes)) (l .taken); ran = l .ran; handing = l .handing })
-      (live (v .states) (marks (v .marks .sure) (v .marks .never) (popped 4096 (v .marks .nodes))) (v .dirty) (v .residuals))
+      (live (v .states) (marks (v .marks .sure) (v .marks .never) (popped maxNodes (v .marks .nodes))) (v .dirty) (v .residuals))
   node-taken some = record {
     stands = marked-stands x v m (v .dirty) (v .residuals) same wide s s (l .drained) (h .stands .apart)
         (record { sure = h .stands .above .sure; never = h .stands .above .never; lower = h .stands .above .lower; upper = h .stands .above .upper })
@@ -99,7 +100,7 @@ module _ (x : Index) (s : Table) (l : Ledger) (v : Live) (h : Sound x s l v) whe
   }
     where
       m : Marks
-      m = marks (v .marks .sure) (v .marks .never) (popped 4096 (v .marks .nodes))
+      m = marks (v .marks .sure) (v .marks .never) (popped maxNodes (v .marks .nodes))
 
       same : Stay (v .marks) m
       same n d true = refl
@@ -133,7 +134,7 @@ module _ (x : Index) (s : Table) (l : Ledger) (v : Live) (h : Sound x s l v) whe
       wide = wide-of (v .marks) (h .queued .queue)
 
   -- A MARK is one more node of the start
-  module _ (value : Bool) (n : ℕ) (small : n < 4096) where
+  module _ (value : Bool) (n : ℕ) (small : n < maxNodes) where
     above-start : (value : Bool) (t : Table) → Le t (decideAs value t n)
     above-start true t = record { sure = λ k e. also-before n (t .sure) k e; never = λ k e. e; lower = λ r. ≤ℤ-refl (t .lower r); upper = λ r. up-refl (t .upper r) }
     above-start false t = record { sure = λ k e. e; never = λ k e. also-before n (t .never) k e; lower = λ r. ≤ℤ-refl (t .lower r); upper = λ r. up-refl (t .upper r) }

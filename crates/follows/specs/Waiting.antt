@@ -7,6 +7,7 @@ use mathlib.Core.Path.{_≡_, refl, sym, ap, ap₂, _∙_, subst}
 use mathlib.Core.Bool.{Bool, true, false, not, _||_}
 use mathlib.Core.List.{_∷_}
 use mathlib.Core.Logic.{⊎-elim, _≢_}
+use Rattle.memory.specs.Limits.{maxNodes}
 use Rattle.words.specs.Mask.{bit, setBit}
 use Rattle.queues.specs.Queue.{isEmpty, oldest, push, popped}
 use Rattle.queues.specs.QueueLaws.{waitingList, push-times, popped-times, empty-none}
@@ -18,7 +19,7 @@ use Rattle.follows.specs.Stands.{also, also-other, also-this, decide-not
 
 -- How often a node waits.
 abbrev pub waits : Marks → ℕ → ℕ
-waits m n = times n (waitingList 4096 (m .nodes))
+waits m n = times n (waitingList maxNodes (m .nodes))
 
 pub record Queued (drained : ℕ → Bool) (m : Marks) : Type 0 where
   pub queue : Waits m
@@ -28,7 +29,7 @@ pub record Queued (drained : ℕ → Bool) (m : Marks) : Type 0 where
 
 module _ (drained : ℕ → Bool) where
   -- ONE MORE NODE DECIDED: a new one waits
-  new-queued : (value : Bool) (m : Marks) (n : ℕ) → n < 4096 → isDecided m n ≡ false → Queued drained m → Queued drained (decide value m n .marks)
+  new-queued : (value : Bool) (m : Marks) (n : ℕ) → n < maxNodes → isDecided m n ≡ false → Queued drained m → Queued drained (decide value m n .marks)
   new-queued value m n small none h = record {
     queue = waits-decide m (h .queue) value n small;
     decided = λ k e. grown k (h .decided k e) (ℕ-discrete k n);
@@ -39,15 +40,15 @@ module _ (drained : ℕ → Bool) where
       bits : (v : Bool) → bit (mask v m) n ≡ false
       bits = not-decided m n none
 
-      nodes : decide value m n .marks .nodes ≡ push 4096 (m .nodes) n
+      nodes : decide value m n .marks .nodes ≡ push maxNodes (m .nodes) n
       nodes = ap (λ (d : Decided). d .marks .nodes) (decide-new value m n (bits value) (bits (not value))) ∙ pushed value
         where
-          pushed : (v : Bool) → put v m (setBit (mask v m) n) (push 4096 (m .nodes) n) .nodes ≡ push 4096 (m .nodes) n
+          pushed : (v : Bool) → put v m (setBit (mask v m) n) (push maxNodes (m .nodes) n) .nodes ≡ push maxNodes (m .nodes) n
           pushed true = refl
           pushed false = refl
 
-      more : (k : ℕ) → waits (decide value m n .marks) k ≡ times k (n ∷ waitingList 4096 (m .nodes))
-      more k = ap (λ q. times k (waitingList 4096 q)) nodes ∙ push-times 4096 (m .nodes) (h .queue .held) n (waits-room m (h .queue) n small none) k
+      more : (k : ℕ) → waits (decide value m n .marks) k ≡ times k (n ∷ waitingList maxNodes (m .nodes))
+      more k = ap (λ q. times k (waitingList maxNodes q)) nodes ∙ push-times maxNodes (m .nodes) (h .queue .held) n (waits-room m (h .queue) n small none) k
 
       other : (k : ℕ) → k ≢ n → isDecided (decide value m n .marks) k ≡ isDecided m k
       other k e = ap₂ (λ (a b : Bool). a || b) (decide-other value m n true k e) (decide-other value m n false k e)
@@ -58,15 +59,15 @@ module _ (drained : ℕ → Bool) where
 
       at-gone : (k : ℕ) → drained k ≡ true → Dec (k ≡ n) → waits (decide value m n .marks) k ≡ 0
       at-gone k d (yes e) = absurd (clash (isDecided m n) (subst (λ (i : ℕ). isDecided m i ≡ true) e (h .decided k d)) none)
-      at-gone k d (no e) = more k ∙ times-other k n (waitingList 4096 (m .nodes)) e ∙ h .gone k d
+      at-gone k d (no e) = more k ∙ times-other k n (waitingList maxNodes (m .nodes)) e ∙ h .gone k d
 
       at-left : (k : ℕ) → isDecided (decide value m n .marks) k ≡ true → drained k ≡ false → Dec (k ≡ n) → waits (decide value m n .marks) k ≡ 1
       at-left k d f (yes e) =
-          more k ∙ ap (λ (i : ℕ). times i (n ∷ waitingList 4096 (m .nodes))) e ∙ times-same n (waitingList 4096 (m .nodes)) ∙ (let z = h .queue .idle n none in omega arith)
-      at-left k d f (no e) = more k ∙ times-other k n (waitingList 4096 (m .nodes)) e ∙ h .left k (sym (other k e) ∙ d) f
+          more k ∙ ap (λ (i : ℕ). times i (n ∷ waitingList maxNodes (m .nodes))) e ∙ times-same n (waitingList maxNodes (m .nodes)) ∙ (let z = h .queue .idle n none in omega arith)
+      at-left k d f (no e) = more k ∙ times-other k n (waitingList maxNodes (m .nodes)) e ∙ h .left k (sym (other k e) ∙ d) f
 
   -- EVERY DECISION KEEPS IT
-  pub queued-decide : (value : Bool) (m : Marks) (n : ℕ) → n < 4096 → Queued drained m → Queued drained (decide value m n .marks)
+  pub queued-decide : (value : Bool) (m : Marks) (n : ℕ) → n < maxNodes → Queued drained m → Queued drained (decide value m n .marks)
   queued-decide value m n small h =
       ⊎-elim (λ (e : isDecided m n ≡ true). subst (Queued drained) (sym (decide-nothing value m n e)) h) (λ (e : isDecided m n ≡ false). new-queued value m n small e h) (true-false (isDecided m n))
 
@@ -77,13 +78,13 @@ module _ (drained : ℕ → Bool) (m : Marks) (h : Queued drained m) where
     first = oldest (m .nodes)
 
     abbrev rest : Marks
-    rest = marks (m .sure) (m .never) (popped 4096 (m .nodes))
+    rest = marks (m .sure) (m .never) (popped maxNodes (m .nodes))
 
-    there : (k : ℕ) → waits m k ≡ times k (first ∷ waitingList 4096 (popped 4096 (m .nodes)))
-    there k = popped-times 4096 (m .nodes) (h .queue .held) some k
+    there : (k : ℕ) → waits m k ≡ times k (first ∷ waitingList maxNodes (popped maxNodes (m .nodes)))
+    there k = popped-times maxNodes (m .nodes) (h .queue .held) some k
 
     at-first : waits m first ≡ 1 + waits rest first
-    at-first = there first ∙ times-same first (waitingList 4096 (popped 4096 (m .nodes)))
+    at-first = there first ∙ times-same first (waitingList maxNodes (popped maxNodes (m .nodes)))
 
     pub first-decided : isDecided m first ≡ true
     first-decided =
@@ -109,14 +110,14 @@ module _ (drained : ℕ → Bool) (m : Marks) (h : Queued drained m) where
 
         by-gone : (k : ℕ) → also first drained k ≡ true → Dec (k ≡ first) → waits rest k ≡ 0
         by-gone k e (yes q) = ap (waits rest) q ∙ (let a = at-first in let b = h .left first first-decided first-fresh in omega arith)
-        by-gone k e (no q) = sym (there k ∙ times-other k first (waitingList 4096 (popped 4096 (m .nodes))) q) ∙ h .gone k (was k q true e)
+        by-gone k e (no q) = sym (there k ∙ times-other k first (waitingList maxNodes (popped maxNodes (m .nodes))) q) ∙ h .gone k (was k q true e)
 
         by-left : (k : ℕ) → isDecided rest k ≡ true → also first drained k ≡ false → Dec (k ≡ first) → waits rest k ≡ 1
         by-left k d e (yes q) = absurd (clash (also first drained k) (also-this first drained k q) e)
-        by-left k d e (no q) = sym (there k ∙ times-other k first (waitingList 4096 (popped 4096 (m .nodes))) q) ∙ h .left k d (was k q false e)
+        by-left k d e (no q) = sym (there k ∙ times-other k first (waitingList maxNodes (popped maxNodes (m .nodes))) q) ∙ h .left k d (was k q false e)
 
   -- WHERE NONE WAITS all decided nodes are drained
   pub none-left : isEmpty (m .nodes) ≡ true → (n : ℕ) → isDecided m n ≡ true → drained n ≡ true
   none-left e n d =
       ⊎-elim (λ (k : drained n ≡ true). k)
-      (λ (k : drained n ≡ false). absurd (let a = h .left n d k in let b = ap (times n) (empty-none 4096 (m .nodes) (h .queue .held) e) ∙ times-none n in omega arith)) (true-false (drained n))
+      (λ (k : drained n ≡ false). absurd (let a = h .left n d k in let b = ap (times n) (empty-none maxNodes (m .nodes) (h .queue .held) e) ∙ times-none n in omega arith)) (true-false (drained n))

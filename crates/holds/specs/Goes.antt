@@ -14,7 +14,7 @@ use Rattle.row.specs.TermsLaws.{All as Every}
 use Rattle.between.specs.Between.{Index, Live}
 use Rattle.regions.specs.Drain.{indexOf, seal, mark, settle}
 use Rattle.regions.specs.Sift.{sift}
-use Rattle.memory.specs.Limits.{maxNodes, rawLimit}
+use Rattle.memory.specs.Limits.{maxNodes, rawLimit, maxThresholds}
 use Rattle.memory.specs.Buffers.{Built}
 use Rattle.planner.specs.File.{begun}
 use Rattle.prepare.specs.JobBuffers.{builtOf}
@@ -46,8 +46,8 @@ fresh-begun b = record {
       left = λ n d e. absurd (clash (isDecided (begun .live .marks) n) d (undecided n));
     };
     low = λ n d. absurd (clash (isDecided (begun .live .marks) n) d (undecided n));
-    dirty = λ r h. same-at 1024 r 0;
-    residuals = λ r h. same-at 1024 r 0;
+    dirty = λ r h. same-at maxThresholds r 0;
+    residuals = λ r h. same-at maxThresholds r 0;
   };
 }
 

@@ -14,7 +14,7 @@ use borrow.Author.Tests.{eqb-false, leb-false, ne-eqb}
 use Rattle.signed.specs.Signed.{nlt-leZ}
 use Rattle.lists.specs.Laid.{numbers}
 use Rattle.numeric.specs.Threshold.{term, terms, Threshold}
-use Rattle.memory.specs.Limits.{rawLimit}
+use Rattle.memory.specs.Limits.{rawLimit, listTerms, maxTerms, maxThresholds}
 use Rattle.memory.specs.Buffers.{rawLists}
 use Rattle.thresholds.specs.Raw.{startOf, endOf, stretch, listAt}
 use Rattle.thresholds.specs.RawLaws.{start-suc, stretch-length}
@@ -42,8 +42,8 @@ module _ (k : Standing) (n : ℕ) (b : ℤ) (ts : List (List ℕ)) (bs : List �
   abbrev passed : Passes k (facts (action (Opens n b)))
   passed = passes k (facts (action (Opens n b))) none
 
-  pub open-room : k .thresholds < 1024
-  open-room = leb-false 1024 (k .thresholds) (passed .room)
+  pub open-room : k .thresholds < maxThresholds
+  open-room = leb-false maxThresholds (k .thresholds) (passed .room)
 
   range : Bound b
   range =
@@ -90,14 +90,14 @@ module _ (k : Standing) (n : ℕ) (b : ℤ) (ts : List (List ℕ)) (bs : List �
     nodes = g .nodes;
     terms = g .terms;
     many = let r = open-room in omega arith;
-    room = subst (λ (x : ℕ). 1024 ≤ x) (sym (length-set ts (k .thresholds) entry)) (g .room);
+    room = subst (λ (x : ℕ). maxThresholds ≤ x) (sym (length-set ts (k .thresholds) entry)) (g .room);
     wide = by-last (λ (t : ℕ). length (getD ts′ t []) ≡ 2) (k .thresholds) (k .thresholds + 1) refl (λ t q. ap length (old t q) ∙ g .wide t q) (ap length new);
     rising =
         by-last (λ (t : ℕ). startOf ts′ t ≤ endOf ts′ t) (k .thresholds) (k .thresholds + 1) refl
         (λ t q. let a = old-start t (omega arith) in let e : endOf ts′ t ≡ endOf ts t = ap end-of (old t q) in let r = g .rising t q in omega (arith, a, e, r))
         (let a = starts in let e = ends in omega (arith, a, e));
     short =
-        by-last (λ (t : ℕ). endOf ts′ t ≤ startOf ts′ t + 1024) (k .thresholds) (k .thresholds + 1) refl
+        by-last (λ (t : ℕ). endOf ts′ t ≤ startOf ts′ t + listTerms) (k .thresholds) (k .thresholds + 1) refl
         (λ t q. let a = old-start t (omega arith) in let e : endOf ts′ t ≡ endOf ts t = ap end-of (old t q) in let r = g .short t q in omega (arith, a, e, r))
         (let a = starts in let e = ends in omega (arith, a, e));
     within =
@@ -121,7 +121,7 @@ module _ (k : Standing) (n : ℕ) (b : ℤ) (ts : List (List ℕ)) (bs : List �
 
   bounded-open : Bounded next bs′
   bounded-open = record {
-    room = subst (λ (x : ℕ). 1024 ≤ x) (sym (length-set bs (k .thresholds) b)) (h .room);
+    room = subst (λ (x : ℕ). maxThresholds ≤ x) (sym (length-set bs (k .thresholds) b)) (h .room);
     bound =
         by-last (λ (t : ℕ). Bound (getD bs′ t (pos 0))) (k .thresholds) (k .thresholds + 1) refl
         (λ t q. subst Bound (sym (old-bound t q)) (h .bound t q)) (subst Bound (sym new-bound) range);
@@ -188,12 +188,12 @@ module _ (k : Standing) (c w : ℕ) (cs ws : List ℕ) (ts : List (List ℕ)) (g
       by zero e z = absurd (z e)
       by (suc m) e z = omega arith
 
-  pub counts-left : (k .«last_terms» < 1024) × (k .terms < 4096)
+  pub counts-left : (k .«last_terms» < listTerms) × (k .terms < maxTerms)
   counts-left =
-      let o = or-false (leb 1024 (k .«last_terms»)) (leb 4096 (k .terms)) (fine .room) in
-      (leb-false 1024 (k .«last_terms») (o .0), leb-false 4096 (k .terms) (o .1))
+      let o = or-false (leb listTerms (k .«last_terms»)) (leb maxTerms (k .terms)) (fine .room) in
+      (leb-false listTerms (k .«last_terms») (o .0), leb-false maxTerms (k .terms) (o .1))
 
-  pub term-room : k .terms < 4096
+  pub term-room : k .terms < maxTerms
   term-room = counts-left .1
 
   abbrev with-one : Standing
@@ -239,14 +239,14 @@ module _ (k : Standing) (c w : ℕ) (cs ws : List ℕ) (ts : List (List ℕ)) (g
     nodes = g .nodes;
     terms = let r = term-room in omega (arith, r);
     many = g .many;
-    room = subst (λ (x : ℕ). 1024 ≤ x) (sym (length-set ts last longer)) (g .room);
+    room = subst (λ (x : ℕ). maxThresholds ≤ x) (sym (length-set ts last longer)) (g .room);
     wide = by-last (λ (t : ℕ). length (getD ts″ t []) ≡ 2) last (k .thresholds) term-open (λ t q. ap length (before t q) ∙ g .wide t (earlier t q)) (ap length there);
     rising =
         by-last (λ (t : ℕ). startOf ts″ t ≤ endOf ts″ t) last (k .thresholds) term-open
         (λ t q. let a = before-start t (omega arith) in let e : endOf ts″ t ≡ endOf ts t = ap end-of (before t q) in let r = g .rising t (earlier t q) in omega (arith, a, e, r))
         (let a = last-start in let e = new-end in let f = last-end in let r = g .rising last in-last in omega (arith, a, e, f, r));
     short =
-        by-last (λ (t : ℕ). endOf ts″ t ≤ startOf ts″ t + 1024) last (k .thresholds) term-open
+        by-last (λ (t : ℕ). endOf ts″ t ≤ startOf ts″ t + listTerms) last (k .thresholds) term-open
         (λ t q. let a = before-start t (omega arith) in let e : endOf ts″ t ≡ endOf ts t = ap end-of (before t q) in let r = g .short t (earlier t q) in omega (arith, a, e, r))
         (let a = last-start in let e = new-end in let r = counts-left .0 in let o = g .filled last (sym term-open) in omega (arith, a, e, r, o));
     within =
@@ -263,8 +263,8 @@ module _ (k : Standing) (c w : ℕ) (cs ws : List ℕ) (ts : List (List ℕ)) (g
 
   termed-add : w < rawLimit → Termed with-one (set cs (k .terms) c) (set ws (k .terms) w)
   termed-add small = record {
-    conditions = subst (λ (x : ℕ). 4096 ≤ x) (sym (length-set cs (k .terms) c)) (h .conditions);
-    weights = subst (λ (x : ℕ). 4096 ≤ x) (sym (length-set ws (k .terms) w)) (h .weights);
+    conditions = subst (λ (x : ℕ). maxTerms ≤ x) (sym (length-set cs (k .terms) c)) (h .conditions);
+    weights = subst (λ (x : ℕ). maxTerms ≤ x) (sym (length-set ws (k .terms) w)) (h .weights);
     below =
         by-last (λ (i : ℕ). getD (set cs (k .terms) c) i 0 < k .nodes) (k .terms) (k .terms + 1) refl
         (λ i q. subst (λ (x : ℕ). x < k .nodes) (sym (getD-set-other cs (k .terms) i c 0 (λ (e : i ≡ k .terms). omega arith))) (h .below i q))

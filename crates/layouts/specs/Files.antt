@@ -9,6 +9,7 @@ use mathlib.Core.Logic.{_⊎_, inl, inr, ⊎-elim}
 use lib.ListN.{length, getD}
 use lib.Dec.{eqb, ltb}
 use borrow.Author.Tests.{eqb-true, eqb-false, ltb-false}
+use Rattle.memory.specs.Limits.{maxNodes}
 use Rattle.numeric.specs.Threshold.{Job}
 use Rattle.numeric.specs.Layout.{Layout, IsLayout}
 use Rattle.queues.specs.Marks.{Marks, decide}
@@ -124,7 +125,7 @@ module _ (w : Layout) (f : File) (g : Good f) where
         m : Marks
         m = f .live .marks
 
-        small : n < 4096
+        small : n < maxNodes
         small = node-small f g n (t .nodes)
 
         k : Kept w (decide (eqb v 1) m n)

@@ -6,6 +6,7 @@ use mathlib.Core.Path.{_≡_, refl}
 use mathlib.Core.Bool.{Bool, true, false}
 use mathlib.Core.List.{List, [], _∷_}
 use lib.ListN.{length, getD}
+use Rattle.memory.specs.Limits.{maxThresholds}
 use Rattle.numeric.specs.Threshold.{Job}
 use Rattle.numeric.specs.Layout.{Layout, IsLayout}
 use Rattle.state.specs.declared.Step.{Step}
@@ -27,7 +28,7 @@ use Rattle.follows.specs.First.{Undrained, first-undrained}
 use Rattle.layouts.specs.Turns.{Fits, Holds, Between, FineBetween, run-fine}
 
 module _ (j : Job) (x : Index) (b : Built j x) (ordered : (r : ℕ) → IsRow (x .rows) r → Ordered (getD (x .rows) r noRow)) (w : Layout) (is : IsLayout j w) where
-  module _ (v : Live) (u : Undrained (length (x .rows)) v) (fits : Fits w (v .marks)) (s : Sound v) (few : length (x .rows) ≤ 1024) where
+  module _ (v : Live) (u : Undrained (length (x .rows)) v) (fits : Fits w (v .marks)) (s : Sound v) (few : length (x .rows) ≤ maxThresholds) where
     abbrev first : Live
     first = live (firstStates 0 (x .rows) (v .states)) (v .marks) (v .dirty) (v .residuals)
 
@@ -60,6 +61,6 @@ module _ (j : Job) (x : Index) (b : Built j x) (ordered : (r : ℕ) → IsRow (x
       by later false e = later
 
   -- A SEAL
-  pub seal-fine : (v : Live) → Undrained (length (x .rows)) v → Fits w (v .marks) → Sound v → length (x .rows) ≤ 1024 → FineBetween x w (seal x v)
+  pub seal-fine : (v : Live) → Undrained (length (x .rows)) v → Fits w (v .marks) → Sound v → length (x .rows) ≤ maxThresholds → FineBetween x w (seal x v)
   unfolding seal
   seal-fine v u fits s few = seed-fine 0 (x .rows) (first v u fits s few) Unchanged (omega arith) refl (none v u fits s few, first-holds v u fits s few)

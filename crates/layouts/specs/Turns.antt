@@ -8,6 +8,7 @@ use mathlib.Core.List.{List, [], _∷_, List·Memᴰ, List·Memᴰ·head, List·
 use lib.ListN.{getD}
 use lib.Dec.{eqb}
 use borrow.Author.Tests.{eqb-true, eqb-false}
+use Rattle.memory.specs.Limits.{maxNodes}
 use Rattle.numeric.specs.Threshold.{Threshold, Job}
 use Rattle.numeric.specs.Layout.{Layout, IsLayout}
 use Rattle.state.specs.declared.Step.{Step}
@@ -135,7 +136,7 @@ module _ (j : Job) (x : Index) (b : Built j x) (ordered : (r : ℕ) → IsRow (x
       n = oldest (v .marks .nodes)
 
       m : Marks
-      m = marks (v .marks .sure) (v .marks .never) (popped 4096 (v .marks .nodes))
+      m = marks (v .marks .sure) (v .marks .never) (popped maxNodes (v .marks .nodes))
 
       same : Stay (v .marks) m
       same k d true = refl

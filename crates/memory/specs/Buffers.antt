@@ -5,7 +5,7 @@ use mathlib.Core.List.{List, [], _∷_, _++_}
 use lib.ListN.{length, replicate}
 use lib.Dec.{leb}
 use lib.IntN.{ℤ, pos}
-use Rattle.memory.specs.Limits.{maxNodes, maxTerms, maxThresholds}
+use Rattle.memory.specs.Limits.{maxNodes, maxTerms, maxThresholds, maxLinks, searchWords, maxGcds}
 
 -- The job as the records gave it.
 pub record RawLists : Type 0 where
@@ -91,8 +91,8 @@ work raw built kept = record { raw = raw; built = built; kept = kept }
 abbrev pub needed : List ℕ
 needed =
     maxTerms ∷ maxTerms ∷ maxThresholds ∷ maxThresholds
-    ∷ maxTerms ∷ maxTerms ∷ maxThresholds ∷ maxThresholds ∷ maxThresholds ∷ maxNodes ∷ maxTerms ∷ 2048
-    ∷ maxThresholds ∷ maxThresholds ∷ 64 ∷ 64 ∷ 4096 ∷ 1025 ∷ maxNodes ∷ maxThresholds ∷ 64 ∷ []
+    ∷ maxTerms ∷ maxTerms ∷ maxThresholds ∷ maxThresholds ∷ maxThresholds ∷ maxNodes ∷ maxTerms ∷ maxLinks
+    ∷ maxThresholds ∷ maxThresholds ∷ 64 ∷ 64 ∷ searchWords ∷ maxGcds ∷ maxNodes ∷ maxThresholds ∷ 64 ∷ []
 
 abbrev pub rawLengths : Raw → List ℕ
 rawLengths w = length (w .lists .raw-conditions) ∷ length (w .lists .raw-weights) ∷ length (w .lists .thresholds) ∷ length (w .bounds) ∷ []

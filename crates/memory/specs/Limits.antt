@@ -16,6 +16,17 @@ maxThresholds = 1024
 abbrev pub listTerms : ℕ
 listTerms = 1024
 
+-- Places of the links: a row has at most one link to a prefix, which stands at both rows.
+abbrev pub maxLinks : ℕ
+maxLinks = 2048
+
+-- Words of a sum search, and the suffix gcds of the longest row with one more.
+abbrev pub searchWords : ℕ
+searchWords = 4096
+
+abbrev pub maxGcds : ℕ
+maxGcds = 1025
+
 -- A raw weight is below this: the area of a term, or of areas joined to one.
 abbrev pub rawLimit : ℕ
 rawLimit = 2 ^ 36

@@ -4,6 +4,7 @@ use mathlib.Core.Bool.{Bool, true, false}
 use mathlib.Core.List.{List, [], _∷_, _++_}
 use lib.ListN.{length, drop, replicate}
 use lib.Dec.{eqb, ltb}
+use Rattle.memory.specs.Limits.{maxGcds, maxNodes, maxThresholds}
 use Rattle.numeric.specs.Threshold.{Job}
 use Rattle.state.specs.declared.Step.{Step}
 use Rattle.state.specs.declared.Step.the-variants.{Unchanged}
@@ -47,8 +48,8 @@ contradicted f = contradicts (f .last)
 -- Memory as the call clears it.
 abbrev pub cleared : Live
 cleared =
-    live (replicate 1024 noState) (marks (replicate 64 0) (replicate 64 0) (queue (replicate 4096 0) (ring 0 0)))
-    (rows (queue (replicate 1024 0) (ring 0 0)) (replicate 1024 0)) (rows (queue (replicate 1024 0) (ring 0 0)) (replicate 1024 0))
+    live (replicate maxThresholds noState) (marks (replicate 64 0) (replicate 64 0) (queue (replicate maxNodes 0) (ring 0 0)))
+    (rows (queue (replicate maxThresholds 0) (ring 0 0)) (replicate maxThresholds 0)) (rows (queue (replicate maxThresholds 0) (ring 0 0)) (replicate maxThresholds 0))
 
 abbrev pub noJob : ℕ → Job
 noJob n = record { nodes = n; thresholds = [] }
@@ -61,7 +62,7 @@ begun = record {
   sealed = false;
   last = Unchanged;
   live = cleared;
-  gcds = replicate 1025 0;
+  gcds = replicate maxGcds 0;
   answers = [];
 }
 

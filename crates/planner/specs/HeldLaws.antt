@@ -12,7 +12,7 @@ use borrow.Author.Tests.{ltb-false, ne-eqb}
 use mathlib.Core.Logic.{_⊎_, inl, inr, ⊎-elim}
 use Rattle.numeric.specs.Threshold.{term, Threshold, Job}
 use Rattle.numeric.specs.Area.{weightOfArea}
-use Rattle.memory.specs.Limits.{maxNodes}
+use Rattle.memory.specs.Limits.{maxNodes, maxTerms, maxThresholds}
 use Rattle.memory.specs.Buffers.{Raw, rawLists, raw}
 use Rattle.lists.specs.Laid.{numbers, joinAll, ends, pairs}
 use Rattle.thresholds.specs.Guards.{nodeAt}
@@ -117,8 +117,8 @@ module _ (f : File) (w : Raw) (room : Room w) (s : Standing) (cs ws : List ℕ) 
       started : f .started ≡ true
       started = begun-by false (open-turn (not (s .started) || s .sealed) (passes s (facts (action (Opens n b))) e .turn))
 
-      few : s .thresholds + 1 ≤ 1024
-      few = subst (λ (k : ℕ). k ≤ 1024) (ap (λ (x : Standing). x .thresholds) (o .standing)) (o .listed .many)
+      few : s .thresholds + 1 ≤ maxThresholds
+      few = subst (λ (k : ℕ). k ≤ maxThresholds) (ap (λ (x : Standing). x .thresholds) (o .standing)) (o .listed .many)
 
   -- A term, whether its weight was given or is that of an area.
   module _ (c v : ℕ) (e : refusedBy s (Adds c v) ≡ 0) (r : Standing) (cs′ ws′ : List ℕ) (ts′ : List (List ℕ)) (o : Added s c v cs ws ts r cs′ ws′ ts′) where
@@ -136,8 +136,8 @@ module _ (f : File) (w : Raw) (room : Room w) (s : Standing) (cs ws : List ℕ) 
     unfolding last
     node = h .gathered .listed .last (s .thresholds - 1) (sym open-one) ∙ ap (λ (x : Standing). x .«last_node») (h .stands)
 
-    few : s .terms + 1 ≤ 4096
-    few = subst (λ (k : ℕ). k ≤ 4096) (ap (λ (x : Standing). x .terms) (o .standing)) (o .listed .terms)
+    few : s .terms + 1 ≤ maxTerms
+    few = subst (λ (k : ℕ). k ≤ maxTerms) (ap (λ (x : Standing). x .terms) (o .standing)) (o .listed .terms)
 
     pub held-term : Held (withJob f (withTerm (f .job) (term c v))) w r cs′ ws′ ts′ bs
     unfolding last

@@ -11,6 +11,7 @@ use lib.Signed.{mag, ltZ}
 use mir.Syntax.{w64}
 use mir.Val.{SFits}
 use borrow.Author.Tests.{le-leb, lt-leb, leb-true}
+use Rattle.memory.specs.Limits.{listTerms}
 use Rattle.numeric.specs.Threshold.{Term, term}
 use Rattle.signed.specs.Signed.{natural, mag-minus, sub-sfits}
 use Rattle.state.specs.declared.State.{State}
@@ -148,7 +149,7 @@ plan-is ts s w e = by (tests (hasNonunit ts)) refl e
         record { same = cc; cut = m .0; room = leb-true (window ts s .words + 5) (window ts s .visits) (m .1) }
     by false h q = absurd (let z : _≡_ {A = ℕ} 0 1 = cc in omega arith)
 
-pub plan-prepared : (ts : List Term) (s : State) (w : Window) → length ts ≤ 1024 → plan ts s ≡ Planned w → Prepared w
+pub plan-prepared : (ts : List Term) (s : State) (w : Window) → length ts ≤ listTerms → plan ts s ≡ Planned w → Prepared w
 plan-prepared ts s w n e =
     let p = plan-is ts s w e in
     subst Prepared (p .same) (record { words = refl; enough = p .room; visits = omega arith })

@@ -6,6 +6,7 @@ use mathlib.Core.Bool.{Bool, true, false}
 use mathlib.Core.List.{List, [], _∷_, map}
 use lib.Dec.{eqb, ltb}
 use lib.ListN.{length, getD}
+use Rattle.memory.specs.Limits.{maxThresholds}
 use Rattle.numeric.specs.Threshold.{Term}
 use Rattle.lists.specs.Laid.{numbers}
 use Rattle.thresholds.specs.Rows.{Row}
@@ -69,17 +70,17 @@ pub record Under (rows : List (List ℕ)) (s : List ℕ) (t r u : ℕ) : Type 0 
 -- The words as the pass finds them: the order in front, zeros where links and ancestors go.
 pub record Ordered (rs : List Row) (n : ℕ) (s : List ℕ) : Type 0 where
   pub room : 3072 ≤ length s
-  pub small : n ≤ 1024
+  pub small : n ≤ maxThresholds
   pub order : (k : ℕ) → k < n → getD s k 0 ≡ getD (orderFrom rs 0 rs) k 0
-  pub no-links : (x : ℕ) → x < n → getD s (1024 + x) 0 ≡ 0
+  pub no-links : (x : ℕ) → x < n → getD s (maxThresholds + x) 0 ≡ 0
   pub no-ancestors : (x : ℕ) → x < n → getD s (2048 + x) 0 ≡ 0
 
 -- The words as it leaves them; what stands where ancestors went is left open, and cleared next.
 pub record Linked (rs : List Row) (n : ℕ) (s₀ s : List ℕ) : Type 0 where
   pub sized : length s ≡ length s₀
-  pub front : (x : ℕ) → x < 1024 → getD s x 0 ≡ getD s₀ x 0
-  pub words : (x : ℕ) → x < n → getD s (1024 + x) 0 ≡ linkWord x (links rs)
-  pub between : (x : ℕ) → 1024 + n ≤ x → x < 2048 → getD s x 0 ≡ getD s₀ x 0
+  pub front : (x : ℕ) → x < maxThresholds → getD s x 0 ≡ getD s₀ x 0
+  pub words : (x : ℕ) → x < n → getD s (maxThresholds + x) 0 ≡ linkWord x (links rs)
+  pub between : (x : ℕ) → maxThresholds + n ≤ x → x < 2048 → getD s x 0 ≡ getD s₀ x 0
   pub far : (x : ℕ) → 2048 + n ≤ x → getD s x 0 ≡ getD s₀ x 0
 
 -- The link words of all rows.
@@ -88,7 +89,7 @@ linkWords rs = map (λ (x : ℕ). linkWord x (links rs)) (numbers 0 (length rs))
 
 -- The scratch words with the order and the link words in them.
 abbrev pub withLinks : List Row → List ℕ → List ℕ
-withLinks rs s = laid (laid s 0 (orderFrom rs 0 rs)) 1024 (linkWords rs)
+withLinks rs s = laid (laid s 0 (orderFrom rs 0 rs)) maxThresholds (linkWords rs)
 
 -- Scratch words that are all zero.
 abbrev pub Clear : List ℕ → Type 0

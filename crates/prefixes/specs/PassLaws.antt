@@ -11,6 +11,7 @@ use borrow.Author.Tests.{lt-ltb, le-ltb, eq-eqb, ne-eqb}
 use lib.Dec.{eqb, ltb}
 use lib.ListN.{length, getD, set, take, drop, length-set, drop-of-length-le, length-replicate, getD-replicate}
 use lib.Seq.{drop-cons, getD-set-same, getD-set-other, getD-take}
+use Rattle.memory.specs.Limits.{maxThresholds}
 use Rattle.numeric.specs.Threshold.{Term}
 use Rattle.thresholds.specs.Rows.{Row}
 use Rattle.prefixes.specs.Links.{Link, termsAt, common, orderFrom, ancestors, stacked, linked, linksFrom, links}
@@ -290,8 +291,8 @@ module _ (rows : List (List ℕ)) (cs ws : List ℕ) where
   pub record Passing (s₀ s : List ℕ) (i top : ℕ) : Type 0 where
     pub many : i ≤ length rows
     pub sized : length s ≡ length s₀
-    pub front : (x : ℕ) → x < 1024 → getD s x 0 ≡ getD s₀ x 0
-    pub between : (x : ℕ) → 1024 + length rows ≤ x → x < 2048 → getD s x 0 ≡ getD s₀ x 0
+    pub front : (x : ℕ) → x < maxThresholds → getD s x 0 ≡ getD s₀ x 0
+    pub between : (x : ℕ) → maxThresholds + length rows ≤ x → x < 2048 → getD s x 0 ≡ getD s₀ x 0
     pub far : (x : ℕ) → 2048 + length rows ≤ x → getD s x 0 ≡ getD s₀ x 0
     pub falling : Falling rows s
     pub on : top ≤ length rows
@@ -301,7 +302,7 @@ module _ (rows : List (List ℕ)) (cs ws : List ℕ) where
     pub done : List Link
     pub rest : done ++ linksFrom (rowsHeld rows cs ws (length rows)) (drop i (orderFrom (rowsHeld rows cs ws (length rows)) 0 (rowsHeld rows cs ws (length rows))))
         (named (termsAt (rowsHeld rows cs ws (length rows))) top) stack ≡ links (rowsHeld rows cs ws (length rows))
-    pub words : (x : ℕ) → x < length rows → getD s (1024 + x) 0 ≡ linkWord x done
+    pub words : (x : ℕ) → x < length rows → getD s (maxThresholds + x) 0 ≡ linkWord x done
     pub fresh : (k : ℕ) → i ≤ k → k < length rows → linkWord (getD (orderFrom (rowsHeld rows cs ws (length rows)) 0 (rowsHeld rows cs ws (length rows))) k 0) done ≡ 0
 
   module _ (held : Held rows cs ws (length rows)) (s₀ : List ℕ) (ready : Ordered (rowsHeld rows cs ws (length rows)) (length rows) s₀) where
@@ -374,7 +375,7 @@ module _ (rows : List (List ℕ)) (cs ws : List ℕ) where
         K = keptBy (lengthAt rows) shared (p .stack)
 
         s′ : List ℕ
-        s′ = set (set s (1024 + getD s i 0) t) (2048 + getD s i 0) u
+        s′ = set (set s (maxThresholds + getD s i 0) t) (2048 + getD s i 0) u
 
         st-row : (a : ℕ) → List·Memᴰ a (p .stack) → a < length rows
         unfolding order
@@ -384,21 +385,21 @@ module _ (rows : List (List ℕ)) (cs ws : List ℕ) where
         unfolding order
         st-old a m q = let w = p .passed a m in order-once (w .0) i (w .1) more (w .2 ∙ q ∙ next-row)
 
-        word-at : getD s′ (1024 + getD s i 0) 0 ≡ t
+        word-at : getD s′ (maxThresholds + getD s i 0) 0 ≡ t
         unfolding s′
         word-at =
             let l = p .sized in let y = ready .small in let x = ready .room in let z = next-small in
-            getD-set-other (set s (1024 + getD s i 0) t) (2048 + getD s i 0) (1024 + getD s i 0) u 0 (λ q. omega arith) ∙ getD-set-same s (1024 + getD s i 0) t 0 (omega arith)
+            getD-set-other (set s (maxThresholds + getD s i 0) t) (2048 + getD s i 0) (maxThresholds + getD s i 0) u 0 (λ q. omega arith) ∙ getD-set-same s (maxThresholds + getD s i 0) t 0 (omega arith)
 
         up-at : getD s′ (2048 + getD s i 0) 0 ≡ u
         unfolding s′
         up-at =
             let l = p .sized in let y = ready .small in let x = ready .room in let z = next-small in
-            getD-set-same (set s (1024 + getD s i 0) t) (2048 + getD s i 0) u 0 (omega (arith, length-set s (1024 + getD s i 0) t))
+            getD-set-same (set s (maxThresholds + getD s i 0) t) (2048 + getD s i 0) u 0 (omega (arith, length-set s (maxThresholds + getD s i 0) t))
 
-        else-at : (x : ℕ) → (x ≡ 1024 + getD s i 0 → ⊥) → (x ≡ 2048 + getD s i 0 → ⊥) → getD s′ x 0 ≡ getD s x 0
+        else-at : (x : ℕ) → (x ≡ maxThresholds + getD s i 0 → ⊥) → (x ≡ 2048 + getD s i 0 → ⊥) → getD s′ x 0 ≡ getD s x 0
         unfolding s′
-        else-at x a b = getD-set-other (set s (1024 + getD s i 0) t) (2048 + getD s i 0) x u 0 b ∙ getD-set-other s (1024 + getD s i 0) x t 0 a
+        else-at x a b = getD-set-other (set s (maxThresholds + getD s i 0) t) (2048 + getD s i 0) x u 0 b ∙ getD-set-other s (maxThresholds + getD s i 0) x t 0 a
 
         up-else : (a : ℕ) → a < length rows → (a ≡ getD s i 0 → ⊥) → getD s′ (2048 + a) 0 ≡ getD s (2048 + a) 0
         up-else a h m = let y = ready .small in let z = next-small in else-at (2048 + a) (λ q. omega arith) (λ q. m (omega arith))
@@ -440,14 +441,14 @@ module _ (rows : List (List ℕ)) (cs ws : List ℕ) where
         new-falling a h (yes q) = rw (q, up-at) (under .row, under .falls)
         new-falling a h (no m) = rw (up-else a h m) (p .falling a h)
 
-        new-words : (x : ℕ) → x < length rows → Dec (x ≡ getD s i 0) → getD s′ (1024 + x) 0 ≡ linkWord x (p .done ++ linked (getD s i 0) K)
+        new-words : (x : ℕ) → x < length rows → Dec (x ≡ getD s i 0) → getD s′ (maxThresholds + x) 0 ≡ linkWord x (p .done ++ linked (getD s i 0) K)
         unfolding order
         new-words x h (yes q) =
             rw q (word-at ∙ chain-head s t K chain-K ∙ sym (word-linked (getD s i 0) K)
             ∙ sym (word-behind (getD s i 0) (p .done) (linked (getD s i 0) K) (ap (λ (y : ℕ). linkWord y (p .done)) next-row ∙ p .fresh i (omega arith) more)))
         new-words x h (no m) =
             let y = ready .small in let z = next-small in
-            else-at (1024 + x) (λ q. m (omega arith)) (λ q. omega arith) ∙ p .words x h
+            else-at (maxThresholds + x) (λ q. m (omega arith)) (λ q. omega arith) ∙ p .words x h
             ∙ sym (word-first x (p .done) (linked (getD s i 0) K) (word-unlinked x (getD s i 0) K m))
 
         new-fresh : (k : ℕ) → i + 1 ≤ k → k < length rows → linkWord (getD order k 0) (p .done ++ linked (getD s i 0) K) ≡ 0
@@ -471,14 +472,14 @@ module _ (rows : List (List ℕ)) (cs ws : List ℕ) where
             ∙ ap (λ (l : List ℕ). p .done ++ linksFrom rs l (named T top) (p .stack)) (sym drop-here) ∙ p .rest
 
         -- ONE ROW MORE
-        pub passing-next : Passing s₀ (set (set s (1024 + getD s i 0) t) (2048 + getD s i 0) u) (i + 1) (getD s i 0 + 1)
+        pub passing-next : Passing s₀ (set (set s (maxThresholds + getD s i 0) t) (2048 + getD s i 0) u) (i + 1) (getD s i 0 + 1)
         unfolding s′ order rs T
         passing-next =
             let y = ready .small in
             let z = next-small in
             record {
               many = more′;
-              sized = length-set (set s (1024 + getD s i 0) t) (2048 + getD s i 0) u ∙ length-set s (1024 + getD s i 0) t ∙ p .sized;
+              sized = length-set (set s (maxThresholds + getD s i 0) t) (2048 + getD s i 0) u ∙ length-set s (maxThresholds + getD s i 0) t ∙ p .sized;
               front = λ x h. else-at x (λ q. omega arith) (λ q. omega arith) ∙ p .front x h;
               between = λ x h l. else-at x (λ q. omega arith) (λ q. omega arith) ∙ p .between x h l;
               far = λ x h. else-at x (λ q. omega arith) (λ q. omega arith) ∙ p .far x h;
@@ -503,7 +504,7 @@ module _ (rows : List (List ℕ)) (cs ws : List ℕ) where
             more′ = omega arith
 
     -- and all of them
-    pub passing-end : (s : List ℕ) (i top : ℕ) → Passing s₀ s i top → i ≡ length rows → (x : ℕ) → x < length rows → getD s (1024 + x) 0 ≡ linkWord x (links (rowsHeld rows cs ws (length rows)))
+    pub passing-end : (s : List ℕ) (i top : ℕ) → Passing s₀ s i top → i ≡ length rows → (x : ℕ) → x < length rows → getD s (maxThresholds + x) 0 ≡ linkWord x (links (rowsHeld rows cs ws (length rows)))
     passing-end s i top p e x h =
         p .words x h ∙ ap (linkWord x) (sym (append-nil (p .done)) ∙ ap (λ (l : List Link). p .done ++ l) (sym none) ∙ p .rest)
       where
@@ -540,7 +541,7 @@ mapped-at f n zero i h = absurd (omega arith)
 mapped-at f n (suc k) zero h = let e : n ≡ n + 0 = omega arith in ap f e
 mapped-at f n (suc k) (suc i) h = let e : n + 1 + i ≡ n + suc i = omega arith in mapped-at f (n + 1) k i (omega arith) ∙ ap f e
 
-module _ (rs : List Row) (s₀ : List ℕ) (clear : Clear s₀) (small : length rs ≤ 1024) where
+module _ (rs : List Row) (s₀ : List ℕ) (clear : Clear s₀) (small : length rs ≤ maxThresholds) where
   words-length : length (linkWords rs) ≡ length rs
   words-length = length-mapped (λ (x : ℕ). linkWord x (links rs)) (numbers 0 (length rs)) ∙ length-numbers 0 (length rs)
 
@@ -553,7 +554,7 @@ module _ (rs : List Row) (s₀ : List ℕ) (clear : Clear s₀) (small : length 
   laid-order-length : length (laid s₀ 0 (orderFrom rs 0 rs)) ≡ length s₀
   laid-order-length = laid-length s₀ 0 (orderFrom rs 0 rs) order-room
 
-  words-room : 1024 + length (linkWords rs) ≤ length (laid s₀ 0 (orderFrom rs 0 rs))
+  words-room : maxThresholds + length (linkWords rs) ≤ length (laid s₀ 0 (orderFrom rs 0 rs))
   words-room = omega (arith, words-length, laid-order-length, clear .0)
 
   -- the sort makes the words ready for the pass
@@ -565,11 +566,11 @@ module _ (rs : List Row) (s₀ : List ℕ) (clear : Clear s₀) (small : length 
         order = λ k h.
             let q : k - 0 ≡ k = omega arith in
             ap (λ (w : List ℕ). getD w k 0) e ∙ laid-at s₀ 0 (orderFrom rs 0 rs) order-room k (omega arith) (omega (arith, order-length rs 0 rs)) ∙ ap (λ (x : ℕ). getD (orderFrom rs 0 rs) x 0) q;
-        no-links = λ x h. ap (λ (w : List ℕ). getD w (1024 + x) 0) e ∙ behind (1024 + x) (omega arith) (omega arith);
+        no-links = λ x h. ap (λ (w : List ℕ). getD w (maxThresholds + x) 0) e ∙ behind (maxThresholds + x) (omega arith) (omega arith);
         no-ancestors = λ x h. ap (λ (w : List ℕ). getD w (2048 + x) 0) e ∙ behind (2048 + x) (omega arith) (omega arith);
       }
     where
-      behind : (x : ℕ) → 1024 ≤ x → x < 3072 → getD (laid s₀ 0 (orderFrom rs 0 rs)) x 0 ≡ 0
+      behind : (x : ℕ) → maxThresholds ≤ x → x < 3072 → getD (laid s₀ 0 (orderFrom rs 0 rs)) x 0 ≡ 0
       behind x h l = laid-behind s₀ 0 (orderFrom rs 0 rs) order-room x (omega (arith, order-length rs 0 rs)) ∙ clear .1 x l
 
   pub linked-length : (s₁ s₂ : List ℕ) → s₁ ≡ laid s₀ 0 (orderFrom rs 0 rs) → Linked rs (length rs) s₁ s₂ → 3072 ≤ length s₂
@@ -579,8 +580,8 @@ module _ (rs : List Row) (s₀ : List ℕ) (clear : Clear s₀) (small : length 
   pub linked-end : (s₁ s₂ s₃ : List ℕ) → s₁ ≡ laid s₀ 0 (orderFrom rs 0 rs) → Linked rs (length rs) s₁ s₂ → s₃ ≡ laid s₂ 2048 (zeros (2048 + length rs - 2048)) → s₃ ≡ withLinks rs s₀
   linked-end s₁ s₂ s₃ e l q =
       q ∙ same-words (laid s₂ 2048 (zeros (2048 + length rs - 2048))) (withLinks rs s₀)
-      (laid-length s₂ 2048 (zeros (2048 + length rs - 2048)) zroom ∙ l .sized ∙ ap length e ∙ sym (laid-length (laid s₀ 0 (orderFrom rs 0 rs)) 1024 (linkWords rs) words-room))
-      (λ x. by x (decLt x 1024) (decLt x (1024 + length rs)) (decLt x 2048) (decLt x (2048 + length rs)))
+      (laid-length s₂ 2048 (zeros (2048 + length rs - 2048)) zroom ∙ l .sized ∙ ap length e ∙ sym (laid-length (laid s₀ 0 (orderFrom rs 0 rs)) maxThresholds (linkWords rs) words-room))
+      (λ x. by x (decLt x maxThresholds) (decLt x (maxThresholds + length rs)) (decLt x 2048) (decLt x (2048 + length rs)))
     where
       zlength : length (zeros (2048 + length rs - 2048)) ≡ length rs
       zlength = length-replicate (2048 + length rs - 2048) 0 ∙ omega arith
@@ -588,18 +589,18 @@ module _ (rs : List Row) (s₀ : List ℕ) (clear : Clear s₀) (small : length 
       zroom : 2048 + length (zeros (2048 + length rs - 2048)) ≤ length s₂
       zroom = omega (arith, zlength, linked-length s₁ s₂ e l)
 
-      behind : (x : ℕ) → 1024 + length rs ≤ x → getD (withLinks rs s₀) x 0 ≡ getD (laid s₀ 0 (orderFrom rs 0 rs)) x 0
-      behind x h = laid-behind (laid s₀ 0 (orderFrom rs 0 rs)) 1024 (linkWords rs) words-room x (omega (arith, words-length))
+      behind : (x : ℕ) → maxThresholds + length rs ≤ x → getD (withLinks rs s₀) x 0 ≡ getD (laid s₀ 0 (orderFrom rs 0 rs)) x 0
+      behind x h = laid-behind (laid s₀ 0 (orderFrom rs 0 rs)) maxThresholds (linkWords rs) words-room x (omega (arith, words-length))
 
-      by : (x : ℕ) → Dec (x < 1024) → Dec (x < 1024 + length rs) → Dec (x < 2048) → Dec (x < 2048 + length rs)
+      by : (x : ℕ) → Dec (x < maxThresholds) → Dec (x < maxThresholds + length rs) → Dec (x < 2048) → Dec (x < 2048 + length rs)
           → getD (laid s₂ 2048 (zeros (2048 + length rs - 2048))) x 0 ≡ getD (withLinks rs s₀) x 0
       by x (yes a) b c d =
           laid-below s₂ 2048 (zeros (2048 + length rs - 2048)) zroom x (omega arith) ∙ l .front x a ∙ ap (λ (w : List ℕ). getD w x 0) e
-          ∙ sym (laid-below (laid s₀ 0 (orderFrom rs 0 rs)) 1024 (linkWords rs) words-room x a)
+          ∙ sym (laid-below (laid s₀ 0 (orderFrom rs 0 rs)) maxThresholds (linkWords rs) words-room x a)
       by x (no a) (yes b) c d =
-          let f : x ≡ 1024 + (x - 1024) = omega arith in
-          laid-below s₂ 2048 (zeros (2048 + length rs - 2048)) zroom x (omega arith) ∙ ap (λ (y : ℕ). getD s₂ y 0) f ∙ l .words (x - 1024) (omega arith)
-          ∙ sym (word-of (x - 1024) (omega arith)) ∙ sym (laid-at (laid s₀ 0 (orderFrom rs 0 rs)) 1024 (linkWords rs) words-room x (omega arith) (omega (arith, words-length)))
+          let f : x ≡ maxThresholds + (x - maxThresholds) = omega arith in
+          laid-below s₂ 2048 (zeros (2048 + length rs - 2048)) zroom x (omega arith) ∙ ap (λ (y : ℕ). getD s₂ y 0) f ∙ l .words (x - maxThresholds) (omega arith)
+          ∙ sym (word-of (x - maxThresholds) (omega arith)) ∙ sym (laid-at (laid s₀ 0 (orderFrom rs 0 rs)) maxThresholds (linkWords rs) words-room x (omega arith) (omega (arith, words-length)))
       by x (no a) (no b) (yes c) d =
           laid-below s₂ 2048 (zeros (2048 + length rs - 2048)) zroom x c ∙ l .between x (omega arith) c ∙ ap (λ (w : List ℕ). getD w x 0) e ∙ sym (behind x (omega arith))
       by x (no a) (no b) (no c) (yes d) =
@@ -620,14 +621,14 @@ sorted-order rows cs ws n e =
 
 links-none : (rs : List Row) (s : List ℕ) → length rs ≡ 0 → s ≡ withLinks rs s
 unfolding orderFrom numbers
-links-none [] s e = sym (laid-none (laid s 0 []) 1024 ∙ laid-none s 0)
+links-none [] s e = sym (laid-none (laid s 0 []) maxThresholds ∙ laid-none s 0)
 links-none (r ∷ rs) s e = absurd (omega arith)
 
-module _ (rows : List (List ℕ)) (cs ws : List ℕ) (s₀ : List ℕ) (clear : Clear s₀) (small : length rows ≤ 1024) where
+module _ (rows : List (List ℕ)) (cs ws : List ℕ) (s₀ : List ℕ) (clear : Clear s₀) (small : length rows ≤ maxThresholds) where
   is-held : length (rowsHeld rows cs ws (length rows)) ≡ length rows
   is-held = held-length rows cs ws (length rows)
 
-  fits : length (rowsHeld rows cs ws (length rows)) ≤ 1024
+  fits : length (rowsHeld rows cs ws (length rows)) ≤ maxThresholds
   fits = omega (arith, is-held)
 
   pub held-none : length rows ≡ 0 → s₀ ≡ withLinks (rowsHeld rows cs ws (length rows)) s₀
@@ -652,13 +653,13 @@ module _ (rows : List (List ℕ)) (cs ws : List ℕ) (s₀ : List ℕ) (clear : 
 
 -- ---- reading the words with links
 
-module _ (rs : List Row) (s₀ : List ℕ) (clear : Clear s₀) (small : length rs ≤ 1024) where
+module _ (rs : List Row) (s₀ : List ℕ) (clear : Clear s₀) (small : length rs ≤ maxThresholds) where
   pub with-length : length (withLinks rs s₀) ≡ length s₀
-  with-length = laid-length (laid s₀ 0 (orderFrom rs 0 rs)) 1024 (linkWords rs) (words-room rs s₀ clear small) ∙ laid-order-length rs s₀ clear small
+  with-length = laid-length (laid s₀ 0 (orderFrom rs 0 rs)) maxThresholds (linkWords rs) (words-room rs s₀ clear small) ∙ laid-order-length rs s₀ clear small
 
   pub with-take : take (length rs) (withLinks rs s₀) ≡ orderFrom rs 0 rs
   with-take =
-      slice-below (laid s₀ 0 (orderFrom rs 0 rs)) 1024 (linkWords rs) (words-room rs s₀ clear small) 0 (length rs) small
+      slice-below (laid s₀ 0 (orderFrom rs 0 rs)) maxThresholds (linkWords rs) (words-room rs s₀ clear small) 0 (length rs) small
       ∙ slice-laid s₀ 0 (orderFrom rs 0 rs) (order-room rs s₀ clear small) (length rs) (omega (arith, order-length rs 0 rs))
 
   pub with-order : (k : ℕ) → k < length rs → getD (withLinks rs s₀) k 0 ≡ getD (orderFrom rs 0 rs) k 0
@@ -669,13 +670,13 @@ module _ (rs : List Row) (s₀ : List ℕ) (clear : Clear s₀) (small : length 
       let m = order-range rs 0 rs (getD (orderFrom rs 0 rs) k 0) (mem-at (orderFrom rs 0 rs) k (omega (arith, order-length rs 0 rs))) in
       omega (arith, with-order k h)
 
-  pub with-word : (x : ℕ) → x < length rs → getD (withLinks rs s₀) (1024 + x) 0 ≡ linkWord x (links rs)
+  pub with-word : (x : ℕ) → x < length rs → getD (withLinks rs s₀) (maxThresholds + x) 0 ≡ linkWord x (links rs)
   with-word x h =
-      let e : 1024 + x - 1024 ≡ x = omega arith in
-      laid-at (laid s₀ 0 (orderFrom rs 0 rs)) 1024 (linkWords rs) (words-room rs s₀ clear small) (1024 + x) (omega arith) (omega (arith, words-length rs s₀ clear small))
+      let e : maxThresholds + x - maxThresholds ≡ x = omega arith in
+      laid-at (laid s₀ 0 (orderFrom rs 0 rs)) maxThresholds (linkWords rs) (words-room rs s₀ clear small) (maxThresholds + x) (omega arith) (omega (arith, words-length rs s₀ clear small))
       ∙ ap (λ (n : ℕ). getD (linkWords rs) n 0) e ∙ word-of rs s₀ clear small x h
 
   pub with-behind : (x : ℕ) → 2048 ≤ x → getD (withLinks rs s₀) x 0 ≡ getD s₀ x 0
   with-behind x h =
-      laid-behind (laid s₀ 0 (orderFrom rs 0 rs)) 1024 (linkWords rs) (words-room rs s₀ clear small) x (omega (arith, words-length rs s₀ clear small))
+      laid-behind (laid s₀ 0 (orderFrom rs 0 rs)) maxThresholds (linkWords rs) (words-room rs s₀ clear small) x (omega (arith, words-length rs s₀ clear small))
       ∙ laid-behind s₀ 0 (orderFrom rs 0 rs) (order-room rs s₀ clear small) x (omega (arith, order-length rs 0 rs))

@@ -10,6 +10,7 @@ use mathlib.Core.List.{List, [], _∷_, _++_, map, append-assoc, append-nil, Lis
 use lib.ListN.{length, getD, set, take, length-append, List·getD-append}
 use lib.ListN.{drop, length-replicate, getD-replicate}
 use lib.Seq.{getD-append-add, length-take-le, ext-getD, getD-take}
+use Rattle.memory.specs.Limits.{maxThresholds}
 use Rattle.lists.specs.Laid.{numbers, joinAll, ends, over}
 use Rattle.numeric.specs.Threshold.{Term}
 use Rattle.thresholds.specs.Rows.{Row, rowOf}
@@ -224,11 +225,11 @@ at-mem x (y ∷ l) i = by (List·Memᴰ·cases-cons i) (λ j. at-mem x l j)
     by (inr j) ih = let w = ih j in (suc (w .0), (let z = w .1 in omega arith), w .2)
 
 -- the same front, the same links
-links-same : (s s′ : List ℕ) (n : ℕ) → n ≤ 1024 → 2048 ≤ length s → 2048 ≤ length s′ → ((k : ℕ) → k < n → getD s k 0 < n) → ((x : ℕ) → x < 2048 → getD s′ x 0 ≡ getD s x 0)
+links-same : (s s′ : List ℕ) (n : ℕ) → n ≤ maxThresholds → 2048 ≤ length s → 2048 ≤ length s′ → ((k : ℕ) → k < n → getD s k 0 < n) → ((x : ℕ) → x < 2048 → getD s′ x 0 ≡ getD s x 0)
     → linksIn s′ n ≡ linksIn s n
 links-same s s′ n h l l′ g f =
-    ap (wordLinks (λ (x : ℕ). getD s′ (1024 + x) 0)) same
-    ∙ wordLinks-same (λ x. getD s′ (1024 + x) 0) (λ x. getD s (1024 + x) 0) (take n s) (λ x i. let q = row x (at-mem x (take n s) i) in f (1024 + x) (omega arith))
+    ap (wordLinks (λ (x : ℕ). getD s′ (maxThresholds + x) 0)) same
+    ∙ wordLinks-same (λ x. getD s′ (maxThresholds + x) 0) (λ x. getD s (maxThresholds + x) 0) (take n s) (λ x i. let q = row x (at-mem x (take n s) i) in f (maxThresholds + x) (omega arith))
   where
     len : (w : List ℕ) → 2048 ≤ length w → length (take n w) ≡ n
     len w k = length-take-le n w (omega arith)
@@ -241,11 +242,11 @@ links-same s s′ n h l l′ g f =
     row : (x : ℕ) → (k : ℕ) × (k < length (take n s)) × (getD (take n s) k 0 ≡ x) → x < n
     row x (k, m, e) = let q : k < n = omega (arith, len s l) in let w = g k q in omega (arith, e, getD-take n s k 0 q)
 
-module _ (rs : List Row) (s₀ : List ℕ) (clear : Clear s₀) (small : length rs ≤ 1024) where
+module _ (rs : List Row) (s₀ : List ℕ) (clear : Clear s₀) (small : length rs ≤ maxThresholds) where
   pub with-links : linksIn (withLinks rs s₀) (length rs) ≡ links rs
   with-links =
-      ap (wordLinks (λ (x : ℕ). getD (withLinks rs s₀) (1024 + x) 0)) (with-take rs s₀ clear small)
-      ∙ wordLinks-same (λ x. getD (withLinks rs s₀) (1024 + x) 0) (λ x. linkWord x (links rs)) (orderFrom rs 0 rs)
+      ap (wordLinks (λ (x : ℕ). getD (withLinks rs s₀) (maxThresholds + x) 0)) (with-take rs s₀ clear small)
+      ∙ wordLinks-same (λ x. getD (withLinks rs s₀) (maxThresholds + x) 0) (λ x. linkWord x (links rs)) (orderFrom rs 0 rs)
       (λ x i. let r = order-range rs 0 rs x i in with-word rs s₀ clear small x (omega arith))
       ∙ links-words rs
 
@@ -294,9 +295,9 @@ module _ (rs : List Row) (s₀ : List ℕ) (clear : Clear s₀) (small : length 
             small = small;
             room = omega (arith, c₃ .sized, counted-length);
             rows = λ k l. omega (arith, same k (omega arith), h .rows k l);
-            prefixes = λ x l. omega (arith, same (1024 + x) (omega arith), h .prefixes x l);
+            prefixes = λ x l. omega (arith, same (maxThresholds + x) (omega arith), h .prefixes x l);
             cursors = λ x l. omega (arith, c₃ .starts x l, sum-grows s₂ x (length rs) (omega arith), sums-small);
-            apart = λ x l q. h .apart x l (sym (same (1024 + x) (omega arith)) ∙ q);
+            apart = λ x l q. h .apart x l (sym (same (maxThresholds + x) (omega arith)) ∙ q);
           }
 
       degree-third : (r : ℕ) → length (neighbours r (linksIn s₃ (length rs))) ≡ length (neighbours r (links rs))
@@ -414,8 +415,8 @@ module _ (rows : List (List ℕ)) (cs ws : List ℕ) (n : ℕ) (fits : n ≤ len
   pub front-many : length (rowsHeld (take n rows) cs ws (length (take n rows))) ≡ n
   front-many = held-length (take n rows) cs ws (length (take n rows)) ∙ front-length
 
-module _ (rs : List Row) (n : ℕ) (many : length rs ≡ n) (s₀ : List ℕ) (clear : Clear s₀) (small : n ≤ 1024) (s₁ : List ℕ) (e₁ : s₁ ≡ withLinks rs s₀) where
-  tiny : length rs ≤ 1024
+module _ (rs : List Row) (n : ℕ) (many : length rs ≡ n) (s₀ : List ℕ) (clear : Clear s₀) (small : n ≤ maxThresholds) (s₁ : List ℕ) (e₁ : s₁ ≡ withLinks rs s₀) where
+  tiny : length rs ≤ maxThresholds
   tiny = omega arith
 
   pub ready-count : Holds s₁ n

@@ -11,6 +11,7 @@ use lib.Dec.{eqb, leb, ltb}
 use lib.IntN.{ℤ, pos}
 use lib.Signed.{leZ, ltZ}
 use borrow.Author.Tests.{ltb-true, ltb-false, leb-true, leb-false, le-leb, lt-leb, le-ltb, eqb-true, eqb-false}
+use Rattle.memory.specs.Limits.{maxThresholds}
 use Rattle.lists.specs.Laid.{numbers}
 use Rattle.signed.specs.Signed.{ltZ-add}
 use Rattle.sort.specs.Sorted.{put}
@@ -22,15 +23,15 @@ use Rattle.prepare.specs.GuardOrderPickedLaws.{picked, picked-same, pick
 
 -- ---- keys as numbers
 
-pub key-number : (x t : ℕ) → t < 1024 → (x * 1024 + t) % 1024 ≡ t
+pub key-number : (x t : ℕ) → t < maxThresholds → (x * maxThresholds + t) % maxThresholds ≡ t
 key-number x t h = omega arith
 
-key-order : (x y s t : ℕ) → s < t → t < 1024 → ltb x y ≡ leb (x * 1024 + t) (y * 1024 + s)
+key-order : (x y s t : ℕ) → s < t → t < maxThresholds → ltb x y ≡ leb (x * maxThresholds + t) (y * maxThresholds + s)
 key-order x y s t h k = by (ltb x y) refl
   where
-    by : (b : Bool) → ltb x y ≡ b → b ≡ leb (x * 1024 + t) (y * 1024 + s)
-    by true e = sym (le-leb (x * 1024 + t) (y * 1024 + s) (let q = ltb-true x y e in omega arith))
-    by false e = sym (lt-leb (x * 1024 + t) (y * 1024 + s) (let q = ltb-false x y e in omega arith))
+    by : (b : Bool) → ltb x y ≡ b → b ≡ leb (x * maxThresholds + t) (y * maxThresholds + s)
+    by true e = sym (le-leb (x * maxThresholds + t) (y * maxThresholds + s) (let q = ltb-true x y e in omega arith))
+    by false e = sym (lt-leb (x * maxThresholds + t) (y * maxThresholds + s) (let q = ltb-false x y e in omega arith))
 
 raised-order : (a b : ℤ) → Bound a → Bound b → ltZ a b ≡ ltb (raised a) (raised b)
 raised-order a b h k = sym (ltZ-add a b (pos 4503599627370496)) ∙ sym (ap₂ ltZ (raised-pos a h) (raised-pos b k))
@@ -74,7 +75,7 @@ keyAt bounds t = guardKey (getD bounds t (pos 0)) t
 
 -- The guard of the threshold that a key names.
 abbrev pub keyGuard : List (List ℕ) → List ℤ → ℕ → Guard
-keyGuard ths bounds x = guardAt ths bounds (x % 1024)
+keyGuard ths bounds x = guardAt ths bounds (x % maxThresholds)
 
 -- A key of a threshold before t.
 abbrev pub Before : List ℤ → ℕ → ℕ → Type 0
@@ -96,9 +97,9 @@ keys-are bounds = keys-from bounds 0 bounds (λ i h. ap (λ (j : ℕ). getD boun
 -- The keys whose thresholds are of row k are the keys of the thresholds of row k.
 module _ (row : ℕ → ℕ) (bounds : List ℤ) (k : ℕ) where
   abbrev rowNamed : ℕ → ℕ
-  rowNamed x = row (x % 1024)
+  rowNamed x = row (x % maxThresholds)
 
-  pub picked-keys : (m a : ℕ) → a + m ≤ 1024 → picked rowNamed k (map (keyAt bounds) (numbers a m)) ≡ map (keyAt bounds) (picked row k (numbers a m))
+  pub picked-keys : (m a : ℕ) → a + m ≤ maxThresholds → picked rowNamed k (map (keyAt bounds) (numbers a m)) ≡ map (keyAt bounds) (picked row k (numbers a m))
   unfolding numbers picked
   picked-keys zero a h = refl
   picked-keys (suc m) a h = by (picked-keys m (a + 1) (omega arith)) (eqb (row a) k) refl
@@ -109,7 +110,7 @@ module _ (row : ℕ → ℕ) (bounds : List ℤ) (k : ℕ) where
       rest : List ℕ
       rest = numbers (a + 1) m
 
-      same : row (keyAt bounds a % 1024) ≡ row a
+      same : row (keyAt bounds a % maxThresholds) ≡ row a
       same = ap row (key-number (raised (getD bounds a (pos 0))) a (omega arith))
 
       by : picked rowNamed k (map key rest) ≡ map key (picked row k rest) → (b : Bool) → eqb (row a) k ≡ b
@@ -121,7 +122,7 @@ module _ (row : ℕ → ℕ) (bounds : List ℤ) (k : ℕ) where
           let q = eqb-false (row a) k e in
           picked-other rowNamed k (key a) (map key rest) (λ z. q (sym same ∙ z)) ∙ ih ∙ sym (ap (map key) (picked-other row k a rest q))
 
-module _ (ths : List (List ℕ)) (bounds : List ℤ) (many : length bounds ≤ 1024) (good : Bounds bounds)
+module _ (ths : List (List ℕ)) (bounds : List ℤ) (many : length bounds ≤ maxThresholds) (good : Bounds bounds)
     (up : (t : ℕ) → t + 1 < length bounds → nodeAt ths t < nodeAt ths (t + 1)) where
   abbrev key : ℕ → ℕ
   key = keyAt bounds

@@ -6,6 +6,7 @@ use mathlib.Core.Path.{_≡_, refl, sym, ap, ap₂, _∙_, subst}
 use mathlib.Core.List.{List, [], _∷_, _++_, map, map-map, map-append}
 use lib.ListN.{length, getD, length-map}
 use lib.IntN.{ℤ, pos}
+use Rattle.memory.specs.Limits.{maxThresholds}
 use Rattle.lists.specs.Laid.{joinAll, ends, numbers}
 use Rattle.lists.specs.Deal.{Keyed, keyed, those, grouped}
 use Rattle.sort.specs.Sorted.{sorted}
@@ -55,7 +56,7 @@ unfolding numbers
 all-numbers P f zero a h = tt
 all-numbers P f (suc m) a h = (h a (omega arith), all-numbers P f m (a + 1) (λ t q. h t (omega arith)))
 
-module _ (r : RawLists) (bounds : List ℤ) (same : length bounds ≡ length (r .thresholds)) (many : length bounds ≤ 1024) where
+module _ (r : RawLists) (bounds : List ℤ) (same : length bounds ≡ length (r .thresholds)) (many : length bounds ≤ maxThresholds) where
   abbrev keys : List ℕ
   keys = sorted (guardKeys 0 bounds)
 
@@ -71,22 +72,22 @@ module _ (r : RawLists) (bounds : List ℤ) (same : length bounds ≡ length (r 
   order-length = length-sorted (guardKeys 0 bounds) ∙ length-keys 0 bounds ∙ same
 
   -- What holds of every threshold holds of those that the keys name.
-  by-key : (P : ℕ → Type 0) → ((t : ℕ) → t < length ths → P t) → (i : ℕ) → i < length keys → P (getD keys i 0 % 1024)
+  by-key : (P : ℕ → Type 0) → ((t : ℕ) → t < length ths → P t) → (i : ℕ) → i < length keys → P (getD keys i 0 % maxThresholds)
   by-key P h = all-at Q keys (all-sorted Q (guardKeys 0 bounds) (subst (All Q) (sym (keys-are bounds)) (all-numbers Q (keyAt bounds) (length bounds) 0 each)))
     where
       Q : ℕ → Type 0
-      Q x = P (x % 1024)
+      Q x = P (x % maxThresholds)
 
-      each : (t : ℕ) → t < 0 + length bounds → P (keyAt bounds t % 1024)
+      each : (t : ℕ) → t < 0 + length bounds → P (keyAt bounds t % maxThresholds)
       each t k = subst P (sym (key-number (raised (getD bounds t (pos 0))) t (omega arith))) (h t (omega arith))
 
   -- EVERY KEY NAMES A THRESHOLD
-  pub order-names : (i : ℕ) → i < length keys → getD keys i 0 % 1024 < length ths
+  pub order-names : (i : ℕ) → i < length keys → getD keys i 0 % maxThresholds < length ths
   order-names = by-key (λ (t : ℕ). t < length ths) (λ t h. h)
 
   module _ (nodes : List (List ℕ)) (rows : (t : ℕ) → t < length ths → rowAt ths nodes t ≡ rowNumber rs (listAt r t)) where
     -- WHOSE ROW IS THERE.
-    pub order-rows : (i : ℕ) → i < length keys → rowAt ths nodes (getD keys i 0 % 1024) < length rs
+    pub order-rows : (i : ℕ) → i < length keys → rowAt ths nodes (getD keys i 0 % maxThresholds) < length rs
     order-rows = by-key (λ (t : ℕ). rowAt ths nodes t < length rs) (λ t h. subst (λ (n : ℕ). n < length rs) (sym (rows t h)) (row-there r bounds t h))
 
     -- ---- the guards

@@ -9,6 +9,7 @@ use lib.ListN.{length, getD}
 use lib.Dec.{eqb}
 use lib.IntN.{ℤ}
 use borrow.Author.Tests.{eq-eqb, ne-eqb, eqb-true, eqb-false}
+use Rattle.memory.specs.Limits.{maxThresholds}
 use Rattle.lists.specs.Laid.{numbers}
 use Rattle.numeric.specs.Threshold.{Threshold}
 use Rattle.row.specs.Terms.{sameTerms}
@@ -113,7 +114,7 @@ row-there r bounds t h = there-from (thresholdAt r bounds) (length (r .threshold
 
 -- ---- the guards of row k, after all thresholds
 
-module _ (r : RawLists) (bounds : List ℤ) (same : length bounds ≡ length (r .thresholds)) (many : length bounds ≤ 1024) (good : Bounds bounds)
+module _ (r : RawLists) (bounds : List ℤ) (same : length bounds ≡ length (r .thresholds)) (many : length bounds ≤ maxThresholds) (good : Bounds bounds)
     (up : (t : ℕ) → t + 1 < length bounds → nodeAt (r .thresholds) t < nodeAt (r .thresholds) (t + 1)) (row : ℕ → ℕ) (k : ℕ) where
   abbrev rowsFrom : ℕ → ℕ → List Row → List Row
   rowsFrom a m rs = placeAll (map (thresholdAt r bounds) (numbers a m)) rs
@@ -161,10 +162,10 @@ module _ (r : RawLists) (bounds : List ℤ) (same : length bounds ≡ length (r 
 
   -- THE GUARDS OF ROW k ARE THOSE OF ITS THRESHOLDS, IN THE ORDER OF THE KEYS.
   pub row-guards : ((t : ℕ) → t < length (r .thresholds) → row t ≡ rowNumber (givenRows r bounds) (listAt r t))
-      → guardsAt (givenRows r bounds) k ≡ map (keyGuard (r .thresholds) bounds) (picked (λ (x : ℕ). row (x % 1024)) k (sorted (guardKeys 0 bounds)))
+      → guardsAt (givenRows r bounds) k ≡ map (keyGuard (r .thresholds) bounds) (picked (λ (x : ℕ). row (x % maxThresholds)) k (sorted (guardKeys 0 bounds)))
   row-guards n =
       placed-from (length (r .thresholds)) 0 [] [] (omega arith) (λ t p q. n t (omega arith)) tt refl
       ∙ ap guards (put-sorted (map (keyAt bounds) (picked row k (numbers 0 (length (r .thresholds)))))
       ∙ ap sorted (sym (picked-keys row bounds k (length (r .thresholds)) 0 (omega arith))
-      ∙ ap (picked (λ (x : ℕ). row (x % 1024)) k) (ap (λ (m : ℕ). map (keyAt bounds) (numbers 0 m)) (sym same) ∙ sym (keys-are bounds)))
-      ∙ sym (picked-sorted (λ (x : ℕ). row (x % 1024)) k (guardKeys 0 bounds)))
+      ∙ ap (picked (λ (x : ℕ). row (x % maxThresholds)) k) (ap (λ (m : ℕ). map (keyAt bounds) (numbers 0 m)) (sym same) ∙ sym (keys-are bounds)))
+      ∙ sym (picked-sorted (λ (x : ℕ). row (x % maxThresholds)) k (guardKeys 0 bounds)))

@@ -9,6 +9,7 @@ use lib.ListN.{length, take, drop, getD, set, replicate, length-append, length-s
 use lib.Seq.{length-take-le, drop-cons, set-at, drop-drop, drop-set-lt, take-suc-set}
 use lib.Dec.{ltb}
 use borrow.Author.Tests.{ltb-true, ltb-false, lt-ltb, le-ltb}
+use Rattle.memory.specs.Limits.{maxThresholds}
 use Rattle.lists.specs.Laid.{over, joinAll, ends}
 use Rattle.numeric.specs.Threshold.{Term}
 use Rattle.row.specs.Terms.{rowTerms}
@@ -17,7 +18,7 @@ use Rattle.thresholds.specs.declared.Found.the-variants.{At, Nothing}
 use Rattle.memory.specs.Buffers.{RawLists}
 use Rattle.thresholds.specs.Raw.{startOf, endOf, listAt, fingerprint, numberIn, foundOf, Lists}
 use Rattle.thresholds.specs.RawLaws.{number-most, found-is, found-none}
-use Rattle.thresholds.specs.Chain.{nextIn, printIn, markedList, classOf, Marked, Headed}
+use Rattle.thresholds.specs.Chain.{nextIn, printIn, markedList, classOf, Marked, Headed, classCount}
 use Rattle.thresholds.specs.ChainLaws.{class-small, marked-one, headed-one, headed-none, length-marked}
 use Rattle.thresholds.specs.Placed.{spliced, rawsTo, rowTo, termsTo, rowEntry, nodesTo, Marks}
 use Rattle.thresholds.specs.PlacedLaws.{laid-behind, drop-replicate}
@@ -111,13 +112,13 @@ module _ (r : RawLists) (t rows : ℕ) (scratch heads : List ℕ) (k : Marks r t
   pub marks-few : rows ≤ t
   marks-few = let q = raws-few r t in let e = k .many in omega arith
 
-  pub marks-tail : rows ≤ 1024 → drop 1024 scratch ≡ replicate (length scratch - 1024) 0
+  pub marks-tail : rows ≤ maxThresholds → drop maxThresholds scratch ≡ replicate (length scratch - maxThresholds) 0
   marks-tail h =
-      let e : rows + (1024 - rows) ≡ 1024 = omega arith in
-      sym (drop-drop (1024 - rows) rows scratch ∙ ap (λ (n : ℕ). drop n scratch) e) ∙ ap (drop (1024 - rows)) (k .clear) ∙ drop-replicate (1024 - rows) (length scratch - rows)
-      ∙ ap (λ (n : ℕ). replicate n 0) (let q : length scratch - rows - (1024 - rows) ≡ length scratch - 1024 = omega arith in q)
+      let e : rows + (maxThresholds - rows) ≡ maxThresholds = omega arith in
+      sym (drop-drop (maxThresholds - rows) rows scratch ∙ ap (λ (n : ℕ). drop n scratch) e) ∙ ap (drop (maxThresholds - rows)) (k .clear) ∙ drop-replicate (maxThresholds - rows) (length scratch - rows)
+      ∙ ap (λ (n : ℕ). replicate n 0) (let q : length scratch - rows - (maxThresholds - rows) ≡ length scratch - maxThresholds = omega arith in q)
 
-  marks-new : (m : ℕ) → rows < length scratch → m % 1024 ≡ t → printIn m ≡ fingerprint (listAt r t) → nextIn m ≡ getD heads (classOf (printIn m)) 0
+  marks-new : (m : ℕ) → rows < length scratch → m % maxThresholds ≡ t → printIn m ≡ fingerprint (listAt r t) → nextIn m ≡ getD heads (classOf (printIn m)) 0
       → t < length (r .thresholds) → rowTo r t ≡ rows → Marks r (t + 1) (rows + 1) (set scratch rows m) (set heads (classOf (printIn m)) (rows + 1))
   marks-new m h e p c g n =
       let i = n ∙ k .many in
@@ -179,7 +180,7 @@ module _ (r : RawLists) (t : ℕ) (so : Extent) (cs ws scratch heads : List ℕ)
         → end ≡ so .end + length (rowTerms x)
         → length cs′ ≡ length cs → cs′ ≡ spliced (so .end) (e - a) cs (laid (e - a) (conditionsOf (rowTerms x)))
         → length ws′ ≡ length ws → ws′ ≡ spliced (so .end) (e - a) ws (laid (e - a) (weightsOf (rowTerms x)))
-        → m % 1024 ≡ t → printIn m ≡ fingerprint (listAt r t) → nextIn m ≡ getD heads (classOf (printIn m)) 0 → scratch′ ≡ scratch
+        → m % maxThresholds ≡ t → printIn m ≡ fingerprint (listAt r t) → nextIn m ≡ getD heads (classOf (printIn m)) 0 → scratch′ ≡ scratch
         → heads′ ≡ set heads (classOf (printIn m)) (so .rows + 1)
         → Placing r (t + 1) (extent (so .rows + 1) end) cs′ ws′ (set scratch′ (so .rows) m) heads′
     placing-new end m cs′ ws′ scratch′ heads′ room even some q kc ec kw ew mt mp mn es eh =
@@ -196,7 +197,7 @@ module _ (r : RawLists) (t : ℕ) (so : Extent) (cs ws scratch heads : List ℕ)
 
 -- Where a next row would go there is room, in the rows and among the marks.
 pub record Within (r : RawLists) (t : ℕ) (so : Extent) (rows : List (List ℕ)) (scratch : List ℕ) : Type 0 where
-  pub turn : t < 1024
+  pub turn : t < maxThresholds
   pub few : so .rows ≤ t
   pub row : so .rows < length rows
   pub word : so .rows < length scratch
@@ -258,7 +259,7 @@ nodes-next r t nodes₀ nodes nodes′ e s = s ∙ ap (λ (l : List (List ℕ)).
 
 -- ---- before the first
 
-pub placing-start : (r : RawLists) (cs ws scratch heads : List ℕ) → Blank cs → Blank ws → Blank scratch → Blank heads → 1024 ≤ length heads
+pub placing-start : (r : RawLists) (cs ws scratch heads : List ℕ) → Blank cs → Blank ws → Blank scratch → Blank heads → classCount ≤ length heads
     → Placing r 0 (extent 0 0) cs ws scratch heads
 unfolding rawsTo joinAll
 placing-start r cs ws scratch heads a b c d l = record {

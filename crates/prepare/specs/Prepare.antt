@@ -4,6 +4,8 @@ use mathlib.Core.Path.{_≡_}
 use mathlib.Core.List.{List, _++_, map}
 use lib.ListN.{length, getD, take, drop, replicate}
 use lib.IntN.{ℤ}
+use Rattle.thresholds.specs.Chain.{classCount}
+use Rattle.memory.specs.Limits.{maxThresholds}
 use Rattle.lists.specs.Laid.{over, joinAll, ends}
 use Rattle.lists.specs.Deal.{Keyed, grouped}
 use Rattle.lists.specs.Columns.{column, withColumn, Wide}
@@ -38,7 +40,7 @@ pub record Ample (total count : ℕ) (b : Built) (scratch : List ℕ) : Type 0 w
   pub spare : count ≤ length (b .held .row-weights)
   pub rows : count ≤ length (b .held .rows)
   pub bounds : count ≤ length (b .held .guard-bounds)
-  pub guards : 1024 ≤ length (b .held .guard-nodes)
+  pub guards : maxThresholds ≤ length (b .held .guard-nodes)
   pub edges : total ≤ length (b .edges)
   pub words : 3072 ≤ length scratch
   pub conditions-clear : Blank (b .held .row-conditions)
@@ -67,8 +69,8 @@ pub record Placeable (r : RawLists) (cs ws : List ℕ) (rows nodes : List (List 
   pub weights-clear : Blank ws
   pub many : length (r .thresholds) ≤ length rows
   pub words : 3072 ≤ length scratch
-  pub words-clear : drop 1024 scratch ≡ replicate (length scratch - 1024) 0
-  pub classes : 1024 ≤ length heads
+  pub words-clear : drop maxThresholds scratch ≡ replicate (length scratch - maxThresholds) 0
+  pub classes : classCount ≤ length heads
   pub classes-clear : Blank heads
 
 -- Rows placed: their number, where their terms end, the terms, the end of each, and each threshold and its row at its node.
@@ -85,10 +87,10 @@ pub record Dealable (ths : List (List ℕ)) (bounds : List ℤ) (nodes : List (L
   pub even : length bounds ≡ length ths
   pub inside : NodesIn ths nodes
   pub wide : Wide 1 rows
-  pub names : (i : ℕ) → i < length keys → getD keys i 0 % 1024 < length ths
-  pub placed : (i : ℕ) → i < length keys → rowAt ths nodes (getD keys i 0 % 1024) < length rows
+  pub names : (i : ℕ) → i < length keys → getD keys i 0 % maxThresholds < length ths
+  pub placed : (i : ℕ) → i < length keys → rowAt ths nodes (getD keys i 0 % maxThresholds) < length rows
   pub clear : column 1 rows ≡ replicate (length rows) 0
-  pub few : length bounds ≤ 1024
+  pub few : length bounds ≤ maxThresholds
 
 -- Guards dealt to so many rows: where those of each row end, their bounds and their nodes.
 pub record Guarded (ths : List (List ℕ)) (bounds : List ℤ) (nodes : List (List ℕ)) (keys : List ℕ) (count : ℕ) (rows : List (List ℕ)) (gb : List ℤ) (gn : List ℕ)

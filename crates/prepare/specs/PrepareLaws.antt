@@ -7,6 +7,8 @@ use mathlib.Core.List.{List, [], _∷_, _++_, map}
 use lib.ListN.{length, getD, take, drop, replicate, length-map, length-replicate, List·getD-eq-default}
 use lib.Seq.{length-take-le, take-at, drop-at}
 use lib.IntN.{ℤ}
+use Rattle.thresholds.specs.Chain.{classCount}
+use Rattle.memory.specs.Limits.{maxThresholds}
 use Rattle.lists.specs.Laid.{over, joinAll, ends, triples, numbers}
 use Rattle.lists.specs.Deal.{Keyed, grouped}
 use Rattle.lists.specs.Columns.{column, withColumn, Wide}
@@ -42,19 +44,19 @@ use Rattle.prepare.specs.GuardOrderLaws.{order-length, order-names, orde
 -- ---- placing, in parts of the buffers
 
 pub open-ready : (r : RawLists) (cs ws : List ℕ) (rows nodes : List (List ℕ)) (scratch heads : List ℕ) → Placeable r cs ws rows nodes scratch heads
-    → Ready r (take (length (r .raw-conditions)) cs) (take (length (r .raw-conditions)) ws) rows (stretch 1024 (length scratch) scratch)
-    × NodesIn (r .thresholds) nodes × Blank (take (length (r .raw-conditions)) cs) × Blank (take (length (r .raw-conditions)) ws) × Blank (stretch 1024 (length scratch) scratch)
-    × Blank heads × (1024 ≤ length heads)
+    → Ready r (take (length (r .raw-conditions)) cs) (take (length (r .raw-conditions)) ws) rows (stretch maxThresholds (length scratch) scratch)
+    × NodesIn (r .thresholds) nodes × Blank (take (length (r .raw-conditions)) cs) × Blank (take (length (r .raw-conditions)) ws) × Blank (stretch maxThresholds (length scratch) scratch)
+    × Blank heads × (classCount ≤ length heads)
 open-ready r cs ws rows nodes scratch heads o =
     let lc = length-take-le (length (r .raw-conditions)) cs (o .conditions) in
     let lw = length-take-le (length (r .raw-conditions)) ws (o .weights) in
-    let ls = tail-long scratch 1024 in
+    let ls = tail-long scratch maxThresholds in
     let w = o .words in (
       record { lists = o .lists; below = o .below; few = o .few; room = omega arith; even = omega arith; many = o .many; words = omega arith },
       o .inside,
       blank-take (length (r .raw-conditions)) cs (o .conditions-clear) (o .conditions),
       blank-take (length (r .raw-conditions)) ws (o .weights-clear) (o .weights),
-      tail-blank scratch 1024 (o .words-clear),
+      tail-blank scratch maxThresholds (o .words-clear),
       o .classes-clear,
       o .classes,
     )
@@ -85,7 +87,7 @@ module _ (r : RawLists) (bounds : List ℤ) (b : Built) (sc : List ℕ) (s : Sou
   abbrev keys : List ℕ
   keys = sorted (guardKeys 0 bounds)
 
-  few-bounds : length bounds ≤ 1024
+  few-bounds : length bounds ≤ maxThresholds
   few-bounds = let e = s .even in let h = s .lists .many in omega arith
 
   length-keys : length keys ≡ length bounds
@@ -115,8 +117,8 @@ module _ (r : RawLists) (bounds : List ℤ) (b : Built) (sc : List ℕ) (s : Sou
       weights-clear = subst (λ (l : List ℕ). Blank l) (sym ew) (m .weights-clear);
       many = m .rows;
       words = let e = long-words in let w = m .words in omega arith;
-      words-clear = ap (drop 1024) es ∙ keys-behind keys sc 1024 (let k = length-keys in let h = few-bounds in omega arith)
-          ∙ blank-drop 1024 sc (m .words-clear) ∙ ap (λ (k : ℕ). replicate (k - 1024) 0) (sym long-words);
+      words-clear = ap (drop maxThresholds) es ∙ keys-behind keys sc maxThresholds (let k = length-keys in let h = few-bounds in omega arith)
+          ∙ blank-drop maxThresholds sc (m .words-clear) ∙ ap (λ (k : ℕ). replicate (k - maxThresholds) 0) (sym long-words);
       classes = m .guards;
       classes-clear = m .guards-clear;
     }
@@ -169,9 +171,9 @@ module _ (r : RawLists) (bounds : List ℤ) (b : Built) (sc : List ℕ) (s : Sou
         even = s .even;
         inside = λ t h. let p = s .inside t h in let q = long-nodes in omega arith;
         wide = subst (λ (l : List (List ℕ)). Wide 1 l) (sym front) wide-E;
-        names = subst (λ (l : List ℕ). (i : ℕ) → i < length l → getD l i 0 % 1024 < length (r .thresholds)) (sym keys-there) (order-names r bounds (s .even) few-bounds);
-        placed = subst (λ (l : List ℕ). (i : ℕ) → i < length l → rowAt (r .thresholds) nodes₁ (getD l i 0 % 1024) < length (take k rows₁)) (sym keys-there)
-            (subst (λ (j : ℕ). (i : ℕ) → i < length keys → rowAt (r .thresholds) nodes₁ (getD keys i 0 % 1024) < j) long-front (order-rows r bounds (s .even) few-bounds nodes₁ row-at));
+        names = subst (λ (l : List ℕ). (i : ℕ) → i < length l → getD l i 0 % maxThresholds < length (r .thresholds)) (sym keys-there) (order-names r bounds (s .even) few-bounds);
+        placed = subst (λ (l : List ℕ). (i : ℕ) → i < length l → rowAt (r .thresholds) nodes₁ (getD l i 0 % maxThresholds) < length (take k rows₁)) (sym keys-there)
+            (subst (λ (j : ℕ). (i : ℕ) → i < length keys → rowAt (r .thresholds) nodes₁ (getD keys i 0 % maxThresholds) < j) long-front (order-rows r bounds (s .even) few-bounds nodes₁ row-at));
         clear = subst (λ (l : List (List ℕ)). column 1 l ≡ replicate (length l) 0) (sym front) clear-E;
         few = few-bounds;
       }

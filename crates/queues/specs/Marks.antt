@@ -2,6 +2,7 @@
 use Prim.Native.Nat.{ℕ}
 use mathlib.Core.Bool.{Bool, true, false}
 use mathlib.Core.List.{List}
+use Rattle.memory.specs.Limits.{maxNodes}
 use Rattle.state.specs.declared.Step.{Step}
 use Rattle.state.specs.declared.Step.the-variants.{Unchanged, Changed, Contradiction}
 use Rattle.words.specs.Mask.{inEither, learn}
@@ -29,7 +30,7 @@ decided m s = record { marks = m; step = s }
 -- Only a node that is new waits.
 abbrev pub waiting : Step → Queue → ℕ → Queue
 waiting Unchanged q n = q
-waiting Changed q n = push 4096 q n
+waiting Changed q n = push maxNodes q n
 waiting Contradiction q n = q
 
 -- The node is sure (true) or never (false).

@@ -9,6 +9,7 @@ use native.Mathlib.Omega.{arith}
 use lib.Dec.{eqb, lit<}
 use lib.ListN.{length, replicate, length-replicate, List·getD-eq-default}
 use lib.Pow.{pow-pos}
+use Rattle.memory.specs.Limits.{maxNodes}
 use Rattle.state.specs.declared.Step.{Step}
 use Rattle.state.specs.declared.Step.the-variants.{Unchanged, Changed, Contradiction}
 use Rattle.words.specs.Mask.{bit, digit, setBit, learn, Learned}
@@ -75,7 +76,7 @@ module _ (value : Bool) (m : Marks) (n : ℕ) where
       ∙ ap (λ (x : Marks). decided x Contradiction) (put-back value m)
 
   pub decide-new : bit (mask value m) n ≡ false → bit (mask (not value) m) n ≡ false
-      → decide value m n ≡ decided (put value m (setBit (mask value m) n) (push 4096 (m .nodes) n)) Changed
+      → decide value m n ≡ decided (put value m (setBit (mask value m) n) (push maxNodes (m .nodes) n)) Changed
   decide-new h k = decide-is value m n ∙ ap (made value m n) (learn-new (mask value m) (mask (not value) m) n h k)
 
 -- The node waits exactly if the answer is Changed.
@@ -138,26 +139,26 @@ clash h = let z : _≡_ {A = ℕ} 0 1 = cc in omega arith
 
 -- Each node waits at most once, and only a decided one.
 pub record Waits (m : Marks) : Type 0 where
-  pub held : Held 4096 (m .nodes)
+  pub held : Held maxNodes (m .nodes)
   pub sures : length (m .sure) ≡ 64
   pub nevers : length (m .never) ≡ 64
-  pub once : (n : ℕ) → times n (waitingList 4096 (m .nodes)) ≤ 1
-  pub idle : (n : ℕ) → isDecided m n ≡ false → times n (waitingList 4096 (m .nodes)) ≡ 0
+  pub once : (n : ℕ) → times n (waitingList maxNodes (m .nodes)) ≤ 1
+  pub idle : (n : ℕ) → isDecided m n ≡ false → times n (waitingList maxNodes (m .nodes)) ≡ 0
 
 module _ (m : Marks) (w : Waits m) where
-  none : (n : ℕ) → 4096 ≤ n → isDecided m n ≡ false
+  none : (n : ℕ) → maxNodes ≤ n → isDecided m n ≡ false
   none n h =
       ap (λ (b : Bool). b || bit (m .never) n) (behind (m .sure) n (omega (arith, w .sures)))
       ∙ behind (m .never) n (omega (arith, w .nevers))
 
   -- So there is room for each node that is not decided yet.
-  pub waits-room : (n : ℕ) → n < 4096 → isDecided m n ≡ false → m .nodes .ring .count < 4096
+  pub waits-room : (n : ℕ) → n < maxNodes → isDecided m n ≡ false → m .nodes .ring .count < maxNodes
   waits-room n h d =
-      room-left 4096 (m .nodes) (w .held) (w .once) (λ i k. w .idle i (none i k)) n h (w .idle n d)
+      room-left maxNodes (m .nodes) (w .held) (w .once) (λ i k. w .idle i (none i k)) n h (w .idle n d)
 
-  new : (value : Bool) (n : ℕ) → n < 4096 → isDecided m n ≡ false → Waits (put value m (setBit (mask value m) n) (push 4096 (m .nodes) n))
+  new : (value : Bool) (n : ℕ) → n < maxNodes → isDecided m n ≡ false → Waits (put value m (setBit (mask value m) n) (push maxNodes (m .nodes) n))
   new value n h d = record {
-    held = rw nodes (held-push 4096 (m .nodes) (w .held) n (waits-room n h d));
+    held = rw nodes (held-push maxNodes (m .nodes) (w .held) n (waits-room n h d));
     sures = sures value;
     nevers = nevers value;
     once = λ k. rw nodes (rw (more k) (one k (ℕ-discrete k n)));
@@ -167,14 +168,14 @@ module _ (m : Marks) (w : Waits m) where
       put-in : List ℕ
       put-in = setBit (mask value m) n
 
-      nodes : put value m put-in (push 4096 (m .nodes) n) .nodes ≡ push 4096 (m .nodes) n
-      nodes = put-nodes value m put-in (push 4096 (m .nodes) n)
+      nodes : put value m put-in (push maxNodes (m .nodes) n) .nodes ≡ push maxNodes (m .nodes) n
+      nodes = put-nodes value m put-in (push maxNodes (m .nodes) n)
 
-      sures : (v : Bool) → length (put v m (setBit (mask v m) n) (push 4096 (m .nodes) n) .sure) ≡ 64
+      sures : (v : Bool) → length (put v m (setBit (mask v m) n) (push maxNodes (m .nodes) n) .sure) ≡ 64
       sures true = length-set-bit (m .sure) n ∙ w .sures
       sures false = w .sures
 
-      nevers : (v : Bool) → length (put v m (setBit (mask v m) n) (push 4096 (m .nodes) n) .never) ≡ 64
+      nevers : (v : Bool) → length (put v m (setBit (mask v m) n) (push maxNodes (m .nodes) n) .never) ≡ 64
       nevers true = w .nevers
       nevers false = length-set-bit (m .never) n ∙ w .nevers
 
@@ -182,24 +183,24 @@ module _ (m : Marks) (w : Waits m) where
       long true = w .sures
       long false = w .nevers
 
-      more : (k : ℕ) → times k (waitingList 4096 (push 4096 (m .nodes) n)) ≡ times k (n ∷ waitingList 4096 (m .nodes))
-      more = push-times 4096 (m .nodes) (w .held) n (waits-room n h d)
+      more : (k : ℕ) → times k (waitingList maxNodes (push maxNodes (m .nodes) n)) ≡ times k (n ∷ waitingList maxNodes (m .nodes))
+      more = push-times maxNodes (m .nodes) (w .held) n (waits-room n h d)
 
-      one : (k : ℕ) → Dec (k ≡ n) → times k (n ∷ waitingList 4096 (m .nodes)) ≤ 1
-      one k (yes e) = rw e (omega (arith, times-same n (waitingList 4096 (m .nodes)), w .idle n d))
-      one k (no f) = omega (arith, times-other k n (waitingList 4096 (m .nodes)) f, w .once k)
+      one : (k : ℕ) → Dec (k ≡ n) → times k (n ∷ waitingList maxNodes (m .nodes)) ≤ 1
+      one k (yes e) = rw e (omega (arith, times-same n (waitingList maxNodes (m .nodes)), w .idle n d))
+      one k (no f) = omega (arith, times-other k n (waitingList maxNodes (m .nodes)) f, w .once k)
 
-      gone : (k : ℕ) → Dec (k ≡ n) → isDecided (put value m put-in (push 4096 (m .nodes) n)) k ≡ false
-          → times k (n ∷ waitingList 4096 (m .nodes)) ≡ 0
+      gone : (k : ℕ) → Dec (k ≡ n) → isDecided (put value m put-in (push maxNodes (m .nodes) n)) k ≡ false
+          → times k (n ∷ waitingList maxNodes (m .nodes)) ≡ 0
       gone k (yes e) f =
-          let t = decided-same value m put-in (push 4096 (m .nodes) n) n (set-bit-same (mask value m) n (omega (arith, long value))) in
-          absurd (clash (sym t ∙ ap (isDecided (put value m put-in (push 4096 (m .nodes) n))) (sym e) ∙ f))
+          let t = decided-same value m put-in (push maxNodes (m .nodes) n) n (set-bit-same (mask value m) n (omega (arith, long value))) in
+          absurd (clash (sym t ∙ ap (isDecided (put value m put-in (push maxNodes (m .nodes) n))) (sym e) ∙ f))
       gone k (no g) f =
-          times-other k n (waitingList 4096 (m .nodes)) g
-          ∙ w .idle k (sym (decided-other value m put-in (push 4096 (m .nodes) n) k (set-bit-other (mask value m) n k g)) ∙ f)
+          times-other k n (waitingList maxNodes (m .nodes)) g
+          ∙ w .idle k (sym (decided-other value m put-in (push maxNodes (m .nodes) n) k (set-bit-other (mask value m) n k g)) ∙ f)
 
   -- Deciding a node keeps this, and so does taking the oldest.
-  pub waits-decide : (value : Bool) (n : ℕ) → n < 4096 → Waits (decide value m n .marks)
+  pub waits-decide : (value : Bool) (n : ℕ) → n < maxNodes → Waits (decide value m n .marks)
   waits-decide value n h = by (bit (mask value m) n) refl (bit (mask (not value) m) n) refl
     where
       by : (s : Bool) → bit (mask value m) n ≡ s → (t : Bool) → bit (mask (not value) m) n ≡ t → Waits (decide value m n .marks)
@@ -207,20 +208,20 @@ module _ (m : Marks) (w : Waits m) where
       by false e true f = rw (decide-clash value m n e f) w
       by false e false f = rw (decide-new value m n e f) (new value n h (both-none value m n e f))
 
-  pub waits-popped : 0 < m .nodes .ring .count → Waits (marks (m .sure) (m .never) (popped 4096 (m .nodes)))
+  pub waits-popped : 0 < m .nodes .ring .count → Waits (marks (m .sure) (m .never) (popped maxNodes (m .nodes)))
   waits-popped h = record {
-    held = held-popped 4096 (m .nodes) (w .held);
+    held = held-popped maxNodes (m .nodes) (w .held);
     sures = w .sures;
     nevers = w .nevers;
     once = λ n. omega (arith, less n, w .once n);
     idle = λ n d. omega (arith, less n, w .idle n d);
   }
     where
-      less : (n : ℕ) → times n (waitingList 4096 (popped 4096 (m .nodes))) ≤ times n (waitingList 4096 (m .nodes))
-      less n = rw (popped-times 4096 (m .nodes) (w .held) h n) (times-behind n (oldest (m .nodes)) (waitingList 4096 (popped 4096 (m .nodes))))
+      less : (n : ℕ) → times n (waitingList maxNodes (popped maxNodes (m .nodes))) ≤ times n (waitingList maxNodes (m .nodes))
+      less n = rw (popped-times maxNodes (m .nodes) (w .held) h n) (times-behind n (oldest (m .nodes)) (waitingList maxNodes (popped maxNodes (m .nodes))))
 
 -- Nothing is decided in cleared masks, and nothing waits.
-pub waits-none : (l : List ℕ) → 4096 ≤ length l → Waits (marks (replicate 64 0) (replicate 64 0) (queue l (ring 0 0)))
+pub waits-none : (l : List ℕ) → maxNodes ≤ length l → Waits (marks (replicate 64 0) (replicate 64 0) (queue l (ring 0 0)))
 unfolding entries times
 waits-none l h = record {
   held = record { head = lit< tt; count = omega arith; long = h };

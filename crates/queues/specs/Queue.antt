@@ -4,6 +4,7 @@ use mathlib.Core.Bool.{Bool, cond}
 use mathlib.Core.List.{List, [], _∷_}
 use lib.ListN.{length, getD, set}
 use lib.Dec.{eqb}
+use Rattle.memory.specs.Limits.{maxThresholds}
 use Rattle.lists.specs.Columns.{column}
 use Rattle.queues.specs.declared.Ring.{Ring}
 
@@ -57,11 +58,11 @@ rows q p = record { queue = q; pending = p }
 
 -- `queue_row`: a row that waits already is not queued again.
 unfoldable pub queueRow : Rows → ℕ → Rows
-queueRow q r = cond (eqb (getD (q .pending) r 0) 1) q (rows (push 1024 (q .queue) r) (set (q .pending) r 1))
+queueRow q r = cond (eqb (getD (q .pending) r 0) 1) q (rows (push maxThresholds (q .queue) r) (set (q .pending) r 1))
 
 -- `next_row`: the flag falls when the row is taken.
 unfoldable pub nextRow : Rows → Rows
-nextRow q = rows (popped 1024 (q .queue)) (set (q .pending) (oldest (q .queue)) 0)
+nextRow q = rows (popped maxThresholds (q .queue)) (set (q .pending) (oldest (q .queue)) 0)
 
 -- ---- two queues of rows in one buffer of slots
 

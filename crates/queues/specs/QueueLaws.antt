@@ -12,6 +12,7 @@ use native.Mathlib.Omega.{arith}
 use borrow.Author.Tests.{eq-eqb, ne-eqb, eqb-true}
 use lib.ListN.{length, getD, set, length-set}
 use lib.Seq.{getD-set-same, getD-set-other}
+use Rattle.memory.specs.Limits.{maxThresholds}
 use Rattle.queues.specs.Once.{times, times-last, room}
 use Rattle.queues.specs.Queue.{Queue, queue, Held, isEmpty, oldest, push, popped, Rows, rows, queueRow}
 
@@ -154,6 +155,6 @@ pub row-waits : (q : Rows) (r : ℕ) → getD (q .pending) r 0 ≡ 1 → queueRo
 unfolding queueRow
 row-waits q r e = rw (eq-eqb (getD (q .pending) r 0) 1 e)
 
-pub row-new : (q : Rows) (r : ℕ) → getD (q .pending) r 0 ≢ 1 → queueRow q r ≡ rows (push 1024 (q .queue) r) (set (q .pending) r 1)
+pub row-new : (q : Rows) (r : ℕ) → getD (q .pending) r 0 ≢ 1 → queueRow q r ≡ rows (push maxThresholds (q .queue) r) (set (q .pending) r 1)
 unfolding queueRow
 row-new q r e = rw (ne-eqb (getD (q .pending) r 0) 1 e)

@@ -9,6 +9,7 @@ use native.Mathlib.Omega.{arith}
 use lib.Dec.{lit<}
 use lib.ListN.{length, getD, set, length-set, replicate, length-replicate, List·getD-eq-default}
 use lib.Seq.{getD-set-same, getD-set-other}
+use Rattle.memory.specs.Limits.{maxThresholds}
 use Rattle.queues.specs.Queue.{queue, ring, Held, oldest, push, popped, Rows, rows, queueRow, nextRow}
 use Rattle.queues.specs.QueueLaws.{entries, waitingList, push-times, popped-times, room-left, held-push, held-popped, row-waits, row-new}
 use Rattle.queues.specs.Once.{times, times-same, times-other, within}
@@ -22,16 +23,16 @@ small-set l r v s k f i = by (ℕ-discrete i r)
 
 -- A row waits as often as its flag says, which is once or not at all.
 pub record Flags (q : Rows) : Type 0 where
-  pub held : Held 1024 (q .queue)
-  pub long : length (q .pending) ≡ 1024
-  pub flag : (r : ℕ) → times r (waitingList 1024 (q .queue)) ≡ getD (q .pending) r 0
+  pub held : Held maxThresholds (q .queue)
+  pub long : length (q .pending) ≡ maxThresholds
+  pub flag : (r : ℕ) → times r (waitingList maxThresholds (q .queue)) ≡ getD (q .pending) r 0
   pub once : (r : ℕ) → getD (q .pending) r 0 ≤ 1
 
 module _ (q : Rows) (f : Flags q) where
   -- There is room for a row that does not wait.
-  pub flags-room : (r : ℕ) → r < 1024 → getD (q .pending) r 0 ≢ 1 → q .queue .ring .count < 1024
+  pub flags-room : (r : ℕ) → r < maxThresholds → getD (q .pending) r 0 ≢ 1 → q .queue .ring .count < maxThresholds
   flags-room r h n =
-      room-left 1024 (q .queue) (f .held) (λ i. omega (arith, f .flag i, f .once i))
+      room-left maxThresholds (q .queue) (f .held) (λ i. omega (arith, f .flag i, f .once i))
       (λ i k. f .flag i ∙ List·getD-eq-default (q .pending) 0 (omega (arith, f .long)))
       r h (omega (arith, f .flag r, f .once r))
 
@@ -39,15 +40,15 @@ module _ (q : Rows) (f : Flags q) where
   pub flags-oldest : 0 < q .queue .ring .count → getD (q .pending) (oldest (q .queue)) 0 ≡ 1
   flags-oldest h =
       let o = oldest (q .queue) in
-      omega (arith, popped-times 1024 (q .queue) (f .held) h o, times-same o (waitingList 1024 (popped 1024 (q .queue))), f .flag o, f .once o)
+      omega (arith, popped-times maxThresholds (q .queue) (f .held) h o, times-same o (waitingList maxThresholds (popped maxThresholds (q .queue))), f .flag o, f .once o)
 
   pub oldest-row : 0 < q .queue .ring .count → oldest (q .queue) < length (q .pending)
   oldest-row h = within (q .pending) (oldest (q .queue)) (omega (arith, flags-oldest h))
 
   -- Both are kept when a row is queued, and when the oldest is taken.
-  new : (r : ℕ) → r < 1024 → getD (q .pending) r 0 ≢ 1 → Flags (rows (push 1024 (q .queue) r) (set (q .pending) r 1))
+  new : (r : ℕ) → r < maxThresholds → getD (q .pending) r 0 ≢ 1 → Flags (rows (push maxThresholds (q .queue) r) (set (q .pending) r 1))
   new r h n = record {
-    held = held-push 1024 (q .queue) (f .held) r (flags-room r h n);
+    held = held-push maxThresholds (q .queue) (f .held) r (flags-room r h n);
     long = length-set (q .pending) r 1 ∙ f .long;
     flag = λ i. by i (ℕ-discrete i r);
     once = small-set (q .pending) r 1 (omega arith) k (f .once);
@@ -56,14 +57,14 @@ module _ (q : Rows) (f : Flags q) where
       k : r < length (q .pending)
       k = omega (arith, f .long)
 
-      more : (i : ℕ) → times i (waitingList 1024 (push 1024 (q .queue) r)) ≡ times i (r ∷ waitingList 1024 (q .queue))
-      more = push-times 1024 (q .queue) (f .held) r (flags-room r h n)
+      more : (i : ℕ) → times i (waitingList maxThresholds (push maxThresholds (q .queue) r)) ≡ times i (r ∷ waitingList maxThresholds (q .queue))
+      more = push-times maxThresholds (q .queue) (f .held) r (flags-room r h n)
 
-      by : (i : ℕ) → Dec (i ≡ r) → times i (waitingList 1024 (push 1024 (q .queue) r)) ≡ getD (set (q .pending) r 1) i 0
-      by i (yes e) = rw e (more r ∙ omega (arith, f .flag r, f .once r, times-same r (waitingList 1024 (q .queue))) ∙ sym (getD-set-same (q .pending) r 1 0 k))
-      by i (no d) = more i ∙ times-other i r (waitingList 1024 (q .queue)) d ∙ f .flag i ∙ sym (getD-set-other (q .pending) r i 1 0 d)
+      by : (i : ℕ) → Dec (i ≡ r) → times i (waitingList maxThresholds (push maxThresholds (q .queue) r)) ≡ getD (set (q .pending) r 1) i 0
+      by i (yes e) = rw e (more r ∙ omega (arith, f .flag r, f .once r, times-same r (waitingList maxThresholds (q .queue))) ∙ sym (getD-set-same (q .pending) r 1 0 k))
+      by i (no d) = more i ∙ times-other i r (waitingList maxThresholds (q .queue)) d ∙ f .flag i ∙ sym (getD-set-other (q .pending) r i 1 0 d)
 
-  pub flags-queue : (r : ℕ) → r < 1024 → Flags (queueRow q r)
+  pub flags-queue : (r : ℕ) → r < maxThresholds → Flags (queueRow q r)
   flags-queue r h = by (ℕ-discrete (getD (q .pending) r 0) 1)
     where
       by : Dec (getD (q .pending) r 0 ≡ 1) → Flags (queueRow q r)
@@ -73,7 +74,7 @@ module _ (q : Rows) (f : Flags q) where
   pub flags-next : 0 < q .queue .ring .count → Flags (nextRow q)
   unfolding nextRow
   flags-next h = record {
-    held = held-popped 1024 (q .queue) (f .held);
+    held = held-popped maxThresholds (q .queue) (f .held);
     long = length-set (q .pending) o 0 ∙ f .long;
     flag = λ i. by i (ℕ-discrete i o);
     once = small-set (q .pending) o 0 (omega arith) (oldest-row h) (f .once);
@@ -83,23 +84,23 @@ module _ (q : Rows) (f : Flags q) where
       o = oldest (q .queue)
 
       rest : List ℕ
-      rest = waitingList 1024 (popped 1024 (q .queue))
+      rest = waitingList maxThresholds (popped maxThresholds (q .queue))
 
       first : (i : ℕ) → times i (o ∷ rest) ≡ getD (q .pending) i 0
-      first i = sym (popped-times 1024 (q .queue) (f .held) h i) ∙ f .flag i
+      first i = sym (popped-times maxThresholds (q .queue) (f .held) h i) ∙ f .flag i
 
       by : (i : ℕ) → Dec (i ≡ o) → times i rest ≡ getD (set (q .pending) o 0) i 0
       by i (yes e) = rw e (omega (arith, times-same o rest, first o, f .once o) ∙ sym (getD-set-same (q .pending) o 0 0 (oldest-row h)))
       by i (no d) = sym (times-other i o rest d) ∙ first i ∙ sym (getD-set-other (q .pending) o i 0 0 d)
 
 -- Nothing waits in cleared buffers.
-pub flags-none : (l : List ℕ) → 1024 ≤ length l → Flags (rows (queue l (ring 0 0)) (replicate 1024 0))
+pub flags-none : (l : List ℕ) → maxThresholds ≤ length l → Flags (rows (queue l (ring 0 0)) (replicate maxThresholds 0))
 unfolding entries times
 flags-none l h = record {
   held = record { head = lit< tt; count = omega arith; long = h };
-  long = length-replicate {A = ℕ} 1024 0;
-  flag = λ i. sym (none 1024 i);
-  once = λ i. omega (arith, none 1024 i);
+  long = length-replicate {A = ℕ} maxThresholds 0;
+  flag = λ i. sym (none maxThresholds i);
+  once = λ i. omega (arith, none maxThresholds i);
 }
   where
     none : (n i : ℕ) → _≡_ {A = ℕ} (getD (replicate n 0) i 0) 0

@@ -6,6 +6,7 @@ use mathlib.Core.Logic.{_≢_}
 use mathlib.Core.List.{List, [], _∷_, map}
 use lib.ListN.{length, getD, set}
 use lib.Seq.{getD-set-same, getD-set-other, set-getD}
+use Rattle.memory.specs.Limits.{maxThresholds}
 use Rattle.lists.specs.Columns.{column}
 use Rattle.lists.specs.ColumnsLaws.{column-at}
 use Rattle.queues.specs.declared.Ring.{Ring}
@@ -71,9 +72,9 @@ module _ (k : ℕ) (small : k < 4) (even : k % 2 ≡ 0) (slots : List (List ℕ)
   slots-waits row e = sym (row-waits (rowsIn k slots r) row (column-at (k + 1) slots row ∙ e))
 
   -- A row is queued: its flag is raised, and it is written behind all others.
-  module _ (row : ℕ) (new : getD (getD slots row []) (k + 1) 0 ≢ 1) (at : ℕ) (last : at ≡ behind 1024 r) (s t : List (List ℕ))
+  module _ (row : ℕ) (new : getD (getD slots row []) (k + 1) 0 ≢ 1) (at : ℕ) (last : at ≡ behind maxThresholds r) (s t : List (List ℕ))
       (flag : s ≡ put slots row (k + 1) 1) (entry : t ≡ put s at k row) where
-    items : column k t ≡ set (column k slots) (behind 1024 r) row
+    items : column k t ≡ set (column k slots) (behind maxThresholds r) row
     items =
         ap (column k) entry ∙ put-same s at k row small ∙ ap (λ (l : List (List ℕ)). set (column k l) at row) flag
         ∙ ap (λ (l : List ℕ). set l at row) (put-other slots row (k + 1) 1 k small (λ (e : k ≡ k + 1). omega arith))
@@ -100,7 +101,7 @@ module _ (k : ℕ) (small : k < 4) (even : k % 2 ≡ 0) (slots : List (List ℕ)
 
   -- The oldest is taken: its flag falls.
   module _ (row : ℕ) (first : row ≡ getD (getD slots (r .head) []) k 0) (t : List (List ℕ)) (flag : t ≡ put slots row (k + 1) 0) where
-    pub slots-next : (q : Ring) → q ≡ poppedRing 1024 r → rowsIn k t q ≡ nextRow (rowsIn k slots r)
+    pub slots-next : (q : Ring) → q ≡ poppedRing maxThresholds r → rowsIn k t q ≡ nextRow (rowsIn k slots r)
     unfolding nextRow popped
     slots-next q e =
         let items = ap (column k) flag ∙ put-other slots row (k + 1) 0 k small (λ (f : k ≡ k + 1). omega arith) in

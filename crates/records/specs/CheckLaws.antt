@@ -8,6 +8,7 @@ use mathlib.Core.Path.{_≡_, refl, sym, ap, _∙_}
 use mathlib.Core.Bool.{Bool, true, false, cond}
 use mathlib.Core.List.{List, [], _∷_}
 use borrow.Author.Tests.{ltb-false, lt-ltb, le-ltb, eq-eqb, ne-eqb}
+use Rattle.memory.specs.Limits.{maxThresholds}
 use Rattle.records.specs.declared.Record.{Record}
 use Rattle.records.specs.declared.Record.the-variants.{Opens, Adds, Seal}
 use Rattle.records.specs.declared.Next.the-variants.{Refused, Taken}
@@ -65,9 +66,9 @@ answered t p n r b v c = check t 3 ∷ check p 9 ∷ check n 5 ∷ check r 6 ∷
 -- A record's number, where the code asked some of its checks apart.
 module _ (s : Standing) (x : ℕ) where
   pub opens-number : (n : ℕ) (b : ℤ) (t r v : Bool) → t ≡ wrongTurn s building → r ≡ notRising s n → v ≡ badBound b
-      → x ≡ first (answered t (s .contradicted) (leb (s .nodes) n) r v false (leb 1024 (s .thresholds))) → x ≡ refusedBy s (Opens n b)
+      → x ≡ first (answered t (s .contradicted) (leb (s .nodes) n) r v false (leb maxThresholds (s .thresholds))) → x ≡ refusedBy s (Opens n b)
   unfolding first
-  opens-number n b t r v et er ev h = h ∙ (λ i. first (answered (et i) (s .contradicted) (leb (s .nodes) n) (er i) (ev i) false (leb 1024 (s .thresholds))))
+  opens-number n b t r v et er ev h = h ∙ (λ i. first (answered (et i) (s .contradicted) (leb (s .nodes) n) (er i) (ev i) false (leb maxThresholds (s .thresholds))))
 
   pub adds-number : (n : ℕ) (t k : Bool) → t ≡ wrongTurn s within → k ≡ tooMany s ofTerms
       → x ≡ first (answered t (s .contradicted) (leb (s .nodes) n) false false false k) → x ≡ refusedBy s (Adds n 0)

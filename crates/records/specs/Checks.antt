@@ -6,6 +6,7 @@ use lib.ListN.{length, getD, drop}
 use lib.Dec.{eqb, leb, ltb}
 use lib.IntN.{ℤ, pos, negsuc}
 use lib.Signed.{ltZ}
+use Rattle.memory.specs.Limits.{listTerms, maxNodes, maxTerms, maxThresholds}
 use Rattle.records.specs.declared.Record.{Record}
 use Rattle.records.specs.declared.Next.{Next}
 use Rattle.records.specs.declared.Next.the-variants.{Refused, Taken}
@@ -38,9 +39,9 @@ abbrev pub badBound : ℤ → Bool
 badBound b = ltZ b (negsuc 4503599627370495) || ltZ (pos 4503599627370496) b
 
 abbrev pub tooMany : Standing → Counted → Bool
-tooMany s (ofNodes n) = ltb 4096 n
-tooMany s ofThresholds = leb 1024 (s .thresholds)
-tooMany s ofTerms = leb 1024 (s .«last_terms») || leb 4096 (s .terms)
+tooMany s (ofNodes n) = ltb maxNodes n
+tooMany s ofThresholds = leb maxThresholds (s .thresholds)
+tooMany s ofTerms = leb listTerms (s .«last_terms») || leb maxTerms (s .terms)
 tooMany s ofAnswers = leb 64 (s .answers)
 tooMany s ofNothing = false
 

@@ -1,6 +1,7 @@
 -- Seal, mark and settle: rows are run once, nodes are decided, and what waits is drained, in the order of document 01.
 use Prim.Native.Nat.{ℕ, zero, suc, _^_}
 use mathlib.Core.Bool.{Bool, true, false, _&&_}
+use Rattle.memory.specs.Limits.{maxNodes}
 use Rattle.numeric.specs.Threshold.{Job}
 use Rattle.state.specs.declared.Step.{Step}
 use Rattle.state.specs.declared.Step.the-variants.{Unchanged}
@@ -29,7 +30,7 @@ mark v n value = did (withMarks v (decide value (v .marks) n .marks)) (decide va
 unfoldable pub takeNode : Index → Live → Did
 takeNode x v =
     let n = oldest (v .marks .nodes) in
-    let m = marks (v .marks .sure) (v .marks .never) (popped 4096 (v .marks .nodes)) in
+    let m = marks (v .marks .sure) (v .marks .never) (popped maxNodes (v .marks .nodes)) in
     let g = guardOf x (withMarks v m) (x .thresholds) n in
     elim (contradicts (g .step)) [
       | true ↦ g

@@ -9,6 +9,7 @@ use mathlib.Core.Logic.{_≢_}
 use native.Mathlib.Numerals.{add-one}
 use lib.ListN.{length, getD, drop, length-append, length-drop, length-reverse, drop-of-length-le, List·getD-append}
 use borrow.Author.Tests.{eq-eqb, ne-eqb}
+use Rattle.memory.specs.Limits.{maxNodes}
 use Rattle.numeric.specs.Threshold.{Term, term, terms}
 use Rattle.numeric.specs.TermsLaws.{up-terms, length-terms}
 use Rattle.state.specs.declared.Step.{Step}
@@ -78,7 +79,7 @@ force-cases P i m t divisor rest none sure never =
     by (no n) false f false g = rw (force-free i m t divisor n f g) rest
 
 -- Forcing a term keeps that each node waits at most once.
-pub waits-force : (i : Interval) (m : Marks) (t : Term) (divisor : ℕ) → t .condition < 4096 → Waits m → Waits (forceTerm i m t divisor .marks)
+pub waits-force : (i : Interval) (m : Marks) (t : Term) (divisor : ℕ) → t .condition < maxNodes → Waits m → Waits (forceTerm i m t divisor .marks)
 waits-force i m t divisor h w =
     force-cases (λ (x : Decided). Waits (x .marks)) i m t divisor w (λ f g. w) (λ f. waits-decide m w true (t .condition) h)
     (λ g. waits-decide m w false (t .condition) h)
@@ -135,7 +136,7 @@ module _ (i : Interval) (suf cs ws : List ℕ) (p prefix : ℕ) (m : Marks) (ste
     (same : length cs ≡ length ws) (h : isDecided m (getD cs p 0) ≡ false) (divisor : ℕ) (v : divisor ≡ gcd prefix (getD suf (length ws - p - 1) 0))
     (s n l : List ℕ) (r r′ : Ring) (k k′ : Step) (e : decided (marks s n (queue l r)) k ≡ forceTerm i m (term (getD cs p 0) (getD ws p 0)) divisor)
     (a : r′ ≡ r) (j : k′ ≡ joined step k) where
-  pub turn-waits : getD cs p 0 < 4096 → Waits m → Waits (marks s n (queue l r′))
+  pub turn-waits : getD cs p 0 < maxNodes → Waits m → Waits (marks s n (queue l r′))
   turn-waits b w =
       let y : marks s n (queue l r′) ≡ forceTerm i m (term (getD cs p 0) (getD ws p 0)) divisor .marks
       = ap (λ (x : Ring). marks s n (queue l x)) a ∙ ap (λ (d : Decided). d .marks) e in
@@ -263,16 +264,16 @@ module _ (Q : Term → Type 0) (P : Marks → Type 0)
 
 -- Nodes wait at most once after it, too.
 abbrev pub Inside : List Term → Type 0
-Inside = Each (λ (t : Term). t .condition < 4096)
+Inside = Each (λ (t : Term). t .condition < maxNodes)
 
-pub inside-terms : (cs ws : List ℕ) → Below 4096 cs → Inside (terms cs ws)
+pub inside-terms : (cs ws : List ℕ) → Below maxNodes cs → Inside (terms cs ws)
 unfolding terms
 inside-terms [] ws h = tt
 inside-terms (c ∷ cs) [] h = tt
 inside-terms (c ∷ cs) (w ∷ ws) h = (h 0 (omega arith), inside-terms cs ws (λ (i : ℕ) (k : i < length cs). h (suc i) (omega arith)))
 
 pub waits-residual : (ts : List Term) (s : State) (m : Marks) (gcds : List ℕ) → Inside ts → Waits m → Waits (thresholdResidual ts s m gcds .marks)
-waits-residual = residual-keeping (λ (t : Term). t .condition < 4096) Waits waits-force
+waits-residual = residual-keeping (λ (t : Term). t .condition < maxNodes) Waits waits-force
 
 -- The buffer of gcds keeps its length.
 pub gcds-length : (ts : List Term) (s : State) (m : Marks) (gcds : List ℕ) → length ts < length gcds → length (thresholdResidual ts s m gcds .gcds) ≡ length gcds

@@ -2,6 +2,7 @@
 use Prim.Native.Nat.{_≤_}
 use native.Mathlib.Omega.{arith}
 use lib.ListN.{length}
+use Rattle.memory.specs.Limits.{maxThresholds}
 use Rattle.numeric.specs.Threshold.{Job}
 use Rattle.words.specs.Mask.{bit}
 use Rattle.thresholds.specs.Rows.{rowsOf}
@@ -24,5 +25,5 @@ seal-goes j f rises v s u =
     seeds-go j (indexOf j) (job-built j) (job-ordered j f) (job-single j rises) (ownStart v) (live (firstStates 0 (rowsOf j) (v .states)) (v .marks) (v .dirty) (v .residuals))
     (first-undrained (indexOf j) v (omega (arith, few, s .long)) (omega (arith, few, s .dirty .long)) (first-long 0 (rowsOf j) (v .states)) u)
   where
-    few : length (rowsOf j) ≤ 1024
+    few : length (rowsOf j) ≤ maxThresholds
     few = rows-few j f

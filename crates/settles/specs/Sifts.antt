@@ -6,6 +6,7 @@ use mathlib.Core.Bool.{Bool, true, false, not}
 use mathlib.Core.List.{List}
 use mathlib.Core.Logic.{⊎-elim}
 use lib.ListN.{getD}
+use Rattle.memory.specs.Limits.{maxNodes}
 use Rattle.numeric.specs.Threshold.{Term, Job}
 use Rattle.state.specs.declared.Step.{Step}
 use Rattle.state.specs.declared.Step.the-variants.{Unchanged}
@@ -34,7 +35,7 @@ use Rattle.settles.specs.Turned.{Steady, Goes, settle-goes}
 use Rattle.settles.specs.Seals.{ownStart}
 
 -- A MARK
-pub mark-goes : (x : Index) (s : Table) (v : Live) (n : ℕ) (value : Bool) → n < 4096 → Steady x s v → Goes x (decideAs value s n) (mark v n value)
+pub mark-goes : (x : Index) (s : Table) (v : Live) (n : ℕ) (value : Bool) → n < maxNodes → Steady x s v → Goes x (decideAs value s n) (mark v n value)
 unfolding mark
 mark-goes x s v n value small (l, e, h) = let a = mark-leads x s l v h value n small in (λ c. (l, e, a .0 c), a .1)
 
@@ -69,7 +70,7 @@ abbrev Own : Index → Live → Marks → Type 0
 Own x v m = Steady x (start (bit (m .sure)) (bit (m .never))) (live (v .states) m (v .dirty) (v .residuals))
 
 -- one more node decided, by whatever reason
-own-decide : (x : Index) (v : Live) (m : Marks) (value : Bool) (n : ℕ) → n < 4096 → Own x v m → Own x v (decide value m n .marks)
+own-decide : (x : Index) (v : Live) (m : Marks) (value : Bool) (n : ℕ) → n < maxNodes → Own x v m → Own x v (decide value m n .marks)
 unfolding mark
 own-decide x v m value n small h =
     ⊎-elim (λ (d : isDecided m n ≡ true). subst (Own x v) (sym (decide-nothing value m n d)) h) (λ (d : isDecided m n ≡ false). by value d) (true-false (isDecided m n))

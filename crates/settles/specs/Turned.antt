@@ -10,6 +10,7 @@ use mathlib.Core.Logic.{⊎-elim, _≢_}
 use lib.ListN.{length, getD}
 use lib.Dec.{eqb}
 use borrow.Author.Tests.{eqb-true, eqb-false, ne-eqb}
+use Rattle.memory.specs.Limits.{maxNodes, maxThresholds}
 use Rattle.numeric.specs.Threshold.{Threshold, Job}
 use Rattle.state.specs.declared.Step.{Step}
 use Rattle.state.specs.declared.Step.the-variants.{Unchanged, Contradiction}
@@ -107,7 +108,7 @@ module _ (j : Job) (x : Index) (b : Built j x) (ordered : (r : ℕ) → IsRow (x
       n = oldest (v .marks .nodes)
 
       w : Live
-      w = withMarks v (marks (v .marks .sure) (v .marks .never) (popped 4096 (v .marks .nodes)))
+      w = withMarks v (marks (v .marks .sure) (v .marks .never) (popped maxNodes (v .marks .nodes)))
 
       g : Did
       g = guardOf x w (x .thresholds) n
@@ -228,7 +229,7 @@ module _ (j : Job) (x : Index) (b : Built j x) (ordered : (r : ℕ) → IsRow (x
     idle : (r : ℕ) → waiting v r ≡ false
     idle r =
         let q = and-right (isEmpty (v .marks .nodes)) (isEmpty (v .dirty .queue)) rest in
-        let z = ap (times r) (empty-none 1024 (v .dirty .queue) (flags .held) q) ∙ times-none r in
+        let z = ap (times r) (empty-none maxThresholds (v .dirty .queue) (flags .held) q) ∙ times-none r in
         let f = flags .flag r in
         ne-eqb (getD (v .dirty .pending) r 0) 1 (λ o. absurd (omega arith))
 

@@ -3,7 +3,7 @@ use Prim.Native.Nat.{ℕ, _-_, _<_, _≤_}
 use mathlib.Core.Bool.{Bool, true, false}
 use mathlib.Core.List.{List}
 use lib.ListN.{length}
-use Rattle.memory.specs.Limits.{listTerms, figureLimit}
+use Rattle.memory.specs.Limits.{listTerms, figureLimit, searchWords}
 use Rattle.memory.specs.Buffers.{HeldRows}
 use Rattle.numeric.specs.Threshold.{Term}
 use Rattle.state.specs.declared.State.{State}
@@ -24,7 +24,7 @@ use Rattle.settle.specs.Serves.{Among}
 -- The gcds of the longest row and one more have room, as do the words of a search, which are zero before and after.
 pub record Scratch (gcds words : List ℕ) : Type 0 where
   pub room : listTerms < length gcds
-  pub long : 4096 ≤ length words
+  pub long : searchWords ≤ length words
   pub zero : Zeros words
 
 -- No row has more terms than a list.

@@ -5,6 +5,7 @@ use mathlib.Core.Bool.{false, cond}
 use mathlib.Core.List.{List, []}
 use lib.ListN.{length, getD}
 use lib.Dec.{eqb}
+use Rattle.memory.specs.Limits.{maxThresholds}
 use Rattle.numeric.specs.Threshold.{Term}
 use Rattle.row.specs.Terms.{sameTerms}
 use Rattle.memory.specs.Buffers.{RawLists}
@@ -12,20 +13,24 @@ use Rattle.thresholds.specs.Raw.{prints, listAt, fingerprint, numberIn}
 
 -- A row is marked by one word: the row before it in its class, counted from 1, 0 for none; the fingerprint of its raw list; the first threshold that has it.
 abbrev pub mark : ℕ → ℕ → ℕ → ℕ
-mark next print t = (next * prints + print) * 1024 + t
+mark next print t = (next * prints + print) * maxThresholds + t
 
 abbrev pub nextIn : ℕ → ℕ
-nextIn m = m / 1024 / prints
+nextIn m = m / maxThresholds / prints
 
 abbrev pub printIn : ℕ → ℕ
-printIn m = m / 1024 % prints
+printIn m = m / maxThresholds % prints
 
 abbrev pub markedList : RawLists → ℕ → List Term
-markedList r m = listAt r (m % 1024)
+markedList r m = listAt r (m % maxThresholds)
 
--- The class of a fingerprint, one of 1,024: ten bits of a product, so that each bit of the fingerprint counts.
+-- How many classes of raw lists there are.
+abbrev pub classCount : ℕ
+classCount = 1024
+
+-- The class of a fingerprint: ten bits of a product, so that each bit of the fingerprint counts.
 unfoldable pub classOf : ℕ → ℕ
-classOf print = print * 2654435769 / 4194304 % 1024
+classOf print = print * 2654435769 / 4194304 % classCount
 
 abbrev pub classAt : List ℕ → ℕ → ℕ
 classAt marks k = classOf (printIn (getD marks k 0))
@@ -37,14 +42,14 @@ newest marks h (suc n) = cond (eqb (classAt marks n) h) (suc n) (newest marks h 
 
 -- Each mark names a threshold, the fingerprint of its list, and the row before it in its class.
 pub record Marked (r : RawLists) (count : ℕ) (marks : List ℕ) : Type 0 where
-  pub first : (k : ℕ) → k < length marks → getD marks k 0 % 1024 < count
+  pub first : (k : ℕ) → k < length marks → getD marks k 0 % maxThresholds < count
   pub print : (k : ℕ) → k < length marks → printIn (getD marks k 0) ≡ fingerprint (markedList r (getD marks k 0))
   pub next : (k : ℕ) → k < length marks → nextIn (getD marks k 0) ≡ newest marks (classAt marks k) k
 
 -- Each class has its newest row at its head.
 pub record Headed (marks heads : List ℕ) : Type 0 where
-  pub wide : 1024 ≤ length heads
-  pub each : (h : ℕ) → h < 1024 → getD heads h 0 ≡ newest marks h (length marks)
+  pub wide : classCount ≤ length heads
+  pub each : (h : ℕ) → h < classCount → getD heads h 0 ≡ newest marks h (length marks)
 
 -- No list stands twice among the lists.
 abbrev pub Own : List (List Term) → Type 0

@@ -10,13 +10,14 @@ use lib.ListN.{length, getD, set, replicate, length-append, length-set, getD-rep
 use lib.Seq.{getD-append-seam, getD-set-same, getD-set-other}
 use lib.Dec.{eqb, ltb}
 use borrow.Author.Tests.{eqb-true, eqb-false, ltb-false}
+use Rattle.memory.specs.Limits.{maxThresholds}
 use Rattle.numeric.specs.Threshold.{Term}
 use Rattle.row.specs.Terms.{sameTerms}
 use Rattle.thresholds.specs.declared.Found.the-variants.{At, Nothing}
 use Rattle.memory.specs.Buffers.{RawLists}
 use Rattle.thresholds.specs.Raw.{prints, startOf, endOf, stretch, listAt, mixed, fingerprint, numberIn, foundOf, Lists}
 use Rattle.thresholds.specs.RawLaws.{same-is, same-refl, length-terms, stretch-length, number-most, found-at, found-nothing}
-use Rattle.thresholds.specs.Chain.{mark, nextIn, printIn, markedList, classOf, classAt, newest, Marked, Headed, Own, Searching}
+use Rattle.thresholds.specs.Chain.{mark, nextIn, printIn, markedList, classOf, classAt, newest, Marked, Headed, Own, Searching, classCount}
 use Rattle.thresholds.specs.Placed.{rawsTo, rowTo}
 
 -- ---- marks as words
@@ -44,23 +45,23 @@ pub print-small : (r : RawLists) (t : ℕ) → Lists r (length (r .thresholds)) 
 unfolding fingerprint
 print-small r t l h = mixed-small (length (listAt r t)) (listAt r t) (list-short r t l h)
 
-pub mark-first : (n p t : ℕ) → t < 1024 → mark n p t % 1024 ≡ t
+pub mark-first : (n p t : ℕ) → t < maxThresholds → mark n p t % maxThresholds ≡ t
 mark-first n p t h = omega arith
 
-pub mark-print : (n p t : ℕ) → p < prints → t < 1024 → printIn (mark n p t) ≡ p
+pub mark-print : (n p t : ℕ) → p < prints → t < maxThresholds → printIn (mark n p t) ≡ p
 mark-print n p t g h = omega arith
 
-pub mark-next : (n p t : ℕ) → p < prints → t < 1024 → nextIn (mark n p t) ≡ n
+pub mark-next : (n p t : ℕ) → p < prints → t < maxThresholds → nextIn (mark n p t) ≡ n
 mark-next n p t g h = omega arith
 
-pub class-is : (p : ℕ) → p * 2654435769 / 4194304 % 1024 ≡ classOf p
+pub class-is : (p : ℕ) → p * 2654435769 / 4194304 % classCount ≡ classOf p
 unfolding classOf
 class-is p = refl
 
-pub class-under : (p : ℕ) → p * 2654435769 / 4194304 % 1024 < 1024
+pub class-under : (p : ℕ) → p * 2654435769 / 4194304 % classCount < classCount
 class-under p = omega arith
 
-pub class-small : (p : ℕ) → classOf p < 1024
+pub class-small : (p : ℕ) → classOf p < classCount
 unfolding classOf
 class-small p = class-under p
 
@@ -130,10 +131,10 @@ each P ms m h q k l = by (decLt k (length ms))
         subst (λ (j : ℕ). P j (getD (ms ++ (m ∷ [])) j 0)) (let n = length-append ms (m ∷ []) in let f : length ms ≡ k = omega arith in f)
         (subst (P (length ms)) (sym (getD-append-seam ms m [] 0)) q)
 
-pub marked-one : (r : RawLists) (count : ℕ) (ms : List ℕ) (m : ℕ) → Marked r count ms → m % 1024 < count → printIn m ≡ fingerprint (markedList r m)
+pub marked-one : (r : RawLists) (count : ℕ) (ms : List ℕ) (m : ℕ) → Marked r count ms → m % maxThresholds < count → printIn m ≡ fingerprint (markedList r m)
     → nextIn m ≡ newest ms (classOf (printIn m)) (length ms) → Marked r count (ms ++ (m ∷ []))
 marked-one r count ms m w f p n = record {
-  first = each (λ (k m : ℕ). m % 1024 < count) ms m (w .first) f;
+  first = each (λ (k m : ℕ). m % maxThresholds < count) ms m (w .first) f;
   print = each (λ (k m : ℕ). printIn m ≡ fingerprint (markedList r m)) ms m (w .print) p;
   next = each (λ (k v : ℕ). nextIn v ≡ newest (ms ++ (m ∷ [])) (classOf (printIn v)) k) ms m
       (λ k l. w .next k l ∙ sym (newest-kept ms (m ∷ []) (classAt ms k) k (omega arith))) (n ∙ sym (newest-kept ms (m ∷ []) (classOf (printIn m)) (length ms) (omega arith)));
@@ -145,7 +146,7 @@ headed-one ms heads m v g e = record {
   each = λ h l. by h l (eqb (classOf (printIn m)) h) refl;
 }
   where
-    by : (h : ℕ) → h < 1024 → (b : Bool) → eqb (classOf (printIn m)) h ≡ b
+    by : (h : ℕ) → h < classCount → (b : Bool) → eqb (classOf (printIn m)) h ≡ b
         → getD (set heads (classOf (printIn m)) v) h 0 ≡ newest (ms ++ (m ∷ [])) h (length (ms ++ (m ∷ [])))
     by h l true q =
         let i = eqb-true (classOf (printIn m)) h q in
@@ -157,7 +158,7 @@ headed-one ms heads m v g e = record {
         getD-set-other heads (classOf (printIn m)) h v 0 (λ e. eqb-false (classOf (printIn m)) h q (sym e)) ∙ g .each h l ∙ sym (newest-one ms m h false q)
 
 -- No rows: every class is empty.
-pub headed-none : (marks heads : List ℕ) → marks ≡ [] → 1024 ≤ length heads → heads ≡ replicate (length heads) 0 → Headed marks heads
+pub headed-none : (marks heads : List ℕ) → marks ≡ [] → classCount ≤ length heads → heads ≡ replicate (length heads) 0 → Headed marks heads
 headed-none marks heads e l b =
     subst (λ (ms : List ℕ). Headed ms heads) (sym e)
     (record {

@@ -1,0 +1,288 @@
+-- `phases::lend` meets its contract: what is lent is such as the seal requires, and what comes back is put in front of what stands behind it.
+use mathlib.Core.Path.{sym}
+use lib.ListN.{length, take, replicate}
+use lib.Seq.{length-take-le}
+use Rattle.memory.specs.Buffers.{heldRows, Built, built, Kept, kept, zeros}
+use Rattle.serve.specs.Serve.{readAt, Same}
+use Rattle.phases.specs.Phase.{cutBuilt, cutKept}
+use Rattle.phases.specs.PhaseLaws.{phase-room, phase-rows, phase-nodes, phase-bounds, phase-lent, kept-room, kept-lies, kept-leaves}
+use borrow.Author.Needs.{needs}
+use Rattle.phases.proofs.lend.Statement.{statement}
+use Rattle.phases.proofs.lend.Tie as tie
+
+abbrev buffers : tie.Start → Built
+buffers p =
+    let a = p .args in
+    built (heldRows (a .row-conditions .now) (a .row-weights .now) (a .rows .now) (a .guard-bounds .now) (a .guard-nodes .now)) (a .nodes .now) (a .edges .now) (a .links .now)
+
+abbrev entry : tie.Start → Kept
+entry p =
+    let a = p .args in
+    kept (a .figures .now) (a .cursors .now) (a .sure .now) (a .never .now) (a .search .now) (a .gcds .now) (a .node-queue .now) (a .row-queues .now) (a .answers .now)
+
+abbrev after : tie.After-seal-and-serve → Kept
+after p =
+    let l = p .seal-and-serve .last .1 .1 .1 .1 .1 .1 .1 .1 .1 .1 in
+    kept (l .0) (l .1 .0) (l .1 .1 .0) (l .1 .1 .1 .0) (l .1 .1 .1 .1 .1 .1 .1 .0) (l .1 .1 .1 .1 .1 .1 .0) (l .1 .1 .1 .1 .0) (l .1 .1 .1 .1 .1 .0) (l .1 .1 .1 .1 .1 .1 .1 .1 .0)
+
+slice-aggregate-seal-and-serve : tie.Need-slice-aggregate-seal-and-serve
+slice-aggregate-seal-and-serve c =
+    let start = c .before .before .before .before .before .before .before .before .before .before .before in
+    let a = start .args in
+    let p = start .pre .0 in
+    sym (length-take-le 4096 (a .row-conditions .now) (phase-room (a .bounds .now) (buffers start) (p .0) (a .row-count) (p .2) .conditions))
+
+slice-aggregate-seal-and-serve-2 : tie.Need-slice-aggregate-seal-and-serve-2
+slice-aggregate-seal-and-serve-2 c =
+    let start = c .before .before .before .before .before .before .before .before .before .before .before .before in
+    let a = start .args in
+    let p = start .pre .0 in
+    sym (length-take-le 4096 (a .row-weights .now) (phase-room (a .bounds .now) (buffers start) (p .0) (a .row-count) (p .2) .weights))
+
+slice-aggregate-seal-and-serve-3 : tie.Need-slice-aggregate-seal-and-serve-3
+slice-aggregate-seal-and-serve-3 c =
+    let start = c .before .before .before .before .before .before .before .before .before .before .before .before .before in
+    let a = start .args in
+    let p = start .pre .0 in
+    sym (length-take-le (a .row-count) (a .rows .now) (phase-rows (a .bounds .now) (buffers start) (p .0) (a .row-count) (p .2)))
+
+slice-aggregate-seal-and-serve-4 : tie.Need-slice-aggregate-seal-and-serve-4
+slice-aggregate-seal-and-serve-4 c =
+    let start = c .before .before .before .before .before .before .before .before .before .before .before .before .before .before in
+    let a = start .args in
+    let p = start .pre .0 in
+    sym (length-take-le 1024 (a .guard-bounds .now) (phase-room (a .bounds .now) (buffers start) (p .0) (a .row-count) (p .2) .bounds))
+
+slice-aggregate-seal-and-serve-5 : tie.Need-slice-aggregate-seal-and-serve-5
+slice-aggregate-seal-and-serve-5 c =
+    let start = c .before .before .before .before .before .before .before .before .before .before .before .before .before .before .before in
+    let a = start .args in
+    let p = start .pre .0 in
+    sym (length-take-le 1024 (a .guard-nodes .now) (phase-room (a .bounds .now) (buffers start) (p .0) (a .row-count) (p .2) .guards))
+
+slice-aggregate-seal-and-serve-6 : tie.Need-slice-aggregate-seal-and-serve-6
+slice-aggregate-seal-and-serve-6 c =
+    let start = c .before .before .before .before .before .before .before .before .before .before .before .before .before .before .before .before in
+    let a = start .args in
+    let p = start .pre .0 in
+    sym (length-take-le (a .standing .nodes) (a .nodes .now) (phase-nodes (a .bounds .now) (buffers start) (p .0) (a .row-count) (p .2) (a .standing) (p .6)))
+
+slice-aggregate-seal-and-serve-7 : tie.Need-slice-aggregate-seal-and-serve-7
+slice-aggregate-seal-and-serve-7 c =
+    let start = c .before .before .before .before .before .before .before .before .before .before .before .before .before .before .before .before .before in
+    let a = start .args in
+    let p = start .pre .0 in
+    sym (length-take-le (a .standing .thresholds) (a .bounds .now) (phase-bounds (a .bounds .now) (buffers start) (p .0) (a .row-count) (p .2) (a .standing) (p .6)))
+
+slice-aggregate-seal-and-serve-8 : tie.Need-slice-aggregate-seal-and-serve-8
+slice-aggregate-seal-and-serve-8 c =
+    let start = c .before .before .before .before .before .before .before .before .before .before .before .before .before .before .before .before .before .before in
+    let a = start .args in
+    let p = start .pre .0 in
+    sym (length-take-le 4096 (a .edges .now) (phase-room (a .bounds .now) (buffers start) (p .0) (a .row-count) (p .2) .edges))
+
+slice-relend-prefix-seal-and-serve : tie.Need-slice-relend-prefix-seal-and-serve
+slice-relend-prefix-seal-and-serve c =
+    let start = c .before .before .before .before .before .before .before .before .before .before .before .before .before .before .before .before .before .before in
+    let a = start .args in
+    let p = start .pre .0 in
+    kept-room (p .1) (p .4) (entry start) (p .5) .figures
+
+slice-aggregate-seal-and-serve-9 : tie.Need-slice-aggregate-seal-and-serve-9
+slice-aggregate-seal-and-serve-9 c =
+    let start = c .before .before .before .before .before .before .before .before .before .before .before .before .before .before .before .before .before .before .before in
+    let a = start .args in
+    let p = start .pre .0 in
+    sym (length-take-le 1024 (a .figures .now) (kept-room (p .1) (p .4) (entry start) (p .5) .figures))
+
+slice-relend-prefix-seal-and-serve-2 : tie.Need-slice-relend-prefix-seal-and-serve-2
+slice-relend-prefix-seal-and-serve-2 c =
+    let start = c .before .before .before .before .before .before .before .before .before .before .before .before .before .before .before .before .before .before .before in
+    let a = start .args in
+    let p = start .pre .0 in
+    kept-room (p .1) (p .4) (entry start) (p .5) .cursors
+
+slice-aggregate-seal-and-serve-10 : tie.Need-slice-aggregate-seal-and-serve-10
+slice-aggregate-seal-and-serve-10 c =
+    let start = c .before .before .before .before .before .before .before .before .before .before .before .before .before .before .before .before .before .before .before .before in
+    let a = start .args in
+    let p = start .pre .0 in
+    sym (length-take-le 1024 (a .cursors .now) (kept-room (p .1) (p .4) (entry start) (p .5) .cursors))
+
+slice-relend-prefix-seal-and-serve-3 : tie.Need-slice-relend-prefix-seal-and-serve-3
+slice-relend-prefix-seal-and-serve-3 c =
+    let start = c .before .before .before .before .before .before .before .before .before .before .before .before .before .before .before .before .before .before .before .before in
+    let a = start .args in
+    let p = start .pre .0 in
+    kept-room (p .1) (p .4) (entry start) (p .5) .sure
+
+slice-aggregate-seal-and-serve-11 : tie.Need-slice-aggregate-seal-and-serve-11
+slice-aggregate-seal-and-serve-11 c =
+    let start = c .before .before .before .before .before .before .before .before .before .before .before .before .before .before .before .before .before .before .before .before .before in
+    let a = start .args in
+    let p = start .pre .0 in
+    sym (length-take-le 64 (a .sure .now) (kept-room (p .1) (p .4) (entry start) (p .5) .sure))
+
+slice-relend-prefix-seal-and-serve-4 : tie.Need-slice-relend-prefix-seal-and-serve-4
+slice-relend-prefix-seal-and-serve-4 c =
+    let start = c .before .before .before .before .before .before .before .before .before .before .before .before .before .before .before .before .before .before .before .before .before in
+    let a = start .args in
+    let p = start .pre .0 in
+    kept-room (p .1) (p .4) (entry start) (p .5) .never
+
+slice-aggregate-seal-and-serve-12 : tie.Need-slice-aggregate-seal-and-serve-12
+slice-aggregate-seal-and-serve-12 c =
+    let start = c .before .before .before .before .before .before .before .before .before .before .before .before .before .before .before .before .before .before .before .before .before .before in
+    let a = start .args in
+    let p = start .pre .0 in
+    sym (length-take-le 64 (a .never .now) (kept-room (p .1) (p .4) (entry start) (p .5) .never))
+
+slice-relend-prefix-seal-and-serve-5 : tie.Need-slice-relend-prefix-seal-and-serve-5
+slice-relend-prefix-seal-and-serve-5 c =
+    let start = c .before .before .before .before .before .before .before .before .before .before .before .before .before .before .before .before .before .before .before .before .before .before in
+    let a = start .args in
+    let p = start .pre .0 in
+    kept-room (p .1) (p .4) (entry start) (p .5) .node-queue
+
+slice-aggregate-seal-and-serve-13 : tie.Need-slice-aggregate-seal-and-serve-13
+slice-aggregate-seal-and-serve-13 c =
+    let start = c .before .before .before .before .before .before .before .before .before .before .before .before .before .before .before .before .before .before .before .before .before .before .before in
+    let a = start .args in
+    let p = start .pre .0 in
+    sym (length-take-le 4096 (a .node-queue .now) (kept-room (p .1) (p .4) (entry start) (p .5) .node-queue))
+
+slice-relend-prefix-seal-and-serve-6 : tie.Need-slice-relend-prefix-seal-and-serve-6
+slice-relend-prefix-seal-and-serve-6 c =
+    let start = c .before .before .before .before .before .before .before .before .before .before .before .before .before .before .before .before .before .before .before .before .before .before .before in
+    let a = start .args in
+    let p = start .pre .0 in
+    kept-room (p .1) (p .4) (entry start) (p .5) .row-queues
+
+slice-aggregate-seal-and-serve-14 : tie.Need-slice-aggregate-seal-and-serve-14
+slice-aggregate-seal-and-serve-14 c =
+    let start = c .before .before .before .before .before .before .before .before .before .before .before .before .before .before .before .before .before .before .before .before .before .before .before .before in
+    let a = start .args in
+    let p = start .pre .0 in
+    sym (length-take-le 1024 (a .row-queues .now) (kept-room (p .1) (p .4) (entry start) (p .5) .row-queues))
+
+slice-relend-prefix-seal-and-serve-7 : tie.Need-slice-relend-prefix-seal-and-serve-7
+slice-relend-prefix-seal-and-serve-7 c =
+    let start = c .before .before .before .before .before .before .before .before .before .before .before .before .before .before .before .before .before .before .before .before .before .before .before .before in
+    let a = start .args in
+    let p = start .pre .0 in
+    kept-room (p .1) (p .4) (entry start) (p .5) .gcds
+
+slice-aggregate-seal-and-serve-15 : tie.Need-slice-aggregate-seal-and-serve-15
+slice-aggregate-seal-and-serve-15 c =
+    let start = c .before .before .before .before .before .before .before .before .before .before .before .before .before .before .before .before .before .before .before .before .before .before .before .before .before in
+    let a = start .args in
+    let p = start .pre .0 in
+    sym (length-take-le 1025 (a .gcds .now) (kept-room (p .1) (p .4) (entry start) (p .5) .gcds))
+
+slice-relend-prefix-seal-and-serve-8 : tie.Need-slice-relend-prefix-seal-and-serve-8
+slice-relend-prefix-seal-and-serve-8 c =
+    let start = c .before .before .before .before .before .before .before .before .before .before .before .before .before .before .before .before .before .before .before .before .before .before .before .before .before in
+    let a = start .args in
+    let p = start .pre .0 in
+    kept-room (p .1) (p .4) (entry start) (p .5) .search
+
+slice-aggregate-seal-and-serve-16 : tie.Need-slice-aggregate-seal-and-serve-16
+slice-aggregate-seal-and-serve-16 c =
+    let start = c .before .before .before .before .before .before .before .before .before .before .before .before .before .before .before .before .before .before .before .before .before .before .before .before .before .before in
+    let a = start .args in
+    let p = start .pre .0 in
+    sym (length-take-le 4096 (a .search .now) (kept-room (p .1) (p .4) (entry start) (p .5) .search))
+
+seal-and-serve-requires : tie.Need-seal-and-serve-requires
+seal-and-serve-requires c κs =
+    let start = c .before .before .before .before .before .before .before .before .before .before .before .before .before .before .before .before .before .before .before .before .before .before .before .before .before .before .before in
+    let a = start .args in
+    let w = start .pre in
+    let p = w .0 in (
+      (p .0, zeros (replicate 2 0) (p .1 .answers), phase-lent (a .bounds .now) (buffers start) (p .0) (a .row-count) (p .2) (a .standing) (p .6) (p .3), kept-lies (p .1) (p .4) (entry start) (p .5) (p .0) (p .3), p .6),
+      w .1,
+      w .2,
+      w .3,
+    )
+
+same-length : tie.Need-same-length
+same-length c = search needs
+
+same-length-2 : tie.Need-same-length-2
+same-length-2 c = search needs
+
+same-length-3 : tie.Need-same-length-3
+same-length-3 c = search needs
+
+same-length-4 : tie.Need-same-length-4
+same-length-4 c = search needs
+
+same-length-5 : tie.Need-same-length-5
+same-length-5 c = search needs
+
+same-length-6 : tie.Need-same-length-6
+same-length-6 c = search needs
+
+same-length-7 : tie.Need-same-length-7
+same-length-7 c = search needs
+
+same-length-8 : tie.Need-same-length-8
+same-length-8 c = search needs
+
+same-length-9 : tie.Need-same-length-9
+same-length-9 c = search needs
+
+returns : tie.Need-returns
+returns c =
+    let after-seal-and-serve = c .before .before .before .before .before .before .before .before .before .before .before .before .before .before in
+    let start = after-seal-and-serve .before .before .before .before .before .before .before .before .before .before .before .before .before .before .before .before .before .before .before .before .before .before .before .before .before .before .before .before in
+    let a = start .args in
+    let t = after-seal-and-serve .seal-and-serve in
+    let k = t .kept .1 .1 .1 .1 .1 .1 .1 .1 .1 .1 in
+    let same : Same (cutKept (entry start)) (after after-seal-and-serve) =
+    record { figures = k .0; cursors = k .1 .0; sure = k .1 .1 .0; never = k .1 .1 .1 .0; node-queue = k .1 .1 .1 .1 .0; row-queues = k .1 .1 .1 .1 .1 .0; gcds = k .1 .1 .1 .1 .1 .1 .0; search = k .1 .1 .1 .1 .1 .1 .1 .0; answers = k .1 .1 .1 .1 .1 .1 .1 .1 .0 } in
+    λ f k₀ s z r e d.
+    let lies = kept-lies k₀ r (entry start) e f z in
+    let lent = phase-lent (a .bounds .now) (buffers start) f (a .row-count) s (a .standing) d z in
+    kept-leaves k₀ r (entry start) e (take (a .standing .thresholds) (a .bounds .now)) (cutBuilt (a .row-count) (a .standing .nodes) (buffers start)) (readAt (length (a .input .now)) (a .input .now) (a .at) f) (after after-seal-and-serve) (t .result)
+    (t .ensures .0 f (zeros (replicate 2 0) (k₀ .answers)) lent lies d) same (t .ensures .1)
+
+pub lend-spec : {M : Type 1} → statement M
+lend-spec =
+    tie.close
+    (tie.spec
+    slice-aggregate-seal-and-serve
+    slice-aggregate-seal-and-serve-2
+    slice-aggregate-seal-and-serve-3
+    slice-aggregate-seal-and-serve-4
+    slice-aggregate-seal-and-serve-5
+    slice-aggregate-seal-and-serve-6
+    slice-aggregate-seal-and-serve-7
+    slice-aggregate-seal-and-serve-8
+    slice-relend-prefix-seal-and-serve
+    slice-aggregate-seal-and-serve-9
+    slice-relend-prefix-seal-and-serve-2
+    slice-aggregate-seal-and-serve-10
+    slice-relend-prefix-seal-and-serve-3
+    slice-aggregate-seal-and-serve-11
+    slice-relend-prefix-seal-and-serve-4
+    slice-aggregate-seal-and-serve-12
+    slice-relend-prefix-seal-and-serve-5
+    slice-aggregate-seal-and-serve-13
+    slice-relend-prefix-seal-and-serve-6
+    slice-aggregate-seal-and-serve-14
+    slice-relend-prefix-seal-and-serve-7
+    slice-aggregate-seal-and-serve-15
+    slice-relend-prefix-seal-and-serve-8
+    slice-aggregate-seal-and-serve-16
+    seal-and-serve-requires
+    same-length
+    same-length-2
+    same-length-3
+    same-length-4
+    same-length-5
+    same-length-6
+    same-length-7
+    same-length-8
+    same-length-9
+    returns)

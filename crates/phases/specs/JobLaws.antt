@@ -1,0 +1,142 @@
+-- WHAT THE PHASE ASKS IS MET: the file that the records of a job leave is within the limits, memory is as it was cleared, and where a
+-- seal comes next it passes its checks. Assumes nothing.
+use Prim.Native.Nat.{ℕ, zero, suc, _+_, _<_, _≤_}
+use native.Mathlib.Decide.{decLt}
+use native.Mathlib.Omega.{arith}
+use mathlib.Core.Path.{_≡_, refl, sym, ap, ap₂, subst, _∙_}
+use mathlib.Core.Bool.{Bool, true, false, cond}
+use mathlib.Core.List.{List, [], _∷_, _++_}
+use mathlib.Core.Logic.{_⊎_, ⊎-elim}
+use lib.ListN.{length, getD, drop, drop-of-length-le}
+use lib.Seq.{drop-cons, drop-drop}
+use borrow.Author.Tests.{eq-eqb}
+use Rattle.records.specs.declared.Record.{Record}
+use Rattle.records.specs.declared.Record.the-variants.{Header, Opens, Adds, Areas, Seal, Mark, Settle, Sift, Unknown}
+use Rattle.records.specs.declared.Next.the-variants.{Refused, Taken}
+use Rattle.records.specs.Record.{kindOf, bodyLength, recordAt, recordIn}
+use Rattle.records.specs.Facts.{Action, begins, changes, closes, decides, settles, sifts, idles, action, facts, closing}
+use Rattle.records.specs.Checks.{nextAt}
+use Rattle.memory.specs.Buffers.{Kept, clearKept}
+use Rattle.planner.specs.declared.JobRead.{JobRead}
+use Rattle.planner.specs.File.{File, begun, standing, refusal, act, apply, Outcome, outcome, refusalAt, fileOf}
+use Rattle.planner.specs.FileLaws.{zero-or}
+use Rattle.planner.specs.Contents.{keptOf}
+use Rattle.planner.specs.JobPart.{JobPart, jobPart, readJob, jobPartOf}
+use Rattle.planner.specs.JobPartLaws.{true-or, job-refused, job-sealing, job-next, file-goes-on, file-ends}
+use Rattle.ends.specs.Files.{Good, good-begun, good-apply, both, Taken as Passes, taken, serving-turn, refused-by}
+use Rattle.serve.specs.declared.Reached.{Reached}
+use Rattle.serve.specs.Serve.{readAt}
+use Rattle.serve.specs.ReadLaws.{ended, taken-any}
+use Rattle.phases.specs.Phase.{Blank, ending, Leaves}
+use Rattle.phases.specs.PhaseLaws.{ending-seals, ending-none}
+
+-- Up to the seal.
+pub record Before (f : File) : Type 0 where
+  pub blank : Blank f
+  pub good : Good f
+  pub unsealed : f .sealed ≡ false
+
+before-act : (f : File) → Before f → (a : Action) → Passes f (facts a) → closing a ≡ false → Good (act f a) → Before (act f a)
+unfolding act
+before-act f b (begins n) t c g = record { blank = record { live = b .blank .live; gcds = b .blank .gcds; answers = b .blank .answers; last = b .blank .last }; good = g; unsealed = b .unsealed }
+before-act f b (changes x) t c g = record { blank = record { live = b .blank .live; gcds = b .blank .gcds; answers = b .blank .answers; last = b .blank .last }; good = g; unsealed = b .unsealed }
+before-act f b closes t c g = absurd (both refl c)
+before-act f b (decides n v) t c g = absurd (both (serving-turn f (t .turn)) (b .unsealed))
+before-act f b settles t c g = absurd (both (serving-turn f (t .turn)) (b .unsealed))
+before-act f b sifts t c g = absurd (both (serving-turn f (t .turn)) (b .unsealed))
+before-act f b (idles x) t c g = b
+
+before-apply : (f : File) → Before f → (r : Record) → refusal f r ≡ 0 → closing (action r) ≡ false → Before (apply f r)
+unfolding apply
+before-apply f b r h c = before-act f b (action r) (taken f r h) c (good-apply f (b .good) r h)
+
+closing-seal : (r : Record) → closing (action r) ≡ true → r ≡ Seal
+closing-seal (Header n) c = absurd (both c refl)
+closing-seal (Opens n z) c = absurd (both c refl)
+closing-seal (Adds x w) c = absurd (both c refl)
+closing-seal (Areas x a) c = absurd (both c refl)
+closing-seal Seal c = refl
+closing-seal (Mark n v) c = absurd (both c refl)
+closing-seal Settle c = absurd (both c refl)
+closing-seal Sift c = absurd (both c refl)
+closing-seal Unknown c = absurd (both c refl)
+
+-- Where the records of the job end.
+pub record Ended (input : List ℕ) (j : JobPart) : Type 0 where
+  pub before : Before (j .file)
+  pub next : j .sealing ≡ true → (j .at < length input) × (nextAt (standing (j .file)) input (j .at) ≡ Taken Seal)
+
+module _ (input : List ℕ) where
+  stops : (f : File) → Before f → (rs : List Record) (r o : ℕ) → Ended input (jobPart f rs r o false)
+  stops f b rs r o = record { before = b; next = λ e. absurd (both e refl) }
+
+  ends-from : (n o : ℕ) (f : File) (rs : List Record) → Before f → Ended input (readJob n o (drop o input) f rs)
+  unfolding readJob
+  ends-from zero o f rs b = stops f b rs 0 o
+  ends-from (suc n) o f rs b = by (λ p g qs c. ends-from n p g qs c) (decLt o (length input))
+    where
+      kind : ℕ
+      kind = getD input o 0
+
+      rest : List ℕ
+      rest = drop (o + 1) input
+
+      x : Record
+      x = recordAt kind rest
+
+      size : ℕ
+      size = bodyLength (kindOf kind)
+
+      cons : o < length input → drop o input ≡ kind ∷ rest
+      cons h = let e : suc o ≡ o + 1 = omega arith in drop-cons input o 0 h ∙ ap (λ (k : ℕ). kind ∷ drop k input) e
+
+      one : ((p : ℕ) (g : File) (qs : List Record) → Before g → Ended input (readJob n p (drop p input) g qs)) → o < length input → Ended input (readJob (suc n) o (kind ∷ rest) f rs)
+      one ih h =
+          ⊎-elim
+          (λ (e : refusalAt f kind rest ≡ 0).
+          ⊎-elim
+          (λ (c : closing (action x) ≡ true).
+          subst (Ended input) (sym (job-sealing n o kind rest f rs e c))
+          (record {
+            before = b;
+            next = λ z. (h, ap (λ (t : Bool). cond t (Taken (recordIn input o)) (Refused (refusalAt f kind rest))) (eq-eqb (refusalAt f kind rest) 0 e) ∙ ap Taken (closing-seal x c));
+          }))
+          (λ (c : closing (action x) ≡ false).
+          subst (Ended input) (sym (job-next n o kind rest f rs e c))
+          (subst (λ (l : List ℕ). Ended input (readJob n (o + 1 + size) l (apply f x) (rs ++ (x ∷ [])))) (sym (drop-drop size (o + 1) input))
+          (ih (o + 1 + size) (apply f x) (rs ++ (x ∷ [])) (before-apply f b x (refused-by 0 (λ z. omega arith) (λ z. omega arith) f kind rest e) c)))) (true-or (closing (action x))))
+          (λ (e : refusalAt f kind rest ≡ 0 → ⊥). subst (Ended input) (sym (job-refused n o kind rest f rs e)) (stops f b rs (refusalAt f kind rest) o)) (zero-or (refusalAt f kind rest))
+
+      by : ((p : ℕ) (g : File) (qs : List Record) → Before g → Ended input (readJob n p (drop p input) g qs)) → Dec (o < length input) → Ended input (readJob (suc n) o (drop o input) f rs)
+      by ih (yes h) = subst (λ (l : List ℕ). Ended input (readJob (suc n) o l f rs)) (sym (cons h)) (one ih h)
+      by ih (no h) =
+          let k : length input ≤ o = omega arith in
+          subst (λ (l : List ℕ). Ended input (readJob (suc n) o l f rs)) (sym (drop-of-length-le input k)) (stops f b rs 0 o)
+
+  -- AFTER THE JOB
+  pub job-ended : Ended input (jobPartOf input)
+  unfolding jobPartOf begun
+  job-ended = ends-from (length input) 0 begun [] (record { blank = record { live = refl; gcds = refl; answers = refl; last = refl }; good = good-begun; unsealed = refl })
+
+-- THE WHOLE FILE ENDS as the phase ends it, by what the job's reader gave back.
+module _ (input : List ℕ) (r : JobRead) (er : r .refusal ≡ jobPartOf input .refused) (ea : r .at ≡ jobPartOf input .at) (es : r .sealing ≡ jobPartOf input .sealing) where
+  abbrev j : JobPart
+  j = jobPartOf input
+
+  file-ending : (b : Bool) → j .sealing ≡ b → ended (ending input (j .file) r) ≡ ended (fileOf input)
+  file-ending true q =
+      ap ended (ending-seals input (j .file) r (es ∙ q)) ∙ ap (λ (n : ℕ). ended (readAt (length input) input n (j .file))) ea
+      ∙ taken-any (length input) (j .at) (drop (j .at) input) (j .file) [] (j .records) ∙ ap ended (sym (file-goes-on input))
+  file-ending false q =
+      ap ended (ending-none input (j .file) r (es ∙ q)) ∙ ap₂ (λ (n m : ℕ). outcome (j .file) [] n m) er ea ∙ ap ended (sym (file-ends input q))
+
+  pub leaves-file : (k₀ k : Kept) (o : Reached) → Leaves k₀ k o (ending input (j .file) r) → Leaves k₀ k o (fileOf input)
+  leaves-file k₀ k o l =
+      let e = file-ending (j .sealing) refl in
+      record {
+        words = l .words ∙ ap (λ (p : Outcome). keptOf (p .file) (clearKept k₀)) e;
+        standing = l .standing ∙ ap (λ (p : Outcome). standing (p .file)) e;
+        last = l .last ∙ ap (λ (p : Outcome). p .file .last) e;
+        refused = l .refused ∙ ap (λ (p : Outcome). p .refused) e;
+        at = l .at ∙ ap (λ (p : Outcome). p .at) e;
+      }

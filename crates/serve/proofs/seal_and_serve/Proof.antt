@@ -1,0 +1,174 @@
+-- `serve::seal_and_serve` meets its contract: what the seal leaves is what the records behind it begin with.
+use native.Mathlib.Omega.{arith}
+use Prim.Native.Nat.{_+_}
+use mathlib.Core.Path.{refl, _∙_}
+use Rattle.memory.specs.Buffers.{heldRows, Built, built, Kept, kept}
+use Rattle.records.specs.declared.Record.the-variants.{Seal}
+use Rattle.planner.specs.File.{apply}
+use Rattle.serve.specs.declared.Reached.{Reached}
+use Rattle.serve.specs.SealLaws.{seals-holds, seals-shaped, seals-totals, seals-room, seals-waits, seals-flags, seals-reaches, seals-passed, seals-whole}
+use borrow.Author.Needs.{needs}
+use Rattle.serve.proofs.seal_and_serve.Statement.{statement}
+use Rattle.serve.proofs.seal_and_serve.Tie as tie
+
+abbrev buffers : tie.Start → Built
+buffers p =
+    let a = p .args in
+    built (heldRows (a .row-conditions .now) (a .row-weights .now) (a .rows .now) (a .guard-bounds .now) (a .guard-nodes .now)) (a .nodes .now) (a .edges .now) (a .links .now)
+
+abbrev entry : tie.Start → Kept
+entry p =
+    let a = p .args in
+    kept (a .figures .now) (a .cursors .now) (a .sure .now) (a .never .now) (a .search .now) (a .gcds .now) (a .node-queue .now) (a .row-queues .now) (a .answers .now)
+
+-- Behind the seal; the other buffers are as they were.
+abbrev sealed : tie.After-seal → tie.Start → Kept
+sealed p q =
+    let l = p .seal .last .1 .1 .1 .1 .1 in
+    let a = q .args in
+    kept (l .0) (l .1 .0) (l .1 .1 .0) (l .1 .1 .1 .0) (a .search .now) (a .gcds .now) (l .1 .1 .1 .1 .0) (l .1 .1 .1 .1 .1 .0) (a .answers .now)
+
+abbrev after : tie.After-serve-records → Kept
+after p =
+    let l = p .serve-records .last .1 .1 .1 .1 .1 .1 .1 .1 .1 .1 in
+    kept (l .0) (l .1 .0) (l .1 .1 .0) (l .1 .1 .1 .0) (l .1 .1 .1 .1 .1 .1 .1 .0) (l .1 .1 .1 .1 .1 .1 .0) (l .1 .1 .1 .1 .0) (l .1 .1 .1 .1 .1 .0) (l .1 .1 .1 .1 .1 .1 .1 .1 .0)
+
+abbrev first : tie.After-stood → tie.After-seal → tie.Start → Reached
+first p q s =
+    record { at = s .args .at + 1; refused = 0; standing = p .stood .result; last = q .seal .result .step; rings = q .seal .result .rings }
+
+seal-requires : tie.Need-seal-requires
+seal-requires c κs =
+    let start = c .before .before .before .before .before .before .before .before .before .before .before .before .before .before .before .before in
+    let a = start .args in
+    let p = start .pre .0 in (
+      (
+        seals-holds (a .bounds .now) (buffers start) (p .1) (p .0) (entry start) (p .2) (p .3),
+        seals-shaped (a .bounds .now) (buffers start) (p .1) (p .0) (entry start) (p .2) (p .3),
+        seals-totals (a .bounds .now) (buffers start) (p .1) (p .0) (entry start) (p .2) (p .3),
+        seals-room (a .bounds .now) (buffers start) (p .1) (p .0) (entry start) (p .2) (p .3),
+      ),
+      (
+        seals-waits (a .bounds .now) (buffers start) (p .1) (p .0) (entry start) (p .2) (p .3),
+        seals-flags (a .bounds .now) (buffers start) (p .1) (p .0) (entry start) (p .2) (p .3),
+      ),
+    )
+
+stood-requires : tie.Need-stood-requires
+stood-requires c κs = search needs
+
+add-behind : tie.Need-add-behind
+add-behind c =
+    let start = c .before .before .before .before .before .before .before .before .before .before .before .before .before .before .before .before .before .before .before .before .before .before .before .before .before .before .before .before in
+    omega (arith, start .pre .1, start .pre .3)
+
+serve-records-requires : tie.Need-serve-records-requires
+serve-records-requires c κs =
+    let after-stood = c .before .before .before .before .before .before .before .before .before in
+    let after-seal = after-stood .before .before .before .before .before .before .before .before .before .before .before in
+    let start = after-seal .before .before .before .before .before .before .before .before .before .before .before .before .before .before .before .before .before in
+    let a = start .args in
+    let w = start .pre in
+    let p = w .0 in
+    let s = after-seal .seal in
+    let passed = seals-passed (p .0) (a .input .now) (a .at) (w .1) (a .standing) (p .4) (w .2) in (
+      (
+        apply (p .0) Seal,
+        p .1,
+        seals-reaches (a .bounds .now) (buffers start) (p .1) (p .0) (entry start) (p .2) (p .3) (sealed after-seal start) (s .result .rings) (s .result .step) (s .ensures .0) passed
+            (s .ensures .1 (p .3 .tidy)) refl refl refl (first after-stood after-seal start) refl refl refl (a .standing) (p .4) (after-stood .stood .ensures),
+      ),
+      w .3,
+    )
+
+fours-requires : tie.Need-fours-requires
+fours-requires c κs = search needs
+
+same-length : tie.Need-same-length
+same-length c =
+    let after-serve-records = c .before .before .before .before .before .before .before .before .before .before .before .before .before .before .before .before in
+    let after-seal = after-serve-records .before .before .before .before .before .before .before .before .before .before .before .before .before .before .before .before .before .before .before .before .before in
+    after-serve-records .serve-records .kept .1 .1 .1 .1 .1 .1 .1 .1 .1 .1 .0 ∙ after-seal .seal .kept .1 .1 .1 .1 .1 .0
+
+same-length-2 : tie.Need-same-length-2
+same-length-2 c =
+    let after-serve-records = c .before .before .before .before .before .before .before .before .before .before .before .before .before .before .before .before in
+    let after-seal = after-serve-records .before .before .before .before .before .before .before .before .before .before .before .before .before .before .before .before .before .before .before .before .before in
+    after-serve-records .serve-records .kept .1 .1 .1 .1 .1 .1 .1 .1 .1 .1 .1 .0 ∙ after-seal .seal .kept .1 .1 .1 .1 .1 .1 .0
+
+same-length-3 : tie.Need-same-length-3
+same-length-3 c =
+    let after-serve-records = c .before .before .before .before .before .before .before .before .before .before .before .before .before .before .before .before in
+    let after-seal = after-serve-records .before .before .before .before .before .before .before .before .before .before .before .before .before .before .before .before .before .before .before .before .before in
+    after-serve-records .serve-records .kept .1 .1 .1 .1 .1 .1 .1 .1 .1 .1 .1 .1 .0 ∙ after-seal .seal .kept .1 .1 .1 .1 .1 .1 .1 .0
+
+same-length-4 : tie.Need-same-length-4
+same-length-4 c =
+    let after-serve-records = c .before .before .before .before .before .before .before .before .before .before .before .before .before .before .before .before in
+    let after-seal = after-serve-records .before .before .before .before .before .before .before .before .before .before .before .before .before .before .before .before .before .before .before .before .before in
+    after-serve-records .serve-records .kept .1 .1 .1 .1 .1 .1 .1 .1 .1 .1 .1 .1 .1 .0 ∙ after-seal .seal .kept .1 .1 .1 .1 .1 .1 .1 .1 .0
+
+same-length-5 : tie.Need-same-length-5
+same-length-5 c =
+    let after-serve-records = c .before .before .before .before .before .before .before .before .before .before .before .before .before .before .before .before in
+    let after-seal = after-serve-records .before .before .before .before .before .before .before .before .before .before .before .before .before .before .before .before .before .before .before .before .before in
+    after-serve-records .serve-records .kept .1 .1 .1 .1 .1 .1 .1 .1 .1 .1 .1 .1 .1 .1 .0 ∙ after-seal .seal .kept .1 .1 .1 .1 .1 .1 .1 .1 .1 .0
+
+same-length-6 : tie.Need-same-length-6
+same-length-6 c =
+    let after-serve-records = c .before .before .before .before .before .before .before .before .before .before .before .before .before .before .before .before in
+    let after-seal = after-serve-records .before .before .before .before .before .before .before .before .before .before .before .before .before .before .before .before .before .before .before .before .before in
+    after-serve-records .serve-records .kept .1 .1 .1 .1 .1 .1 .1 .1 .1 .1 .1 .1 .1 .1 .1 .0 ∙ after-seal .seal .kept .1 .1 .1 .1 .1 .1 .1 .1 .1 .1 .0
+
+same-length-7 : tie.Need-same-length-7
+same-length-7 c =
+    let after-serve-records = c .before .before .before .before .before .before .before .before .before .before .before .before .before .before .before .before in
+    after-serve-records .serve-records .kept .1 .1 .1 .1 .1 .1 .1 .1 .1 .1 .1 .1 .1 .1 .1 .1 .0
+
+same-length-8 : tie.Need-same-length-8
+same-length-8 c =
+    let after-serve-records = c .before .before .before .before .before .before .before .before .before .before .before .before .before .before .before .before in
+    after-serve-records .serve-records .kept .1 .1 .1 .1 .1 .1 .1 .1 .1 .1 .1 .1 .1 .1 .1 .1 .1 .0
+
+same-length-9 : tie.Need-same-length-9
+same-length-9 c =
+    let after-serve-records = c .before .before .before .before .before .before .before .before .before .before .before .before .before .before .before .before in
+    after-serve-records .serve-records .kept .1 .1 .1 .1 .1 .1 .1 .1 .1 .1 .1 .1 .1 .1 .1 .1 .1 .1 .0
+
+returns : tie.Need-returns
+returns c =
+    let after-serve-records = c .before .before .before .before .before .before .before .before .before .before .before .before .before .before .before .before in
+    let after-stood = after-serve-records .before .before .before .before .before .before .before .before .before .before in
+    let after-seal = after-stood .before .before .before .before .before .before .before .before .before .before .before in
+    let start = after-seal .before .before .before .before .before .before .before .before .before .before .before .before .before .before .before .before .before in
+    let a = start .args in
+    let w = start .pre in
+    let s = after-seal .seal in
+    let t = after-serve-records .serve-records in (
+      λ f base z l e.
+          let passed = seals-passed f (a .input .now) (a .at) (w .1) (a .standing) e (w .2) in
+          let y = seals-reaches (a .bounds .now) (buffers start) base f (entry start) z l (sealed after-seal start) (s .result .rings) (s .result .step) (s .ensures .0) passed
+          (s .ensures .1 (l .tidy)) refl refl refl (first after-stood after-seal start) refl refl refl (a .standing) e (after-stood .stood .ensures) in
+          seals-whole (a .bounds .now) (buffers start) base f (after after-serve-records) (t .result) (a .input .now) (a .at) (w .1) (a .standing) e (w .2) (t .ensures (apply f Seal) base y),
+      c .fours .ensures,
+    )
+
+pub seal-and-serve-spec : {M : Type 1} → statement M
+seal-and-serve-spec =
+    tie.close
+    (tie.spec
+    seal-requires
+    stood-requires
+    add-behind
+    serve-records-requires
+    fours-requires
+    same-length
+    same-length-2
+    same-length-3
+    same-length-4
+    same-length-5
+    same-length-6
+    same-length-7
+    same-length-8
+    same-length-9
+    returns)

@@ -1,0 +1,242 @@
+-- `serve::serve_records` meets its contract: the records that are left from here are those from the start.
+use native.Mathlib.Omega.{arith}
+use mathlib.Core.Path.{refl, _∙_}
+use Prim.Native.Nat.{_-_}
+use lib.ListN.{length}
+use Rattle.memory.specs.Buffers.{heldRows, Built, built, Kept, kept}
+use Rattle.serve.specs.Serve.{Same}
+use Rattle.serve.specs.ServeLaws.{Loops, loops-first, loops-end, loops-stop, loops-next, loops-less}
+use Rattle.serve.proofs.serve_records.Statement.{statement}
+use Rattle.serve.proofs.serve_records.Tie as tie
+
+abbrev Inv-loop : tie.InvT-loop
+Inv-loop input conditions weights rows guard-bounds guard-nodes nodes bounds edges links figures₀ cursors₀ sure₀ never₀ node-queue₀ row-queues₀ gcds₀ search₀ answers₀ reached₀ figures cursors sure never node-queue row-queues gcds search answers reached =
+    let k₀ = kept figures₀ cursors₀ sure₀ never₀ search₀ gcds₀ node-queue₀ row-queues₀ answers₀ in
+    let k = kept figures cursors sure never search gcds node-queue row-queues answers in
+    Loops input bounds (built (heldRows conditions weights rows guard-bounds guard-nodes) nodes edges links) k₀ reached₀ k reached × Same k₀ k
+
+abbrev μ-loop : tie.MeasureT-loop
+μ-loop input conditions weights rows guard-bounds guard-nodes nodes bounds edges links figures₀ cursors₀ sure₀ never₀ node-queue₀ row-queues₀ gcds₀ search₀ answers₀ reached₀ figures cursors sure never node-queue row-queues gcds search answers reached = length input - reached .at
+
+abbrev buffers : tie.Start Inv-loop μ-loop → Built
+buffers p =
+    let a = p .args in
+    built (heldRows (a .row-conditions .now) (a .row-weights .now) (a .rows .now) (a .guard-bounds .now) (a .guard-nodes .now)) (a .nodes .now) (a .edges .now) (a .links .now)
+
+abbrev entry : tie.Start Inv-loop μ-loop → Kept
+entry p =
+    let a = p .args in
+    kept (a .figures .now) (a .cursors .now) (a .sure .now) (a .never .now) (a .search .now) (a .gcds .now) (a .node-queue .now) (a .row-queues .now) (a .answers .now)
+
+abbrev here : tie.At-loop Inv-loop μ-loop → Kept
+here p =
+    let l = p .loop in
+    kept (l .figures) (l .cursors) (l .sure) (l .never) (l .search) (l .gcds) (l .node-queue) (l .row-queues) (l .answers)
+
+abbrev after : tie.After-serve-record Inv-loop μ-loop → Kept
+after p =
+    let l = p .serve-record .last .1 .1 .1 .1 .1 .1 .1 .1 .1 .1 in
+    kept (l .0) (l .1 .0) (l .1 .1 .0) (l .1 .1 .1 .0) (l .1 .1 .1 .1 .1 .1 .1 .0) (l .1 .1 .1 .1 .1 .1 .0) (l .1 .1 .1 .1 .0) (l .1 .1 .1 .1 .1 .0) (l .1 .1 .1 .1 .1 .1 .1 .1 .0)
+
+loop-holds : tie.Need-loop-holds Inv-loop μ-loop
+loop-holds c =
+    let start = c .before .before .before .before .before .before .before .before .before .before in
+    let a = start .args in (
+      loops-first (a .input .now) (a .bounds .now) (buffers start) (entry start) (a .first),
+      record { figures = refl; cursors = refl; sure = refl; never = refl; search = refl; gcds = refl; node-queue = refl; row-queues = refl; answers = refl },
+    )
+
+serve-record-requires : tie.Need-serve-record-requires Inv-loop μ-loop
+serve-record-requires c κs =
+    let then1 = c .before .before .before .before .before .before .before .before .before in
+    let at-loop = then1 .before .before in
+    let start = at-loop .before .before .before .before .before .before .before .before .before .before .before in
+    let p = start .pre in
+    let w = at-loop .loop .inv .0 .so-far (p .0 .0) (p .0 .1) (p .0 .2) in
+    ((w .0, p .0 .1, w .1), then1 .if1 .taken, p .1)
+
+same-length : tie.Need-same-length Inv-loop μ-loop
+same-length c =
+    let after-serve-record = c .before .before .before .before .before .before .before .before .before .before .before .before .before .before .before in
+    let at-loop = after-serve-record .before .before .before .before .before .before .before .before .before .before .before .before in
+    after-serve-record .serve-record .kept .1 .1 .1 .1 .1 .1 .1 .1 .1 .1 .0 ∙ at-loop .loop .inv .1 .figures
+
+same-length-2 : tie.Need-same-length-2 Inv-loop μ-loop
+same-length-2 c =
+    let after-serve-record = c .before .before .before .before .before .before .before .before .before .before .before .before .before .before .before in
+    let at-loop = after-serve-record .before .before .before .before .before .before .before .before .before .before .before .before in
+    after-serve-record .serve-record .kept .1 .1 .1 .1 .1 .1 .1 .1 .1 .1 .1 .0 ∙ at-loop .loop .inv .1 .cursors
+
+same-length-3 : tie.Need-same-length-3 Inv-loop μ-loop
+same-length-3 c =
+    let after-serve-record = c .before .before .before .before .before .before .before .before .before .before .before .before .before .before .before in
+    let at-loop = after-serve-record .before .before .before .before .before .before .before .before .before .before .before .before in
+    after-serve-record .serve-record .kept .1 .1 .1 .1 .1 .1 .1 .1 .1 .1 .1 .1 .0 ∙ at-loop .loop .inv .1 .sure
+
+same-length-4 : tie.Need-same-length-4 Inv-loop μ-loop
+same-length-4 c =
+    let after-serve-record = c .before .before .before .before .before .before .before .before .before .before .before .before .before .before .before in
+    let at-loop = after-serve-record .before .before .before .before .before .before .before .before .before .before .before .before in
+    after-serve-record .serve-record .kept .1 .1 .1 .1 .1 .1 .1 .1 .1 .1 .1 .1 .1 .0 ∙ at-loop .loop .inv .1 .never
+
+same-length-5 : tie.Need-same-length-5 Inv-loop μ-loop
+same-length-5 c =
+    let after-serve-record = c .before .before .before .before .before .before .before .before .before .before .before .before .before .before .before in
+    let at-loop = after-serve-record .before .before .before .before .before .before .before .before .before .before .before .before in
+    after-serve-record .serve-record .kept .1 .1 .1 .1 .1 .1 .1 .1 .1 .1 .1 .1 .1 .1 .0 ∙ at-loop .loop .inv .1 .node-queue
+
+same-length-6 : tie.Need-same-length-6 Inv-loop μ-loop
+same-length-6 c =
+    let after-serve-record = c .before .before .before .before .before .before .before .before .before .before .before .before .before .before .before in
+    let at-loop = after-serve-record .before .before .before .before .before .before .before .before .before .before .before .before in
+    after-serve-record .serve-record .kept .1 .1 .1 .1 .1 .1 .1 .1 .1 .1 .1 .1 .1 .1 .1 .0 ∙ at-loop .loop .inv .1 .row-queues
+
+same-length-7 : tie.Need-same-length-7 Inv-loop μ-loop
+same-length-7 c =
+    let after-serve-record = c .before .before .before .before .before .before .before .before .before .before .before .before .before .before .before in
+    let at-loop = after-serve-record .before .before .before .before .before .before .before .before .before .before .before .before in
+    after-serve-record .serve-record .kept .1 .1 .1 .1 .1 .1 .1 .1 .1 .1 .1 .1 .1 .1 .1 .1 .0 ∙ at-loop .loop .inv .1 .gcds
+
+same-length-8 : tie.Need-same-length-8 Inv-loop μ-loop
+same-length-8 c =
+    let after-serve-record = c .before .before .before .before .before .before .before .before .before .before .before .before .before .before .before in
+    let at-loop = after-serve-record .before .before .before .before .before .before .before .before .before .before .before .before in
+    after-serve-record .serve-record .kept .1 .1 .1 .1 .1 .1 .1 .1 .1 .1 .1 .1 .1 .1 .1 .1 .1 .0 ∙ at-loop .loop .inv .1 .search
+
+same-length-9 : tie.Need-same-length-9 Inv-loop μ-loop
+same-length-9 c =
+    let after-serve-record = c .before .before .before .before .before .before .before .before .before .before .before .before .before .before .before in
+    let at-loop = after-serve-record .before .before .before .before .before .before .before .before .before .before .before .before in
+    after-serve-record .serve-record .kept .1 .1 .1 .1 .1 .1 .1 .1 .1 .1 .1 .1 .1 .1 .1 .1 .1 .1 .0 ∙ at-loop .loop .inv .1 .answers
+
+returns : tie.Need-returns Inv-loop μ-loop
+returns c =
+    let after-serve-record = c .before .before .before .before .before .before .before .before .before .before .before .before .before .before .before in
+    let then1 = after-serve-record .before .before .before .before .before .before .before .before .before .before in
+    let at-loop = then1 .before .before in
+    let start = at-loop .before .before .before .before .before .before .before .before .before .before .before in
+    let a = start .args in
+    let l = at-loop .loop in
+    let s = after-serve-record .serve-record in
+    loops-stop (a .input .now) (a .bounds .now) (buffers start) (entry start) (a .first) (here at-loop) (l .reached) (l .inv .0) (then1 .if1 .taken) (after after-serve-record) (s .result) (s .ensures) (c .if2 .taken)
+
+loop-less : tie.Need-loop-less Inv-loop μ-loop
+loop-less c =
+    let after-serve-record = c .before .before .before .before .before .before .before .before .before .before .before .before .before .before .before in
+    let then1 = after-serve-record .before .before .before .before .before .before .before .before .before .before in
+    let at-loop = then1 .before .before in
+    let start = at-loop .before .before .before .before .before .before .before .before .before .before .before in
+    let a = start .args in
+    let l = at-loop .loop in
+    let s = after-serve-record .serve-record in
+    let p = start .pre in
+    loops-less (a .input .now) (a .bounds .now) (buffers start) (entry start) (a .first) (here at-loop) (l .reached) (l .inv .0) (then1 .if1 .taken) (after after-serve-record) (s .result) (s .ensures) (c .if2 .left) (p .0 .0) (p .0 .1) (p .0 .2)
+
+loop-again : tie.Need-loop-again Inv-loop μ-loop
+loop-again c =
+    let after-serve-record = c .before .before .before .before .before .before .before .before .before .before .before .before .before .before .before in
+    let then1 = after-serve-record .before .before .before .before .before .before .before .before .before .before in
+    let at-loop = then1 .before .before in
+    let start = at-loop .before .before .before .before .before .before .before .before .before .before .before in
+    let a = start .args in
+    let l = at-loop .loop in
+    let s = after-serve-record .serve-record in
+    let k = s .kept .1 .1 .1 .1 .1 .1 .1 .1 .1 .1 in
+    let o = l .inv .1 in (
+      loops-next (a .input .now) (a .bounds .now) (buffers start) (entry start) (a .first) (here at-loop) (l .reached) (l .inv .0) (then1 .if1 .taken) (after after-serve-record) (s .result) (s .ensures) (c .if2 .left),
+      record {
+        figures = k .0 ∙ o .figures;
+        cursors = k .1 .0 ∙ o .cursors;
+        sure = k .1 .1 .0 ∙ o .sure;
+        never = k .1 .1 .1 .0 ∙ o .never;
+        node-queue = k .1 .1 .1 .1 .0 ∙ o .node-queue;
+        row-queues = k .1 .1 .1 .1 .1 .0 ∙ o .row-queues;
+        gcds = k .1 .1 .1 .1 .1 .1 .0 ∙ o .gcds;
+        search = k .1 .1 .1 .1 .1 .1 .1 .0 ∙ o .search;
+        answers = k .1 .1 .1 .1 .1 .1 .1 .1 .0 ∙ o .answers;
+      },
+    )
+
+same-length-10 : tie.Need-same-length-10 Inv-loop μ-loop
+same-length-10 c =
+    let at-loop = c .before .before in
+    at-loop .loop .inv .1 .figures
+
+same-length-11 : tie.Need-same-length-11 Inv-loop μ-loop
+same-length-11 c =
+    let at-loop = c .before .before in
+    at-loop .loop .inv .1 .cursors
+
+same-length-12 : tie.Need-same-length-12 Inv-loop μ-loop
+same-length-12 c =
+    let at-loop = c .before .before in
+    at-loop .loop .inv .1 .sure
+
+same-length-13 : tie.Need-same-length-13 Inv-loop μ-loop
+same-length-13 c =
+    let at-loop = c .before .before in
+    at-loop .loop .inv .1 .never
+
+same-length-14 : tie.Need-same-length-14 Inv-loop μ-loop
+same-length-14 c =
+    let at-loop = c .before .before in
+    at-loop .loop .inv .1 .node-queue
+
+same-length-15 : tie.Need-same-length-15 Inv-loop μ-loop
+same-length-15 c =
+    let at-loop = c .before .before in
+    at-loop .loop .inv .1 .row-queues
+
+same-length-16 : tie.Need-same-length-16 Inv-loop μ-loop
+same-length-16 c =
+    let at-loop = c .before .before in
+    at-loop .loop .inv .1 .gcds
+
+same-length-17 : tie.Need-same-length-17 Inv-loop μ-loop
+same-length-17 c =
+    let at-loop = c .before .before in
+    at-loop .loop .inv .1 .search
+
+same-length-18 : tie.Need-same-length-18 Inv-loop μ-loop
+same-length-18 c =
+    let at-loop = c .before .before in
+    at-loop .loop .inv .1 .answers
+
+returns-2 : tie.Need-returns-2 Inv-loop μ-loop
+returns-2 c =
+    let at-loop = c .before .before in
+    let start = at-loop .before .before .before .before .before .before .before .before .before .before .before in
+    let a = start .args in
+    let l = at-loop .loop in
+    loops-end (a .input .now) (a .bounds .now) (buffers start) (entry start) (a .first) (here at-loop) (l .reached) (l .inv .0) (omega (arith, c .if1 .left))
+
+pub serve-records-spec : {M : Type 1} → statement M
+serve-records-spec =
+    tie.close
+    (tie.spec
+    Inv-loop
+    μ-loop
+    loop-holds
+    serve-record-requires
+    same-length
+    same-length-2
+    same-length-3
+    same-length-4
+    same-length-5
+    same-length-6
+    same-length-7
+    same-length-8
+    same-length-9
+    returns
+    loop-less
+    loop-again
+    same-length-10
+    same-length-11
+    same-length-12
+    same-length-13
+    same-length-14
+    same-length-15
+    same-length-16
+    same-length-17
+    same-length-18
+    returns-2)

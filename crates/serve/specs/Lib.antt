@@ -1,0 +1,5 @@
+pub mod Serve
+pub mod ReadLaws
+pub mod ServeLaws
+pub mod SealLaws
+pub mod SlotLaws

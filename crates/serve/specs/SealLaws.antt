@@ -1,0 +1,107 @@
+-- THE SEAL of cleared memory, and the records behind it: what the code requires and what it leaves. Assumes nothing.
+use Prim.Native.Nat.{ℕ, _+_, _<_, _≤_}
+use native.Mathlib.Omega.{arith}
+use mathlib.Core.Path.{_≡_, refl, sym, ap, subst, _∙_}
+use mathlib.Core.List.{List, []}
+use lib.ListN.{length}
+use lib.IntN.{ℤ}
+use Rattle.memory.specs.Limits.{totalLimit}
+use Rattle.memory.specs.Buffers.{Built, Kept}
+use Rattle.lists.specs.Laid.{over}
+use Rattle.state.specs.declared.Step.{Step}
+use Rattle.queues.specs.declared.Rings.{Rings}
+use Rattle.queues.specs.RowsLaws.{Flags}
+use Rattle.queues.specs.MarksLaws.{Waits}
+use Rattle.between.specs.Between.{Index, Live, Did, did}
+use Rattle.between.specs.Held.{Shaped, Holds}
+use Rattle.between.specs.FirstLaws.{Totals}
+use Rattle.between.specs.Numbers.{Tidy}
+use Rattle.regions.specs.Drain as Drain
+use Rattle.regions.specs.Drain.{indexOf}
+use Rattle.records.specs.declared.Record.the-variants.{Seal}
+use Rattle.records.specs.declared.Standing.{Standing}
+use Rattle.records.specs.declared.Next.the-variants.{Taken}
+use Rattle.records.specs.Checks.{nextAt}
+use Rattle.planner.specs.File.{File, standing, refusal, told, sealedFile, act, apply, outcome}
+use Rattle.settle.specs.Begins.{Fresh}
+use Rattle.sift.specs.Tries.{Scratch}
+use Rattle.holds.specs.Served.{Served}
+use Rattle.holds.specs.Lent.{served-built}
+use Rattle.holds.specs.Files.{serving-seal}
+use Rattle.serve.specs.declared.Reached.{Reached}
+use Rattle.serve.specs.Serve.{Lent, liveIn, answersOf, Lies, Seals, noRings, stood, Reaches, readAt}
+use Rattle.serve.specs.ReadLaws.{seal-goes}
+use Rattle.serve.specs.ServeLaws.{reaches-ended}
+
+module _ (bs : List ℤ) (b : Built) (base : List (List ℕ)) (f : File) (k : Kept) (s : Seals bs b f) (l : Lies base f k noRings) where
+  served : Served (f .job) b
+  served = subst (Served (f .job)) (sym (s .built)) (served-built (f .job) (s .good .job) (s .light) (s .from) (s .lendable))
+
+  -- What `settle::seal` requires.
+  pub seals-holds : (x : Index) × Holds x (b .held)
+  seals-holds = (indexOf (f .job), served .serves .holds)
+
+  pub seals-shaped : Shaped (b .held)
+  seals-shaped = served .serves .shaped
+
+  pub seals-totals : Totals totalLimit (b .held .row-conditions) (b .held .row-weights) (b .held .rows)
+  seals-totals = served .totals
+
+  pub seals-room : length (b .held .rows) ≤ length (liveIn k noRings .states)
+  seals-room = omega (arith, seals-shaped .few, s .fresh .sound .long, ap (λ (v : Live). length (v .states)) (l .live))
+
+  pub seals-waits : Waits (liveIn k noRings .marks)
+  seals-waits = subst (λ (v : Live). Waits (v .marks)) (sym (l .live)) (s .fresh .sound .waits)
+
+  pub seals-flags : Flags (liveIn k noRings .residuals)
+  seals-flags = subst (λ (v : Live). Flags (v .residuals)) (sym (l .live)) (s .fresh .sound .residuals)
+
+  lent : refusal f Seal ≡ 0 → Lent bs b (apply f Seal)
+  lent h = record {
+    job = f .job;
+    fits = s .good .job;
+    light = s .light;
+    from = s .from;
+    lendable = s .lendable;
+    built = s .built;
+    bounds = s .bounds;
+    serving = serving-seal (f .job) (s .good .job) (s .light) (s .from) (s .lendable) f (s .good) refl (subst (λ (z : Built). Fresh z (f .live)) (s .built) (s .fresh)) h;
+  }
+
+  -- WHAT IT LEAVES
+  module _ (m : Kept) (rings : Rings) (step : Step) (made : (x : Index) → Holds x (b .held) → did (liveIn m rings) step ≡ Drain.seal x (liveIn k noRings)) where
+    whole : apply f Seal ≡ told f (f .job) step (liveIn m rings) (f .gcds) (f .answers)
+    unfolding apply act sealedFile
+    whole =
+        ap (λ (d : Did). told f (f .job) (d .step) (d .live) (f .gcds) (f .answers))
+        (ap (Drain.seal (indexOf (f .job))) (sym (l .live)) ∙ sym (made (indexOf (f .job)) (served .serves .holds)))
+
+    pub seals-reaches : refusal f Seal ≡ 0 → Tidy (m .figures) (m .cursors) → m .gcds ≡ k .gcds → m .search ≡ k .search → m .answers ≡ k .answers
+        → (o : Reached) → o .rings ≡ rings → o .last ≡ step → o .refused ≡ 0 → (from : Standing) → from ≡ standing f → o .standing ≡ stood from step (from .answers)
+        → Reaches bs b base m o (outcome (apply f Seal) [] 0 (o .at))
+    seals-reaches passed tidy eg es ea o er el en from e q = record {
+      lent = lent passed;
+      lies = record {
+        live = ap (liveIn m) er ∙ sym (ap (λ (h : File). h .live) whole);
+        tidy = tidy;
+        gcds = eg ∙ l .gcds ∙ sym (ap (λ (h : File). h .gcds) whole);
+        scratch = subst (Scratch (m .gcds)) (sym es) (subst (λ (g : List ℕ). Scratch g (k .search)) (sym eg) (l .scratch));
+        answers = ea ∙ l .answers ∙ ap (λ (h : File). over (answersOf (h .answers)) base) (sym whole);
+        room = l .room;
+      };
+      standing = q ∙ ap (λ (z : Standing). stood z step (z .answers)) e ∙ ap (λ (h : File). standing h) (sym whole);
+      last = el ∙ ap (λ (h : File). h .last) (sym whole);
+      refused = en;
+      at = refl;
+    }
+
+-- The records behind the seal are all from there on.
+pub seals-whole : (bs : List ℤ) (b : Built) (base : List (List ℕ)) (f : File) (m : Kept) (o : Reached) (input : List ℕ) (at : ℕ) → at < length input
+    → (from : Standing) → from ≡ standing f → nextAt from input at ≡ Taken Seal
+    → Reaches bs b base m o (readAt (length input) input (at + 1) (apply f Seal)) → Reaches bs b base m o (readAt (length input) input at f)
+seals-whole bs b base f m o input at h from e n y =
+    reaches-ended bs b base m o (readAt (length input) input (at + 1) (apply f Seal)) (readAt (length input) input at f)
+    (seal-goes input at f h (ap (λ (z : Standing). nextAt z input at) (sym e) ∙ n) .1) y
+
+pub seals-passed : (f : File) (input : List ℕ) (at : ℕ) → at < length input → (from : Standing) → from ≡ standing f → nextAt from input at ≡ Taken Seal → refusal f Seal ≡ 0
+seals-passed f input at h from e n = seal-goes input at f h (ap (λ (z : Standing). nextAt z input at) (sym e) ∙ n) .0

@@ -1,0 +1,512 @@
+// The records behind the seal: marks, settles and sifts over the buffers of Kept, up to the end of the input or the first that is
+// refused. The buffers are then those of the file that the definition of whole files gives.
+ghost use mathlib.Core.Path.{_≡_};
+ghost use mathlib.Core.Bool.{true};
+ghost use mathlib.Core.List.{List, [], _∷_, _++_};
+ghost use Prim.Native.Nat.{ℕ, _+_, _<_, _≤_};
+ghost use lib.ListN.{length, set};
+ghost use Rattle.memory.specs.Buffers.{heldRows, built, kept, longestInput};
+ghost use Rattle.lists.specs.Laid.{over};
+ghost use Rattle.between.specs.Numbers.{liveOf, Tidy};
+ghost use Rattle.regions.specs.Sift.{sifted};
+ghost use Rattle.planner.specs.File.{File, Answer, refusal, outcome, apply, standing as standingOf};
+ghost use Rattle.records.specs.declared.Record.the-variants.{Seal};
+ghost use Rattle.records.specs.declared.Next.the-variants.{Taken};
+ghost use Rattle.records.specs.Checks.{nextAt};
+ghost use Rattle.serve.specs.Serve.{answersOf, Lies, Seals, noRings, Asks, came, answered, Takes, stood as stands, Reaches, readAt, fourfold};
+use queues::Ring;
+use queues::Rings;
+use records::Next;
+use records::Record;
+use records::Standing;
+use sift::Sifted;
+use state::Step;
+
+// How far the records were taken: the offset, the number that refuses the record there (0: none), what the checks read of the
+// file, the step of the last record that answered, and where the queues stand.
+pub struct Reached {
+    pub at: usize,
+    pub refused: u8,
+    pub standing: Standing,
+    pub last: Step,
+    pub rings: Rings,
+}
+
+// A mark, a settle or a sift is done; no other record passes the checks behind the seal. Only a sift has visits.
+fn take(
+    row_conditions: &[u16],
+    row_weights: &[u64],
+    rows: &[[u16; 3]],
+    guard_bounds: &[i64],
+    guard_nodes: &[u16],
+    nodes: &[[u16; 3]],
+    bounds: &[i64],
+    edges: &[[u64; 2]],
+    links: &[u16],
+    figures: &mut [[i64; 4]],
+    cursors: &mut [[usize; 5]],
+    sure: &mut [u64],
+    never: &mut [u64],
+    node_queue: &mut [u16],
+    row_queues: &mut [[u16; 4]],
+    gcds: &mut [u64],
+    search: &mut [u64],
+    rings: Rings,
+    given: Record,
+) -> Sifted
+    requires { ⌜ ((f : File) × Takes (now bounds) (built (heldRows (now «row_conditions») (now «row_weights») (now rows) (now «guard_bounds») (now «guard_nodes»)) (now nodes) (now edges) (now links))
+        f given (liveOf (now figures) (now cursors) (now sure) (now never) (now «node_queue») (now «row_queues») rings) (now gcds) (now search)) ⌝ }
+    ensures { λ r. ⌜ ((f : File) → Takes (now (bounds .entry)) (built (heldRows (now («row_conditions» .entry)) (now («row_weights» .entry)) (now (rows .entry)) (now («guard_bounds» .entry)) (now («guard_nodes» .entry)))
+        (now (nodes .entry)) (now (edges .entry)) (now (links .entry)))
+        f given (liveOf (now (figures .entry)) (now (cursors .entry)) (now (sure .entry)) (now (never .entry)) (now («node_queue» .entry)) (now («row_queues» .entry)) rings) (now (gcds .entry)) (now (search .entry))
+        → sifted (liveOf (now (figures .exit)) (now (cursors .exit)) (now (sure .exit)) (now (never .exit)) (now («node_queue» .exit)) (now («row_queues» .exit)) (r .rings)) (now (gcds .exit)) (r .step) (r .visits) ≡ came f given)
+        × (Tidy (now (figures .entry)) (now (cursors .entry)) → Tidy (now (figures .exit)) (now (cursors .exit))) × (now (search .exit) ≡ now (search .entry)) ⌝ }
+{
+    match given {
+        Record::Mark(node, value) => {
+            let place = node as usize;
+            let sure_of = value == 1;
+            let did = settle::mark(
+                figures,
+                cursors,
+                sure,
+                never,
+                node_queue,
+                row_queues,
+                rings,
+                place,
+                sure_of,
+            );
+            let step = did.step;
+            let later = did.rings;
+            Sifted {
+                step: step,
+                rings: later,
+                visits: 0,
+            }
+        }
+        Record::Settle => {
+            let did = settle::settle(
+                row_conditions,
+                row_weights,
+                rows,
+                guard_bounds,
+                guard_nodes,
+                nodes,
+                bounds,
+                edges,
+                links,
+                figures,
+                cursors,
+                sure,
+                never,
+                node_queue,
+                row_queues,
+                rings,
+            );
+            let step = did.step;
+            let later = did.rings;
+            Sifted {
+                step: step,
+                rings: later,
+                visits: 0,
+            }
+        }
+        Record::Sift => sift::sift(
+            row_conditions,
+            row_weights,
+            rows,
+            guard_bounds,
+            guard_nodes,
+            nodes,
+            bounds,
+            edges,
+            links,
+            figures,
+            cursors,
+            sure,
+            never,
+            node_queue,
+            row_queues,
+            gcds,
+            search,
+            rings,
+        ),
+        _ => Sifted {
+            step: Step::Unchanged,
+            rings: rings,
+            visits: 0,
+        },
+    }
+}
+
+// An answer is put behind those that are there; how many there are then.
+fn put(answers: &mut [[u16; 2]], count: usize, number: u16, visits: u16) -> usize
+    requires { ⌜ (count < length (now answers)) × (count < 64) ⌝ }
+    ensures { λ r. ⌜ (now (answers .exit) ≡ set (now (answers .entry)) count (number ∷ visits ∷ [])) × (r ≡ count + 1) ⌝ }
+{
+    let pair: [u16; 2] = [number, visits];
+    answers[count] = pair;
+    count + 1
+}
+
+// The answer of a settle or of a sift, a sift's with its visits and its number from 4 on; other records have none.
+fn store(answers: &mut [[u16; 2]], count: usize, given: Record, step: Step, visits: usize) -> usize
+    requires { ⌜ (0 < length (answered given step visits) → count < 64) × (64 ≤ length (now answers)) × (visits ≤ 4096) ⌝ }
+    ensures { λ r. ⌜ ((before : List Answer) (base : List (List ℕ)) → 64 ≤ length base → count ≡ length before → now (answers .entry) ≡ over (answersOf before) base
+        → (now (answers .exit) ≡ over (answersOf (before ++ answered given step visits)) base) × (r ≡ length (before ++ answered given step visits))) ⌝ }
+{
+    let number = step.number();
+    match given {
+        Record::Settle => put(answers, count, number as u16, 0),
+        Record::Sift => {
+            let used = visits as u16;
+            let tagged = number as u16 + 4;
+            put(answers, count, tagged, used)
+        }
+        _ => count,
+    }
+}
+
+// What the checks read behind a record that answered.
+fn stood(standing: Standing, step: Step, answers: usize) -> Standing
+    ensures { λ r. ⌜ r ≡ stands standing step answers ⌝ }
+{
+    Standing {
+        started: standing.started,
+        sealed: true,
+        contradicted: step.contradicts(),
+        nodes: standing.nodes,
+        thresholds: standing.thresholds,
+        last_node: standing.last_node,
+        last_terms: standing.last_terms,
+        terms: standing.terms,
+        answers: answers,
+    }
+}
+
+// A record that passed the checks is done and its answer stored; the next begins at `behind`.
+fn take_record(
+    row_conditions: &[u16],
+    row_weights: &[u64],
+    rows: &[[u16; 3]],
+    guard_bounds: &[i64],
+    guard_nodes: &[u16],
+    nodes: &[[u16; 3]],
+    bounds: &[i64],
+    edges: &[[u64; 2]],
+    links: &[u16],
+    figures: &mut [[i64; 4]],
+    cursors: &mut [[usize; 5]],
+    sure: &mut [u64],
+    never: &mut [u64],
+    node_queue: &mut [u16],
+    row_queues: &mut [[u16; 4]],
+    gcds: &mut [u64],
+    search: &mut [u64],
+    answers: &mut [[u16; 2]],
+    reached: Reached,
+    given: Record,
+    behind: usize,
+) -> Reached
+    requires { ⌜ ((f : File) × (base : List (List ℕ)) × Reaches (now bounds) (built (heldRows (now «row_conditions») (now «row_weights») (now rows) (now «guard_bounds») (now «guard_nodes»)) (now nodes) (now edges) (now links))
+        base (kept (now figures) (now cursors) (now sure) (now never) (now search) (now gcds) (now «node_queue») (now «row_queues») (now answers)) reached (outcome f [] 0 (reached .at))
+        × Asks given × (refusal f given ≡ 0)) ⌝ }
+    ensures { λ r. ⌜ ((f : File) (base : List (List ℕ)) → Reaches (now (bounds .entry)) (built (heldRows (now («row_conditions» .entry)) (now («row_weights» .entry)) (now (rows .entry)) (now («guard_bounds» .entry))
+        (now («guard_nodes» .entry))) (now (nodes .entry)) (now (edges .entry)) (now (links .entry)))
+        base (kept (now (figures .entry)) (now (cursors .entry)) (now (sure .entry)) (now (never .entry)) (now (search .entry)) (now (gcds .entry)) (now («node_queue» .entry)) (now («row_queues» .entry)) (now (answers .entry))) reached (outcome f [] 0 (reached .at))
+        → Asks given → refusal f given ≡ 0
+        → Reaches (now (bounds .entry)) (built (heldRows (now («row_conditions» .entry)) (now («row_weights» .entry)) (now (rows .entry)) (now («guard_bounds» .entry)) (now («guard_nodes» .entry))) (now (nodes .entry)) (now (edges .entry)) (now (links .entry)))
+        base (kept (now (figures .exit)) (now (cursors .exit)) (now (sure .exit)) (now (never .exit)) (now (search .exit)) (now (gcds .exit)) (now («node_queue» .exit)) (now («row_queues» .exit)) (now (answers .exit))) r (outcome (apply f given) [] 0 behind)) ⌝ }
+{
+    let rings = reached.rings;
+    let came = take(
+        row_conditions,
+        row_weights,
+        rows,
+        guard_bounds,
+        guard_nodes,
+        nodes,
+        bounds,
+        edges,
+        links,
+        figures,
+        cursors,
+        sure,
+        never,
+        node_queue,
+        row_queues,
+        gcds,
+        search,
+        rings,
+        given,
+    );
+    let step = came.step;
+    let later = came.rings;
+    let visits = came.visits;
+    let standing = reached.standing;
+    let before = standing.answers;
+    let count = store(answers, before, given, step, visits);
+    let next = stood(standing, step, count);
+    Reached {
+        at: behind,
+        refused: 0,
+        standing: next,
+        last: step,
+        rings: later,
+    }
+}
+
+// One record: refused by the first check that applies to it, or taken.
+fn serve_record(
+    input: &[u8],
+    row_conditions: &[u16],
+    row_weights: &[u64],
+    rows: &[[u16; 3]],
+    guard_bounds: &[i64],
+    guard_nodes: &[u16],
+    nodes: &[[u16; 3]],
+    bounds: &[i64],
+    edges: &[[u64; 2]],
+    links: &[u16],
+    figures: &mut [[i64; 4]],
+    cursors: &mut [[usize; 5]],
+    sure: &mut [u64],
+    never: &mut [u64],
+    node_queue: &mut [u16],
+    row_queues: &mut [[u16; 4]],
+    gcds: &mut [u64],
+    search: &mut [u64],
+    answers: &mut [[u16; 2]],
+    reached: Reached,
+) -> Reached
+    requires { ⌜ ((f : File) × (base : List (List ℕ)) × Reaches (now bounds) (built (heldRows (now «row_conditions») (now «row_weights») (now rows) (now «guard_bounds») (now «guard_nodes»)) (now nodes) (now edges) (now links))
+        base (kept (now figures) (now cursors) (now sure) (now never) (now search) (now gcds) (now «node_queue») (now «row_queues») (now answers)) reached (outcome f [] 0 (reached .at)))
+        × (reached .at < length (now input)) × (length (now input) ≤ longestInput) ⌝ }
+    ensures { λ r. ⌜ ((f : File) (base : List (List ℕ)) → Reaches (now (bounds .entry)) (built (heldRows (now («row_conditions» .entry)) (now («row_weights» .entry)) (now (rows .entry)) (now («guard_bounds» .entry))
+        (now («guard_nodes» .entry))) (now (nodes .entry)) (now (edges .entry)) (now (links .entry)))
+        base (kept (now (figures .entry)) (now (cursors .entry)) (now (sure .entry)) (now (never .entry)) (now (search .entry)) (now (gcds .entry)) (now («node_queue» .entry)) (now («row_queues» .entry)) (now (answers .entry))) reached (outcome f [] 0 (reached .at))
+        → Reaches (now (bounds .entry)) (built (heldRows (now («row_conditions» .entry)) (now («row_weights» .entry)) (now (rows .entry)) (now («guard_bounds» .entry)) (now («guard_nodes» .entry))) (now (nodes .entry)) (now (edges .entry)) (now (links .entry)))
+        base (kept (now (figures .exit)) (now (cursors .exit)) (now (sure .exit)) (now (never .exit)) (now (search .exit)) (now (gcds .exit)) (now («node_queue» .exit)) (now («row_queues» .exit)) (now (answers .exit))) r (readAt 1 (now (input .entry)) (reached .at) f)) ⌝ }
+{
+    let at = reached.at;
+    let standing = reached.standing;
+    let found = records::next_record(input, at, standing);
+    match found {
+        Next::Refused(number) => {
+            let last = reached.last;
+            let rings = reached.rings;
+            Reached {
+                at: at,
+                refused: number,
+                standing: standing,
+                last: last,
+                rings: rings,
+            }
+        }
+        Next::Taken(given) => {
+            let size = records::body_length(input[at]);
+            let behind = at + 1 + size;
+            take_record(
+                row_conditions,
+                row_weights,
+                rows,
+                guard_bounds,
+                guard_nodes,
+                nodes,
+                bounds,
+                edges,
+                links,
+                figures,
+                cursors,
+                sure,
+                never,
+                node_queue,
+                row_queues,
+                gcds,
+                search,
+                answers,
+                reached,
+                given,
+                behind,
+            )
+        }
+    }
+}
+
+// Records up to the end of the input or the first that is refused.
+pub fn serve_records(
+    input: &[u8],
+    row_conditions: &[u16],
+    row_weights: &[u64],
+    rows: &[[u16; 3]],
+    guard_bounds: &[i64],
+    guard_nodes: &[u16],
+    nodes: &[[u16; 3]],
+    bounds: &[i64],
+    edges: &[[u64; 2]],
+    links: &[u16],
+    figures: &mut [[i64; 4]],
+    cursors: &mut [[usize; 5]],
+    sure: &mut [u64],
+    never: &mut [u64],
+    node_queue: &mut [u16],
+    row_queues: &mut [[u16; 4]],
+    gcds: &mut [u64],
+    search: &mut [u64],
+    answers: &mut [[u16; 2]],
+    first: Reached,
+) -> Reached
+    requires { ⌜ ((f : File) × (base : List (List ℕ)) × Reaches (now bounds) (built (heldRows (now «row_conditions») (now «row_weights») (now rows) (now «guard_bounds») (now «guard_nodes»)) (now nodes) (now edges) (now links))
+        base (kept (now figures) (now cursors) (now sure) (now never) (now search) (now gcds) (now «node_queue») (now «row_queues») (now answers)) first (outcome f [] 0 (first .at)))
+        × (length (now input) ≤ longestInput) ⌝ }
+    ensures { λ r. ⌜ ((f : File) (base : List (List ℕ)) → Reaches (now (bounds .entry)) (built (heldRows (now («row_conditions» .entry)) (now («row_weights» .entry)) (now (rows .entry)) (now («guard_bounds» .entry))
+        (now («guard_nodes» .entry))) (now (nodes .entry)) (now (edges .entry)) (now (links .entry)))
+        base (kept (now (figures .entry)) (now (cursors .entry)) (now (sure .entry)) (now (never .entry)) (now (search .entry)) (now (gcds .entry)) (now («node_queue» .entry)) (now («row_queues» .entry)) (now (answers .entry))) first (outcome f [] 0 (first .at))
+        → Reaches (now (bounds .entry)) (built (heldRows (now («row_conditions» .entry)) (now («row_weights» .entry)) (now (rows .entry)) (now («guard_bounds» .entry)) (now («guard_nodes» .entry))) (now (nodes .entry)) (now (edges .entry)) (now (links .entry)))
+        base (kept (now (figures .exit)) (now (cursors .exit)) (now (sure .exit)) (now (never .exit)) (now (search .exit)) (now (gcds .exit)) (now («node_queue» .exit)) (now («row_queues» .exit))
+        (now (answers .exit))) r (readAt (length (now (input .entry))) (now (input .entry)) (first .at) f)) ⌝ }
+{
+    let mut reached = first;
+    while reached.at < input.len() {
+        let next = serve_record(
+            input,
+            row_conditions,
+            row_weights,
+            rows,
+            guard_bounds,
+            guard_nodes,
+            nodes,
+            bounds,
+            edges,
+            links,
+            figures,
+            cursors,
+            sure,
+            never,
+            node_queue,
+            row_queues,
+            gcds,
+            search,
+            answers,
+            reached,
+        );
+        let number = next.refused;
+        if number != 0 {
+            return next;
+        }
+        reached = next;
+    }
+    reached
+}
+
+// A slot has four numbers.
+fn four(slot: [u16; 4]) -> u16
+    ensures { λ _. ⌜ length slot ≡ 4 ⌝ }
+{
+    slot[0]
+}
+
+// So have all slots. The loop changes nothing: it tells the proof what the type says.
+fn fours(row_queues: &[[u16; 4]])
+    ensures { λ _. ⌜ fourfold (now («row_queues» .entry)) ≡ now («row_queues» .entry) ⌝ }
+{
+    let mut i: usize = 0;
+    while i < row_queues.len() {
+        four(row_queues[i]);
+        i += 1;
+    }
+}
+
+// The seal of a job over cleared memory, then the records behind it.
+pub fn seal_and_serve(
+    input: &[u8],
+    row_conditions: &[u16],
+    row_weights: &[u64],
+    rows: &[[u16; 3]],
+    guard_bounds: &[i64],
+    guard_nodes: &[u16],
+    nodes: &[[u16; 3]],
+    bounds: &[i64],
+    edges: &[[u64; 2]],
+    links: &[u16],
+    figures: &mut [[i64; 4]],
+    cursors: &mut [[usize; 5]],
+    sure: &mut [u64],
+    never: &mut [u64],
+    node_queue: &mut [u16],
+    row_queues: &mut [[u16; 4]],
+    gcds: &mut [u64],
+    search: &mut [u64],
+    answers: &mut [[u16; 2]],
+    at: usize,
+    standing: Standing,
+) -> Reached
+    requires { ⌜ ((f : File) × (base : List (List ℕ)) × Seals (now bounds) (built (heldRows (now «row_conditions») (now «row_weights») (now rows) (now «guard_bounds») (now «guard_nodes»)) (now nodes) (now edges) (now links))
+        f × Lies base f (kept (now figures) (now cursors) (now sure) (now never) (now search) (now gcds) (now «node_queue») (now «row_queues») (now answers)) noRings × (standing ≡ standingOf f))
+        × (at < length (now input)) × (nextAt standing (now input) at ≡ Taken Seal) × (length (now input) ≤ longestInput) ⌝ }
+    ensures { λ r. ⌜ ((f : File) (base : List (List ℕ)) → Seals (now (bounds .entry)) (built (heldRows (now («row_conditions» .entry)) (now («row_weights» .entry)) (now (rows .entry)) (now («guard_bounds» .entry))
+        (now («guard_nodes» .entry))) (now (nodes .entry)) (now (edges .entry)) (now (links .entry)))
+        f → Lies base f (kept (now (figures .entry)) (now (cursors .entry)) (now (sure .entry)) (now (never .entry)) (now (search .entry)) (now (gcds .entry)) (now («node_queue» .entry)) (now («row_queues» .entry)) (now (answers .entry))) noRings → standing ≡ standingOf f
+        → Reaches (now (bounds .entry)) (built (heldRows (now («row_conditions» .entry)) (now («row_weights» .entry)) (now (rows .entry)) (now («guard_bounds» .entry)) (now («guard_nodes» .entry))) (now (nodes .entry)) (now (edges .entry)) (now (links .entry)))
+        base (kept (now (figures .exit)) (now (cursors .exit)) (now (sure .exit)) (now (never .exit)) (now (search .exit)) (now (gcds .exit)) (now («node_queue» .exit)) (now («row_queues» .exit))
+        (now (answers .exit))) r (readAt (length (now (input .entry))) (now (input .entry)) at f))
+        × (fourfold (now («row_queues» .exit)) ≡ now («row_queues» .exit)) ⌝ }
+{
+    let none = Ring { head: 0, count: 0 };
+    let rings = Rings {
+        nodes: none,
+        rows: none,
+        residuals: none,
+    };
+    let did = settle::seal(
+        row_conditions,
+        row_weights,
+        rows,
+        guard_bounds,
+        guard_nodes,
+        figures,
+        cursors,
+        sure,
+        never,
+        node_queue,
+        row_queues,
+        rings,
+    );
+    let step = did.step;
+    let later = did.rings;
+    let count = standing.answers;
+    let next = stood(standing, step, count);
+    let behind = at + 1;
+    let first = Reached {
+        at: behind,
+        refused: 0,
+        standing: next,
+        last: step,
+        rings: later,
+    };
+    let reached = serve_records(
+        input,
+        row_conditions,
+        row_weights,
+        rows,
+        guard_bounds,
+        guard_nodes,
+        nodes,
+        bounds,
+        edges,
+        links,
+        figures,
+        cursors,
+        sure,
+        never,
+        node_queue,
+        row_queues,
+        gcds,
+        search,
+        answers,
+        first,
+    );
+    fours(row_queues);
+    reached
+}
