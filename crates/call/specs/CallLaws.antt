@@ -26,7 +26,7 @@ zeros-are z (x ∷ l) = ap (λ (t : List _). z ∷ t) (zeros-are z l)
 zeros-room : {X : Type 0} {n : ℕ} (z : X) (l : List X) → n ≤ length l → n ≤ length (zeros z l)
 zeros-room {n = n} z l h = subst (λ (m : ℕ). n ≤ m) (sym (zeros-length z l)) h
 
-cleared-room : (w : Raw) → Room w → Room (clearRaw w)
+pub cleared-room : (w : Raw) → Room w → Room (clearRaw w)
 unfolding clearRaw
 cleared-room w r = record {
   conditions = zeros-room _ (w .lists .raw-conditions) (r .conditions);

@@ -1,0 +1,261 @@
+-- The call as a whole: what the three phases leave is what the definitions say of the file. Assumes nothing.
+use Prim.Native.Nat.{ℕ, zero, suc, _+_, _<_, _≤_}
+use native.Mathlib.Omega.{arith}
+use mathlib.Core.Path.{_≡_, refl, sym, ap, subst, _∙_}
+use mathlib.Core.Bool.{Bool, true, false, cond, not}
+use mathlib.Core.List.{List, [], _∷_, _++_}
+use mathlib.Core.Logic.{_⊎_, ⊎-elim}
+use lib.ListN.{length, drop}
+use lib.IntN.{ℤ}
+use Rattle.memory.specs.Limits.{rawLimit, maxLinks}
+use Rattle.memory.specs.Buffers.{rawLists, Raw, raw, Built, Kept, Work, work, fits, longestInput, clearRaw, clearBuilt, clearKept, cleared}
+use Rattle.memory.specs.Lengths.{Sized, fits-sized, fits-input}
+use Rattle.state.specs.declared.Step.{Step}
+use Rattle.state.specs.declared.Step.the-variants.{Unchanged}
+use Rattle.numeric.specs.Threshold.{Job}
+use Rattle.thresholds.specs.Rows.{rowsOf}
+use Rattle.prepare.specs.JobBuffers.{rawOf, builtOf}
+use Rattle.records.specs.declared.Standing.{Standing}
+use Rattle.records.specs.declared.Record.{Record}
+use Rattle.records.specs.declared.Record.the-variants.{Seal}
+use Rattle.records.specs.declared.Next.the-variants.{Taken}
+use Rattle.records.specs.Record.{kindOf, bodyLength, recordAt}
+use Rattle.records.specs.Facts.{Action, begins, changes, closes, decides, settles, sifts, idles, action, facts}
+use Rattle.records.specs.Checks.{nextAt}
+use Rattle.job.specs.Gathered.{jobIn, Gathered}
+use Rattle.planner.specs.declared.JobRead.{JobRead}
+use Rattle.planner.specs.File.{File, standing, refusal, sealedFile, markedFile, settledFile, siftedFile, act, apply, Outcome, refusalAt, readFrom, fileOf}
+use Rattle.planner.specs.FileLaws.{zero-or, read-on, read-stop}
+use Rattle.planner.specs.Contents.{keptOf, laid, Out, served, untouched, whole}
+use Rattle.planner.specs.JobPart.{JobPart, jobPartOf}
+use Rattle.planner.specs.JobPartLaws.{file-goes-on, file-ends}
+use Rattle.planner.specs.Held.{Room, HeldPart}
+use Rattle.ends.specs.Built.{Light}
+use Rattle.ends.specs.Files.{Good, good-apply, both, Taken as Passes, taken, building-turn, change-turn, refused-by}
+use Rattle.holds.specs.Gathered.{gathered-light}
+use Rattle.serve.specs.declared.Reached.{Reached}
+use Rattle.serve.specs.Serve.{readAt}
+use Rattle.serve.specs.ReadLaws.{ended, taken-any, seal-goes}
+use Rattle.phases.specs.Phase.{BuiltRoom, KeptRoom, Blank, Stops, ending, Leaves}
+use Rattle.phases.specs.JobLaws.{Ended, job-ended, leaves-file}
+use Rattle.call.specs.declared.Given.{Given}
+use Rattle.call.specs.Call.{Builds, gives}
+use Rattle.call.specs.CallLaws.{cleared-room}
+
+-- ---- a file from its seal on
+
+-- The job that its seal closed is the one that records gave.
+record Closed (j : Job) (f : File) : Type 0 where
+  good : Good f
+  sealed : f .sealed ≡ true
+  closed : f .closed ≡ j
+
+closed-seal : (f : File) → Good f → refusal f Seal ≡ 0 → Closed (f .job) (apply f Seal)
+unfolding apply act sealedFile
+closed-seal f g h = record { good = good-apply f g Seal h; sealed = refl; closed = refl }
+
+closed-act : (j : Job) (f : File) → Closed j f → (a : Action) → Passes f (facts a) → Good (act f a) → Closed j (act f a)
+unfolding act markedFile settledFile siftedFile
+closed-act j f s (begins n) t g = absurd (both (s .sealed) (s .good .unstarted (t .turn)))
+closed-act j f s (changes c) t g = absurd (both (s .sealed) (change-turn f c t .1))
+closed-act j f s closes t g = absurd (both (s .sealed) (building-turn f (t .turn) .1))
+closed-act j f s (decides n v) t g = record { good = g; sealed = refl; closed = s .closed }
+closed-act j f s settles t g = record { good = g; sealed = refl; closed = s .closed }
+closed-act j f s sifts t g = record { good = g; sealed = refl; closed = s .closed }
+closed-act j f s (idles x) t g = s
+
+closed-apply : (j : Job) (f : File) → Closed j f → (r : Record) → refusal f r ≡ 0 → Closed j (apply f r)
+unfolding apply
+closed-apply j f s r h = closed-act j f s (action r) (taken f r h) (good-apply f (s .good) r h)
+
+closed-from : (j : Job) (n o : ℕ) (bytes : List ℕ) (f : File) (rs : List Record) → Closed j f → Closed j (readFrom n o bytes f rs .file)
+unfolding readFrom
+closed-from j zero o bytes f rs s = s
+closed-from j (suc n) o [] f rs s = s
+closed-from j (suc n) o (kind ∷ rest) f rs s =
+    ⊎-elim
+    (λ (e : refusalAt f kind rest ≡ 0).
+    subst (λ (p : Outcome). Closed j (p .file)) (sym (read-on n o kind rest f rs e))
+    (closed-from j n _ _ (apply f (recordAt kind rest)) _ (closed-apply j f s (recordAt kind rest) (refused-by 0 (λ z. omega arith) (λ z. omega arith) f kind rest e))))
+    (λ (e : refusalAt f kind rest ≡ 0 → ⊥). subst (λ (p : Outcome). Closed j (p .file)) (sym (read-stop n o kind rest f rs e)) s) (zero-or (refusalAt f kind rest))
+
+-- HOW THE FILE ENDS, by where its job's records end: sealed if a seal came, with the job that they gave.
+record Ends (input : List ℕ) : Type 0 where
+  job : fileOf input .file .job ≡ jobPartOf input .file .job
+  sealed : fileOf input .file .sealed ≡ jobPartOf input .sealing
+  closed : jobPartOf input .sealing ≡ true → fileOf input .file .closed ≡ jobPartOf input .file .job
+
+module _ (input : List ℕ) where
+  abbrev part : JobPart
+  part = jobPartOf input
+
+  file-closed : part .sealing ≡ true → Closed (part .file .job) (fileOf input .file)
+  file-closed q =
+      let e = job-ended input in
+      let n = e .next q in
+      let g = seal-goes input (part .at) (part .file) (n .0) (n .1) in
+      let h : ended (fileOf input) ≡ ended (readAt (length input) input (part .at + 1) (apply (part .file) Seal)) =
+      ap ended (file-goes-on input) ∙ taken-any (length input) (part .at) (drop (part .at) input) (part .file) (part .records) [] ∙ sym (g .1) in
+      subst (λ (p : Outcome). Closed (part .file .job) (p .file)) (sym h)
+      (closed-from (part .file .job) (length input) (part .at + 1) (drop (part .at + 1) input) (apply (part .file) Seal) [] (closed-seal (part .file) (e .before .good) (g .0)))
+
+  ends-by : (b : Bool) → part .sealing ≡ b → Ends input
+  ends-by true q =
+      let c = file-closed q in
+      record { job = sym (c .good .same (c .sealed)) ∙ c .closed; sealed = c .sealed ∙ sym q; closed = λ z. c .closed }
+  ends-by false q =
+      let e = file-ends input q in
+      record {
+        job = ap (λ (p : Outcome). p .file .job) e;
+        sealed = ap (λ (p : Outcome). p .file .sealed) e ∙ job-ended input .before .unsealed ∙ sym q;
+        closed = λ z. absurd (both z q);
+      }
+
+  file-ends-so : Ends input
+  file-ends-so = ends-by (part .sealing) refl
+
+-- ---- lengths
+
+pub raw-room : (w : Work) → Sized w → Room (w .raw)
+raw-room w s = record { conditions = s 0; weights = s 1; thresholds = s 2; bounds = s 3 }
+
+pub built-room : (w : Work) → Sized w → BuiltRoom (w .built)
+built-room w s = record { conditions = s 4; weights = s 5; rows = s 6; bounds = s 7; guards = s 8; nodes = s 9; edges = s 10 }
+
+pub links-room : (w : Work) → Sized w → maxLinks ≤ length (w .built .links)
+links-room w s = s 11
+
+pub kept-room : (w : Work) → Sized w → KeptRoom (w .kept)
+kept-room w s = record {
+  figures = s 12;
+  cursors = s 13;
+  sure = s 14;
+  never = s 15;
+  search = s 16;
+  gcds = s 17;
+  node-queue = s 18;
+  row-queues = s 19;
+  answers = s 20;
+}
+
+not-true : (b : Bool) → not b ≡ true → b ≡ false
+not-true true e = sym e
+not-true false e = refl
+
+not-false : (b : Bool) → not b ≡ false → b ≡ true
+not-false true e = refl
+not-false false e = sym e
+
+-- The test as the call makes it.
+pub long : (input : List ℕ) (w : Work) (short : Bool) → short ≡ not (fits input w) → short ≡ false → fits input w ≡ true
+long input w short e q = not-false (fits input w) (sym e ∙ q)
+
+-- REFUSAL 10
+abbrev none : Given
+none = record { refused = 10; at = 0; sealed = false; nodes = 0; rows = 0; last = Unchanged; answered = 0 }
+
+pub whole-none : (input : List ℕ) (w : Work) (short : Bool) → short ≡ not (fits input w) → short ≡ true → gives none w ≡ whole input w
+unfolding whole
+whole-none input w short e q =
+    ap (λ (b : Bool). elim b [ true ↦ served (fileOf input) w | false ↦ untouched w ]) (sym (not-true (fits input w) (sym e ∙ q)))
+
+-- ---- after the first two phases
+module _ (input : List ℕ) (w : Work) (yes-fits : fits input w ≡ true) (r : JobRead) (cs ws : List ℕ) (ts : List (List ℕ)) (bs : List ℤ)
+    (h : HeldPart (jobPartOf input) (clearRaw (w .raw)) r cs ws ts bs) where
+  abbrev given : Job
+  given = jobIn (r .standing) cs ws ts bs
+
+  abbrev file : File
+  file = jobPartOf input .file
+
+  module _ (b : Built) (n : ℕ) (u : Builds given (r .sealing) (w .built) b n) where
+    stops : r .sealing ≡ true → Stops bs b file n
+    stops q =
+        let s = fits-sized input w yes-fits in
+        record {
+          good = job-ended input .before .good;
+          light = subst (Light rawLimit) (h .held .job) (gathered-light (r .standing) cs ws ts bs (h .held .gathered));
+          from = w .built;
+          room = built-room w s;
+          built = u .words ∙ ap (λ (t : Bool). cond t (builtOf given (clearBuilt (w .built))) (clearBuilt (w .built))) q
+              ∙ ap (λ (i : Job). builtOf i (clearBuilt (w .built))) (h .held .job);
+          raw = clearRaw (w .raw);
+          many = cleared-room (w .raw) (raw-room w s) .bounds;
+          bounds = ap (λ (v : Raw). v .bounds) (h .held .words);
+          counted = u .counted ∙ ap (λ (t : Bool). cond t (length (rowsOf given)) 0) q ∙ ap (λ (i : Job). length (rowsOf i)) (h .held .job);
+        }
+
+    -- WHAT THE LAST PHASE ASKS
+    pub serve-asks : KeptRoom (w .kept) × (length input ≤ longestInput)
+        × (r .sealing ≡ true → ((f : File) × Stops bs b f n × Blank f × (r .standing ≡ standing f)) × (r .at < length input) × (nextAt (r .standing) input (r .at) ≡ Taken Seal))
+    serve-asks = (
+      kept-room w (fits-sized input w yes-fits),
+      fits-input input w yes-fits,
+      λ q.
+          let e = job-ended input in
+          let z = e .next (sym (h .sealing) ∙ q) in (
+            (file, stops q, e .before .blank, h .held .stands),
+            subst (λ (o : ℕ). o < length input) (sym (h .at)) (z .0),
+            ap (λ (k : Standing). nextAt k input (r .at)) (h .held .stands) ∙ ap (nextAt (standing file) input) (h .at) ∙ z .1,
+          ),
+    )
+
+    -- AFTER THE LAST
+    module _ (k : Kept) (e : Reached)
+        (left : (f : File) → Blank f → r .standing ≡ standing f → (r .sealing ≡ true → Stops bs b f n) → Leaves (w .kept) k e (ending input f r)) where
+      leaves : Leaves (w .kept) k e (fileOf input)
+      leaves = leaves-file input r (h .refusal) (h .at) (h .sealing) (w .kept) k e (left file (job-ended input .before .blank) (h .held .stands) stops)
+
+      abbrev last : File
+      last = fileOf input .file
+
+      same : {X : Type 0} (P : Job → X) (d : X) (s t : Bool) (i j : Job) → s ≡ t → (s ≡ true → i ≡ j) → cond s (P i) d ≡ cond t (P j) d
+      same P d true t i j q z = ap P (z refl) ∙ ap (λ (v : Bool). cond v (P j) d) q
+      same P d false t i j q z = ap (λ (v : Bool). cond v (P j) d) q
+
+      sealed-so : r .sealing ≡ last .sealed
+      sealed-so = h .sealing ∙ sym (file-ends-so input .sealed)
+
+      closed-so : r .sealing ≡ true → given ≡ last .closed
+      closed-so q = h .held .job ∙ sym (file-ends-so input .closed (sym (h .sealing) ∙ q))
+
+      built-so : b ≡ cond (last .sealed) (builtOf (last .closed) (clearBuilt (w .built))) (clearBuilt (w .built))
+      built-so = u .words ∙ same (λ (i : Job). builtOf i (clearBuilt (w .built))) (clearBuilt (w .built)) (r .sealing) (last .sealed) given (last .closed) sealed-so closed-so
+
+      rows-so : n ≡ cond (last .sealed) (length (rowsOf (last .closed))) 0
+      rows-so = u .counted ∙ same (λ (i : Job). length (rowsOf i)) 0 (r .sealing) (last .sealed) given (last .closed) sealed-so closed-so
+
+      raw-so : raw (rawLists cs ws ts) bs ≡ rawOf (last .job) (clearRaw (w .raw))
+      raw-so = h .held .words ∙ ap (λ (i : Job). rawOf i (clearRaw (w .raw))) (sym (file-ends-so input .job))
+
+      work-so : work (raw (rawLists cs ws ts) bs) b k ≡ laid last (cleared w)
+      unfolding laid cleared
+      work-so = λ i. work (raw-so i) (built-so i) (leaves .words i)
+
+      abbrev all : Given
+      all = record {
+        refused = e .refused;
+        at = e .at;
+        sealed = e .standing .sealed;
+        nodes = e .standing .nodes;
+        rows = n;
+        last = e .last;
+        answered = e .standing .answers;
+      }
+
+      given-so : gives all (work (raw (rawLists cs ws ts) bs) b k) ≡ served (fileOf input) w
+      given-so = λ i. record {
+        refused = leaves .refused i;
+        at = leaves .at i;
+        sealed = leaves .standing i .sealed;
+        nodes = leaves .standing i .nodes;
+        rows = rows-so i;
+        last = leaves .last i;
+        answered = leaves .standing i .answers;
+        work = work-so i;
+      }
+
+      -- THE WHOLE CALL
+      pub whole-all : gives all (work (raw (rawLists cs ws ts) bs) b k) ≡ whole input w
+      unfolding whole
+      whole-all = given-so ∙ ap (λ (t : Bool). elim t [ true ↦ served (fileOf input) w | false ↦ untouched w ]) (sym yes-fits)
