@@ -3,14 +3,13 @@ use Prim.Native.Nat.{ℕ, zero, suc, _+_, _<_, _≤_}
 use native.Mathlib.Omega.{arith}
 use mathlib.Core.Path.{_≡_, refl, sym, ap, subst, _∙_}
 use mathlib.Core.Bool.{Bool, true, false, cond, not}
-use mathlib.Core.List.{List, [], _∷_, _++_}
-use mathlib.Core.Logic.{_⊎_, ⊎-elim}
+use mathlib.Core.List.{List, [], _∷_}
+use mathlib.Core.Logic.{⊎-elim}
 use lib.ListN.{length, drop}
 use lib.IntN.{ℤ}
 use Rattle.memory.specs.Limits.{rawLimit, maxLinks}
-use Rattle.memory.specs.Buffers.{rawLists, Raw, raw, Built, Kept, Work, work, fits, longestInput, clearRaw, clearBuilt, clearKept, cleared}
+use Rattle.memory.specs.Buffers.{rawLists, Raw, raw, Built, Kept, Work, work, fits, longestInput, clearRaw, clearBuilt, cleared}
 use Rattle.memory.specs.Lengths.{Sized, fits-sized, fits-input}
-use Rattle.state.specs.declared.Step.{Step}
 use Rattle.state.specs.declared.Step.the-variants.{Unchanged}
 use Rattle.numeric.specs.Threshold.{Job}
 use Rattle.thresholds.specs.Rows.{rowsOf}
@@ -19,14 +18,14 @@ use Rattle.records.specs.declared.Standing.{Standing}
 use Rattle.records.specs.declared.Record.{Record}
 use Rattle.records.specs.declared.Record.the-variants.{Seal}
 use Rattle.records.specs.declared.Next.the-variants.{Taken}
-use Rattle.records.specs.Record.{kindOf, bodyLength, recordAt}
+use Rattle.records.specs.Record.{recordAt}
 use Rattle.records.specs.Facts.{Action, begins, changes, closes, decides, settles, sifts, idles, action, facts}
 use Rattle.records.specs.Checks.{nextAt}
-use Rattle.job.specs.Gathered.{jobIn, Gathered}
+use Rattle.job.specs.Gathered.{jobIn}
 use Rattle.planner.specs.declared.JobRead.{JobRead}
 use Rattle.planner.specs.File.{File, standing, refusal, sealedFile, markedFile, settledFile, siftedFile, act, apply, Outcome, refusalAt, readFrom, fileOf}
 use Rattle.planner.specs.FileLaws.{zero-or, read-on, read-stop}
-use Rattle.planner.specs.Contents.{keptOf, laid, Out, served, untouched, whole}
+use Rattle.planner.specs.Contents.{laid, served, untouched, whole}
 use Rattle.planner.specs.JobPart.{JobPart, jobPartOf}
 use Rattle.planner.specs.JobPartLaws.{file-goes-on, file-ends}
 use Rattle.planner.specs.Held.{Room, HeldPart}
@@ -37,7 +36,7 @@ use Rattle.serve.specs.declared.Reached.{Reached}
 use Rattle.serve.specs.Serve.{readAt}
 use Rattle.serve.specs.ReadLaws.{ended, taken-any, seal-goes}
 use Rattle.phases.specs.Phase.{BuiltRoom, KeptRoom, Blank, Stops, ending, Leaves}
-use Rattle.phases.specs.JobLaws.{Ended, job-ended, leaves-file}
+use Rattle.phases.specs.JobLaws.{job-ended, leaves-file}
 use Rattle.call.specs.declared.Given.{Given}
 use Rattle.call.specs.Call.{Builds, gives}
 use Rattle.call.specs.CallLaws.{cleared-room}

@@ -1,9 +1,30 @@
 -- `run` meets its contract: the test of all lengths, then what the three phases leave, one behind the other.
-use Rattle.memory.specs.Buffers.{rawLists, raw, heldRows, Built, built, Kept, kept, Work, work}
+use mathlib.Core.Path.{_≡_}
+use mathlib.Core.Bool.{true}
+use Rattle.memory.specs.Buffers.{rawLists, raw, heldRows, Built, built, Kept, kept, Work, work, fits}
 use Rattle.memory.specs.Lengths.{fits-sized}
 use Rattle.call.specs.RunLaws.{raw-room, built-room, links-room, long, whole-none, serve-asks, whole-all}
 use Rattle.call.proofs.run.Statement.{statement}
 use Rattle.call.proofs.run.Tie as tie
+
+-- Places on the way from the start to the end.
+
+abbrev start-of : tie.Else1 → tie.Start
+start-of p = p .before .before .before .before .before .before .before .before .before .before .before .before .before .before
+
+abbrev else-of : tie.After-read → tie.Else1
+else-of p = p .before .before .before .before .before
+
+abbrev read-of : tie.After-build → tie.After-read
+read-of p = p .before .before .before .before .before .before .before .before .before .before .before .before .before .before .before .before .before .before .before
+
+abbrev build-of : tie.After-serve → tie.After-build
+build-of p = p .before .before .before .before .before .before .before .before .before .before .before .before .before .before .before .before .before .before .before .before .before .before .before .before .before .before .before .before .before .before .before
+
+abbrev serve-of : tie.After-standing → tie.After-serve
+serve-of p = p .before .before .before .before .before .before .before .before .before .before .before .before .before .before .before
+
+-- All buffers at the start, and the groups that the second and the last phase leave.
 
 abbrev entry : tie.Start → Work
 entry p =
@@ -22,6 +43,11 @@ keeps p =
     let l = p .serve .last .1 .1 .1 .1 .1 .1 .1 .1 .1 .1 in
     kept (l .0) (l .1 .0) (l .1 .1 .0) (l .1 .1 .1 .0) (l .1 .1 .1 .1 .1 .1 .1 .0) (l .1 .1 .1 .1 .1 .1 .0) (l .1 .1 .1 .1 .0) (l .1 .1 .1 .1 .1 .0) (l .1 .1 .1 .1 .1 .1 .1 .1 .0)
 
+fitting : (p : tie.Else1) → fits (start-of p .args .input .now) (entry (start-of p)) ≡ true
+fitting p =
+    let t = p .before .short in
+    long (start-of p .args .input .now) (entry (start-of p)) (t .result) (t .ensures) (p .if1 .left)
+
 short-requires : tie.Need-short-requires
 short-requires c κs = tt
 
@@ -36,172 +62,110 @@ returns c =
 read-requires : tie.Need-read-requires
 read-requires c κs =
     let else1 = c .before .before .before .before in
-    let start = else1 .before .before .before .before .before .before .before .before .before .before .before .before .before .before in
+    let start = start-of else1 in
     let x = start .args .input .now in
     let w = entry start in
-    let t = else1 .before .short in
-    let y = long x w (t .result) (t .ensures) (else1 .if1 .left) in
+    let y = fitting else1 in
     raw-room w (fits-sized x w y)
 
 build-requires : tie.Need-build-requires
 build-requires c κs =
     let after-read = c .before .before .before .before .before .before .before .before .before .before .before .before .before .before .before .before .before .before in
-    let else1 = after-read .before .before .before .before .before in
-    let start = else1 .before .before .before .before .before .before .before .before .before .before .before .before .before .before in
+    let else1 = else-of after-read in
+    let start = start-of else1 in
     let x = start .args .input .now in
     let w = entry start in
-    let t = else1 .before .short in
-    let y = long x w (t .result) (t .ensures) (else1 .if1 .left) in
+    let y = fitting else1 in
     let s = fits-sized x w y in
     (after-read .read .ensures .held .gathered, built-room w s, links-room w s)
 
 serve-requires : tie.Need-serve-requires
 serve-requires c κs =
     let after-build = c .before .before .before .before .before .before .before .before .before .before .before .before .before .before .before .before .before .before .before .before .before .before .before .before .before .before .before .before .before .before in
-    let after-read = after-build .before .before .before .before .before .before .before .before .before .before .before .before .before .before .before .before .before .before .before in
-    let else1 = after-read .before .before .before .before .before in
-    let start = else1 .before .before .before .before .before .before .before .before .before .before .before .before .before .before in
+    let after-read = read-of after-build in
+    let else1 = else-of after-read in
+    let start = start-of else1 in
     let x = start .args .input .now in
     let w = entry start in
-    let t = else1 .before .short in
-    let y = long x w (t .result) (t .ensures) (else1 .if1 .left) in
+    let y = fitting else1 in
     let l = after-read .read .last .1 in
     let h = serve-asks x w y (after-read .read .result) (l .0) (l .1 .0) (l .1 .1 .0) (l .1 .1 .1 .0) (after-read .read .ensures) (builds after-build) (after-build .build .result)
     (after-build .build .ensures) in
     h
 
 same-length : tie.Need-same-length
-same-length c =
-    let after-serve = c .before .before .before .before .before .before .before .before .before .before .before .before .before .before .before in
-    let after-build = after-serve .before .before .before .before .before .before .before .before .before .before .before .before .before .before .before .before .before .before .before .before .before .before .before .before .before .before .before .before .before .before .before in
-    let after-read = after-build .before .before .before .before .before .before .before .before .before .before .before .before .before .before .before .before .before .before .before in
-    after-read .read .kept .1 .0
+same-length c = read-of (build-of (serve-of c)) .read .kept .1 .0
 
 same-length-2 : tie.Need-same-length-2
-same-length-2 c =
-    let after-serve = c .before .before .before .before .before .before .before .before .before .before .before .before .before .before .before in
-    let after-build = after-serve .before .before .before .before .before .before .before .before .before .before .before .before .before .before .before .before .before .before .before .before .before .before .before .before .before .before .before .before .before .before .before in
-    let after-read = after-build .before .before .before .before .before .before .before .before .before .before .before .before .before .before .before .before .before .before .before in
-    after-read .read .kept .1 .1 .0
+same-length-2 c = read-of (build-of (serve-of c)) .read .kept .1 .1 .0
 
 same-length-3 : tie.Need-same-length-3
-same-length-3 c =
-    let after-serve = c .before .before .before .before .before .before .before .before .before .before .before .before .before .before .before in
-    let after-build = after-serve .before .before .before .before .before .before .before .before .before .before .before .before .before .before .before .before .before .before .before .before .before .before .before .before .before .before .before .before .before .before .before in
-    let after-read = after-build .before .before .before .before .before .before .before .before .before .before .before .before .before .before .before .before .before .before .before in
-    after-read .read .kept .1 .1 .1 .0
+same-length-3 c = read-of (build-of (serve-of c)) .read .kept .1 .1 .1 .0
 
 same-length-4 : tie.Need-same-length-4
-same-length-4 c =
-    let after-serve = c .before .before .before .before .before .before .before .before .before .before .before .before .before .before .before in
-    let after-build = after-serve .before .before .before .before .before .before .before .before .before .before .before .before .before .before .before .before .before .before .before .before .before .before .before .before .before .before .before .before .before .before .before in
-    let after-read = after-build .before .before .before .before .before .before .before .before .before .before .before .before .before .before .before .before .before .before .before in
-    after-read .read .kept .1 .1 .1 .1 .0
+same-length-4 c = read-of (build-of (serve-of c)) .read .kept .1 .1 .1 .1 .0
 
 same-length-5 : tie.Need-same-length-5
-same-length-5 c =
-    let after-serve = c .before .before .before .before .before .before .before .before .before .before .before .before .before .before .before in
-    let after-build = after-serve .before .before .before .before .before .before .before .before .before .before .before .before .before .before .before .before .before .before .before .before .before .before .before .before .before .before .before .before .before .before .before in
-    after-build .build .kept .1 .1 .1 .1 .1 .0
+same-length-5 c = build-of (serve-of c) .build .kept .1 .1 .1 .1 .1 .0
 
 same-length-6 : tie.Need-same-length-6
-same-length-6 c =
-    let after-serve = c .before .before .before .before .before .before .before .before .before .before .before .before .before .before .before in
-    let after-build = after-serve .before .before .before .before .before .before .before .before .before .before .before .before .before .before .before .before .before .before .before .before .before .before .before .before .before .before .before .before .before .before .before in
-    after-build .build .kept .1 .1 .1 .1 .1 .1 .0
+same-length-6 c = build-of (serve-of c) .build .kept .1 .1 .1 .1 .1 .1 .0
 
 same-length-7 : tie.Need-same-length-7
-same-length-7 c =
-    let after-serve = c .before .before .before .before .before .before .before .before .before .before .before .before .before .before .before in
-    let after-build = after-serve .before .before .before .before .before .before .before .before .before .before .before .before .before .before .before .before .before .before .before .before .before .before .before .before .before .before .before .before .before .before .before in
-    after-build .build .kept .1 .1 .1 .1 .1 .1 .1 .0
+same-length-7 c = build-of (serve-of c) .build .kept .1 .1 .1 .1 .1 .1 .1 .0
 
 same-length-8 : tie.Need-same-length-8
-same-length-8 c =
-    let after-serve = c .before .before .before .before .before .before .before .before .before .before .before .before .before .before .before in
-    let after-build = after-serve .before .before .before .before .before .before .before .before .before .before .before .before .before .before .before .before .before .before .before .before .before .before .before .before .before .before .before .before .before .before .before in
-    after-build .build .kept .1 .1 .1 .1 .1 .1 .1 .1 .0
+same-length-8 c = build-of (serve-of c) .build .kept .1 .1 .1 .1 .1 .1 .1 .1 .0
 
 same-length-9 : tie.Need-same-length-9
-same-length-9 c =
-    let after-serve = c .before .before .before .before .before .before .before .before .before .before .before .before .before .before .before in
-    let after-build = after-serve .before .before .before .before .before .before .before .before .before .before .before .before .before .before .before .before .before .before .before .before .before .before .before .before .before .before .before .before .before .before .before in
-    after-build .build .kept .1 .1 .1 .1 .1 .1 .1 .1 .1 .0
+same-length-9 c = build-of (serve-of c) .build .kept .1 .1 .1 .1 .1 .1 .1 .1 .1 .0
 
 same-length-10 : tie.Need-same-length-10
-same-length-10 c =
-    let after-serve = c .before .before .before .before .before .before .before .before .before .before .before .before .before .before .before in
-    let after-build = after-serve .before .before .before .before .before .before .before .before .before .before .before .before .before .before .before .before .before .before .before .before .before .before .before .before .before .before .before .before .before .before .before in
-    after-build .build .kept .1 .1 .1 .1 .1 .1 .1 .1 .1 .1 .0
+same-length-10 c = build-of (serve-of c) .build .kept .1 .1 .1 .1 .1 .1 .1 .1 .1 .1 .0
 
 same-length-11 : tie.Need-same-length-11
-same-length-11 c =
-    let after-serve = c .before .before .before .before .before .before .before .before .before .before .before .before .before .before .before in
-    let after-build = after-serve .before .before .before .before .before .before .before .before .before .before .before .before .before .before .before .before .before .before .before .before .before .before .before .before .before .before .before .before .before .before .before in
-    after-build .build .kept .1 .1 .1 .1 .1 .1 .1 .1 .1 .1 .1 .0
+same-length-11 c = build-of (serve-of c) .build .kept .1 .1 .1 .1 .1 .1 .1 .1 .1 .1 .1 .0
 
 same-length-12 : tie.Need-same-length-12
-same-length-12 c =
-    let after-serve = c .before .before .before .before .before .before .before .before .before .before .before .before .before .before .before in
-    let after-build = after-serve .before .before .before .before .before .before .before .before .before .before .before .before .before .before .before .before .before .before .before .before .before .before .before .before .before .before .before .before .before .before .before in
-    after-build .build .kept .1 .1 .1 .1 .1 .1 .1 .1 .1 .1 .1 .1 .0
+same-length-12 c = build-of (serve-of c) .build .kept .1 .1 .1 .1 .1 .1 .1 .1 .1 .1 .1 .1 .0
 
 same-length-13 : tie.Need-same-length-13
-same-length-13 c =
-    let after-serve = c .before .before .before .before .before .before .before .before .before .before .before .before .before .before .before in
-    after-serve .serve .kept .1 .1 .1 .1 .1 .1 .1 .1 .1 .1 .0
+same-length-13 c = serve-of c .serve .kept .1 .1 .1 .1 .1 .1 .1 .1 .1 .1 .0
 
 same-length-14 : tie.Need-same-length-14
-same-length-14 c =
-    let after-serve = c .before .before .before .before .before .before .before .before .before .before .before .before .before .before .before in
-    after-serve .serve .kept .1 .1 .1 .1 .1 .1 .1 .1 .1 .1 .1 .0
+same-length-14 c = serve-of c .serve .kept .1 .1 .1 .1 .1 .1 .1 .1 .1 .1 .1 .0
 
 same-length-15 : tie.Need-same-length-15
-same-length-15 c =
-    let after-serve = c .before .before .before .before .before .before .before .before .before .before .before .before .before .before .before in
-    after-serve .serve .kept .1 .1 .1 .1 .1 .1 .1 .1 .1 .1 .1 .1 .0
+same-length-15 c = serve-of c .serve .kept .1 .1 .1 .1 .1 .1 .1 .1 .1 .1 .1 .1 .0
 
 same-length-16 : tie.Need-same-length-16
-same-length-16 c =
-    let after-serve = c .before .before .before .before .before .before .before .before .before .before .before .before .before .before .before in
-    after-serve .serve .kept .1 .1 .1 .1 .1 .1 .1 .1 .1 .1 .1 .1 .1 .0
+same-length-16 c = serve-of c .serve .kept .1 .1 .1 .1 .1 .1 .1 .1 .1 .1 .1 .1 .1 .0
 
 same-length-17 : tie.Need-same-length-17
-same-length-17 c =
-    let after-serve = c .before .before .before .before .before .before .before .before .before .before .before .before .before .before .before in
-    after-serve .serve .kept .1 .1 .1 .1 .1 .1 .1 .1 .1 .1 .1 .1 .1 .1 .1 .1 .1 .0
+same-length-17 c = serve-of c .serve .kept .1 .1 .1 .1 .1 .1 .1 .1 .1 .1 .1 .1 .1 .1 .1 .1 .1 .0
 
 same-length-18 : tie.Need-same-length-18
-same-length-18 c =
-    let after-serve = c .before .before .before .before .before .before .before .before .before .before .before .before .before .before .before in
-    after-serve .serve .kept .1 .1 .1 .1 .1 .1 .1 .1 .1 .1 .1 .1 .1 .1 .1 .1 .0
+same-length-18 c = serve-of c .serve .kept .1 .1 .1 .1 .1 .1 .1 .1 .1 .1 .1 .1 .1 .1 .1 .1 .0
 
 same-length-19 : tie.Need-same-length-19
-same-length-19 c =
-    let after-serve = c .before .before .before .before .before .before .before .before .before .before .before .before .before .before .before in
-    after-serve .serve .kept .1 .1 .1 .1 .1 .1 .1 .1 .1 .1 .1 .1 .1 .1 .0
+same-length-19 c = serve-of c .serve .kept .1 .1 .1 .1 .1 .1 .1 .1 .1 .1 .1 .1 .1 .1 .0
 
 same-length-20 : tie.Need-same-length-20
-same-length-20 c =
-    let after-serve = c .before .before .before .before .before .before .before .before .before .before .before .before .before .before .before in
-    after-serve .serve .kept .1 .1 .1 .1 .1 .1 .1 .1 .1 .1 .1 .1 .1 .1 .1 .0
+same-length-20 c = serve-of c .serve .kept .1 .1 .1 .1 .1 .1 .1 .1 .1 .1 .1 .1 .1 .1 .1 .0
 
 same-length-21 : tie.Need-same-length-21
-same-length-21 c =
-    let after-serve = c .before .before .before .before .before .before .before .before .before .before .before .before .before .before .before in
-    after-serve .serve .kept .1 .1 .1 .1 .1 .1 .1 .1 .1 .1 .1 .1 .1 .1 .1 .1 .1 .1 .0
+same-length-21 c = serve-of c .serve .kept .1 .1 .1 .1 .1 .1 .1 .1 .1 .1 .1 .1 .1 .1 .1 .1 .1 .1 .0
 
 returns-2 : tie.Need-returns-2
 returns-2 c =
-    let after-serve = c .before .before .before .before .before .before .before .before .before .before .before .before .before .before .before in
-    let after-build = after-serve .before .before .before .before .before .before .before .before .before .before .before .before .before .before .before .before .before .before .before .before .before .before .before .before .before .before .before .before .before .before .before in
-    let after-read = after-build .before .before .before .before .before .before .before .before .before .before .before .before .before .before .before .before .before .before .before in
-    let else1 = after-read .before .before .before .before .before in
-    let start = else1 .before .before .before .before .before .before .before .before .before .before .before .before .before .before in
+    let after-serve = serve-of c in
+    let after-build = build-of after-serve in
+    let after-read = read-of after-build in
+    let else1 = else-of after-read in
+    let start = start-of else1 in
     let x = start .args .input .now in
     let w = entry start in
-    let t = else1 .before .short in
-    let y = long x w (t .result) (t .ensures) (else1 .if1 .left) in
+    let y = fitting else1 in
     let l = after-read .read .last .1 in
     let h = whole-all x w y (after-read .read .result) (l .0) (l .1 .0) (l .1 .1 .0) (l .1 .1 .1 .0) (after-read .read .ensures) (builds after-build) (after-build .build .result)
     (after-build .build .ensures) (keeps after-serve) (after-serve .serve .result) (after-serve .serve .ensures) in
