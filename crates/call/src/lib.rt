@@ -14,7 +14,7 @@ use planner::JobRead;
 use state::Step;
 
 // THE FIRST PHASE: clears its buffers and reads the job into them, up to its seal.
-pub fn read(
+fn read(
     input: &[u8],
     raw_conditions: &mut [u16],
     raw_weights: &mut [u64],
@@ -31,7 +31,7 @@ pub fn read(
 }
 
 // THE SECOND PHASE: clears its buffers; if reading stopped at a seal, builds what it needs. How many rows there are then, else 0.
-pub fn build(
+fn build(
     read: JobRead,
     raw_conditions: &[u16],
     raw_weights: &[u64],
