@@ -7,7 +7,7 @@ use Rattle.memory.specs.Buffers.{Built, Work, clearBuilt}
 use Rattle.numeric.specs.Threshold.{Job}
 use Rattle.thresholds.specs.Rows.{rowsOf}
 use Rattle.prepare.specs.JobBuffers.{builtOf}
-use Rattle.planner.specs.Contents.{Out}
+use Rattle.files.specs.Contents.{Out}
 use Rattle.call.specs.declared.Given.{Given}
 
 -- The rows of a job whose seal comes next, in cleared buffers.

@@ -11,9 +11,9 @@ use Rattle.numeric.specs.Threshold.{Job}
 use Rattle.thresholds.specs.Rows.{rowsOf}
 use Rattle.prepare.specs.JobBuffers.{builtOf}
 use Rattle.job.specs.Built.{Roomy}
-use Rattle.planner.specs.declared.JobRead.{JobRead}
-use Rattle.planner.specs.JobPart.{JobPart}
-use Rattle.planner.specs.Held.{Room, HeldPart}
+use Rattle.files.specs.declared.JobRead.{JobRead}
+use Rattle.files.specs.JobPart.{JobPart}
+use Rattle.files.specs.Held.{Room, HeldPart}
 use Rattle.phases.specs.Phase.{BuiltRoom}
 use Rattle.phases.specs.PhaseLaws.{zeros-length}
 use Rattle.call.specs.Call.{Builds}

@@ -22,13 +22,13 @@ use Rattle.records.specs.Record.{recordAt}
 use Rattle.records.specs.Facts.{Action, begins, changes, closes, decides, settles, sifts, idles, action, facts}
 use Rattle.records.specs.Checks.{nextAt}
 use Rattle.job.specs.Gathered.{jobIn}
-use Rattle.planner.specs.declared.JobRead.{JobRead}
-use Rattle.planner.specs.File.{File, standing, refusal, sealedFile, markedFile, settledFile, siftedFile, act, apply, Outcome, refusalAt, readFrom, fileOf}
-use Rattle.planner.specs.FileLaws.{zero-or, read-on, read-stop}
-use Rattle.planner.specs.Contents.{laid, served, untouched, whole}
-use Rattle.planner.specs.JobPart.{JobPart, jobPartOf}
-use Rattle.planner.specs.JobPartLaws.{file-goes-on, file-ends}
-use Rattle.planner.specs.Held.{Room, HeldPart}
+use Rattle.files.specs.declared.JobRead.{JobRead}
+use Rattle.files.specs.File.{File, standing, refusal, sealedFile, markedFile, settledFile, siftedFile, act, apply, Outcome, refusalAt, readFrom, fileOf}
+use Rattle.files.specs.FileLaws.{zero-or, read-on, read-stop}
+use Rattle.files.specs.Contents.{laid, served, untouched, whole}
+use Rattle.files.specs.JobPart.{JobPart, jobPartOf}
+use Rattle.files.specs.JobPartLaws.{file-goes-on, file-ends}
+use Rattle.files.specs.Held.{Room, HeldPart}
 use Rattle.ends.specs.Built.{Light}
 use Rattle.ends.specs.Files.{Good, good-apply, both, Taken as Passes, taken, building-turn, change-turn, refused-by}
 use Rattle.holds.specs.Gathered.{gathered-light}

@@ -5,12 +5,12 @@ ghost use lib.ListN.{length};
 ghost use Rattle.memory.specs.Limits.{maxLinks};
 ghost use Rattle.memory.specs.Buffers.{rawLists, raw, heldRows, built, kept, work, clearRaw};
 ghost use Rattle.job.specs.Gathered.{jobIn, Gathered};
-ghost use Rattle.planner.specs.JobPart.{jobPartOf};
-ghost use Rattle.planner.specs.Contents.{whole};
-ghost use Rattle.planner.specs.Held.{Room, HeldPart};
+ghost use Rattle.files.specs.JobPart.{jobPartOf};
+ghost use Rattle.files.specs.Contents.{whole};
+ghost use Rattle.files.specs.Held.{Room, HeldPart};
 ghost use Rattle.phases.specs.Phase.{BuiltRoom};
 ghost use Rattle.call.specs.Call.{Builds, gives};
-use planner::JobRead;
+use files::JobRead;
 use state::Step;
 
 // THE FIRST PHASE: clears its buffers and reads the job into them, up to its seal.
@@ -27,7 +27,7 @@ fn read(
         (now («raw_conditions» .exit)) (now («raw_weights» .exit)) (now (thresholds .exit)) (now (bounds .exit)) ⌝ }
 {
     memory::clear_raw(raw_conditions, raw_weights, thresholds, bounds);
-    planner::read_job(input, raw_conditions, raw_weights, thresholds, bounds)
+    files::read_job(input, raw_conditions, raw_weights, thresholds, bounds)
 }
 
 // THE SECOND PHASE: clears its buffers; if reading stopped at a seal, builds what it needs. How many rows there are then, else 0.

@@ -26,9 +26,9 @@ use Rattle.between.specs.Numbers.{figuresOf, cursorsOf}
 use Rattle.memory.specs.Buffers.{Work, fits, zeros, cleared, clearKept}
 use Rattle.records.specs.declared.Record.{Record}
 use Rattle.records.specs.declared.Record.the-variants.{Seal, Mark, Settle}
-use Rattle.planner.specs.File.{File, contradicted, begun, settledFile, act, apply, after, planned}
-use Rattle.planner.specs.FileLaws.{after-snoc}
-use Rattle.planner.specs.Contents.{Out, served, untouched, whole, laid, keptOf}
+use Rattle.files.specs.File.{File, contradicted, begun, settledFile, act, apply, after, planned}
+use Rattle.files.specs.FileLaws.{after-snoc}
+use Rattle.files.specs.Contents.{Out, served, untouched, whole, laid, keptOf}
 use Rattle.table.specs.Table.{Table, ReachesConflict, Ended}
 use Rattle.ends.specs.Built.{rows-few}
 use Rattle.ends.specs.Files.{both}

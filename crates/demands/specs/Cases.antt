@@ -36,9 +36,9 @@ use Rattle.records.specs.declared.Record.the-variants.{Header, Opens, Adds, Are
 use Rattle.records.specs.Record.{littleEndian}
 use Rattle.records.specs.Checks as Checks
 use Rattle.job.specs.Job as Job
-use Rattle.planner.specs.File as File
-use Rattle.planner.specs.Listing.{text, listing}
-use Rattle.planner.specs.Listing as Listing
+use Rattle.files.specs.File as File
+use Rattle.files.specs.Listing.{text, listing}
+use Rattle.files.specs.Listing as Listing
 
 -- A number as so many bytes, the lowest first.
 unfoldable pub bytes : ℕ → ℕ → List ℕ

@@ -6,7 +6,7 @@ use mathlib.Core.Bool.{true, false}
 use mathlib.Core.List.{List}
 use Rattle.numeric.specs.Layout.{Layout, IsLayout}
 use Rattle.words.specs.Mask.{bit}
-use Rattle.planner.specs.File.{File, contradicted, planned}
+use Rattle.files.specs.File.{File, contradicted, planned}
 use Rattle.follows.specs.Answers.{clash}
 use Rattle.layouts.specs.Turns.{Fits}
 use Rattle.layouts.specs.Files.{file-layouts}

@@ -34,8 +34,8 @@ use Rattle.regions.specs.Sift as Sift
 use Rattle.records.specs.declared.Record.{Record}
 use Rattle.records.specs.Facts.{Action, begins, changes, closes, decides, settles, sifts, idles, action, facts}
 use Rattle.records.specs.Checks.{tooMany}
-use Rattle.planner.specs.File.{File, Answer, settled, sifted, begun, standing, refusal, sealedFile, markedFile, settledFile, siftedFile, act, apply, after, readFrom, fileOf}
-use Rattle.planner.specs.FileLaws.{read-taken}
+use Rattle.files.specs.File.{File, Answer, settled, sifted, begun, standing, refusal, sealedFile, markedFile, settledFile, siftedFile, act, apply, after, readFrom, fileOf}
+use Rattle.files.specs.FileLaws.{read-taken}
 use Rattle.ends.specs.Keeps.{keeps-row, keeps-residual}
 use Rattle.ends.specs.Turns.{Indexed}
 use Rattle.ends.specs.Settles.{tries}

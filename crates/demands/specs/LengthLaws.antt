@@ -19,9 +19,9 @@ use Rattle.memory.specs.Limits.{maxNodes, maxTerms, maxThresholds, maxGcds, max
 use Rattle.memory.specs.Buffers.{Work, rawLengths, builtLengths, keptLengths, fits, zeros, cleared, clearRaw, clearBuilt, clearKept}
 use Rattle.memory.specs.Lengths.{Sized, fits-sized}
 use Rattle.job.specs.Job.{allTerms}
-use Rattle.planner.specs.File.{File, fileOf}
+use Rattle.files.specs.File.{File, fileOf}
 use Rattle.prepare.specs.JobBuffers.{listsOf, rawOf, builtWith, builtOf}
-use Rattle.planner.specs.Contents.{answerNumber, answerVisits, keptOf, laid, Out, whole}
+use Rattle.files.specs.Contents.{answerNumber, answerVisits, keptOf, laid, Out, whole}
 use Rattle.ends.specs.Built.{rows-few}
 use Rattle.ends.specs.SizeLaws.{zeros-long, terms-few, guards-few, edges-most, links-most, pairs-few, triples-few, quads-few}
 use Rattle.follows.specs.Answers.{true-false}

@@ -17,7 +17,7 @@ use Rattle.table.specs.Table.{Table}
 use Rattle.records.specs.declared.Record.{Record}
 use Rattle.records.specs.declared.Record.the-variants.{Settle}
 use Rattle.records.specs.Facts.{Action, begins, changes, closes, decides, settles, sifts, idles, action, facts}
-use Rattle.planner.specs.File.{File, contradicted, begun, sealedFile, markedFile, settledFile, act, apply, after, planned}
+use Rattle.files.specs.File.{File, contradicted, begun, sealedFile, markedFile, settledFile, act, apply, after, planned}
 use Rattle.ends.specs.Blank.{blank-begun}
 use Rattle.ends.specs.Files.{both, Taken, taken, building-turn, change-turn, Passed}
 use Rattle.follows.specs.Decide.{decideAs}

@@ -8,8 +8,8 @@ use lib.ListN.{length, getD, replicate}
 use lib.IntN.{pos}
 use Rattle.thresholds.specs.Rows.{rowsOf}
 use Rattle.memory.specs.Buffers.{Work, rawLists, raw, heldRows, built, kept, work, lengths, fitsBy, fits, zeros, cleared, clearRaw, clearBuilt, clearKept}
-use Rattle.planner.specs.File.{Outcome, fileOf}
-use Rattle.planner.specs.Contents.{Out, laid, whole}
+use Rattle.files.specs.File.{Outcome, fileOf}
+use Rattle.files.specs.Contents.{Out, laid, whole}
 use Rattle.demands.specs.Demands.{SameLengths}
 use Rattle.demands.specs.RefusalLaws.{served-when}
 

@@ -16,8 +16,8 @@ use Rattle.thresholds.specs.Rows.{Row, rowsOf}
 use Rattle.records.specs.declared.Record.{Record}
 use Rattle.records.specs.declared.Record.the-variants.{Settle}
 use Rattle.records.specs.Facts.{Action, begins, changes, closes, decides, settles, sifts, idles, action}
-use Rattle.planner.specs.File.{File, contradicted, begun, settledFile, act, apply, after, planned}
-use Rattle.planner.specs.FileLaws.{after-snoc}
+use Rattle.files.specs.File.{File, contradicted, begun, settledFile, act, apply, after, planned}
+use Rattle.files.specs.FileLaws.{after-snoc}
 use Rattle.ends.specs.Files.{both, taken as accepts, serving-turn, Passed, planned-passed}
 use Rattle.table.specs.Table.{Table, knownOf, possibleOf}
 use Rattle.table.specs.TableLaws.{Le, follows-more}

@@ -13,8 +13,8 @@ use lib.Dec.{eqb, ltb}
 use borrow.Author.Tests.{eqb-true, eqb-false, ltb-false}
 use Rattle.records.specs.declared.Record.{Record}
 use Rattle.records.specs.Record.{kindOf, bodyLength, recordOf}
-use Rattle.planner.specs.File.{File, begun, apply, Outcome, outcome, bodyOf, recordAt, unknownKind, cutBody, refusal, refusalAt, readFrom, fileOf, planned}
-use Rattle.planner.specs.FileLaws.{checked, drop-take, same-body}
+use Rattle.files.specs.File.{File, begun, apply, Outcome, outcome, bodyOf, recordAt, unknownKind, cutBody, refusal, refusalAt, readFrom, fileOf, planned}
+use Rattle.files.specs.FileLaws.{checked, drop-take, same-body}
 use Rattle.follows.specs.Answers.{or-false}
 use Rattle.demands.specs.Reading.{Decoded, records, damaged, decodeFrom, decoded}
 

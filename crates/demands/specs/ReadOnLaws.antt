@@ -15,7 +15,7 @@ use Rattle.records.specs.Record.{kindOf, bodyLength}
 use Rattle.records.specs.Facts.{Change, Action, begins, changes, closes, decides, settles, sifts, idles, action, facts}
 use Rattle.records.specs.Checks.{anyOf, wrongTurn, notRising, badBound, tooMany, Check, check, first}
 use Rattle.job.specs.Job.{changed}
-use Rattle.planner.specs.File.{File, contradicted, begun, standing, refusal, sealedFile, markedFile, settledFile, siftedFile, act, apply, Outcome, outcome, recordAt, unknownKind, cutBody, refusalAt, readFrom, fileOf, planned, after}
+use Rattle.files.specs.File.{File, contradicted, begun, standing, refusal, sealedFile, markedFile, settledFile, siftedFile, act, apply, Outcome, outcome, recordAt, unknownKind, cutBody, refusalAt, readFrom, fileOf, planned, after}
 use Rattle.ends.specs.Files.{both, Taken, taken, building-turn, change-turn, serving-turn, refused-by}
 use Rattle.follows.specs.Answers.{clash}
 use Rattle.demands.specs.Reading.{Decoded, records, damaged, decodeFrom, decoded, plain, plainly, plainlyAll, Passes}

@@ -25,7 +25,7 @@ use Rattle.table.specs.Table.{Table, start, knownOf, possibleOf}
 use Rattle.records.specs.declared.Record.{Record}
 use Rattle.records.specs.Record.{kindOf, bodyLength}
 use Rattle.records.specs.Facts.{Action, begins, changes, closes, decides, settles, sifts, idles, action}
-use Rattle.planner.specs.File.{File, settled, told, act, recordAt, unknownKind, cutBody, refusal}
+use Rattle.files.specs.File.{File, settled, told, act, recordAt, unknownKind, cutBody, refusal}
 
 -- MARKS: node and value of each record that decides one, 0x05.
 abbrev pub Marked : List Record → ℕ → Bool → Type 0

@@ -11,10 +11,10 @@ use lib.ListN.{length, take, length-take}
 use lib.Dec.{ltb}
 use borrow.Author.Tests.{le-ltb}
 use Rattle.memory.specs.Buffers.{Work, fits}
-use Rattle.planner.specs.File.{Outcome, outcome, fileOf, begun, after, planned, readFrom}
-use Rattle.planner.specs.FileLaws.{read-up-to, read-taken, read-enough, read-cut}
+use Rattle.files.specs.File.{Outcome, outcome, fileOf, begun, after, planned, readFrom}
+use Rattle.files.specs.FileLaws.{read-up-to, read-taken, read-enough, read-cut}
 use Rattle.memory.specs.Lengths.{fits-input, fits-shorter}
-use Rattle.planner.specs.Contents.{Out, served, untouched, whole}
+use Rattle.files.specs.Contents.{Out, served, untouched, whole}
 use Rattle.ends.specs.Files.{Good, good-before}
 use Rattle.follows.specs.Answers.{true-false}
 use Rattle.demands.specs.Demands.{accepted}

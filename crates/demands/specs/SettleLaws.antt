@@ -14,7 +14,7 @@ use Rattle.thresholds.specs.Rows.{Row, rowsOf}
 use Rattle.between.specs.Between.{Live}
 use Rattle.records.specs.declared.Record.{Record}
 use Rattle.records.specs.declared.Record.the-variants.{Seal, Mark, Settle}
-use Rattle.planner.specs.File.{File, contradicted, begun, refusal, sealedFile, markedFile, settledFile, act, apply, after, planned}
+use Rattle.files.specs.File.{File, contradicted, begun, refusal, sealedFile, markedFile, settledFile, act, apply, after, planned}
 use Rattle.ends.specs.Blank.{bit-behind}
 use Rattle.ends.specs.Files.{taken, Passed, planned-passed}
 use Rattle.table.specs.Table.{Table, start, ReachesConflict, AtRest}

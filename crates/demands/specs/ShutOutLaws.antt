@@ -28,9 +28,9 @@ use Rattle.regions.specs.Sift as Sift
 use Rattle.records.specs.declared.Record.{Record}
 use Rattle.records.specs.declared.Record.the-variants.{Header, Opens, Adds, Seal, Mark, Settle, Sift}
 use Rattle.records.specs.Facts.{Action, decides, action}
-use Rattle.planner.specs.File.{File, Answer, settled, sifted, contradicted, begun, siftedFile, act, apply, after, planned}
+use Rattle.files.specs.File.{File, Answer, settled, sifted, contradicted, begun, siftedFile, act, apply, after, planned}
 use Rattle.memory.specs.Buffers.{Work, rawLists, raw, heldRows, built, kept, work, enough, fitsBy, fits}
-use Rattle.planner.specs.Contents.{Out, whole}
+use Rattle.files.specs.Contents.{Out, whole}
 use Rattle.ends.specs.Settles.{tries}
 use Rattle.ends.specs.Files.{both}
 use Rattle.demands.specs.Reading.{Marked, marks, orBefore, triedSearch, lastFrom, lastSearch}

@@ -13,7 +13,7 @@ use Rattle.words.specs.Mask.{bit, digit}
 use Rattle.words.specs.Digits.{digit-high}
 use Rattle.queues.specs.MarksLaws.{mask}
 use Rattle.between.specs.Between.{Live, stateAt}
-use Rattle.planner.specs.File.{begun}
+use Rattle.files.specs.File.{begun}
 
 pub record Blank (v : Live) : Type 0 where
   pub states : (r : ℕ) → stateAt v r ≡ noState

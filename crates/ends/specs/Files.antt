@@ -29,8 +29,8 @@ use Rattle.records.specs.Facts.{building, within, serving, Facts, Change, opens
 use Rattle.records.specs.Checks.{noThreshold, wrongTurn}
 use Rattle.records.specs.CheckLaws.{Passes, passes}
 use Rattle.job.specs.Job.{changed, lastTerms, allTerms}
-use Rattle.planner.specs.File.{File, contradicted, noJob, begun, standing, refusal, sealedFile, markedFile, settledFile, siftedFile, act, apply, Outcome, outcome, recordAt, unknownKind, cutBody, refusalAt, readFrom, fileOf, planned, after}
-use Rattle.planner.specs.FileLaws.{checked, after-snoc}
+use Rattle.files.specs.File.{File, contradicted, noJob, begun, standing, refusal, sealedFile, markedFile, settledFile, siftedFile, act, apply, Outcome, outcome, recordAt, unknownKind, cutBody, refusalAt, readFrom, fileOf, planned, after}
+use Rattle.files.specs.FileLaws.{checked, after-snoc}
 use Rattle.ends.specs.Rooms.{Bounded, none-bounded}
 use Rattle.ends.specs.Turns.{Sound}
 use Rattle.ends.specs.Settles.{settle-stays, settle-ends, sift-keeps, sift-ends as sift-rests}

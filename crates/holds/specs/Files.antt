@@ -17,7 +17,7 @@ use Rattle.regions.specs.Sift as Sift
 use Rattle.records.specs.declared.Record.{Record}
 use Rattle.records.specs.declared.Record.the-variants.{Seal}
 use Rattle.records.specs.Facts.{Action, begins, changes, closes, decides, settles, sifts, idles, action, facts}
-use Rattle.planner.specs.File.{File, begun, refusal, sealedFile, markedFile, settledFile, siftedFile, act, apply, after}
+use Rattle.files.specs.File.{File, begun, refusal, sealedFile, markedFile, settledFile, siftedFile, act, apply, after}
 use Rattle.prepare.specs.JobBuffers.{builtOf}
 use Rattle.ends.specs.Built.{Fits, Light}
 use Rattle.ends.specs.Files.{Good, good-begun, both, Taken, taken, building-turn, change-turn, good-apply, Passed, good-after}

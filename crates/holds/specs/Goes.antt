@@ -16,7 +16,7 @@ use Rattle.regions.specs.Drain.{indexOf, seal, mark, settle}
 use Rattle.regions.specs.Sift.{sift}
 use Rattle.memory.specs.Limits.{maxNodes, rawLimit, maxThresholds}
 use Rattle.memory.specs.Buffers.{Built}
-use Rattle.planner.specs.File.{begun}
+use Rattle.files.specs.File.{begun}
 use Rattle.prepare.specs.JobBuffers.{builtOf}
 use Rattle.ends.specs.Built.{Fits, Light}
 use Rattle.ends.specs.Blank.{blank-begun, same-at}

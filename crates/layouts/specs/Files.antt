@@ -19,7 +19,7 @@ use Rattle.regions.specs.Drain as Drain
 use Rattle.regions.specs.Drain.{indexOf}
 use Rattle.records.specs.declared.Record.{Record}
 use Rattle.records.specs.Facts.{Action, begins, changes, closes, decides, settles, sifts, idles, action, facts}
-use Rattle.planner.specs.File.{File, contradicted, begun, sealedFile, markedFile, settledFile, siftedFile, act, apply, planned, after}
+use Rattle.files.specs.File.{File, contradicted, begun, sealedFile, markedFile, settledFile, siftedFile, act, apply, planned, after}
 use Rattle.table.specs.Table.{IsRow}
 use Rattle.ends.specs.Built.{Fits as JobFits, fits-node, fits-condition, rows-few, indexed}
 use Rattle.ends.specs.Blank.{blank-begun}

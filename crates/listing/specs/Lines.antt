@@ -11,8 +11,8 @@ use Rattle.state.specs.declared.State.{State}
 use Rattle.state.specs.State.{noState}
 use Rattle.words.specs.Mask.{bit, count}
 use Rattle.memory.specs.Limits.{maxNodes, maxThresholds}
-use Rattle.planner.specs.File.{Answer, settled, sifted}
-use Rattle.planner.specs.Listing.{text, decimal, figures, answerLine}
+use Rattle.files.specs.File.{Answer, settled, sifted}
+use Rattle.files.specs.Listing.{text, decimal, figures, answerLine}
 use Rattle.listing.specs.declared.Given.{Given}
 use Rattle.listing.specs.Text.{joined}
 

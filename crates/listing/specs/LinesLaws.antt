@@ -10,8 +10,8 @@ use Rattle.state.specs.declared.Step.the-variants.{Contradiction}
 use Rattle.state.specs.declared.State.{State}
 use Rattle.words.specs.Mask.{bit, count}
 use Rattle.memory.specs.Limits.{maxNodes}
-use Rattle.planner.specs.File.{settled, sifted}
-use Rattle.planner.specs.Listing.{text, decimal}
+use Rattle.files.specs.File.{settled, sifted}
+use Rattle.files.specs.Listing.{text, decimal}
 use Rattle.listing.specs.declared.Given.{Given}
 use Rattle.listing.specs.Text.{joined}
 use Rattle.listing.specs.Lines.{stepOf, answerOf, nodeAt, rowAt, endLine, refusedLine, decided, stateText, lastText}

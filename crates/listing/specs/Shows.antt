@@ -9,9 +9,9 @@ use Rattle.state.specs.declared.State.{State}
 use Rattle.words.specs.Mask.{bit}
 use Rattle.thresholds.specs.Rows.{rowsOf}
 use Rattle.memory.specs.Limits.{maxNodes, maxThresholds}
-use Rattle.planner.specs.File.{Outcome, outcome, begun}
-use Rattle.planner.specs.Contents.{answerNumber, answerVisits}
-use Rattle.planner.specs.Listing.{listing}
+use Rattle.files.specs.File.{Outcome, outcome, begun}
+use Rattle.files.specs.Contents.{answerNumber, answerVisits}
+use Rattle.files.specs.Listing.{listing}
 use Rattle.listing.specs.declared.Given.{Given}
 use Rattle.listing.specs.Lines.{maxListing}
 

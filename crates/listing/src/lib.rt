@@ -5,7 +5,7 @@ ghost use mathlib.Core.List.{_++_};
 ghost use Prim.Native.Nat.{_+_, _*_, _<_, _≤_, _%_};
 ghost use lib.ListN.{length, drop};
 ghost use lib.IntN.{natAbs};
-ghost use Rattle.planner.specs.Listing.{text as textOf, decimal as decimalOf, decimalZ, upperText, stepWord, figures as figuresText, answerLine};
+ghost use Rattle.files.specs.Listing.{text as textOf, decimal as decimalOf, decimalZ, upperText, stepWord, figures as figuresText, answerLine};
 ghost use Rattle.between.specs.Numbers.{statesOf};
 ghost use Rattle.listing.specs.Text.{Wrote, joined};
 ghost use Rattle.listing.specs.Lines.{maxDecimal, maxSigned, maxStep, maxFigures, maxAnswerLine, maxNodeLine, maxRowLine, maxLastLine, maxStateLines, maxListing};

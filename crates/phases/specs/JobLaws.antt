@@ -17,12 +17,12 @@ use Rattle.records.specs.Record.{kindOf, bodyLength, recordAt, recordIn}
 use Rattle.records.specs.Facts.{Action, begins, changes, closes, decides, settles, sifts, idles, action, facts, closing}
 use Rattle.records.specs.Checks.{nextAt}
 use Rattle.memory.specs.Buffers.{Kept, clearKept}
-use Rattle.planner.specs.declared.JobRead.{JobRead}
-use Rattle.planner.specs.File.{File, begun, standing, refusal, act, apply, Outcome, outcome, refusalAt, fileOf}
-use Rattle.planner.specs.FileLaws.{zero-or}
-use Rattle.planner.specs.Contents.{keptOf}
-use Rattle.planner.specs.JobPart.{JobPart, jobPart, readJob, jobPartOf}
-use Rattle.planner.specs.JobPartLaws.{true-or, job-refused, job-sealing, job-next, file-goes-on, file-ends}
+use Rattle.files.specs.declared.JobRead.{JobRead}
+use Rattle.files.specs.File.{File, begun, standing, refusal, act, apply, Outcome, outcome, refusalAt, fileOf}
+use Rattle.files.specs.FileLaws.{zero-or}
+use Rattle.files.specs.Contents.{keptOf}
+use Rattle.files.specs.JobPart.{JobPart, jobPart, readJob, jobPartOf}
+use Rattle.files.specs.JobPartLaws.{true-or, job-refused, job-sealing, job-next, file-goes-on, file-ends}
 use Rattle.ends.specs.Files.{Good, good-begun, good-apply, both, Taken as Passes, taken, serving-turn, refused-by}
 use Rattle.serve.specs.declared.Reached.{Reached}
 use Rattle.serve.specs.Serve.{readAt}

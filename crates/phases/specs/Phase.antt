@@ -10,9 +10,9 @@ use Rattle.memory.specs.Buffers.{Raw, heldRows, Built, built, Kept, kept, clear
 use Rattle.state.specs.declared.Step.the-variants.{Unchanged}
 use Rattle.thresholds.specs.Rows.{rowsOf}
 use Rattle.prepare.specs.JobBuffers.{rawOf, builtOf}
-use Rattle.planner.specs.declared.JobRead.{JobRead}
-use Rattle.planner.specs.File.{File, begun, standing, Outcome, outcome}
-use Rattle.planner.specs.Contents.{keptOf}
+use Rattle.files.specs.declared.JobRead.{JobRead}
+use Rattle.files.specs.File.{File, begun, standing, Outcome, outcome}
+use Rattle.files.specs.Contents.{keptOf}
 use Rattle.ends.specs.Built.{Light}
 use Rattle.ends.specs.Files.{Good}
 use Rattle.serve.specs.declared.Reached.{Reached}

@@ -26,9 +26,9 @@ use Rattle.between.specs.Between.{Live, live}
 use Rattle.between.specs.Numbers.{figuresOf, cursorsOf, rowState, statesOf, Tidy}
 use Rattle.prepare.specs.JobBuffers.{rawOf, rowEntries, nodeEntries, builtWith, builtOf}
 use Rattle.records.specs.declared.Standing.{Standing}
-use Rattle.planner.specs.File.{File, Answer, begun, standing, Outcome, outcome}
-use Rattle.planner.specs.declared.JobRead.{JobRead}
-use Rattle.planner.specs.Contents.{keptOf}
+use Rattle.files.specs.File.{File, Answer, begun, standing, Outcome, outcome}
+use Rattle.files.specs.declared.JobRead.{JobRead}
+use Rattle.files.specs.Contents.{keptOf}
 use Rattle.ends.specs.Built.{Fits, rows-few}
 use Rattle.ends.specs.SizeLaws.{terms-few, guards-few, edges-most}
 use Rattle.settle.specs.Begins.{Fresh}

@@ -9,7 +9,7 @@ ghost use Rattle.memory.specs.Buffers.{rawLists, raw, heldRows, built};
 ghost use Rattle.prepare.specs.RowsGivenLaid.{startIn, endIn};
 ghost use Rattle.job.specs.Gathered.{Gathered};
 ghost use Rattle.job.specs.Built.{Roomy};
-ghost use Rattle.planner.specs.Held.{Room};
+ghost use Rattle.files.specs.Held.{Room};
 ghost use Rattle.rows.specs.Shown.{Part, Fits, Shown, First};
 use libc::STDIN_FILENO;
 use libc::STDOUT_FILENO;
@@ -309,7 +309,7 @@ fn run_in(
 )
     requires { ⌜ Room (raw (rawLists (now «raw_conditions») (now «raw_weights») (now thresholds)) (now bounds)) ⌝ }
 {
-    let read = planner::read_job(input, raw_conditions, raw_weights, thresholds, bounds);
+    let read = files::read_job(input, raw_conditions, raw_weights, thresholds, bounds);
     if !read.sealing {
         write(b"not a job\n");
         return;

@@ -14,8 +14,8 @@ use Rattle.records.specs.declared.Next.the-variants.{Refused, Taken}
 use Rattle.records.specs.Record.{kindOf, bodyLength, kindAt, recordIn}
 use Rattle.records.specs.declared.Record.the-variants.{Header, Opens, Adds, Areas, Seal, Mark, Settle, Sift, Unknown}
 use Rattle.records.specs.Checks.{nextAt, unknownKind, cutBody}
-use Rattle.planner.specs.File.{File, standing, refusal, apply, Outcome, outcome, recordAt, refusalAt, readFrom}
-use Rattle.planner.specs.FileLaws.{read-enough, checked}
+use Rattle.files.specs.File.{File, standing, refusal, apply, Outcome, outcome, recordAt, refusalAt, readFrom}
+use Rattle.files.specs.FileLaws.{read-enough, checked}
 use Rattle.ends.specs.Files.{refused-by, both}
 use Rattle.serve.specs.Serve.{readAt}
 

@@ -22,7 +22,7 @@ use Rattle.records.specs.declared.Record.the-variants.{Seal}
 use Rattle.records.specs.declared.Standing.{Standing}
 use Rattle.records.specs.declared.Next.the-variants.{Taken}
 use Rattle.records.specs.Checks.{nextAt}
-use Rattle.planner.specs.File.{File, standing, refusal, told, sealedFile, act, apply, outcome}
+use Rattle.files.specs.File.{File, standing, refusal, told, sealedFile, act, apply, outcome}
 use Rattle.settle.specs.Begins.{Fresh}
 use Rattle.sift.specs.Tries.{Scratch}
 use Rattle.holds.specs.Served.{Served}

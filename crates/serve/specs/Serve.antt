@@ -26,8 +26,8 @@ use Rattle.records.specs.declared.Record.{Record}
 use Rattle.records.specs.declared.Record.the-variants.{Header, Opens, Adds, Areas, Seal, Mark, Settle, Sift, Unknown}
 use Rattle.records.specs.declared.Standing.{Standing}
 use Rattle.prepare.specs.JobBuffers.{builtOf}
-use Rattle.planner.specs.File.{File, Answer, settled, sifted, standing, refusal, Outcome, readFrom}
-use Rattle.planner.specs.Contents.{answerNumber, answerVisits}
+use Rattle.files.specs.File.{File, Answer, settled, sifted, standing, refusal, Outcome, readFrom}
+use Rattle.files.specs.Contents.{answerNumber, answerVisits}
 use Rattle.ends.specs.Built.{Fits, Light}
 use Rattle.ends.specs.Files.{Good}
 use Rattle.settle.specs.Begins.{Fresh}

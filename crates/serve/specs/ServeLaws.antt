@@ -41,8 +41,8 @@ use Rattle.records.specs.declared.Next.the-variants.{Refused, Taken}
 use Rattle.records.specs.Record.{bodyLength, kindAt}
 use Rattle.records.specs.Checks.{nextAt}
 use Rattle.records.specs.Facts.{adds}
-use Rattle.planner.specs.File.{File, Answer, sifted, standing, refusal, told, markedFile, settledFile, siftedFile, act, apply, Outcome, outcome}
-use Rattle.planner.specs.Contents.{answerNumber, answerVisits}
+use Rattle.files.specs.File.{File, Answer, sifted, standing, refusal, told, markedFile, settledFile, siftedFile, act, apply, Outcome, outcome}
+use Rattle.files.specs.Contents.{answerNumber, answerVisits}
 use Rattle.ends.specs.Settles.{tries}
 use Rattle.ends.specs.Files.{both, taken, building-turn, change-turn}
 use Rattle.ends.specs.SizeLaws.{row-terms-few}

@@ -9,7 +9,7 @@ ghost use Rattle.memory.specs.Buffers.{heldRows, built, kept, longestInput};
 ghost use Rattle.lists.specs.Laid.{over};
 ghost use Rattle.between.specs.Numbers.{liveOf, Tidy};
 ghost use Rattle.regions.specs.Sift.{sifted};
-ghost use Rattle.planner.specs.File.{File, Answer, refusal, outcome, apply, standing as standingOf};
+ghost use Rattle.files.specs.File.{File, Answer, refusal, outcome, apply, standing as standingOf};
 ghost use Rattle.records.specs.declared.Record.the-variants.{Seal};
 ghost use Rattle.records.specs.declared.Next.the-variants.{Taken};
 ghost use Rattle.records.specs.Checks.{nextAt};

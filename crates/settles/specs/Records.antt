@@ -15,7 +15,7 @@ use Rattle.regions.specs.Drain.{indexOf}
 use Rattle.records.specs.declared.Record.{Record}
 use Rattle.records.specs.Facts.{Change, opens, adds, Action, begins, changes, closes, decides, settles, sifts, idles, action, facts}
 use Rattle.job.specs.Job.{changed}
-use Rattle.planner.specs.File.{File, contradicted, begun, refusal, sealedFile, markedFile, settledFile, siftedFile, act, apply, after}
+use Rattle.files.specs.File.{File, contradicted, begun, refusal, sealedFile, markedFile, settledFile, siftedFile, act, apply, after}
 use Rattle.ends.specs.Blank.{blank-begun}
 use Rattle.ends.specs.Files.{Good, good-begun, both, Taken, taken, building-turn, change-turn, serving-turn, node-small, good-apply, Passed}
 use Rattle.table.specs.Table.{Table}

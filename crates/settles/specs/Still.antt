@@ -10,7 +10,7 @@ use Rattle.thresholds.specs.Rows.{rowsOf}
 use Rattle.between.specs.Between.{Live, stateAt}
 use Rattle.regions.specs.Drain.{indexOf, atRest}
 use Rattle.records.specs.declared.Record.the-variants.{Settle}
-use Rattle.planner.specs.File.{File, contradicted, refusal, settledFile, act, apply}
+use Rattle.files.specs.File.{File, contradicted, refusal, settledFile, act, apply}
 use Rattle.ends.specs.Built.{Fits}
 use Rattle.ends.specs.Files.{taken, good-apply, rests-settle}
 use Rattle.table.specs.Table.{Table, knownOf, possibleOf, AtRest, Ended}

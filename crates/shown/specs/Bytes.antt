@@ -11,7 +11,7 @@ use Rattle.row.specs.TermsLaws.{All as Every}
 use Rattle.records.specs.declared.Record.{Record}
 use Rattle.records.specs.Record.{littleEndian, behind, kindOf, bodyLength}
 use Rattle.records.specs.Facts.{Action, begins, changes, closes, decides, settles, sifts, idles, opens, adds, action}
-use Rattle.planner.specs.File.{File, Outcome, outcome, begun, recordAt, refusalAt, apply, readFrom, fileOf, planned}
+use Rattle.files.specs.File.{File, Outcome, outcome, begun, recordAt, refusalAt, apply, readFrom, fileOf, planned}
 use Rattle.ends.specs.Built.{every-last}
 
 abbrev pub IsByte : ℕ → Type 0

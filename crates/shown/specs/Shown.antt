@@ -16,8 +16,8 @@ use Rattle.thresholds.specs.Rows.{rowsOf}
 use Rattle.memory.specs.Limits.{maxThresholds}
 use Rattle.memory.specs.Buffers.{Work, Kept, fits, cleared}
 use Rattle.between.specs.Numbers.{figuresOf, cursorsOf, statesOf, stored-read}
-use Rattle.planner.specs.File.{Answer, Outcome, begun, planned}
-use Rattle.planner.specs.Contents.{answerNumber, answerVisits, keptOf, laid, Out, served, untouched, whole}
+use Rattle.files.specs.File.{Answer, Outcome, begun, planned}
+use Rattle.files.specs.Contents.{answerNumber, answerVisits, keptOf, laid, Out, served, untouched, whole}
 use Rattle.ends.specs.Built.{rows-few}
 use Rattle.follows.specs.Answers.{true-false}
 use Rattle.demands.specs.RefusalLaws.{untouched-when, planned-file, files}

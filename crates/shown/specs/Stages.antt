@@ -14,7 +14,7 @@ use Rattle.row.specs.TermsLaws.{All as Every}
 use Rattle.prepare.specs.JobBuffers.{builtOf}
 use Rattle.records.specs.declared.Record.{Record}
 use Rattle.records.specs.declared.Record.the-variants.{Header, Opens, Adds, Areas, Seal, Mark, Settle, Sift, Unknown}
-use Rattle.planner.specs.File.{File, begun, refusal, act, apply, after, planned}
+use Rattle.files.specs.File.{File, begun, refusal, act, apply, after, planned}
 use Rattle.ends.specs.Built.{Fits, Light, every-last, light-term}
 use Rattle.ends.specs.Files.{Good, good-begun, both, taken, serving-turn, good-apply, Passed, planned-passed}
 use Rattle.settle.specs.Serves.{Low}

@@ -4,7 +4,7 @@ use Prim.Native.Nat.{_-_}
 use native.Mathlib.Omega.{arith}
 use lib.ListN.{length, take, drop, length-drop}
 use lib.Seq.{take-all}
-use Rattle.planner.specs.Listing.{decimal}
+use Rattle.files.specs.Listing.{decimal}
 use Rattle.listing.specs.TextLaws.{wrote-as}
 use Rattle.listing.specs.NumberLaws.{decimal-short}
 use borrow.Author.Needs.{needs}

@@ -4,7 +4,7 @@ use Prim.Native.Nat.{_≤_}
 use native.Mathlib.Omega.{arith}
 use lib.ListN.{length}
 use borrow.Author.Needs.{needs}
-use Rattle.planner.specs.Listing.{text, decimalZ}
+use Rattle.files.specs.Listing.{text, decimalZ}
 use Rattle.listing.specs.TextLaws.{wrote-same, wrote-then}
 use Rattle.listing.specs.NumberLaws.{held}
 use Rattle.listing.proofs.figure.Statement.{statement}

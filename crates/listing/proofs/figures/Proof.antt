@@ -6,7 +6,7 @@ use native.Mathlib.Omega.{arith}
 use lib.ListN.{length}
 use lib.IntN.{ℤ}
 use borrow.Author.Needs.{needs}
-use Rattle.planner.specs.Listing.{text, decimalZ}
+use Rattle.files.specs.Listing.{text, decimalZ}
 use Rattle.listing.specs.TextLaws.{wrote-same, wrote-then, wrote-both}
 use Rattle.listing.specs.NumberLaws.{held}
 use Rattle.listing.proofs.figures.Statement.{statement}

@@ -3,7 +3,7 @@ use Prim.Native.Nat.{_≤_}
 use native.Mathlib.Omega.{arith}
 use lib.ListN.{length}
 use borrow.Author.Needs.{needs}
-use Rattle.planner.specs.Listing.{text, decimal}
+use Rattle.files.specs.Listing.{text, decimal}
 use Rattle.listing.specs.TextLaws.{wrote-then, wrote-both}
 use Rattle.listing.specs.Lines.{refusedLine}
 use Rattle.listing.proofs.refused_line.Statement.{statement}

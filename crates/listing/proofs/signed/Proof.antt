@@ -9,7 +9,7 @@ use mir.Syntax.{w64}
 use mir.Val.{SFits}
 use mir.Facts.{toZ-ofZ}
 use borrow.Author.Needs.{needs}
-use Rattle.planner.specs.Listing.{decimal}
+use Rattle.files.specs.Listing.{decimal}
 use Rattle.listing.specs.TextLaws.{wrote-as, wrote-then}
 use Rattle.listing.specs.NumberLaws.{held, signed-below, signed-from}
 use Rattle.listing.proofs.signed.Statement.{statement}

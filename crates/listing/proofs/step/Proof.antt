@@ -3,7 +3,7 @@ use mathlib.Core.Path.{sym, ap}
 use Prim.Native.Nat.{ℕ}
 use native.Mathlib.Omega.{arith}
 use borrow.Author.Needs.{needs}
-use Rattle.planner.specs.Listing.{text, stepWord}
+use Rattle.files.specs.Listing.{text, stepWord}
 use Rattle.listing.specs.TextLaws.{wrote-as}
 use Rattle.listing.specs.Lines.{stepOf}
 use Rattle.listing.specs.LinesLaws.{step-other}

@@ -2,7 +2,7 @@
 use mathlib.Core.Path.{_≡_, sym, ap, _∙_}
 use native.Mathlib.Omega.{arith}
 use borrow.Author.Needs.{needs}
-use Rattle.planner.specs.Listing.{decimalZ, upperText}
+use Rattle.files.specs.Listing.{decimalZ, upperText}
 use Rattle.listing.specs.TextLaws.{wrote-as}
 use Rattle.listing.specs.NumberLaws.{held}
 use Rattle.listing.proofs.upper.Statement.{statement}

@@ -4,7 +4,7 @@ use Prim.Native.Nat.{_+_}
 use mathlib.Core.Path.{refl, _∙_}
 use Rattle.memory.specs.Buffers.{heldRows, Built, built, Kept, kept}
 use Rattle.records.specs.declared.Record.the-variants.{Seal}
-use Rattle.planner.specs.File.{apply}
+use Rattle.files.specs.File.{apply}
 use Rattle.serve.specs.declared.Reached.{Reached}
 use Rattle.serve.specs.SealLaws.{seals-holds, seals-shaped, seals-totals, seals-room, seals-waits, seals-flags, seals-reaches, seals-passed, seals-whole}
 use borrow.Author.Needs.{needs}

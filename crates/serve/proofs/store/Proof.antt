@@ -10,7 +10,7 @@ use Rattle.state.specs.declared.Step.{Step}
 use Rattle.records.specs.declared.Record.{Record}
 use Rattle.records.proofs.Record.{the-type}
 use Rattle.records.specs.declared.Record.the-variants.{Header, Opens, Adds, Areas, Seal, Mark, Settle, Sift, Unknown}
-use Rattle.planner.specs.File.{Answer, settled, sifted}
+use Rattle.files.specs.File.{Answer, settled, sifted}
 use Rattle.serve.specs.Serve.{answered}
 use Rattle.serve.specs.ServeLaws.{answer-put, answer-more, answer-none, answer-same}
 use borrow.Author.Needs.{needs}

@@ -12,9 +12,9 @@ use borrow.Author.Tests.{eq-eqb, ne-eqb}
 use Rattle.records.specs.declared.Record.{Record}
 use Rattle.records.specs.Record.{kindOf, bodyLength, recordAt}
 use Rattle.records.specs.Facts.{action, closing}
-use Rattle.planner.specs.File.{File, begun, apply, refusalAt, outcome, readFrom, fileOf}
-use Rattle.planner.specs.FileLaws.{zero-or, read-on, read-stop, read-enough}
-use Rattle.planner.specs.JobPart.{JobPart, jobPart, readJob, jobPartOf}
+use Rattle.files.specs.File.{File, begun, apply, refusalAt, outcome, readFrom, fileOf}
+use Rattle.files.specs.FileLaws.{zero-or, read-on, read-stop, read-enough}
+use Rattle.files.specs.JobPart.{JobPart, jobPart, readJob, jobPartOf}
 
 pub true-or : (b : Bool) → (b ≡ true) ⊎ (b ≡ false)
 true-or true = inl refl

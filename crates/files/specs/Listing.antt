@@ -15,7 +15,7 @@ use Rattle.state.specs.declared.Upper.the-variants.{Open, Under}
 use Rattle.state.specs.State.{noState}
 use Rattle.words.specs.Mask.{bit, count}
 use Rattle.thresholds.specs.Rows.{Row, rowsOf}
-use Rattle.planner.specs.File.{File, Answer, settled, sifted, Outcome}
+use Rattle.files.specs.File.{File, Answer, settled, sifted, Outcome}
 
 -- The bytes of a text.
 unfoldable pub text : String → List ℕ

@@ -1,14 +1,14 @@
--- `planner::read_job` meets its contract: every record that is taken keeps the invariant.
+-- `files::read_job` meets its contract: every record that is taken keeps the invariant.
 use mathlib.Core.Path.{_≡_, refl, _∙_}
 use Prim.Native.Nat.{_-_}
 use native.Mathlib.Omega.{arith}
 use lib.ListN.{length}
 use Rattle.memory.specs.Buffers.{rawLists, raw}
-use Rattle.planner.specs.Held.{Going}
-use Rattle.planner.specs.HeldLaws.{going-begun, going-unsealed, going-ends, going-stops, going-farther, going-on}
+use Rattle.files.specs.Held.{Going}
+use Rattle.files.specs.HeldLaws.{going-begun, going-unsealed, going-ends, going-stops, going-farther, going-on}
 use borrow.Author.Needs.{needs}
-use Rattle.planner.proofs.read_job.Statement.{statement}
-use Rattle.planner.proofs.read_job.Tie as tie
+use Rattle.files.proofs.read_job.Statement.{statement}
+use Rattle.files.proofs.read_job.Tie as tie
 
 abbrev Inv-loop : tie.InvT-loop
 Inv-loop input raw-conditions₀ raw-weights₀ thresholds₀ bounds₀ read₀ raw-conditions raw-weights thresholds bounds read =

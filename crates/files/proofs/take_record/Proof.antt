@@ -1,14 +1,14 @@
--- `planner::take_record` meets its contract: an arm for each kind.
+-- `files::take_record` meets its contract: an arm for each kind.
 use mathlib.Core.Path.{_≡_, refl, sym, ap, _∙_}
 use lib.IntN.{ℤ}
 use mir.Syntax.{w64}
 use mir.Val.{toZ, ofZ}
 use Rattle.records.specs.declared.Record.the-variants.{Opens}
 use Rattle.records.specs.Checks.{refusedBy}
-use Rattle.planner.specs.HeldLaws.{takes-header, takes-opens, takes-adds, takes-areas, takes-seal, takes-serving, takes-unknown}
+use Rattle.files.specs.HeldLaws.{takes-header, takes-opens, takes-adds, takes-areas, takes-seal, takes-serving, takes-unknown}
 use borrow.Author.Needs.{needs}
-use Rattle.planner.proofs.take_record.Statement.{statement}
-use Rattle.planner.proofs.take_record.Tie as tie
+use Rattle.files.proofs.take_record.Statement.{statement}
+use Rattle.files.proofs.take_record.Tie as tie
 
 enum-known-entry : tie.Need-enum-known-entry
 enum-known-entry c = search needs

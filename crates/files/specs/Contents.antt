@@ -11,7 +11,7 @@ use Rattle.thresholds.specs.Rows.{rowsOf}
 use Rattle.prepare.specs.JobBuffers.{rawOf, builtOf}
 use Rattle.between.specs.Numbers.{figuresOf, cursorsOf}
 use Rattle.memory.specs.Buffers.{Kept, Work, kept, work, fits, cleared}
-use Rattle.planner.specs.File.{File, Answer, settled, sifted, Outcome, fileOf}
+use Rattle.files.specs.File.{File, Answer, settled, sifted, Outcome, fileOf}
 
 -- An answer as a number: that of its step, and 4 more for a sift.
 abbrev pub answerNumber : Answer → ℕ

@@ -11,9 +11,9 @@ use Rattle.prepare.specs.JobBuffers.{rawOf}
 use Rattle.records.specs.declared.Standing.{Standing}
 use Rattle.records.specs.declared.Record.{Record}
 use Rattle.job.specs.Gathered.{jobIn, Gathered}
-use Rattle.planner.specs.declared.JobRead.{JobRead}
-use Rattle.planner.specs.File.{File, standing, apply}
-use Rattle.planner.specs.JobPart.{JobPart, readJob, jobPartOf}
+use Rattle.files.specs.declared.JobRead.{JobRead}
+use Rattle.files.specs.File.{File, standing, apply}
+use Rattle.files.specs.JobPart.{JobPart, readJob, jobPartOf}
 
 -- What the checks read behind a header.
 abbrev pub headed : Standing → ℕ → Standing

@@ -32,12 +32,12 @@ use Rattle.job.specs.JobLaws.{or-false, standing-opened, standing-added}
 use Rattle.job.specs.SoundLaws.{gathered-none}
 use Rattle.job.specs.TakenLaws.{opened-gathered, added-gathered, term-open}
 use Rattle.job.specs.RawLaws.{raw-opened, raw-added}
-use Rattle.planner.specs.declared.JobRead.{JobRead}
-use Rattle.planner.specs.File.{File, contradicted, standing, noJob, begun, withJob, act, apply, refusalAt}
-use Rattle.planner.specs.FileLaws.{zero-or}
-use Rattle.planner.specs.JobPart.{JobPart, jobPart, readJob, jobPartOf}
-use Rattle.planner.specs.JobPartLaws.{true-or, job-refused, job-sealing, job-next}
-use Rattle.planner.specs.Held.{headed, Room, Held, Takes, HeldPart, Going}
+use Rattle.files.specs.declared.JobRead.{JobRead}
+use Rattle.files.specs.File.{File, contradicted, standing, noJob, begun, withJob, act, apply, refusalAt}
+use Rattle.files.specs.FileLaws.{zero-or}
+use Rattle.files.specs.JobPart.{JobPart, jobPart, readJob, jobPartOf}
+use Rattle.files.specs.JobPartLaws.{true-or, job-refused, job-sealing, job-next}
+use Rattle.files.specs.Held.{headed, Room, Held, Takes, HeldPart, Going}
 
 not-false : (b : Bool) → not b ≡ false → b ≡ true
 not-false true e = refl

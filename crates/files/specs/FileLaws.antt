@@ -15,7 +15,7 @@ use Rattle.records.specs.declared.Record.{Record}
 use Rattle.records.specs.Record.{kindOf, bodyLength, recordOf}
 use Rattle.records.specs.Facts.{action, facts}
 use Rattle.records.specs.Checks.{Check, first, checks}
-use Rattle.planner.specs.File.{File, standing, refusal, apply, Outcome, outcome, bodyOf, recordAt, unknownKind, cutBody, refusalAt, readFrom, after}
+use Rattle.files.specs.File.{File, standing, refusal, apply, Outcome, outcome, bodyOf, recordAt, unknownKind, cutBody, refusalAt, readFrom, after}
 
 -- ONE OF TEN NUMBERS
 

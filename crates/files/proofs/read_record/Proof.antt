@@ -1,10 +1,10 @@
--- `planner::read_record` meets its contract: the next record is refused, a seal, or taken.
+-- `files::read_record` meets its contract: the next record is refused, a seal, or taken.
 use mathlib.Core.Path.{sym, _∙_}
 use native.Mathlib.Omega.{arith}
-use Rattle.planner.specs.HeldLaws.{next-passes, next-whole, read-refused, read-sealing, read-next}
+use Rattle.files.specs.HeldLaws.{next-passes, next-whole, read-refused, read-sealing, read-next}
 use borrow.Author.Needs.{needs}
-use Rattle.planner.proofs.read_record.Statement.{statement}
-use Rattle.planner.proofs.read_record.Tie as tie
+use Rattle.files.proofs.read_record.Statement.{statement}
+use Rattle.files.proofs.read_record.Tie as tie
 
 next-record-requires : tie.Need-next-record-requires
 next-record-requires c κs = search needs
