@@ -8,7 +8,7 @@ use Rattle.numeric.specs.Threshold.{Job}
 use Rattle.thresholds.specs.Rows.{rowsOf}
 use Rattle.prepare.specs.JobBuffers.{builtOf}
 use Rattle.files.specs.Contents.{Out}
-use Rattle.call.specs.declared.Given.{Given}
+use Rattle.files.specs.declared.Given.{Given}
 
 -- The rows of a job whose seal comes next, in cleared buffers.
 pub record Builds (j : Job) (sealing : Bool) (b₀ b : Built) (rows : ℕ) : Type 0 where

@@ -37,7 +37,7 @@ use Rattle.serve.specs.Serve.{readAt}
 use Rattle.serve.specs.ReadLaws.{ended, taken-any, seal-goes}
 use Rattle.phases.specs.Phase.{BuiltRoom, KeptRoom, Blank, Stops, ending, Leaves}
 use Rattle.phases.specs.JobLaws.{job-ended, leaves-file}
-use Rattle.call.specs.declared.Given.{Given}
+use Rattle.files.specs.declared.Given.{Given}
 use Rattle.call.specs.Call.{Builds, gives}
 use Rattle.call.specs.CallLaws.{cleared-room}
 

@@ -10,6 +10,7 @@ ghost use Rattle.files.specs.Contents.{whole};
 ghost use Rattle.files.specs.Held.{Room, HeldPart};
 ghost use Rattle.phases.specs.Phase.{BuiltRoom};
 ghost use Rattle.call.specs.Call.{Builds, gives};
+use files::Given;
 use files::JobRead;
 use state::Step;
 
@@ -82,18 +83,6 @@ fn build(
         );
     }
     0
-}
-
-// What the call gives back: the number of the refusal (0 for none) and its offset; whether the job is sealed, its nodes and rows; the last
-// step, and how many answers there are.
-pub struct Given {
-    pub refused: u8,
-    pub at: usize,
-    pub sealed: bool,
-    pub nodes: usize,
-    pub rows: usize,
-    pub last: Step,
-    pub answered: usize,
 }
 
 // THE CALL: the three phases over every lent buffer; if one is too short, or the input too long, nothing is touched.

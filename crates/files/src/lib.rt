@@ -12,6 +12,19 @@ ghost use Rattle.files.specs.Held.{headed, Room, Takes, HeldPart, Reads}
 use records::Next;
 use records::Record;
 use records::Standing;
+use state::Step;
+
+// What the call gives back: the number of the refusal (0 for none) and its offset; whether the job is sealed, its nodes and rows; the last
+// step, and how many answers there are.
+pub struct Given {
+    pub refused: u8,
+    pub at: usize,
+    pub sealed: bool,
+    pub nodes: usize,
+    pub rows: usize,
+    pub last: Step,
+    pub answered: usize,
+}
 
 // Where reading a job ended: the offset, the number of the refusal (0 for none), whether a seal is next, and what the checks read then.
 pub struct JobRead {

@@ -13,7 +13,7 @@ use Rattle.words.specs.Mask.{bit, count}
 use Rattle.memory.specs.Limits.{maxNodes, maxThresholds}
 use Rattle.files.specs.File.{Answer, settled, sifted}
 use Rattle.files.specs.Listing.{text, decimal, figures, answerLine}
-use Rattle.listing.specs.declared.Given.{Given}
+use Rattle.files.specs.declared.Given.{Given}
 use Rattle.listing.specs.Text.{joined}
 
 -- THE LENGTH: the most bytes that a number, a step's word, the figures of a row and each line take.

@@ -12,7 +12,7 @@ use Rattle.words.specs.Mask.{bit, count}
 use Rattle.memory.specs.Limits.{maxNodes}
 use Rattle.files.specs.File.{settled, sifted}
 use Rattle.files.specs.Listing.{text, decimal}
-use Rattle.listing.specs.declared.Given.{Given}
+use Rattle.files.specs.declared.Given.{Given}
 use Rattle.listing.specs.Text.{joined}
 use Rattle.listing.specs.Lines.{stepOf, answerOf, nodeAt, rowAt, endLine, refusedLine, decided, stateText, lastText}
 

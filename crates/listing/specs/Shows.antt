@@ -12,7 +12,7 @@ use Rattle.memory.specs.Limits.{maxNodes, maxThresholds}
 use Rattle.files.specs.File.{Outcome, outcome, begun}
 use Rattle.files.specs.Contents.{answerNumber, answerVisits}
 use Rattle.files.specs.Listing.{listing}
-use Rattle.listing.specs.declared.Given.{Given}
+use Rattle.files.specs.declared.Given.{Given}
 use Rattle.listing.specs.Lines.{maxListing}
 
 -- What is given back of an outcome.
@@ -23,6 +23,7 @@ givenOf o = record {
   sealed = o .file .sealed;
   nodes = o .file .job .nodes;
   rows = cond (o .file .sealed) (length (rowsOf (o .file .closed))) 0;
+  last = o .file .last;
   answered = length (o .file .answers);
 }
 

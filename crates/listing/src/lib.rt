@@ -11,18 +11,9 @@ ghost use Rattle.listing.specs.Text.{Wrote, joined};
 ghost use Rattle.listing.specs.Lines.{maxDecimal, maxSigned, maxStep, maxFigures, maxAnswerLine, maxNodeLine, maxRowLine, maxLastLine, maxStateLines, maxListing};
 ghost use Rattle.listing.specs.Lines.{stepOf, answerOf, answerAt, nodeAt, rowLine, rowAt, endLine, refusedLine, decided, stateText, lastText, Sealed, Listable};
 ghost use Rattle.listing.specs.Shows.{Listed};
+use files::Given;
 use state::State;
 use state::Upper;
-
-// What the call gives back.
-pub struct Given {
-    pub refused: u8,
-    pub at: usize,
-    pub sealed: bool,
-    pub nodes: usize,
-    pub rows: usize,
-    pub answered: usize,
-}
 
 // A byte string at a place. This and every function below that writes gives back where its text ends.
 fn put(out: &mut [u8], at: usize, text: &[u8]) -> usize

@@ -23,7 +23,7 @@ use Rattle.follows.specs.Answers.{true-false}
 use Rattle.demands.specs.RefusalLaws.{untouched-when, planned-file, files}
 use Rattle.demands.specs.KeptLaws as Fit
 use Rattle.memory.specs.Lengths.{fits-input}
-use Rattle.listing.specs.declared.Given.{Given}
+use Rattle.files.specs.declared.Given.{Given}
 use Rattle.listing.specs.Shows.{givenOf, Inside, Held, ten, Shows}
 use Rattle.listing.specs.Shows as Is
 use Rattle.listing.specs.Lines.{Listable}
@@ -33,7 +33,7 @@ use Rattle.shown.specs.Stages.{planned-inside}
 
 -- What the call gives back, and the outcome that it stands for: the file's, or refusal 10.
 abbrev pub given : Out → Given
-given r = record { refused = r .refused; at = r .at; sealed = r .sealed; nodes = r .nodes; rows = r .rows; answered = r .answered }
+given r = record { refused = r .refused; at = r .at; sealed = r .sealed; nodes = r .nodes; rows = r .rows; last = r .last; answered = r .answered }
 
 unfoldable pub ended : List ℕ → Work → Outcome
 ended input w = elim (fits input w) [ true ↦ planned input | false ↦ ten ]
