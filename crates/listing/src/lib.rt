@@ -16,7 +16,7 @@ use state::State;
 use state::Upper;
 
 // A byte string at a place. This and every function below that writes gives back where its text ends.
-fn put(out: &mut [u8], at: usize, text: &[u8]) -> usize
+pub fn put(out: &mut [u8], at: usize, text: &[u8]) -> usize
     requires { ⌜ at + length (now text) ≤ length (now out) ⌝ }
     ensures { λ r. ⌜ Wrote (length (now (text .entry))) (now (out .entry)) (now (out .exit)) at r (now (text .entry)) ⌝ }
 {
@@ -62,7 +62,7 @@ fn decimal(out: &mut [u8], at: usize, n: u64) -> usize
 }
 
 // A byte string and a number behind it.
-fn labelled(out: &mut [u8], at: usize, label: &[u8], n: u64) -> usize
+pub fn labelled(out: &mut [u8], at: usize, label: &[u8], n: u64) -> usize
     requires { ⌜ at + (length (now label) + maxDecimal) ≤ length (now out) ⌝ }
     ensures { λ r. ⌜ Wrote (length (now (label .entry)) + maxDecimal) (now (out .entry)) (now (out .exit)) at r (now (label .entry) ++ decimalOf n) ⌝ }
 {

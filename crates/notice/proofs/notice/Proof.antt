@@ -1,0 +1,26 @@
+-- `notice::notice` meets its contract: two texts, one behind the other.
+use native.Mathlib.Omega.{arith}
+use borrow.Author.Needs.{needs}
+use Rattle.listing.specs.TextLaws.{wrote-then}
+use Rattle.notice.specs.Notice.{notice}
+use Rattle.notice.proofs.notice.Statement.{statement}
+use Rattle.notice.proofs.notice.Tie as tie
+
+refused-requires : tie.Need-refused-requires
+refused-requires c κs = search needs
+
+left-requires : tie.Need-left-requires
+left-requires c κs = search needs
+
+same-length : tie.Need-same-length
+same-length c = search needs
+
+returns : tie.Need-returns
+unfolding notice
+returns c =
+    let at-left = c .before .before in
+    let at-refused = at-left .before .before .before .before in
+    wrote-then (omega arith) (at-refused .refused .ensures) (at-left .left .ensures)
+
+pub notice-spec : {M : Type 1} → statement M
+notice-spec = tie.close (tie.spec refused-requires left-requires same-length returns)
