@@ -1,12 +1,12 @@
 // Propagation on one row: propagate.rs on the state of a row, and what a state takes from a guard or another row.
 ghost use mathlib.Core.Path.{_≡_};
-ghost use mathlib.Core.Bool.{false, not, _&&_};
+ghost use mathlib.Core.Bool.{cond, false, not, _&&_};
 ghost use Prim.Native.Nat.{_+_, _<_, _≤_, _^_};
 ghost use lib.ListN.{length, drop};
 ghost use mathlib.Core.List.{List};
 ghost use lib.Signed.{ltZ};
 ghost use Rattle.numeric.specs.Threshold.{Term, terms};
-ghost use Rattle.state.specs.State.{Figures, reached, limit};
+ghost use Rattle.state.specs.State.{Figures, reached, limit, withLower, withUpper};
 ghost use Rattle.queues.specs.Queue.{queue};
 ghost use Rattle.queues.specs.Marks.{Marks, marks, isDecided, decided, decide};
 ghost use Rattle.queues.specs.MarksLaws.{Waits};
@@ -500,13 +500,25 @@ pub struct Tightened {
     pub changed: bool,
 }
 
+// One state is lent and altered: its lower becomes the bound, or its upper.
+fn tighten(mut state: State, value: bool, bound: i64) -> State
+    ensures { λ r. ⌜ r ≡ cond value (withLower state bound) (withUpper state (Upper.Under bound)) ⌝ }
+{
+    if value {
+        state::raise_lower(&mut state, bound);
+    } else {
+        state::lower_upper(&mut state, bound);
+    }
+    state
+}
+
 // `threshold_guard` on its row's state: a sure guard raises lower to its bound, a never one lowers upper.
 pub fn guard_state(state: State, value: bool, bound: i64) -> Tightened
     ensures { λ r. ⌜ r ≡ guardState state value bound ⌝ }
 {
     if value {
         if state.needs_lower(bound) {
-            let raised = state.raise_lower(bound);
+            let raised = tighten(state, true, bound);
             return Tightened {
                 state: raised,
                 changed: true,
@@ -523,7 +535,7 @@ pub fn guard_state(state: State, value: bool, bound: i64) -> Tightened
             changed: false,
         };
     }
-    let lowered = state.lower_upper(bound);
+    let lowered = tighten(state, false, bound);
     Tightened {
         state: lowered,
         changed: true,
@@ -537,7 +549,7 @@ fn moved_lower(source: State, state: State, from: usize, to: usize) -> Tightened
     let lower = source.lower;
     if from <= to {
         if state.needs_lower(lower) {
-            let raised = state.raise_lower(lower);
+            let raised = tighten(state, true, lower);
             return Tightened {
                 state: raised,
                 changed: true,
@@ -565,7 +577,7 @@ fn moved_upper(source: State, before: Tightened, from: usize, to: usize) -> Tigh
             if state.upper_at_most(limit) {
                 return before;
             }
-            let lowered = state.lower_upper(limit);
+            let lowered = tighten(state, false, limit);
             Tightened {
                 state: lowered,
                 changed: true,

@@ -144,29 +144,6 @@ impl State {
         lower < bound
     }
 
-    pub fn raise_lower(self, bound: i64) -> State
-        ensures { λ r. ⌜ r ≡ withLower self bound ⌝ }
-    {
-        let mut next = self;
-        next.lower = bound;
-        next
-    }
-
-    pub fn lower_upper(self, bound: i64) -> State
-        ensures { λ r. ⌜ r ≡ withUpper self (Upper.Under bound) ⌝ }
-    {
-        State {
-            known: self.known,
-            possible: self.possible,
-            lower: self.lower,
-            upper: Upper::Under(bound),
-            sure_guard: self.sure_guard,
-            never_guard: self.never_guard,
-            true_term: self.true_term,
-            false_term: self.false_term,
-        }
-    }
-
     pub fn with_guards(self, sure_guard: usize, never_guard: usize) -> State
         ensures { λ r. ⌜ r ≡ withGuards self «sure_guard» «never_guard» ⌝ }
     {
@@ -200,4 +177,18 @@ impl State {
         next.possible = possible - weight as i64;
         next
     }
+}
+
+// `threshold_guard` raises lower: the state is lent and altered.
+pub fn raise_lower(state: &mut State, bound: i64)
+    ensures { λ _. ⌜ now (state .exit) ≡ withLower (now (state .entry)) bound ⌝ }
+{
+    state.lower = bound;
+}
+
+// `threshold_guard` lowers upper: the state is lent and altered.
+pub fn lower_upper(state: &mut State, bound: i64)
+    ensures { λ _. ⌜ now (state .exit) ≡ withUpper (now (state .entry)) (Upper.Under bound) ⌝ }
+{
+    state.upper = Upper::Under(bound);
 }

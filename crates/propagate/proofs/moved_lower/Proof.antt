@@ -10,15 +10,15 @@ use Rattle.propagate.proofs.moved_lower.Tie as tie
 needs-lower-requires : tie.Need-needs-lower-requires
 needs-lower-requires c κs = search needs
 
-raise-lower-requires : tie.Need-raise-lower-requires
-raise-lower-requires c κs = search needs
+tighten-requires : tie.Need-tighten-requires
+tighten-requires c κs = search needs
 
 returns : tie.Need-returns
 returns c =
     let a = c .before .before .before .before .before .args in
     let hl : toZ w64 (ofZ w64 (a .source .lower)) ≡ a .source .lower = search needs in
-    lower-moves (a .source) (a .state) (a .from) (a .to) (c .before .before .before .if1 .taken) (sym (simp hl at (c .before .before .needs-lower .ensures)) ∙ c .before .if2 .taken) (c .raise-lower .result)
-    (simp hl at (c .raise-lower .ensures))
+    lower-moves (a .source) (a .state) (a .from) (a .to) (c .before .before .before .if1 .taken) (sym (simp hl at (c .before .before .needs-lower .ensures)) ∙ c .before .if2 .taken) (c .tighten .result)
+    (simp hl at (c .tighten .ensures))
 
 returns-2 : tie.Need-returns-2
 returns-2 c =
@@ -31,4 +31,4 @@ returns-3 c = let a = c .before .before .args in lower-not (a .source) (a .state
 
 pub moved-lower-spec : {M : Type 1} → statement M
 moved-lower-spec =
-    tie.close (tie.spec needs-lower-requires raise-lower-requires returns returns-2 returns-3)
+    tie.close (tie.spec needs-lower-requires tighten-requires returns returns-2 returns-3)

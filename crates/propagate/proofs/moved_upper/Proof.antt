@@ -26,8 +26,8 @@ returns-2 c =
     let hu : toZ w64 (ofZ w64 (u .0 .0)) ≡ u .0 .0 = search needs in
     upper-stays (a .source) (a .before) (a .from) (a .to) (c .before .before .before .before .before .before .if1 .left) (u .0 .0) (u .1) (sym (simp hu at (c .before .upper-at-most .ensures)) ∙ c .if2 .taken)
 
-lower-upper-requires : tie.Need-lower-upper-requires
-lower-upper-requires c κs = search needs
+tighten-requires : tie.Need-tighten-requires
+tighten-requires c κs = search needs
 
 returns-3 : tie.Need-returns-3
 returns-3 c = let a = c .before .before .before .args in upper-none (a .source) (a .before) (a .from) (a .to) (c .before .before .if1 .left) (c .enum-told .given .1)
@@ -38,7 +38,7 @@ returns-4 c =
     let u = c .before .before .before .before .before .upper .given in
     let hu : toZ w64 (ofZ w64 (u .0 .0)) ≡ u .0 .0 = search needs in
     upper-moves (a .source) (a .before) (a .from) (a .to) (c .before .before .before .before .before .before .before .if1 .left) (u .0 .0) (u .1) (sym (simp hu at (c .before .before .upper-at-most .ensures)) ∙ c .before .if2 .left)
-    (c .lower-upper .result) (simp hu at (c .lower-upper .ensures))
+    (c .tighten .result) (simp hu at (c .tighten .ensures))
 
 pub moved-upper-spec : {M : Type 1} → statement M
 moved-upper-spec =
@@ -49,6 +49,6 @@ moved-upper-spec =
     enum-known-upper
     upper-at-most-requires
     returns-2
-    lower-upper-requires
+    tighten-requires
     returns-3
     returns-4)
