@@ -1,0 +1,228 @@
+"""Job files as document 01 has them: records, the job and marks that they give, its rows, the planner's listing.
+Shared by job, opb, judge and show. Nothing here is taken from the planner but the listing that it prints."""
+
+import collections
+import dataclasses
+import importlib.machinery
+import importlib.util
+import pathlib
+import struct
+import subprocess
+import sys
+
+ROOT = pathlib.Path(__file__).resolve().parent.parent
+PROGRAM = ROOT / "target/bin/planner_main"
+LONGEST = 65_536
+
+Kind = collections.namedtuple("Kind", "number name fields body")
+Record = collections.namedtuple("Record", "at kind values")
+Threshold = collections.namedtuple("Threshold", "node bound terms")
+Row = collections.namedtuple("Row", "terms guards total")
+
+KINDS = {kind.number: kind for kind in (
+    Kind(0x01, "header", ("nodes",), struct.Struct("<H")),
+    Kind(0x02, "threshold", ("node", "bound"), struct.Struct("<Hq")),
+    Kind(0x03, "term", ("condition", "weight"), struct.Struct("<HI")),
+    Kind(0x04, "seal", (), struct.Struct("<")),
+    Kind(0x05, "mark", ("node", "value"), struct.Struct("<HB")),
+    Kind(0x06, "settle", (), struct.Struct("<")),
+    Kind(0x07, "sift", (), struct.Struct("<")),
+    Kind(0x08, "area", ("condition", "area"), struct.Struct("<HI")),
+)}
+NAMED = {kind.name: kind for kind in KINDS.values()}
+
+REASONS = {
+    1: "the file ends inside this record",
+    2: "there is no record of this kind",
+    5: "its node is not below the node count",
+    6: "its node is not above that of the threshold before it",
+    7: "its bound is outside -2^52 to 2^52",
+    8: "its value is neither 0 nor 1",
+    9: "a record before it left no layout",
+    10: "the file is longer than 65,536 bytes",
+}
+LIMITS = {
+    "header": "a job has at most 4,096 nodes",
+    "threshold": "a job has at most 1,024 thresholds",
+    "term": "a threshold has at most 1,024 terms, and a job 4,096",
+    "area": "a threshold has at most 1,024 terms, and a job 4,096",
+    "settle": "a file has at most 64 settles and sifts",
+    "sift": "a file has at most 64 settles and sifts",
+}
+
+
+def split(data):
+    """The whole records of a file, and the offset from which on none can be read."""
+    found, at = [], 0
+    while at < len(data) and data[at] in KINDS:
+        kind = KINDS[data[at]]
+        end = at + 1 + kind.body.size
+        if end > len(data):
+            break
+        found.append(Record(at, kind, kind.body.unpack_from(data, at + 1)))
+        at = end
+    return found, at
+
+
+def words(record):
+    return " ".join(map(str, (record.kind.name, *record.values)))
+
+
+@dataclasses.dataclass
+class Job:
+    """What a file's records give, up to the first that is refused."""
+    nodes: int = None
+    thresholds: list = dataclasses.field(default_factory=list)
+    terms: int = 0
+    sealed: bool = False
+    marks: list = dataclasses.field(default_factory=list)
+    asked: int = 0
+    taken: list = dataclasses.field(default_factory=list)
+    refusal: tuple = None
+
+
+def read(data, before=None):
+    """The job of a file, or of its records before an offset. All checks of document 01 are made but that of
+    refusal 9, which hangs on what the planner answers: where it gave 9, `before` is that record's offset."""
+    job = Job()
+    if len(data) > LONGEST:
+        job.refusal = 10, 0
+        return job
+    found, end = split(data[:before])
+    for record in found:
+        number = refused(job, record)
+        if number:
+            job.refusal = number, record.at
+            return job
+        take(job, record)
+    if end < len(data[:before]):
+        job.refusal = (1 if data[end] in KINDS else 2), end
+    return job
+
+
+def refused(job, record):
+    """The number by which a whole record is refused, 0 if it is taken."""
+    name, values = record.kind.name, dict(zip(record.kind.fields, record.values))
+    node = values.get("node", values.get("condition"))
+    checks = (
+        (3, out_of_turn(job, name)),
+        (5, node is not None and node >= (job.nodes or 0)),
+        (6, name == "threshold" and job.thresholds and node <= job.thresholds[-1].node),
+        (7, abs(values.get("bound", 0)) > 2**52),
+        (8, values.get("value", 0) > 1),
+        (4, too_many(job, name, values.get("nodes", 0))),
+    )
+    return next((number for number, applies in checks if applies), 0)
+
+
+def out_of_turn(job, name):
+    if name == "header" or job.nodes is None:
+        return name != "header" or job.nodes is not None
+    if name in ("term", "area"):
+        return job.sealed or not job.thresholds
+    return job.sealed == (name in ("threshold", "seal"))
+
+
+def too_many(job, name, nodes):
+    if name in ("term", "area"):
+        return job.terms >= 4096 or job.thresholds and len(job.thresholds[-1].terms) >= 1024
+    if name in ("settle", "sift"):
+        return job.asked >= 64
+    return nodes > 4096 or name == "threshold" and len(job.thresholds) >= 1024
+
+
+def reason(number, job, name):
+    """Why a record of this name is refused, in words; the job is what the records before it give."""
+    if number == 4:
+        return LIMITS[name]
+    if number != 3:
+        return REASONS[number]
+    if name == "header" or job.nodes is None:
+        return "the header stands first, and nowhere else"
+    if job.sealed:
+        return "the job is sealed, and nothing can join it"
+    return "no threshold is open" if name in ("term", "area") else "the job is not sealed yet"
+
+
+def take(job, record):
+    name, values = record.kind.name, record.values
+    job.taken.append(record)
+    if name == "header":
+        job.nodes = values[0]
+    elif name == "threshold":
+        job.thresholds.append(Threshold(*values, []))
+    elif name in ("term", "area"):
+        job.thresholds[-1].terms.append((values[0], values[1] if name == "term" else (values[1] + 50) // 100))
+        job.terms += 1
+    elif name == "seal":
+        job.sealed = True
+    elif name == "mark":
+        job.marks.append(values)
+    else:
+        job.asked += 1
+
+
+def merged(terms):
+    """Terms of one row: equal conditions added up, no zeros, by weight falling, then condition rising."""
+    sums = collections.Counter()
+    for condition, weight in terms:
+        sums[condition] += weight
+    return sorted(((node, weight) for node, weight in sums.items() if weight), key=lambda term: (-term[1], term[0]))
+
+
+def rows(job):
+    """Rows by first use: thresholds whose raw lists are equal share one. Guards are (bound, node), rising."""
+    shared = {}
+    for threshold in job.thresholds:
+        shared.setdefault(tuple(threshold.terms), []).append((threshold.bound, threshold.node))
+    return [Row(merged(terms), sorted(guards), sum(weight for _, weight in terms)) for terms, guards in shared.items()]
+
+
+@dataclasses.dataclass
+class Listing:
+    """What the planner printed of a file: answers in words, nodes by value, rows by their four figures."""
+    answers: list = dataclasses.field(default_factory=list)
+    nodes: dict = dataclasses.field(default_factory=dict)
+    rows: list = dataclasses.field(default_factory=list)
+    refusal: tuple = None
+
+
+def listing(text):
+    listed = Listing()
+    for line in text.splitlines():
+        word, *rest = line.split(" ")
+        if word in ("settle", "sift"):
+            listed.answers.append((word, *rest))
+        elif word == "node":
+            listed.nodes[int(rest[0])] = rest[1] == "sure"
+        elif word == "row":
+            listed.rows.append(tuple(None if figure == "-" else int(figure) for figure in rest[1:]))
+        elif word == "refused":
+            listed.refusal = int(rest[0]), int(rest[2])
+    return listed
+
+
+def run(program, data):
+    """The listing that a program prints of a file."""
+    try:
+        done = subprocess.run([program], input=data, stdout=subprocess.PIPE)
+    except OSError as error:
+        sys.exit(f"{program}: {error.strerror}. Another program is named by --program, as oracle/target/release/oracle.")
+    if done.returncode:
+        sys.exit(f"{program} ended with status {done.returncode}")
+    return done.stdout.decode("ascii")
+
+
+def contradicted(job, listed):
+    """Whether the listing shows that no layout is left: by an answer, by refusal 9, or by a last mark that did not hold."""
+    marked = job.taken and job.taken[-1].kind.name == "mark" and job.taken[-1].values
+    return (any(answer[1] == "contradiction" for answer in listed.answers) or bool(listed.refusal and listed.refusal[0] == 9)
+            or bool(marked and listed.nodes.get(marked[0]) != (marked[1] == 1)))
+
+
+def tool(name):
+    """Another tool of this folder as a module."""
+    loader = importlib.machinery.SourceFileLoader(name, str(pathlib.Path(__file__).with_name(name)))
+    module = importlib.util.module_from_spec(importlib.util.spec_from_loader(name, loader))
+    loader.exec_module(module)
+    return module
