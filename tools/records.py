@@ -51,6 +51,14 @@ LIMITS = {
 }
 
 
+def load(name):
+    """The bytes of a file, or of standard input where none is named."""
+    try:
+        return pathlib.Path(name).read_bytes() if name else sys.stdin.buffer.read()
+    except OSError as error:
+        sys.exit(f"{name}: {error.strerror}")
+
+
 def split(data):
     """The whole records of a file, and the offset from which on none can be read."""
     found, at = [], 0
