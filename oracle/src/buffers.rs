@@ -33,8 +33,7 @@ fn call(run: &Run) -> Element {
         run.refusal.map_or((0, run.length), |(number, at)| (usize::from(number), at));
     let sealed = usize::from(run.planner.is_some());
     let rows = run.planner.as_ref().map_or(0, Planner::row_count);
-    let last =
-        run.notes.iter().rev().find_map(|note| note.answer).map_or(0, |answer| answer as usize);
+    let last = run.last as usize;
     numbers([refused, at, sealed, run.header.unwrap_or(0), rows, run.answers.len(), last])
 }
 

@@ -77,22 +77,34 @@ pub struct Note {
     pub events: Vec<Event>,
 }
 
-/// A whole file, run to its end or its refusal.
+/// A whole file, run to its end or its refusal; where `NOTED`, with a note of each record.
 #[derive(Default)]
-pub struct Run {
+pub struct Run<const NOTED: bool = true> {
     pub length: usize,
     pub header: Option<usize>,
     pub thresholds: Vec<RawThreshold>,
     pub terms: usize,
-    pub planner: Option<Planner>,
+    pub planner: Option<Planner<NOTED>>,
     /// Settles and sifts; a sift has visits.
     pub answers: Vec<(Answer, Option<u64>)>,
+    /// What the last seal, mark, settle or sift answered, Unchanged before any.
+    pub last: Answer,
     pub contradicted: bool,
     pub refusal: Option<(u8, usize)>,
     pub notes: Vec<Note>,
 }
 
 pub fn run(input: &[u8]) -> Run {
+    run_file(input)
+}
+
+/// The same work with nothing noted, as a program that only plans would do it, for measurements. The job's
+/// thresholds are handed on to the planner.
+pub fn plan(input: &[u8]) -> Run<false> {
+    run_file(input)
+}
+
+fn run_file<const NOTED: bool>(input: &[u8]) -> Run<NOTED> {
     let mut run = Run { length: input.len(), ..Run::default() };
     if input.len() > INPUT {
         run.refusal = Some((10, 0));
@@ -101,10 +113,13 @@ pub fn run(input: &[u8]) -> Run {
     let mut at = 0;
     while at < input.len() {
         let record = read_record(input[at], &input[at + 1..]);
-        let found = run.refusals(input[at], record.as_ref());
-        let first = found.first().copied();
-        run.note(at, input[at], record, found);
-        if let Some(number) = first {
+        let checks = run.checks(input[at], record.as_ref());
+        let first = checks.iter().find(|(_, applies)| *applies);
+        if NOTED {
+            let found = checks.iter().filter(|(_, applies)| *applies);
+            run.note(at, input[at], record, found.map(|&(number, _)| number).collect());
+        }
+        if let Some(&(number, _)) = first {
             run.refusal = Some((number, at));
             break;
         }
@@ -114,12 +129,12 @@ pub fn run(input: &[u8]) -> Run {
     run
 }
 
-impl Run {
-    /// Every refusal that applies to a record, in the order of the table. A
-    /// check whose field is missing or has nothing to be held against is left out.
-    fn refusals(&self, kind: u8, record: Option<&Record>) -> Vec<u8> {
+impl<const NOTED: bool> Run<NOTED> {
+    /// Every refusal and whether it applies to a record, in the order of the table. A
+    /// check whose field is missing or has nothing to be held against does not.
+    fn checks(&self, kind: u8, record: Option<&Record>) -> [(u8, bool); 9] {
         let known = body_length(kind).is_some();
-        let checks = [
+        [
             (2, !known),
             (1, known && record.is_none()),
             (3, self.out_of_turn(kind)),
@@ -129,8 +144,7 @@ impl Run {
             (7, record.is_some_and(bound_outside)),
             (8, matches!(record, Some(Record::Mark { value, .. }) if *value > 1)),
             (4, self.past_counts(kind, record)),
-        ];
-        checks.iter().filter(|(_, applies)| *applies).map(|&(number, _)| number).collect()
+        ]
     }
 
     fn out_of_turn(&self, kind: u8) -> bool {
@@ -202,7 +216,12 @@ impl Run {
             Record::Area { condition, area } => self.term(condition, area_weight(area)),
             Record::Seal => {
                 let nodes = self.header.expect("the turn was checked");
-                self.planner = Some(Planner::new(nodes, self.thresholds.clone()));
+                let thresholds = if NOTED {
+                    self.thresholds.clone()
+                } else {
+                    std::mem::take(&mut self.thresholds)
+                };
+                self.planner = Some(Planner::new(nodes, thresholds));
                 self.work(|planner| (planner.seal(), None));
             }
             Record::Mark { node, value } => {
@@ -232,17 +251,20 @@ impl Run {
     /// Let the planner work and enter what it did into the record's note.
     fn work(
         &mut self,
-        act: impl FnOnce(&mut Planner) -> (Answer, Option<u64>),
+        act: impl FnOnce(&mut Planner<NOTED>) -> (Answer, Option<u64>),
     ) -> (Answer, Option<u64>) {
         let planner = self.planner.as_mut().expect("the turn was checked");
         let before: [usize; 3] = std::array::from_fn(|queue| planner.taken[queue].len());
         let (answer, visits) = act(planner);
-        let note = self.notes.last_mut().expect("noted before it is accepted");
-        note.answer = Some(answer);
-        note.visits = visits;
-        note.decided[1] = planner.counts();
-        note.taken = std::array::from_fn(|queue| planner.taken[queue].len() - before[queue]);
-        note.events = std::mem::take(&mut planner.events);
+        if NOTED {
+            let note = self.notes.last_mut().expect("noted before it is accepted");
+            note.answer = Some(answer);
+            note.visits = visits;
+            note.decided[1] = planner.counts();
+            note.taken = std::array::from_fn(|queue| planner.taken[queue].len() - before[queue]);
+            note.events = std::mem::take(&mut planner.events);
+        }
+        self.last = answer;
         self.contradicted |= answer == Answer::Contradiction;
         (answer, visits)
     }

@@ -1,5 +1,6 @@
 //! Document 01's draining, settling and sifting around the original functions.
-//! Each step is noted as an event, for traces and for the coverage report.
+//! Where `NOTED`, each step is noted as an event, for traces and for the coverage
+//! report; else nothing is done but the work itself, for measurements.
 
 use super::inert::Free;
 use super::thresholds::{State, Thresholds};
@@ -12,8 +13,9 @@ use crate::words::Words;
 use crate::{Failure, RawThreshold, Theory};
 
 /// `Step`, for readers outside; strongest last.
-#[derive(Clone, Copy, Debug, PartialEq, Eq, PartialOrd, Ord)]
+#[derive(Clone, Copy, Debug, Default, PartialEq, Eq, PartialOrd, Ord)]
 pub enum Answer {
+    #[default]
     Unchanged,
     Changed,
     Contradiction,
@@ -88,13 +90,15 @@ struct Idle {
     progress: support::Progress,
 }
 
-pub struct Planner {
+pub struct Planner<const NOTED: bool = true> {
     theory: Theory,
     index: Narrower,
     sure: Vec<u64>,
     never: Vec<u64>,
     states: Box<[State]>,
     lists: CommonScratch,
+    /// How many entries in front of the node, row and residual queue are taken.
+    heads: [usize; 3],
     idle: Idle,
     /// Entries taken so far from the node, row and residual queues, oldest first.
     pub taken: [Vec<usize>; 3],
@@ -117,7 +121,7 @@ pub struct RowView {
 
 type Outcome = Result<Step, Failure<std::convert::Infallible>>;
 
-impl Planner {
+impl<const NOTED: bool> Planner<NOTED> {
     /// Build the rows by the original's `prepare`, with no chains.
     pub fn new(nodes: usize, raw: Vec<RawThreshold>) -> Self {
         let theory = Theory::of_job(nodes, raw);
@@ -135,6 +139,7 @@ impl Planner {
             never: vec![0; mask_words(nodes)],
             states,
             lists,
+            heads: [0; 3],
             idle: Idle::default(),
             taken: std::array::from_fn(|_| Vec::new()),
             gcds: Vec::new(),
@@ -174,12 +179,28 @@ impl Planner {
         };
         let step = run(&mut closure, &self.index, &self.theory, meter)
             .expect("the meter never stops and the limits leave no overflow");
-        let lists = &self.lists;
-        let waiting = [lists.nodes.len(), lists.threshold_rows.len(), lists.residual_rows.len()];
-        for (most, now) in self.most.iter_mut().zip(waiting) {
-            *most = now.max(*most);
+        if NOTED {
+            let [rows, residuals] = self.waiting_rows().map(<[usize]>::len);
+            let waiting = [self.waiting_nodes().len(), rows, residuals];
+            for (most, now) in self.most.iter_mut().zip(waiting) {
+                *most = now.max(*most);
+            }
         }
         step
+    }
+
+    /// Enter a step into the events.
+    fn note(&mut self, event: impl FnOnce() -> Event) {
+        if NOTED {
+            self.events.push(event());
+        }
+    }
+
+    /// Enter what was taken from a queue.
+    fn took(&mut self, queue: usize, entry: usize) {
+        if NOTED {
+            self.taken[queue].push(entry);
+        }
     }
 
     fn step(
@@ -248,22 +269,22 @@ impl Planner {
     }
 
     fn next_node(&mut self) -> Option<(usize, bool)> {
-        let entry = take_oldest(&mut self.lists.nodes)?;
-        self.taken[0].push(entry.0);
+        let entry = take_oldest(&mut self.lists.nodes, &mut self.heads[0])?;
+        self.took(0, entry.0);
         Some(entry)
     }
 
     fn next_row(&mut self) -> Option<usize> {
-        let row = take_oldest(&mut self.lists.threshold_rows)?;
+        let row = take_oldest(&mut self.lists.threshold_rows, &mut self.heads[1])?;
         self.lists.pending_thresholds.remove(row);
-        self.taken[1].push(row);
+        self.took(1, row);
         Some(row)
     }
 
     fn next_residual(&mut self) -> Option<usize> {
-        let row = take_oldest(&mut self.lists.residual_rows)?;
+        let row = take_oldest(&mut self.lists.residual_rows, &mut self.heads[2])?;
         self.lists.pending_residuals.remove(row);
-        self.taken[2].push(row);
+        self.took(2, row);
         Some(row)
     }
 
@@ -271,7 +292,7 @@ impl Planner {
     fn node(&mut self, node: usize, value: bool) -> Step {
         let mut step = Step::Unchanged;
         let mut guard = None;
-        let touched = self.index.thresholds.incidences_of(node);
+        let touched = if NOTED { self.incidences_of(node) } else { Vec::new() };
         if let Some(bound) = self.theory.bound(node) {
             step = self.step(|closure, index, theory, work| {
                 closure.threshold_guard(index, theory, node, bound, None, work)
@@ -291,7 +312,7 @@ impl Planner {
             step = step.join(one);
         }
         let rows = touched.len();
-        self.events.push(Event::Node { node, sure: value, guard, condition, rows, reached });
+        self.note(|| Event::Node { node, sure: value, guard, condition, rows, reached });
         step
     }
 
@@ -306,7 +327,7 @@ impl Planner {
     }
 
     fn prefixes(&mut self, row: usize) -> Step {
-        let targets = self.index.thresholds.links(row).to_vec();
+        let targets = if NOTED { self.index.thresholds.links(row).to_vec() } else { Vec::new() };
         let before: Vec<State> = targets.iter().map(|&target| self.states[target]).collect();
         let step =
             self.step(|closure, index, _, work| closure.threshold_prefixes(index, row, work));
@@ -321,16 +342,21 @@ impl Planner {
                 moved.push(Moved { target, lower, upper, equal });
             }
         }
-        self.events.push(Event::Prefixes { row, answer: step.into(), moved });
+        self.note(|| Event::Prefixes { row, answer: step.into(), moved });
         step
     }
 
     fn residual(&mut self, row: usize) -> Step {
+        let run = |planner: &mut Self| {
+            planner.step(|closure, index, _, work| closure.threshold_residual(index, row, work))
+        };
+        if !NOTED {
+            return run(self);
+        }
         let before = self.counts();
         // Taken away for the moment, to see whether the call builds it anew.
         let suffix = std::mem::take(&mut self.lists.residual_suffix);
-        let step =
-            self.step(|closure, index, _, work| closure.threshold_residual(index, row, work));
+        let step = run(self);
         let branches = !self.lists.residual_suffix.is_empty();
         if branches {
             let made: Vec<u64> = self.suffix().iter().map(|&gcd| gcd as u64).collect();
@@ -340,7 +366,7 @@ impl Planner {
             self.lists.residual_suffix = suffix;
         }
         let after = self.counts();
-        self.events.push(Event::Residual {
+        self.note(|| Event::Residual {
             row,
             answer: step.into(),
             branches,
@@ -353,33 +379,43 @@ impl Planner {
     /// Each search starts with fresh words. It began exactly if it took a visit.
     fn search(&mut self, row: usize, last: &mut u64) -> Step {
         self.lists.possible_sums = Words::default();
+        let mut meter = Meter::new();
+        let step = self.call(&mut meter, |closure, index, _, work| {
+            closure.threshold_possible_sums(index, row, work)
+        });
+        if meter.visits > 0 {
+            *last = meter.visits;
+        }
+        if NOTED {
+            self.searched(row, step.into(), &meter);
+        }
+        step
+    }
+
+    /// Enter a search, which decides nothing: rows and masks are as it met them.
+    fn searched(&mut self, row: usize, answer: Answer, meter: &Meter<'_, Free>) {
         let (known, possible, lower, upper) = self.states[row].figures();
         let interval = lower > known && upper.is_some_and(|upper| upper <= possible);
         let terms = self.index.thresholds.rows[row].terms.iter();
         let decided = terms.clone().any(|term| self.decided(term.0).is_some());
         let heavy = upper.is_some_and(|top| terms.clone().any(|term| term.1 >= top - known));
-        let mut meter = Meter::new();
-        let step = self.call(&mut meter, |closure, index, _, work| {
-            closure.threshold_possible_sums(index, row, work)
-        });
         let words = self.lists.possible_sums.capacity();
-        if meter.visits > 0 {
-            *last = meter.visits;
+        let (visits, cut_short) = (meter.visits, meter.cut_short);
+        if visits > 0 {
             // An allocator that hands out more than asked would be noticed here.
             let wanted = upper.map(|upper| (upper - known - 1) / 64 + 1);
             assert_eq!(wanted, Some(words as i128), "words of the plan");
         }
-        self.events.push(Event::Search {
+        self.note(|| Event::Search {
             row,
-            answer: step.into(),
+            answer,
             words,
-            visits: meter.visits,
-            cut_short: meter.cut_short,
+            visits,
+            cut_short,
             interval,
             decided,
             heavy,
         });
-        step
     }
 
     /// The numbers of sure and of never nodes.
@@ -435,11 +471,11 @@ impl Planner {
 
     /// Waiting nodes, rows and residual rows, oldest first.
     pub fn waiting_nodes(&self) -> &[(usize, bool)] {
-        &self.lists.nodes
+        &self.lists.nodes[self.heads[0]..]
     }
 
     pub fn waiting_rows(&self) -> [&[usize]; 2] {
-        [&self.lists.threshold_rows, &self.lists.residual_rows]
+        [&self.lists.threshold_rows[self.heads[1]..], &self.lists.residual_rows[self.heads[2]..]]
     }
 
     /// The suffix gcds of the last residual that built them.
@@ -448,6 +484,13 @@ impl Planner {
     }
 }
 
-fn take_oldest<T>(queue: &mut Vec<T>) -> Option<T> {
-    if queue.is_empty() { None } else { Some(queue.remove(0)) }
+/// The original's queues are plain lists; what is taken leaves them at the latest when half of a list is.
+fn take_oldest<T: Copy>(queue: &mut Vec<T>, head: &mut usize) -> Option<T> {
+    let entry = *queue.get(*head)?;
+    *head += 1;
+    if *head * 2 >= queue.len() {
+        queue.drain(..*head);
+        *head = 0;
+    }
+    Some(entry)
 }

@@ -103,27 +103,40 @@ pub(in crate::regions) mod founded {
 pub(in crate::regions) mod adjacency {
     use crate::Stop;
 
-    /// Lists per source, edges in the order given.
+    /// All lists in one, edges in the order given, and where the list of each source ends.
     #[derive(Clone, Debug)]
-    pub(in crate::regions) struct Adjacency(Vec<Vec<usize>>);
+    pub(in crate::regions) struct Adjacency {
+        targets: Vec<usize>,
+        ends: Vec<usize>,
+    }
 
     impl Adjacency {
         pub fn build(
             sources: usize,
-            edges: impl Iterator<Item = (usize, usize)>,
+            edges: impl Iterator<Item = (usize, usize)> + Clone,
         ) -> Result<Self, Stop> {
-            let mut lists = vec![Vec::new(); sources];
-            for (source, target) in edges {
-                lists[source].push(target);
+            let mut ends = vec![0; sources + 1];
+            for (source, _) in edges.clone() {
+                ends[source + 1] += 1;
             }
-            Ok(Self(lists))
+            for source in 0..sources {
+                ends[source + 1] += ends[source];
+            }
+            let mut targets = vec![0; ends[sources]];
+            // Each list grows from where the one before it ends to its own end.
+            for (source, target) in edges {
+                targets[ends[source]] = target;
+                ends[source] += 1;
+            }
+            Ok(Self { targets, ends })
         }
     }
 
     impl std::ops::Index<usize> for Adjacency {
         type Output = [usize];
         fn index(&self, source: usize) -> &[usize] {
-            &self.0[source]
+            let start = if source == 0 { 0 } else { self.ends[source - 1] };
+            &self.targets[start..self.ends[source]]
         }
     }
 }
