@@ -1,7 +1,7 @@
 -- What a program in another language gets of the call, what it gives back in numbers and every lent buffer, and of the listing.
 use Prim.Native.Nat.{ℕ}
 use mathlib.Core.Path.{_≡_}
-use mathlib.Core.Bool.{Bool, true, false, _&&_, _||_, not}
+use mathlib.Core.Bool.{Bool, true, false, cond, _&&_, _||_, not}
 use mathlib.Core.List.{List}
 use lib.Dec.{eqb, leb}
 use Rattle.memory.specs.Limits.{maxNodes, maxThresholds}
@@ -19,7 +19,7 @@ abbrev pub numbersOf : Out → Numbers
 numbersOf o = record {
   refused = o .refused;
   last = stepNumber (o .last);
-  sealed = o .sealed;
+  sealed = cond (o .sealed) 1 0;
   at = o .at;
   nodes = o .nodes;
   rows = o .rows;
@@ -40,7 +40,7 @@ exported o = export (numbersOf o) (o .work)
 
 -- What the call gave back, by its numbers and a step, and by its numbers alone.
 abbrev pub shownBy : Numbers → Step → Given
-shownBy r last = record { refused = r .refused; at = r .at; sealed = r .sealed; nodes = r .nodes; rows = r .rows; last = last; answered = r .answered }
+shownBy r last = record { refused = r .refused; at = r .at; sealed = not (eqb (r .sealed) 0); nodes = r .nodes; rows = r .rows; last = last; answered = r .answered }
 
 abbrev pub givenBy : Numbers → Given
 givenBy r = shownBy r (stepOf (r .last))
@@ -54,7 +54,7 @@ inRows r figures cursors = leb (r .nodes) maxNodes && leb (r .rows) maxThreshold
 
 unfoldable pub readable : Numbers → (out answers figures cursors sure never : ℕ) → Bool
 readable r out answers figures cursors sure never =
-    (leb maxListing out && leb (r .answered) 64 && leb (r .answered) answers) && (inMasks sure never && inRows r figures cursors || not (r .sealed))
+    (leb maxListing out && leb (r .answered) 64 && leb (r .answered) answers) && (inMasks sure never && inRows r figures cursors || eqb (r .sealed) 0)
     && (inMasks sure never || not (eqb (r .refused) 0))
 
 -- THE LISTING IS MADE if all of it can be read and written; else nothing is written.

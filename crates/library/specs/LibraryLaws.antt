@@ -2,7 +2,7 @@
 use Prim.Native.Nat.{ℕ, zero, suc, _≤_}
 use native.Mathlib.Omega.{arith}
 use mathlib.Core.Path.{_≡_, refl, sym, ap, ap₂, _∙_, subst}
-use mathlib.Core.Bool.{Bool, true, false, _&&_, _||_, not}
+use mathlib.Core.Bool.{Bool, true, false, cond, _&&_, _||_, not}
 use mathlib.Core.List.{List, [], _∷_}
 use lib.ListN.{length}
 use lib.IntN.{ℤ}
@@ -25,12 +25,13 @@ use Rattle.library.specs.Library.{Export, export, exported, shownBy, giv
 
 -- ---- the call
 
--- What the call gives back, with a number for its last step.
-abbrev told : Given → ℕ → Numbers
-told g last = record { refused = g .refused; last = last; sealed = g .sealed; at = g .at; nodes = g .nodes; rows = g .rows; answered = g .answered }
+-- What the call gives back, with numbers for its last step and whether it is sealed.
+abbrev told : Given → (last sealed : ℕ) → Numbers
+told g last sealed = record { refused = g .refused; last = last; sealed = sealed; at = g .at; nodes = g .nodes; rows = g .rows; answered = g .answered }
 
-pub exports : (g : Given) (last : ℕ) (w : Work) (o : Out) → last ≡ stepNumber (g .last) → gives g w ≡ o → export (told g last) w ≡ exported o
-exports g last w o e q = ap (λ (n : ℕ). export (told g n) w) e ∙ ap exported q
+pub exports : (g : Given) (last sealed : ℕ) (w : Work) (o : Out) → last ≡ stepNumber (g .last) → sealed ≡ cond (g .sealed) 1 0 → gives g w ≡ o
+    → export (told g last sealed) w ≡ exported o
+exports g last sealed w o e h q = ap₂ (λ (n m : ℕ). export (told g n m) w) e h ∙ ap exported q
 
 -- ---- the listing
 
@@ -38,6 +39,11 @@ or-not : (x s : Bool) → (x || not s) ≡ true → s ≡ true → x ≡ true
 or-not true s h e = refl
 or-not false true h e = h
 or-not false false h e = e
+
+or-left : (x s : Bool) → (x || s) ≡ true → not s ≡ true → x ≡ true
+or-left true s h e = refl
+or-left false true h e = e
+or-left false false h e = h
 
 states-long : (fs : List (List ℤ)) (cs : List (List ℕ)) (n : ℕ) → n ≤ length fs → n ≤ length cs → n ≤ length (statesOf fs cs)
 unfolding statesOf
@@ -83,14 +89,14 @@ module _ (r : Numbers) (answers : List (List ℕ)) (fs : List (List ℤ)) (cs : 
     tested : test ≡ true → Listable (shownBy r last) answers (statesOf fs cs) sure never × (maxListing ≤ length out)
     unfolding readable
     tested h =
-        let b = both (counted && (masks && rows || not (r .sealed))) (masks || not (eqb (r .refused) 0)) h in
-        let a = both counted (masks && rows || not (r .sealed)) (b .0) in
+        let b = both (counted && (masks && rows || eqb (r .sealed) 0)) (masks || not (eqb (r .refused) 0)) h in
+        let a = both counted (masks && rows || eqb (r .sealed) 0) (b .0) in
         let d = both _ (leb (r .answered) (length answers)) (a .0) in
         let c = both (leb maxListing (length out)) (leb (r .answered) 64) (d .0) in (
           record {
             few = leb-true (r .answered) 64 (c .1);
             in-answers = leb-true (r .answered) (length answers) (d .1);
-            sealed = λ s. sealed-so (or-not (masks && rows) (r .sealed) (a .1) s);
+            sealed = λ s. sealed-so (or-left (masks && rows) (eqb (r .sealed) 0) (a .1) s);
             ended = λ z. in-masks (or-not masks (eqb (r .refused) 0) (b .1) (eq-eqb (r .refused) 0 z));
           },
           leb-true maxListing (length out) (c .0),

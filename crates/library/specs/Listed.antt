@@ -3,7 +3,7 @@
 use Prim.Native.Nat.{ℕ, _≤_}
 use native.Mathlib.Omega.{arith}
 use mathlib.Core.Path.{_≡_, refl, sym, ap, ap₂, _∙_, subst}
-use mathlib.Core.Bool.{Bool, true, false, _&&_, _||_, not}
+use mathlib.Core.Bool.{Bool, true, false, cond, _&&_, _||_, not}
 use mathlib.Core.List.{List}
 use lib.ListN.{length, take}
 use lib.IntN.{ℤ}
@@ -33,8 +33,24 @@ step-back Unchanged = refl
 step-back Changed = refl
 step-back Contradiction = refl
 
+flag-back : (b : Bool) → not (eqb (cond b 1 0) 0) ≡ b
+flag-back true = refl
+flag-back false = refl
+
 given-back : (o : Out) → givenBy (numbersOf o) ≡ given o
-given-back o = ap (shownBy (numbersOf o)) (step-back (o .last))
+given-back o = λ i. record {
+  refused = o .refused;
+  at = o .at;
+  sealed = flag-back (o .sealed) i;
+  nodes = o .nodes;
+  rows = o .rows;
+  last = step-back (o .last) i;
+  answered = o .answered;
+}
+
+not-not : (b : Bool) → not b ≡ false → b ≡ true
+not-not true e = refl
+not-not false e = sym e
 
 or-true : (x y : Bool) → x ≡ true → (x || y) ≡ true
 or-true x y e = ap (λ (t : Bool). t || y) e
@@ -62,7 +78,7 @@ module _ (r : Numbers) (answers : List (List ℕ)) (fs : List (List ℤ)) (cs : 
   shown-ten e =
       let z : r .answered ≡ 0 = ap (λ (g : Given). g .answered) e in
       let counted = and-true (and-true (le-leb maxListing (length out) long) (le-leb (r .answered) 64 (omega (arith, z)))) (le-leb (r .answered) (length answers) (omega (arith, z))) in
-      and-true (and-true counted (or-other (masks && rows) (ap (λ (g : Given). not (g .sealed)) e))) (or-other masks (ap (λ (g : Given). not (eqb (g .refused) 0)) e))
+      and-true (and-true counted (or-other (masks && rows) (not-not (eqb (r .sealed) 0) (ap (λ (g : Given). g .sealed) e)))) (or-other masks (ap (λ (g : Given). not (eqb (g .refused) 0)) e))
 
   shown-held : (o : Outcome) → givenBy r ≡ givenOf o → Held o answers (statesOf fs cs) sure never → test ≡ true
   unfolding readable
@@ -76,7 +92,7 @@ module _ (r : Numbers) (answers : List (List ℕ)) (fs : List (List ℤ)) (cs : 
       let counted = and-true
       (and-true (le-leb maxListing (length out) long) (le-leb (r .answered) 64 (subst (λ (g : Given). g .answered ≤ 64) (sym e) (h .few-answers))))
       (le-leb (r .answered) (length answers) (subst (λ (g : Given). g .answered ≤ length answers) (sym e) (h .in-answers))) in
-      and-true (and-true counted (or-true (masks && rows) (not (r .sealed)) (and-true m n))) (or-true masks (not (eqb (r .refused) 0)) m)
+      and-true (and-true counted (or-true (masks && rows) (eqb (r .sealed) 0) (and-true m n))) (or-true masks (not (eqb (r .refused) 0)) m)
 
   shown-passes : (o : Outcome) → Shows o (givenBy r) answers (statesOf fs cs) sure never → test ≡ true
   shown-passes o (untouched e q) = shown-ten q

@@ -1,5 +1,6 @@
 // The library for programs in other languages: the call and its listing, exported for C. Neither requires anything of its caller.
 ghost use mathlib.Core.Path.{_≡_};
+ghost use mathlib.Core.Bool.{cond};
 ghost use lib.ListN.{length};
 ghost use Rattle.memory.specs.Buffers.{rawLists, raw, heldRows, built, kept, work};
 ghost use Rattle.between.specs.Numbers.{statesOf};
@@ -9,17 +10,26 @@ ghost use Rattle.library.specs.Library.{export, exported, givenBy, reada
 use files::Given;
 use state::Step;
 
-// What the call gives back, in numbers: the refusal (0 for none) and its offset; the last step; whether the job is sealed, its nodes and
-// rows, and how many answers there are.
+// What the call gives back, in numbers, so that every value of every byte is one: the refusal (0 for none) and its offset; the last step; 1
+// if the job is sealed, its nodes and rows, and how many answers there are.
 #[repr(C)]
 pub struct Numbers {
     pub refused: u8,
     pub last: u8,
-    pub sealed: bool,
+    pub sealed: u8,
     pub at: usize,
     pub nodes: usize,
     pub rows: usize,
     pub answered: usize,
+}
+
+fn flag(b: bool) -> u8
+    ensures { λ r. ⌜ r ≡ cond b 1 0 ⌝ }
+{
+    if b {
+        return 1;
+    }
+    0
 }
 
 // THE CALL, for C: each slice is a pointer and a number of elements.
@@ -83,7 +93,7 @@ pub extern "C" fn planner_run(
     Numbers {
         refused: given.refused,
         last: last.number(),
-        sealed: given.sealed,
+        sealed: flag(given.sealed),
         at: given.at,
         nodes: given.nodes,
         rows: given.rows,
@@ -124,7 +134,7 @@ fn readable(
         & (given.rows <= 1024)
         & (given.rows <= figures)
         & (given.rows <= cursors);
-    let stated = (masks & rows) | !given.sealed;
+    let stated = (masks & rows) | (given.sealed == 0);
     let ended = masks | (given.refused != 0);
     counted & stated & ended
 }
@@ -155,7 +165,7 @@ pub extern "C" fn planner_list(
         let shown = Given {
             refused: given.refused,
             at: given.at,
-            sealed: given.sealed,
+            sealed: given.sealed != 0,
             nodes: given.nodes,
             rows: given.rows,
             last: step(given.last),

@@ -13,10 +13,11 @@ step-requires c κs = search needs
 list-requires : tie.Need-list-requires
 list-requires c κs =
     let shown = c .before in
-    let test = shown .before .before in
+    let taken = shown .before .before in
+    let test = taken .before in
     let a = test .before .before .before .before .args in
     list-asks (a .given) (a .answers .now) (a .figures .now) (a .cursors .now) (a .sure .now) (a .never .now) (a .out .now) (shown .step .result) (test .readable .result)
-    (test .readable .ensures) (shown .before .if1 .taken)
+    (test .readable .ensures) (taken .if1 .taken)
 
 same-length : tie.Need-same-length
 same-length c = search needs
@@ -25,10 +26,11 @@ returns : tie.Need-returns
 returns c =
     let made = c .before .before in
     let shown = made .before .before in
-    let test = shown .before .before in
+    let taken = shown .before .before in
+    let test = taken .before in
     let a = test .before .before .before .before .args in
     lists-made (a .given) (a .answers .now) (a .figures .now) (a .cursors .now) (a .sure .now) (a .never .now) (a .out .now) (shown .step .result) (test .readable .result)
-    (test .readable .ensures) (shown .before .if1 .taken) (shown .step .ensures) (made .list .last .0) (made .list .result) (made .list .ensures)
+    (test .readable .ensures) (taken .if1 .taken) (shown .step .ensures) (made .list .last .0) (made .list .result) (made .list .ensures)
 
 returns-2 : tie.Need-returns-2
 returns-2 c =

@@ -6,8 +6,11 @@ use Rattle.library.specs.LibraryLaws.{exports}
 use Rattle.library.proofs.planner_run.Statement.{statement}
 use Rattle.library.proofs.planner_run.Tie as tie
 
-abbrev run-of : tie.After-number → tie.After-run
-run-of p = p .before .before .before .before .before .before .before .before .before .before .before .before .before .before .before .before .before .before .before .before .before .before .before .before .before .before .before .before .before .before .before .before .before
+abbrev number-of : tie.After-flag → tie.After-number
+number-of p = p .before
+
+abbrev run-of : tie.After-flag → tie.After-run
+run-of p = p .before .before .before .before .before .before .before .before .before .before .before .before .before .before .before .before .before .before .before .before .before .before .before .before .before .before .before .before .before .before .before .before .before .before
 
 abbrev start-of : tie.After-run → tie.Start
 start-of p = p .before .before .before .before .before .before .before .before .before .before .before .before .before .before .before .before .before .before .before .before .before .before .before .before .before .before .before .before .before .before .before .before .before .before
@@ -34,6 +37,9 @@ run-requires c κs = search needs
 
 number-requires : tie.Need-number-requires
 number-requires c κs = search needs
+
+flag-requires : tie.Need-flag-requires
+flag-requires c κs = search needs
 
 same-length : tie.Need-same-length
 same-length c = run-of c .run .kept .1 .0
@@ -102,7 +108,8 @@ returns : tie.Need-returns
 returns c =
     let r = run-of c .run in
     let s = start-of (run-of c) in
-    exports (r .result) (c .number .result) (after (run-of c)) (whole (s .args .input .now) (entry s)) (c .number .ensures) (r .ensures)
+    let n = number-of c .number in
+    exports (r .result) (n .result) (c .flag .result) (after (run-of c)) (whole (s .args .input .now) (entry s)) (n .ensures) (c .flag .ensures) (r .ensures)
 
 pub planner-run-spec : {M : Type 1} → statement M
 planner-run-spec =
@@ -110,6 +117,7 @@ planner-run-spec =
     (tie.spec
     run-requires
     number-requires
+    flag-requires
     same-length
     same-length-2
     same-length-3
