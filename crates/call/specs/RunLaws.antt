@@ -25,7 +25,7 @@ use Rattle.job.specs.Gathered.{jobIn}
 use Rattle.files.specs.declared.JobRead.{JobRead}
 use Rattle.files.specs.File.{File, standing, refusal, sealedFile, markedFile, settledFile, siftedFile, act, apply, Outcome, refusalAt, readFrom, fileOf}
 use Rattle.files.specs.FileLaws.{zero-or, read-on, read-stop}
-use Rattle.files.specs.Contents.{laid, served, untouched, whole}
+use Rattle.files.specs.Contents.{laid, served, untouched, whole, out}
 use Rattle.files.specs.JobPart.{JobPart, jobPartOf}
 use Rattle.files.specs.JobPartLaws.{file-goes-on, file-ends}
 use Rattle.files.specs.Held.{Room, HeldPart}
@@ -38,7 +38,7 @@ use Rattle.serve.specs.ReadLaws.{ended, taken-any, seal-goes}
 use Rattle.phases.specs.Phase.{BuiltRoom, KeptRoom, Blank, Stops, ending, Leaves}
 use Rattle.phases.specs.JobLaws.{job-ended, leaves-file}
 use Rattle.files.specs.declared.Given.{Given}
-use Rattle.call.specs.Call.{Builds, gives}
+use Rattle.call.specs.Call.{Builds}
 use Rattle.call.specs.CallLaws.{cleared-room}
 
 -- ---- a file from its seal on
@@ -153,7 +153,7 @@ long input w short e q = not-false (fits input w) (sym e ∙ q)
 abbrev none : Given
 none = record { refused = 10; at = 0; sealed = false; nodes = 0; rows = 0; last = Unchanged; answered = 0 }
 
-pub whole-none : (input : List ℕ) (w : Work) (short : Bool) → short ≡ not (fits input w) → short ≡ true → gives none w ≡ whole input w
+pub whole-none : (input : List ℕ) (w : Work) (short : Bool) → short ≡ not (fits input w) → short ≡ true → out none w ≡ whole input w
 unfolding whole
 whole-none input w short e q =
     ap (λ (b : Bool). elim b [ true ↦ served (fileOf input) w | false ↦ untouched w ]) (sym (not-true (fits input w) (sym e ∙ q)))
@@ -242,8 +242,8 @@ module _ (input : List ℕ) (w : Work) (yes-fits : fits input w ≡ true) (r : J
         answered = e .standing .answers;
       }
 
-      given-so : gives all (work (raw (rawLists cs ws ts) bs) b k) ≡ served (fileOf input) w
-      given-so = λ i. record {
+      given-so : out all (work (raw (rawLists cs ws ts) bs) b k) ≡ served (fileOf input) w
+      given-so = λ i. out (record {
         refused = leaves .refused i;
         at = leaves .at i;
         sealed = leaves .standing i .sealed;
@@ -251,10 +251,9 @@ module _ (input : List ℕ) (w : Work) (yes-fits : fits input w ≡ true) (r : J
         rows = rows-so i;
         last = leaves .last i;
         answered = leaves .standing i .answers;
-        work = work-so i;
-      }
+      }) (work-so i)
 
       -- THE WHOLE CALL
-      pub whole-all : gives all (work (raw (rawLists cs ws ts) bs) b k) ≡ whole input w
+      pub whole-all : out all (work (raw (rawLists cs ws ts) bs) b k) ≡ whole input w
       unfolding whole
       whole-all = given-so ∙ ap (λ (t : Bool). elim t [ true ↦ served (fileOf input) w | false ↦ untouched w ]) (sym yes-fits)

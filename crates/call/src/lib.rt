@@ -6,10 +6,10 @@ ghost use Rattle.memory.specs.Limits.{maxLinks};
 ghost use Rattle.memory.specs.Buffers.{rawLists, raw, heldRows, built, kept, work, clearRaw};
 ghost use Rattle.job.specs.Gathered.{jobIn, Gathered};
 ghost use Rattle.files.specs.JobPart.{jobPartOf};
-ghost use Rattle.files.specs.Contents.{whole};
+ghost use Rattle.files.specs.Contents.{out, whole};
 ghost use Rattle.files.specs.Held.{Room, HeldPart};
 ghost use Rattle.phases.specs.Phase.{BuiltRoom};
-ghost use Rattle.call.specs.Call.{Builds, gives};
+ghost use Rattle.call.specs.Call.{Builds};
 use files::Given;
 use files::JobRead;
 use state::Step;
@@ -110,7 +110,7 @@ pub fn run(
     row_queues: &mut [[u16; 4]],
     answers: &mut [[u16; 2]],
 ) -> Given
-    ensures { λ r. ⌜ gives r (work (raw (rawLists (now («raw_conditions» .exit)) (now («raw_weights» .exit)) (now (thresholds .exit))) (now (bounds .exit)))
+    ensures { λ r. ⌜ out r (work (raw (rawLists (now («raw_conditions» .exit)) (now («raw_weights» .exit)) (now (thresholds .exit))) (now (bounds .exit)))
         (built (heldRows (now («row_conditions» .exit)) (now («row_weights» .exit)) (now (rows .exit)) (now («guard_bounds» .exit)) (now («guard_nodes» .exit))) (now (nodes .exit)) (now (edges .exit)) (now (links .exit)))
         (kept (now (figures .exit)) (now (cursors .exit)) (now (sure .exit)) (now (never .exit)) (now (search .exit)) (now (gcds .exit)) (now («node_queue» .exit)) (now («row_queues» .exit)) (now (answers .exit))))
         ≡ whole (now (input .entry)) (work (raw (rawLists (now («raw_conditions» .entry)) (now («raw_weights» .entry)) (now (thresholds .entry))) (now (bounds .entry)))

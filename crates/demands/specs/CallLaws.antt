@@ -12,7 +12,6 @@ use lib.Seq.{getD-append-add, getD-drop}
 use lib.Dec.{eqb}
 use lib.IntN.{ℤ}
 use Rattle.lists.specs.Laid.{over}
-use Rattle.numeric.specs.Threshold.{Job}
 use Rattle.numeric.specs.Layout.{Layout, IsLayout}
 use Rattle.state.specs.declared.Step.{Step}
 use Rattle.state.specs.declared.Step.the-variants.{Unchanged, Changed, Contradiction}
@@ -28,13 +27,13 @@ use Rattle.records.specs.declared.Record.{Record}
 use Rattle.records.specs.declared.Record.the-variants.{Seal, Mark, Settle}
 use Rattle.files.specs.File.{File, contradicted, begun, settledFile, act, apply, after, planned}
 use Rattle.files.specs.FileLaws.{after-snoc}
-use Rattle.files.specs.Contents.{Out, served, untouched, whole, laid, keptOf}
-use Rattle.table.specs.Table.{Table, ReachesConflict, Ended}
+use Rattle.files.specs.Contents.{Out, served, whole, laid, keptOf}
+use Rattle.table.specs.Table.{Table, ReachesConflict}
 use Rattle.ends.specs.Built.{rows-few}
 use Rattle.ends.specs.Files.{both}
 use Rattle.follows.specs.Answers.{true-false}
 use Rattle.demands.specs.Reading.{Agrees, SameMarks, NoSift, decidedIn, decidedAnd, marksOnly, SameEnd, SameFigures, records, decoded, plainlyAll, Passes}
-use Rattle.demands.specs.Demands.{ExactlyTheTable, RowWords, SaysTable, SaysSame, CallIsTheTable}
+use Rattle.demands.specs.Demands.{ExactlyTheTable, SaysTable, SaysSame, CallIsTheTable}
 use Rattle.demands.specs.RefusalLaws.{taken, good, untouched-when, files}
 use Rattle.demands.specs.ForcedLaws as Forced
 use Rattle.demands.specs.SettleLaws as Settles
@@ -85,8 +84,8 @@ module _ (input : List ℕ) (w : Work) (fit : fits input w ≡ true) where
   gives : o ≡ served (planned input) w
   gives = files input w fit
 
-  pub last-is : o .last ≡ f .last
-  last-is = ap (λ (y : Out). y .last) gives
+  pub last-is : o .given .last ≡ f .last
+  last-is = ap (λ (y : Out). y .given .last) gives
 
   pub sure-is : (n : ℕ) → bit (o .work .kept .sure) n ≡ bit (f .live .marks .sure) n
   unfolding laid cleared clearKept keptOf
@@ -106,11 +105,11 @@ module _ (input : List ℕ) (w : Work) (fit : fits input w ≡ true) where
       ap (λ (y : Out). getD (getD (y .work .kept .cursors) r []) 4 0) gives
       ∙ ap (λ (l : List ℕ). getD l 4 0) (over-map cursorsOf (f .live .states) _ r noState [] h)
 
-  pub rows-are : o .rows ≡ cond (f .sealed) (length (rowsOf (f .closed))) 0
-  rows-are = ap (λ (y : Out). y .rows) gives
+  pub rows-are : o .given .rows ≡ cond (f .sealed) (length (rowsOf (f .closed))) 0
+  rows-are = ap (λ (y : Out). y .given .rows) gives
 
   -- every row has a state
-  pub row-held : (r : ℕ) → r < o .rows → (r < length (rowsOf (f .closed))) × (r < length (f .live .states))
+  pub row-held : (r : ℕ) → r < o .given .rows → (r < length (rowsOf (f .closed))) × (r < length (f .live .states))
   row-held r h = by (f .sealed) (subst (λ (n : ℕ). r < n) rows-are h)
     where
       by : (b : Bool) → r < cond b (length (rowsOf (f .closed))) 0 → (r < length (rowsOf (f .closed))) × (r < length (f .live .states))
@@ -133,10 +132,10 @@ step-not Changed h = refl
 step-not Contradiction h = absurd (h refl)
 
 -- where the call contradicts, its memory fits and the file contradicted
-broke : (input : List ℕ) (w : Work) → whole input w .last ≡ Contradiction → contradicted (planned input .file) ≡ true
+broke : (input : List ℕ) (w : Work) → whole input w .given .last ≡ Contradiction → contradicted (planned input .file) ≡ true
 broke input w e =
     ⊎-elim (λ (h : fits input w ≡ true). is-step (planned input .file .last) (sym (last-is input w h) ∙ e))
-    (λ (h : fits input w ≡ false). absurd (let q : Unchanged ≡ Contradiction = sym (ap (λ (y : Out). y .last) (untouched-when input w h)) ∙ e in both refl (ap contradicts (sym q))))
+    (λ (h : fits input w ≡ false). absurd (let q : Unchanged ≡ Contradiction = sym (ap (λ (y : Out). y .given .last) (untouched-when input w h)) ∙ e in both refl (ap contradicts (sym q))))
     (true-false (fits input w))
 
 -- ---- DEMAND 2
@@ -150,7 +149,7 @@ module _ (input : List ℕ) (w : Work) where
       → (n : ℕ) → bit (whole input w .work .kept .never) n ≡ true → v n ≡ false
   forced-never h v is a n e = Forced.forced-never input v is a n (sym (never-is input w h n) ∙ e)
 
-  pub no-layout : whole input w .last ≡ Contradiction → (v : Layout) → IsLayout (planned input .file .closed) v → Agrees (planned input .records) v → ⊥
+  pub no-layout : whole input w .given .last ≡ Contradiction → (v : Layout) → IsLayout (planned input .file .closed) v → Agrees (planned input .records) v → ⊥
   no-layout e v is a = Forced.no-layout input (broke input w e) v is a
 
 -- ---- DEMAND 3
@@ -160,11 +159,11 @@ ended-in : (input : List ℕ) (before : List Record) (r : Record) → planned in
 ended-in input before r e = taken input ∙ ap (after begun) e ∙ after-snoc begun before r
 
 module _ (input : List ℕ) (w : Work) (before : List Record) where
-  pub seals : planned input .records ≡ before ++ (Seal ∷ []) → whole input w .last ≡ Contradiction
+  pub seals : planned input .records ≡ before ++ (Seal ∷ []) → whole input w .given .last ≡ Contradiction
       → let f = after begun before in ReachesConflict (rowsOf (f .job)) (decidedIn f)
   seals e c = Settles.seals input before [] e (ap (λ (f : File). contradicted f) (sym (ended-in input before Seal e)) ∙ broke input w c)
 
-  pub marks : (n v : ℕ) → planned input .records ≡ before ++ (Mark n v ∷ []) → whole input w .last ≡ Contradiction
+  pub marks : (n v : ℕ) → planned input .records ≡ before ++ (Mark n v ∷ []) → whole input w .given .last ≡ Contradiction
       → let f = after begun before in ReachesConflict (rowsOf (f .closed)) (decidedAnd f n (eqb v 1))
   marks n v e c = Settles.marks input before [] n v e (ap (λ (f : File). contradicted f) (sym (ended-in input before (Mark n v) e)) ∙ broke input w c)
 
@@ -237,7 +236,7 @@ same-words x y v w h k s = record {
     g : File
     g = planned y .file
 
-    rows : whole x v .rows ≡ whole y w .rows
+    rows : whole x v .given .rows ≡ whole y w .given .rows
     rows = rows-are x v h ∙ (λ i. cond (s .sealed i) (length (rowsOf (s .closed i))) 0) ∙ sym (rows-are y w k)
 
     figures-same : (a b : State) → a .known ≡ b .known → a .possible ≡ b .possible → a .lower ≡ b .lower → a .upper ≡ b .upper → figuresOf a ≡ figuresOf b
@@ -246,14 +245,14 @@ same-words x y v w h k s = record {
 pub order-does-not-matter : (x y : List ℕ) (v w : Work) → fits x v ≡ true → fits y w ≡ true → (rs qs : List Record)
     → decoded x ≡ records (rs ++ (Settle ∷ [])) → decoded y ≡ records (qs ++ (Settle ∷ []))
     → Passes begun (rs ++ (Settle ∷ [])) → Passes begun (qs ++ (Settle ∷ []))
-    → (whole x v .refused ≡ 0) ⊎ (whole x v .refused ≡ 9) → (whole y w .refused ≡ 0) ⊎ (whole y w .refused ≡ 9)
+    → (whole x v .given .refused ≡ 0) ⊎ (whole x v .given .refused ≡ 9) → (whole y w .given .refused ≡ 0) ⊎ (whole y w .given .refused ≡ 9)
     → plainlyAll begun rs .job ≡ plainlyAll begun qs .job → SameMarks rs qs → NoSift rs → NoSift qs
-    → ((whole x v .last ≡ Contradiction) × (whole y w .last ≡ Contradiction)) ⊎ SaysSame (whole x v) (whole y w)
+    → ((whole x v .given .last ≡ Contradiction) × (whole y w .given .last ≡ Contradiction)) ⊎ SaysSame (whole x v) (whole y w)
 order-does-not-matter x y v w h k rs qs d g p q a b j m u n =
     ⊎-elim
     (λ (c : (contradicted (planned x .file) ≡ true) × (contradicted (planned y .file) ≡ true)). inl (last-is x v h ∙ step-is (planned x .file .last) (c .0), last-is y w k ∙ step-is (planned y .file .last) (c .1)))
     (λ (s : SameFigures (planned x .file) (planned y .file)). inr (same-words x y v w h k s))
     (Order.order-does-not-matter x y rs qs d g p q (refusal-is x v h a) (refusal-is y w k b) j m u n)
   where
-    refusal-is : (i : List ℕ) (z : Work) → fits i z ≡ true → (whole i z .refused ≡ 0) ⊎ (whole i z .refused ≡ 9) → (planned i .refused ≡ 0) ⊎ (planned i .refused ≡ 9)
-    refusal-is i z e r = subst (λ (n : ℕ). (n ≡ 0) ⊎ (n ≡ 9)) (ap (λ (y : Out). y .refused) (files i z e)) r
+    refusal-is : (i : List ℕ) (z : Work) → fits i z ≡ true → (whole i z .given .refused ≡ 0) ⊎ (whole i z .given .refused ≡ 9) → (planned i .refused ≡ 0) ⊎ (planned i .refused ≡ 9)
+    refusal-is i z e r = subst (λ (n : ℕ). (n ≡ 0) ⊎ (n ≡ 9)) (ap (λ (y : Out). y .given .refused) (files i z e)) r

@@ -21,7 +21,7 @@ use Rattle.row.specs.Terms.{rowTerms}
 use Rattle.thresholds.specs.Rows.{Row, rowsOf}
 use Rattle.possible_sums.specs.declared.Window.{Window}
 use Rattle.possible_sums.specs.declared.Plan.the-variants.{Planned}
-use Rattle.possible_sums.specs.declared.Search.the-variants.{Fits, Nothing, Cut}
+use Rattle.possible_sums.specs.declared.Search.the-variants.{Cut}
 use Rattle.possible_sums.specs.Search.{plan, search, searchStep, searchVisits, Lands}
 use Rattle.table.specs.Table.{Table, knownOf, possibleOf, Conflict, Run, steps, ReachesConflict, AtRest, Ended}
 use Rattle.regions.specs.Drain.{atRest}
@@ -29,26 +29,28 @@ use Rattle.records.specs.declared.Record.{Record}
 use Rattle.records.specs.declared.Record.the-variants.{Seal, Mark, Settle, Sift}
 use Rattle.files.specs.File.{File, contradicted, sifted, begun, apply, after, refusalAt, planned}
 use Rattle.memory.specs.Buffers.{Work, lengths, fits}
-use Rattle.files.specs.Contents.{Out, served, whole}
+use Rattle.files.specs.Contents.{Out, out, served, whole}
 use Rattle.ends.specs.Files.{Passed}
 use Rattle.demands.specs.Reading.{Marked, SameMarks, Agrees, NoSift, lastSearch, decidedIn, decidedAnd, marksOnly, SameEnd, SameFigures, records, decoded, plainlyAll, Passes}
 
 -- What the call gave, but for its refusal.
 abbrev pub accepted : Out → Out
-accepted o = record { refused = 0; at = o .at; sealed = o .sealed; nodes = o .nodes; rows = o .rows; last = o .last; answered = o .answered; work = o .work }
+accepted o =
+    let g = o .given in
+    out (record { refused = 0; at = g .at; sealed = g .sealed; nodes = g .nodes; rows = g .rows; last = g .last; answered = g .answered }) (o .work)
 
 -- DEMAND 1. The program as a whole takes each record or refuses it by one of ten numbers, and always ends. After a refused
 -- record all lent memory is as if the file had ended just before it. (That it makes every check itself is the public call's
 -- contract, which has no `requires`.)
 pub record Demand1 : Type 0 where
   -- 0 for no refusal, else one of ten
-  pub numbers : (input : List ℕ) (w : Work) → whole input w .refused ≤ 10
+  pub numbers : (input : List ℕ) (w : Work) → whole input w .given .refused ≤ 10
   -- a refusal other than 10: everything but the refusal is that of the file cut at its offset, which is accepted
-  pub refused : (input : List ℕ) (w : Work) → whole input w .refused ≢ 0 → whole input w .refused ≢ 10
-      → whole (take (whole input w .at) input) w ≡ accepted (whole input w)
+  pub refused : (input : List ℕ) (w : Work) → whole input w .given .refused ≢ 0 → whole input w .given .refused ≢ 10
+      → whole (take (whole input w .given .at) input) w ≡ accepted (whole input w)
   -- 10 is given exactly if a buffer is too short or the input too long; its offset is 0 and it touches nothing
-  pub ten : (input : List ℕ) (w : Work) → (whole input w .refused ≡ 10) ↔ (fits input w ≡ false)
-  pub ten-touches-nothing : (input : List ℕ) (w : Work) → whole input w .refused ≡ 10 → (whole input w .at ≡ 0) × (whole input w .work ≡ w)
+  pub ten : (input : List ℕ) (w : Work) → (whole input w .given .refused ≡ 10) ↔ (fits input w ≡ false)
+  pub ten-touches-nothing : (input : List ℕ) (w : Work) → whole input w .given .refused ≡ 10 → (whole input w .given .at ≡ 0) × (whole input w .work ≡ w)
   -- the records that were taken are those that the bytes before the offset spell; one after the other they make the file, and
   -- each passed all checks on what those before it left
   pub spelled : (input : List ℕ) → decoded (take (planned input .at) input) ≡ records (planned input .records)
@@ -131,24 +133,24 @@ pub record RowWords (o : Out) (r : ℕ) (known possible lower : ℤ) (upper : Up
 
 -- The masks and the words of all rows are those of a state of the table.
 pub record SaysTable (o : Out) (rows : List Row) (t : Table) : Type 0 where
-  pub many : o .rows ≡ length rows
+  pub many : o .given .rows ≡ length rows
   pub sure : (n : ℕ) → bit (o .work .kept .sure) n ≡ t .sure n
   pub never : (n : ℕ) → bit (o .work .kept .never) n ≡ t .never n
-  pub row : (r : ℕ) → r < o .rows → RowWords o r (knownOf rows t r) (possibleOf rows t r) (t .lower r) (t .upper r)
+  pub row : (r : ℕ) → r < o .given .rows → RowWords o r (knownOf rows t r) (possibleOf rows t r) (t .lower r) (t .upper r)
 
 -- Two calls leave equal masks and words of rows.
 pub record SaysSame (o p : Out) : Type 0 where
   pub sure : (n : ℕ) → bit (o .work .kept .sure) n ≡ bit (p .work .kept .sure) n
   pub never : (n : ℕ) → bit (o .work .kept .never) n ≡ bit (p .work .kept .never) n
-  pub rows : o .rows ≡ p .rows
-  pub figures : (r : ℕ) → r < o .rows → getD (o .work .kept .figures) r [] ≡ getD (p .work .kept .figures) r []
-  pub flags : (r : ℕ) → r < o .rows → getD (getD (o .work .kept .cursors) r []) 4 0 ≡ getD (getD (p .work .kept .cursors) r []) 4 0
+  pub rows : o .given .rows ≡ p .given .rows
+  pub figures : (r : ℕ) → r < o .given .rows → getD (o .work .kept .figures) r [] ≡ getD (p .work .kept .figures) r []
+  pub flags : (r : ℕ) → r < o .given .rows → getD (getD (o .work .kept .cursors) r []) 4 0 ≡ getD (getD (p .work .kept .cursors) r []) 4 0
 
 -- The call says Contradiction exactly if a run of the table reaches a conflict; else its words are those of every end.
 pub record CallIsTheTable (rows : List Row) (s : Table) (o : Out) : Type 0 where
-  pub contradicts : o .last ≡ Contradiction → ReachesConflict rows s
-  pub only-then : ReachesConflict rows s → o .last ≡ Contradiction
-  pub every-end : o .last ≢ Contradiction → (t : Table) → Ended rows s t → AtRest rows t × SaysTable o rows t
+  pub contradicts : o .given .last ≡ Contradiction → ReachesConflict rows s
+  pub only-then : ReachesConflict rows s → o .given .last ≡ Contradiction
+  pub every-end : o .given .last ≢ Contradiction → (t : Table) → Ended rows s t → AtRest rows t × SaysTable o rows t
 
 pub record Call : Type 0 where
   -- demand 2, of every input and all lent memory that fits
@@ -156,13 +158,13 @@ pub record Call : Type 0 where
       → (n : ℕ) → bit (whole input w .work .kept .sure) n ≡ true → v n ≡ true
   pub forced-never : (input : List ℕ) (w : Work) → fits input w ≡ true → (v : Layout) → IsLayout (planned input .file .closed) v → Agrees (planned input .records) v
       → (n : ℕ) → bit (whole input w .work .kept .never) n ≡ true → v n ≡ false
-  pub no-layout : (input : List ℕ) (w : Work) → whole input w .last ≡ Contradiction
+  pub no-layout : (input : List ℕ) (w : Work) → whole input w .given .last ≡ Contradiction
       → (v : Layout) → IsLayout (planned input .file .closed) v → Agrees (planned input .records) v → ⊥
   -- demand 3, of a file whose last record is a seal, a mark or a settle
   pub seals : (input : List ℕ) (w : Work) (before : List Record) → planned input .records ≡ before ++ (Seal ∷ [])
-      → whole input w .last ≡ Contradiction → let f = after begun before in ReachesConflict (rowsOf (f .job)) (decidedIn f)
+      → whole input w .given .last ≡ Contradiction → let f = after begun before in ReachesConflict (rowsOf (f .job)) (decidedIn f)
   pub marks : (input : List ℕ) (w : Work) (before : List Record) (n v : ℕ) → planned input .records ≡ before ++ (Mark n v ∷ [])
-      → whole input w .last ≡ Contradiction → let f = after begun before in ReachesConflict (rowsOf (f .closed)) (decidedAnd f n (eqb v 1))
+      → whole input w .given .last ≡ Contradiction → let f = after begun before in ReachesConflict (rowsOf (f .closed)) (decidedAnd f n (eqb v 1))
   pub settles : (input : List ℕ) (w : Work) → fits input w ≡ true → (before : List Record) → planned input .records ≡ before ++ (Settle ∷ [])
       → let f = after begun before in CallIsTheTable (rowsOf (f .closed)) (decidedIn f) (whole input w)
   pub settles-from-marks : (input : List ℕ) (w : Work) → fits input w ≡ true → (before : List Record) → planned input .records ≡ before ++ (Settle ∷ []) → NoSift before
@@ -171,9 +173,9 @@ pub record Call : Type 0 where
   pub order-does-not-matter : (x y : List ℕ) (v w : Work) → fits x v ≡ true → fits y w ≡ true → (rs qs : List Record)
       → decoded x ≡ records (rs ++ (Settle ∷ [])) → decoded y ≡ records (qs ++ (Settle ∷ []))
       → Passes begun (rs ++ (Settle ∷ [])) → Passes begun (qs ++ (Settle ∷ []))
-      → (whole x v .refused ≡ 0) ⊎ (whole x v .refused ≡ 9) → (whole y w .refused ≡ 0) ⊎ (whole y w .refused ≡ 9)
+      → (whole x v .given .refused ≡ 0) ⊎ (whole x v .given .refused ≡ 9) → (whole y w .given .refused ≡ 0) ⊎ (whole y w .given .refused ≡ 9)
       → plainlyAll begun rs .job ≡ plainlyAll begun qs .job → SameMarks rs qs → NoSift rs → NoSift qs
-      → ((whole x v .last ≡ Contradiction) × (whole y w .last ≡ Contradiction)) ⊎ SaysSame (whole x v) (whole y w)
+      → ((whole x v .given .last ≡ Contradiction) × (whole y w .given .last ≡ Contradiction)) ⊎ SaysSame (whole x v) (whole y w)
 
 -- CLAUSE A. For every input definitions fix each answer, offset, visit count and buffer word, refusals too. `whole` is that
 -- definition, and the public call's contract is an equation with it; what it gives depends on nothing that the lent memory
@@ -207,4 +209,4 @@ pub record ClauseC : Type 0 where
   pub always-contradicts : ((input : List ℕ) (before later : List Record) → planned input .records ≡ before ++ (Settle ∷ later)
       → contradicted (after begun (before ++ (Settle ∷ []))) ≡ true) → ⊥
   -- one that refuses each file: over some memory one that is not empty is accepted
-  pub refuses-each-file : ((input : List ℕ) (w : Work) → input ≢ [] → whole input w .refused ≢ 0) → ⊥
+  pub refuses-each-file : ((input : List ℕ) (w : Work) → input ≢ [] → whole input w .given .refused ≢ 0) → ⊥

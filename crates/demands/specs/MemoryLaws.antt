@@ -2,14 +2,13 @@
 use Prim.Native.Nat.{ℕ}
 use native.Mathlib.Omega.{arith}
 use mathlib.Core.Path.{_≡_, refl, sym, ap, _∙_}
-use mathlib.Core.Bool.{true, cond}
+use mathlib.Core.Bool.{true}
 use mathlib.Core.List.{List, [], _∷_}
 use lib.ListN.{length, getD, replicate}
 use lib.IntN.{pos}
-use Rattle.thresholds.specs.Rows.{rowsOf}
 use Rattle.memory.specs.Buffers.{Work, rawLists, raw, heldRows, built, kept, work, lengths, fitsBy, fits, zeros, cleared, clearRaw, clearBuilt, clearKept}
 use Rattle.files.specs.File.{Outcome, fileOf}
-use Rattle.files.specs.Contents.{Out, laid, whole}
+use Rattle.files.specs.Contents.{Out, laid, whole, givenOf, out}
 use Rattle.demands.specs.Demands.{SameLengths}
 use Rattle.demands.specs.RefusalLaws.{served-when}
 
@@ -66,16 +65,7 @@ module _ (v w : Work) (h : SameLengths v w) where
 
 -- What the call gives, over memory that is cleared.
 abbrev over-cleared : Outcome → Work → Out
-over-cleared o c = record {
-  refused = o .refused;
-  at = o .at;
-  sealed = o .file .sealed;
-  nodes = o .file .job .nodes;
-  rows = cond (o .file .sealed) (length (rowsOf (o .file .closed))) 0;
-  last = o .file .last;
-  answered = length (o .file .answers);
-  work = laid (o .file) c;
-}
+over-cleared o c = out (givenOf o) (laid (o .file) c)
 
 -- THE CALL FORGETS WHAT THE BUFFERS HELD
 pub memory : (input : List ℕ) (v w : Work) → SameLengths v w → fits input v ≡ true → whole input v ≡ whole input w

@@ -19,11 +19,11 @@ use Rattle.ends.specs.Files.{Good, good-before}
 use Rattle.follows.specs.Answers.{true-false}
 use Rattle.demands.specs.Demands.{accepted}
 
-pub numbers : (input : List ℕ) (w : Work) → whole input w .refused ≤ 10
+pub numbers : (input : List ℕ) (w : Work) → whole input w .given .refused ≤ 10
 unfolding whole fileOf
 numbers input w = by (fits input w)
   where
-    by : (b : Bool) → let o : Out = elim b [ true ↦ served (fileOf input) w | false ↦ untouched w ] in o .refused ≤ 10
+    by : (b : Bool) → let o : Out = elim b [ true ↦ served (fileOf input) w | false ↦ untouched w ] in o .given .refused ≤ 10
     by true = let h = read-up-to (length input) 0 input begun [] in omega arith
     by false = omega arith
 
@@ -42,19 +42,19 @@ good input = subst Good (sym (taken input)) (good-before input (planned input .r
 pub closed-job : (input : List ℕ) → planned input .file .sealed ≡ true → planned input .file .closed ≡ planned input .file .job
 closed-job input e = good input .same e
 
-pub ten-touches-nothing : (input : List ℕ) (w : Work) → whole input w .refused ≡ 10 → (whole input w .at ≡ 0) × (whole input w .work ≡ w)
+pub ten-touches-nothing : (input : List ℕ) (w : Work) → whole input w .given .refused ≡ 10 → (whole input w .given .at ≡ 0) × (whole input w .work ≡ w)
 unfolding whole fileOf
 ten-touches-nothing input w h = by (fits input w) h
   where
-    by : (b : Bool) → let o : Out = elim b [ true ↦ served (fileOf input) w | false ↦ untouched w ] in o .refused ≡ 10 → (o .at ≡ 0) × (o .work ≡ w)
+    by : (b : Bool) → let o : Out = elim b [ true ↦ served (fileOf input) w | false ↦ untouched w ] in o .given .refused ≡ 10 → (o .given .at ≡ 0) × (o .work ≡ w)
     by true e = absurd (let k = read-up-to (length input) 0 input begun [] in omega arith)
     by false e = (refl, refl)
 
-pub ten : (input : List ℕ) (w : Work) → (whole input w .refused ≡ 10) ↔ (fits input w ≡ false)
+pub ten : (input : List ℕ) (w : Work) → (whole input w .given .refused ≡ 10) ↔ (fits input w ≡ false)
 unfolding whole fileOf
 ten input w = by (fits input w)
   where
-    by : (b : Bool) → let o : Out = elim b [ true ↦ served (fileOf input) w | false ↦ untouched w ] in (o .refused ≡ 10) ↔ (b ≡ false)
+    by : (b : Bool) → let o : Out = elim b [ true ↦ served (fileOf input) w | false ↦ untouched w ] in (o .given .refused ≡ 10) ↔ (b ≡ false)
     by true = ((λ e. absurd (let k = read-up-to (length input) 0 input begun [] in omega arith)), λ e. absurd (let z : _≡_ {A = ℕ} 0 1 = cc in omega arith))
     by false = ((λ e. refl), λ e. refl)
 
@@ -83,19 +83,19 @@ cut-file input h =
     ∙ ap (λ (k : ℕ). readFrom (length input) 0 (take k input) begun []) (sym z) ∙ c .1
 
 -- A REFUSED RECORD LEAVES WHAT THE FILE CUT BEFORE IT LEAVES
-pub refused : (input : List ℕ) (w : Work) → whole input w .refused ≢ 0 → whole input w .refused ≢ 10
-    → whole (take (whole input w .at) input) w ≡ accepted (whole input w)
+pub refused : (input : List ℕ) (w : Work) → whole input w .given .refused ≢ 0 → whole input w .given .refused ≢ 10
+    → whole (take (whole input w .given .at) input) w ≡ accepted (whole input w)
 refused input w h k =
     ⊎-elim
     (λ (e : fits input w ≡ true).
     let q = served-when input w e in
     let a = fileOf input .at in
-    let c = cut-file input (λ z. h (ap (λ (o : Out). o .refused) q ∙ z)) in
+    let c = cut-file input (λ z. h (ap (λ (o : Out). o .given .refused) q ∙ z)) in
     let t = length-take a input in
-    ap (λ (o : Out). whole (take (o .at) input) w) q
+    ap (λ (o : Out). whole (take (o .given .at) input) w) q
     ∙ served-when (take a input) w (fits-shorter (take a input) input w (omega arith) e) ∙ ap (λ (o : Outcome). served o w) c
     ∙ ap accepted (sym q))
-    (λ (e : fits input w ≡ false). absurd (k (ap (λ (o : Out). o .refused) (untouched-when input w e)))) (true-false (fits input w))
+    (λ (e : fits input w ≡ false). absurd (k (ap (λ (o : Out). o .given .refused) (untouched-when input w e)))) (true-false (fits input w))
 
 -- Over memory that fits, the file is read.
 pub planned-file : (input : List ℕ) → length input ≤ 65536 → planned input ≡ fileOf input

@@ -176,6 +176,6 @@ unfolding fitsBy enough writtenAll written bytes
 lent-fits = refl
 
 -- and it is accepted.
-pub refuses-each-file : ((input : List ℕ) (w : Work) → input ≢ [] → whole input w .refused ≢ 0) → ⊥
+pub refuses-each-file : ((input : List ℕ) (w : Work) → input ≢ [] → whole input w .given .refused ≢ 0) → ⊥
 refuses-each-file h =
-    h (writtenAll file-A) lent a-written (ap (λ (o : Out). o .refused) (files (writtenAll file-A) lent lent-fits) ∙ a-taken .0)
+    h (writtenAll file-A) lent a-written (ap (λ (o : Out). o .given .refused) (files (writtenAll file-A) lent lent-fits) ∙ a-taken .0)

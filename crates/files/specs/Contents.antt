@@ -1,16 +1,16 @@
 -- What stands in every word of every lent buffer after the call, for every input.
 use Prim.Native.Nat.{ℕ, _+_}
-use mathlib.Core.Bool.{Bool, true, false, cond}
-use mathlib.Core.List.{List, [], _∷_, map}
+use mathlib.Core.Bool.{true, false, cond}
+use mathlib.Core.List.{List, map}
 use lib.ListN.{length}
 use Rattle.lists.specs.Laid.{over, pairs, quads}
-use Rattle.state.specs.declared.Step.{Step}
 use Rattle.state.specs.declared.Step.the-variants.{Unchanged}
 use Rattle.state.specs.Step.{stepNumber}
 use Rattle.thresholds.specs.Rows.{rowsOf}
 use Rattle.prepare.specs.JobBuffers.{rawOf, builtOf}
 use Rattle.between.specs.Numbers.{figuresOf, cursorsOf}
 use Rattle.memory.specs.Buffers.{Kept, Work, kept, work, fits, cleared}
+use Rattle.files.specs.declared.Given.{Given}
 use Rattle.files.specs.File.{File, Answer, settled, sifted, Outcome, fileOf}
 
 -- An answer as a number: that of its step, and 4 more for a sift.
@@ -34,19 +34,9 @@ keptOf f w =
 unfoldable pub laid : File → Work → Work
 laid f w = work (rawOf (f .job) (w .raw)) (cond (f .sealed) (builtOf (f .closed) (w .built)) (w .built)) (keptOf f (w .kept))
 
--- THE CALL: what it gives back and leaves in every buffer. Refusal 10 touches none.
-pub record Out : Type 0 where
-  pub refused : ℕ
-  pub at : ℕ
-  pub sealed : Bool
-  pub nodes : ℕ
-  pub rows : ℕ
-  pub last : Step
-  pub answered : ℕ
-  pub work : Work
-
-abbrev pub served : Outcome → Work → Out
-served o w = record {
+-- What is given back of an outcome.
+abbrev pub givenOf : Outcome → Given
+givenOf o = record {
   refused = o .refused;
   at = o .at;
   sealed = o .file .sealed;
@@ -54,11 +44,21 @@ served o w = record {
   rows = cond (o .file .sealed) (length (rowsOf (o .file .closed))) 0;
   last = o .file .last;
   answered = length (o .file .answers);
-  work = laid (o .file) (cleared w);
 }
 
+-- THE CALL: what it gives back, and what it leaves in every buffer. Refusal 10 touches none.
+pub record Out : Type 0 where
+  pub given : Given
+  pub work : Work
+
+abbrev pub out : Given → Work → Out
+out g w = record { given = g; work = w }
+
+abbrev pub served : Outcome → Work → Out
+served o w = out (givenOf o) (laid (o .file) (cleared w))
+
 abbrev pub untouched : Work → Out
-untouched w = record { refused = 10; at = 0; sealed = false; nodes = 0; rows = 0; last = Unchanged; answered = 0; work = w }
+untouched w = out (record { refused = 10; at = 0; sealed = false; nodes = 0; rows = 0; last = Unchanged; answered = 0 }) w
 
 unfoldable pub whole : List ℕ → Work → Out
 whole input w = elim (fits input w) [ true ↦ served (fileOf input) w | false ↦ untouched w ]

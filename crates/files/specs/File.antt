@@ -42,6 +42,9 @@ pub record File : Type 0 where
   pub gcds : List ℕ
   pub answers : List Answer
 
+abbrev pub file : Bool → Job → Job → Bool → Step → Live → List ℕ → List Answer → File
+file s j c e k v g as′ = record { started = s; job = j; closed = c; sealed = e; last = k; live = v; gcds = g; answers = as′ }
+
 abbrev pub contradicted : File → Bool
 contradicted f = contradicts (f .last)
 
@@ -55,16 +58,7 @@ abbrev pub noJob : ℕ → Job
 noJob n = record { nodes = n; thresholds = [] }
 
 unfoldable pub begun : File
-begun = record {
-  started = false;
-  job = noJob 0;
-  closed = noJob 0;
-  sealed = false;
-  last = Unchanged;
-  live = cleared;
-  gcds = replicate maxGcds 0;
-  answers = [];
-}
+begun = file false (noJob 0) (noJob 0) false Unchanged cleared (replicate maxGcds 0) []
 
 -- THE CHECKS: what they read of a file, and the number of the first that applies to a record; 0 for none.
 abbrev pub standing : File → Standing
@@ -77,29 +71,11 @@ refusal f r = refusedBy (standing f) r
 
 -- The job before its seal.
 abbrev pub withJob : File → Job → File
-withJob f j = record {
-  started = true;
-  job = j;
-  closed = f .closed;
-  sealed = f .sealed;
-  last = f .last;
-  live = f .live;
-  gcds = f .gcds;
-  answers = f .answers;
-}
+withJob f j = file true j (f .closed) (f .sealed) (f .last) (f .live) (f .gcds) (f .answers)
 
 -- What a seal, a mark, a settle or a sift left: the job that is closed then, its step, memory and gcds, and all answers.
 abbrev pub told : File → Job → Step → Live → List ℕ → List Answer → File
-told f j k v g as′ = record {
-  started = f .started;
-  job = f .job;
-  closed = j;
-  sealed = true;
-  last = k;
-  live = v;
-  gcds = g;
-  answers = as′;
-}
+told f j k v g as′ = file (f .started) (f .job) j true k v g as′
 
 unfoldable pub sealedFile : File → File
 sealedFile f =

@@ -27,17 +27,7 @@ allTerms (t ∷ ts) = length (t .terms) + allTerms ts
 abbrev pub standingOf : (started sealed contradicted : Bool) → Job → (answers : ℕ) → Standing
 standingOf s e c j n =
     let ts = j .thresholds in
-    record {
-      started = s;
-      sealed = e;
-      contradicted = c;
-      nodes = j .nodes;
-      thresholds = length ts;
-      «last_node» = lastNode ts;
-      «last_terms» = lastTerms ts;
-      terms = allTerms ts;
-      answers = n;
-    }
+    record { started = s; sealed = e; contradicted = c; nodes = j .nodes; thresholds = length ts; «last_node» = lastNode ts; «last_terms» = lastTerms ts; terms = allTerms ts; answers = n }
 
 -- After a threshold, and after a term.
 abbrev pub openedBy : Standing → ℕ → Standing

@@ -1,31 +1,18 @@
 -- What the listing is made of: an outcome, as what the call gives back and its buffers show it.
 use Prim.Native.Nat.{ℕ, _≤_, _<_}
 use mathlib.Core.Path.{_≡_}
-use mathlib.Core.Bool.{true, cond}
+use mathlib.Core.Bool.{true}
 use mathlib.Core.List.{List, [], map}
 use lib.ListN.{length, take, drop}
 use Rattle.lists.specs.Laid.{pairs}
 use Rattle.state.specs.declared.State.{State}
 use Rattle.words.specs.Mask.{bit}
-use Rattle.thresholds.specs.Rows.{rowsOf}
 use Rattle.memory.specs.Limits.{maxNodes, maxThresholds}
 use Rattle.files.specs.File.{Outcome, outcome, begun}
-use Rattle.files.specs.Contents.{answerNumber, answerVisits}
+use Rattle.files.specs.Contents.{answerNumber, answerVisits, givenOf}
 use Rattle.files.specs.Listing.{listing}
 use Rattle.files.specs.declared.Given.{Given}
 use Rattle.listing.specs.Lines.{maxListing}
-
--- What is given back of an outcome.
-abbrev pub givenOf : Outcome → Given
-givenOf o = record {
-  refused = o .refused;
-  at = o .at;
-  sealed = o .file .sealed;
-  nodes = o .file .job .nodes;
-  rows = cond (o .file .sealed) (length (rowsOf (o .file .closed))) 0;
-  last = o .file .last;
-  answered = length (o .file .answers);
-}
 
 -- Only nodes of the job are decided.
 abbrev pub Inside : ℕ → List ℕ → Type 0

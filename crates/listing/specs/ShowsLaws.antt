@@ -16,12 +16,12 @@ use Rattle.words.specs.CountLaws.{count-above}
 use Rattle.thresholds.specs.Rows.{Row, rowsOf}
 use Rattle.memory.specs.Limits.{maxNodes}
 use Rattle.files.specs.File.{File, Answer, settled, sifted, Outcome, outcome, begun}
-use Rattle.files.specs.Contents.{answerNumber, answerVisits}
+use Rattle.files.specs.Contents.{answerNumber, answerVisits, givenOf}
 use Rattle.files.specs.Listing.{text, digits, decimal, answerLine, answerLines, nodeLines, rowLines, stateLines, lastLine, listing}
 use Rattle.files.specs.declared.Given.{Given}
 use Rattle.listing.specs.Text.{joined}
 use Rattle.listing.specs.Lines.{stepOf, answerOf, answerAt, nodeAt, rowLine, rowAt, endLine, refusedLine, decided, stateText, lastText, Listable}
-use Rattle.listing.specs.Shows.{givenOf, Inside, Held, ten, Shows, untouched, held}
+use Rattle.listing.specs.Shows.{Inside, Held, ten, Shows, untouched, held}
 
 -- ---- texts by number
 

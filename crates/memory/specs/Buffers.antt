@@ -57,31 +57,15 @@ abbrev pub raw : RawLists → List ℤ → Raw
 raw lists bounds = record { lists = lists; bounds = bounds }
 
 abbrev pub heldRows : List ℕ → List ℕ → List (List ℕ) → List ℤ → List ℕ → HeldRows
-heldRows row-conditions row-weights rows guard-bounds guard-nodes =
-    record {
-      row-conditions = row-conditions;
-      row-weights = row-weights;
-      rows = rows;
-      guard-bounds = guard-bounds;
-      guard-nodes = guard-nodes;
-    }
+heldRows conditions weights rows bounds nodes =
+    record { row-conditions = conditions; row-weights = weights; rows = rows; guard-bounds = bounds; guard-nodes = nodes }
 
 abbrev pub built : HeldRows → List (List ℕ) → List (List ℕ) → List ℕ → Built
 built held nodes edges links = record { held = held; nodes = nodes; edges = edges; links = links }
 
 abbrev pub kept : List (List ℤ) → List (List ℕ) → List ℕ → List ℕ → List ℕ → List ℕ → List ℕ → List (List ℕ) → List (List ℕ) → Kept
-kept figures cursors sure never search gcds node-queue row-queues answers =
-    record {
-      figures = figures;
-      cursors = cursors;
-      sure = sure;
-      never = never;
-      search = search;
-      gcds = gcds;
-      node-queue = node-queue;
-      row-queues = row-queues;
-      answers = answers;
-    }
+kept figures cursors sure never search gcds nodes rows answers =
+    record { figures = figures; cursors = cursors; sure = sure; never = never; search = search; gcds = gcds; node-queue = nodes; row-queues = rows; answers = answers }
 
 abbrev pub work : Raw → Built → Kept → Work
 work raw built kept = record { raw = raw; built = built; kept = kept }

@@ -1,6 +1,6 @@
 -- WHAT THE CALL LEAVES SHOWS ITS FILE: for every input of bytes and every lent memory the words in the buffers are those of the outcome,
 -- so that the listing made of them is the file's. Assumes nothing.
-use Prim.Native.Nat.{ℕ, suc, _+_, _-_, _≤_}
+use Prim.Native.Nat.{ℕ, suc, _≤_}
 use native.Mathlib.Omega.{arith}
 use mathlib.Core.Path.{_≡_, refl, sym, ap, _∙_, subst}
 use mathlib.Core.Bool.{Bool, true, false, cond}
@@ -17,29 +17,25 @@ use Rattle.memory.specs.Limits.{maxThresholds}
 use Rattle.memory.specs.Buffers.{Work, Kept, fits, cleared}
 use Rattle.between.specs.Numbers.{figuresOf, cursorsOf, statesOf, stored-read}
 use Rattle.files.specs.File.{Answer, Outcome, begun, planned}
-use Rattle.files.specs.Contents.{answerNumber, answerVisits, keptOf, laid, Out, served, untouched, whole}
+use Rattle.files.specs.Contents.{answerNumber, answerVisits, keptOf, laid, Out, served, untouched, whole, givenOf}
 use Rattle.ends.specs.Built.{rows-few}
 use Rattle.follows.specs.Answers.{true-false}
 use Rattle.demands.specs.RefusalLaws.{untouched-when, planned-file, files}
 use Rattle.demands.specs.KeptLaws as Fit
 use Rattle.memory.specs.Lengths.{fits-input}
-use Rattle.files.specs.declared.Given.{Given}
-use Rattle.listing.specs.Shows.{givenOf, Inside, Held, ten, Shows}
+use Rattle.listing.specs.Shows.{Inside, Held, ten, Shows}
 use Rattle.listing.specs.Shows as Is
 use Rattle.listing.specs.Lines.{Listable}
 use Rattle.listing.specs.ShowsLaws.{shows-listable}
 use Rattle.shown.specs.Bytes.{IsByte}
 use Rattle.shown.specs.Stages.{planned-inside}
 
--- What the call gives back, and the outcome that it stands for: the file's, or refusal 10.
-abbrev pub given : Out → Given
-given r = record { refused = r .refused; at = r .at; sealed = r .sealed; nodes = r .nodes; rows = r .rows; last = r .last; answered = r .answered }
-
+-- The outcome that the call stands for: the file's, or refusal 10.
 unfoldable pub ended : List ℕ → Work → Outcome
 ended input w = elim (fits input w) [ true ↦ planned input | false ↦ ten ]
 
 abbrev pub ShowsIn : Outcome → Out → Type 0
-ShowsIn o r = let k = r .work .kept in Shows o (given r) (k .answers) (statesOf (k .figures) (k .cursors)) (k .sure) (k .never)
+ShowsIn o r = let k = r .work .kept in Shows o (r .given) (k .answers) (statesOf (k .figures) (k .cursors)) (k .sure) (k .never)
 
 -- ---- lists in front of buffers
 
@@ -119,5 +115,5 @@ shows-whole input a w =
 
 -- So the listing can be made of what the call left; `listing::list` then makes that of the outcome.
 pub listable-whole : (input : List ℕ) → Every IsByte input → (w : Work)
-    → let r = whole input w in let k = r .work .kept in Listable (given r) (k .answers) (statesOf (k .figures) (k .cursors)) (k .sure) (k .never)
+    → let r = whole input w in let k = r .work .kept in Listable (r .given) (k .answers) (statesOf (k .figures) (k .cursors)) (k .sure) (k .never)
 listable-whole input a w = shows-listable (shows-whole input a w)
