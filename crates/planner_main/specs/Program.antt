@@ -5,7 +5,7 @@ use mathlib.Core.List.{List}
 use lib.ListN.{length, take}
 use Rattle.files.specs.File.{planned}
 use Rattle.files.specs.Listing.{listing}
-use Rattle.listing.specs.Shows.{givenOf}
+use Rattle.files.specs.Contents.{givenOf}
 use Rattle.planner_main.specs.declared.Chunk.{Chunk}
 use Rattle.planner_main.specs.declared.Chunk.the-variants as Chunks
 use Rattle.planner_main.specs.declared.Input.{Input}

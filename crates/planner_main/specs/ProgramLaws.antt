@@ -15,14 +15,13 @@ use Rattle.between.specs.Numbers.{statesOf}
 use Rattle.files.specs.declared.Given.{Given}
 use Rattle.state.specs.declared.State.{State}
 use Rattle.files.specs.File.{Outcome, fileOf, planned}
-use Rattle.files.specs.Contents.{Out, whole}
+use Rattle.files.specs.Contents.{givenOf, Out, out, whole}
 use Rattle.listing.specs.Lines.{maxListing}
-use Rattle.listing.specs.Shows.{givenOf, ten, Shows, Listed}
+use Rattle.listing.specs.Shows.{ten, Shows, Listed}
 use Rattle.listing.specs.Shows as Is
 use Rattle.follows.specs.Answers.{true-false}
-use Rattle.call.specs.Call.{gives}
 use Rattle.shown.specs.Bytes.{IsByte}
-use Rattle.shown.specs.Shown.{given, ended, shows-whole}
+use Rattle.shown.specs.Shown.{ended, shows-whole}
 use Rattle.planner_main.specs.declared.Chunk.{Chunk}
 use Rattle.planner_main.specs.declared.Chunk.the-variants as Chunks
 use Rattle.planner_main.specs.declared.Input.{Input}
@@ -60,10 +59,10 @@ fresh-long = refl
 abbrev pub ShownBy : Outcome → Given → Work → Type 0
 ShownBy o g w = let k = w .kept in Shows o g (k .answers) (statesOf (k .figures) (k .cursors)) (k .sure) (k .never)
 
-pub shown-by : (input : List ℕ) → Every IsByte input → (w₀ w : Work) (g : Given) → lengths w₀ ≡ needed → gives g w ≡ whole input w₀ → ShownBy (planned input) g w
+pub shown-by : (input : List ℕ) → Every IsByte input → (w₀ w : Work) (g : Given) → lengths w₀ ≡ needed → out g w ≡ whole input w₀ → ShownBy (planned input) g w
 shown-by input bytes w₀ w g e h =
     subst (λ (o : Outcome). ShownBy o g w) (ended-planned w₀ e input)
-    (subst (λ (r : Out). ShownBy (ended input w₀) (given r) (r .work)) (sym h) (shows-whole input bytes w₀))
+    (subst (λ (r : Out). ShownBy (ended input w₀) (r .given) (r .work)) (sym h) (shows-whole input bytes w₀))
 
 shows-given : {o : Outcome} {g : Given} {answers : List (List ℕ)} {states : List State} {sure never : List ℕ} → Shows o g answers states sure never → g ≡ givenOf o
 shows-given (Is.untouched e q) = q ∙ ap givenOf (sym e)
