@@ -1,0 +1,1 @@
+// Steps for proofs by hand; no code.
