@@ -337,7 +337,340 @@ rest = seq (assign (place 0 []) (rvOpd opdUnit)) return
 {p.ending('𝓣')}''')
 
 
-WALKS = {'states/load': load, 'states/store': store, 'states/show_states': show_states}
+# ---- the listing
+
+LISTING = '''use Rattle.listing.specs.Text.{Wrote, joined, Joins}
+use Rattle.listing.specs.TextLaws.{wrote-same, joins-none, joins-room, joins-next, joins-done}
+use Rattle.listing.specs.Lines.{maxRowLine, maxLastLine, maxFront, maxListing, rowLine, rowAt, frontText, rowCount, lastText, Listable}
+use Rattle.listing.specs.Shows.{Listed}
+use Rattle.listing.specs.ListLaws.{front-room, rows-room, last-room, list-all}
+'''
+
+
+def row_lines():
+    load = Callee('load', 'Rattle.states.proofs.load', 'states·load')
+    line = Callee('line', 'Rattle.listing.proofs.row_line', 'listing·row-line')
+    p = Proof('listing', 'row_lines', 'In each turn a state is loaded, and the buffer is lent again to `row_line`.',
+              [Slice('out', 'u8', 'ℕ', True), Plain('at'), Plain('count'), states(False)], [load, line],
+              STATE + LISTING + 'use Rattle.listing.proofs.row_lines.Code.Mir as pieces\n',
+              '(a .1 .0 + maxRowLine * a .1 .1 .0 ≤ length (a .0 .now)) × (a .1 .1 .0 ≤ length (a .1 .1 .1 .0 .now))')
+    out, at, count, ss = p.params
+    cells = [f'L{k}' for k in range(11)] + ['dies']
+    front = ['TR', 'o-states', 'o-out', 't-out']
+    fm = '(fmOf 𝓤 H (W .laws) 𝓣)'
+    m = Walk(front + cells)
+    m.val = {k: q.machine for k, q in enumerate(p.params, 1)}
+    m.val[5], m.val[6] = 'vint w64 (t .2)', 'vint w64 (t .0)'
+    held = dict(m.val)
+    m.assign(8, f'(bin ! {m.look(6)} {m.look(3)} tt)', '(tt, tt)', 'vbool (ltb (t .0) count)')
+    over = m.copy()
+    m.say(f'while-goes ! {m.look(8)} {m.bind("less")}')
+    m.move('o-states')
+    m.say('use1 W (‵ rows ⊛ ‵ rows) (shr-slice-copy 𝓤 H A W (named 1) (κs .1 .0) T.the-row .twice x-states (slice-vals x-states)) $ split ! $')
+    m.top(1, 'copy', 'o-states')
+    m.move('TR', 'copy')
+    m.say(f'use2 W (raw ({load.triple} .pre (to-load t))) (goes-load t (ltb→lt (t .0) count less)) $')
+    m.top(2, 'pre')
+    m.call(load, fm, '(to-load t)', [4, 6], 'v', ('r', 'State'), 'T.the-row', 'raw toks-r', ('us', 'Unit {0} × (Unit {0} × Unit {0})'), ('e', 'r ≡ getD ss (t .0) noState'), ['TR', 'own', 'lasts'])
+    m.peek('own', 'T.the-row', 'r', 'v', 'is')
+    m.land(7, lawful('T', 'r', 'is'), 'v')
+    m.reborrow(1, out, 9, 10)
+    m.lend(out, 'α', 'δ', '(t .1)', 't .3 .long')
+    m.move('o-outT', 'o-outA', 'own')
+    m.say(f'use3 W (raw ({line.triple} .pre (to-line α δ t r v))) (goes-line α δ t r v (ltb→lt (t .0) count less)) $')
+    m.top(3, 'pre')
+    m.call(line, fm, '(to-line α δ t r v)', [10, 5, 6, 7], 'v₂', ('end', 'ℕ'), 'usize', '(‵ (flft (α ∷ []) fullShare) ⊛ ‵ ftrue)',
+           ('zs', 'List ℕ × (Unit {0} × (Unit {0} × (Unit {0} × Unit {0})))'), ('said', 'Wrote maxRowLine (t .1) (zs .0) (t .2) end (rowLine (t .0) r)'), ['tokens', 'number', 'put'])
+    m.peek('number', 'usize', 'end', 'v₂', 'isn')
+    m.land(5, '(uint-lawful 𝓤 H A W w64 .typed end _ isn .0)', 'vint w64 end')
+    m.say(f'rewrite ! {m.at("L5")} (λ (y : Val). ‵ (fat fullShare (tyInt w64) (ns{proj(5)}) 0 y)) (ap only (isn .0)) refl $')
+    m.move('tokens')
+    m.say('split ! $')
+    m.top(1, 'o-outT', 'true')
+    m.move('put')
+    m.say(f'fsplit ! $ fsplit ! $ move ! (1 ∷ []) $ feqL ! {m.bind("same")}')
+    m.top(1, 'o-outF', 'puts')
+    m.back(out, 'α', 'δ', '(t .1)', '(zs .0)', f'subst (Room u8) (sym (t .3 .long)) ({out.room})', 't .3 .long', 'same')
+    m.drop('lasts', 'true', 'puts', 'number')
+    m.move(*front)
+    assert m.ctx == front + cells, m.ctx
+    nxt = '(next t r (zs .0) end (ltb→lt (t .0) count less) e same said (isn .1))'
+    m.say(f'assigns-last ! (bin ! {m.look(6)} (lit ! tt) (record {{ fits = fits {nxt} }})) (from ! (stop !)) (put ! {m.at("L6")} refl (tt, record {{ fits = fits {nxt} }})) $')
+    for k in [7, 8, 9, 10]:
+        m.say(f'forget ! {m.at(f"L{k}")} refl $')
+    m.say(f'again ! Nearer At t {nxt} (add-one-dec count (t .0) (ltb→lt (t .0) count less))' + ')' * m.open)
+    over.assign(0, f'(of-opd ! {over.look(5)})', '(tt, record { fits = t .4 })', 'vint w64 (t .2)')
+    over.say(f'returns ! (look ! {over.at("L0")} refl) $ group ! {len(front)} $')
+    over.top(len(front), 'left')
+    over.say(f'free-under ! (code.function .locals) ns {over.slots(11)} $ by ! (exits t (nltb→le (t .0) count late))')
+    w = Walk(cells + ['T', 'O'])
+    w.passes(p.params)
+    w.assign(5, f'(of-opd ! {w.look(2)})', at.typed, at.machine)
+    w.assign(6, '(of-opd ! (lit ! tt))', '(tt, record { fits = lit< tt })', 'vint w64 0')
+    w.move('T', 'O')
+    w.say('split ! $ move ! (2 ∷ []) $ fsplit ! $ move ! (1 ∷ []) $ fsplit ! $ drop ! $ fsplit ! $ drop ! $ fsplit ! $ move ! (1 ∷ []) $ drop ! $')
+    w.top(2, 'o-states', 'o-out', 't-out', 'TR')
+    w.move(*front)
+    assert w.ctx == front + cells
+    slots = Walk([])
+    slots.val = held
+    ind = ' ' * 8
+    return p.file(f'''{p.top()}abbrev rest : Body
+rest = seq (assign (place 0 []) (rvOpd (copy (place 5 [])))) return
+
+{p.module()}
+  abbrev ss : List State
+  ss = x-states .now
+
+  abbrev at-first : ℕ
+  at-first = a .1 .0
+
+  abbrev count : ℕ
+  count = a .1 .1 .0
+
+  abbrev toks-r : SProp 𝓤
+  toks-r = toks 𝓤 A 1 (κs .1) (qs .1)
+
+  abbrev rows : Fml
+  rows = ShrSlice (named 1) (κs .1 .0) T.the-row .own x-states (slice-vals x-states)
+
+  -- a turn: the rows passed, the buffer, where the text ends, and that the lines of the rows passed are written
+  abbrev Turn : Type 0
+  Turn = (r : ℕ) × (l : List ℕ) × (end : ℕ) × Joins maxRowLine (x-out .now) l at-first end (rowAt ss) count r × (end < 2 ^ 64)
+
+  abbrev Nearer : Turn → Turn → Type 0
+  Nearer s t = count - s .0 < count - t .0
+
+  Nearer-wf : WellFounded Nearer
+  Nearer-wf = InvImage·wf (λ (t : Turn). count - t .0) (Nat·lt-wfRel .wf)
+
+  fits : (t : Turn) → t .0 < 2 ^ 64
+  fits t = lt-of-le-of-lt (t .3 .passed) ({count.fits})
+
+  abbrev next : (t : Turn) (r : State) (l : List ℕ) (end : ℕ) → t .0 < count → r ≡ getD ss (t .0) noState → length l ≡ length (t .1) → Wrote maxRowLine (t .1) l (t .2) end (rowLine (t .0) r) → end < 2 ^ 64 → Turn
+  next t r l end less e same said small =
+      (t .0 + 1, l, end, joins-next (omega (arith, pre .0)) less (t .3) same (wrote-same (ap (rowLine (t .0)) e) said), small)
+
+  exits : (t : Turn) → count ≤ t .0 → ent 𝓤 (sep 𝓤 toks-r (sep 𝓤 (sem 𝓤 H A rows) (sep 𝓤 (sem 𝓤 H A (own-out (κs .0) (x-out .name) (t .1))) (A .lft (κs .0) (qs .0))))) (Post (vint w64 (t .2)))
+  exits t late =
+      qed W (raw toks-r ∷ ‵ rows ∷ ‵ (own-out (κs .0) (x-out .name) (t .1)) ∷ ‵ (flft (κs .0) (qs .0)) ∷ []) ∵
+      {p.ends_at('(vint w64 (t .2))', '(t .2)', '(t .1, (tt, (tt, (tt, tt))))')} says ! (joins-done late (t .3)) $
+      move ! (1 ∷ 3 ∷ 0 ∷ []) $ drop ! $ join ! $ frame ! $
+      use1 W (‵ (fsep (finally u8 (x-out .name) (t .1)) (feq ℕ (length (t .1)) (length (x-out .now))))) (gives-up 𝓤 H A W (named 0) (κs .0) u8 (record {{ ptr = x-out .ptr; name = x-out .name; now = t .1 }}) (slice-vals x-out) (length (x-out .now)) (t .3 .long)) $
+      nothing ! $ nothing ! $ fjoin ! $ nothing ! $ fjoin ! $ nothing ! $ fjoin ! $ move ! (1 ∷ 0 ∷ []) $ fjoin ! $ frame ! $
+      owned ! usize (Is usize) (uint-makes 𝓤 H A W w64) (t .2) (vint w64 (t .2) ∷ []) (refl, t .4) $ done !
+
+  -- what each callee's triple binds outside, and that the caller has what it asks
+  abbrev to-load : Turn → {load.triple} .Ghost
+  to-load t = ((κs .1, qs .1, tt, (x-states, (t .0, tt)), (slice-vals x-states, (vint w64 (t .0) ∷ [], tt))), tt)
+
+  goes-load : (t : Turn) → t .0 < count → ent 𝓤 (sep 𝓤 toks-r (sem 𝓤 H A rows)) ({load.triple} .pre (to-load t))
+  goes-load t less =
+      qed W (raw toks-r ∷ ‵ rows ∷ []) ∵ says ! (lt-of-lt-of-le less (pre .1)) $ frame ! $
+      nothing ! $ owned ! usize (Is usize) (uint-makes 𝓤 H A W w64) (t .0) (vint w64 (t .0) ∷ []) (refl, fits t) $ fjoin ! $ move ! (1 ∷ 0 ∷ []) $ fjoin ! $ done !
+
+  abbrev to-line : ℕ → GName → Turn → State → Val → {line.triple} .Ghost
+  to-line α δ t r v =
+      (((α ∷ [], tt), (fullShare, tt), tt, (record {{ ptr = x-out .ptr; name = δ; now = t .1 }}, (t .2, (t .0, (r, tt)))), (slice-vals x-out, (vint w64 (t .2) ∷ [], (vint w64 (t .0) ∷ [], (v ∷ [], tt))))), tt)
+
+  goes-line : (α : ℕ) (δ : GName) (t : Turn) (r : State) (v : Val) → t .0 < count
+      → ent 𝓤 (sep 𝓤 (A .lft (α ∷ []) fullShare) (sep 𝓤 (sem 𝓤 H A (own-out (α ∷ []) δ (t .1))) (sem 𝓤 H A (T.the-row .own r (v ∷ []))))) ({line.triple} .pre (to-line α δ t r v))
+  goes-line α δ t r v less =
+      qed W (‵ (flft (α ∷ []) fullShare) ∷ ‵ (own-out (α ∷ []) δ (t .1)) ∷ ‵ (T.the-row .own r (v ∷ [])) ∷ []) ∵ says ! (joins-room (pre .0) less (t .3)) $
+      nothing ! $ move ! (1 ∷ 0 ∷ []) $ join ! $ frame ! $
+      nothing ! $ move ! (2 ∷ 0 ∷ []) $ fjoin ! $ owned ! usize (Is usize) (uint-makes 𝓤 H A W w64) (t .0) (vint w64 (t .0) ∷ []) (refl, fits t) $ fjoin ! $
+      owned ! usize (Is usize) (uint-makes 𝓤 H A W w64) (t .2) (vint w64 (t .2) ∷ []) (refl, t .4) $ fjoin ! $ move ! (1 ∷ 0 ∷ []) $ fjoin ! $ done !
+
+  module _ (𝓣 : Tables 𝓤 H){p.known('𝓣 .C')} (ns : Nats (code.function .locals)) where
+    abbrev En : Env 𝓤 H
+    En = envOf 𝓤 H (code.function .locals) ns
+
+    abbrev At : Turn → List (Item 𝓤)
+    At t = raw toks-r ∷ ‵ rows ∷ ‵ (own-out (κs .0) (x-out .name) (t .1)) ∷ ‵ (flft (κs .0) (qs .0))
+        ∷ cellsOf 𝓤 H (code.function .locals) ns {slots.slots(11)} (‵ (diesOf (code.function .locals) ns) ∷ [])
+
+    -- after a turn: one row further, or the loop is left and the rest runs
+    abbrev Turned : Turn → Out → SProp 𝓤
+    Turned t = afterTurn 𝓤 H (Below 𝓤 H A Nearer At t) (afterBlock 𝓤 H (afterSeq 𝓤 H (Wp 𝓤 H (𝓣 .C) (𝓣 .Λ) En rest (atReturn 𝓤 H En Post)) (atReturn 𝓤 H En Post)))
+
+    turns : (t : Turn) → Sq W (At t) (runs (𝓣 .C) (𝓣 .Λ) En pieces.turn-1 (anyQ (Turned t)))
+    unfolding afterTurn
+    turns t =
+        {m.text(ind)}
+        (λ late. exec ! (𝓣 .C) (𝓣 .Λ) En rest (atRet En Post) $ {over.text(ind)})
+
+  walk : (𝓣 : Tables 𝓤 H) →{' →'.join(f' Triple 𝓤 (𝓣 .C #{c.key}) ({c.triple})' for c in p.callees)} → ent 𝓤 (onEntry 𝓤 H A f.signature κs qs a (at κs a)) (WpFn 𝓤 H (𝓣 .C) (𝓣 .Λ) code.function ({p.machine}) Post)
+  walk 𝓣 known-load known-line =
+      qed W ((‵ (flft (κs .0) (qs .0)) ⊛ raw toks-r) ∷ ‵ (owns (typesAt (f.signature .params) κs) a (at κs a)) ∷ []) ∵
+      enter ! (𝓣 .C) (𝓣 .Λ) code.function ({p.machine}) _ $ alloc-all ! (code.function .locals) (λ ns. params1 ! $
+      {w.text(' ' * 6)}
+      first ! $ blocks ! $ loops ! 𝓣 Nearer Nearer-wf (At 𝓣 known-load known-line ns) (turns 𝓣 known-load known-line ns) (0, x-out .now, at-first, joins-none maxRowLine (x-out .now) at-first (rowAt ss) count, {at.fits}))
+{p.ending('𝓣')}''')
+
+
+GIVEN = '''use Rattle.files.specs.declared.Given.{Given as Answer}
+use Rattle.files.proofs.Given as G
+use Rattle.files.proofs.Given.Laws as G′
+'''
+
+
+def lent_list():
+    front = Callee('front', 'Rattle.listing.proofs.front_lines', 'listing·front-lines')
+    rows = Callee('rows', 'Rattle.listing.proofs.row_lines', 'listing·row-lines')
+    count = Callee('count', 'Rattle.listing.proofs.row_count', 'listing·row-count')
+    last = Callee('last', 'Rattle.listing.proofs.last_line', 'listing·last-line')
+    p = Proof('listing', 'list', 'The buffer is lent again to the first two parts and given up to the last.',
+              [Slice('out', 'u8', 'ℕ', True), Struct('given', 'G'), Slice('answers', 'Pair', '(List ℕ)', False), states(False), Slice('sure', 'u64', 'ℕ', False), Slice('never', 'u64', 'ℕ', False)],
+              [front, rows, count, last], STATE + GIVEN + LISTING,
+              'Listable (a .1 .0) (a .1 .1 .0 .now) (a .1 .1 .1 .0 .now) (a .1 .1 .1 .1 .0 .now) (a .1 .1 .1 .1 .1 .0 .now) × (maxListing ≤ length (a .0 .now))')
+    out, given, answers, ss, sure, never = p.params
+    life = lambda q: (q.κ, q.q)
+    shr = lambda q: f'own-{q.name} {q.κ} ({q.x} .name) ({q.x} .now)'
+    vals = lambda q: f'slice-vals {q.x}'
+    num = lambda x: f'vint w64 {x} ∷ []'
+    gvals = f'LL.vals G.the-type G′.the-laws given'
+    loan = lambda α: (f'({α} ∷ [])', 'fullShare')
+    fm = 'fm'
+    tokens = lambda *qs: nest_toks([loan(q) if isinstance(q, str) else life(q) for q in qs])
+    shared = [answers, ss, sure, never]
+    w = Walk([f'L{k}' for k in range(16)] + ['dies', 'T', 'O'])
+    w.passes(p.params)
+    w.unpack('T', [f't-{q.name}' for q in [out] + shared] + ['true'], 'split')
+    w.unpack('O', [f'o-{q.name}' for q in p.params] + ['true₂'], 'fsplit')
+    w.drop('true', 'o-given', 'true₂')
+    for q in (sure, never):
+        w.move(f'o-{q.name}')
+        w.say(f'use1 W (‵ ({shr(q)}) ⊛ ‵ ({shr(q)})) (shr-slice-copy 𝓤 H A W {q.named} {q.κ} {q.row} .twice {q.x} (slice-vals {q.x})) $ split ! $')
+        w.top(1, f'c-{q.name}', f'o-{q.name}')
+
+    def number_into(k, name, r, v, is_):
+        w.peek(name, 'usize', r, v, is_)
+        w.land(k, f'(uint-lawful 𝓤 H A W w64 .typed {r} _ {is_} .0)', f'vint w64 {r}')
+        w.say(f'rewrite ! {w.at(f"L{k}")} (λ (y : Val). ‵ (fat fullShare (tyInt w64) (ns{proj(k)}) 0 y)) (ap only ({is_} .0)) refl $')
+        w.drop(name)
+
+    def buffer_back(α, δ, l, z, long, same):
+        w.say(f'fsplit ! $ fsplit ! $ move ! (1 ∷ []) $ feqL ! {w.bind(same)}')
+        w.top(1, 'o-outF', 'rest')
+        w.back(out, α, δ, l, z, f'subst (Room u8) (sym ({long})) ({out.room})', long, same)
+        w.drop('rest')
+
+    # the lines in front of the rows
+    w.reborrow(1, out, 10, 11)
+    w.lend(out, 'α', 'δ', '(x-out .now)', 'refl')
+    ins = ['o-outT', 't-answers', 't-sure', 't-never', 'o-outA', 'o-answers', 'c-sure', 'c-never']
+    w.move(*ins)
+    w.say(f'group ! {len(ins)} $ use1 W (raw ({front.triple} .pre (to-front α δ))) (goes-front α δ) $')
+    w.top(len(ins), 'pre')
+    w.call(front, fm, '(to-front α δ)', [11, 2, 3, 5, 6], 'v₁', ('n₁', 'ℕ'), 'usize', tokens('α', answers, sure, never), ('zs₁', 'List ℕ × (Unit {0} × (Unit {0} × (Unit {0} × (Unit {0} × Unit {0}))))'),
+           ('e₁', 'Front-said (zs₁ .0) n₁'), ['tokens', 'number', 'put'])
+    number_into(7, 'number', 'n₁', 'v₁', 'is₁')
+    w.unpack('tokens', ['o-outT', 't-answers', 't-sure', 't-never', 'true'], 'split')
+    w.move('put')
+    buffer_back('α', 'δ', '(x-out .now)', '(zs₁ .0)', 'refl', 'same₁')
+    w.drop('true')
+    # how many rows
+    w.say(f'use0 W (raw ({count.triple} .pre to-count)) goes-count $')
+    w.top(0, 'pre')
+    w.call(count, fm, 'to-count', [2], 'v₂', ('n', 'ℕ'), 'usize', '‵ ftrue', ('zs₂', 'Unit {0} × Unit {0}'), ('e₂', 'n ≡ rowCount given'), ['true', 'number', 'none'])
+    number_into(8, 'number', 'n', 'v₂', 'is₂')
+    w.drop('true', 'none')
+    # the rows
+    w.reborrow(1, out, 12, 13)
+    w.lend(out, 'β', 'ε', '(zs₁ .0)', 'same₁')
+    ins = ['o-outT', 't-states', 'o-outA', 'o-states']
+    w.move(*ins)
+    to = '(to-rows β ε (zs₁ .0) n₁ n)'
+    w.say(f'group ! {len(ins)} $ use1 W (raw ({rows.triple} .pre {to})) (goes-rows β ε (zs₁ .0) n₁ n (is₁ .1) (is₂ .1) same₁ e₁ e₂) $')
+    w.top(len(ins), 'pre')
+    w.call(rows, fm, to, [13, 7, 8, 4], 'v₃', ('n₃', 'ℕ'), 'usize', tokens('β', ss), ('zs₃', 'List ℕ × (Unit {0} × (Unit {0} × (Unit {0} × Unit {0})))'),
+           ('e₃', 'Rows-said (zs₁ .0) (zs₃ .0) n₁ n₃ n'), ['tokens', 'number', 'put'])
+    number_into(9, 'number', 'n₃', 'v₃', 'is₃')
+    w.unpack('tokens', ['o-outT', 't-states', 'true'], 'split')
+    w.move('put')
+    buffer_back('β', 'ε', '(zs₁ .0)', '(zs₃ .0)', 'same₁', 'same₃')
+    w.drop('true')
+    # the last line
+    w.reborrow(1, out, 14, 15)
+    ins = ['t-out', 't-sure', 't-never', 'o-out', 'o-sure', 'o-never']
+    w.move(*ins)
+    to = '(to-last (zs₃ .0) n₃)'
+    w.say(f'group ! {len(ins)} $ use1 W (raw ({last.triple} .pre {to})) (goes-last (zs₃ .0) n₃ (zs₁ .0) n₁ n (is₃ .1) (same₃ ∙ same₁) e₁ e₂ e₃) $')
+    w.top(len(ins), 'pre')
+    w.call(last, fm, to, [15, 9, 2, 5, 6], 'v', ('r', 'ℕ'), 'usize', tokens(out, sure, never), ('zs', 'List ℕ × (Unit {0} × (Unit {0} × (Unit {0} × (Unit {0} × Unit {0}))))'),
+           ('e', 'Wrote maxLastLine (zs₃ .0) (zs .0) n₃ r (lastText given (x-sure .now) (x-never .now))'), ['tokens', 'number', 'put'])
+    w.peek('number', 'usize', 'r', 'v', 'is')
+    w.land(0, '(uint-lawful 𝓤 H A W w64 .typed r _ is .0)', 'v')
+    w.unpack('tokens', ['t-out', 't-sure', 't-never', 'true'], 'split')
+    w.move('put')
+    w.say(f'fsplit ! $ fsplit ! $ move ! (1 ∷ []) $ feqL ! {w.bind("same")}')
+    w.top(1, 'last', 'rest')
+    w.drop('true', 'rest')
+    left = [f't-{q.name}' for q in [out] + shared] + ['last', 'number']
+    w.move(*left)
+    w.say(f'group ! {len(left)} $')
+    w.top(len(left), 'left')
+    assert w.ctx == ['left'] + [f'L{k}' for k in range(16)] + ['dies'], w.ctx
+    w.say(f'returns ! (look ! {w.at("L0")} refl) $ free-under ! (code.function .locals) ns {w.slots(16)} $ by ! (exits r v (zs .0) (same ∙ same₃ ∙ same₁) (list-all (pre .0) n e₁ e₂ e₃ e))' + ')' * w.open)
+    αδ = [('α', 'ℕ'), ('δ', 'GName')]
+    βε = [('β', 'ℕ'), ('ε', 'GName'), ('l', 'List ℕ'), ('n₁', 'ℕ'), ('n', 'ℕ')]
+    ln = [('l', 'List ℕ'), ('n₃', 'ℕ')]
+    one = lambda q: f'o-{q.name}'
+    texts = [ghost('front', front, αδ, [loan('α'), life(answers), life(sure), life(never)], [lent_as(out, 'δ', 'x-out .now'), 'given', 'x-answers', 'x-sure', 'x-never'],
+                   [vals(out), gvals, vals(answers), vals(sure), vals(never)]),
+             goes(front, αδ, [], [loan('α'), life(answers), life(sure), life(never)],
+                  ['own-out (α ∷ []) δ (x-out .now)', struct('G', 'given', '(are .1 .0)'), shr(answers), shr(sure), shr(never)], '(front-room (pre .0) (x-out .now) (pre .1))'),
+             ghost('count', count, [], [], ['given'], [gvals]),
+             goes(count, [], [], [], [struct('G', 'given', '(are .1 .0)')], None),
+             ghost('rows', rows, βε, [loan('β'), life(ss)], [lent_as(out, 'ε', 'l'), 'n₁', 'n', 'x-states'], [vals(out), num('n₁'), num('n'), vals(ss)]),
+             goes(rows, βε, [('s₁', 'n₁ < 2 ^ 64'), ('s₂', 'n < 2 ^ 64'), ('same', 'length l ≡ length (x-out .now)'), ('e₁', 'Front-said l n₁'), ('e₂', 'n ≡ rowCount given')], [loan('β'), life(ss)],
+                  ['own-out (β ∷ []) ε l', number('n₁', 's₁'), number('n', 's₂'), shr(ss)], '(rows-room (pre .0) (x-out .now) (pre .1) n same e₁ e₂)'),
+             ghost('last', last, ln, [life(out), life(sure), life(never)], [lent_as(out, 'x-out .name', 'l'), 'n₃', 'given', 'x-sure', 'x-never'], [vals(out), num('n₃'), gvals, vals(sure), vals(never)]),
+             goes(last, ln, [('l₁', 'List ℕ'), ('n₁', 'ℕ'), ('n', 'ℕ'), ('s', 'n₃ < 2 ^ 64'), ('same', 'length l ≡ length (x-out .now)'), ('e₁', 'Front-said l₁ n₁'), ('e₂', 'n ≡ rowCount given'), ('e₃', 'Rows-said l₁ l n₁ n₃ n')],
+                  [life(out), life(sure), life(never)], [f'own-out (κs .0) (x-out .name) l', number('n₃', 's'), struct('G', 'given', '(are .1 .0)'), shr(sure), shr(never)],
+                  '(last-room (pre .0) (x-out .now) (pre .1) n same e₁ e₂ e₃)')]
+    toks = [f'flft {q.κ} {q.q}' for q in [out] + shared]
+    ex = Walk([f't{i}' for i in range(5)] + ['last', 'number'])
+    ex.say('nothing ! $')
+    ex.top(0, 'none')
+    ex.pack([f't{i}' for i in range(5)] + ['none'], 'join')
+    ex.say('frame ! $')
+    ex.top(1)
+    ex.say('feqI ! ℕ (length l) (length (x-out .now)) long $')
+    ex.top(0, 'long')
+    ex.move('last', 'long')
+    ex.say('fjoin ! $ nothing ! $ nothing ! $ fjoin ! $ nothing ! $ fjoin ! $ nothing ! $ fjoin ! $ nothing ! $ fjoin ! $ nothing ! $ fjoin ! $ move ! (1 ∷ 0 ∷ []) $ fjoin ! $ done !')
+    return p.file(f'''abbrev Pair : RattleType
+Pair = Array u16 2
+
+{p.top()}{p.module()}
+  abbrev given : Answer
+  given = a .1 .0
+
+  abbrev Front-said : List ℕ → ℕ → Type 0
+  Front-said l n = Wrote maxFront (x-out .now) l 0 n (frontText given (x-answers .now) (x-sure .now) (x-never .now))
+
+  abbrev Rows-said : List ℕ → List ℕ → ℕ → ℕ → ℕ → Type 0
+  Rows-said l k n m c = Wrote (maxRowLine * c) l k n m (joined (rowAt (x-states .now)) c)
+
+  -- what each callee's triple binds outside, and that the caller has what it asks
+{chr(10).join(texts)}
+  exits : (r : ℕ) (v : Val) (l : List ℕ) → length l ≡ length (x-out .now) → Listed given (x-answers .now) (x-states .now) (x-sure .now) (x-never .now) (x-out .now) l r
+      → ent 𝓤 ({nest('sep 𝓤', [f'sem 𝓤 H A ({t})' for t in toks] + ['sem 𝓤 H A (finally u8 (x-out .name) l)', 'sem 𝓤 H A (usize .own r (v ∷ []))'])}) (Post v)
+  exits r v l long said =
+      qed W ({' ∷ '.join(f'‵ ({t})' for t in toks)} ∷ ‵ (finally u8 (x-out .name) l) ∷ ‵ (usize .own r (v ∷ [])) ∷ []) ∵
+      {p.ends_at('v', 'r', '(l, (tt, (tt, (tt, (tt, (tt, tt))))))')} says ! said $ {ex.text('      ')}
+
+  module _ (C : Calls 𝓤 H) (Λ : Loops 𝓤 H) (fm : FmC 𝓤 H (W .laws) C){p.known('C')} where
+    walk : ent 𝓤 (onEntry 𝓤 H A f.signature κs qs a (at κs a)) (WpFn 𝓤 H C Λ code.function ({p.machine}) Post)
+    walk =
+        qed W ({nest_toks([life(q) for q in [out] + shared])} ∷ ‵ (owns (typesAt (f.signature .params) κs) a (at κs a)) ∷ []) ∵
+        enter ! C Λ code.function ({p.machine}) _ $ alloc-all ! (code.function .locals) (λ ns. params1 ! $
+        {w.text(' ' * 8)})
+{p.ending('(𝓣 .C) (𝓣 .Λ) (fmOf 𝓤 H (W .laws) 𝓣)')}''')
+
+
+WALKS = {'states/load': load, 'states/store': store, 'states/show_states': show_states, 'listing/row_lines': row_lines, 'listing/list': lent_list}
 
 
 def main():

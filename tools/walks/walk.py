@@ -4,6 +4,8 @@
 body, its layout. The steps themselves are the toolchain's and those of crate `walks`."""
 import re
 
+LIMIT = 240  # characters of a line
+
 
 def proj(i):
     """Component i of a tuple that is nested to the right."""
@@ -18,7 +20,17 @@ def tup(xs, end='tt'):
 
 def long_tup(xs, end='tt'):
     """The same, with no comma: it may be broken anywhere."""
-    return '(' + ' ▹ '.join([f'({x})' if ' ' in x else x for x in xs] + [end]) + ')'
+    inner = lambda x: x if ' ' not in x or (x[0] == '(' and closes(x)) else f'({x})'
+    return '(' + ' ▹ '.join([inner(x) for x in xs] + [end]) + ')' if xs else end
+
+
+def closes(x):
+    """Whether the bracket that x begins with is closed at its end."""
+    depth = 0
+    for i, c in enumerate(x):
+        depth += (c == '(') - (c == ')')
+        if depth == 0:
+            return i == len(x) - 1
 
 
 def lst(xs):
@@ -30,6 +42,14 @@ def nest(op, xs):
     s = xs[-1]
     for x in reversed(xs[:-1]):
         s = f'{op} ({x}) ({s})'
+    return s
+
+
+def nest_toks(lives):
+    """The tokens of lifetimes, as the logic nests them."""
+    s = '‵ ftrue'
+    for κ, q in reversed(lives):
+        s = f'(‵ (flft {κ} {q}) ⊛ {s})'
     return s
 
 
@@ -63,6 +83,19 @@ class Walk:
             self.move(*names)
             self.say(' '.join(['drop ! $'] * len(names)))
             self.top(len(names))
+
+    def unpack(self, name, parts, step):
+        """An entry that is nested to the right, taken apart: split for entries under ⊛, fsplit for one formula."""
+        self.move(name)
+        self.say(' '.join([f'{step} ! $ move ! (1 ∷ []) $'] * (len(parts) - 1)))
+        self.top(1, parts[-1], *reversed(parts[:-1]))
+
+    def pack(self, parts, step):
+        """The other way: the last of the parts is nested deepest, and the first gives its name."""
+        for x, rest in zip(reversed(parts[:-1]), reversed(parts[1:])):
+            self.move(x, rest)
+            self.say(f'{step} ! $')
+            self.top(2, x)
 
     def bind(self, name):
         self.open += 1
@@ -240,6 +273,85 @@ class Callee:
         return f'lasts {self.name}′.ended ({to} .0 .0) ({to} .0 .3) {zs}'
 
 
+def ghost(name, callee, binders, lives, args, vals):
+    """What the callee's triple binds outside. lives: (lifetime, share)."""
+    names = ''.join(f' {b}' for b, _ in binders)
+    types = ''.join(f' ({b} : {t})' for b, t in binders)
+    head = f'  to-{name}{names} = '
+    parts = [long_tup([κ for κ, _ in lives]), long_tup([q for _, q in lives]), 'tt', long_tup(args), long_tup(vals)]
+    line = f'{head}(({", ".join(parts)}), tt)'
+    if len(line) > LIMIT:
+        line = f'{head}(\n    (\n' + ''.join(f'      {x},\n' for x in parts) + '    ),\n    tt,\n  )'
+    return f'''  abbrev to-{name} :{types + " →" if binders else ""} {callee.triple} .Ghost
+{line}
+'''
+
+
+def lent_as(p, δ, l):
+    """A slice lent under another name, at a list."""
+    return f'record {{ ptr = {p.x} .ptr; name = {δ}; now = {l} }}'
+
+
+class Made:
+    """A value that a call takes: what it owns is made of what is known of it."""
+
+    def __init__(self, row, makes, x, vals, is_):
+        self.row, self.makes, self.x, self.vals, self.is_ = row, makes, x, vals, is_
+
+
+def number(x, fits):
+    return Made('usize', '(uint-makes 𝓤 H A W w64)', x, f'(vint w64 {x} ∷ [])', f'(refl, {fits})')
+
+
+def struct(row, x, is_):
+    return Made(f'{row}.the-row', f'(LL.makes {row}.the-type {row}′.the-plain 𝓤 H A)', x, f'(LL.vals {row}.the-type {row}′.the-laws {x})', is_)
+
+
+def goes(callee, binders, known, tokens, owns, fact):
+    """That a caller has what the callee's triple asks. binders: what `to-` takes, as (name, type); known: further facts, likewise;
+    tokens: (lifetime, share); owns: formulas and values made, in the callee's order; fact: what it requires, None for nothing."""
+    kept = [x for x in owns if not isinstance(x, Made)]
+    w = Walk([f't{i}' for i in range(len(tokens))] + [f'o{i}' for i in range(len(kept))])
+    if fact:
+        w.say(f'says ! {fact} $')
+    w.say('nothing ! $')
+    w.top(0, 'none')
+    w.pack([f't{i}' for i in range(len(tokens))] + ['none'], 'join')
+    held = w.ctx[w.at('t0')] if tokens else 'none'
+    if fact:
+        w.move(held)
+        w.say('frame ! $')
+        w.top(1)
+    w.say('nothing ! $')
+    w.top(0, 'owns')
+    n = len(kept)
+    for x in reversed(owns):
+        if isinstance(x, Made):
+            w.move('owns')
+            w.say(f'owned ! {x.row} (Is {x.row}) {x.makes} {x.x} {x.vals} {x.is_} $ fjoin ! $')
+        else:
+            n -= 1
+            w.move(f'o{n}', 'owns')
+            w.say('fjoin ! $')
+            w.top(2, 'owns')
+    if not fact:
+        w.move(held, 'owns')
+        w.say('join ! $ frame ! $')
+    w.say('done !')
+    items = [f'A .lft {κ} {q}' for κ, q in tokens] + [f'sem 𝓤 H A ({x})' for x in kept]
+    entries = [f'‵ (flft {κ} {q})' for κ, q in tokens] + [f'‵ ({x})' for x in kept] + ['[]']
+    n = callee.name
+    args = ''.join(f' {b}' for b, _ in binders)
+    types = ''.join(f' ({b} : {t})' for b, t in binders + known)
+    facts = ''.join(f' {b}' for b, _ in known)
+    to = f'(to-{n}{args})' if args else f'to-{n}'
+    left = nest('sep 𝓤', items) if items else 'emp 𝓤'
+    return f'''  goes-{n} :{types + " →" if types else ""} ent 𝓤 ({left}) ({callee.triple} .pre {to})
+  goes-{n}{args}{facts} =
+      qed W ({" ∷ ".join(entries)}) ∵ {w.text("      ")}
+'''
+
+
 LIBRARY = '''use mathlib.Core.Path.{_≡_, refl, sym, ap, subst, _∙_}
 use mathlib.Core.Bool.{Bool, true, false, not}
 use mathlib.Core.Option.{none, some as someᴼ}
@@ -319,7 +431,7 @@ def used(uses, body):
     return '\n'.join(out) + '\n'
 
 
-def layout(text, limit=240):
+def layout(text, limit=LIMIT):
     """Long lines are broken where no bracket with a comma is open, which `rt fmt` leaves as it is."""
     out = []
     for line in text.split('\n'):

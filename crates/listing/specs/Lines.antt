@@ -41,8 +41,12 @@ maxRowLine = 113
 abbrev pub maxLastLine : ℕ
 maxLastLine = 53
 
-abbrev pub maxStateLines : ℕ
-maxStateLines = maxNodeLine * maxNodes + maxRowLine * maxThresholds
+abbrev pub maxNodeLines : ℕ
+maxNodeLines = maxNodeLine * maxNodes
+
+-- All lines in front of the rows.
+abbrev pub maxFront : ℕ
+maxFront = maxAnswerLine * 64 + maxNodeLines
 
 -- The fixed length of the buffer that the listing is made in: enough for every file.
 abbrev pub maxListing : ℕ
@@ -81,24 +85,39 @@ refusedLine number offset = text "refused " ++ decimal number ++ text " at " ++ 
 abbrev pub decided : List ℕ → ℕ
 decided mask = count (take 64 mask) maxNodes
 
--- THE LISTING, part by part.
+-- THE LISTING, part by part: answers and, if sealed, nodes; the rows that are listed; the last line.
 
-unfoldable pub stateText : Given → List State → List ℕ → List ℕ → List ℕ
-stateText g states sure never = cond (g .sealed) (joined (nodeAt sure never) (g .nodes) ++ joined (rowAt states) (g .rows)) []
+unfoldable pub nodeText : Given → List ℕ → List ℕ → List ℕ
+nodeText g sure never = cond (g .sealed) (joined (nodeAt sure never) (g .nodes)) []
+
+abbrev pub frontText : Given → List (List ℕ) → List ℕ → List ℕ → List ℕ
+frontText g answers sure never = joined (answerAt answers) (g .answered) ++ nodeText g sure never
+
+abbrev pub rowCount : Given → ℕ
+rowCount g = cond (g .sealed) (g .rows) 0
 
 unfoldable pub lastText : Given → List ℕ → List ℕ → List ℕ
 lastText g sure never = cond (eqb (g .refused) 0) (endLine (decided sure) (decided never)) (refusedLine (g .refused) (g .at))
 
+abbrev pub listed : Given → List (List ℕ) → List State → List ℕ → List ℕ → List ℕ
+listed g answers states sure never = frontText g answers sure never ++ joined (rowAt states) (rowCount g) ++ lastText g sure never
+
 -- What is read lies inside the buffers, and is not more than any file leaves.
-pub record Sealed (g : Given) (states : List State) (sure never : List ℕ) : Type 0 where
+pub record InMasks (g : Given) (sure never : List ℕ) : Type 0 where
   pub nodes : g .nodes ≤ maxNodes
   pub in-sure : g .nodes ≤ 64 * length sure
   pub in-never : g .nodes ≤ 64 * length never
+
+pub record Sealed (g : Given) (states : List State) (sure never : List ℕ) : Type 0 where
+  pub masks : InMasks g sure never
   pub rows : g .rows ≤ maxThresholds
   pub in-states : g .rows ≤ length states
 
-pub record Listable (g : Given) (answers : List (List ℕ)) (states : List State) (sure never : List ℕ) : Type 0 where
+pub record Answered (g : Given) (answers : List (List ℕ)) : Type 0 where
   pub few : g .answered ≤ 64
-  pub in-answers : g .answered ≤ length answers
+  pub inside : g .answered ≤ length answers
+
+pub record Listable (g : Given) (answers : List (List ℕ)) (states : List State) (sure never : List ℕ) : Type 0 where
+  pub answered : Answered g answers
   pub sealed : g .sealed ≡ true → Sealed g states sure never
   pub ended : g .refused ≡ 0 → (64 ≤ length sure) × (64 ≤ length never)

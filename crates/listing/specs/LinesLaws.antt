@@ -7,14 +7,13 @@ use mathlib.Core.List.{List, [], _++_}
 use lib.ListN.{length, take, length-take}
 use borrow.Author.Tests.{lt-ltb, le-ltb, eq-eqb, ne-eqb}
 use Rattle.state.specs.declared.Step.the-variants.{Contradiction}
-use Rattle.state.specs.declared.State.{State}
 use Rattle.words.specs.Mask.{bit, count}
 use Rattle.memory.specs.Limits.{maxNodes}
 use Rattle.files.specs.File.{settled, sifted}
 use Rattle.files.specs.Listing.{text, decimal}
 use Rattle.files.specs.declared.Given.{Given}
 use Rattle.listing.specs.Text.{joined}
-use Rattle.listing.specs.Lines.{stepOf, answerOf, nodeAt, rowAt, endLine, refusedLine, decided, stateText, lastText}
+use Rattle.listing.specs.Lines.{stepOf, answerOf, nodeAt, endLine, refusedLine, decided, nodeText, lastText}
 
 pub step-other : (n : ℕ) → (n ≡ 0 → ⊥) → (n ≡ 1 → ⊥) → stepOf n ≡ Contradiction
 unfolding stepOf
@@ -48,13 +47,13 @@ counted mask h = ap (count (take 64 mask)) {x = 64 * length (take 64 mask)} {y =
 
 -- ---- the parts
 
-pub state-sealed : (g : Given) (states : List State) (sure never : List ℕ) → g .sealed ≡ true → stateText g states sure never ≡ joined (nodeAt sure never) (g .nodes) ++ joined (rowAt states) (g .rows)
-unfolding stateText
-state-sealed g states sure never h = rw h
+pub nodes-sealed : (g : Given) (sure never : List ℕ) → g .sealed ≡ true → nodeText g sure never ≡ joined (nodeAt sure never) (g .nodes)
+unfolding nodeText
+nodes-sealed g sure never h = rw h
 
-pub state-none : (g : Given) (states : List State) (sure never : List ℕ) → g .sealed ≡ false → stateText g states sure never ≡ []
-unfolding stateText
-state-none g states sure never h = rw h
+pub nodes-none : (g : Given) (sure never : List ℕ) → g .sealed ≡ false → nodeText g sure never ≡ []
+unfolding nodeText
+nodes-none g sure never h = rw h
 
 pub last-end : (g : Given) (sure never : List ℕ) → g .refused ≡ 0 → lastText g sure never ≡ endLine (decided sure) (decided never)
 unfolding lastText

@@ -20,7 +20,7 @@ use Rattle.files.specs.Contents.{answerNumber, answerVisits, givenOf}
 use Rattle.files.specs.Listing.{text, digits, decimal, answerLine, answerLines, nodeLines, rowLines, stateLines, lastLine, listing}
 use Rattle.files.specs.declared.Given.{Given}
 use Rattle.listing.specs.Text.{joined}
-use Rattle.listing.specs.Lines.{stepOf, answerOf, answerAt, nodeAt, rowLine, rowAt, endLine, refusedLine, decided, stateText, lastText, Listable}
+use Rattle.listing.specs.Lines.{stepOf, answerOf, answerAt, nodeAt, rowLine, rowAt, endLine, refusedLine, decided, nodeText, rowCount, lastText, listed, Listable}
 use Rattle.listing.specs.Shows.{Inside, Held, ten, Shows, untouched, held}
 
 -- ---- texts by number
@@ -161,12 +161,14 @@ module _ (o : Outcome) (answers : List (List ℕ)) (states : List State) (sure n
       (λ r k. ap (rowLine r) (sym (getD-take n states r noState k) ∙ ap (λ (l : List State). getD l r noState) e ∙ getD-take n (f .live .states) r noState k))
       ∙ ap (joined (row f)) q ∙ sym (from-zero (row f) (length (rowsOf (f .closed)))) ∙ sym (rows-read f (rowsOf (f .closed)) 0)
 
-  state-part : stateText g states sure never ≡ stateLines f
-  unfolding stateText
+  -- Nodes and rows, where the file is sealed.
+  state-part : nodeText g sure never ++ joined (rowAt states) (rowCount g) ≡ stateLines f
+  unfolding nodeText joined
   state-part = by (f .sealed) (h .closed) (h .stated)
     where
       by : (b : Bool) → (b ≡ true → f .closed .nodes ≡ f .job .nodes) → let n : ℕ = cond b (length (rowsOf (f .closed))) 0 in take n states ≡ take n (f .live .states)
-          → cond b (joined (nodeAt sure never) (f .job .nodes) ++ joined (rowAt states) (cond b (length (rowsOf (f .closed))) 0)) [] ≡ cond b (nodeLines f (f .closed .nodes) 0 ++ rowLines f (rowsOf (f .closed)) 0) []
+          → cond b (joined (nodeAt sure never) (f .job .nodes)) [] ++ joined (rowAt states) (cond b (cond b (length (rowsOf (f .closed))) 0) 0)
+          ≡ cond b (nodeLines f (f .closed .nodes) 0 ++ rowLines f (rowsOf (f .closed)) 0) []
       by true q e =
           ap₂ (λ (a b : List ℕ). a ++ b) (node-part ∙ ap (λ (n : ℕ). nodeLines f n 0) (sym (q refl))) (row-part (length (rowsOf (f .closed))) e refl)
       by false q e = refl
@@ -182,11 +184,8 @@ module _ (o : Outcome) (answers : List (List ℕ)) (states : List State) (sure n
 
 -- ---- THE LISTING
 
-abbrev pub listed : Given → List (List ℕ) → List State → List ℕ → List ℕ → List ℕ
-listed g answers states sure never = joined (answerAt answers) (g .answered) ++ stateText g states sure never ++ lastText g sure never
-
 ten-listed : (answers : List (List ℕ)) (states : List State) (sure never : List ℕ) → listed (givenOf ten) answers states sure never ≡ listing ten
-unfolding listing joined stateText lastText refusedLine answerLines begun
+unfolding listing joined nodeText lastText refusedLine answerLines begun
 ten-listed answers states sure never = refl
 
 -- After refusal 10 it is the one line.
@@ -201,14 +200,14 @@ shows-listing {o} {g} {answers} {states} {sure} {never} (untouched e q) =
     ap (λ (x : Given). listed x answers states sure never) q ∙ ten-listed answers states sure never ∙ ap listing (sym e)
 shows-listing {o} {g} {answers} {states} {sure} {never} (held q h) =
     ap (λ (x : Given). listed x answers states sure never) q
+    ∙ ap (λ (a : List ℕ). a ++ lastText (givenOf o) sure never) (append-assoc (joined (answerAt answers) (givenOf o .answered)) (nodeText (givenOf o) sure never) (joined (rowAt states) (rowCount (givenOf o))))
     ∙ ap₂ (λ (a b : List ℕ). a ++ b) (ap₂ (λ (a b : List ℕ). a ++ b) (answer-part o answers states sure never h) (state-part o answers states sure never h))
     (last-part o answers states sure never h)
 
 ten-listable : (answers : List (List ℕ)) (states : List State) (sure never : List ℕ) → Listable (givenOf ten) answers states sure never
 unfolding begun
 ten-listable answers states sure never = record {
-  few = omega arith;
-  in-answers = omega arith;
+  answered = record { few = omega arith; inside = omega arith };
   sealed = λ s. absurd (let z : _≡_ {A = ℕ} 0 1 = cc in omega arith);
   ended = λ z. absurd (omega arith);
 }
@@ -220,12 +219,9 @@ shows-listable {o} {g} {answers} {states} {sure} {never} (untouched e q) =
     subst (λ (x : Given). Listable x answers states sure never) (sym q) (ten-listable answers states sure never)
 shows-listable {o} {g} {answers} {states} {sure} {never} (held q h) =
     subst (λ (x : Given). Listable x answers states sure never) (sym q) (record {
-      few = h .few-answers;
-      in-answers = h .in-answers;
+      answered = record { few = h .few-answers; inside = h .in-answers };
       sealed = λ s. record {
-        nodes = h .few-nodes;
-        in-sure = omega (arith, h .few-nodes, h .in-sure);
-        in-never = omega (arith, h .few-nodes, h .in-never);
+        masks = record { nodes = h .few-nodes; in-sure = omega (arith, h .few-nodes, h .in-sure); in-never = omega (arith, h .few-nodes, h .in-never) };
         rows = h .few-rows;
         in-states = h .in-states;
       };

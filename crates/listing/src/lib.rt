@@ -6,10 +6,9 @@ ghost use Prim.Native.Nat.{_+_, _*_, _<_, _≤_, _%_};
 ghost use lib.ListN.{length, drop};
 ghost use lib.IntN.{natAbs};
 ghost use Rattle.files.specs.Listing.{text as textOf, decimal as decimalOf, decimalZ, upperText, stepWord, figures as figuresText, answerLine};
-ghost use Rattle.between.specs.Numbers.{statesOf};
 ghost use Rattle.listing.specs.Text.{Wrote, joined};
-ghost use Rattle.listing.specs.Lines.{maxDecimal, maxSigned, maxStep, maxFigures, maxAnswerLine, maxNodeLine, maxRowLine, maxLastLine, maxStateLines, maxListing};
-ghost use Rattle.listing.specs.Lines.{stepOf, answerOf, answerAt, nodeAt, rowLine, rowAt, endLine, refusedLine, decided, stateText, lastText, Sealed, Listable};
+ghost use Rattle.listing.specs.Lines.{maxDecimal, maxSigned, maxStep, maxFigures, maxAnswerLine, maxNodeLine, maxRowLine, maxLastLine, maxNodeLines, maxFront, maxListing};
+ghost use Rattle.listing.specs.Lines.{stepOf, answerOf, answerAt, nodeAt, rowLine, rowAt, endLine, refusedLine, decided, nodeText, frontText, rowCount, lastText, InMasks, Answered, Listable};
 ghost use Rattle.listing.specs.Shows.{Listed};
 use files::Given;
 use state::State;
@@ -215,20 +214,14 @@ fn row_line(out: &mut [u8], at: usize, r: usize, state: State) -> usize
     put(out, c, b"\n")
 }
 
-fn row_lines(
-    out: &mut [u8],
-    at: usize,
-    count: usize,
-    figures: &[[i64; 4]],
-    cursors: &[[usize; 5]],
-) -> usize
-    requires { ⌜ (at + maxRowLine * count ≤ length (now out)) × (count ≤ length (statesOf (now figures) (now cursors))) ⌝ }
-    ensures { λ r. ⌜ Wrote (maxRowLine * count) (now (out .entry)) (now (out .exit)) at r (joined (rowAt (statesOf (now (figures .entry)) (now (cursors .entry)))) count) ⌝ }
+fn row_lines(out: &mut [u8], at: usize, count: usize, states: &[State]) -> usize
+    requires { ⌜ (at + maxRowLine * count ≤ length (now out)) × (count ≤ length (now states)) ⌝ }
+    ensures { λ r. ⌜ Wrote (maxRowLine * count) (now (out .entry)) (now (out .exit)) at r (joined (rowAt (now (states .entry))) count) ⌝ }
 {
     let mut end = at;
     let mut r = 0;
     while r < count {
-        let state = between::load(figures, cursors, r);
+        let state = states::load(states, r);
         end = row_line(out, end, r, state);
         r += 1;
     }
@@ -259,25 +252,42 @@ fn refused_line(out: &mut [u8], at: usize, number: u8, offset: usize) -> usize
 
 // ---- the whole
 
-// If sealed, the nodes that are decided, rising, and the rows.
-fn state_lines(
-    out: &mut [u8],
-    at: usize,
-    given: Given,
-    figures: &[[i64; 4]],
-    cursors: &[[usize; 5]],
-    sure: &[u64],
-    never: &[u64],
-) -> usize
-    requires { ⌜ (at + maxStateLines ≤ length (now out)) × (given .sealed ≡ true → Sealed given (statesOf (now figures) (now cursors)) (now sure) (now never)) ⌝ }
-    ensures { λ r. ⌜ Wrote maxStateLines (now (out .entry)) (now (out .exit)) at r (stateText given (statesOf (now (figures .entry)) (now (cursors .entry))) (now (sure .entry)) (now (never .entry))) ⌝ }
+// If sealed, the nodes that are decided, rising.
+fn decided_lines(out: &mut [u8], at: usize, given: Given, sure: &[u64], never: &[u64]) -> usize
+    requires { ⌜ (at + maxNodeLines ≤ length (now out)) × (given .sealed ≡ true → InMasks given (now sure) (now never)) ⌝ }
+    ensures { λ r. ⌜ Wrote maxNodeLines (now (out .entry)) (now (out .exit)) at r (nodeText given (now (sure .entry)) (now (never .entry))) ⌝ }
 {
     let sealed = given.sealed;
     if sealed {
-        let end = node_lines(out, at, given.nodes, sure, never);
-        return row_lines(out, end, given.rows, figures, cursors);
+        return node_lines(out, at, given.nodes, sure, never);
     }
     at
+}
+
+// All lines in front of the rows.
+fn front_lines(
+    out: &mut [u8],
+    given: Given,
+    answers: &[[u16; 2]],
+    sure: &[u64],
+    never: &[u64],
+) -> usize
+    requires { ⌜ (maxFront ≤ length (now out)) × Answered given (now answers) × (given .sealed ≡ true → InMasks given (now sure) (now never)) ⌝ }
+    ensures { λ r. ⌜ Wrote maxFront (now (out .entry)) (now (out .exit)) 0 r (frontText given (now (answers .entry)) (now (sure .entry)) (now (never .entry))) ⌝ }
+{
+    let a = answer_lines(out, 0, answers, given.answered);
+    decided_lines(out, a, given, sure, never)
+}
+
+// How many rows are listed.
+fn row_count(given: Given) -> usize
+    ensures { λ r. ⌜ r ≡ rowCount given ⌝ }
+{
+    let sealed = given.sealed;
+    if sealed {
+        return given.rows;
+    }
+    0
 }
 
 fn last_line(out: &mut [u8], at: usize, given: Given, sure: &[u64], never: &[u64]) -> usize
@@ -296,16 +306,15 @@ pub fn list(
     out: &mut [u8],
     given: Given,
     answers: &[[u16; 2]],
-    figures: &[[i64; 4]],
-    cursors: &[[usize; 5]],
+    states: &[State],
     sure: &[u64],
     never: &[u64],
 ) -> usize
-    requires { ⌜ Listable given (now answers) (statesOf (now figures) (now cursors)) (now sure) (now never) ⌝ }
-    requires { ⌜ maxListing ≤ length (now out) ⌝ }
-    ensures { λ r. ⌜ Listed given (now (answers .entry)) (statesOf (now (figures .entry)) (now (cursors .entry))) (now (sure .entry)) (now (never .entry)) (now (out .entry)) (now (out .exit)) r ⌝ }
+    requires { ⌜ Listable given (now answers) (now states) (now sure) (now never) × (maxListing ≤ length (now out)) ⌝ }
+    ensures { λ r. ⌜ Listed given (now (answers .entry)) (now (states .entry)) (now (sure .entry)) (now (never .entry)) (now (out .entry)) (now (out .exit)) r ⌝ }
 {
-    let a = answer_lines(out, 0, answers, given.answered);
-    let b = state_lines(out, a, given, figures, cursors, sure, never);
+    let a = front_lines(out, given, answers, sure, never);
+    let count = row_count(given);
+    let b = row_lines(out, a, count, states);
     last_line(out, b, given, sure, never)
 }
