@@ -670,7 +670,323 @@ Pair = Array u16 2
 {p.ending('(𝓣 .C) (𝓣 .Λ) (fmOf 𝓤 H (W .laws) 𝓣)')}''')
 
 
-WALKS = {'states/load': load, 'states/store': store, 'states/show_states': show_states, 'listing/row_lines': row_lines, 'listing/list': lent_list}
+# ---- the public call
+
+NUMBERS, NUMBER_LISTS, SIGNED = 'ℕ', '(List ℕ)', 'ℤ'
+RAW = [('raw-conditions', 'u16', NUMBERS), ('raw-weights', 'u64', NUMBERS), ('thresholds', 'Two', NUMBER_LISTS), ('bounds', 'i64', SIGNED)]
+BUILT = [('row-conditions', 'u16', NUMBERS), ('row-weights', 'u64', NUMBERS), ('rows', 'Three', NUMBER_LISTS), ('guard-bounds', 'i64', SIGNED), ('guard-nodes', 'u16', NUMBERS),
+         ('nodes', 'Three', NUMBER_LISTS), ('edges', 'Words', NUMBER_LISTS), ('links', 'u16', NUMBERS)]
+KEPT = [('sure', 'u64', NUMBERS), ('never', 'u64', NUMBERS), ('search', 'u64', NUMBERS), ('gcds', 'u64', NUMBERS), ('node-queue', 'u16', NUMBERS), ('row-queues', 'Four', NUMBER_LISTS), ('answers', 'Two', NUMBER_LISTS)]
+SHAPES = ARRAYS + '''abbrev Two : RattleType
+Two = Array u16 2
+
+abbrev Three : RattleType
+Three = Array u16 3
+
+abbrev Four : RattleType
+Four = Array u16 4
+
+abbrev Words : RattleType
+Words = Array u64 2
+
+'''
+
+
+def buffers():
+    lent = lambda group: [Slice(*b, True) for b in group]
+    return [Slice('input', 'u8', 'ℕ', False)] + lent(RAW) + lent(BUILT) + [states(True)] + number_rows(True) + lent(KEPT)
+
+
+def work(zs):
+    """The record of the buffers of numbers, from their lists in order."""
+    z = [f'({x})' for x in zs]
+    return f'work (raw (rawLists {" ".join(z[:3])}) {z[3]}) (built (heldRows {" ".join(z[4:9])}) {" ".join(z[9:12])}) (kept {" ".join(z[12:])})'
+
+
+def planner_run():
+    short = Callee('short', 'Rattle.planner.proofs.too_short', 'planner·too-short')
+    core = Callee('core', 'Rattle.call.proofs.run', 'call·run')
+    test = Callee('test', 'Rattle.planner.proofs.is_too_short', 'planner·is-too-short')
+    show = Callee('show', 'Rattle.states.proofs.show_states', 'states·show-states')
+    p = Proof('planner', 'run', 'The rows of numbers are lent again to `call::run`, then read to show the states; every other buffer is given up to `call::run`.', buffers(),
+              [short, core, test, show], STATE + ROWS + GIVEN + '''use Rattle.memory.specs.Buffers.{Work, rawLists, raw as rawOf, heldRows, built, kept, work}
+use Rattle.states.specs.States.{shown}
+use Rattle.files.specs.Contents.{whole as wholeOf}
+use Rattle.call.specs.Call.{gives}
+use Rattle.planner.specs.Planner.{left, plan, nothing as refusal}
+use Rattle.planner.specs.PlannerLaws.{plan-short, plan-ten, plan-many, plan-shown}
+''')
+    n_front = 1 + len(RAW) + len(BUILT)
+    front, (ss, fig, cur), tail = p.params[:n_front], p.params[n_front:n_front + 3], p.params[n_front + 3:]
+    others = front + [fig, cur] + tail
+    P, count = len(p.params), 77
+    N = lambda i: ' .1' * i
+    life = lambda q: (q.κ, q.q)
+    loan = lambda α: (f'({α} ∷ [])', 'fullShare')
+    own_now = lambda q: f'own-{q.name} {q.κ} ({q.x} .name) ({q.x} .now)'
+    last = lambda q, name, z: f'fsep (finally {q.row} {name} ({z})) (feq ℕ (length ({z})) (length ({q.x} .now)))'
+    # the last lists of `call::run`, in its order
+    z = {q.name: f'zs{proj(i)}' for i, q in enumerate(others)}
+    lasts = ' × ('.join([f'List {q.element}' if q.mut else 'Unit {0}' for q in others]) + ' × Unit {0}' + ')' * (len(others) - 1)
+    raw_work = lambda zs: work(zs).replace('raw (', 'rawOf (', 1)
+    fm = 'fm'
+    arr = {'tokens': 'toks-front', 'owns': 'owns-front'}
+    ind = ' ' * 8
+
+    w = Walk([f'L{k}' for k in range(count)] + ['dies', 'T', 'O'])
+    w.passes(p.params)
+    S, LEN, TEST, GIVEN_, FIRST, ASK, UNIT, SHOW = n_front + 1, 25, 26, 24, 27, 69, 70, 71
+    w.assign(LEN, f'(of-opd ! {w.field(S, 1)})', f'(tt, record {{ fits = {ss.room} .0 }})', 'vint w64 (length ss)')
+    w.assign(TEST, f'(bin ! {w.look(LEN)} (big-lit ! (record {{ fits = lit< tt }})) tt)', '(tt, tt)', 'vbool (ltb (length ss) 1024)')
+    no = w.copy()
+    m = w.copy()
+    w.say(f'if-returns ! {w.look(TEST)}')
+
+    # the states are too short
+    no.say(f'use0 W (raw ({short.triple} .pre to-short)) goes-short $')
+    no.top(0, 'pre')
+    no.call(short, fm, 'to-short', [], 'v', ('r', 'Answer'), 'G.the-row', '‵ ftrue', ('us', 'Unit {0}'), ('e', 'r ≡ refusal'), ['true', 'own', 'lasts'])
+    no.peek('own', 'G.the-row', 'r', 'v', 'is')
+    no.land(0, lawful('G', 'r', 'is'), 'v')
+    no.drop('true', 'lasts')
+    no.move('T', 'O', 'own')
+    no.say('group ! 3 $')
+    no.top(3, 'left')
+    no.say(f'returns-within ! Post refl (look ! {no.at("L0")} refl) $ free-under ! (code.function .locals) ns {no.slots(count)} $')
+    no.say('by ! (exits-short r v (ap (λ (x : Answer). left (gives x w₀) ss) e ∙ plan-short (x-input .now) ss w₀ (ltb→lt (length ss) 1024 little)))' + ')' * no.open)
+
+    # `call::run`
+    args = [1]
+    for i, q in enumerate(others[1:]):
+        ref, slice_ = FIRST + 2 * i, FIRST + 2 * i + 1
+        m.reborrow(p.params.index(q) + 1, q, ref, slice_)
+        args.append(slice_)
+    m.move('T')
+    m.say(f'use1 W (raw (chain 𝓤 toks-front (emp 𝓤)) ⊛ (‵ (flft {ss.κ} {ss.q}) ⊛ (‵ (flft {fig.κ} {fig.q}) ⊛ (‵ (flft {cur.κ} {cur.q}) ⊛ raw toks-tail)))) (chain-out 𝓤 H A W toks-front toks-rest) $')
+    m.unpack('T', ['t-front', 't-states', 't-figures', 't-cursors', 't-tail'], 'split')
+    m.move('O')
+    m.say(f'use1 W (raw (chain 𝓤 owns-front (emp 𝓤)) ⊛ (‵ ({own_now(ss)}) ⊛ (‵ ({own_now(fig)}) ⊛ (‵ ({own_now(cur)}) ⊛ ‵ owns-tail)))) (chain-out 𝓤 H A W owns-front owns-rest) $')
+    m.unpack('O', ['o-front', 'o-states', 'o-figures', 'o-cursors', 'o-tail'], 'split')
+    m.lend(fig, 'α', 'δ', '(x-figures .now)', 'refl')
+    m.lend(cur, 'β', 'ε', '(x-cursors .now)', 'refl')
+    ins = ['t-front', 'o-figuresT', 'o-cursorsT', 't-tail', 'o-front', 'o-figuresA', 'o-cursorsA', 'o-tail']
+    m.move(*ins)
+    to = '(to-core α β δ ε)'
+    m.say(f'group ! {len(ins)} $ use1 W (raw ({core.triple} .pre {to})) (goes-core α β δ ε) $')
+    m.top(len(ins), 'pre')
+    m.call(core, fm, to, args, 'v', ('r', 'Answer'), 'G.the-row', f'raw (toks 𝓤 A {P - 1} ({to} .0 .0) ({to} .0 .1))', ('zs', 'Lasts-core'), ('e', 'gives r (work-at zs) ≡ wholeOf (x-input .now) w₀'), ['tokens', 'own', 'lasts'])
+    m.peek('own', 'G.the-row', 'r', 'v', 'is')
+    m.land(GIVEN_, lawful('G', 'r', 'is'), 'v')
+    m.move('tokens')
+    m.say(f'use1 W (raw (chain 𝓤 toks-front (emp 𝓤)) ⊛ (‵ (flft (α ∷ []) fullShare) ⊛ (‵ (flft (β ∷ []) fullShare) ⊛ raw toks-tail))) (chain-out 𝓤 H A W toks-front (toks-core α β)) $')
+    m.unpack('tokens', ['t-front', 'o-figuresT', 'o-cursorsT', 't-tail'], 'split')
+    m.move('lasts')
+    m.say(f'use1 W (raw (chain 𝓤 (lasts-front zs) (emp 𝓤)) ⊛ (‵ ({last(fig, "δ", z["figures"])}) ⊛ (‵ ({last(cur, "ε", z["cursors"])}) ⊛ ‵ (lasts-tail zs)))) (chain-out 𝓤 H A W (lasts-front zs) (lasts-core δ ε zs)) $')
+    m.unpack('lasts', ['l-front', 'l-figures', 'l-cursors', 'l-tail'], 'split')
+    for q, α, δ, same in ((fig, 'α', 'δ', 'same-f'), (cur, 'β', 'ε', 'same-c')):
+        m.move(f'l-{q.name}')
+        m.say(f'fsplit ! $ move ! (1 ∷ []) $ feqL ! {m.bind(same)}')
+        m.top(1, f'o-{q.name}F')
+        m.back(q, α, δ, f'({q.x} .now)', f'({z[q.name]})', q.room, 'refl', same)
+
+    # whether it refused before the first byte
+    m.say(f'owned ! G.the-row (Is G.the-row) (LL.makes G.the-type G′.the-plain 𝓤 H A) r (v ∷ []) is $ use1 W (raw ({test.triple} .pre (to-test r v))) (goes-test r v) $')
+    m.top(0, 'pre')
+    m.call(test, fm, '(to-test r v)', [GIVEN_], 'v₂', ('b', 'Bool'), 'Boolean', '‵ ftrue', ('us', 'Unit {0} × Unit {0}'), ('e₂', 'b ≡ eqb (r .refused) 10'), ['true', 'bool', 'none'])
+    m.move('bool')
+    m.say(f'feqL ! {m.bind("is₂")}')
+    m.top(1)
+    m.land(ASK, typed_as('tyBool', 'is₂'), 'vbool b')
+    m.say(f'rewrite ! {m.at(f"L{ASK}")} (λ (y : Val). ‵ (fat fullShare tyBool (ns{proj(ASK)}) 0 y)) (ap only is₂) refl $')
+    m.drop('true', 'none')
+    yes, go = m.copy(), m.copy()
+    m.say(f'if-returns ! {m.look(ASK)}')
+    left = ['t-front', 't-states', 't-figures', 't-cursors', 't-tail', 'l-front', 'f-states', 'f-figures', 'f-cursors', 'l-tail', 'own']
+
+    def leave(x, within, fact):
+        x.move(*left)
+        x.say(f'group ! {len(left)} $')
+        x.top(len(left), 'left')
+        assert x.ctx == ['left'] + [f'L{k}' for k in range(count)] + ['dies'], x.ctx
+        ret = 'returns-within ! Post refl' if within else 'returns !'
+        x.say(f'{ret} (look ! {x.at("L0")} refl) $ free-under ! (code.function .locals) ns {x.slots(count)} $')
+        x.say(f'by ! (exits r v zs {fact})' + ')' * x.open)
+
+    yes.assign(0, f'(of-opd ! {yes.look(GIVEN_)})', lawful('G', 'r', 'is'), 'v')
+    for q, l, same in ((ss, 'ss', 'refl'), (fig, z['figures'], 'same-f'), (cur, z['cursors'], 'same-c')):
+        yes.move(f'o-{q.name}')
+        yes.say(f'use1 W (‵ ({last(q, f"({q.x} .name)", l)})) (gives-up 𝓤 H A W {q.named} {q.κ} {q.row} ({lent_as(q, f"{q.x} .name", l)}) (slice-vals {q.x}) (length ({q.x} .now)) {same}) $ fsplit ! $ move ! (1 ∷ []) $ drop ! $')
+        yes.top(1, f'f-{q.name}')
+    big = '(ltb-false (length ss) 1024 (fails (ltb (length ss) 1024) enough))'
+    leave(yes, True, f'ss refl same-f same-c (plan-ten (x-input .now) ss w₀ {big} (gives r (work-at zs)) e (eqb-true (r .refused) 10 (sym e₂ ∙ holds b ten)))')
+
+    # the states are shown
+    for q, φ, same in ((fig, 'φ', 'same-f'), (cur, 'ψ', 'same-c')):
+        go.move(f'o-{q.name}', f't-{q.name}')
+        l = z[q.name]
+        go.say(f'use2 W (later (some (λ ({φ} : GName). ‵ (shr-{q.name} {φ} ({l})) ⊛ (‵ (finally {q.row} ({q.x} .name) ({l})) ⊛ ‵ (flft {q.κ} {q.q})))))')
+        go.say(f'(shares-on 𝓤 H A W {q.row} {q.named} {q.named} {q.κ} {q.q} ({q.x} .ptr .0) ({q.x} .ptr .1) ({q.x} .name) ({l}) (length ({q.x} .now)) {same}) $ await ! tt $ pick ! {go.bind(φ)} split ! $ move ! (1 ∷ []) $ split ! $')
+        go.top(2, f'f-{q.name}', f't-{q.name}', f's-{q.name}')
+    for i, q in enumerate((ss, fig, cur)):
+        go.reborrow(p.params.index(q) + 1, q, SHOW + 2 * i, SHOW + 2 * i + 1)
+    ins = ['t-states', 't-figures', 't-cursors', 'o-states', 's-figures', 's-cursors']
+    go.move(*ins)
+    zf, zc = z['figures'], z['cursors']
+    to = f'(to-show φ ψ ({zf}) ({zc}))'
+    not_ten = '(eqb-false (r .refused) 10 (sym e₂ ∙ fails b other))'
+    go.say(f'group ! {len(ins)} $ use1 W (raw ({show.triple} .pre {to})) (goes-show φ ψ ({zf}) ({zc}) {big} (plan-many (x-input .now) ss w₀ {big} (gives r (work-at zs)) e {not_ten})) $')
+    go.top(len(ins), 'pre')
+    go.call(show, fm, to, [SHOW + 1, SHOW + 3, SHOW + 5], 'v₃', ('u', 'Unit {0}'), 'Nothing', nest_toks([life(ss), life(fig), life(cur)]), ('ts', 'List State × (Unit {0} × (Unit {0} × Unit {0}))'),
+            ('e₃', f'ts .0 ≡ shown (statesOf ({zf}) ({zc})) ss'), ['tokens', 'unit', 'put'])
+    go.move('unit')
+    go.say(f'feqL ! {go.bind("is₃")}')
+    go.top(1)
+    go.land(UNIT, typed_as('tyUnit', 'is₃'), 'v₃')
+    go.unpack('tokens', ['t-states', 't-figures', 't-cursors', 'true'], 'split')
+    go.move('put')
+    go.say(f'fsplit ! $ fsplit ! $ move ! (1 ∷ []) $ feqL ! {go.bind("same")}')
+    go.top(1, 'f-states', 'rest')
+    go.assign(0, f'(of-opd ! {go.look(GIVEN_)})', lawful('G', 'r', 'is'), 'v')
+    go.drop('true', 'rest')
+    leave(go, False, f'(ts .0) same same-f same-c (plan-shown (x-input .now) ss w₀ {big} (gives r (work-at zs)) e {not_ten} (ts .0) e₃)')
+
+    walk = w.text(ind) + f'\n{ind}(λ little. ' + no.text(ind) + f')\n{ind}(λ enough. ' + m.text(ind) + f'\n{ind}(λ ten. ' + yes.text(ind) + f')\n{ind}(λ other. ' + go.text(ind) + ')' + ')' * m.open + ')'
+    abde = [('α', 'ℕ'), ('β', 'ℕ'), ('δ', 'GName'), ('ε', 'GName')]
+    rv = [('r', 'Answer'), ('v', 'Val')]
+    pf = [('φ', 'GName'), ('ψ', 'GName'), ('fs', 'List (List ℤ)'), ('cs', 'List (List ℕ)')]
+    vals = lambda q: f'slice-vals {q.x}'
+    texts = [ghost('short', short, [], [], [], []),
+             goes(short, [], [], [], [], None),
+             ghost('test', test, rv, [], ['r'], ['v ∷ []']),
+             goes(test, rv, [], [], ['G.the-row .own r (v ∷ [])'], None),
+             ghost('show', show, pf, [life(ss), life(fig), life(cur)], ['x-states', lent_as(fig, 'φ', 'fs'), lent_as(cur, 'ψ', 'cs')], [vals(ss), vals(fig), vals(cur)]),
+             goes(show, pf, [('big', 'maxThresholds ≤ length ss'), ('many', 'maxThresholds ≤ length (statesOf fs cs)')], [life(ss), life(fig), life(cur)],
+                  [own_now(ss), 'shr-figures φ fs', 'shr-cursors ψ cs'], '(big, many)')]
+    core_lives = [life(q) for q in front] + [loan('α'), loan('β')] + [life(q) for q in tail]
+    core_args = [q.x for q in front] + [lent_as(fig, 'δ', 'x-figures .now'), lent_as(cur, 'ε', 'x-cursors .now')] + [q.x for q in tail]
+    items = ['raw (chain 𝓤 toks-front (emp 𝓤))', '‵ (flft (α ∷ []) fullShare)', '‵ (flft (β ∷ []) fullShare)', 'raw toks-tail', 'raw (chain 𝓤 owns-front (emp 𝓤))',
+             '‵ (own-figures (α ∷ []) δ (x-figures .now))', '‵ (own-cursors (β ∷ []) ε (x-cursors .now))', '‵ owns-tail']
+    seps = lambda xs: nest('sep 𝓤', [x[4:].strip() if x.startswith('raw') else f'sem 𝓤 H A {x[2:]}' for x in xs])
+    left_items = ['raw (chain 𝓤 toks-front (emp 𝓤))', f'‵ (flft {ss.κ} {ss.q})', f'‵ (flft {fig.κ} {fig.q})', f'‵ (flft {cur.κ} {cur.q})', 'raw toks-tail', 'raw (chain 𝓤 (lasts-front zs) (emp 𝓤))',
+                  '‵ (finally T.the-row (x-states .name) ts)', f'‵ (finally Figures (x-figures .name) ({zf}))', f'‵ (finally Cursors (x-cursors .name) ({zc}))', '‵ (lasts-tail zs)', '‵ (G.the-row .own r (v ∷ []))']
+    ex = Walk(['t-front', 't-states', 't-figures', 't-cursors', 't-tail', 'l-front', 'f-states', 'f-figures', 'f-cursors', 'l-tail', 'own'])
+    ex.pack(['t-states', 't-figures', 't-cursors', 't-tail'], 'join')
+    ex.move('t-front', 't-states')
+    ex.say(f'use2 W (raw (toks 𝓤 A {P} κs qs)) (chain-in 𝓤 H A W toks-front toks-rest) $ frame ! $')
+    ex.top(2)
+    for q, l, same in ((ss, 'ts', 'same'), (fig, zf, 'same-f'), (cur, zc, 'same-c')):
+        ex.say(f'feqI ! ℕ (length ({l})) (length ({q.x} .now)) {same} $')
+        ex.top(0, 'long')
+        ex.move(f'f-{q.name}', 'long')
+        ex.say('fjoin ! $')
+        ex.top(2, f'f-{q.name}')
+    ex.pack(['f-states', 'f-figures', 'f-cursors', 'l-tail'], 'fjoin')
+    ex.move('l-front', 'f-states')
+    ends = long_tup([z[q.name] for q in front] + ['ts'], f'zs{N(n_front)}')
+    ex.say(f'use2 W (‵ (lasts f.ended κs a {ends})) (chain-in 𝓤 H A W (lasts-front zs) (lasts-rest zs ts)) $ done !')
+    up = 'id⊢ 𝓤 (emp 𝓤)'
+    for q in reversed(p.params):
+        one = f'gives-up 𝓤 H A W {q.named} {q.κ} {q.row} {q.x} (slice-vals {q.x}) (length ({q.x} .now)) refl' if q.mut else f'lets-go 𝓤 H A W ({own_now(q)})'
+        up = f'two-go 𝓤 H A W ({one})\n      ({up})'
+    nows = long_tup([f'{q.x} .now' if q.mut else 'tt' for q in p.params])
+    formulas = lambda qs, one, end: ''.join(f'fsep ({one(q)}) (' for q in qs) + end + ')' * len(qs)
+    return p.file(f'''{SHAPES}{p.top()}{p.module()}
+  abbrev ss : List State
+  ss = x-states .now
+
+  abbrev w₀ : Work
+  w₀ = {raw_work([f'{q.x} .now' for q in others[1:]])}
+
+  -- what `call::run` says of the last list of each of its parameters
+  abbrev Lasts-core : Type 0
+  Lasts-core = {lasts}
+
+  abbrev work-at : Lasts-core → Work
+  work-at zs = {raw_work([z[q.name] for q in others[1:]])}
+
+  -- the buffers in front of the states and behind the rows of numbers: their tokens, what they own, their last lists
+  abbrev toks-front : List (SProp 𝓤)
+  toks-front = {' ∷ '.join(f'A .lft {q.κ} {q.q}' for q in front)} ∷ []
+
+  abbrev toks-tail : SProp 𝓤
+  toks-tail = toks 𝓤 A {len(tail)} (κs{N(P - len(tail))}) (qs{N(P - len(tail))})
+
+  abbrev owns-front : List (SProp 𝓤)
+  owns-front = {' ∷ '.join(f'sem 𝓤 H A ({own_now(q)})' for q in front)} ∷ []
+
+  abbrev owns-tail : Fml
+  owns-tail = {formulas(tail, own_now, 'ftrue')}
+
+  abbrev lasts-front : Lasts-core → List (SProp 𝓤)
+  lasts-front zs = {' ∷ '.join('sem 𝓤 H A (' + (last(q, f'({q.x} .name)', z[q.name]) if q.mut else 'ftrue') + ')' for q in front)} ∷ []
+
+  abbrev lasts-tail : Lasts-core → Fml
+  lasts-tail zs = {formulas(tail, lambda q: last(q, f'({q.x} .name)', z[q.name]), 'ftrue')}
+
+  -- what stands behind the buffers in front, here and in `call::run`
+  abbrev toks-rest : SProp 𝓤
+  toks-rest = sep 𝓤 (A .lft {ss.κ} {ss.q}) (sep 𝓤 (A .lft {fig.κ} {fig.q}) (sep 𝓤 (A .lft {cur.κ} {cur.q}) toks-tail))
+
+  abbrev toks-core : ℕ → ℕ → SProp 𝓤
+  toks-core α β = sep 𝓤 (A .lft (α ∷ []) fullShare) (sep 𝓤 (A .lft (β ∷ []) fullShare) toks-tail)
+
+  abbrev owns-rest : SProp 𝓤
+  owns-rest = sem 𝓤 H A (fsep ({own_now(ss)}) (fsep ({own_now(fig)}) (fsep ({own_now(cur)}) owns-tail)))
+
+  abbrev owns-core : ℕ → ℕ → GName → GName → SProp 𝓤
+  owns-core α β δ ε = sem 𝓤 H A (fsep (own-figures (α ∷ []) δ (x-figures .now)) (fsep (own-cursors (β ∷ []) ε (x-cursors .now)) owns-tail))
+
+  abbrev lasts-rest : Lasts-core → List State → SProp 𝓤
+  lasts-rest zs ts = sem 𝓤 H A (fsep ({last(ss, '(x-states .name)', 'ts')}) (fsep ({last(fig, '(x-figures .name)', zf)}) (fsep ({last(cur, '(x-cursors .name)', zc)}) (lasts-tail zs))))
+
+  abbrev lasts-core : GName → GName → Lasts-core → SProp 𝓤
+  lasts-core δ ε zs = sem 𝓤 H A (fsep ({last(fig, 'δ', zf)}) (fsep ({last(cur, 'ε', zc)}) (lasts-tail zs)))
+
+  -- the rows of numbers, shared
+  abbrev shr-figures : GName → List (List ℤ) → Fml
+  shr-figures φ l = ShrSlice {fig.named} {fig.κ} Figures .own (record {{ ptr = x-figures .ptr; name = φ; now = l }}) (slice-vals x-figures)
+
+  abbrev shr-cursors : GName → List (List ℕ) → Fml
+  shr-cursors ψ l = ShrSlice {cur.named} {cur.κ} Cursors .own (record {{ ptr = x-cursors .ptr; name = ψ; now = l }}) (slice-vals x-cursors)
+
+  -- what each callee's triple binds outside, and that the caller has what it asks
+{chr(10).join(texts)}
+{ghost('core', core, abde, core_lives, core_args, [vals(q) for q in others])}
+  goes-core : (α β : ℕ) (δ ε : GName) → ent 𝓤 ({seps(items)}) ({core.triple} .pre (to-core α β δ ε))
+  goes-core α β δ ε =
+      qed W ({' ∷ '.join(items)} ∷ []) ∵
+      move ! (2 ∷ 3 ∷ []) $ join ! $ move ! (2 ∷ 0 ∷ []) $ join ! $ move ! (1 ∷ 0 ∷ []) $ use2 W (raw (toks 𝓤 A {P - 1} (to-core α β δ ε .0 .0) (to-core α β δ ε .0 .1))) (chain-in 𝓤 H A W toks-front (toks-core α β)) $
+      move ! (3 ∷ 4 ∷ []) $ fjoin ! $ move ! (3 ∷ 0 ∷ []) $ fjoin ! $ move ! (2 ∷ 0 ∷ []) $
+      use2 W (raw (chain 𝓤 owns-front (owns-core α β δ ε))) (chain-in 𝓤 H A W owns-front (owns-core α β δ ε)) $
+      move ! (1 ∷ 0 ∷ []) $ join ! $ frame ! $ done !
+
+  -- the two ends: nothing is touched, or what the callees' contracts say
+  gives-all : ent 𝓤 (sem 𝓤 H A (owns (typesAt (f.signature .params) κs) a (at κs a))) (sem 𝓤 H A (lasts f.ended κs a {nows}))
+  gives-all =
+      {up}
+
+  exits-short : (r : Answer) (v : Val) → left (gives r w₀) ss ≡ plan (x-input .now) ss w₀
+      → ent 𝓤 (sep 𝓤 (toks 𝓤 A {P} κs qs) (sep 𝓤 (sem 𝓤 H A (owns (typesAt (f.signature .params) κs) a (at κs a))) (sem 𝓤 H A (G.the-row .own r (v ∷ []))))) (Post v)
+  exits-short r v said =
+      qed W (raw (toks 𝓤 A {P} κs qs) ∷ ‵ (owns (typesAt (f.signature .params) κs) a (at κs a)) ∷ ‵ (G.the-row .own r (v ∷ [])) ∷ []) ∵
+      {p.ends_at('v', 'r', nows)} says ! said $ frame ! $ use1 W (‵ (lasts f.ended κs a {nows})) gives-all $ done !
+
+  exits : (r : Answer) (v : Val) (zs : Lasts-core) (ts : List State) → length ts ≡ length ss → length ({zf}) ≡ length (x-figures .now) → length ({zc}) ≡ length (x-cursors .now)
+      → left (gives r (work-at zs)) ts ≡ plan (x-input .now) ss w₀ → ent 𝓤 ({seps(left_items)}) (Post v)
+  exits r v zs ts same same-f same-c said =
+      qed W ({' ∷ '.join(left_items)} ∷ []) ∵
+      {p.ends_at('v', 'r', ends)} says ! said $ {ex.text('      ')}
+
+  module _ (C : Calls 𝓤 H) (Λ : Loops 𝓤 H) (fm : FmC 𝓤 H (W .laws) C){p.known('C')} where
+    walk : ent 𝓤 (onEntry 𝓤 H A f.signature κs qs a (at κs a)) (WpFn 𝓤 H C Λ code.function ({p.machine}) Post)
+    walk =
+        qed W (raw (toks 𝓤 A {P} κs qs) ∷ ‵ (owns (typesAt (f.signature .params) κs) a (at κs a)) ∷ []) ∵
+        enter ! C Λ code.function ({p.machine}) _ $ alloc-all ! (code.function .locals) (λ ns. params1 ! $
+        {walk})
+{p.ending('(𝓣 .C) (𝓣 .Λ) (fmOf 𝓤 H (W .laws) 𝓣)')}''')
+
+
+WALKS = {'states/load': load, 'states/store': store, 'states/show_states': show_states, 'listing/row_lines': row_lines, 'listing/list': lent_list, 'planner/run': planner_run}
 
 
 def main():

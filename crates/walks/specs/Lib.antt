@@ -1,4 +1,5 @@
 pub mod Pairs
+pub mod Chain
 pub mod Again
 pub mod Locals
 pub mod Said

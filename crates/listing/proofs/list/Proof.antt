@@ -97,13 +97,17 @@ module _ {M : Type 1} (𝓤 : URA M) (H : Heap 𝓤) (A : Atoms 𝓤) (at-mem : 
   Last = tripleOf 𝓤 H A last′.signature (last′.spec 𝓤 H A at-mem run)
 
 abbrev at : (κs : Lfts 5) → Args f.signature κs → Vals f.signature κs
-at κs a = (slice-vals (a .0)) ▹ (LL.vals G.the-type G′.the-laws (a .1 .0)) ▹ (slice-vals (a .1 .1 .0)) ▹ (slice-vals (a .1 .1 .1 .0)) ▹ (slice-vals (a .1 .1 .1 .1 .0)) ▹ (slice-vals (a .1 .1 .1 .1 .1 .0)) ▹ tt
+at κs a = (slice-vals (a .0)) ▹ (LL.vals G.the-type G′.the-laws (a .1 .0)) ▹ (slice-vals (a .1 .1 .0)) ▹ (slice-vals (a .1 .1 .1 .0)) ▹ (slice-vals (a .1 .1 .1 .1 .0)) ▹ (slice-vals
+    (a .1 .1 .1 .1 .1 .0)) ▹ tt
 
 module _ {M : Type 1} (𝓤 : URA M) (H : Heap 𝓤) (A : Atoms 𝓤) (W : Given 𝓤 H A) (at-mem : Memory → SProp 𝓤) (run : Routine → Fun 𝓤) (κs : Lfts 5) (qs : Shares 5) (a : Args f.signature κs)
-    (are : Are (typesAt (f.signature .params) κs) (Ises (typesAt (f.signature .params) κs)) a (at κs a)) (pre : Listable (a .1 .0) (a .1 .1 .0 .now) (a .1 .1 .1 .0 .now) (a .1 .1 .1 .1 .0 .now) (a .1 .1 .1 .1 .1 .0 .now) × (maxListing ≤
-    length (a .0 .now))) where
+    (are : Are (typesAt (f.signature .params) κs) (Ises (typesAt (f.signature .params) κs)) a (at κs a)) (pre : Listable (a .1 .0) (a .1 .1 .0 .now) (a .1 .1 .1 .0 .now) (a .1 .1 .1 .1 .0 .now)
+    (a .1 .1 .1 .1 .1 .0 .now) × (maxListing ≤ length (a .0 .now))) where
   abbrev x-out : RefT (List ℕ)
   x-out = a .0
+
+  abbrev v-out : Val
+  v-out = sliceVal (x-out .ptr) (length (x-out .now))
 
   abbrev own-out : Lft → GName → List ℕ → Fml
   own-out κ δ l = MutSlice (named 0) κ u8 .own (record { ptr = x-out .ptr; name = δ; now = l }) (slice-vals x-out)
@@ -111,11 +115,17 @@ module _ {M : Type 1} (𝓤 : URA M) (H : Heap 𝓤) (A : Atoms 𝓤) (W : Given
   abbrev x-answers : RefT (List (List ℕ))
   x-answers = a .1 .1 .0
 
+  abbrev v-answers : Val
+  v-answers = sliceVal (x-answers .ptr) (length (x-answers .now))
+
   abbrev own-answers : Lft → GName → List (List ℕ) → Fml
   own-answers κ δ l = ShrSlice (named 1) κ Pair .own (record { ptr = x-answers .ptr; name = δ; now = l }) (slice-vals x-answers)
 
   abbrev x-states : RefT (List State)
   x-states = a .1 .1 .1 .0
+
+  abbrev v-states : Val
+  v-states = sliceVal (x-states .ptr) (length (x-states .now))
 
   abbrev own-states : Lft → GName → List State → Fml
   own-states κ δ l = ShrSlice (named 2) κ T.the-row .own (record { ptr = x-states .ptr; name = δ; now = l }) (slice-vals x-states)
@@ -123,11 +133,17 @@ module _ {M : Type 1} (𝓤 : URA M) (H : Heap 𝓤) (A : Atoms 𝓤) (W : Given
   abbrev x-sure : RefT (List ℕ)
   x-sure = a .1 .1 .1 .1 .0
 
+  abbrev v-sure : Val
+  v-sure = sliceVal (x-sure .ptr) (length (x-sure .now))
+
   abbrev own-sure : Lft → GName → List ℕ → Fml
   own-sure κ δ l = ShrSlice (named 3) κ u64 .own (record { ptr = x-sure .ptr; name = δ; now = l }) (slice-vals x-sure)
 
   abbrev x-never : RefT (List ℕ)
   x-never = a .1 .1 .1 .1 .1 .0
+
+  abbrev v-never : Val
+  v-never = sliceVal (x-never .ptr) (length (x-never .now))
 
   abbrev own-never : Lft → GName → List ℕ → Fml
   own-never κ δ l = ShrSlice (named 4) κ u64 .own (record { ptr = x-never .ptr; name = δ; now = l }) (slice-vals x-never)
@@ -157,12 +173,13 @@ module _ {M : Type 1} (𝓤 : URA M) (H : Heap 𝓤) (A : Atoms 𝓤) (W : Given
     tt,
   )
 
-  goes-front : (α : ℕ) (δ : GName) → ent 𝓤 (sep 𝓤 (A .lft (α ∷ []) fullShare) (sep 𝓤 (A .lft (κs .1 .0) (qs .1 .0)) (sep 𝓤 (A .lft (κs .1 .1 .1 .0) (qs .1 .1 .1 .0)) (sep 𝓤 (A .lft (κs .1 .1 .1 .1 .0) (qs .1 .1 .1 .1 .0)) (sep 𝓤 (sem 𝓤 H A
-      (own-out (α ∷ []) δ (x-out .now))) (sep 𝓤 (sem 𝓤 H A (own-answers (κs .1 .0) (x-answers .name) (x-answers .now))) (sep 𝓤 (sem 𝓤 H A (own-sure (κs .1 .1 .1 .0) (x-sure .name) (x-sure .now))) (sem 𝓤 H A (own-never (κs .1 .1 .1 .1 .0)
-      (x-never .name) (x-never .now)))))))))) (Front 𝓤 H A at-mem run .pre (to-front α δ))
+  goes-front : (α : ℕ) (δ : GName) → ent 𝓤 (sep 𝓤 (A .lft (α ∷ []) fullShare) (sep 𝓤 (A .lft (κs .1 .0) (qs .1 .0)) (sep 𝓤 (A .lft (κs .1 .1 .1 .0) (qs .1 .1 .1 .0)) (sep 𝓤 (A .lft (κs .1 .1 .1 .1 .0)
+      (qs .1 .1 .1 .1 .0)) (sep 𝓤 (sem 𝓤 H A (own-out (α ∷ []) δ (x-out .now))) (sep 𝓤 (sem 𝓤 H A (own-answers (κs .1 .0) (x-answers .name) (x-answers .now))) (sep 𝓤 (sem 𝓤 H A (own-sure
+      (κs .1 .1 .1 .0) (x-sure .name) (x-sure .now))) (sem 𝓤 H A (own-never (κs .1 .1 .1 .1 .0) (x-never .name) (x-never .now)))))))))) (Front 𝓤 H A at-mem run .pre (to-front α δ))
   goes-front α δ =
-      qed W (‵ (flft (α ∷ []) fullShare) ∷ ‵ (flft (κs .1 .0) (qs .1 .0)) ∷ ‵ (flft (κs .1 .1 .1 .0) (qs .1 .1 .1 .0)) ∷ ‵ (flft (κs .1 .1 .1 .1 .0) (qs .1 .1 .1 .1 .0)) ∷ ‵ (own-out (α ∷ []) δ (x-out .now)) ∷ ‵ (own-answers (κs .1 .0)
-      (x-answers .name) (x-answers .now)) ∷ ‵ (own-sure (κs .1 .1 .1 .0) (x-sure .name) (x-sure .now)) ∷ ‵ (own-never (κs .1 .1 .1 .1 .0) (x-never .name) (x-never .now)) ∷ []) ∵ says ! (front-room (pre .0) (x-out .now) (pre .1)) $
+      qed W (‵ (flft (α ∷ []) fullShare) ∷ ‵ (flft (κs .1 .0) (qs .1 .0)) ∷ ‵ (flft (κs .1 .1 .1 .0) (qs .1 .1 .1 .0)) ∷ ‵ (flft (κs .1 .1 .1 .1 .0) (qs .1 .1 .1 .1 .0)) ∷ ‵ (own-out (α ∷ []) δ
+      (x-out .now)) ∷ ‵ (own-answers (κs .1 .0) (x-answers .name) (x-answers .now)) ∷ ‵ (own-sure (κs .1 .1 .1 .0) (x-sure .name) (x-sure .now)) ∷ ‵ (own-never (κs .1 .1 .1 .1 .0) (x-never .name)
+      (x-never .now)) ∷ []) ∵ says ! (front-room (pre .0) (x-out .now) (pre .1)) $
       nothing ! $
       move ! (4 ∷ 0 ∷ []) $
       join ! $
@@ -209,11 +226,12 @@ module _ {M : Type 1} (𝓤 : URA M) (H : Heap 𝓤) (A : Atoms 𝓤) (W : Given
     tt,
   )
 
-  goes-rows : (β : ℕ) (ε : GName) (l : List ℕ) (n₁ : ℕ) (n : ℕ) (s₁ : n₁ < 2 ^ 64) (s₂ : n < 2 ^ 64) (same : length l ≡ length (x-out .now)) (e₁ : Front-said l n₁) (e₂ : n ≡ rowCount given) → ent 𝓤 (sep 𝓤 (A .lft (β ∷ []) fullShare) (sep 𝓤
-      (A .lft (κs .1 .1 .0) (qs .1 .1 .0)) (sep 𝓤 (sem 𝓤 H A (own-out (β ∷ []) ε l)) (sem 𝓤 H A (own-states (κs .1 .1 .0) (x-states .name) (x-states .now)))))) (Rows 𝓤 H A at-mem run .pre (to-rows β ε l n₁ n))
+  goes-rows : (β : ℕ) (ε : GName) (l : List ℕ) (n₁ : ℕ) (n : ℕ) (s₁ : n₁ < 2 ^ 64) (s₂ : n < 2 ^ 64) (same : length l ≡ length (x-out .now)) (e₁ : Front-said l n₁) (e₂ : n ≡ rowCount given) → ent 𝓤
+      (sep 𝓤 (A .lft (β ∷ []) fullShare) (sep 𝓤 (A .lft (κs .1 .1 .0) (qs .1 .1 .0)) (sep 𝓤 (sem 𝓤 H A (own-out (β ∷ []) ε l)) (sem 𝓤 H A (own-states (κs .1 .1 .0) (x-states .name)
+      (x-states .now)))))) (Rows 𝓤 H A at-mem run .pre (to-rows β ε l n₁ n))
   goes-rows β ε l n₁ n s₁ s₂ same e₁ e₂ =
-      qed W (‵ (flft (β ∷ []) fullShare) ∷ ‵ (flft (κs .1 .1 .0) (qs .1 .1 .0)) ∷ ‵ (own-out (β ∷ []) ε l) ∷ ‵ (own-states (κs .1 .1 .0) (x-states .name) (x-states .now)) ∷ []) ∵ says ! (rows-room (pre .0) (x-out .now) (pre .1) n same e₁
-      e₂) $
+      qed W (‵ (flft (β ∷ []) fullShare) ∷ ‵ (flft (κs .1 .1 .0) (qs .1 .1 .0)) ∷ ‵ (own-out (β ∷ []) ε l) ∷ ‵ (own-states (κs .1 .1 .0) (x-states .name) (x-states .now)) ∷ []) ∵ says ! (rows-room
+      (pre .0) (x-out .now) (pre .1) n same e₁ e₂) $
       nothing ! $
       move ! (2 ∷ 0 ∷ []) $
       join ! $
@@ -241,12 +259,13 @@ module _ {M : Type 1} (𝓤 : URA M) (H : Heap 𝓤) (A : Atoms 𝓤) (W : Given
     tt,
   )
 
-  goes-last : (l : List ℕ) (n₃ : ℕ) (l₁ : List ℕ) (n₁ : ℕ) (n : ℕ) (s : n₃ < 2 ^ 64) (same : length l ≡ length (x-out .now)) (e₁ : Front-said l₁ n₁) (e₂ : n ≡ rowCount given) (e₃ : Rows-said l₁ l n₁ n₃ n) → ent 𝓤 (sep 𝓤 (A .lft (κs .0)
-      (qs .0)) (sep 𝓤 (A .lft (κs .1 .1 .1 .0) (qs .1 .1 .1 .0)) (sep 𝓤 (A .lft (κs .1 .1 .1 .1 .0) (qs .1 .1 .1 .1 .0)) (sep 𝓤 (sem 𝓤 H A (own-out (κs .0) (x-out .name) l)) (sep 𝓤 (sem 𝓤 H A (own-sure (κs .1 .1 .1 .0) (x-sure .name)
-      (x-sure .now))) (sem 𝓤 H A (own-never (κs .1 .1 .1 .1 .0) (x-never .name) (x-never .now)))))))) (Last 𝓤 H A at-mem run .pre (to-last l n₃))
+  goes-last : (l : List ℕ) (n₃ : ℕ) (l₁ : List ℕ) (n₁ : ℕ) (n : ℕ) (s : n₃ < 2 ^ 64) (same : length l ≡ length (x-out .now)) (e₁ : Front-said l₁ n₁) (e₂ : n ≡ rowCount given) (e₃ : Rows-said l₁ l n₁
+      n₃ n) → ent 𝓤 (sep 𝓤 (A .lft (κs .0) (qs .0)) (sep 𝓤 (A .lft (κs .1 .1 .1 .0) (qs .1 .1 .1 .0)) (sep 𝓤 (A .lft (κs .1 .1 .1 .1 .0) (qs .1 .1 .1 .1 .0)) (sep 𝓤 (sem 𝓤 H A (own-out (κs .0)
+      (x-out .name) l)) (sep 𝓤 (sem 𝓤 H A (own-sure (κs .1 .1 .1 .0) (x-sure .name) (x-sure .now))) (sem 𝓤 H A (own-never (κs .1 .1 .1 .1 .0) (x-never .name) (x-never .now)))))))) (Last 𝓤 H A at-mem
+      run .pre (to-last l n₃))
   goes-last l n₃ l₁ n₁ n s same e₁ e₂ e₃ =
-      qed W (‵ (flft (κs .0) (qs .0)) ∷ ‵ (flft (κs .1 .1 .1 .0) (qs .1 .1 .1 .0)) ∷ ‵ (flft (κs .1 .1 .1 .1 .0) (qs .1 .1 .1 .1 .0)) ∷ ‵ (own-out (κs .0) (x-out .name) l) ∷ ‵ (own-sure (κs .1 .1 .1 .0) (x-sure .name) (x-sure .now)) ∷ ‵
-      (own-never (κs .1 .1 .1 .1 .0) (x-never .name) (x-never .now)) ∷ []) ∵ says ! (last-room (pre .0) (x-out .now) (pre .1) n same e₁ e₂ e₃) $
+      qed W (‵ (flft (κs .0) (qs .0)) ∷ ‵ (flft (κs .1 .1 .1 .0) (qs .1 .1 .1 .0)) ∷ ‵ (flft (κs .1 .1 .1 .1 .0) (qs .1 .1 .1 .1 .0)) ∷ ‵ (own-out (κs .0) (x-out .name) l) ∷ ‵ (own-sure
+      (κs .1 .1 .1 .0) (x-sure .name) (x-sure .now)) ∷ ‵ (own-never (κs .1 .1 .1 .1 .0) (x-never .name) (x-never .now)) ∷ []) ∵ says ! (last-room (pre .0) (x-out .now) (pre .1) n same e₁ e₂ e₃) $
       nothing ! $
       move ! (3 ∷ 0 ∷ []) $
       join ! $
@@ -267,12 +286,13 @@ module _ {M : Type 1} (𝓤 : URA M) (H : Heap 𝓤) (A : Atoms 𝓤) (W : Given
       done !
 
   exits : (r : ℕ) (v : Val) (l : List ℕ) → length l ≡ length (x-out .now) → Listed given (x-answers .now) (x-states .now) (x-sure .now) (x-never .now) (x-out .now) l r
-      → ent 𝓤 (sep 𝓤 (sem 𝓤 H A (flft (κs .0) (qs .0))) (sep 𝓤 (sem 𝓤 H A (flft (κs .1 .0) (qs .1 .0))) (sep 𝓤 (sem 𝓤 H A (flft (κs .1 .1 .0) (qs .1 .1 .0))) (sep 𝓤 (sem 𝓤 H A (flft (κs .1 .1 .1 .0) (qs .1 .1 .1 .0))) (sep 𝓤 (sem 𝓤 H A
-      (flft (κs .1 .1 .1 .1 .0) (qs .1 .1 .1 .1 .0))) (sep 𝓤 (sem 𝓤 H A (finally u8 (x-out .name) l)) (sem 𝓤 H A (usize .own r (v ∷ []))))))))) (Post v)
+      → ent 𝓤 (sep 𝓤 (sem 𝓤 H A (flft (κs .0) (qs .0))) (sep 𝓤 (sem 𝓤 H A (flft (κs .1 .0) (qs .1 .0))) (sep 𝓤 (sem 𝓤 H A (flft (κs .1 .1 .0) (qs .1 .1 .0))) (sep 𝓤 (sem 𝓤 H A (flft (κs .1 .1 .1 .0)
+      (qs .1 .1 .1 .0))) (sep 𝓤 (sem 𝓤 H A (flft (κs .1 .1 .1 .1 .0) (qs .1 .1 .1 .1 .0))) (sep 𝓤 (sem 𝓤 H A (finally u8 (x-out .name) l)) (sem 𝓤 H A (usize .own r (v ∷ []))))))))) (Post v)
   exits r v l long said =
-      qed W (‵ (flft (κs .0) (qs .0)) ∷ ‵ (flft (κs .1 .0) (qs .1 .0)) ∷ ‵ (flft (κs .1 .1 .0) (qs .1 .1 .0)) ∷ ‵ (flft (κs .1 .1 .1 .0) (qs .1 .1 .1 .0)) ∷ ‵ (flft (κs .1 .1 .1 .1 .0) (qs .1 .1 .1 .1 .0)) ∷ ‵ (finally u8 (x-out .name) l) ∷
-      ‵ (usize .own r (v ∷ [])) ∷ []) ∵
-      suffices ! _ (ends-at 𝓤 H A f.ended stayed (f.clauses 𝓤 H A at-mem run) W ((κs, qs, tt, a, at κs a), tt) v r (l, (tt, (tt, (tt, (tt, (tt, tt)))))) (tt, (tt, (tt, (tt, (tt, (tt, tt))))))) $ says ! said $ nothing ! $
+      qed W (‵ (flft (κs .0) (qs .0)) ∷ ‵ (flft (κs .1 .0) (qs .1 .0)) ∷ ‵ (flft (κs .1 .1 .0) (qs .1 .1 .0)) ∷ ‵ (flft (κs .1 .1 .1 .0) (qs .1 .1 .1 .0)) ∷ ‵ (flft (κs .1 .1 .1 .1 .0)
+      (qs .1 .1 .1 .1 .0)) ∷ ‵ (finally u8 (x-out .name) l) ∷ ‵ (usize .own r (v ∷ [])) ∷ []) ∵
+      suffices ! _ (ends-at 𝓤 H A f.ended stayed (f.clauses 𝓤 H A at-mem run) W ((κs, qs, tt, a, at κs a), tt) v r (l, (tt, (tt, (tt, (tt, (tt, tt)))))) (tt, (tt, (tt, (tt, (tt, (tt, tt))))))) $ says
+      ! said $ nothing ! $
       move ! (5 ∷ 0 ∷ []) $
       join ! $
       move ! (4 ∷ 0 ∷ []) $
@@ -288,15 +308,13 @@ module _ {M : Type 1} (𝓤 : URA M) (H : Heap 𝓤) (A : Atoms 𝓤) (W : Given
       move ! (1 ∷ 0 ∷ []) $
       fjoin ! $ nothing ! $ nothing ! $ fjoin ! $ nothing ! $ fjoin ! $ nothing ! $ fjoin ! $ nothing ! $ fjoin ! $ nothing ! $ fjoin ! $ move ! (1 ∷ 0 ∷ []) $ fjoin ! $ done !
 
-  module _ (C : Calls 𝓤 H) (Λ : Loops 𝓤 H) (fm : FmC 𝓤 H (W .laws) C) (known-front : Triple 𝓤 (C #listing·front-lines) (Front 𝓤 H A at-mem run)) (known-rows : Triple 𝓤 (C #listing·row-lines) (Rows 𝓤 H A at-mem run)) (known-count : Triple 𝓤
-      (C #listing·row-count) (Count 𝓤 H A at-mem run)) (known-last : Triple 𝓤 (C #listing·last-line) (Last 𝓤 H A at-mem run)) where
-    walk : ent 𝓤 (onEntry 𝓤 H A f.signature κs qs a (at κs a)) (WpFn 𝓤 H C Λ code.function (sliceVal (x-out .ptr) (length (x-out .now)) ∷ LL.val G.the-type G′.the-laws (a .1 .0) ∷ sliceVal (x-answers .ptr) (length (x-answers .now)) ∷
-        sliceVal (x-states .ptr) (length (x-states .now)) ∷ sliceVal (x-sure .ptr) (length (x-sure .now)) ∷ sliceVal (x-never .ptr) (length (x-never .now)) ∷ []) Post)
+  module _ (C : Calls 𝓤 H) (Λ : Loops 𝓤 H) (fm : FmC 𝓤 H (W .laws) C) (known-front : Triple 𝓤 (C #listing·front-lines) (Front 𝓤 H A at-mem run)) (known-rows : Triple 𝓤 (C #listing·row-lines) (Rows 𝓤 H
+      A at-mem run)) (known-count : Triple 𝓤 (C #listing·row-count) (Count 𝓤 H A at-mem run)) (known-last : Triple 𝓤 (C #listing·last-line) (Last 𝓤 H A at-mem run)) where
+    walk : ent 𝓤 (onEntry 𝓤 H A f.signature κs qs a (at κs a)) (WpFn 𝓤 H C Λ code.function (v-out ∷ LL.val G.the-type G′.the-laws (a .1 .0) ∷ v-answers ∷ v-states ∷ v-sure ∷ v-never ∷ []) Post)
     walk =
-        qed W ((‵ (flft (κs .0) (qs .0)) ⊛ (‵ (flft (κs .1 .0) (qs .1 .0)) ⊛ (‵ (flft (κs .1 .1 .0) (qs .1 .1 .0)) ⊛ (‵ (flft (κs .1 .1 .1 .0) (qs .1 .1 .1 .0)) ⊛ (‵ (flft (κs .1 .1 .1 .1 .0) (qs .1 .1 .1 .1 .0)) ⊛ ‵ ftrue))))) ∷ ‵ (owns
-        (typesAt (f.signature .params) κs) a (at κs a)) ∷ []) ∵
-        enter ! C Λ code.function (sliceVal (x-out .ptr) (length (x-out .now)) ∷ LL.val G.the-type G′.the-laws (a .1 .0) ∷ sliceVal (x-answers .ptr) (length (x-answers .now)) ∷ sliceVal (x-states .ptr) (length (x-states .now)) ∷ sliceVal
-        (x-sure .ptr) (length (x-sure .now)) ∷ sliceVal (x-never .ptr) (length (x-never .now)) ∷ []) _ $ alloc-all ! (code.function .locals) (λ ns. params1 ! $
+        qed W ((‵ (flft (κs .0) (qs .0)) ⊛ (‵ (flft (κs .1 .0) (qs .1 .0)) ⊛ (‵ (flft (κs .1 .1 .0) (qs .1 .1 .0)) ⊛ (‵ (flft (κs .1 .1 .1 .0) (qs .1 .1 .1 .0)) ⊛ (‵ (flft (κs .1 .1 .1 .1 .0)
+        (qs .1 .1 .1 .1 .0)) ⊛ ‵ ftrue))))) ∷ ‵ (owns (typesAt (f.signature .params) κs) a (at κs a)) ∷ []) ∵
+        enter ! C Λ code.function (v-out ∷ LL.val G.the-type G′.the-laws (a .1 .0) ∷ v-answers ∷ v-states ∷ v-sure ∷ v-never ∷ []) _ $ alloc-all ! (code.function .locals) (λ ns. params1 ! $
         pass1 ! (init ! 1 refl (tt, (tt, (record { fits = are .0 .0 .1 .0 }, tt)))) $
         pass1 ! (init ! 2 refl (LL.lawful G.the-type G′.the-laws 𝓤 H A W .typed (a .1 .0) _ (are .1 .0) .0)) $
         pass1 ! (init ! 3 refl (tt, (tt, (record { fits = are .1 .1 .0 .0 .1 .0 }, tt)))) $
@@ -311,25 +329,27 @@ module _ {M : Type 1} (𝓤 : URA M) (H : Heap 𝓤) (A : Atoms 𝓤) (W : Given
         move ! (7 ∷ 5 ∷ 0 ∷ []) $
         drop ! $ drop ! $ drop ! $
         move ! (1 ∷ []) $
-        use1 W (‵ (own-sure (κs .1 .1 .1 .0) (x-sure .name) (x-sure .now)) ⊛ ‵ (own-sure (κs .1 .1 .1 .0) (x-sure .name) (x-sure .now))) (shr-slice-copy 𝓤 H A W (named 3) (κs .1 .1 .1 .0) u64 .twice x-sure (slice-vals x-sure)) $ split ! $
+        use1 W (‵ (own-sure (κs .1 .1 .1 .0) (x-sure .name) (x-sure .now)) ⊛ ‵ (own-sure (κs .1 .1 .1 .0) (x-sure .name) (x-sure .now))) (shr-slice-copy 𝓤 H A W (named 3) (κs .1 .1 .1 .0) u64 .twice
+        x-sure (slice-vals x-sure)) $ split ! $
         move ! (2 ∷ []) $
-        use1 W (‵ (own-never (κs .1 .1 .1 .1 .0) (x-never .name) (x-never .now)) ⊛ ‵ (own-never (κs .1 .1 .1 .1 .0) (x-never .name) (x-never .now))) (shr-slice-copy 𝓤 H A W (named 4) (κs .1 .1 .1 .1 .0) u64 .twice x-never (slice-vals
-        x-never)) $ split ! $
+        use1 W (‵ (own-never (κs .1 .1 .1 .1 .0) (x-never .name) (x-never .now)) ⊛ ‵ (own-never (κs .1 .1 .1 .1 .0) (x-never .name) (x-never .now))) (shr-slice-copy 𝓤 H A W (named 4)
+        (κs .1 .1 .1 .1 .0) u64 .twice x-never (slice-vals x-never)) $ split ! $
         assigns ! (addr ! (from ! (fld ! refl (hop ! (look-in ! 13 (sub ! 0 refl (whole !))) (stop !))))) (from ! (stop !)) (init ! 22 refl (tt, tt)) $
-        assigns ! (agg ! (and-then ! (load ! (from ! (stop !)) (look ! 22 refl)) (and-then ! (load ! (from ! (fld ! refl (stop !))) (look-in ! 13 (sub ! 1 refl (whole !)))) (no-more !)))) (from ! (stop !)) (init ! 23 refl
-        (tt, (tt, (record { fits = are .0 .0 .1 .0 }, tt)))) $
+        assigns ! (agg ! (and-then ! (load ! (from ! (stop !)) (look ! 22 refl)) (and-then ! (load ! (from ! (fld ! refl (stop !))) (look-in ! 13 (sub ! 1 refl (whole !)))) (no-more !)))) (from !
+        (stop !)) (init ! 23 refl (tt, (tt, (record { fits = are .0 .0 .1 .0 }, tt)))) $
         lft-new ! tt (λ α.
         move ! (7 ∷ 12 ∷ []) $
         use2 W (later (some (λ (δ : GName). ‵ (own-out (α ∷ []) δ (x-out .now)) ⊛ ‵ (LentAgain u8 (κs .0) (α ∷ []) (qs .0) (x-out .name) (x-out .ptr .0) (x-out .ptr .1) δ (x-out .now)))))
         (lends-at u8 (κs .0) (α ∷ []) (qs .0) (x-out .name) (x-out .ptr .0) (x-out .ptr .1) 𝓤 H A W (named 0) (named 0) (x-out .now) (length (x-out .now)) (refl)) $ await ! tt $ pick ! (λ δ. split ! $
         move ! (2 ∷ 12 ∷ 10 ∷ 9 ∷ 0 ∷ 8 ∷ 5 ∷ 3 ∷ []) $
         group ! 8 $ use1 W (raw (Front 𝓤 H A at-mem run .pre (to-front α δ))) (goes-front α δ) $
-        calls-at ! fm (Front 𝓤 H A at-mem run) known-front (to-front α δ) (and-then ! (load ! (from ! (stop !)) (look ! 17 refl)) (and-then ! (load ! (from ! (stop !)) (look ! 8 refl)) (and-then ! (load ! (from ! (stop !)) (look ! 9 refl))
-        (and-then ! (load ! (from ! (stop !)) (look ! 11 refl)) (and-then ! (load ! (from ! (stop !)) (look ! 12 refl)) (no-more !)))))) (λ v₁.
-        use1 W (later (some (λ (n₁ : ℕ). ((‵ (flft (α ∷ []) fullShare) ⊛ (‵ (flft (κs .1 .0) (qs .1 .0)) ⊛ (‵ (flft (κs .1 .1 .1 .0) (qs .1 .1 .1 .0)) ⊛ (‵ (flft (κs .1 .1 .1 .1 .0) (qs .1 .1 .1 .1 .0)) ⊛ ‵ ftrue)))) ⊛ ‵ (usize .own n₁ (v₁
-        ∷ []))) ⊛ raw (ensured 𝓤 H A front′.ended (front′.clauses 𝓤 H A at-mem run) ((to-front α δ) .0 .0) ((to-front α δ) .0 .3) tt n₁)))) (id⊢ 𝓤 _) $ await ! tt $ pick ! (λ n₁.
-        split ! $ move ! (1 ∷ []) $ use1 W (some (λ (zs₁ : List ℕ × (Unit {0} × (Unit {0} × (Unit {0} × (Unit {0} × Unit {0}))))). ‵ (lasts front′.ended ((to-front α δ) .0 .0) ((to-front α δ) .0 .3) zs₁) ⊛ raw (fact 𝓤 (Front-said (zs₁ .0)
-        n₁)))) (id⊢ 𝓤 _) $ pick ! (λ zs₁.
+        calls-at ! fm (Front 𝓤 H A at-mem run) known-front (to-front α δ) (and-then ! (load ! (from ! (stop !)) (look ! 17 refl)) (and-then ! (load ! (from ! (stop !)) (look ! 8 refl)) (and-then !
+        (load ! (from ! (stop !)) (look ! 9 refl)) (and-then ! (load ! (from ! (stop !)) (look ! 11 refl)) (and-then ! (load ! (from ! (stop !)) (look ! 12 refl)) (no-more !)))))) (λ v₁.
+        use1 W (later (some (λ (n₁ : ℕ). ((‵ (flft (α ∷ []) fullShare) ⊛ (‵ (flft (κs .1 .0) (qs .1 .0)) ⊛ (‵ (flft (κs .1 .1 .1 .0) (qs .1 .1 .1 .0)) ⊛ (‵ (flft (κs .1 .1 .1 .1 .0)
+        (qs .1 .1 .1 .1 .0)) ⊛ ‵ ftrue)))) ⊛ ‵ (usize .own n₁ (v₁ ∷ []))) ⊛ raw (ensured 𝓤 H A front′.ended (front′.clauses 𝓤 H A at-mem run) ((to-front α δ) .0 .0) ((to-front α δ) .0 .3) tt n₁))))
+        (id⊢ 𝓤 _) $ await ! tt $ pick ! (λ n₁.
+        split ! $ move ! (1 ∷ []) $ use1 W (some (λ (zs₁ : List ℕ × (Unit {0} × (Unit {0} × (Unit {0} × (Unit {0} × Unit {0}))))). ‵ (lasts front′.ended ((to-front α δ) .0 .0) ((to-front α δ) .0 .3)
+        zs₁) ⊛ raw (fact 𝓤 (Front-said (zs₁ .0) n₁)))) (id⊢ 𝓤 _) $ pick ! (λ zs₁.
         split ! $ move ! (1 ∷ []) $ heard ! (Front-said (zs₁ .0) n₁) (λ e₁. move ! (1 ∷ []) $ split ! $
         move ! (1 ∷ []) $
         peeks ! usize (Is usize) (shows 𝓤 H A usize) n₁ (v₁ ∷ []) (λ is₁.
@@ -343,16 +363,18 @@ module _ {M : Type 1} (𝓤 : URA M) (H : Heap 𝓤) (A : Atoms 𝓤) (W : Given
         lft-end ! tt $
         move ! (0 ∷ 7 ∷ 1 ∷ []) $
         use3 W (later (‵ (own-out (κs .0) (x-out .name) (zs₁ .0)) ⊛ ‵ (flft (κs .0) (qs .0))))
-        (back-at u8 (κs .0) (α ∷ []) (qs .0) (x-out .name) (x-out .ptr .0) (x-out .ptr .1) 𝓤 H A W (named 0) (named 0) (x-out .now) (length (x-out .now)) (refl) δ (zs₁ .0) (subst (Room u8) (sym (refl)) (are .0 .0 .1)) (same₁)) $ await ! tt
-        $ split ! $
+        (back-at u8 (κs .0) (α ∷ []) (qs .0) (x-out .name) (x-out .ptr .0) (x-out .ptr .1) 𝓤 H A W (named 0) (named 0) (x-out .now) (length (x-out .now)) (refl) δ (zs₁ .0) (subst (Room u8) (sym
+        (refl)) (are .0 .0 .1)) (same₁)) $ await ! tt $ split ! $
         move ! (2 ∷ []) $
         drop ! $
         move ! (2 ∷ []) $
         drop ! $
         use0 W (raw (Count 𝓤 H A at-mem run .pre to-count)) goes-count $
         calls-at ! fm (Count 𝓤 H A at-mem run) known-count to-count (and-then ! (load ! (from ! (stop !)) (look ! 12 refl)) (no-more !)) (λ v₂.
-        use1 W (later (some (λ (n : ℕ). (‵ ftrue ⊛ ‵ (usize .own n (v₂ ∷ []))) ⊛ raw (ensured 𝓤 H A count′.ended (count′.clauses 𝓤 H A at-mem run) (to-count .0 .0) (to-count .0 .3) tt n)))) (id⊢ 𝓤 _) $ await ! tt $ pick ! (λ n.
-        split ! $ move ! (1 ∷ []) $ use1 W (some (λ (zs₂ : Unit {0} × Unit {0}). ‵ (lasts count′.ended (to-count .0 .0) (to-count .0 .3) zs₂) ⊛ raw (fact 𝓤 (n ≡ rowCount given)))) (id⊢ 𝓤 _) $ pick ! (λ zs₂.
+        use1 W (later (some (λ (n : ℕ). (‵ ftrue ⊛ ‵ (usize .own n (v₂ ∷ []))) ⊛ raw (ensured 𝓤 H A count′.ended (count′.clauses 𝓤 H A at-mem run) (to-count .0 .0) (to-count .0 .3) tt n)))) (id⊢ 𝓤 _)
+        $ await ! tt $ pick ! (λ n.
+        split ! $ move ! (1 ∷ []) $ use1 W (some (λ (zs₂ : Unit {0} × Unit {0}). ‵ (lasts count′.ended (to-count .0 .0) (to-count .0 .3) zs₂) ⊛ raw (fact 𝓤 (n ≡ rowCount given)))) (id⊢ 𝓤 _) $ pick !
+        (λ zs₂.
         split ! $ move ! (1 ∷ []) $ heard ! (n ≡ rowCount given) (λ e₂. move ! (1 ∷ []) $ split ! $
         move ! (1 ∷ []) $
         peeks ! usize (Is usize) (shows 𝓤 H A usize) n (v₂ ∷ []) (λ is₂.
@@ -361,20 +383,20 @@ module _ {M : Type 1} (𝓤 : URA M) (H : Heap 𝓤) (A : Atoms 𝓤) (W : Given
         drop ! $
         drop ! $ drop ! $
         assigns ! (addr ! (from ! (fld ! refl (hop ! (look-in ! 10 (sub ! 0 refl (whole !))) (stop !))))) (from ! (stop !)) (init ! 21 refl (tt, tt)) $
-        assigns ! (agg ! (and-then ! (load ! (from ! (stop !)) (look ! 21 refl)) (and-then ! (load ! (from ! (fld ! refl (stop !))) (look-in ! 10 (sub ! 1 refl (whole !)))) (no-more !)))) (from ! (stop !)) (init ! 22 refl
-        (tt, (tt, (record { fits = are .0 .0 .1 .0 }, tt)))) $
+        assigns ! (agg ! (and-then ! (load ! (from ! (stop !)) (look ! 21 refl)) (and-then ! (load ! (from ! (fld ! refl (stop !))) (look-in ! 10 (sub ! 1 refl (whole !)))) (no-more !)))) (from !
+        (stop !)) (init ! 22 refl (tt, (tt, (record { fits = are .0 .0 .1 .0 }, tt)))) $
         lft-new ! tt (λ β.
         move ! (1 ∷ 2 ∷ []) $
         use2 W (later (some (λ (δ : GName). ‵ (own-out (β ∷ []) δ (zs₁ .0)) ⊛ ‵ (LentAgain u8 (κs .0) (β ∷ []) (qs .0) (x-out .name) (x-out .ptr .0) (x-out .ptr .1) δ (zs₁ .0)))))
         (lends-at u8 (κs .0) (β ∷ []) (qs .0) (x-out .name) (x-out .ptr .0) (x-out .ptr .1) 𝓤 H A W (named 0) (named 0) (zs₁ .0) (length (x-out .now)) (same₁)) $ await ! tt $ pick ! (λ ε. split ! $
         move ! (2 ∷ 9 ∷ 0 ∷ 8 ∷ []) $
         group ! 4 $ use1 W (raw (Rows 𝓤 H A at-mem run .pre (to-rows β ε (zs₁ .0) n₁ n))) (goes-rows β ε (zs₁ .0) n₁ n (is₁ .1) (is₂ .1) same₁ e₁ e₂) $
-        calls-at ! fm (Rows 𝓤 H A at-mem run) known-rows (to-rows β ε (zs₁ .0) n₁ n) (and-then ! (load ! (from ! (stop !)) (look ! 20 refl)) (and-then ! (load ! (from ! (stop !)) (look ! 14 refl)) (and-then ! (load ! (from ! (stop !)) (look
-        ! 15 refl)) (and-then ! (load ! (from ! (stop !)) (look ! 11 refl)) (no-more !))))) (λ v₃.
-        use1 W (later (some (λ (n₃ : ℕ). ((‵ (flft (β ∷ []) fullShare) ⊛ (‵ (flft (κs .1 .1 .0) (qs .1 .1 .0)) ⊛ ‵ ftrue)) ⊛ ‵ (usize .own n₃ (v₃ ∷ []))) ⊛ raw (ensured 𝓤 H A rows′.ended (rows′.clauses 𝓤 H A at-mem run) ((to-rows β ε
-        (zs₁ .0) n₁ n) .0 .0) ((to-rows β ε (zs₁ .0) n₁ n) .0 .3) tt n₃)))) (id⊢ 𝓤 _) $ await ! tt $ pick ! (λ n₃.
-        split ! $ move ! (1 ∷ []) $ use1 W (some (λ (zs₃ : List ℕ × (Unit {0} × (Unit {0} × (Unit {0} × Unit {0})))). ‵ (lasts rows′.ended ((to-rows β ε (zs₁ .0) n₁ n) .0 .0) ((to-rows β ε (zs₁ .0) n₁ n) .0 .3) zs₃) ⊛ raw (fact 𝓤 (Rows-said
-        (zs₁ .0) (zs₃ .0) n₁ n₃ n)))) (id⊢ 𝓤 _) $ pick ! (λ zs₃.
+        calls-at ! fm (Rows 𝓤 H A at-mem run) known-rows (to-rows β ε (zs₁ .0) n₁ n) (and-then ! (load ! (from ! (stop !)) (look ! 20 refl)) (and-then ! (load ! (from ! (stop !)) (look ! 14 refl))
+        (and-then ! (load ! (from ! (stop !)) (look ! 15 refl)) (and-then ! (load ! (from ! (stop !)) (look ! 11 refl)) (no-more !))))) (λ v₃.
+        use1 W (later (some (λ (n₃ : ℕ). ((‵ (flft (β ∷ []) fullShare) ⊛ (‵ (flft (κs .1 .1 .0) (qs .1 .1 .0)) ⊛ ‵ ftrue)) ⊛ ‵ (usize .own n₃ (v₃ ∷ []))) ⊛ raw (ensured 𝓤 H A rows′.ended
+        (rows′.clauses 𝓤 H A at-mem run) ((to-rows β ε (zs₁ .0) n₁ n) .0 .0) ((to-rows β ε (zs₁ .0) n₁ n) .0 .3) tt n₃)))) (id⊢ 𝓤 _) $ await ! tt $ pick ! (λ n₃.
+        split ! $ move ! (1 ∷ []) $ use1 W (some (λ (zs₃ : List ℕ × (Unit {0} × (Unit {0} × (Unit {0} × Unit {0})))). ‵ (lasts rows′.ended ((to-rows β ε (zs₁ .0) n₁ n) .0 .0) ((to-rows β ε (zs₁ .0) n₁
+        n) .0 .3) zs₃) ⊛ raw (fact 𝓤 (Rows-said (zs₁ .0) (zs₃ .0) n₁ n₃ n)))) (id⊢ 𝓤 _) $ pick ! (λ zs₃.
         split ! $ move ! (1 ∷ []) $ heard ! (Rows-said (zs₁ .0) (zs₃ .0) n₁ n₃ n) (λ e₃. move ! (1 ∷ []) $ split ! $
         move ! (1 ∷ []) $
         peeks ! usize (Is usize) (shows 𝓤 H A usize) n₃ (v₃ ∷ []) (λ is₃.
@@ -388,23 +410,23 @@ module _ {M : Type 1} (𝓤 : URA M) (H : Heap 𝓤) (A : Atoms 𝓤) (W : Given
         lft-end ! tt $
         move ! (0 ∷ 5 ∷ 1 ∷ []) $
         use3 W (later (‵ (own-out (κs .0) (x-out .name) (zs₃ .0)) ⊛ ‵ (flft (κs .0) (qs .0))))
-        (back-at u8 (κs .0) (β ∷ []) (qs .0) (x-out .name) (x-out .ptr .0) (x-out .ptr .1) 𝓤 H A W (named 0) (named 0) (zs₁ .0) (length (x-out .now)) (same₁) ε (zs₃ .0) (subst (Room u8) (sym (same₁)) (are .0 .0 .1)) (same₃)) $ await ! tt $
-        split ! $
+        (back-at u8 (κs .0) (β ∷ []) (qs .0) (x-out .name) (x-out .ptr .0) (x-out .ptr .1) 𝓤 H A W (named 0) (named 0) (zs₁ .0) (length (x-out .now)) (same₁) ε (zs₃ .0) (subst (Room u8) (sym (same₁))
+        (are .0 .0 .1)) (same₃)) $ await ! tt $ split ! $
         move ! (2 ∷ []) $
         drop ! $
         move ! (2 ∷ []) $
         drop ! $
         assigns ! (addr ! (from ! (fld ! refl (hop ! (look-in ! 9 (sub ! 0 refl (whole !))) (stop !))))) (from ! (stop !)) (init ! 22 refl (tt, tt)) $
-        assigns ! (agg ! (and-then ! (load ! (from ! (stop !)) (look ! 22 refl)) (and-then ! (load ! (from ! (fld ! refl (stop !))) (look-in ! 9 (sub ! 1 refl (whole !)))) (no-more !)))) (from ! (stop !)) (init ! 23 refl
-        (tt, (tt, (record { fits = are .0 .0 .1 .0 }, tt)))) $
+        assigns ! (agg ! (and-then ! (load ! (from ! (stop !)) (look ! 22 refl)) (and-then ! (load ! (from ! (fld ! refl (stop !))) (look-in ! 9 (sub ! 1 refl (whole !)))) (no-more !)))) (from ! (stop
+        !)) (init ! 23 refl (tt, (tt, (record { fits = are .0 .0 .1 .0 }, tt)))) $
         move ! (1 ∷ 4 ∷ 3 ∷ 0 ∷ 7 ∷ 6 ∷ []) $
         group ! 6 $ use1 W (raw (Last 𝓤 H A at-mem run .pre (to-last (zs₃ .0) n₃))) (goes-last (zs₃ .0) n₃ (zs₁ .0) n₁ n (is₃ .1) (same₃ ∙ same₁) e₁ e₂ e₃) $
-        calls-at ! fm (Last 𝓤 H A at-mem run) known-last (to-last (zs₃ .0) n₃) (and-then ! (load ! (from ! (stop !)) (look ! 18 refl)) (and-then ! (load ! (from ! (stop !)) (look ! 12 refl)) (and-then ! (load ! (from ! (stop !)) (look ! 5
-        refl)) (and-then ! (load ! (from ! (stop !)) (look ! 8 refl)) (and-then ! (load ! (from ! (stop !)) (look ! 9 refl)) (no-more !)))))) (λ v.
-        use1 W (later (some (λ (r : ℕ). ((‵ (flft (κs .0) (qs .0)) ⊛ (‵ (flft (κs .1 .1 .1 .0) (qs .1 .1 .1 .0)) ⊛ (‵ (flft (κs .1 .1 .1 .1 .0) (qs .1 .1 .1 .1 .0)) ⊛ ‵ ftrue))) ⊛ ‵ (usize .own r (v ∷ []))) ⊛ raw (ensured 𝓤 H A last′.ended
-        (last′.clauses 𝓤 H A at-mem run) ((to-last (zs₃ .0) n₃) .0 .0) ((to-last (zs₃ .0) n₃) .0 .3) tt r)))) (id⊢ 𝓤 _) $ await ! tt $ pick ! (λ r.
-        split ! $ move ! (1 ∷ []) $ use1 W (some (λ (zs : List ℕ × (Unit {0} × (Unit {0} × (Unit {0} × (Unit {0} × Unit {0}))))). ‵ (lasts last′.ended ((to-last (zs₃ .0) n₃) .0 .0) ((to-last (zs₃ .0) n₃) .0 .3) zs) ⊛ raw (fact 𝓤 (Wrote
-        maxLastLine (zs₃ .0) (zs .0) n₃ r (lastText given (x-sure .now) (x-never .now)))))) (id⊢ 𝓤 _) $ pick ! (λ zs.
+        calls-at ! fm (Last 𝓤 H A at-mem run) known-last (to-last (zs₃ .0) n₃) (and-then ! (load ! (from ! (stop !)) (look ! 18 refl)) (and-then ! (load ! (from ! (stop !)) (look ! 12 refl)) (and-then
+        ! (load ! (from ! (stop !)) (look ! 5 refl)) (and-then ! (load ! (from ! (stop !)) (look ! 8 refl)) (and-then ! (load ! (from ! (stop !)) (look ! 9 refl)) (no-more !)))))) (λ v.
+        use1 W (later (some (λ (r : ℕ). ((‵ (flft (κs .0) (qs .0)) ⊛ (‵ (flft (κs .1 .1 .1 .0) (qs .1 .1 .1 .0)) ⊛ (‵ (flft (κs .1 .1 .1 .1 .0) (qs .1 .1 .1 .1 .0)) ⊛ ‵ ftrue))) ⊛ ‵ (usize .own r (v ∷
+        []))) ⊛ raw (ensured 𝓤 H A last′.ended (last′.clauses 𝓤 H A at-mem run) ((to-last (zs₃ .0) n₃) .0 .0) ((to-last (zs₃ .0) n₃) .0 .3) tt r)))) (id⊢ 𝓤 _) $ await ! tt $ pick ! (λ r.
+        split ! $ move ! (1 ∷ []) $ use1 W (some (λ (zs : List ℕ × (Unit {0} × (Unit {0} × (Unit {0} × (Unit {0} × Unit {0}))))). ‵ (lasts last′.ended ((to-last (zs₃ .0) n₃) .0 .0) ((to-last (zs₃ .0)
+        n₃) .0 .3) zs) ⊛ raw (fact 𝓤 (Wrote maxLastLine (zs₃ .0) (zs .0) n₃ r (lastText given (x-sure .now) (x-never .now)))))) (id⊢ 𝓤 _) $ pick ! (λ zs.
         split ! $ move ! (1 ∷ []) $ heard ! (Wrote maxLastLine (zs₃ .0) (zs .0) n₃ r (lastText given (x-sure .now) (x-never .now))) (λ e. move ! (1 ∷ []) $ split ! $
         move ! (1 ∷ []) $
         peeks ! usize (Is usize) (shows 𝓤 H A usize) r (v ∷ []) (λ is.
@@ -417,20 +439,21 @@ module _ {M : Type 1} (𝓤 : URA M) (H : Heap 𝓤) (A : Atoms 𝓤) (W : Given
         drop ! $ drop ! $
         move ! (3 ∷ 6 ∷ 5 ∷ 2 ∷ 1 ∷ 0 ∷ 4 ∷ []) $
         group ! 7 $
-        returns ! (look ! 1 refl) $ free-under ! (code.function .locals) ns ((someᴼ (v)) ▹ (someᴼ (sliceVal (x-out .ptr) (length (x-out .now)))) ▹ (someᴼ (LL.val G.the-type G′.the-laws (a .1 .0))) ▹ (someᴼ (sliceVal (x-answers .ptr) (length
-        (x-answers .now)))) ▹ (someᴼ (sliceVal (x-states .ptr) (length (x-states .now)))) ▹ (someᴼ (sliceVal (x-sure .ptr) (length (x-sure .now)))) ▹ (someᴼ (sliceVal (x-never .ptr) (length (x-never .now)))) ▹ (someᴼ (vint w64 n₁)) ▹ (someᴼ
-        (vint w64 n)) ▹ (someᴼ (vint w64 n₃)) ▹ (someᴼ (vptr (x-out .ptr .0) (x-out .ptr .1))) ▹ (someᴼ (sliceVal (x-out .ptr) (length (x-out .now)))) ▹ (someᴼ (vptr (x-out .ptr .0) (x-out .ptr .1))) ▹ (someᴼ (sliceVal (x-out .ptr) (length
-        (x-out .now)))) ▹ (someᴼ (vptr (x-out .ptr .0) (x-out .ptr .1))) ▹ (someᴼ (sliceVal (x-out .ptr) (length (x-out .now)))) ▹ tt) $ by ! (exits r v (zs .0) (same ∙ same₃ ∙ same₁) (list-all (pre .0) n e₁ e₂ e₃
-        e))))))))))))))))))))))))))))))
+        returns ! (look ! 1 refl) $ free-under ! (code.function .locals) ns ((someᴼ (v)) ▹ (someᴼ (v-out)) ▹ (someᴼ (LL.val G.the-type G′.the-laws (a .1 .0))) ▹ (someᴼ (v-answers)) ▹ (someᴼ
+        (v-states)) ▹ (someᴼ (v-sure)) ▹ (someᴼ (v-never)) ▹ (someᴼ (vint w64 n₁)) ▹ (someᴼ (vint w64 n)) ▹ (someᴼ (vint w64 n₃)) ▹ (someᴼ (vptr (x-out .ptr .0) (x-out .ptr .1))) ▹ (someᴼ (v-out)) ▹
+        (someᴼ (vptr (x-out .ptr .0) (x-out .ptr .1))) ▹ (someᴼ (v-out)) ▹ (someᴼ (vptr (x-out .ptr .0) (x-out .ptr .1))) ▹ (someᴼ (v-out)) ▹ tt) $ by ! (exits r v (zs .0) (same ∙ same₃ ∙ same₁)
+        (list-all (pre .0) n e₁ e₂ e₃ e))))))))))))))))))))))))))))))
 
-module _ {M : Type 1} (𝓤 : URA M) (H : Heap 𝓤) (A : Atoms 𝓤) (W : Given 𝓤 H A) (at-mem : Memory → SProp 𝓤) (run : Routine → Fun 𝓤) (𝓣 : Tables 𝓤 H) (known-front : Triple 𝓤 (𝓣 .C #listing·front-lines) (Front 𝓤 H A at-mem run)) (known-rows :
-    Triple 𝓤 (𝓣 .C #listing·row-lines) (Rows 𝓤 H A at-mem run)) (known-count : Triple 𝓤 (𝓣 .C #listing·row-count) (Count 𝓤 H A at-mem run)) (known-last : Triple 𝓤 (𝓣 .C #listing·last-line) (Last 𝓤 H A at-mem run)) where
+module _ {M : Type 1} (𝓤 : URA M) (H : Heap 𝓤) (A : Atoms 𝓤) (W : Given 𝓤 H A) (at-mem : Memory → SProp 𝓤) (run : Routine → Fun 𝓤) (𝓣 : Tables 𝓤 H) (known-front : Triple 𝓤 (𝓣 .C #listing·front-lines)
+    (Front 𝓤 H A at-mem run)) (known-rows : Triple 𝓤 (𝓣 .C #listing·row-lines) (Rows 𝓤 H A at-mem run)) (known-count : Triple 𝓤 (𝓣 .C #listing·row-count) (Count 𝓤 H A at-mem run)) (known-last : Triple
+    𝓤 (𝓣 .C #listing·last-line) (Last 𝓤 H A at-mem run)) where
   list-walks : Walks 𝓤 H A f.ended stayed (WpFn 𝓤 H (𝓣 .C) (𝓣 .Λ) code.function) (f.clauses 𝓤 H A at-mem run)
-  list-walks = walked 𝓤 H A f.ended stayed (f.clauses 𝓤 H A at-mem run) (WpFn 𝓤 H (𝓣 .C) (𝓣 .Λ) code.function) (λ κs. (slice-vals ▹ (LL.vals G.the-type G′.the-laws) ▹ slice-vals ▹ slice-vals ▹ slice-vals ▹ slice-vals ▹ tt))
-      (λ κs. ((mut-slice-tells (named 0) (κs .0) u8) ▹ (LL.tells G.the-type G′.the-laws) ▹ (shr-slice-tells (named 1) (κs .1 .0) Pair) ▹ (shr-slice-tells (named 2) (κs .1 .1 .0) T.the-row) ▹ (shr-slice-tells (named 3) (κs .1 .1 .1 .0) u64)
-      ▹ (shr-slice-tells (named 4) (κs .1 .1 .1 .1 .0) u64) ▹ tt))
-      (λ κs qs bounds a g are. needs 𝓤 (Listable (a .1 .0) (a .1 .1 .0 .now) (a .1 .1 .1 .0 .now) (a .1 .1 .1 .1 .0 .now) (a .1 .1 .1 .1 .1 .0 .now) × (maxListing ≤ length (a .0 .now))) _ (λ pre. walk 𝓤 H A W at-mem run κs qs a are pre
-      (𝓣 .C) (𝓣 .Λ) (fmOf 𝓤 H (W .laws) 𝓣) known-front known-rows known-count known-last))
+  list-walks = walked 𝓤 H A f.ended stayed (f.clauses 𝓤 H A at-mem run) (WpFn 𝓤 H (𝓣 .C) (𝓣 .Λ) code.function) (λ κs. (slice-vals ▹ (LL.vals G.the-type G′.the-laws) ▹ slice-vals ▹ slice-vals ▹
+      slice-vals ▹ slice-vals ▹ tt))
+      (λ κs. ((mut-slice-tells (named 0) (κs .0) u8) ▹ (LL.tells G.the-type G′.the-laws) ▹ (shr-slice-tells (named 1) (κs .1 .0) Pair) ▹ (shr-slice-tells (named 2) (κs .1 .1 .0) T.the-row) ▹
+      (shr-slice-tells (named 3) (κs .1 .1 .1 .0) u64) ▹ (shr-slice-tells (named 4) (κs .1 .1 .1 .1 .0) u64) ▹ tt))
+      (λ κs qs bounds a g are. needs 𝓤 (Listable (a .1 .0) (a .1 .1 .0 .now) (a .1 .1 .1 .0 .now) (a .1 .1 .1 .1 .0 .now) (a .1 .1 .1 .1 .1 .0 .now) × (maxListing ≤ length (a .0 .now))) _ (λ pre. walk
+      𝓤 H A W at-mem run κs qs a are pre (𝓣 .C) (𝓣 .Λ) (fmOf 𝓤 H (W .laws) 𝓣) known-front known-rows known-count known-last))
 
   list-meets : Meets 𝓤 H A f.signature (WpFn 𝓤 H (𝓣 .C) (𝓣 .Λ) code.function) (f.spec 𝓤 H A at-mem run)
   list-meets = walk-meets 𝓤 H A f.ended stayed W (goes-saids 𝓤 H A W 5 (f.ended .signature .params) (f.ended .kept)) (f.clauses 𝓤 H A at-mem run) (WpFn 𝓤 H (𝓣 .C) (𝓣 .Λ) code.function)

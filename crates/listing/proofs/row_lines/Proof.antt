@@ -91,15 +91,22 @@ abbrev rest : Body
 rest = seq (assign (place 0 []) (rvOpd (copy (place 5 [])))) return
 
 module _ {M : Type 1} (𝓤 : URA M) (H : Heap 𝓤) (A : Atoms 𝓤) (W : Given 𝓤 H A) (at-mem : Memory → SProp 𝓤) (run : Routine → Fun 𝓤) (κs : Lfts 2) (qs : Shares 2) (a : Args f.signature κs)
-    (are : Are (typesAt (f.signature .params) κs) (Ises (typesAt (f.signature .params) κs)) a (at κs a)) (pre : (a .1 .0 + maxRowLine * a .1 .1 .0 ≤ length (a .0 .now)) × (a .1 .1 .0 ≤ length (a .1 .1 .1 .0 .now))) where
+    (are : Are (typesAt (f.signature .params) κs) (Ises (typesAt (f.signature .params) κs)) a (at κs a)) (pre : (a .1 .0 + maxRowLine * a .1 .1 .0 ≤ length (a .0 .now)) × (a .1 .1 .0 ≤ length
+    (a .1 .1 .1 .0 .now))) where
   abbrev x-out : RefT (List ℕ)
   x-out = a .0
+
+  abbrev v-out : Val
+  v-out = sliceVal (x-out .ptr) (length (x-out .now))
 
   abbrev own-out : Lft → GName → List ℕ → Fml
   own-out κ δ l = MutSlice (named 0) κ u8 .own (record { ptr = x-out .ptr; name = δ; now = l }) (slice-vals x-out)
 
   abbrev x-states : RefT (List State)
   x-states = a .1 .1 .1 .0
+
+  abbrev v-states : Val
+  v-states = sliceVal (x-states .ptr) (length (x-states .now))
 
   abbrev own-states : Lft → GName → List State → Fml
   own-states κ δ l = ShrSlice (named 1) κ T.the-row .own (record { ptr = x-states .ptr; name = δ; now = l }) (slice-vals x-states)
@@ -135,17 +142,19 @@ module _ {M : Type 1} (𝓤 : URA M) (H : Heap 𝓤) (A : Atoms 𝓤) (W : Given
   fits : (t : Turn) → t .0 < 2 ^ 64
   fits t = lt-of-le-of-lt (t .3 .passed) (are .1 .1 .0 .1)
 
-  abbrev next : (t : Turn) (r : State) (l : List ℕ) (end : ℕ) → t .0 < count → r ≡ getD ss (t .0) noState → length l ≡ length (t .1) → Wrote maxRowLine (t .1) l (t .2) end (rowLine (t .0) r) → end < 2 ^ 64 → Turn
+  abbrev next : (t : Turn) (r : State) (l : List ℕ) (end : ℕ) → t .0 < count → r ≡ getD ss (t .0) noState → length l ≡ length (t .1) → Wrote maxRowLine (t .1) l (t .2) end (rowLine (t .0) r) → end < 2
+      ^ 64 → Turn
   next t r l end less e same said small =
       (t .0 + 1, l, end, joins-next (omega (arith, pre .0)) less (t .3) same (wrote-same (ap (rowLine (t .0)) e) said), small)
 
   exits : (t : Turn) → count ≤ t .0 → ent 𝓤 (sep 𝓤 toks-r (sep 𝓤 (sem 𝓤 H A rows) (sep 𝓤 (sem 𝓤 H A (own-out (κs .0) (x-out .name) (t .1))) (A .lft (κs .0) (qs .0))))) (Post (vint w64 (t .2)))
   exits t late =
       qed W (raw toks-r ∷ ‵ rows ∷ ‵ (own-out (κs .0) (x-out .name) (t .1)) ∷ ‵ (flft (κs .0) (qs .0)) ∷ []) ∵
-      suffices ! _ (ends-at 𝓤 H A f.ended stayed (f.clauses 𝓤 H A at-mem run) W ((κs, qs, tt, a, at κs a), tt) (vint w64 (t .2)) (t .2) (t .1, (tt, (tt, (tt, tt)))) (tt, (tt, (tt, (tt, tt))))) $ says ! (joins-done late (t .3)) $
+      suffices ! _ (ends-at 𝓤 H A f.ended stayed (f.clauses 𝓤 H A at-mem run) W ((κs, qs, tt, a, at κs a), tt) (vint w64 (t .2)) (t .2) (t .1, (tt, (tt, (tt, tt)))) (tt, (tt, (tt, (tt, tt))))) $ says
+      ! (joins-done late (t .3)) $
       move ! (1 ∷ 3 ∷ 0 ∷ []) $ drop ! $ join ! $ frame ! $
-      use1 W (‵ (fsep (finally u8 (x-out .name) (t .1)) (feq ℕ (length (t .1)) (length (x-out .now))))) (gives-up 𝓤 H A W (named 0) (κs .0) u8 (record { ptr = x-out .ptr; name = x-out .name; now = t .1 }) (slice-vals x-out) (length
-      (x-out .now)) (t .3 .long)) $
+      use1 W (‵ (fsep (finally u8 (x-out .name) (t .1)) (feq ℕ (length (t .1)) (length (x-out .now))))) (gives-up 𝓤 H A W (named 0) (κs .0) u8
+      (record { ptr = x-out .ptr; name = x-out .name; now = t .1 }) (slice-vals x-out) (length (x-out .now)) (t .3 .long)) $
       nothing ! $ nothing ! $ fjoin ! $ nothing ! $ fjoin ! $ nothing ! $ fjoin ! $ move ! (1 ∷ 0 ∷ []) $ fjoin ! $ frame ! $
       owned ! usize (Is usize) (uint-makes 𝓤 H A W w64) (t .2) (vint w64 (t .2) ∷ []) (refl, t .4) $ done !
 
@@ -170,14 +179,15 @@ module _ {M : Type 1} (𝓤 : URA M) (H : Heap 𝓤) (A : Atoms 𝓤) (W : Given
       nothing ! $ move ! (2 ∷ 0 ∷ []) $ fjoin ! $ owned ! usize (Is usize) (uint-makes 𝓤 H A W w64) (t .0) (vint w64 (t .0) ∷ []) (refl, fits t) $ fjoin ! $
       owned ! usize (Is usize) (uint-makes 𝓤 H A W w64) (t .2) (vint w64 (t .2) ∷ []) (refl, t .4) $ fjoin ! $ move ! (1 ∷ 0 ∷ []) $ fjoin ! $ done !
 
-  module _ (𝓣 : Tables 𝓤 H) (known-load : Triple 𝓤 (𝓣 .C #states·load) (Load 𝓤 H A at-mem run)) (known-line : Triple 𝓤 (𝓣 .C #listing·row-line) (Line 𝓤 H A at-mem run)) (ns : Nats (code.function .locals)) where
+  module _ (𝓣 : Tables 𝓤 H) (known-load : Triple 𝓤 (𝓣 .C #states·load) (Load 𝓤 H A at-mem run)) (known-line : Triple 𝓤 (𝓣 .C #listing·row-line) (Line 𝓤 H A at-mem run)) (ns : Nats
+      (code.function .locals)) where
     abbrev En : Env 𝓤 H
     En = envOf 𝓤 H (code.function .locals) ns
 
     abbrev At : Turn → List (Item 𝓤)
     At t = raw toks-r ∷ ‵ rows ∷ ‵ (own-out (κs .0) (x-out .name) (t .1)) ∷ ‵ (flft (κs .0) (qs .0))
-        ∷ cellsOf 𝓤 H (code.function .locals) ns (none ▹ (someᴼ (sliceVal (x-out .ptr) (length (x-out .now)))) ▹ (someᴼ (vint w64 (a .1 .0))) ▹ (someᴼ (vint w64 (a .1 .1 .0))) ▹ (someᴼ (sliceVal (x-states .ptr) (length (x-states .now)))) ▹
-        (someᴼ (vint w64 (t .2))) ▹ (someᴼ (vint w64 (t .0))) ▹ none ▹ none ▹ none ▹ none ▹ tt) (‵ (diesOf (code.function .locals) ns) ∷ [])
+        ∷ cellsOf 𝓤 H (code.function .locals) ns (none ▹ (someᴼ (v-out)) ▹ (someᴼ (vint w64 (a .1 .0))) ▹ (someᴼ (vint w64 (a .1 .1 .0))) ▹ (someᴼ (v-states)) ▹ (someᴼ (vint w64 (t .2))) ▹ (someᴼ
+        (vint w64 (t .0))) ▹ none ▹ none ▹ none ▹ none ▹ tt) (‵ (diesOf (code.function .locals) ns) ∷ [])
 
     -- after a turn: one row further, or the loop is left and the rest runs
     abbrev Turned : Turn → Out → SProp 𝓤
@@ -192,29 +202,31 @@ module _ {M : Type 1} (𝓤 : URA M) (H : Heap 𝓤) (A : Atoms 𝓤) (W : Given
         use1 W (‵ rows ⊛ ‵ rows) (shr-slice-copy 𝓤 H A W (named 1) (κs .1 .0) T.the-row .twice x-states (slice-vals x-states)) $ split ! $
         move ! (2 ∷ 0 ∷ []) $
         use2 W (raw (Load 𝓤 H A at-mem run .pre (to-load t))) (goes-load t (ltb→lt (t .0) count less)) $
-        calls-at ! (fmOf 𝓤 H (W .laws) 𝓣) (Load 𝓤 H A at-mem run) known-load (to-load t) (and-then ! (load ! (from ! (stop !)) (look ! 8 refl)) (and-then ! (load ! (from ! (stop !)) (look ! 10 refl)) (no-more !))) (λ v.
-        use1 W (later (some (λ (r : State). (raw toks-r ⊛ ‵ (T.the-row .own r (v ∷ []))) ⊛ raw (ensured 𝓤 H A load′.ended (load′.clauses 𝓤 H A at-mem run) ((to-load t) .0 .0) ((to-load t) .0 .3) tt r)))) (id⊢ 𝓤 _) $ await ! tt $ pick ! (λ
-        r.
-        split ! $ move ! (1 ∷ []) $ use1 W (some (λ (us : Unit {0} × (Unit {0} × Unit {0})). ‵ (lasts load′.ended ((to-load t) .0 .0) ((to-load t) .0 .3) us) ⊛ raw (fact 𝓤 (r ≡ getD ss (t .0) noState)))) (id⊢ 𝓤 _) $ pick ! (λ us.
+        calls-at ! (fmOf 𝓤 H (W .laws) 𝓣) (Load 𝓤 H A at-mem run) known-load (to-load t) (and-then ! (load ! (from ! (stop !)) (look ! 8 refl)) (and-then ! (load ! (from ! (stop !)) (look ! 10 refl))
+        (no-more !))) (λ v.
+        use1 W (later (some (λ (r : State). (raw toks-r ⊛ ‵ (T.the-row .own r (v ∷ []))) ⊛ raw (ensured 𝓤 H A load′.ended (load′.clauses 𝓤 H A at-mem run) ((to-load t) .0 .0) ((to-load t) .0 .3) tt
+        r)))) (id⊢ 𝓤 _) $ await ! tt $ pick ! (λ r.
+        split ! $ move ! (1 ∷ []) $ use1 W (some (λ (us : Unit {0} × (Unit {0} × Unit {0})). ‵ (lasts load′.ended ((to-load t) .0 .0) ((to-load t) .0 .3) us) ⊛ raw (fact 𝓤 (r ≡ getD ss (t .0)
+        noState)))) (id⊢ 𝓤 _) $ pick ! (λ us.
         split ! $ move ! (1 ∷ []) $ heard ! (r ≡ getD ss (t .0) noState) (λ e. move ! (1 ∷ []) $ split ! $
         move ! (1 ∷ []) $
         peeks ! T.the-row (Is T.the-row) (shows 𝓤 H A T.the-row) r (v ∷ []) (λ is.
         land ! (from ! (stop !)) (init ! 13 refl (LL.lawful T.the-type T′.the-laws 𝓤 H A W .typed r _ is .0)) $
         assigns ! (addr ! (from ! (fld ! refl (hop ! (look-in ! 7 (sub ! 0 refl (whole !))) (stop !))))) (from ! (stop !)) (init ! 15 refl (tt, tt)) $
-        assigns ! (agg ! (and-then ! (load ! (from ! (stop !)) (look ! 15 refl)) (and-then ! (load ! (from ! (fld ! refl (stop !))) (look-in ! 7 (sub ! 1 refl (whole !)))) (no-more !)))) (from ! (stop !)) (init ! 16 refl
-        (tt, (tt, (record { fits = are .0 .0 .1 .0 }, tt)))) $
+        assigns ! (agg ! (and-then ! (load ! (from ! (stop !)) (look ! 15 refl)) (and-then ! (load ! (from ! (fld ! refl (stop !))) (look-in ! 7 (sub ! 1 refl (whole !)))) (no-more !)))) (from ! (stop
+        !)) (init ! 16 refl (tt, (tt, (record { fits = are .0 .0 .1 .0 }, tt)))) $
         lft-new ! tt (λ α.
         move ! (5 ∷ 6 ∷ []) $
         use2 W (later (some (λ (δ : GName). ‵ (own-out (α ∷ []) δ (t .1)) ⊛ ‵ (LentAgain u8 (κs .0) (α ∷ []) (qs .0) (x-out .name) (x-out .ptr .0) (x-out .ptr .1) δ (t .1)))))
         (lends-at u8 (κs .0) (α ∷ []) (qs .0) (x-out .name) (x-out .ptr .0) (x-out .ptr .1) 𝓤 H A W (named 0) (named 0) (t .1) (length (x-out .now)) (t .3 .long)) $ await ! tt $ pick ! (λ δ. split ! $
         move ! (2 ∷ 0 ∷ 3 ∷ []) $
         use3 W (raw (Line 𝓤 H A at-mem run .pre (to-line α δ t r v))) (goes-line α δ t r v (ltb→lt (t .0) count less)) $
-        calls-at ! (fmOf 𝓤 H (W .laws) 𝓣) (Line 𝓤 H A at-mem run) known-line (to-line α δ t r v) (and-then ! (load ! (from ! (stop !)) (look ! 15 refl)) (and-then ! (load ! (from ! (stop !)) (look ! 10 refl)) (and-then ! (load ! (from !
-        (stop !)) (look ! 11 refl)) (and-then ! (load ! (from ! (stop !)) (look ! 12 refl)) (no-more !))))) (λ v₂.
-        use1 W (later (some (λ (end : ℕ). ((‵ (flft (α ∷ []) fullShare) ⊛ ‵ ftrue) ⊛ ‵ (usize .own end (v₂ ∷ []))) ⊛ raw (ensured 𝓤 H A line′.ended (line′.clauses 𝓤 H A at-mem run) ((to-line α δ t r v) .0 .0) ((to-line α δ t r v) .0 .3) tt
-        end)))) (id⊢ 𝓤 _) $ await ! tt $ pick ! (λ end.
-        split ! $ move ! (1 ∷ []) $ use1 W (some (λ (zs : List ℕ × (Unit {0} × (Unit {0} × (Unit {0} × Unit {0})))). ‵ (lasts line′.ended ((to-line α δ t r v) .0 .0) ((to-line α δ t r v) .0 .3) zs) ⊛ raw (fact 𝓤 (Wrote maxRowLine (t .1)
-        (zs .0) (t .2) end (rowLine (t .0) r))))) (id⊢ 𝓤 _) $ pick ! (λ zs.
+        calls-at ! (fmOf 𝓤 H (W .laws) 𝓣) (Line 𝓤 H A at-mem run) known-line (to-line α δ t r v) (and-then ! (load ! (from ! (stop !)) (look ! 15 refl)) (and-then ! (load ! (from ! (stop !)) (look !
+        10 refl)) (and-then ! (load ! (from ! (stop !)) (look ! 11 refl)) (and-then ! (load ! (from ! (stop !)) (look ! 12 refl)) (no-more !))))) (λ v₂.
+        use1 W (later (some (λ (end : ℕ). ((‵ (flft (α ∷ []) fullShare) ⊛ ‵ ftrue) ⊛ ‵ (usize .own end (v₂ ∷ []))) ⊛ raw (ensured 𝓤 H A line′.ended (line′.clauses 𝓤 H A at-mem run) ((to-line α δ t r
+        v) .0 .0) ((to-line α δ t r v) .0 .3) tt end)))) (id⊢ 𝓤 _) $ await ! tt $ pick ! (λ end.
+        split ! $ move ! (1 ∷ []) $ use1 W (some (λ (zs : List ℕ × (Unit {0} × (Unit {0} × (Unit {0} × Unit {0})))). ‵ (lasts line′.ended ((to-line α δ t r v) .0 .0) ((to-line α δ t r v) .0 .3) zs) ⊛
+        raw (fact 𝓤 (Wrote maxRowLine (t .1) (zs .0) (t .2) end (rowLine (t .0) r))))) (id⊢ 𝓤 _) $ pick ! (λ zs.
         split ! $ move ! (1 ∷ []) $ heard ! (Wrote maxRowLine (t .1) (zs .0) (t .2) end (rowLine (t .0) r)) (λ said. move ! (1 ∷ []) $ split ! $
         move ! (1 ∷ []) $
         peeks ! usize (Is usize) (shows 𝓤 H A usize) end (v₂ ∷ []) (λ isn.
@@ -228,13 +240,13 @@ module _ {M : Type 1} (𝓤 : URA M) (H : Heap 𝓤) (A : Atoms 𝓤) (W : Given
         lft-end ! tt $
         move ! (0 ∷ 5 ∷ 1 ∷ []) $
         use3 W (later (‵ (own-out (κs .0) (x-out .name) (zs .0)) ⊛ ‵ (flft (κs .0) (qs .0))))
-        (back-at u8 (κs .0) (α ∷ []) (qs .0) (x-out .name) (x-out .ptr .0) (x-out .ptr .1) 𝓤 H A W (named 0) (named 0) (t .1) (length (x-out .now)) (t .3 .long) δ (zs .0) (subst (Room u8) (sym (t .3 .long)) (are .0 .0 .1)) (same)) $ await !
-        tt $ split ! $
+        (back-at u8 (κs .0) (α ∷ []) (qs .0) (x-out .name) (x-out .ptr .0) (x-out .ptr .1) 𝓤 H A W (named 0) (named 0) (t .1) (length (x-out .now)) (t .3 .long) δ (zs .0) (subst (Room u8) (sym
+        (t .3 .long)) (are .0 .0 .1)) (same)) $ await ! tt $ split ! $
         move ! (6 ∷ 3 ∷ 2 ∷ 4 ∷ []) $
         drop ! $ drop ! $ drop ! $ drop ! $
         move ! (2 ∷ 3 ∷ 0 ∷ 1 ∷ []) $
-        assigns-last ! (bin ! (load ! (from ! (stop !)) (look ! 10 refl)) (lit ! tt) (record { fits = fits (next t r (zs .0) end (ltb→lt (t .0) count less) e same said (isn .1)) })) (from ! (stop !)) (put ! 10 refl
-        (tt, record { fits = fits (next t r (zs .0) end (ltb→lt (t .0) count less) e same said (isn .1)) })) $
+        assigns-last ! (bin ! (load ! (from ! (stop !)) (look ! 10 refl)) (lit ! tt) (record { fits = fits (next t r (zs .0) end (ltb→lt (t .0) count less) e same said (isn .1)) })) (from ! (stop !))
+        (put ! 10 refl (tt, record { fits = fits (next t r (zs .0) end (ltb→lt (t .0) count less) e same said (isn .1)) })) $
         forget ! 11 refl $
         forget ! 12 refl $
         forget ! 13 refl $
@@ -242,15 +254,14 @@ module _ {M : Type 1} (𝓤 : URA M) (H : Heap 𝓤) (A : Atoms 𝓤) (W : Given
         again ! Nearer At t (next t r (zs .0) end (ltb→lt (t .0) count less) e same said (isn .1)) (add-one-dec count (t .0) (ltb→lt (t .0) count less))))))))))))))))
         (λ late. exec ! (𝓣 .C) (𝓣 .Λ) En rest (atRet En Post) $ assigns ! (of-opd ! (load ! (from ! (stop !)) (look ! 9 refl))) (from ! (stop !)) (init ! 4 refl (tt, record { fits = t .4 })) $
         returns ! (look ! 4 refl) $ group ! 4 $
-        free-under ! (code.function .locals) ns ((someᴼ (vint w64 (t .2))) ▹ (someᴼ (sliceVal (x-out .ptr) (length (x-out .now)))) ▹ (someᴼ (vint w64 (a .1 .0))) ▹ (someᴼ (vint w64 (a .1 .1 .0))) ▹ (someᴼ (sliceVal (x-states .ptr) (length
-        (x-states .now)))) ▹ (someᴼ (vint w64 (t .2))) ▹ (someᴼ (vint w64 (t .0))) ▹ none ▹ (someᴼ (vbool (ltb (t .0) count))) ▹ none ▹ none ▹ tt) $ by ! (exits t (nltb→le (t .0) count late)))
+        free-under ! (code.function .locals) ns ((someᴼ (vint w64 (t .2))) ▹ (someᴼ (v-out)) ▹ (someᴼ (vint w64 (a .1 .0))) ▹ (someᴼ (vint w64 (a .1 .1 .0))) ▹ (someᴼ (v-states)) ▹ (someᴼ (vint w64
+        (t .2))) ▹ (someᴼ (vint w64 (t .0))) ▹ none ▹ (someᴼ (vbool (ltb (t .0) count))) ▹ none ▹ none ▹ tt) $ by ! (exits t (nltb→le (t .0) count late)))
 
-  walk : (𝓣 : Tables 𝓤 H) → Triple 𝓤 (𝓣 .C #states·load) (Load 𝓤 H A at-mem run) → Triple 𝓤 (𝓣 .C #listing·row-line) (Line 𝓤 H A at-mem run) → ent 𝓤 (onEntry 𝓤 H A f.signature κs qs a (at κs a)) (WpFn 𝓤 H (𝓣 .C) (𝓣 .Λ) code.function
-      (sliceVal (x-out .ptr) (length (x-out .now)) ∷ vint w64 (a .1 .0) ∷ vint w64 (a .1 .1 .0) ∷ sliceVal (x-states .ptr) (length (x-states .now)) ∷ []) Post)
+  walk : (𝓣 : Tables 𝓤 H) → Triple 𝓤 (𝓣 .C #states·load) (Load 𝓤 H A at-mem run) → Triple 𝓤 (𝓣 .C #listing·row-line) (Line 𝓤 H A at-mem run) → ent 𝓤 (onEntry 𝓤 H A f.signature κs qs a (at κs a)) (WpFn
+      𝓤 H (𝓣 .C) (𝓣 .Λ) code.function (v-out ∷ vint w64 (a .1 .0) ∷ vint w64 (a .1 .1 .0) ∷ v-states ∷ []) Post)
   walk 𝓣 known-load known-line =
       qed W ((‵ (flft (κs .0) (qs .0)) ⊛ raw toks-r) ∷ ‵ (owns (typesAt (f.signature .params) κs) a (at κs a)) ∷ []) ∵
-      enter ! (𝓣 .C) (𝓣 .Λ) code.function (sliceVal (x-out .ptr) (length (x-out .now)) ∷ vint w64 (a .1 .0) ∷ vint w64 (a .1 .1 .0) ∷ sliceVal (x-states .ptr) (length (x-states .now)) ∷ []) _ $ alloc-all ! (code.function .locals) (λ ns.
-      params1 ! $
+      enter ! (𝓣 .C) (𝓣 .Λ) code.function (v-out ∷ vint w64 (a .1 .0) ∷ vint w64 (a .1 .1 .0) ∷ v-states ∷ []) _ $ alloc-all ! (code.function .locals) (λ ns. params1 ! $
       pass1 ! (init ! 1 refl (tt, (tt, (record { fits = are .0 .0 .1 .0 }, tt)))) $
       pass1 ! (init ! 2 refl (tt, record { fits = are .1 .0 .1 })) $
       pass1 ! (init ! 3 refl (tt, record { fits = are .1 .1 .0 .1 })) $
@@ -261,14 +272,16 @@ module _ {M : Type 1} (𝓤 : URA M) (H : Heap 𝓤) (A : Atoms 𝓤) (W : Given
       move ! (12 ∷ 13 ∷ []) $
       split ! $ move ! (2 ∷ []) $ fsplit ! $ move ! (1 ∷ []) $ fsplit ! $ drop ! $ fsplit ! $ drop ! $ fsplit ! $ move ! (1 ∷ []) $ drop ! $
       move ! (3 ∷ 0 ∷ 1 ∷ 2 ∷ []) $
-      first ! $ blocks ! $ loops ! 𝓣 Nearer Nearer-wf (At 𝓣 known-load known-line ns) (turns 𝓣 known-load known-line ns) (0, x-out .now, at-first, joins-none maxRowLine (x-out .now) at-first (rowAt ss) count, are .1 .0 .1))
+      first ! $ blocks ! $ loops ! 𝓣 Nearer Nearer-wf (At 𝓣 known-load known-line ns) (turns 𝓣 known-load known-line ns)
+      (0, x-out .now, at-first, joins-none maxRowLine (x-out .now) at-first (rowAt ss) count, are .1 .0 .1))
 
-module _ {M : Type 1} (𝓤 : URA M) (H : Heap 𝓤) (A : Atoms 𝓤) (W : Given 𝓤 H A) (at-mem : Memory → SProp 𝓤) (run : Routine → Fun 𝓤) (𝓣 : Tables 𝓤 H) (known-load : Triple 𝓤 (𝓣 .C #states·load) (Load 𝓤 H A at-mem run)) (known-line : Triple 𝓤
-    (𝓣 .C #listing·row-line) (Line 𝓤 H A at-mem run)) where
+module _ {M : Type 1} (𝓤 : URA M) (H : Heap 𝓤) (A : Atoms 𝓤) (W : Given 𝓤 H A) (at-mem : Memory → SProp 𝓤) (run : Routine → Fun 𝓤) (𝓣 : Tables 𝓤 H) (known-load : Triple 𝓤 (𝓣 .C #states·load) (Load 𝓤 H
+    A at-mem run)) (known-line : Triple 𝓤 (𝓣 .C #listing·row-line) (Line 𝓤 H A at-mem run)) where
   row-lines-walks : Walks 𝓤 H A f.ended stayed (WpFn 𝓤 H (𝓣 .C) (𝓣 .Λ) code.function) (f.clauses 𝓤 H A at-mem run)
   row-lines-walks = walked 𝓤 H A f.ended stayed (f.clauses 𝓤 H A at-mem run) (WpFn 𝓤 H (𝓣 .C) (𝓣 .Λ) code.function) (λ κs. (slice-vals ▹ (uint-vals w64) ▹ (uint-vals w64) ▹ slice-vals ▹ tt))
       (λ κs. ((mut-slice-tells (named 0) (κs .0) u8) ▹ (uint-tells w64) ▹ (uint-tells w64) ▹ (shr-slice-tells (named 1) (κs .1 .0) T.the-row) ▹ tt))
-      (λ κs qs bounds a g are. needs 𝓤 ((a .1 .0 + maxRowLine * a .1 .1 .0 ≤ length (a .0 .now)) × (a .1 .1 .0 ≤ length (a .1 .1 .1 .0 .now))) _ (λ pre. walk 𝓤 H A W at-mem run κs qs a are pre 𝓣 known-load known-line))
+      (λ κs qs bounds a g are. needs 𝓤 ((a .1 .0 + maxRowLine * a .1 .1 .0 ≤ length (a .0 .now)) × (a .1 .1 .0 ≤ length (a .1 .1 .1 .0 .now))) _ (λ pre. walk 𝓤 H A W at-mem run κs qs a are pre 𝓣
+      known-load known-line))
 
   row-lines-meets : Meets 𝓤 H A f.signature (WpFn 𝓤 H (𝓣 .C) (𝓣 .Λ) code.function) (f.spec 𝓤 H A at-mem run)
   row-lines-meets = walk-meets 𝓤 H A f.ended stayed W (goes-saids 𝓤 H A W 2 (f.ended .signature .params) (f.ended .kept)) (f.clauses 𝓤 H A at-mem run) (WpFn 𝓤 H (𝓣 .C) (𝓣 .Λ) code.function)

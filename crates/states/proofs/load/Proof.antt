@@ -61,6 +61,9 @@ module _ {M : Type 1} (𝓤 : URA M) (H : Heap 𝓤) (A : Atoms 𝓤) (W : Given
   abbrev x-states : RefT (List State)
   x-states = a .0
 
+  abbrev v-states : Val
+  v-states = sliceVal (x-states .ptr) (length (x-states .now))
+
   abbrev own-states : Lft → GName → List State → Fml
   own-states κ δ l = ShrSlice (named 0) κ T.the-row .own (record { ptr = x-states .ptr; name = δ; now = l }) (slice-vals x-states)
 
@@ -84,19 +87,21 @@ module _ {M : Type 1} (𝓤 : URA M) (H : Heap 𝓤) (A : Atoms 𝓤) (W : Given
 
   exits : Is T.the-row elem (LL.vals T.the-type T′.the-laws elem) → ent 𝓤 (A .lft (κs .0) (qs .0)) (Post (LL.val T.the-type T′.the-laws elem))
   exits is =
-      qed W (‵ (flft (κs .0) (qs .0)) ∷ []) ∵ suffices ! _ (ends-at 𝓤 H A f.ended stayed (f.clauses 𝓤 H A at-mem run) W ((κs, qs, tt, a, at κs a), tt) (LL.val T.the-type T′.the-laws elem) elem (tt, (tt, tt)) (tt, (tt, tt))) $ says ! refl $
+      qed W (‵ (flft (κs .0) (qs .0)) ∷ []) ∵ suffices ! _ (ends-at 𝓤 H A f.ended stayed (f.clauses 𝓤 H A at-mem run) W ((κs, qs, tt, a, at κs a), tt) (LL.val T.the-type T′.the-laws elem) elem
+      (tt, (tt, tt)) (tt, (tt, tt))) $ says ! refl $
       nothing ! $ move ! (1 ∷ 0 ∷ []) $ join ! $ frame ! $ nothing ! $ nothing ! $ fjoin ! $ nothing ! $ fjoin ! $ frame ! $
       owned ! T.the-row (Is T.the-row) (LL.makes T.the-type T′.the-plain 𝓤 H A) elem _ is $ done !
 
   module _ (C : Calls 𝓤 H) (Λ : Loops 𝓤 H) where
-    walk : ent 𝓤 (onEntry 𝓤 H A f.signature κs qs a (at κs a)) (WpFn 𝓤 H C Λ code.function (sliceVal (x-states .ptr) (length (x-states .now)) ∷ vint w64 (a .1 .0) ∷ []) Post)
+    walk : ent 𝓤 (onEntry 𝓤 H A f.signature κs qs a (at κs a)) (WpFn 𝓤 H C Λ code.function (v-states ∷ vint w64 (a .1 .0) ∷ []) Post)
     walk =
         qed W ((‵ (flft (κs .0) (qs .0)) ⊛ ‵ ftrue) ∷ ‵ (owns (typesAt (f.signature .params) κs) a (at κs a)) ∷ []) ∵
-        enter ! C Λ code.function (sliceVal (x-states .ptr) (length (x-states .now)) ∷ vint w64 (a .1 .0) ∷ []) _ $ alloc-all ! (code.function .locals) (λ ns. params1 ! $
+        enter ! C Λ code.function (v-states ∷ vint w64 (a .1 .0) ∷ []) _ $ alloc-all ! (code.function .locals) (λ ns. params1 ! $
         pass1 ! (init ! 1 refl (tt, (tt, (record { fits = are .0 .0 .1 .0 }, tt)))) $
         pass1 ! (init ! 2 refl (tt, record { fits = are .1 .0 .1 })) $
         pass0 ! $
-        assigns ! (bin ! (load ! (from ! (stop !)) (look ! 2 refl)) (lit ! tt) (scaled-fits row (length xs) 72 pre (are .0 .0 .1 .1))) (from ! (stop !)) (init ! 3 refl (tt, (scaled-fits row (length xs) 72 pre (are .0 .0 .1 .1)))) $
+        assigns ! (bin ! (load ! (from ! (stop !)) (look ! 2 refl)) (lit ! tt) (scaled-fits row (length xs) 72 pre (are .0 .0 .1 .1))) (from ! (stop !)) (init ! 3 refl
+        (tt, (scaled-fits row (length xs) 72 pre (are .0 .0 .1 .1)))) $
         assigns ! (bin ! (load ! (from ! (fld ! refl (stop !))) (look-in ! 1 (sub ! 0 refl (whole !)))) (load ! (from ! (stop !)) (look ! 3 refl)) tt) (from ! (stop !)) (init ! 4 refl (tt, tt)) $
         rewrite ! 4 (λ (p : ℕ). ‵ (fat fullShare tyPtr (ns .1 .1 .1 .1 .0) 0 (vptr b p))) (sym (place-is 72 o row)) refl $
         move ! (8 ∷ 7 ∷ []) $
@@ -108,7 +113,7 @@ module _ {M : Type 1} (𝓤 : URA M) (H : Heap 𝓤) (A : Atoms 𝓤) (W : Given
         elem-back ! T.the-row q′ xs row noState (LL.vals T.the-type T′.the-laws elem) b o pre $ shuts-slice ! tt T.the-row q′ xs b o $
         move ! (1 ∷ 2 ∷ 3 ∷ 4 ∷ 5 ∷ []) $
         drop ! $ drop ! $ drop ! $ drop ! $ drop ! $
-        returns ! (look ! 1 refl) $ free-under ! (code.function .locals) ns ((someᴼ (LL.val T.the-type T′.the-laws elem)) ▹ (someᴼ (sliceVal (x-states .ptr) (length (x-states .now)))) ▹ (someᴼ (vint w64 (a .1 .0))) ▹ (someᴼ (vint w64 (row *
+        returns ! (look ! 1 refl) $ free-under ! (code.function .locals) ns ((someᴼ (LL.val T.the-type T′.the-laws elem)) ▹ (someᴼ (v-states)) ▹ (someᴼ (vint w64 (a .1 .0))) ▹ (someᴼ (vint w64 (row *
         72))) ▹ (someᴼ (vptr b (placed 72 o row))) ▹ (someᴼ (LL.val T.the-type T′.the-laws elem)) ▹ tt) $ by ! (exits is))))
 
 module _ {M : Type 1} (𝓤 : URA M) (H : Heap 𝓤) (A : Atoms 𝓤) (W : Given 𝓤 H A) (at-mem : Memory → SProp 𝓤) (run : Routine → Fun 𝓤) (𝓣 : Tables 𝓤 H) where

@@ -60,6 +60,9 @@ module _ {M : Type 1} (𝓤 : URA M) (H : Heap 𝓤) (A : Atoms 𝓤) (W : Given
   abbrev x-states : RefT (List State)
   x-states = a .0
 
+  abbrev v-states : Val
+  v-states = sliceVal (x-states .ptr) (length (x-states .now))
+
   abbrev own-states : Lft → GName → List State → Fml
   own-states κ δ l = MutSlice (named 0) κ T.the-row .own (record { ptr = x-states .ptr; name = δ; now = l }) (slice-vals x-states)
 
@@ -86,40 +89,43 @@ module _ {M : Type 1} (𝓤 : URA M) (H : Heap 𝓤) (A : Atoms 𝓤) (W : Given
 
   exits : ent 𝓤 (sep 𝓤 (A .lft (κs .0) (qs .0)) (sem 𝓤 H A seen)) (Post vunit)
   exits =
-      qed W (‵ (flft (κs .0) (qs .0)) ∷ ‵ seen ∷ []) ∵ suffices ! _ (ends-at 𝓤 H A f.ended stayed (f.clauses 𝓤 H A at-mem run) W ((κs, qs, tt, a, at κs a), tt) vunit tt (set xs row state, (tt, (tt, tt))) (tt, (tt, (tt, tt)))) $ says ! refl
-      $
+      qed W (‵ (flft (κs .0) (qs .0)) ∷ ‵ seen ∷ []) ∵ suffices ! _ (ends-at 𝓤 H A f.ended stayed (f.clauses 𝓤 H A at-mem run) W ((κs, qs, tt, a, at κs a), tt) vunit tt
+      (set xs row state, (tt, (tt, tt))) (tt, (tt, (tt, tt)))) $ says ! refl $
       nothing ! $ move ! (1 ∷ 0 ∷ []) $ join ! $ frame ! $
-      use1 W (‵ (fsep (finally T.the-row (x-states .name) (set xs row state)) (feq ℕ (length (set xs row state)) (length xs)))) (last-list 𝓤 H A W (named 0) (κs .0) T.the-row (x-states .name) (set xs row state) (length xs) (length-set xs
-      row state)) $
+      use1 W (‵ (fsep (finally T.the-row (x-states .name) (set xs row state)) (feq ℕ (length (set xs row state)) (length xs)))) (last-list 𝓤 H A W (named 0) (κs .0) T.the-row (x-states .name) (set xs
+      row state) (length xs) (length-set xs row state)) $
       nothing ! $ nothing ! $ fjoin ! $ nothing ! $ fjoin ! $ move ! (1 ∷ 0 ∷ []) $ fjoin ! $ frame ! $ feqI ! (List Val) (vunit ∷ []) (vunit ∷ []) refl $ done !
 
   module _ (C : Calls 𝓤 H) (Λ : Loops 𝓤 H) where
-    walk : ent 𝓤 (onEntry 𝓤 H A f.signature κs qs a (at κs a)) (WpFn 𝓤 H C Λ code.function (sliceVal (x-states .ptr) (length (x-states .now)) ∷ vint w64 (a .1 .0) ∷ LL.val T.the-type T′.the-laws (a .1 .1 .0) ∷ []) Post)
+    walk : ent 𝓤 (onEntry 𝓤 H A f.signature κs qs a (at κs a)) (WpFn 𝓤 H C Λ code.function (v-states ∷ vint w64 (a .1 .0) ∷ LL.val T.the-type T′.the-laws (a .1 .1 .0) ∷ []) Post)
     walk =
         qed W ((‵ (flft (κs .0) (qs .0)) ⊛ ‵ ftrue) ∷ ‵ (owns (typesAt (f.signature .params) κs) a (at κs a)) ∷ []) ∵
-        enter ! C Λ code.function (sliceVal (x-states .ptr) (length (x-states .now)) ∷ vint w64 (a .1 .0) ∷ LL.val T.the-type T′.the-laws (a .1 .1 .0) ∷ []) _ $ alloc-all ! (code.function .locals) (λ ns. params1 ! $
+        enter ! C Λ code.function (v-states ∷ vint w64 (a .1 .0) ∷ LL.val T.the-type T′.the-laws (a .1 .1 .0) ∷ []) _ $ alloc-all ! (code.function .locals) (λ ns. params1 ! $
         pass1 ! (init ! 1 refl (tt, (tt, (record { fits = are .0 .0 .1 .0 }, tt)))) $
         pass1 ! (init ! 2 refl (tt, record { fits = are .1 .0 .1 })) $
         pass1 ! (init ! 3 refl (LL.lawful T.the-type T′.the-laws 𝓤 H A W .typed (a .1 .1 .0) _ (are .1 .1 .0) .0)) $
         pass0 ! $
-        assigns ! (bin ! (load ! (from ! (stop !)) (look ! 2 refl)) (lit ! tt) (scaled-fits row (length xs) 72 pre (are .0 .0 .1 .1))) (from ! (stop !)) (init ! 4 refl (tt, (scaled-fits row (length xs) 72 pre (are .0 .0 .1 .1)))) $
+        assigns ! (bin ! (load ! (from ! (stop !)) (look ! 2 refl)) (lit ! tt) (scaled-fits row (length xs) 72 pre (are .0 .0 .1 .1))) (from ! (stop !)) (init ! 4 refl
+        (tt, (scaled-fits row (length xs) 72 pre (are .0 .0 .1 .1)))) $
         assigns ! (bin ! (load ! (from ! (fld ! refl (stop !))) (look-in ! 1 (sub ! 0 refl (whole !)))) (load ! (from ! (stop !)) (look ! 4 refl)) tt) (from ! (stop !)) (init ! 5 refl (tt, tt)) $
         rewrite ! 5 (λ (p : ℕ). ‵ (fat fullShare tyPtr (ns .1 .1 .1 .1 .1 .0) 0 (vptr b p))) (sym (place-is 72 o row)) refl $
         move ! (8 ∷ 7 ∷ []) $
         fsplit ! $ fsplit ! $ move ! (1 ∷ []) $ fsplit ! $ move ! (4 ∷ []) $ split ! $ move ! (2 ∷ 3 ∷ 0 ∷ []) $
         opens-slice ! tt T.the-row xs b o $
         elem-out ! T.the-row (Is T.the-row) (shows 𝓤 H A T.the-row) (LL.vals T.the-type T′.the-laws) (LL.tells T.the-type T′.the-laws) fullShare xs row state b o pre (λ was.
-        assigns ! (of-opd ! (load ! (from ! (stop !)) (look ! 12 refl))) (from ! (hop ! (look ! 14 refl) (stop !))) (store-raw ! 0 refl (LL.lawful T.the-type T′.the-laws 𝓤 H A W .typed (a .1 .1 .0) _ (are .1 .1 .0) .0)) $
+        assigns ! (of-opd ! (load ! (from ! (stop !)) (look ! 12 refl))) (from ! (hop ! (look ! 14 refl) (stop !))) (store-raw ! 0 refl (LL.lawful T.the-type T′.the-laws 𝓤 H A W .typed (a .1 .1 .0) _
+        (are .1 .1 .0) .0)) $
         move ! (1 ∷ []) $
         drop ! $
-        owned ! T.the-row (Is T.the-row) (LL.makes T.the-type T′.the-plain 𝓤 H A) state _ (are .1 .1 .0) $ move ! (1 ∷ 0 ∷ []) $ elem-put ! T.the-row fullShare xs row state (LL.vals T.the-type T′.the-laws state) b o pre $
+        owned ! T.the-row (Is T.the-row) (LL.makes T.the-type T′.the-plain 𝓤 H A) state _ (are .1 .1 .0) $ move ! (1 ∷ 0 ∷ []) $ elem-put ! T.the-row fullShare xs row state (LL.vals T.the-type
+        T′.the-laws state) b o pre $
         closes-slice ! tt T.the-row xs (set xs row state) (length-set xs row state) b o $
         assigns ! (of-opd ! (unit-lit !)) (from ! (stop !)) (init ! 6 refl (tt, tt)) $
         move ! (1 ∷ 3 ∷ 4 ∷ 5 ∷ []) $
         drop ! $ drop ! $ drop ! $ drop ! $
         move ! (1 ∷ 0 ∷ []) $
         group ! 2 $
-        returns ! (look ! 1 refl) $ free-under ! (code.function .locals) ns ((someᴼ (vunit)) ▹ (someᴼ (sliceVal (x-states .ptr) (length (x-states .now)))) ▹ (someᴼ (vint w64 (a .1 .0))) ▹ (someᴼ (LL.val T.the-type T′.the-laws (a .1 .1 .0)))
+        returns ! (look ! 1 refl) $ free-under ! (code.function .locals) ns ((someᴼ (vunit)) ▹ (someᴼ (v-states)) ▹ (someᴼ (vint w64 (a .1 .0))) ▹ (someᴼ (LL.val T.the-type T′.the-laws (a .1 .1 .0)))
         ▹ (someᴼ (vint w64 (row * 72))) ▹ (someᴼ (vptr b (placed 72 o row))) ▹ tt) $ by ! exits))
 
 module _ {M : Type 1} (𝓤 : URA M) (H : Heap 𝓤) (A : Atoms 𝓤) (W : Given 𝓤 H A) (at-mem : Memory → SProp 𝓤) (run : Routine → Fun 𝓤) (𝓣 : Tables 𝓤 H) where

@@ -1,0 +1,99 @@
+-- The public call joined to `whole`, the call over the buffers of numbers. Assumes nothing.
+use Prim.Native.Nat.{ℕ, _+_, _<_, _≤_}
+use native.Mathlib.Omega.{arith}
+use mathlib.Core.Path.{_≡_, refl, sym, ap, ap₂, _∙_, subst}
+use mathlib.Core.Bool.{Bool, true, false, _&&_}
+use mathlib.Core.List.{List, [], _∷_, _++_, map}
+use mathlib.Core.Logic.{⊎-elim}
+use lib.ListN.{length, take, drop, length-append}
+use lib.Seq.{take-at}
+use lib.Dec.{leb}
+use lib.IntN.{ℤ}
+use borrow.Author.Tests.{le-leb, lt-leb}
+use Rattle.lists.specs.Laid.{over}
+use Rattle.memory.specs.Limits.{maxThresholds}
+use Rattle.memory.specs.Buffers.{Work, Kept, fits, zeros, cleared}
+use Rattle.state.specs.declared.State.{State}
+use Rattle.state.specs.State.{noState}
+use Rattle.between.specs.Numbers.{figuresOf, cursorsOf, statesOf, stored-read}
+use Rattle.states.specs.States.{shown}
+use Rattle.files.specs.File.{File, Outcome, fileOf}
+use Rattle.files.specs.Contents.{Out, served, untouched, whole, keptOf, laid}
+use Rattle.follows.specs.Answers.{true-false}
+use Rattle.demands.specs.RefusalLaws.{ten, served-when, untouched-when}
+use Rattle.demands.specs.KeptLaws.{kept-file}
+use Rattle.planner.specs.Planner.{Left, left, fitsAll, plan}
+
+-- ---- the states that the rows of numbers hold
+
+pub states-front : (ss : List State) (fs : List (List ℤ)) (cs : List (List ℕ)) → statesOf (map figuresOf ss ++ fs) (map cursorsOf ss ++ cs) ≡ ss ++ statesOf fs cs
+unfolding statesOf
+states-front [] fs cs = refl
+states-front (s ∷ ss) fs cs = λ i. stored-read s i ∷ states-front ss fs cs i
+
+-- Those of a file, at least, and in front.
+pub record Holds (ss : List State) (k : Kept) : Type 0 where
+  pub many : maxThresholds ≤ length (statesOf (k .figures) (k .cursors))
+  pub front : take maxThresholds (statesOf (k .figures) (k .cursors)) ≡ ss
+
+holds-kept : (f : File) → length (f .live .states) ≡ maxThresholds → (w : Kept) → Holds (f .live .states) (keptOf f w)
+unfolding keptOf
+holds-kept f long w =
+    let ss = f .live .states in
+    let fs = drop (length (map figuresOf ss)) (w .figures) in
+    let cs = drop (length (map cursorsOf ss)) (w .cursors) in
+    let e = states-front ss fs cs in
+    record {
+      many = omega (arith, ap length e, length-append ss (statesOf fs cs), long);
+      front = ap (take maxThresholds) e ∙ take-at ss (statesOf fs cs) maxThresholds long;
+    }
+
+-- ---- the call's two ways
+
+abbrev ways : List ℕ → List State → Work → Bool → Left
+ways input states w b =
+    let o = fileOf input in
+    elim b [ true ↦ left (served o w) (over (o .file .live .states) (zeros noState states)) | false ↦ left (untouched w) states ]
+
+plan-by : (input : List ℕ) (states : List State) (w : Work) (b : Bool) → fitsAll input states w ≡ b → plan input states w ≡ ways input states w b
+unfolding plan
+plan-by input states w b e = ap (ways input states w) e
+
+pub plan-short : (input : List ℕ) (states : List State) (w : Work) → length states < maxThresholds → left (untouched w) states ≡ plan input states w
+plan-short input states w h = sym (plan-by input states w false (ap (λ (b : Bool). b && fits input w) (lt-leb maxThresholds (length states) h)))
+
+long-fits : (input : List ℕ) (states : List State) (w : Work) → maxThresholds ≤ length states → fitsAll input states w ≡ fits input w
+long-fits input states w h = ap (λ (b : Bool). b && fits input w) (le-leb maxThresholds (length states) h)
+
+module _ (input : List ℕ) (states : List State) (w : Work) (long : maxThresholds ≤ length states) (o : Out) (run : o ≡ whole input w) where
+  pub plan-ten : o .refused ≡ 10 → left o states ≡ plan input states w
+  plan-ten h =
+      let e = ten input w .0 (sym (ap (λ (r : Out). r .refused) run) ∙ h) in
+      ap (λ (r : Out). left r states) (run ∙ untouched-when input w e) ∙ sym (plan-by input states w false (long-fits input states w long ∙ e))
+
+  module _ (h : o .refused ≡ 10 → ⊥) where
+    fitting : fits input w ≡ true
+    fitting = ⊎-elim (λ e. e) (λ e. absurd (h (ap (λ (r : Out). r .refused) run ∙ ten input w .1 e))) (true-false (fits input w))
+
+    as-served : o ≡ served (fileOf input) w
+    as-served = run ∙ served-when input w fitting
+
+    held : Holds (fileOf input .file .live .states) (o .work .kept)
+    unfolding laid
+    held = subst (λ (r : Out). Holds (fileOf input .file .live .states) (r .work .kept)) (sym as-served) (holds-kept (fileOf input .file) (kept-file input .good .live .long) (cleared w .kept))
+
+    pub plan-many : maxThresholds ≤ length (statesOf (o .work .kept .figures) (o .work .kept .cursors))
+    plan-many = held .many
+
+    pub plan-shown : (zs : List State) → zs ≡ shown (statesOf (o .work .kept .figures) (o .work .kept .cursors)) states → left o zs ≡ plan input states w
+    plan-shown zs e =
+        ap₂ left as-served (e ∙ ap (λ (ss : List State). over ss (zeros noState states)) (held .front))
+        ∙ sym (plan-by input states w true (long-fits input states w long ∙ fitting))
+
+-- ---- where the states are long enough, all else is as `whole` says
+
+pub plan-whole : (input : List ℕ) (states : List State) (w : Work) → maxThresholds ≤ length states → plan input states w .out ≡ whole input w
+plan-whole input states w h =
+    ⊎-elim
+    (λ e. ap (λ (r : Left). r .out) (plan-by input states w true (long-fits input states w h ∙ e)) ∙ sym (served-when input w e))
+    (λ e. ap (λ (r : Left). r .out) (plan-by input states w false (long-fits input states w h ∙ e)) ∙ sym (untouched-when input w e)) (true-false (fits input w))
