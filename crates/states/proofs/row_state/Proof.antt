@@ -16,7 +16,7 @@ load-requires c κs = search needs
 returns : tie.Need-returns
 returns c =
     let a = c .before .before .args in
-    c .load .ensures ∙ sym (getD-take maxThresholds (statesOf (a .figures .now) (a .cursors .now)) (a .row) noState (c .before .if1 .taken))
+    c .load .ensures ∙ sym (getD-take maxThresholds (statesOf (a .figures .now) (a .cursors .now)) (a .row) noState (omega (arith, c .before .if1 .taken)))
 
 first-requires : tie.Need-first-requires
 first-requires c κs = search needs
