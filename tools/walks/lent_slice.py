@@ -711,8 +711,7 @@ def planner_run():
     p = Proof('planner', 'run', 'The rows of numbers are lent again to `call::run`, then read to show the states; every other buffer is given up to `call::run`.', buffers(),
               [short, core, test, show], STATE + ROWS + GIVEN + '''use Rattle.memory.specs.Buffers.{Work, rawLists, raw as rawOf, heldRows, built, kept, work}
 use Rattle.states.specs.States.{shown}
-use Rattle.files.specs.Contents.{whole as wholeOf}
-use Rattle.call.specs.Call.{gives}
+use Rattle.files.specs.Contents.{whole as wholeOf, out}
 use Rattle.planner.specs.Planner.{left, plan, nothing as refusal}
 use Rattle.planner.specs.PlannerLaws.{plan-short, plan-ten, plan-many, plan-shown}
 ''')
@@ -753,7 +752,7 @@ use Rattle.planner.specs.PlannerLaws.{plan-short, plan-ten, plan-many, p
     no.say('group ! 3 $')
     no.top(3, 'left')
     no.say(f'returns-within ! Post refl (look ! {no.at("L0")} refl) $ free-under ! (code.function .locals) ns {no.slots(count)} $')
-    no.say('by ! (exits-short r v (ap (λ (x : Answer). left (gives x w₀) ss) e ∙ plan-short (x-input .now) ss w₀ (ltb→lt (length ss) 1024 little)))' + ')' * no.open)
+    no.say('by ! (exits-short r v (ap (λ (x : Answer). left (out x w₀) ss) e ∙ plan-short (x-input .now) ss w₀ (ltb→lt (length ss) 1024 little)))' + ')' * no.open)
 
     # `call::run`
     args = [1]
@@ -774,7 +773,7 @@ use Rattle.planner.specs.PlannerLaws.{plan-short, plan-ten, plan-many, p
     to = '(to-core α β δ ε)'
     m.say(f'group ! {len(ins)} $ use1 W (raw ({core.triple} .pre {to})) (goes-core α β δ ε) $')
     m.top(len(ins), 'pre')
-    m.call(core, fm, to, args, 'v', ('r', 'Answer'), 'G.the-row', f'raw (toks 𝓤 A {P - 1} ({to} .0 .0) ({to} .0 .1))', ('zs', 'Lasts-core'), ('e', 'gives r (work-at zs) ≡ wholeOf (x-input .now) w₀'), ['tokens', 'own', 'lasts'])
+    m.call(core, fm, to, args, 'v', ('r', 'Answer'), 'G.the-row', f'raw (toks 𝓤 A {P - 1} ({to} .0 .0) ({to} .0 .1))', ('zs', 'Lasts-core'), ('e', 'out r (work-at zs) ≡ wholeOf (x-input .now) w₀'), ['tokens', 'own', 'lasts'])
     m.peek('own', 'G.the-row', 'r', 'v', 'is')
     m.land(GIVEN_, lawful('G', 'r', 'is'), 'v')
     m.move('tokens')
@@ -818,7 +817,7 @@ use Rattle.planner.specs.PlannerLaws.{plan-short, plan-ten, plan-many, p
         yes.say(f'use1 W (‵ ({last(q, f"({q.x} .name)", l)})) (gives-up 𝓤 H A W {q.named} {q.κ} {q.row} ({lent_as(q, f"{q.x} .name", l)}) (slice-vals {q.x}) (length ({q.x} .now)) {same}) $ fsplit ! $ move ! (1 ∷ []) $ drop ! $')
         yes.top(1, f'f-{q.name}')
     big = '(ltb-false (length ss) 1024 (fails (ltb (length ss) 1024) enough))'
-    leave(yes, True, f'ss refl same-f same-c (plan-ten (x-input .now) ss w₀ {big} (gives r (work-at zs)) e (eqb-true (r .refused) 10 (sym e₂ ∙ holds b ten)))')
+    leave(yes, True, f'ss refl same-f same-c (plan-ten (x-input .now) ss w₀ {big} (out r (work-at zs)) e (eqb-true (r .refused) 10 (sym e₂ ∙ holds b ten)))')
 
     # the states are shown
     for q, φ, same in ((fig, 'φ', 'same-f'), (cur, 'ψ', 'same-c')):
@@ -834,7 +833,7 @@ use Rattle.planner.specs.PlannerLaws.{plan-short, plan-ten, plan-many, p
     zf, zc = z['figures'], z['cursors']
     to = f'(to-show φ ψ ({zf}) ({zc}))'
     not_ten = '(eqb-false (r .refused) 10 (sym e₂ ∙ fails b other))'
-    go.say(f'group ! {len(ins)} $ use1 W (raw ({show.triple} .pre {to})) (goes-show φ ψ ({zf}) ({zc}) {big} (plan-many (x-input .now) ss w₀ {big} (gives r (work-at zs)) e {not_ten})) $')
+    go.say(f'group ! {len(ins)} $ use1 W (raw ({show.triple} .pre {to})) (goes-show φ ψ ({zf}) ({zc}) {big} (plan-many (x-input .now) ss w₀ {big} (out r (work-at zs)) e {not_ten})) $')
     go.top(len(ins), 'pre')
     go.call(show, fm, to, [SHOW + 1, SHOW + 3, SHOW + 5], 'v₃', ('u', 'Unit {0}'), 'Nothing', nest_toks([life(ss), life(fig), life(cur)]), ('ts', 'List State × (Unit {0} × (Unit {0} × Unit {0}))'),
             ('e₃', f'ts .0 ≡ shown (statesOf ({zf}) ({zc})) ss'), ['tokens', 'unit', 'put'])
@@ -848,7 +847,7 @@ use Rattle.planner.specs.PlannerLaws.{plan-short, plan-ten, plan-many, p
     go.top(1, 'f-states', 'rest')
     go.assign(0, f'(of-opd ! {go.look(GIVEN_)})', lawful('G', 'r', 'is'), 'v')
     go.drop('true', 'rest')
-    leave(go, False, f'(ts .0) same same-f same-c (plan-shown (x-input .now) ss w₀ {big} (gives r (work-at zs)) e {not_ten} (ts .0) e₃)')
+    leave(go, False, f'(ts .0) same same-f same-c (plan-shown (x-input .now) ss w₀ {big} (out r (work-at zs)) e {not_ten} (ts .0) e₃)')
 
     walk = w.text(ind) + f'\n{ind}(λ little. ' + no.text(ind) + f')\n{ind}(λ enough. ' + m.text(ind) + f'\n{ind}(λ ten. ' + yes.text(ind) + f')\n{ind}(λ other. ' + go.text(ind) + ')' + ')' * m.open + ')'
     abde = [('α', 'ℕ'), ('β', 'ℕ'), ('δ', 'GName'), ('ε', 'GName')]
@@ -965,14 +964,14 @@ use Rattle.planner.specs.PlannerLaws.{plan-short, plan-ten, plan-many, p
   gives-all =
       {up}
 
-  exits-short : (r : Answer) (v : Val) → left (gives r w₀) ss ≡ plan (x-input .now) ss w₀
+  exits-short : (r : Answer) (v : Val) → left (out r w₀) ss ≡ plan (x-input .now) ss w₀
       → ent 𝓤 (sep 𝓤 (toks 𝓤 A {P} κs qs) (sep 𝓤 (sem 𝓤 H A (owns (typesAt (f.signature .params) κs) a (at κs a))) (sem 𝓤 H A (G.the-row .own r (v ∷ []))))) (Post v)
   exits-short r v said =
       qed W (raw (toks 𝓤 A {P} κs qs) ∷ ‵ (owns (typesAt (f.signature .params) κs) a (at κs a)) ∷ ‵ (G.the-row .own r (v ∷ [])) ∷ []) ∵
       {p.ends_at('v', 'r', nows)} says ! said $ frame ! $ use1 W (‵ (lasts f.ended κs a {nows})) gives-all $ done !
 
   exits : (r : Answer) (v : Val) (zs : Lasts-core) (ts : List State) → length ts ≡ length ss → length ({zf}) ≡ length (x-figures .now) → length ({zc}) ≡ length (x-cursors .now)
-      → left (gives r (work-at zs)) ts ≡ plan (x-input .now) ss w₀ → ent 𝓤 ({seps(left_items)}) (Post v)
+      → left (out r (work-at zs)) ts ≡ plan (x-input .now) ss w₀ → ent 𝓤 ({seps(left_items)}) (Post v)
   exits r v zs ts same same-f same-c said =
       qed W ({' ∷ '.join(left_items)} ∷ []) ∵
       {p.ends_at('v', 'r', ends)} says ! said $ {ex.text('      ')}

@@ -16,10 +16,9 @@ use Rattle.state.specs.declared.State.{State}
 use Rattle.state.specs.Step.{stepNumber}
 use Rattle.between.specs.Numbers.{statesOf}
 use Rattle.files.specs.declared.Given.{Given}
-use Rattle.files.specs.Contents.{Out}
+use Rattle.files.specs.Contents.{Out, out}
 use Rattle.listing.specs.Lines.{maxListing, stepOf, Sealed, Listable}
 use Rattle.listing.specs.Shows.{Listed}
-use Rattle.call.specs.Call.{gives}
 use Rattle.library.specs.declared.Numbers.{Numbers}
 use Rattle.library.specs.Library.{Export, export, exported, shownBy, givenBy, inMasks, inRows, readable, Lists}
 
@@ -29,7 +28,7 @@ use Rattle.library.specs.Library.{Export, export, exported, shownBy, giv
 abbrev told : Given → (last sealed : ℕ) → Numbers
 told g last sealed = record { refused = g .refused; last = last; sealed = sealed; at = g .at; nodes = g .nodes; rows = g .rows; answered = g .answered }
 
-pub exports : (g : Given) (last sealed : ℕ) (w : Work) (o : Out) → last ≡ stepNumber (g .last) → sealed ≡ cond (g .sealed) 1 0 → gives g w ≡ o
+pub exports : (g : Given) (last sealed : ℕ) (w : Work) (o : Out) → last ≡ stepNumber (g .last) → sealed ≡ cond (g .sealed) 1 0 → out g w ≡ o
     → export (told g last sealed) w ≡ exported o
 exports g last sealed w o e h q = ap₂ (λ (n m : ℕ). export (told g n m) w) e h ∙ ap exported q
 

@@ -66,14 +66,14 @@ long-fits : (input : List ℕ) (states : List State) (w : Work) → maxThreshold
 long-fits input states w h = ap (λ (b : Bool). b && fits input w) (le-leb maxThresholds (length states) h)
 
 module _ (input : List ℕ) (states : List State) (w : Work) (long : maxThresholds ≤ length states) (o : Out) (run : o ≡ whole input w) where
-  pub plan-ten : o .refused ≡ 10 → left o states ≡ plan input states w
+  pub plan-ten : o .given .refused ≡ 10 → left o states ≡ plan input states w
   plan-ten h =
-      let e = ten input w .0 (sym (ap (λ (r : Out). r .refused) run) ∙ h) in
+      let e = ten input w .0 (sym (ap (λ (r : Out). r .given .refused) run) ∙ h) in
       ap (λ (r : Out). left r states) (run ∙ untouched-when input w e) ∙ sym (plan-by input states w false (long-fits input states w long ∙ e))
 
-  module _ (h : o .refused ≡ 10 → ⊥) where
+  module _ (h : o .given .refused ≡ 10 → ⊥) where
     fitting : fits input w ≡ true
-    fitting = ⊎-elim (λ e. e) (λ e. absurd (h (ap (λ (r : Out). r .refused) run ∙ ten input w .1 e))) (true-false (fits input w))
+    fitting = ⊎-elim (λ e. e) (λ e. absurd (h (ap (λ (r : Out). r .given .refused) run ∙ ten input w .1 e))) (true-false (fits input w))
 
     as-served : o ≡ served (fileOf input) w
     as-served = run ∙ served-when input w fitting

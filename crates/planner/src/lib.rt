@@ -2,7 +2,7 @@
 ghost use mathlib.Core.Path.{_≡_};
 ghost use lib.Dec.{eqb};
 ghost use Rattle.memory.specs.Buffers.{rawLists, raw, heldRows, built, kept, work};
-ghost use Rattle.call.specs.Call.{gives};
+ghost use Rattle.files.specs.Contents.{out};
 ghost use Rattle.planner.specs.Planner.{left, plan, nothing};
 use files::Given;
 use state::State;
@@ -55,7 +55,7 @@ pub fn run(
     row_queues: &mut [[u16; 4]],
     answers: &mut [[u16; 2]],
 ) -> Given
-    ensures { λ r. ⌜ left (gives r (work (raw (rawLists (now («raw_conditions» .exit)) (now («raw_weights» .exit)) (now (thresholds .exit))) (now (bounds .exit)))
+    ensures { λ r. ⌜ left (out r (work (raw (rawLists (now («raw_conditions» .exit)) (now («raw_weights» .exit)) (now (thresholds .exit))) (now (bounds .exit)))
         (built (heldRows (now («row_conditions» .exit)) (now («row_weights» .exit)) (now (rows .exit)) (now («guard_bounds» .exit)) (now («guard_nodes» .exit))) (now (nodes .exit)) (now (edges .exit)) (now (links .exit)))
         (kept (now (figures .exit)) (now (cursors .exit)) (now (sure .exit)) (now (never .exit)) (now (search .exit)) (now (gcds .exit)) (now («node_queue» .exit)) (now («row_queues» .exit)) (now (answers .exit))))) (now (states .exit))
         ≡ plan (now (input .entry)) (now (states .entry)) (work (raw (rawLists (now («raw_conditions» .entry)) (now («raw_weights» .entry)) (now (thresholds .entry))) (now (bounds .entry)))

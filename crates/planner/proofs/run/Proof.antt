@@ -62,8 +62,7 @@ use Rattle.files.proofs.Given as G
 use Rattle.files.proofs.Given.Laws as G′
 use Rattle.memory.specs.Buffers.{Work, rawLists, raw as rawOf, heldRows, built, kept, work}
 use Rattle.states.specs.States.{shown}
-use Rattle.files.specs.Contents.{whole as wholeOf}
-use Rattle.call.specs.Call.{gives}
+use Rattle.files.specs.Contents.{whole as wholeOf, out}
 use Rattle.planner.specs.Planner.{left, plan, nothing as refusal}
 use Rattle.planner.specs.PlannerLaws.{plan-short, plan-ten, plan-many, plan-shown}
 use Rattle.planner.proofs.too_short as short′
@@ -579,7 +578,7 @@ module _ {M : Type 1} (𝓤 : URA M) (H : Heap 𝓤) (A : Atoms 𝓤) (W : Given
       (two-go 𝓤 H A W (gives-up 𝓤 H A W (named 22) (κs .1 .1 .1 .1 .1 .1 .1 .1 .1 .1 .1 .1 .1 .1 .1 .1 .1 .1 .1 .1 .1 .1 .0) Two x-answers (slice-vals x-answers) (length (x-answers .now)) refl)
       (id⊢ 𝓤 (emp 𝓤))))))))))))))))))))))))
 
-  exits-short : (r : Answer) (v : Val) → left (gives r w₀) ss ≡ plan (x-input .now) ss w₀
+  exits-short : (r : Answer) (v : Val) → left (out r w₀) ss ≡ plan (x-input .now) ss w₀
       → ent 𝓤 (sep 𝓤 (toks 𝓤 A 23 κs qs) (sep 𝓤 (sem 𝓤 H A (owns (typesAt (f.signature .params) κs) a (at κs a))) (sem 𝓤 H A (G.the-row .own r (v ∷ []))))) (Post v)
   exits-short r v said =
       qed W (raw (toks 𝓤 A 23 κs qs) ∷ ‵ (owns (typesAt (f.signature .params) κs) a (at κs a)) ∷ ‵ (G.the-row .own r (v ∷ [])) ∷ []) ∵
@@ -593,7 +592,7 @@ module _ {M : Type 1} (𝓤 : URA M) (H : Heap 𝓤) (A : Atoms 𝓤) (W : Given
 
   exits : (r : Answer) (v : Val) (zs : Lasts-core) (ts : List State) → length ts ≡ length ss → length (zs .1 .1 .1 .1 .1 .1 .1 .1 .1 .1 .1 .1 .1 .0) ≡ length (x-figures .now) → length
       (zs .1 .1 .1 .1 .1 .1 .1 .1 .1 .1 .1 .1 .1 .1 .0) ≡ length (x-cursors .now)
-      → left (gives r (work-at zs)) ts ≡ plan (x-input .now) ss w₀ → ent 𝓤 (sep 𝓤 ((chain 𝓤 toks-front (emp 𝓤))) (sep 𝓤 (sem 𝓤 H A (flft (κs .1 .1 .1 .1 .1 .1 .1 .1 .1 .1 .1 .1 .1 .0)
+      → left (out r (work-at zs)) ts ≡ plan (x-input .now) ss w₀ → ent 𝓤 (sep 𝓤 ((chain 𝓤 toks-front (emp 𝓤))) (sep 𝓤 (sem 𝓤 H A (flft (κs .1 .1 .1 .1 .1 .1 .1 .1 .1 .1 .1 .1 .1 .0)
       (qs .1 .1 .1 .1 .1 .1 .1 .1 .1 .1 .1 .1 .1 .0))) (sep 𝓤 (sem 𝓤 H A (flft (κs .1 .1 .1 .1 .1 .1 .1 .1 .1 .1 .1 .1 .1 .1 .0) (qs .1 .1 .1 .1 .1 .1 .1 .1 .1 .1 .1 .1 .1 .1 .0))) (sep 𝓤 (sem 𝓤 H A
       (flft (κs .1 .1 .1 .1 .1 .1 .1 .1 .1 .1 .1 .1 .1 .1 .1 .0) (qs .1 .1 .1 .1 .1 .1 .1 .1 .1 .1 .1 .1 .1 .1 .1 .0))) (sep 𝓤 (toks-tail) (sep 𝓤 ((chain 𝓤 (lasts-front zs) (emp 𝓤))) (sep 𝓤 (sem 𝓤 H A
       (finally T.the-row (x-states .name) ts)) (sep 𝓤 (sem 𝓤 H A (finally Figures (x-figures .name) (zs .1 .1 .1 .1 .1 .1 .1 .1 .1 .1 .1 .1 .1 .0))) (sep 𝓤 (sem 𝓤 H A (finally Cursors
@@ -691,7 +690,7 @@ module _ {M : Type 1} (𝓤 : URA M) (H : Heap 𝓤) (A : Atoms 𝓤) (W : Given
         (v-node-queue)) ▹ (someᴼ (v-row-queues)) ▹ (someᴼ (v-answers)) ▹ none ▹ (someᴼ (vint w64 (length ss))) ▹ (someᴼ (vbool (ltb (length ss) 1024))) ▹ none ▹ none ▹ none ▹ none ▹ none ▹ none ▹ none
         ▹ none ▹ none ▹ none ▹ none ▹ none ▹ none ▹ none ▹ none ▹ none ▹ none ▹ none ▹ none ▹ none ▹ none ▹ none ▹ none ▹ none ▹ none ▹ none ▹ none ▹ none ▹ none ▹ none ▹ none ▹ none ▹ none ▹ none ▹
         none ▹ none ▹ none ▹ none ▹ none ▹ none ▹ none ▹ none ▹ none ▹ none ▹ none ▹ none ▹ none ▹ none ▹ none ▹ none ▹ tt) $
-        by ! (exits-short r v (ap (λ (x : Answer). left (gives x w₀) ss) e ∙ plan-short (x-input .now) ss w₀ (ltb→lt (length ss) 1024 little)))))))))
+        by ! (exits-short r v (ap (λ (x : Answer). left (out x w₀) ss) e ∙ plan-short (x-input .now) ss w₀ (ltb→lt (length ss) 1024 little)))))))))
         (λ enough. assigns ! (addr ! (from ! (fld ! refl (hop ! (look-in ! 2 (sub ! 0 refl (whole !))) (stop !))))) (from ! (stop !)) (init ! 27 refl (tt, tt)) $
         assigns ! (agg ! (and-then ! (load ! (from ! (stop !)) (look ! 27 refl)) (and-then ! (load ! (from ! (fld ! refl (stop !))) (look-in ! 2 (sub ! 1 refl (whole !)))) (no-more !)))) (from ! (stop
         !)) (init ! 28 refl (tt, (tt, (record { fits = are .1 .0 .0 .1 .0 }, tt)))) $
@@ -789,9 +788,9 @@ module _ {M : Type 1} (𝓤 : URA M) (H : Heap 𝓤) (A : Atoms 𝓤) (W : Given
         v.
         use1 W (later (some (λ (r : Answer). (raw (toks 𝓤 A 22 ((to-core α β δ ε) .0 .0) ((to-core α β δ ε) .0 .1)) ⊛ ‵ (G.the-row .own r (v ∷ []))) ⊛ raw (ensured 𝓤 H A core′.ended (core′.clauses 𝓤 H
         A at-mem run) ((to-core α β δ ε) .0 .0) ((to-core α β δ ε) .0 .3) tt r)))) (id⊢ 𝓤 _) $ await ! tt $ pick ! (λ r.
-        split ! $ move ! (1 ∷ []) $ use1 W (some (λ (zs : Lasts-core). ‵ (lasts core′.ended ((to-core α β δ ε) .0 .0) ((to-core α β δ ε) .0 .3) zs) ⊛ raw (fact 𝓤 (gives r (work-at zs) ≡ wholeOf
+        split ! $ move ! (1 ∷ []) $ use1 W (some (λ (zs : Lasts-core). ‵ (lasts core′.ended ((to-core α β δ ε) .0 .0) ((to-core α β δ ε) .0 .3) zs) ⊛ raw (fact 𝓤 (out r (work-at zs) ≡ wholeOf
         (x-input .now) w₀)))) (id⊢ 𝓤 _) $ pick ! (λ zs.
-        split ! $ move ! (1 ∷ []) $ heard ! (gives r (work-at zs) ≡ wholeOf (x-input .now) w₀) (λ e. move ! (1 ∷ []) $ split ! $
+        split ! $ move ! (1 ∷ []) $ heard ! (out r (work-at zs) ≡ wholeOf (x-input .now) w₀) (λ e. move ! (1 ∷ []) $ split ! $
         move ! (1 ∷ []) $
         peeks ! G.the-row (Is G.the-row) (shows 𝓤 H A G.the-row) r (v ∷ []) (λ is.
         land ! (from ! (stop !)) (init ! 31 refl (LL.lawful G.the-type G′.the-laws 𝓤 H A W .typed r _ is .0)) $
@@ -867,7 +866,7 @@ module _ {M : Type 1} (𝓤 : URA M) (H : Heap 𝓤) (A : Atoms 𝓤) (W : Given
         (someᴼ (v-never)) ▹ (someᴼ (vptr (x-search .ptr .0) (x-search .ptr .1))) ▹ (someᴼ (v-search)) ▹ (someᴼ (vptr (x-gcds .ptr .0) (x-gcds .ptr .1))) ▹ (someᴼ (v-gcds)) ▹ (someᴼ (vptr
         (x-node-queue .ptr .0) (x-node-queue .ptr .1))) ▹ (someᴼ (v-node-queue)) ▹ (someᴼ (vptr (x-row-queues .ptr .0) (x-row-queues .ptr .1))) ▹ (someᴼ (v-row-queues)) ▹ (someᴼ (vptr
         (x-answers .ptr .0) (x-answers .ptr .1))) ▹ (someᴼ (v-answers)) ▹ (someᴼ (vbool b)) ▹ none ▹ none ▹ none ▹ none ▹ none ▹ none ▹ none ▹ tt) $
-        by ! (exits r v zs ss refl same-f same-c (plan-ten (x-input .now) ss w₀ (ltb-false (length ss) 1024 (fails (ltb (length ss) 1024) enough)) (gives r (work-at zs)) e (eqb-true (r .refused) 10
+        by ! (exits r v zs ss refl same-f same-c (plan-ten (x-input .now) ss w₀ (ltb-false (length ss) 1024 (fails (ltb (length ss) 1024) enough)) (out r (work-at zs)) e (eqb-true (r .refused) 10
         (sym e₂ ∙ holds b ten)))))
         (λ other. move ! (2 ∷ 3 ∷ []) $
         use2 W (later (some (λ (φ : GName). ‵ (shr-figures φ (zs .1 .1 .1 .1 .1 .1 .1 .1 .1 .1 .1 .1 .1 .0)) ⊛ (‵ (finally Figures (x-figures .name) (zs .1 .1 .1 .1 .1 .1 .1 .1 .1 .1 .1 .1 .1 .0)) ⊛ ‵
@@ -891,7 +890,7 @@ module _ {M : Type 1} (𝓤 : URA M) (H : Heap 𝓤) (A : Atoms 𝓤) (W : Given
         move ! (12 ∷ 4 ∷ 1 ∷ 11 ∷ 5 ∷ 2 ∷ []) $
         group ! 6 $ use1 W (raw (Show 𝓤 H A at-mem run .pre (to-show φ ψ (zs .1 .1 .1 .1 .1 .1 .1 .1 .1 .1 .1 .1 .1 .0) (zs .1 .1 .1 .1 .1 .1 .1 .1 .1 .1 .1 .1 .1 .1 .0)))) (goes-show φ ψ
         (zs .1 .1 .1 .1 .1 .1 .1 .1 .1 .1 .1 .1 .1 .0) (zs .1 .1 .1 .1 .1 .1 .1 .1 .1 .1 .1 .1 .1 .1 .0) (ltb-false (length ss) 1024 (fails (ltb (length ss) 1024) enough)) (plan-many (x-input .now) ss
-        w₀ (ltb-false (length ss) 1024 (fails (ltb (length ss) 1024) enough)) (gives r (work-at zs)) e (eqb-false (r .refused) 10 (sym e₂ ∙ fails b other)))) $
+        w₀ (ltb-false (length ss) 1024 (fails (ltb (length ss) 1024) enough)) (out r (work-at zs)) e (eqb-false (r .refused) 10 (sym e₂ ∙ fails b other)))) $
         calls-at ! fm (Show 𝓤 H A at-mem run) known-show (to-show φ ψ (zs .1 .1 .1 .1 .1 .1 .1 .1 .1 .1 .1 .1 .1 .0) (zs .1 .1 .1 .1 .1 .1 .1 .1 .1 .1 .1 .1 .1 .1 .0)) (and-then ! (load ! (from !
         (stop !)) (look ! 80 refl)) (and-then ! (load ! (from ! (stop !)) (look ! 82 refl)) (and-then ! (load ! (from ! (stop !)) (look ! 84 refl)) (no-more !)))) (λ v₃.
         use1 W (later (some (λ (u : Unit {0}). ((‵ (flft (κs .1 .1 .1 .1 .1 .1 .1 .1 .1 .1 .1 .1 .1 .0) (qs .1 .1 .1 .1 .1 .1 .1 .1 .1 .1 .1 .1 .1 .0)) ⊛ (‵ (flft
@@ -930,7 +929,7 @@ module _ {M : Type 1} (𝓤 : URA M) (H : Heap 𝓤) (A : Atoms 𝓤) (W : Given
         (x-node-queue .ptr .0) (x-node-queue .ptr .1))) ▹ (someᴼ (v-node-queue)) ▹ (someᴼ (vptr (x-row-queues .ptr .0) (x-row-queues .ptr .1))) ▹ (someᴼ (v-row-queues)) ▹ (someᴼ (vptr
         (x-answers .ptr .0) (x-answers .ptr .1))) ▹ (someᴼ (v-answers)) ▹ (someᴼ (vbool b)) ▹ (someᴼ (v₃)) ▹ (someᴼ (vptr (x-states .ptr .0) (x-states .ptr .1))) ▹ (someᴼ (v-states)) ▹ (someᴼ (vptr
         (x-figures .ptr .0) (x-figures .ptr .1))) ▹ (someᴼ (v-figures)) ▹ (someᴼ (vptr (x-cursors .ptr .0) (x-cursors .ptr .1))) ▹ (someᴼ (v-cursors)) ▹ tt) $
-        by ! (exits r v zs (ts .0) same same-f same-c (plan-shown (x-input .now) ss w₀ (ltb-false (length ss) 1024 (fails (ltb (length ss) 1024) enough)) (gives r (work-at zs)) e (eqb-false
+        by ! (exits r v zs (ts .0) same same-f same-c (plan-shown (x-input .now) ss w₀ (ltb-false (length ss) 1024 (fails (ltb (length ss) 1024) enough)) (out r (work-at zs)) e (eqb-false
         (r .refused) 10 (sym e₂ ∙ fails b other)) (ts .0) e₃)))))))))))))))))))))))))))))
 
 module _ {M : Type 1} (𝓤 : URA M) (H : Heap 𝓤) (A : Atoms 𝓤) (W : Given 𝓤 H A) (at-mem : Memory → SProp 𝓤) (run : Routine → Fun 𝓤) (𝓣 : Tables 𝓤 H) (known-short : Triple 𝓤 (𝓣 .C #planner·too-short)
