@@ -10,7 +10,6 @@ use lib.IntN.{ℤ}
 use Rattle.memory.specs.Limits.{rawLimit, maxLinks}
 use Rattle.memory.specs.Buffers.{rawLists, Raw, raw, Built, Kept, Work, work, fits, longestInput, clearRaw, clearBuilt, cleared}
 use Rattle.memory.specs.Lengths.{Sized, fits-sized, fits-input}
-use Rattle.state.specs.declared.Step.the-variants.{Unchanged}
 use Rattle.numeric.specs.Threshold.{Job}
 use Rattle.thresholds.specs.Rows.{rowsOf}
 use Rattle.prepare.specs.JobBuffers.{rawOf, builtOf}
@@ -25,7 +24,7 @@ use Rattle.job.specs.Gathered.{jobIn}
 use Rattle.files.specs.declared.JobRead.{JobRead}
 use Rattle.files.specs.File.{File, standing, refusal, sealedFile, markedFile, settledFile, siftedFile, act, apply, Outcome, refusalAt, readFrom, fileOf}
 use Rattle.files.specs.FileLaws.{zero-or, read-on, read-stop}
-use Rattle.files.specs.Contents.{laid, served, untouched, whole, out}
+use Rattle.files.specs.Contents.{laid, served, untouched, whole, out, nothing}
 use Rattle.files.specs.JobPart.{JobPart, jobPartOf}
 use Rattle.files.specs.JobPartLaws.{file-goes-on, file-ends}
 use Rattle.files.specs.Held.{Room, HeldPart}
@@ -150,10 +149,7 @@ pub long : (input : List ℕ) (w : Work) (short : Bool) → short ≡ not (fits 
 long input w short e q = not-false (fits input w) (sym e ∙ q)
 
 -- REFUSAL 10
-abbrev none : Given
-none = record { refused = 10; at = 0; sealed = false; nodes = 0; rows = 0; last = Unchanged; answered = 0 }
-
-pub whole-none : (input : List ℕ) (w : Work) (short : Bool) → short ≡ not (fits input w) → short ≡ true → out none w ≡ whole input w
+pub whole-none : (input : List ℕ) (w : Work) (short : Bool) → short ≡ not (fits input w) → short ≡ true → out nothing w ≡ whole input w
 unfolding whole
 whole-none input w short e q =
     ap (λ (b : Bool). elim b [ true ↦ served (fileOf input) w | false ↦ untouched w ]) (sym (not-true (fits input w) (sym e ∙ q)))

@@ -12,7 +12,7 @@ use lib.Seq.{take-nil, drop-drop}
 use lib.Dec.{eqb, ltb}
 use borrow.Author.Tests.{eqb-true, eqb-false, ltb-false}
 use Rattle.records.specs.declared.Record.{Record}
-use Rattle.records.specs.Record.{kindOf, bodyLength, recordOf}
+use Rattle.records.specs.Record.{kindOf, bodyLength}
 use Rattle.files.specs.File.{File, begun, apply, Outcome, outcome, bodyOf, recordAt, unknownKind, cutBody, refusal, refusalAt, readFrom, fileOf, planned}
 use Rattle.files.specs.FileLaws.{checked, drop-take, same-body}
 use Rattle.follows.specs.Answers.{or-false}
@@ -93,7 +93,7 @@ module _ (n o kind : ℕ) (rest : List ℕ) (f : File) (taken : List Record) whe
         from = omega (arith, b);
         spelled = ap (λ (j : ℕ). decodeFrom (suc n) (take j (kind ∷ rest)) taken) a
             ∙ decode-on n kind (take k rest) taken (ap (λ (l : List ℕ). unknownKind kind || ltb (length l) size) same ∙ known)
-            ∙ ap₂ (λ (l : List ℕ) (y : Record). decodeFrom n l (taken ++ (y ∷ []))) d (ap (recordOf (kindOf kind)) same)
+            ∙ ap₂ (λ (l : List ℕ) (y : Record). decodeFrom n l (taken ++ (y ∷ []))) d (ap (kindOf kind .made) same)
             ∙ i .spelled;
         all = λ h z. omega (arith, i .all (omega (arith, length-drop size rest)) z, length-drop size rest, body);
         stops = λ h.

@@ -36,15 +36,10 @@ laid f w = work (rawOf (f .job) (w .raw)) (cond (f .sealed) (builtOf (f .closed)
 
 -- What is given back of an outcome.
 abbrev pub givenOf : Outcome → Given
-givenOf o = record {
-  refused = o .refused;
-  at = o .at;
-  sealed = o .file .sealed;
-  nodes = o .file .job .nodes;
-  rows = cond (o .file .sealed) (length (rowsOf (o .file .closed))) 0;
-  last = o .file .last;
-  answered = length (o .file .answers);
-}
+givenOf o =
+    let f = o .file in
+    let rows = cond (f .sealed) (length (rowsOf (f .closed))) 0 in
+    record { refused = o .refused; at = o .at; sealed = f .sealed; nodes = f .job .nodes; rows = rows; last = f .last; answered = length (f .answers) }
 
 -- THE CALL: what it gives back, and what it leaves in every buffer. Refusal 10 touches none.
 pub record Out : Type 0 where
@@ -57,8 +52,12 @@ out g w = record { given = g; work = w }
 abbrev pub served : Outcome → Work → Out
 served o w = out (givenOf o) (laid (o .file) (cleared w))
 
+-- What refusal 10 gives back.
+abbrev pub nothing : Given
+nothing = record { refused = 10; at = 0; sealed = false; nodes = 0; rows = 0; last = Unchanged; answered = 0 }
+
 abbrev pub untouched : Work → Out
-untouched w = out (record { refused = 10; at = 0; sealed = false; nodes = 0; rows = 0; last = Unchanged; answered = 0 }) w
+untouched w = out nothing w
 
 unfoldable pub whole : List ℕ → Work → Out
 whole input w = elim (fits input w) [ true ↦ served (fileOf input) w | false ↦ untouched w ]

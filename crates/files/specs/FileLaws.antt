@@ -12,7 +12,7 @@ use lib.Dec.{eqb, ltb}
 use mathlib.Core.Logic.{_⊎_, inl, inr, ⊎-elim}
 use borrow.Author.Tests.{eq-eqb, ne-eqb}
 use Rattle.records.specs.declared.Record.{Record}
-use Rattle.records.specs.Record.{kindOf, bodyLength, recordOf}
+use Rattle.records.specs.Record.{kindOf, bodyLength}
 use Rattle.records.specs.Facts.{action, facts}
 use Rattle.records.specs.Checks.{Check, first, checks}
 use Rattle.files.specs.File.{File, standing, refusal, apply, Outcome, outcome, bodyOf, recordAt, unknownKind, cutBody, refusalAt, readFrom, after}
@@ -136,7 +136,7 @@ same-body kind k rest h = take-take (bodyLength (kindOf kind)) k rest h
 
 same-refusal : (f : File) (kind k : ℕ) (rest : List ℕ) → bodyLength (kindOf kind) ≤ k → refusalAt f kind (take k rest) ≡ refusalAt f kind rest
 same-refusal f kind k rest h =
-    ap (λ (b : List ℕ). first (checks (standing f) (unknownKind kind) (ltb (length b) (bodyLength (kindOf kind))) (facts (action (recordOf (kindOf kind) b))))) (same-body kind k rest h)
+    ap (λ (b : List ℕ). first (checks (standing f) (unknownKind kind) (ltb (length b) (bodyLength (kindOf kind))) (facts (action (kindOf kind .made b))))) (same-body kind k rest h)
 
 -- The reading stopped behind o, and the part before that place reads the same and is accepted.
 abbrev pub Cut : ℕ → ℕ → List ℕ → File → List Record → Outcome → Type 0
@@ -170,7 +170,7 @@ read-cut (suc n) o (kind ∷ rest) f taken h =
         let a : r .at - o ≡ suc k = omega arith in
         let d : drop size (take k rest) ≡ take (r .at - (o + 1 + size)) (drop size rest) =
         drop-take size k rest ∙ (let g : k - size ≡ r .at - (o + 1 + size) = omega arith in ap (λ (i : ℕ). take i (drop size rest)) g) in
-        let x : recordAt kind (take k rest) ≡ recordAt kind rest = ap (recordOf (kindOf kind)) (same-body kind k rest w) in (
+        let x : recordAt kind (take k rest) ≡ recordAt kind rest = ap (kindOf kind .made) (same-body kind k rest w) in (
           omega arith,
           ap (λ (i : ℕ). readFrom (suc n) o (take i (kind ∷ rest)) f taken) a
               ∙ read-on n o kind (take k rest) f taken (same-refusal f kind k rest w ∙ e)

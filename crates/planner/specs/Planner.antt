@@ -9,10 +9,8 @@ use Rattle.memory.specs.Limits.{maxThresholds}
 use Rattle.memory.specs.Buffers.{Work, fits, zeros}
 use Rattle.state.specs.declared.State.{State}
 use Rattle.state.specs.State.{noState}
-use Rattle.state.specs.declared.Step.the-variants.{Unchanged}
-use Rattle.files.specs.File.{Outcome, fileOf}
+use Rattle.files.specs.File.{fileOf}
 use Rattle.files.specs.Contents.{Out, served, untouched}
-use Rattle.files.specs.declared.Given.{Given}
 
 -- What is given back with every word of the buffers of numbers, and every row state.
 pub record Left : Type 0 where
@@ -31,7 +29,3 @@ unfoldable pub plan : List ℕ → List State → Work → Left
 plan input states w =
     let o = fileOf input in
     elim (fitsAll input states w) [ true ↦ left (served o w) (over (o .file .live .states) (zeros noState states)) | false ↦ left (untouched w) states ]
-
--- What refusal 10 gives back.
-abbrev pub nothing : Given
-nothing = record { refused = 10; at = 0; sealed = false; nodes = 0; rows = 0; last = Unchanged; answered = 0 }

@@ -55,15 +55,12 @@ kindOf b = getD kinds b noKind
 abbrev pub bodyLength : Kind → ℕ
 bodyLength k = k .size
 
-abbrev pub recordOf : Kind → List ℕ → Record
-recordOf k body = k .made body
-
 -- The record that begins with this kind.
 abbrev pub bodyOf : ℕ → List ℕ → List ℕ
 bodyOf kind rest = take (bodyLength (kindOf kind)) rest
 
 abbrev pub recordAt : ℕ → List ℕ → Record
-recordAt kind rest = recordOf (kindOf kind) (bodyOf kind rest)
+recordAt kind rest = kindOf kind .made (bodyOf kind rest)
 
 -- The kind of the record at an offset, and the record.
 abbrev pub kindAt : List ℕ → ℕ → Kind

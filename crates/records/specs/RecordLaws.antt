@@ -13,7 +13,7 @@ use mir.Val.{SFits}
 use borrow.Author.Tests.{lt-ltb, le-ltb}
 use Rattle.records.specs.declared.Record.{Record}
 use Rattle.records.specs.declared.Record.the-variants.{Unknown}
-use Rattle.records.specs.Record.{Kind, kind, noKind, kinds, kindOf, bodyLength, littleEndian, front, behind, signed, recordOf, kindAt, recordIn}
+use Rattle.records.specs.Record.{Kind, kind, noKind, kinds, kindOf, bodyLength, littleEndian, front, behind, signed, kindAt, recordIn}
 
 little-append : (xs ys : List ℕ) → littleEndian (xs ++ ys) ≡ littleEndian xs + 256 ^ length xs * littleEndian ys
 unfolding littleEndian
@@ -87,7 +87,7 @@ module _ (l : List ℕ) (at : ℕ) where
 
   -- The record that a kind makes here.
   abbrev madeAt : Kind → Record
-  madeAt k = recordOf k (take (bodyLength k) (drop (at + 1) l))
+  madeAt k = k .made (take (bodyLength k) (drop (at + 1) l))
 
   -- A record by the byte of its kind: how long it is at least, and what it says.
   pub room-by : (b : ℕ) → getD l at 0 ≡ b → at + 1 + bodyLength (kindAt l at) ≤ length l → at + 1 + bodyLength (kindOf b) ≤ length l

@@ -19,13 +19,9 @@ use Rattle.residual.specs.Gcd.{gcd, misses, branchMisses}
 
 -- The figures of a row with a residual interval; none of them is negative. `upper` is the last sum allowed.
 abbrev pub interval : State → Interval
-interval s = record {
-  known = natural (s .known);
-  possible = natural (s .possible);
-  lower = natural (s .lower);
-  upper = natural (limit (s .upper)) - 1;
-  width = natural (limit (s .upper)) - natural (s .lower);
-}
+interval s =
+    let end = natural (limit (s .upper)) in
+    record { known = natural (s .known); possible = natural (s .possible); lower = natural (s .lower); upper = end - 1; width = end - natural (s .lower) }
 
 -- The undecided weights up to here do not all miss: one fits the interval, their gcd is 1, or a new gcd hits.
 abbrev pub stopsAt : Interval → ℕ → ℕ → ℕ → Bool
