@@ -19,7 +19,7 @@ use Rattle.queues.specs.MarksLaws.{Waits}
 use Rattle.thresholds.specs.Rows.{Row, noRow, Guard, stateOfRow}
 use Rattle.thresholds.specs.Raw.{stretch}
 use Rattle.thresholds.specs.RawLaws.{stretch-length}
-use Rattle.propagate.specs.Guards.{guards, length-guards}
+use Rattle.propagate.specs.GuardsLaws.{guards, length-guards}
 use Rattle.between.specs.Between.{Index, firstStates}
 use Rattle.between.specs.Held.{startBy, endBy, stretchBy, heldGuards, Shaped, Holds}
 use Rattle.between.specs.Ready.{Ready}

@@ -12,7 +12,7 @@ use Rattle.thresholds.specs.Raw.{stretch}
 use Rattle.thresholds.specs.Laid.{edgeRow, thresholdOf}
 use Rattle.prefixes.specs.Links.{neighbours}
 use Rattle.numeric.specs.Slices.{Below}
-use Rattle.propagate.specs.Guards.{guards}
+use Rattle.propagate.specs.GuardsLaws.{guards}
 use Rattle.memory.specs.Limits.{figureLimit, weightLimit, maxNodes, maxTerms, maxThresholds}
 use Rattle.between.specs.Between.{Index}
 

@@ -16,7 +16,7 @@ use Rattle.thresholds.specs.RawLaws.{stretch-length}
 use Rattle.thresholds.specs.Laid.{edgeRow}
 use Rattle.numeric.specs.Slices.{Below}
 use Rattle.propagate.specs.Shape.{TermSlices, GuardSlices}
-use Rattle.propagate.specs.Guards.{guards}
+use Rattle.propagate.specs.GuardsLaws.{guards}
 use Rattle.propagate.specs.Row.{Ran, wantsResidual}
 use Rattle.propagate.specs.RowLaws.{row-raw}
 use Rattle.between.specs.Between.{Index, Live, live, Did, did, stateAt, residualQueued, runWith, runRow}

@@ -28,7 +28,7 @@ use Rattle.between.specs.HeldLaws.{run-held}
 use Rattle.between.specs.Ready.{Fit, ReadyLive, Runnable}
 use Rattle.between.specs.ReadyLaws.{ready-more, ready-set, ready-run, ready-by, fit-drained, fit-guard, fit-prefix}
 use Rattle.between.specs.LoopLaws.{both, both-keeps, turn, condition-both, prefix-both}
-use Rattle.between.specs.Handing.{handed-held, ready-handed, flags-handed}
+use Rattle.between.specs.HandingLaws.{handed-held, ready-handed, flags-handed}
 
 pub runnable-by : (h : HeldRows) (n : ℕ) (c d : Did) → c ≡ d → Runnable h n (d .live) → Runnable h n (c .live)
 runnable-by h n c d e a = rw e a

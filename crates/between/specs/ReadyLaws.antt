@@ -11,7 +11,7 @@ use lib.Seq.{getD-set-same, getD-set-other}
 use lib.IntN.{ℤ, pos}
 use lib.Signed.{mag, leZ, ltZ}
 use Rattle.memory.specs.Buffers.{HeldRows}
-use Rattle.signed.specs.Signed.{mag-add, mag-minus}
+use Rattle.signed.specs.SignedLaws.{mag-add, mag-minus}
 use Rattle.state.specs.declared.State.{State}
 use Rattle.state.specs.declared.Upper.{Upper}
 use Rattle.state.specs.declared.Upper.the-variants.{Under}
@@ -22,14 +22,14 @@ use Rattle.queues.specs.Marks.{Marks}
 use Rattle.thresholds.specs.Rows.{Row}
 use Rattle.thresholds.specs.Raw.{stretch}
 use Rattle.thresholds.specs.RawLaws.{stretch-length}
-use Rattle.propagate.specs.Guards.{all-guards, all-terms}
+use Rattle.propagate.specs.GuardsLaws.{all-guards, all-terms}
 use Rattle.propagate.specs.Row.{wantsResidual, thresholdRow}
 use Rattle.propagate.specs.RowLaws.{Moved, kept-row}
 use Rattle.propagate.specs.declared.Tightened.{Tightened}
 use Rattle.propagate.specs.Told.{guardState, movedLower, movedState, under}
 use Rattle.memory.specs.Limits.{figureLimit, weightLimit, drainLimit, maxThresholds}
 use Rattle.between.specs.Between.{Live, withState, Did, residualQueued, runWith}
-use Rattle.between.specs.Numbers.{Runs}
+use Rattle.between.specs.NumbersLaws.{Runs}
 use Rattle.between.specs.Held.{endBy, startBy, heldRow, Shaped}
 use Rattle.between.specs.HeldLaws.{term-slices, guard-slices}
 use Rattle.between.specs.Ready.{Fit, Ready, ReadyLive}

@@ -9,7 +9,7 @@ use lib.ListN.{length, drop}
 use lib.IntN.{ℤ}
 use Rattle.memory.specs.Limits.{rawLimit, maxLinks}
 use Rattle.memory.specs.Buffers.{rawLists, Raw, raw, Built, Kept, Work, work, fits, longestInput, clearRaw, clearBuilt, cleared}
-use Rattle.memory.specs.Lengths.{Sized, fits-sized, fits-input}
+use Rattle.memory.specs.LengthsLaws.{Sized, fits-sized, fits-input}
 use Rattle.numeric.specs.Threshold.{Job}
 use Rattle.thresholds.specs.Rows.{rowsOf}
 use Rattle.prepare.specs.JobBuffers.{rawOf, builtOf}
@@ -28,9 +28,9 @@ use Rattle.files.specs.Contents.{laid, served, untouched, whole, out, nothing}
 use Rattle.files.specs.JobPart.{JobPart, jobPartOf}
 use Rattle.files.specs.JobPartLaws.{file-goes-on, file-ends}
 use Rattle.files.specs.Held.{Room, HeldPart}
-use Rattle.ends.specs.Built.{Light}
-use Rattle.ends.specs.Files.{Good, good-apply, both, Taken as Passes, taken, building-turn, change-turn, refused-by}
-use Rattle.holds.specs.Gathered.{gathered-light}
+use Rattle.ends.specs.BuiltLaws.{Light}
+use Rattle.ends.specs.FilesLaws.{Good, good-apply, both, Taken as Passes, taken, building-turn, change-turn, refused-by}
+use Rattle.holds.specs.GatheredLaws.{gathered-light}
 use Rattle.serve.specs.declared.Reached.{Reached}
 use Rattle.serve.specs.Serve.{readAt}
 use Rattle.serve.specs.ReadLaws.{ended, taken-any, seal-goes}

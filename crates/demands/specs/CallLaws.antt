@@ -21,7 +21,7 @@ use Rattle.state.specs.Step.{contradicts}
 use Rattle.state.specs.State.{noState, limit, limited}
 use Rattle.words.specs.Mask.{bit, digit}
 use Rattle.thresholds.specs.Rows.{Row, rowsOf}
-use Rattle.between.specs.Numbers.{figuresOf, cursorsOf}
+use Rattle.between.specs.NumbersLaws.{figuresOf, cursorsOf}
 use Rattle.memory.specs.Buffers.{Work, fits, zeros, cleared, clearKept}
 use Rattle.records.specs.declared.Record.{Record}
 use Rattle.records.specs.declared.Record.the-variants.{Seal, Mark, Settle}
@@ -29,9 +29,9 @@ use Rattle.files.specs.File.{File, contradicted, begun, settledFile, act, apply
 use Rattle.files.specs.FileLaws.{after-snoc}
 use Rattle.files.specs.Contents.{Out, served, whole, laid, keptOf}
 use Rattle.table.specs.Table.{Table, ReachesConflict}
-use Rattle.ends.specs.Built.{rows-few}
-use Rattle.ends.specs.Files.{both}
-use Rattle.follows.specs.Answers.{true-false}
+use Rattle.ends.specs.BuiltLaws.{rows-few}
+use Rattle.ends.specs.FilesLaws.{both}
+use Rattle.follows.specs.AnswersLaws.{true-false}
 use Rattle.demands.specs.Reading.{Agrees, SameMarks, NoSift, decidedIn, decidedAnd, marksOnly, SameEnd, SameFigures, records, decoded, plainlyAll, Passes}
 use Rattle.demands.specs.Demands.{ExactlyTheTable, SaysTable, SaysSame, CallIsTheTable}
 use Rattle.demands.specs.RefusalLaws.{taken, good, untouched-when, files}

@@ -7,9 +7,9 @@ use mathlib.Core.List.{List}
 use Rattle.numeric.specs.Layout.{Layout, IsLayout}
 use Rattle.words.specs.Mask.{bit}
 use Rattle.files.specs.File.{File, contradicted, planned}
-use Rattle.follows.specs.Answers.{clash}
-use Rattle.layouts.specs.Turns.{Fits}
-use Rattle.layouts.specs.Files.{file-layouts}
+use Rattle.follows.specs.AnswersLaws.{clash}
+use Rattle.layouts.specs.TurnsLaws.{Fits}
+use Rattle.layouts.specs.FilesLaws.{file-layouts}
 use Rattle.demands.specs.Reading.{Agrees}
 use Rattle.demands.specs.RefusalLaws.{taken}
 

@@ -13,18 +13,18 @@ use Rattle.thresholds.specs.Rows.{Row, Guard, rowsOf}
 use Rattle.thresholds.specs.Laid.{conditions, weights, termLists, guardLists, guardBounds, guardNodes, thresholdOf, rowOfNode, edgeLists, edgeRow}
 use Rattle.prefixes.specs.Links.{neighbourLists}
 use Rattle.prefixes.specs.HeldLaws.{length-numbers}
-use Rattle.prepare.specs.RowsGivenLaid.{length-ends}
-use Rattle.between.specs.Numbers.{figuresOf, cursorsOf}
+use Rattle.prepare.specs.RowsGivenLaidLaws.{length-ends}
+use Rattle.between.specs.NumbersLaws.{figuresOf, cursorsOf}
 use Rattle.memory.specs.Limits.{maxNodes, maxTerms, maxThresholds, maxGcds, maxLinks}
 use Rattle.memory.specs.Buffers.{Work, rawLengths, builtLengths, keptLengths, fits, zeros, cleared, clearRaw, clearBuilt, clearKept}
-use Rattle.memory.specs.Lengths.{Sized, fits-sized}
+use Rattle.memory.specs.LengthsLaws.{Sized, fits-sized}
 use Rattle.job.specs.Job.{allTerms}
 use Rattle.files.specs.File.{File, fileOf}
 use Rattle.prepare.specs.JobBuffers.{listsOf, rawOf, builtWith, builtOf}
 use Rattle.files.specs.Contents.{answerNumber, answerVisits, keptOf, laid, Out, whole}
-use Rattle.ends.specs.Built.{rows-few}
+use Rattle.ends.specs.BuiltLaws.{rows-few}
 use Rattle.ends.specs.SizeLaws.{zeros-long, terms-few, guards-few, edges-most, links-most, pairs-few, triples-few, quads-few}
-use Rattle.follows.specs.Answers.{true-false}
+use Rattle.follows.specs.AnswersLaws.{true-false}
 use Rattle.demands.specs.Demands.{SameLengths}
 use Rattle.demands.specs.RefusalLaws.{served-when, untouched-when}
 use Rattle.demands.specs.KeptLaws.{Kept, kept-file}

@@ -18,11 +18,11 @@ use Rattle.records.specs.declared.Record.{Record}
 use Rattle.records.specs.declared.Record.the-variants.{Settle}
 use Rattle.records.specs.Facts.{Action, begins, changes, closes, decides, settles, sifts, idles, action, facts}
 use Rattle.files.specs.File.{File, contradicted, begun, sealedFile, markedFile, settledFile, act, apply, after, planned}
-use Rattle.ends.specs.Blank.{blank-begun}
-use Rattle.ends.specs.Files.{both, Taken, taken, building-turn, change-turn, Passed}
-use Rattle.follows.specs.Decide.{decideAs}
-use Rattle.settles.specs.Seals.{ownStart}
-use Rattle.settles.specs.Records.{From, Breaks, Keeps, keeps-begun, keeps-apply, seal-from, mark-from, settle-from}
+use Rattle.ends.specs.BlankLaws.{blank-begun}
+use Rattle.ends.specs.FilesLaws.{both, Taken, taken, building-turn, change-turn, Passed}
+use Rattle.follows.specs.DecideLaws.{decideAs}
+use Rattle.settles.specs.SealsLaws.{ownStart}
+use Rattle.settles.specs.RecordsLaws.{From, Breaks, Keeps, keeps-begun, keeps-apply, seal-from, mark-from, settle-from}
 use Rattle.demands.specs.Reading.{NoSift, marks, markedNode, marksOnly}
 use Rattle.demands.specs.Demands.{ExactlyTheTable}
 use Rattle.demands.specs.SettleLaws.{start-same, Ending, exactly, stood}

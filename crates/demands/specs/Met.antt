@@ -1,6 +1,6 @@
 -- WHICH DEMANDS ARE MET: a value of the type that states each. The proofs stand in the files named `Laws` beside this one, and in `ends`.
 use Rattle.possible_sums.specs.SearchLaws as SearchLaws
-use Rattle.ends.specs.Files as Files
+use Rattle.ends.specs.FilesLaws as Files
 use Rattle.demands.specs.Demands.{Demand1, Demand2, Demand3, Call, ClauseA, ClauseC}
 use Rattle.demands.specs.RefusalLaws as Refusals
 use Rattle.demands.specs.ReadLaws as Reads

@@ -18,13 +18,13 @@ use Rattle.records.specs.declared.Record.the-variants.{Settle}
 use Rattle.records.specs.Facts.{Action, begins, changes, closes, decides, settles, sifts, idles, action}
 use Rattle.files.specs.File.{File, contradicted, begun, settledFile, act, apply, after, planned}
 use Rattle.files.specs.FileLaws.{after-snoc}
-use Rattle.ends.specs.Files.{both, taken as accepts, serving-turn, Passed, planned-passed}
+use Rattle.ends.specs.FilesLaws.{both, taken as accepts, serving-turn, Passed, planned-passed}
 use Rattle.table.specs.Table.{Table, knownOf, possibleOf}
 use Rattle.table.specs.TableLaws.{Le, follows-more}
-use Rattle.follows.specs.Answers.{true-false, and-left, and-right, or-true}
-use Rattle.follows.specs.Decide.{Broken}
-use Rattle.settles.specs.Records.{keeps-begun, keeps-after}
-use Rattle.settles.specs.Still.{Still, not-broken, known-is, possible-is, one-table, settle-still}
+use Rattle.follows.specs.AnswersLaws.{true-false, and-left, and-right, or-true}
+use Rattle.follows.specs.DecideLaws.{Broken}
+use Rattle.settles.specs.RecordsLaws.{keeps-begun, keeps-after}
+use Rattle.settles.specs.StillLaws.{Still, not-broken, known-is, possible-is, one-table, settle-still}
 use Rattle.demands.specs.Reading.{Marked, SameMarks, NoSift, marks, markedNode, marksOnly, SameFigures, records, decoded, plain, plainly, plainlyAll, Passes}
 use Rattle.demands.specs.RefusalLaws.{taken}
 use Rattle.demands.specs.SettleLaws.{passed-here, start-same}

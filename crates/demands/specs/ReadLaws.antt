@@ -15,7 +15,7 @@ use Rattle.records.specs.declared.Record.{Record}
 use Rattle.records.specs.Record.{kindOf, bodyLength}
 use Rattle.files.specs.File.{File, begun, apply, Outcome, outcome, bodyOf, recordAt, unknownKind, cutBody, refusal, refusalAt, readFrom, fileOf, planned}
 use Rattle.files.specs.FileLaws.{checked, drop-take, same-body}
-use Rattle.follows.specs.Answers.{or-false}
+use Rattle.follows.specs.AnswersLaws.{or-false}
 use Rattle.demands.specs.Reading.{Decoded, records, damaged, decodeFrom, decoded}
 
 -- A record that is not refused has a known kind and a whole body.

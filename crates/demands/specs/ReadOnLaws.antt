@@ -16,8 +16,8 @@ use Rattle.records.specs.Facts.{Change, Action, begins, changes, closes, decide
 use Rattle.records.specs.Checks.{anyOf, wrongTurn, notRising, badBound, tooMany, Check, check, first}
 use Rattle.job.specs.Job.{changed}
 use Rattle.files.specs.File.{File, contradicted, begun, standing, refusal, sealedFile, markedFile, settledFile, siftedFile, act, apply, Outcome, outcome, recordAt, unknownKind, cutBody, refusalAt, readFrom, fileOf, planned, after}
-use Rattle.ends.specs.Files.{both, Taken, taken, building-turn, change-turn, serving-turn, refused-by}
-use Rattle.follows.specs.Answers.{clash}
+use Rattle.ends.specs.FilesLaws.{both, Taken, taken, building-turn, change-turn, serving-turn, refused-by}
+use Rattle.follows.specs.AnswersLaws.{clash}
 use Rattle.demands.specs.Reading.{Decoded, records, damaged, decodeFrom, decoded, plain, plainly, plainlyAll, Passes}
 
 -- ---- READING

@@ -13,10 +13,10 @@ use borrow.Author.Tests.{le-ltb}
 use Rattle.memory.specs.Buffers.{Work, fits}
 use Rattle.files.specs.File.{Outcome, outcome, fileOf, begun, after, planned, readFrom}
 use Rattle.files.specs.FileLaws.{read-up-to, read-taken, read-enough, read-cut}
-use Rattle.memory.specs.Lengths.{fits-input, fits-shorter}
+use Rattle.memory.specs.LengthsLaws.{fits-input, fits-shorter}
 use Rattle.files.specs.Contents.{Out, served, untouched, whole}
-use Rattle.ends.specs.Files.{Good, good-before}
-use Rattle.follows.specs.Answers.{true-false}
+use Rattle.ends.specs.FilesLaws.{Good, good-before}
+use Rattle.follows.specs.AnswersLaws.{true-false}
 use Rattle.demands.specs.Demands.{accepted}
 
 pub numbers : (input : List ℕ) (w : Work) → whole input w .given .refused ≤ 10

@@ -15,20 +15,20 @@ use Rattle.between.specs.Between.{Live}
 use Rattle.records.specs.declared.Record.{Record}
 use Rattle.records.specs.declared.Record.the-variants.{Seal, Mark, Settle}
 use Rattle.files.specs.File.{File, contradicted, begun, refusal, sealedFile, markedFile, settledFile, act, apply, after, planned}
-use Rattle.ends.specs.Blank.{bit-behind}
-use Rattle.ends.specs.Files.{taken, Passed, planned-passed}
+use Rattle.ends.specs.BlankLaws.{bit-behind}
+use Rattle.ends.specs.FilesLaws.{taken, Passed, planned-passed}
 use Rattle.table.specs.Table.{Table, start, ReachesConflict, AtRest}
 use Rattle.table.specs.TableLaws.{run-below}
 use Rattle.table.specs.Ends.{Finite}
 use Rattle.table.specs.EndsLaws as Ends
 use Rattle.table.specs.EndsLaws.{start-finite}
-use Rattle.follows.specs.Answers.{true-false}
-use Rattle.follows.specs.Decide.{Broken, decideAs}
-use Rattle.follows.specs.Stands.{tableAt}
-use Rattle.follows.specs.Settled.{every-conflict}
-use Rattle.follows.specs.Ends.{reaches}
-use Rattle.settles.specs.Records.{From, Keeps, keeps-begun, keeps-after, seal-from, mark-from, settle-from}
-use Rattle.settles.specs.Still.{Still, rests, every-end, not-broken, known-is, possible-is, settle-still}
+use Rattle.follows.specs.AnswersLaws.{true-false}
+use Rattle.follows.specs.DecideLaws.{Broken, decideAs}
+use Rattle.follows.specs.StandsLaws.{tableAt}
+use Rattle.follows.specs.SettledLaws.{every-conflict}
+use Rattle.follows.specs.EndsLaws.{reaches}
+use Rattle.settles.specs.RecordsLaws.{From, Keeps, keeps-begun, keeps-after, seal-from, mark-from, settle-from}
+use Rattle.settles.specs.StillLaws.{Still, rests, every-end, not-broken, known-is, possible-is, settle-still}
 use Rattle.demands.specs.Reading.{SameEnd, decidedIn, decidedAnd}
 use Rattle.demands.specs.Demands.{ExactlyTheTable}
 

@@ -31,8 +31,8 @@ use Rattle.records.specs.Facts.{Action, decides, action}
 use Rattle.files.specs.File.{File, Answer, settled, sifted, contradicted, begun, siftedFile, act, apply, after, planned}
 use Rattle.memory.specs.Buffers.{Work, rawLists, raw, heldRows, built, kept, work, enough, fitsBy, fits}
 use Rattle.files.specs.Contents.{Out, whole}
-use Rattle.ends.specs.Settles.{tries}
-use Rattle.ends.specs.Files.{both}
+use Rattle.ends.specs.SettlesLaws.{tries}
+use Rattle.ends.specs.FilesLaws.{both}
 use Rattle.demands.specs.Reading.{Marked, marks, orBefore, triedSearch, lastFrom, lastSearch}
 use Rattle.demands.specs.RefusalLaws.{taken, files}
 use Rattle.demands.specs.Cases.{Right, takes, forces, drains, two-wait, file-A, file-B, writtenAll, written, bytes, shown-right}

@@ -1,9 +1,9 @@
-pub mod Left
-pub mod Rooms
-pub mod Keeps
-pub mod Turns
-pub mod Settles
-pub mod Built
+pub mod LeftLaws
+pub mod RoomsLaws
+pub mod KeepsLaws
+pub mod TurnsLaws
+pub mod SettlesLaws
+pub mod BuiltLaws
 pub mod SizeLaws
-pub mod Blank
-pub mod Files
+pub mod BlankLaws
+pub mod FilesLaws

@@ -21,9 +21,9 @@ use Rattle.thresholds.specs.IncidentsLaws.{grouped-joined, keys-from}
 use Rattle.prefixes.specs.Links.{links, neighbours, neighbourLists}
 use Rattle.prefixes.specs.LinksLaws.{links-few}
 use Rattle.prefixes.specs.PrepareLaws.{degreesTo, degrees-few, join-length}
-use Rattle.prepare.specs.RowsGivenTerms.{row-short}
+use Rattle.prepare.specs.RowsGivenTermsLaws.{row-short}
 use Rattle.job.specs.Job.{allTerms}
-use Rattle.ends.specs.Built.{Fit, Fits, rows-every, rows-few}
+use Rattle.ends.specs.BuiltLaws.{Fit, Fits, rows-every, rows-few}
 
 -- ---- sums over lists
 

@@ -14,7 +14,7 @@ ghost use Rattle.queues.specs.Queue.{queue, Held, rowsIn};
 ghost use Rattle.thresholds.specs.Rows.{rowNumber};
 ghost use Rattle.prefixes.specs.Links.{neighbours};
 ghost use Rattle.between.specs.Between.{Index, did, withBound, linkedQueued, runWith, thresholdGuard, guardOf, toldStep, handedOn, thresholdPrefixes};
-ghost use Rattle.between.specs.Numbers.{statesOf, liveOf, Tidy};
+ghost use Rattle.between.specs.NumbersLaws.{statesOf, liveOf, Tidy};
 ghost use Rattle.memory.specs.Limits.{figureLimit};
 ghost use Rattle.between.specs.Held.{heldRow, Rising, Shaped, LinksShaped, GuardsShaped, Holds, HoldsLinks, CountsLinks, HoldsGuards};
 ghost use Rattle.between.specs.Ready.{Fit, Runnable};

@@ -1,7 +1,7 @@
-pub mod Holds
-pub mod Weights
-pub mod Served
-pub mod Lent
-pub mod Goes
-pub mod Gathered
-pub mod Files
+pub mod HoldsLaws
+pub mod WeightsLaws
+pub mod ServedLaws
+pub mod LentLaws
+pub mod GoesLaws
+pub mod GatheredLaws
+pub mod FilesLaws

@@ -19,11 +19,11 @@ use Rattle.prefixes.specs.Held.{Held, rowsHeld}
 use Rattle.prefixes.specs.Links.{neighbourLists}
 use Rattle.prefixes.specs.Pass.{Clear}
 use Rattle.prefixes.specs.Neighbours as Neighbours
-use Rattle.prepare.specs.PrepareParts.{over-long, over-part}
+use Rattle.prepare.specs.PreparePartsLaws.{over-long, over-part}
 use Rattle.prepare.specs.PlaceLaws.{raws-few}
 use Rattle.prepare.specs.Given.{givenJob}
-use Rattle.prepare.specs.RowsGiven.{rows-given}
-use Rattle.prepare.specs.RowsGivenLinks.{held-given, neighbours-given}
+use Rattle.prepare.specs.RowsGivenLaws.{rows-given}
+use Rattle.prepare.specs.RowsGivenLinksLaws.{held-given, neighbours-given}
 use Rattle.prepare.specs.JobBuffers.{rowEntries, nodeEntries, builtWith, builtOf, unlinkedOf}
 use Rattle.prepare.specs.JobBuffersLaws.{guards-even, rows-even, entries-long, entries-columns, nodes-long, neighbours-long}
 use Rattle.prepare.specs.Prepare.{Prepared}

@@ -11,7 +11,7 @@ use lib.Dec.{eqb, leb}
 use lib.IntN.{ℤ, pos, negsuc}
 use lib.Signed.{ltZ}
 use borrow.Author.Tests.{eqb-false, leb-false, ne-eqb}
-use Rattle.signed.specs.Signed.{nlt-leZ}
+use Rattle.signed.specs.SignedLaws.{nlt-leZ}
 use Rattle.lists.specs.Laid.{numbers}
 use Rattle.numeric.specs.Threshold.{term, terms, Threshold}
 use Rattle.memory.specs.Limits.{rawLimit, listTerms, maxTerms, maxThresholds}

@@ -1,5 +1,5 @@
-pub mod Turns
-pub mod Tried
-pub mod Sifts
-pub mod Seals
-pub mod Files
+pub mod TurnsLaws
+pub mod TriedLaws
+pub mod SiftsLaws
+pub mod SealsLaws
+pub mod FilesLaws

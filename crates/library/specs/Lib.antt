@@ -1,3 +1,3 @@
 pub mod Library
 pub mod LibraryLaws
-pub mod Listed
+pub mod ListedLaws

@@ -10,11 +10,11 @@ use lib.Dec.{eqb, leb}
 use borrow.Author.Tests.{leb-true, le-leb, eq-eqb}
 use Rattle.memory.specs.Limits.{maxNodes, maxThresholds}
 use Rattle.memory.specs.Buffers.{Work}
-use Rattle.memory.specs.Lengths.{both}
+use Rattle.memory.specs.LengthsLaws.{both}
 use Rattle.state.specs.declared.Step.{Step}
 use Rattle.state.specs.declared.State.{State}
 use Rattle.state.specs.Step.{stepNumber}
-use Rattle.between.specs.Numbers.{statesOf}
+use Rattle.between.specs.NumbersLaws.{statesOf}
 use Rattle.files.specs.declared.Given.{Given}
 use Rattle.files.specs.Contents.{Out, out}
 use Rattle.listing.specs.Lines.{maxListing, stepOf, Sealed, Listable}

@@ -23,7 +23,7 @@ use Rattle.files.specs.FileLaws.{zero-or}
 use Rattle.files.specs.Contents.{keptOf}
 use Rattle.files.specs.JobPart.{JobPart, jobPart, readJob, jobPartOf}
 use Rattle.files.specs.JobPartLaws.{true-or, job-refused, job-sealing, job-next, file-goes-on, file-ends}
-use Rattle.ends.specs.Files.{Good, good-begun, good-apply, both, Taken as Passes, taken, serving-turn, refused-by}
+use Rattle.ends.specs.FilesLaws.{Good, good-begun, good-apply, both, Taken as Passes, taken, serving-turn, refused-by}
 use Rattle.serve.specs.declared.Reached.{Reached}
 use Rattle.serve.specs.Serve.{readAt}
 use Rattle.serve.specs.ReadLaws.{ended, taken-any}

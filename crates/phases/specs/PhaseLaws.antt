@@ -23,18 +23,18 @@ use Rattle.thresholds.specs.Laid.{conditions, weights, termLists, guardLists, g
 use Rattle.prefixes.specs.Links.{neighbourLists}
 use Rattle.possible_sums.specs.Shape.{Zeros}
 use Rattle.between.specs.Between.{Live, live}
-use Rattle.between.specs.Numbers.{figuresOf, cursorsOf, rowState, statesOf, Tidy}
+use Rattle.between.specs.NumbersLaws.{figuresOf, cursorsOf, rowState, statesOf, Tidy}
 use Rattle.prepare.specs.JobBuffers.{rawOf, rowEntries, nodeEntries, builtWith, builtOf}
 use Rattle.records.specs.declared.Standing.{Standing}
 use Rattle.files.specs.File.{File, Answer, begun, standing, Outcome, outcome}
 use Rattle.files.specs.declared.JobRead.{JobRead}
 use Rattle.files.specs.Contents.{keptOf}
-use Rattle.ends.specs.Built.{Fits, rows-few}
+use Rattle.ends.specs.BuiltLaws.{Fits, rows-few}
 use Rattle.ends.specs.SizeLaws.{terms-few, guards-few, edges-most}
-use Rattle.settle.specs.Begins.{Fresh}
-use Rattle.holds.specs.Served.{boundsOf}
-use Rattle.holds.specs.Lent.{lentOf, lendable-clear, bounds-lent}
-use Rattle.holds.specs.Goes.{fresh-begun}
+use Rattle.settle.specs.BeginsLaws.{Fresh}
+use Rattle.holds.specs.ServedLaws.{boundsOf}
+use Rattle.holds.specs.LentLaws.{lentOf, lendable-clear, bounds-lent}
+use Rattle.holds.specs.GoesLaws.{fresh-begun}
 use Rattle.serve.specs.declared.Reached.{Reached}
 use Rattle.serve.specs.Serve.{liveIn, answersOf, Lies, Seals, noRings, Reaches, readAt, Same, fourfold}
 use Rattle.phases.specs.Phase.{BuiltRoom, KeptRoom, cutBuilt, cutKept, Blank, Stops, ending, Leaves}

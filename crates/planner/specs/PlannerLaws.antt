@@ -15,11 +15,11 @@ use Rattle.memory.specs.Limits.{maxThresholds}
 use Rattle.memory.specs.Buffers.{Work, Kept, fits, zeros, cleared}
 use Rattle.state.specs.declared.State.{State}
 use Rattle.state.specs.State.{noState}
-use Rattle.between.specs.Numbers.{figuresOf, cursorsOf, statesOf, stored-read}
+use Rattle.between.specs.NumbersLaws.{figuresOf, cursorsOf, statesOf, stored-read}
 use Rattle.states.specs.States.{shown}
 use Rattle.files.specs.File.{File, Outcome, fileOf}
 use Rattle.files.specs.Contents.{Out, served, untouched, whole, keptOf, laid}
-use Rattle.follows.specs.Answers.{true-false}
+use Rattle.follows.specs.AnswersLaws.{true-false}
 use Rattle.demands.specs.RefusalLaws.{ten, served-when, untouched-when}
 use Rattle.demands.specs.KeptLaws.{kept-file}
 use Rattle.planner.specs.Planner.{Left, left, fitsAll, plan}

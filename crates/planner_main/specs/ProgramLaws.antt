@@ -11,7 +11,7 @@ use lib.Dec.{leb}
 use borrow.Author.Tests.{leb-false, lt-ltb}
 use Rattle.row.specs.TermsLaws.{All as Every}
 use Rattle.memory.specs.Buffers.{rawLists, raw, heldRows, built, kept, Work, work, needed, lengths, enough, longestInput, fitsBy}
-use Rattle.between.specs.Numbers.{statesOf}
+use Rattle.between.specs.NumbersLaws.{statesOf}
 use Rattle.files.specs.declared.Given.{Given}
 use Rattle.state.specs.declared.State.{State}
 use Rattle.files.specs.File.{Outcome, fileOf, planned}
@@ -19,9 +19,9 @@ use Rattle.files.specs.Contents.{givenOf, Out, out, whole}
 use Rattle.listing.specs.Lines.{maxListing}
 use Rattle.listing.specs.Shows.{ten, Shows, Listed}
 use Rattle.listing.specs.Shows as Is
-use Rattle.follows.specs.Answers.{true-false}
-use Rattle.shown.specs.Bytes.{IsByte}
-use Rattle.shown.specs.Shown.{ended, shows-whole}
+use Rattle.follows.specs.AnswersLaws.{true-false}
+use Rattle.shown.specs.BytesLaws.{IsByte}
+use Rattle.shown.specs.ShownLaws.{ended, shows-whole}
 use Rattle.planner_main.specs.declared.Chunk.{Chunk}
 use Rattle.planner_main.specs.declared.Chunk.the-variants as Chunks
 use Rattle.planner_main.specs.declared.Input.{Input}

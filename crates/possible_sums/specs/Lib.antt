@@ -1,7 +1,7 @@
 pub mod Search
 pub mod Shape
 pub mod ZerosLaws
-pub mod SearchSteps
+pub mod SearchStepsLaws
 pub mod RowLaws
 pub mod ChoiceLaws
 pub mod SumsLaws

@@ -13,7 +13,7 @@ use lib.IntN.{ℤ, pos, negsuc, _+ℤ_, _-ℤ_, +ℤ-idl, +ℤ-comm, +ℤ-negℤ
 use lib.Signed.{leZ, ltZ}
 use borrow.Author.Tests.{ltb-true, leb-true}
 use Rattle.numeric.specs.Threshold.{Term}
-use Rattle.signed.specs.Signed.{natural, natural-minus, leZ-sub, ltZ-minus}
+use Rattle.signed.specs.SignedLaws.{natural, natural-minus, leZ-sub, ltZ-minus}
 use Rattle.state.specs.declared.State.{State}
 use Rattle.state.specs.declared.Step.the-variants.{Unchanged, Contradiction}
 use Rattle.state.specs.declared.Upper.{Upper}
@@ -33,7 +33,7 @@ use Rattle.possible_sums.specs.Search.{window, plan, search, searchFrom,
 use Rattle.row.specs.TermsLaws.{All, all-map}
 use Rattle.possible_sums.specs.RowLaws.{Fresh, Later, Rising, all-both, all-of, rising}
 use Rattle.possible_sums.specs.ChoiceLaws.{chosen-none, chosen-moves, chosen-heavy, chosen-reverse}
-use Rattle.possible_sums.specs.SearchSteps.{from-heavy, from-skip, from-fits, from-stopped, from-more, plan-is, search-none, search-begins}
+use Rattle.possible_sums.specs.SearchStepsLaws.{from-heavy, from-skip, from-fits, from-stopped, from-more, plan-is, search-none, search-begins}
 use Rattle.possible_sums.specs.SumsLaws.{Sums, first, first-sums, sums-skip, sums-hit, sums-more}
 
 -- ---- what an answer says of the choices, the terms in two parts

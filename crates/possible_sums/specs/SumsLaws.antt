@@ -14,7 +14,7 @@ use lib.Seq.{getD-set-same, getD-set-other}
 use Rattle.numeric.specs.Threshold.{Term}
 use Rattle.words.specs.declared.Ended.the-variants.{Hit, Complete}
 use Rattle.words.specs.Mask.{digit, digitAt}
-use Rattle.words.specs.Digits.{Words, digit-small, digit-high, pow-digit}
+use Rattle.words.specs.DigitsLaws.{Words, digit-small, digit-high, pow-digit}
 use Rattle.words.specs.Shift.{unionShifted}
 use Rattle.words.specs.ShiftLaws.{Moved, union-length, union-64, union-outside, complete-moved, complete-kept, hit-moved, moved-hit}
 use Rattle.possible_sums.specs.declared.Window.{Window}

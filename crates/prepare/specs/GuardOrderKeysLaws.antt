@@ -13,7 +13,7 @@ use lib.Signed.{leZ, ltZ}
 use borrow.Author.Tests.{ltb-true, ltb-false, leb-true, leb-false, le-leb, lt-leb, le-ltb, eqb-true, eqb-false}
 use Rattle.memory.specs.Limits.{maxThresholds}
 use Rattle.lists.specs.Laid.{numbers}
-use Rattle.signed.specs.Signed.{ltZ-add}
+use Rattle.signed.specs.SignedLaws.{ltZ-add}
 use Rattle.sort.specs.Sorted.{put}
 use Rattle.sort.specs.SortedLaws.{All, put-before, put-behind}
 use Rattle.thresholds.specs.Rows.{Guard, guard, below, insertGuard}

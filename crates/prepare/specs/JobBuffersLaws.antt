@@ -11,8 +11,8 @@ use Rattle.thresholds.specs.Rows.{Row, rowsOf, edgesOf}
 use Rattle.thresholds.specs.Laid.{termLists, guardLists, thresholdOf, rowOfNode, edgeLists}
 use Rattle.prefixes.specs.HeldLaws.{length-numbers}
 use Rattle.prefixes.specs.Links.{neighbourLists}
-use Rattle.prepare.specs.RowsGivenLaid.{length-ends}
-use Rattle.prepare.specs.NodesGiven.{triples-columns}
+use Rattle.prepare.specs.RowsGivenLaidLaws.{length-ends}
+use Rattle.prepare.specs.NodesGivenLaws.{triples-columns}
 use Rattle.prepare.specs.JobBuffers.{rowEntries, nodeEntries}
 
 -- Lists over the first numbers, and triples, have their lengths.

@@ -23,8 +23,8 @@ use Rattle.thresholds.specs.ChainLaws.{class-small, marked-one, headed-one, hea
 use Rattle.thresholds.specs.Placed.{spliced, rawsTo, rowTo, termsTo, rowEntry, nodesTo, Marks}
 use Rattle.thresholds.specs.PlacedLaws.{laid-behind, drop-replicate}
 use Rattle.prepare.specs.declared.Extent.{Extent}
-use Rattle.prepare.specs.RowsGivenLaid.{length-ends}
-use Rattle.prepare.specs.RowsGivenTerms.{terms-room}
+use Rattle.prepare.specs.RowsGivenLaidLaws.{length-ends}
+use Rattle.prepare.specs.RowsGivenTermsLaws.{terms-room}
 use Rattle.prepare.specs.Place.{Placing, Ready, Blank, rowEnds, rowsNext, nodesNext}
 
 -- ---- one list more

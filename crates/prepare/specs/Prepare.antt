@@ -19,7 +19,7 @@ use Rattle.thresholds.specs.Laid.{termLists}
 use Rattle.prepare.specs.declared.Extent.{Extent}
 use Rattle.prepare.specs.Given.{givenRows, givenJob}
 use Rattle.prepare.specs.JobBuffers.{unlinkedOf}
-use Rattle.prepare.specs.NodesGiven.{NodesRise}
+use Rattle.prepare.specs.NodesGivenLaws.{NodesRise}
 use Rattle.prepare.specs.Place.{Blank, rowEnds}
 
 -- A job of so many nodes, as the records leave it in the raw buffers, cut to their number.

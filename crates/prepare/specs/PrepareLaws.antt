@@ -32,13 +32,13 @@ use Rattle.prepare.specs.JobBuffersLaws.{nodes-long}
 use Rattle.prepare.specs.Place.{Ready, Blank, rowEnds}
 use Rattle.prepare.specs.PlaceLaws.{rowEnds-long, raws-few}
 use Rattle.prepare.specs.Prepare.{Sound, Ample, Prepared, Placeable, Rowed, Dealable, Guarded, Indexable, Edged}
-use Rattle.prepare.specs.PrepareParts.{blank-take, blank-drop, cleared-back, over-long, over-all, tail-long, tail-blank, keys-front, keys-behind}
-use Rattle.prepare.specs.RowsGiven.{terms-given, rows-given}
-use Rattle.prepare.specs.RowsGivenLaid.{length-ends, entries-ends, entries-clear, entries-wide}
-use Rattle.prepare.specs.RowsGivenHeld.{held-ends, held-even, held-keys}
-use Rattle.prepare.specs.RowsGivenTerms.{conditions-given, terms-most}
-use Rattle.prepare.specs.EdgesGiven.{edges-joined, edges-ends}
-use Rattle.prepare.specs.NodesGiven.{length-nodes, nodes-given, nodes-clear, nodes-wide, nodes-row-at}
+use Rattle.prepare.specs.PreparePartsLaws.{blank-take, blank-drop, cleared-back, over-long, over-all, tail-long, tail-blank, keys-front, keys-behind}
+use Rattle.prepare.specs.RowsGivenLaws.{terms-given, rows-given}
+use Rattle.prepare.specs.RowsGivenLaidLaws.{length-ends, entries-ends, entries-clear, entries-wide}
+use Rattle.prepare.specs.RowsGivenHeldLaws.{held-ends, held-even, held-keys}
+use Rattle.prepare.specs.RowsGivenTermsLaws.{conditions-given, terms-most}
+use Rattle.prepare.specs.EdgesGivenLaws.{edges-joined, edges-ends}
+use Rattle.prepare.specs.NodesGivenLaws.{length-nodes, nodes-given, nodes-clear, nodes-wide, nodes-row-at}
 use Rattle.prepare.specs.GuardOrderLaws.{order-length, order-names, order-rows, guard-ends, joined-bounds, joined-nodes}
 
 -- ---- placing, in parts of the buffers

@@ -1,7 +1,7 @@
 pub mod Scan
 pub mod ScanLaws
 pub mod Shape
-pub mod Guards
+pub mod GuardsLaws
 pub mod Row
 pub mod RowLaws
 pub mod Told

@@ -1,13 +1,16 @@
 -- One row, run once: its scans put together, what they keep and how far they come. Assumes nothing.
-use Prim.Native.Nat.{ℕ, _+_, _-_, _≤_}
+use Prim.Native.Nat.{ℕ, _+_, _-_, _≤_, _<_, _^_}
 use native.Mathlib.Omega.{arith}
 use mathlib.Core.Path.{_≡_, refl, sym, ap, _∙_}
 use mathlib.Core.Bool.{Bool, true, false}
 use mathlib.Core.List.{List, reverse}
 use lib.ListN.{length, take, drop, length-take, length-drop, length-reverse}
 use lib.IntN.{ℤ, _-ℤ_}
-use lib.Signed.{leZ}
-use Rattle.numeric.specs.Threshold.{Term, terms}
+use lib.Signed.{leZ, mag}
+use mir.Syntax.{w64}
+use mir.Val.{toZ, ofZ}
+use mir.Facts.{toZ-ofZ}
+use Rattle.numeric.specs.Threshold.{Term}
 use Rattle.state.specs.declared.Step.{Step}
 use Rattle.state.specs.declared.Step.the-variants.{Unchanged, Contradiction}
 use Rattle.state.specs.declared.State.{State}
@@ -18,7 +21,7 @@ use Rattle.queues.specs.MarksLaws.{Waits, waits-decide}
 use Rattle.thresholds.specs.Rows.{Row, rowOf, Guard, hasNonunit}
 use Rattle.propagate.specs.Scan.{Scanned}
 use Rattle.propagate.specs.ScanLaws.{All, all-drop, all-take, all-reverse, scan-keeps, scan-within, force-keeps}
-use Rattle.propagate.specs.Guards.{Node, Condition}
+use Rattle.propagate.specs.GuardsLaws.{Node, Condition}
 use Rattle.propagate.specs.Row.{Ran, ran, decides, sureWaits, sureGuards, neverWaits, neverGuards, thresholdGuards, light, cut, termWaits, forces, forced, trueTerms, falseTerms, rowTerms, scans, thresholdRow, wantsResidual}
 
 module _ (gs : List Guard) (s : State) (m : Marks) where
@@ -289,3 +292,7 @@ module _ (r : Row) (s : State) where
   pub wants-interval : conflict s ≡ false → hasNonunit (r .terms) ≡ true → wantsResidual r s ≡ hasResidualInterval s
   unfolding wantsResidual
   wants-interval h k = rw (h, k)
+
+-- A number in this range is what its bits say.
+pub signed : (z : ℤ) → mag z < 2 ^ 61 → toZ w64 (ofZ w64 z) ≡ z
+signed z h = toZ-ofZ (record { sfits = omega arith })

@@ -1,14 +1,9 @@
 -- What a row's slices of terms and of guards must be like.
-use Prim.Native.Nat.{ℕ, _<_, _^_}
+use Prim.Native.Nat.{ℕ, _^_}
 use mathlib.Core.Path.{_≡_}
 use mathlib.Core.List.{List}
 use lib.ListN.{length}
 use lib.IntN.{ℤ}
-use lib.Signed.{mag}
-use native.Mathlib.Omega.{arith}
-use mir.Syntax.{w64}
-use mir.Val.{toZ, ofZ}
-use mir.Facts.{toZ-ofZ}
 use Rattle.numeric.specs.Slices.{Below}
 
 -- As many weights as conditions, which are nodes; weights fit a signed number.
@@ -21,7 +16,3 @@ pub record TermSlices (conditions weights : List ℕ) : Type 0 where
 pub record GuardSlices (bounds : List ℤ) (names : List ℕ) : Type 0 where
   pub same : length bounds ≡ length names
   pub below : Below 4096 names
-
--- A number in this range is what its bits say.
-pub signed : (z : ℤ) → mag z < 2 ^ 61 → toZ w64 (ofZ w64 z) ≡ z
-signed z h = toZ-ofZ (record { sfits = omega arith })

@@ -5,7 +5,7 @@ use mathlib.Core.Bool.{Bool, true, false, not}
 use lib.IntN.{ℤ}
 use lib.Signed.{leZ}
 use borrow.Author.Tests.{le-leb, lt-leb, not-true, not-false}
-use Rattle.signed.specs.Signed.{nle-ltZ, leZ-nlt}
+use Rattle.signed.specs.SignedLaws.{nle-ltZ, leZ-nlt}
 use Rattle.state.specs.declared.State.{State}
 use Rattle.state.specs.declared.Upper.the-variants.{Open, Under}
 use Rattle.state.specs.State.{upperAtMost, withLower, withUpper}

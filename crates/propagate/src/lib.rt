@@ -14,7 +14,7 @@ ghost use Rattle.thresholds.specs.Rows.{Guard, rowOf};
 ghost use Rattle.propagate.specs.Scan.{scanned, turn as turnOf, turned, force};
 ghost use Rattle.propagate.specs.Told.{guardState, movedLower, movedUpper, movedState};
 ghost use Rattle.propagate.specs.Shape.{TermSlices, GuardSlices};
-ghost use Rattle.propagate.specs.Guards.{guards};
+ghost use Rattle.propagate.specs.GuardsLaws.{guards};
 ghost use Rattle.propagate.specs.Row.{ran as ranOf, reachable, sureGuards, neverGuards, thresholdGuards, light, forced, trueTerms, falseTerms, rowTerms, thresholdRow, wantsResidual};
 use queues::Decision;
 use queues::Ring;

@@ -1,4 +1,4 @@
-pub mod Once
+pub mod OnceLaws
 pub mod Queue
 pub mod QueueLaws
 pub mod RowsLaws

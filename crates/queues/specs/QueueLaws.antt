@@ -13,7 +13,7 @@ use borrow.Author.Tests.{eq-eqb, ne-eqb, eqb-true}
 use lib.ListN.{length, getD, set, length-set}
 use lib.Seq.{getD-set-same, getD-set-other}
 use Rattle.memory.specs.Limits.{maxThresholds}
-use Rattle.queues.specs.Once.{times, times-last, room}
+use Rattle.queues.specs.OnceLaws.{times, times-last, room}
 use Rattle.queues.specs.Queue.{Queue, queue, Held, isEmpty, oldest, push, popped, Rows, rows, queueRow}
 
 -- A place behind the last is that much behind the first.

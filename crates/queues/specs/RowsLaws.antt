@@ -12,7 +12,7 @@ use lib.Seq.{getD-set-same, getD-set-other}
 use Rattle.memory.specs.Limits.{maxThresholds}
 use Rattle.queues.specs.Queue.{queue, ring, Held, oldest, push, popped, Rows, rows, queueRow, nextRow}
 use Rattle.queues.specs.QueueLaws.{entries, waitingList, push-times, popped-times, room-left, held-push, held-popped, row-waits, row-new}
-use Rattle.queues.specs.Once.{times, times-same, times-other, within}
+use Rattle.queues.specs.OnceLaws.{times, times-same, times-other, within}
 
 small-set : (l : List ℕ) (r v : ℕ) → v ≤ 1 → r < length l → ((i : ℕ) → getD l i 0 ≤ 1) → (i : ℕ) → getD (set l r v) i 0 ≤ 1
 small-set l r v s k f i = by (ℕ-discrete i r)

@@ -8,6 +8,6 @@ pub mod IntervalLaws
 pub mod CheckLaws
 pub mod FitsLaws
 pub mod ForceLaws
-pub mod Sums
+pub mod SumsLaws
 pub mod ResidualLaws
 pub mod SoundLaws

@@ -12,7 +12,7 @@ use lib.Dec.{eqb, leb}
 use lib.IntN.{ℤ, pos}
 use lib.Signed.{leZ, ltZ}
 use borrow.Author.Tests.{ne-eqb, le-leb}
-use Rattle.signed.specs.Signed.{natural, leZ-trans, ltZ-nle, max-least}
+use Rattle.signed.specs.SignedLaws.{natural, leZ-trans, ltZ-nle, max-least}
 use Rattle.numeric.specs.Threshold.{Term}
 use Rattle.state.specs.declared.Step.the-variants.{Unchanged, Contradiction}
 use Rattle.state.specs.declared.Upper.{Upper}
@@ -29,7 +29,7 @@ use Rattle.residual.specs.Residual.{interval, stopsAt, checkFrom, residu
 use Rattle.residual.specs.Shape.{Window}
 use Rattle.residual.specs.IntervalLaws.{natural-mono, natural-last, both-right, limit-above, window}
 use Rattle.residual.specs.CheckLaws.{check-skip, check-stop, check-more, check-unit, check-wide, check-terms, check-end-hits}
-use Rattle.residual.specs.Sums.{
+use Rattle.residual.specs.SumsLaws.{
   openWeights,
   sum,
   Divides,

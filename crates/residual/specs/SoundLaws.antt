@@ -12,7 +12,7 @@ use lib.ListN.{length, getD, length-reverse}
 use lib.IntN.{pos}
 use lib.Signed.{leZ, ltZ}
 use borrow.Author.Tests.{le-leb}
-use Rattle.signed.specs.Signed.{natural}
+use Rattle.signed.specs.SignedLaws.{natural}
 use Rattle.numeric.specs.Threshold.{Term}
 use Rattle.state.specs.declared.Step.{Step}
 use Rattle.state.specs.declared.Step.the-variants.{Unchanged, Changed, Contradiction}
@@ -31,7 +31,7 @@ use Rattle.residual.specs.Residual.{interval, residualCheck, fitsFrom, s
 use Rattle.residual.specs.IntervalLaws.{natural-mono, natural-last, both-right, limit-above}
 use Rattle.residual.specs.ForceLaws.{force-cases, Each, residual-keeping, from-skip, from-more, force-over, residual-rest, residual-forced}
 use Rattle.residual.specs.SuffixLaws.{length-suffix}
-use Rattle.residual.specs.Sums.{
+use Rattle.residual.specs.SumsLaws.{
   openWeights,
   choices,
   openSum,

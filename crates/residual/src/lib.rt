@@ -7,7 +7,7 @@ ghost use lib.ListN.{length};
 ghost use lib.Dec.{eqb, leb};
 ghost use Rattle.numeric.specs.Threshold.{term, terms};
 ghost use Rattle.numeric.specs.Slices.{Below, Shape};
-ghost use Rattle.signed.specs.Signed.{natural as naturalOf};
+ghost use Rattle.signed.specs.SignedLaws.{natural as naturalOf};
 ghost use Rattle.state.specs.State.{limit};
 ghost use Rattle.state.specs.Step.{joined};
 ghost use Rattle.words.specs.Mask.{inEither};

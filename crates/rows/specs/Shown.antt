@@ -6,7 +6,7 @@ use lib.IntN.{ℤ}
 use Rattle.numeric.specs.Threshold.{terms}
 use Rattle.row.specs.Terms.{total}
 use Rattle.thresholds.specs.Raw.{stretch}
-use Rattle.prepare.specs.RowsGivenLaid.{startIn, endIn}
+use Rattle.prepare.specs.RowsGivenLaidLaws.{startIn, endIn}
 
 -- List k of those that lie one behind the other, by the ends in column j: inside so many places.
 pub record Part (j : ℕ) (lists : List (List ℕ)) (size k : ℕ) : Type 0 where

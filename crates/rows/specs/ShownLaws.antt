@@ -29,8 +29,8 @@ use Rattle.prefixes.specs.HeldLaws.{length-numbers}
 use Rattle.prefixes.specs.Links.{neighbourLists}
 use Rattle.prepare.specs.Given.{thresholdAt, given}
 use Rattle.prepare.specs.Place.{Blank}
-use Rattle.prepare.specs.RowsGivenLaid.{startIn, endIn, length-ends, over-rising, over-inside, over-figures}
-use Rattle.prepare.specs.RowsGivenHeld.{terms-back}
+use Rattle.prepare.specs.RowsGivenLaidLaws.{startIn, endIn, length-ends, over-rising, over-inside, over-figures}
+use Rattle.prepare.specs.RowsGivenHeldLaws.{terms-back}
 use Rattle.prepare.specs.JobBuffers.{rowEntries, nodeEntries, builtWith, builtOf}
 use Rattle.prepare.specs.JobBuffersLaws.{entries-columns, neighbours-long, nodes-column}
 use Rattle.records.specs.declared.Standing.{Standing}

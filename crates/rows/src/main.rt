@@ -6,7 +6,7 @@ ghost use lib.ListN.{length};
 ghost use Rattle.numeric.specs.Threshold.{terms};
 ghost use Rattle.row.specs.Terms.{total};
 ghost use Rattle.memory.specs.Buffers.{rawLists, raw, heldRows, built};
-ghost use Rattle.prepare.specs.RowsGivenLaid.{startIn, endIn};
+ghost use Rattle.prepare.specs.RowsGivenLaidLaws.{startIn, endIn};
 ghost use Rattle.job.specs.Gathered.{Gathered};
 ghost use Rattle.job.specs.Built.{Roomy};
 ghost use Rattle.files.specs.Held.{Room};

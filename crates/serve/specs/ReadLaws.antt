@@ -16,7 +16,7 @@ use Rattle.records.specs.declared.Record.the-variants.{Header, Opens, Adds, Are
 use Rattle.records.specs.Checks.{nextAt, unknownKind, cutBody}
 use Rattle.files.specs.File.{File, standing, refusal, apply, Outcome, outcome, recordAt, refusalAt, readFrom}
 use Rattle.files.specs.FileLaws.{read-enough, checked}
-use Rattle.ends.specs.Files.{refused-by, both}
+use Rattle.ends.specs.FilesLaws.{refused-by, both}
 use Rattle.serve.specs.Serve.{readAt}
 
 -- What is left of an outcome, its records not told.

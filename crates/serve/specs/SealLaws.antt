@@ -15,7 +15,7 @@ use Rattle.queues.specs.MarksLaws.{Waits}
 use Rattle.between.specs.Between.{Index, Live, Did, did}
 use Rattle.between.specs.Held.{Shaped, Holds}
 use Rattle.between.specs.FirstLaws.{Totals}
-use Rattle.between.specs.Numbers.{Tidy}
+use Rattle.between.specs.NumbersLaws.{Tidy}
 use Rattle.regions.specs.Drain as Drain
 use Rattle.regions.specs.Drain.{indexOf}
 use Rattle.records.specs.declared.Record.the-variants.{Seal}
@@ -23,11 +23,11 @@ use Rattle.records.specs.declared.Standing.{Standing}
 use Rattle.records.specs.declared.Next.the-variants.{Taken}
 use Rattle.records.specs.Checks.{nextAt}
 use Rattle.files.specs.File.{File, standing, refusal, told, sealedFile, act, apply, outcome}
-use Rattle.settle.specs.Begins.{Fresh}
+use Rattle.settle.specs.BeginsLaws.{Fresh}
 use Rattle.sift.specs.Tries.{Scratch}
-use Rattle.holds.specs.Served.{Served}
-use Rattle.holds.specs.Lent.{served-built}
-use Rattle.holds.specs.Files.{serving-seal}
+use Rattle.holds.specs.ServedLaws.{Served}
+use Rattle.holds.specs.LentLaws.{served-built}
+use Rattle.holds.specs.FilesLaws.{serving-seal}
 use Rattle.serve.specs.declared.Reached.{Reached}
 use Rattle.serve.specs.Serve.{Lent, liveIn, answersOf, Lies, Seals, noRings, stood, Reaches, readAt}
 use Rattle.serve.specs.ReadLaws.{seal-goes}

@@ -17,7 +17,7 @@ use Rattle.state.specs.Step.{contradicts}
 use Rattle.queues.specs.declared.Rings.{Rings}
 use Rattle.queues.specs.Queue.{ring}
 use Rattle.between.specs.Between.{Live, Did}
-use Rattle.between.specs.Numbers.{liveOf, Tidy}
+use Rattle.between.specs.NumbersLaws.{liveOf, Tidy}
 use Rattle.regions.specs.Drain as Drain
 use Rattle.regions.specs.Drain.{indexOf}
 use Rattle.regions.specs.Sift as Sift
@@ -28,13 +28,13 @@ use Rattle.records.specs.declared.Standing.{Standing}
 use Rattle.prepare.specs.JobBuffers.{builtOf}
 use Rattle.files.specs.File.{File, Answer, settled, sifted, standing, refusal, Outcome, readFrom}
 use Rattle.files.specs.Contents.{answerNumber, answerVisits}
-use Rattle.ends.specs.Built.{Fits, Light}
-use Rattle.ends.specs.Files.{Good}
-use Rattle.settle.specs.Begins.{Fresh}
+use Rattle.ends.specs.BuiltLaws.{Fits, Light}
+use Rattle.ends.specs.FilesLaws.{Good}
+use Rattle.settle.specs.BeginsLaws.{Fresh}
 use Rattle.sift.specs.Tries.{Scratch}
-use Rattle.holds.specs.Served.{boundsOf}
-use Rattle.holds.specs.Lent.{lentOf, Lendable}
-use Rattle.holds.specs.Files.{Serving}
+use Rattle.holds.specs.ServedLaws.{boundsOf}
+use Rattle.holds.specs.LentLaws.{lentOf, Lendable}
+use Rattle.holds.specs.FilesLaws.{Serving}
 use Rattle.serve.specs.declared.Reached.{Reached}
 
 -- THE BUFFERS OF A FILE

@@ -28,7 +28,7 @@ use Rattle.possible_sums.specs.declared.Search.the-variants.{Skipped, Fits, Not
 use Rattle.possible_sums.specs.Search.{search, searchStep, searchVisits}
 use Rattle.possible_sums.specs.SearchLaws.{search-visits}
 use Rattle.between.specs.Between.{Index, Live, live, Did, stateAt}
-use Rattle.between.specs.Numbers.{Tidy}
+use Rattle.between.specs.NumbersLaws.{Tidy}
 use Rattle.regions.specs.Drain as Drain
 use Rattle.regions.specs.Drain.{indexOf}
 use Rattle.regions.specs.Sift as Sift
@@ -43,15 +43,15 @@ use Rattle.records.specs.Checks.{nextAt}
 use Rattle.records.specs.Facts.{adds}
 use Rattle.files.specs.File.{File, Answer, sifted, standing, refusal, told, markedFile, settledFile, siftedFile, act, apply, Outcome, outcome}
 use Rattle.files.specs.Contents.{answerNumber, answerVisits}
-use Rattle.ends.specs.Settles.{tries}
-use Rattle.ends.specs.Files.{both, taken, building-turn, change-turn}
+use Rattle.ends.specs.SettlesLaws.{tries}
+use Rattle.ends.specs.FilesLaws.{both, taken, building-turn, change-turn}
 use Rattle.ends.specs.SizeLaws.{row-terms-few}
 use Rattle.settle.specs.Serves.{Serves, Going}
 use Rattle.sift.specs.Tries.{Short}
-use Rattle.sift.specs.Sifting.{scratch-next}
-use Rattle.holds.specs.Served.{Served}
-use Rattle.holds.specs.Lent.{served-built}
-use Rattle.holds.specs.Files.{serving-apply}
+use Rattle.sift.specs.SiftingLaws.{scratch-next}
+use Rattle.holds.specs.ServedLaws.{Served}
+use Rattle.holds.specs.LentLaws.{served-built}
+use Rattle.holds.specs.FilesLaws.{serving-apply}
 use Rattle.serve.specs.declared.Reached.{Reached}
 use Rattle.serve.specs.Serve.{Lent, liveIn, answersOf, Lies, Asks, plain, came, answered, Takes, stood, Reaches, readAt}
 use Rattle.serve.specs.ReadLaws.{ended, refused-next, taken-next, known-next, read-goes, read-stops, read-none}

@@ -7,7 +7,7 @@ ghost use Prim.Native.Nat.{ℕ, _+_, _<_, _≤_};
 ghost use lib.ListN.{length, set};
 ghost use Rattle.memory.specs.Buffers.{heldRows, built, kept, longestInput};
 ghost use Rattle.lists.specs.Laid.{over};
-ghost use Rattle.between.specs.Numbers.{liveOf, Tidy};
+ghost use Rattle.between.specs.NumbersLaws.{liveOf, Tidy};
 ghost use Rattle.regions.specs.Sift.{sifted};
 ghost use Rattle.files.specs.File.{File, Answer, refusal, outcome, apply, standing as standingOf};
 ghost use Rattle.records.specs.declared.Record.the-variants.{Seal};

@@ -1,5 +1,5 @@
 pub mod Serves
-pub mod Keeping
+pub mod KeepingLaws
 pub mod TurnLaws
-pub mod Settling
-pub mod Begins
+pub mod SettlingLaws
+pub mod BeginsLaws

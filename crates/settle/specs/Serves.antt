@@ -12,11 +12,11 @@ use Rattle.thresholds.specs.Rows.{noRow}
 use Rattle.between.specs.Between.{Index, Live}
 use Rattle.between.specs.Held.{startBy, endBy, Shaped, EdgesShaped, LinksShaped, GuardsShaped, Holds, HoldsEdges, HoldsLinks, HoldsGuards}
 use Rattle.between.specs.Ready.{Runnable}
-use Rattle.ends.specs.Turns.{Indexed, Sound}
+use Rattle.ends.specs.TurnsLaws.{Indexed, Sound}
 use Rattle.queues.specs.Marks.{Marks, isDecided}
-use Rattle.follows.specs.RowComplete.{Ordered}
-use Rattle.follows.specs.Keeps.{Names}
-use Rattle.follows.specs.Waiting.{Queued}
+use Rattle.follows.specs.RowCompleteLaws.{Ordered}
+use Rattle.follows.specs.KeepsLaws.{Names}
+use Rattle.follows.specs.WaitingLaws.{Queued}
 
 -- What the seal built, with the bounds of the thresholds, holds the index, whose rows are such as a job gives. Each buffer is lent cut to what is filled of it: `nodes` has an entry for
 -- each node of the job and no other, and the rows name no node behind them.

@@ -18,7 +18,7 @@ use Rattle.lists.specs.ColumnsLaws.{length-column}
 use Rattle.state.specs.declared.Step.{Step}
 use Rattle.state.specs.Step.{joined, contradicts}
 use Rattle.words.specs.Mask.{bit, digit}
-use Rattle.words.specs.Digits.{digit-high}
+use Rattle.words.specs.DigitsLaws.{digit-high}
 use Rattle.queues.specs.declared.Ring.{Ring}
 use Rattle.queues.specs.Queue.{Rows, queue, isEmpty, oldest, poppedRing, popped, nextRow, rowsIn}
 use Rattle.queues.specs.RowsLaws.{Flags, flags-next, oldest-row}
@@ -28,14 +28,14 @@ use Rattle.between.specs.Between.{Index, Live, live, Did, did, guardOf, thresho
 use Rattle.between.specs.Held.{startBy, endBy}
 use Rattle.between.specs.Ready.{Ready, Runnable}
 use Rattle.between.specs.KeptLaws.{runnable-more, runnable-by}
-use Rattle.between.specs.KeptHeld.{edges-light, edges-many, kept-node, kept-links, kept-guard-of}
+use Rattle.between.specs.KeptHeldLaws.{edges-light, edges-many, kept-node, kept-links, kept-guard-of}
 use Rattle.regions.specs.Drain.{withMarks, takeNode, takeRow, turn, atRest}
-use Rattle.ends.specs.Settles.{fall-turn}
-use Rattle.follows.specs.Answers.{clash}
-use Rattle.follows.specs.Stands.{also, also-other, also-this}
-use Rattle.follows.specs.Waiting.{first-decided, first-fresh, queued-taken}
+use Rattle.ends.specs.SettlesLaws.{fall-turn}
+use Rattle.follows.specs.AnswersLaws.{clash}
+use Rattle.follows.specs.StandsLaws.{also, also-other, also-this}
+use Rattle.follows.specs.WaitingLaws.{first-decided, first-fresh, queued-taken}
 use Rattle.settle.specs.Serves.{Serves, Among, owed, Tracked, Within, Going}
-use Rattle.settle.specs.Keeping.{keep-guard-of, keep-condition, keep-links, among-next, oldest-among, tracked-run, tracked-put, tracked-wait}
+use Rattle.settle.specs.KeepingLaws.{keep-guard-of, keep-condition, keep-links, among-next, oldest-among, tracked-run, tracked-put, tracked-wait}
 
 -- ---- edges that are not drained yet
 

@@ -13,7 +13,7 @@ ghost use Rattle.queues.specs.RowsLaws.{Flags};
 ghost use Rattle.queues.specs.Marks.{marks};
 ghost use Rattle.queues.specs.MarksLaws.{Waits};
 ghost use Rattle.between.specs.Between.{Index, did};
-ghost use Rattle.between.specs.Numbers.{statesOf, Tidy, liveOf};
+ghost use Rattle.between.specs.NumbersLaws.{statesOf, Tidy, liveOf};
 ghost use Rattle.between.specs.Held.{Shaped, LinksShaped, Holds, HoldsLinks};
 ghost use Rattle.between.specs.FirstLaws.{Totals};
 ghost use Rattle.between.specs.Ready.{Runnable};

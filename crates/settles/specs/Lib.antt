@@ -1,6 +1,6 @@
-pub mod Turned
-pub mod Jobs
-pub mod Seals
-pub mod Sifts
-pub mod Records
-pub mod Still
+pub mod TurnedLaws
+pub mod JobsLaws
+pub mod SealsLaws
+pub mod SiftsLaws
+pub mod RecordsLaws
+pub mod StillLaws

@@ -1,3 +1,3 @@
-pub mod Bytes
-pub mod Stages
-pub mod Shown
+pub mod BytesLaws
+pub mod StagesLaws
+pub mod ShownLaws

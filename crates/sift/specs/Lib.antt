@@ -1,3 +1,3 @@
 pub mod Tries
 pub mod TryLaws
-pub mod Sifting
+pub mod SiftingLaws

@@ -30,11 +30,11 @@ use Rattle.between.specs.Between.{Index, Live, live, stateAt}
 use Rattle.between.specs.Held.{startBy, endBy, heldTerms}
 use Rattle.regions.specs.Drain.{withMarks}
 use Rattle.regions.specs.Sift.{Sifted, sifted, tryRow}
-use Rattle.ends.specs.Keeps.{keeps-residual}
-use Rattle.ends.specs.Settles.{fall-try}
-use Rattle.follows.specs.Waiting.{Queued, queued-decide}
+use Rattle.ends.specs.KeepsLaws.{keeps-residual}
+use Rattle.ends.specs.SettlesLaws.{fall-try}
+use Rattle.follows.specs.WaitingLaws.{Queued, queued-decide}
 use Rattle.settle.specs.Serves.{Serves, Low, Within, Going}
-use Rattle.settle.specs.Keeping.{among-next, oldest-among, low-decide}
+use Rattle.settle.specs.KeepingLaws.{among-next, oldest-among, low-decide}
 use Rattle.sift.specs.Tries.{Tries, tried}
 
 -- ---- by the terms of a row

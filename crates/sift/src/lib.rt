@@ -13,7 +13,7 @@ ghost use Rattle.queues.specs.Marks.{marks};
 ghost use Rattle.queues.specs.MarksLaws.{Waits};
 ghost use Rattle.propagate.specs.Shape.{TermSlices};
 ghost use Rattle.between.specs.Between.{Index, Live};
-ghost use Rattle.between.specs.Numbers.{liveOf, Tidy};
+ghost use Rattle.between.specs.NumbersLaws.{liveOf, Tidy};
 ghost use Rattle.between.specs.Held.{Holds};
 ghost use Rattle.regions.specs.Drain.{withMarks};
 ghost use Rattle.regions.specs.Sift.{sifted, tryRow, sift as sifts};

@@ -12,13 +12,13 @@ use lib.Dec.{eqb, ltb}
 use lib.IntN.{ℤ}
 use lib.Signed.{ltZ, _≤ℤ_, _<ℤ_, ≤ℤ-refl}
 use borrow.Author.Tests.{eqb-true, eq-eqb, ltb-true, ltb-false}
-use Rattle.signed.specs.Signed.{leZ-ltZ, ltZ-leZ, leZ-nlt}
+use Rattle.signed.specs.SignedLaws.{leZ-ltZ, ltZ-leZ, leZ-nlt}
 use Rattle.numeric.specs.Threshold.{Term}
 use Rattle.state.specs.declared.Upper.{Upper}
 use Rattle.state.specs.declared.Upper.the-variants.{Open, Under}
 use Rattle.thresholds.specs.Rows.{Row, Guard, noRow}
 use Rattle.table.specs.Table.{Table, Below, at, decideSure, decideNever, raiseLower, lowerUpper, Guards, HasTerm, Step, sure-guard, never-guard, bound-reached, bound-out-of-reach, term-needed, term-too-heavy, longer-lower, shorter-upper, Run, done, more, steps}
-use Rattle.table.specs.Order.{of-le, of-lt, UpLe, up-refl}
+use Rattle.table.specs.OrderLaws.{of-le, of-lt, UpLe, up-refl}
 use Rattle.table.specs.TableLaws.{Le, grows}
 use Rattle.table.specs.Ends.{nodesIn, nodesOf, boundsIn, levels, UpperIn, Finite, most}
 

@@ -16,7 +16,7 @@ use Rattle.state.specs.declared.Upper.{Upper}
 use Rattle.state.specs.declared.Upper.the-variants.{Open, Under}
 use Rattle.thresholds.specs.Rows.{Row, Guard, noRow}
 use Rattle.table.specs.Table.{Table, AtMost, Below, decideSure, decideNever, raiseLower, lowerUpper, IsRow, termsOf, Guards, HasTerm, knownOf, possibleOf, reachedOf, Undecided, Step, sure-guard, never-guard, bound-reached, bound-out-of-reach, term-needed, term-too-heavy, longer-lower, shorter-upper, Conflict, both, lower-above, upper-reached}
-use Rattle.table.specs.Order.{≤ℤ-or-<ℤ, UpLe, le-or-below}
+use Rattle.table.specs.OrderLaws.{≤ℤ-or-<ℤ, UpLe, le-or-below}
 use Rattle.table.specs.Ends.{nodesOf, Finite}
 
 -- PREMISES

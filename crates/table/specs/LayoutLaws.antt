@@ -12,7 +12,7 @@ use lib.Dec.{eqb, leb, ltb}
 use lib.IntN.{ℤ, pos, negsuc}
 use lib.Signed.{leZ, ltZ, _≤ℤ_, _<ℤ_, ≤ℤ-refl, clashℤ}
 use borrow.Author.Tests.{eqb-true, le-leb, lt-ltb}
-use Rattle.signed.specs.Signed.{leZ-pos, ltZ-pos, nle-ltZ, max-least}
+use Rattle.signed.specs.SignedLaws.{leZ-pos, ltZ-pos, nle-ltZ, max-least}
 use Rattle.numeric.specs.Threshold.{Term, term, Threshold, Job}
 use Rattle.numeric.specs.Layout.{Layout, IsLayout, satisfied, constraint, weighted, value}
 use Rattle.state.specs.declared.Upper.{Upper}
@@ -22,7 +22,7 @@ use Rattle.row.specs.Terms.{rowTerms, sumOf, sameTerms}
 use Rattle.row.specs.SumLaws.{row-sum, value-sum}
 use Rattle.thresholds.specs.Rows.{Row, rowOf, Guard, guard, noRow, insertGuard, below, place, placeAll, rowsOf}
 use Rattle.table.specs.Table.{Table, start, known, possible, AtMost, Below, IsRow, termsOf, Guards, knownOf, possibleOf, reachedOf, Step, sure-guard, never-guard, bound-reached, bound-out-of-reach, term-needed, term-too-heavy, longer-lower, shorter-upper, Conflict, both, lower-above, upper-reached, AtRest}
-use Rattle.table.specs.Order.{le, lt, of-le, of-lt, ≤ℤ-trans, ≤ℤ-or-<ℤ, <ℤ-≤ℤ, pos-≤ℤ}
+use Rattle.table.specs.OrderLaws.{le, lt, of-le, of-lt, ≤ℤ-trans, ≤ℤ-or-<ℤ, <ℤ-≤ℤ, pos-≤ℤ}
 use Rattle.table.specs.TableLaws.{Le, Follows, conflict-up}
 
 -- ROWS come from thresholds: a row's terms are those of its raw list, and each of its guards is a threshold with that list

@@ -1,5 +1,5 @@
 pub mod Table
-pub mod Order
+pub mod OrderLaws
 pub mod TableLaws
 pub mod LayoutLaws
 pub mod Ends

@@ -18,7 +18,7 @@ use Rattle.state.specs.declared.Upper.the-variants.{Open, Under}
 use Rattle.state.specs.State.{maxZ}
 use Rattle.thresholds.specs.Rows.{Row, Guard, noRow}
 use Rattle.table.specs.Table.{Table, start, known, possible, AtMost, Below, at, decideSure, decideNever, raiseLower, lowerUpper, IsRow, termsOf, Guards, HasTerm, knownOf, possibleOf, reachedOf, Undecided, IsPrefix, Step, sure-guard, never-guard, bound-reached, bound-out-of-reach, term-needed, term-too-heavy, longer-lower, shorter-upper, Conflict, both, lower-above, upper-reached, Run, done, more, ReachesConflict, AtRest, Ended}
-use Rattle.table.specs.Order.{≤ℤ-trans, ≤ℤ-<ℤ-trans, ≤ℤ-anti, <ℤ-≤ℤ, ≤ℤ-or-<ℤ, pos-≤ℤ, max-up, max-above, sub-up, needed-clash, heavy-clash, UpLe, up-refl, up-trans, up-anti, below-le, le-or-below, at-most-up}
+use Rattle.table.specs.OrderLaws.{≤ℤ-trans, ≤ℤ-<ℤ-trans, ≤ℤ-anti, <ℤ-≤ℤ, ≤ℤ-or-<ℤ, pos-≤ℤ, max-up, max-above, sub-up, needed-clash, heavy-clash, UpLe, up-refl, up-trans, up-anti, below-le, le-or-below, at-most-up}
 
 -- THE ORDER: more nodes decided, lowers higher, uppers lower
 pub record Le (s u : Table) : Type 0 where

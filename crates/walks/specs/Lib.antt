@@ -1,7 +1,7 @@
 pub mod Pairs
-pub mod Chain
-pub mod Again
-pub mod Locals
-pub mod Said
-pub mod Shared
-pub mod Steps
+pub mod ChainLaws
+pub mod AgainLaws
+pub mod LocalsLaws
+pub mod SaidLaws
+pub mod SharedLaws
+pub mod StepsLaws

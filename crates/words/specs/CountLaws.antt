@@ -9,7 +9,7 @@ use lib.Count.{ones, onesIn, ones-step}
 use lib.ListN.{getD}
 use borrow.Author.Tests.{eqb-true, eqb-false}
 use Rattle.words.specs.Mask.{digit, digitAt, bit, count}
-use Rattle.words.specs.Digits.{digit-small, shr-digit}
+use Rattle.words.specs.DigitsLaws.{digit-small, shr-digit}
 
 -- The ones of the first n words.
 unfoldable pub onesTo : List ℕ → ℕ → ℕ

@@ -1,9 +1,9 @@
 pub mod Mask
 pub mod Shift
-pub mod Digits
+pub mod DigitsLaws
 pub mod MaskLaws
 pub mod CountLaws
-pub mod ShiftSteps
-pub mod ShiftPlaces
-pub mod ShiftWindow
+pub mod ShiftStepsLaws
+pub mod ShiftPlacesLaws
+pub mod ShiftWindowLaws
 pub mod ShiftLaws

@@ -12,7 +12,7 @@ use lib.Bits.{bitOr}
 use lib.Pow.{pow-lt}
 use borrow.Author.Tests.{eq-eqb}
 use Rattle.words.specs.Mask.{bit, setBit, learn, learned, Learned}
-use Rattle.words.specs.Digits.{Words, or-words, digit-small, or-same, or-none, pow-digit, pow-digit-same}
+use Rattle.words.specs.DigitsLaws.{Words, or-words, digit-small, or-same, or-none, pow-digit, pow-digit-same}
 use Rattle.state.specs.declared.Step.the-variants.{Unchanged, Changed, Contradiction}
 
 -- The node is in the mask after it was put in; every other node is as it was.

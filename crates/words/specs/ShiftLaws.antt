@@ -8,11 +8,11 @@ use native.Mathlib.Omega.{arith}
 use native.Nat.{ℕᴺ-discrete as decEq}
 use lib.ListN.{length, List·getD-eq-default}
 use Rattle.words.specs.Mask.{digit, digitAt}
-use Rattle.words.specs.Digits.{Words}
+use Rattle.words.specs.DigitsLaws.{Words}
 use Rattle.words.specs.Shift.{Shifted, shifted, shiftWord, wordHits, shiftFrom, unionShifted}
-use Rattle.words.specs.ShiftSteps.{length-shift}
-use Rattle.words.specs.ShiftPlaces.{shift-moved, shift-kept, source-kept, hits-kept, shift-words}
-use Rattle.words.specs.ShiftWindow.{Hits, hits-set, hits-only}
+use Rattle.words.specs.ShiftStepsLaws.{length-shift}
+use Rattle.words.specs.ShiftPlacesLaws.{shift-moved, shift-kept, source-kept, hits-kept, shift-words}
+use Rattle.words.specs.ShiftWindowLaws.{Hits, hits-set, hits-only}
 use Rattle.words.specs.declared.Ended.{Ended}
 use Rattle.words.specs.declared.Ended.the-variants.{Hit, Complete, Stopped}
 

@@ -1,6 +1,6 @@
 -- `between::load` meets its contract.
 use native.Mathlib.Omega.{arith}
-use Rattle.between.specs.Numbers.{states-figures, states-cursors, states-at}
+use Rattle.between.specs.NumbersLaws.{states-figures, states-cursors, states-at}
 use mathlib.Core.Path.{_∙_, sym}
 use borrow.Author.Needs.{needs}
 use Rattle.between.proofs.load.Statement.{statement}

@@ -4,9 +4,9 @@ use mathlib.Core.List.{[]}
 use Rattle.numeric.specs.Threshold.{terms}
 use Rattle.queues.specs.declared.Rings.{Rings}
 use Rattle.thresholds.specs.Rows.{rowOf}
-use Rattle.propagate.specs.Guards.{guards}
+use Rattle.propagate.specs.GuardsLaws.{guards}
 use Rattle.between.specs.Between.{stateAt}
-use Rattle.between.specs.Numbers.{liveOf, runs-by, states-set, tidy-store}
+use Rattle.between.specs.NumbersLaws.{liveOf, runs-by, states-set, tidy-store}
 use Rattle.between.specs.BetweenLaws.{run-made}
 use Rattle.between.proofs.run_row.Statement.{statement}
 use Rattle.between.proofs.run_row.Tie as tie

@@ -4,8 +4,8 @@ use mathlib.Core.Path.{_∙_, sym}
 use native.Mathlib.Omega.{arith}
 use lib.ListN.{length}
 use Rattle.memory.specs.Buffers.{heldRows}
-use Rattle.between.specs.Numbers.{liveOf, Tidy, Same, same-self}
-use Rattle.between.specs.Seeding.{Seeding, seeding-first, seeding-next, seeding-stop, seeding-end}
+use Rattle.between.specs.NumbersLaws.{liveOf, Tidy, Same, same-self}
+use Rattle.between.specs.SeedingLaws.{Seeding, seeding-first, seeding-next, seeding-stop, seeding-end}
 use borrow.Author.Needs.{needs}
 use Rattle.between.proofs.seed_thresholds.Statement.{statement}
 use Rattle.between.proofs.seed_thresholds.Tie as tie

@@ -4,7 +4,7 @@ use mir.Syntax.{w64}
 use mir.Val.{toZ, ofZ}
 use native.Mathlib.Omega.{arith}
 use borrow.Author.Needs.{needs}
-use Rattle.between.specs.Numbers.{states-figures, states-cursors}
+use Rattle.between.specs.NumbersLaws.{states-figures, states-cursors}
 use Rattle.between.proofs.store.Statement.{statement}
 use Rattle.between.proofs.store.Tie as tie
 

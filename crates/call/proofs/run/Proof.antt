@@ -2,7 +2,7 @@
 use mathlib.Core.Path.{_≡_}
 use mathlib.Core.Bool.{true}
 use Rattle.memory.specs.Buffers.{rawLists, raw, heldRows, Built, built, Kept, kept, Work, work, fits}
-use Rattle.memory.specs.Lengths.{fits-sized}
+use Rattle.memory.specs.LengthsLaws.{fits-sized}
 use Rattle.call.specs.RunLaws.{raw-room, built-room, links-room, long, whole-none, serve-asks, whole-all}
 use Rattle.call.proofs.run.Statement.{statement}
 use Rattle.call.proofs.run.Tie as tie

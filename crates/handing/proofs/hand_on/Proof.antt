@@ -7,9 +7,9 @@ use Rattle.propagate.specs.declared.Tightened.{Tightened}
 use Rattle.propagate.specs.Told.{movedState}
 use Rattle.memory.specs.Limits.{figureLimit}
 use Rattle.between.specs.Between.{did, stateAt}
-use Rattle.between.specs.Numbers.{liveOf}
+use Rattle.between.specs.NumbersLaws.{liveOf}
 use Rattle.between.specs.Held.{heldRow}
-use Rattle.between.specs.Handing.{handed-new, handed-none}
+use Rattle.between.specs.HandingLaws.{handed-new, handed-none}
 use Rattle.between.specs.ReadyLaws.{fit-by, fit-prefix}
 use borrow.Author.Needs.{needs}
 use Rattle.handing.proofs.hand_on.Statement.{statement}

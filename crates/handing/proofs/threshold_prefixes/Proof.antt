@@ -6,9 +6,9 @@ use lib.ListN.{length}
 use Rattle.memory.specs.Buffers.{heldRows}
 use Rattle.memory.specs.Limits.{figureLimit}
 use Rattle.between.specs.Between.{stateAt}
-use Rattle.between.specs.Numbers.{liveOf, Tidy, Same, same-self}
+use Rattle.between.specs.NumbersLaws.{liveOf, Tidy, Same, same-self}
 use Rattle.between.specs.ReadyLaws.{fit-by}
-use Rattle.between.specs.Handing.{Handing, links-of, handing-first, handing-next, handing-stop, handing-end, prefixes-held}
+use Rattle.between.specs.HandingLaws.{Handing, links-of, handing-first, handing-next, handing-stop, handing-end, prefixes-held}
 use borrow.Author.Needs.{needs}
 use Rattle.handing.proofs.threshold_prefixes.Statement.{statement}
 use Rattle.handing.proofs.threshold_prefixes.Tie as tie

@@ -43,9 +43,9 @@ use denote.Triple.Spec.{Meets, tripleOf}
 use denote.Triple.Table.{entered, cited}
 use denote.Triple.Walked.{says, needs, Stays, walkOf, Walks, ends-at, walked, walk-meets}
 use Rattle.walks.specs.Pairs.{_▹_}
-use Rattle.walks.specs.Again.{LentAgain, lends-at, back-at}
-use Rattle.walks.specs.Locals.{alloc-all, free-under}
-use Rattle.walks.specs.Said.{saids, goes-saids}
+use Rattle.walks.specs.AgainLaws.{LentAgain, lends-at, back-at}
+use Rattle.walks.specs.LocalsLaws.{alloc-all, free-under}
+use Rattle.walks.specs.SaidLaws.{saids, goes-saids}
 use Rattle.state.specs.declared.State.{State}
 use Rattle.state.proofs.State as T
 use Rattle.files.specs.declared.Given.{Given as Answer}

@@ -48,10 +48,10 @@ use denote.Triple.Spec.{Meets, tripleOf}
 use denote.Triple.Table.{entered, cited}
 use denote.Triple.Walked.{says, needs, Stays, walkOf, Walks, ends-at, walked, walk-meets}
 use Rattle.walks.specs.Pairs.{_▹_}
-use Rattle.walks.specs.Again.{LentAgain, lends-at, back-at}
-use Rattle.walks.specs.Locals.{cellsOf, diesOf, envOf, Nats, alloc-all, free-under}
-use Rattle.walks.specs.Said.{saids, goes-saids, gives-up}
-use Rattle.walks.specs.Steps.{while-goes}
+use Rattle.walks.specs.AgainLaws.{LentAgain, lends-at, back-at}
+use Rattle.walks.specs.LocalsLaws.{cellsOf, diesOf, envOf, Nats, alloc-all, free-under}
+use Rattle.walks.specs.SaidLaws.{saids, goes-saids, gives-up}
+use Rattle.walks.specs.StepsLaws.{while-goes}
 use Rattle.state.specs.State.{noState}
 use Rattle.state.specs.declared.State.{State}
 use Rattle.state.proofs.State as T

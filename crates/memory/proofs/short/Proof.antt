@@ -2,7 +2,7 @@
 use mathlib.Core.Path.{ap}
 use mathlib.Core.Bool.{not}
 use mathlib.Core.List.{[], _∷_}
-use Rattle.memory.specs.Lengths.{enoughFrom, fits-from}
+use Rattle.memory.specs.LengthsLaws.{enoughFrom, fits-from}
 use Rattle.memory.proofs.short.Statement.{statement}
 use Rattle.memory.proofs.short.Tie as tie
 

@@ -47,16 +47,16 @@ use denote.Triple.Table.{entered, cited}
 use denote.Triple.Walked.{says, Stays, walkOf, Walks, ends-at, walked, walk-meets}
 use borrow.Author.Tests.{ltb-false, eqb-true, eqb-false}
 use Rattle.walks.specs.Pairs.{_▹_}
-use Rattle.walks.specs.Chain.{chain, chain-out, chain-in}
-use Rattle.walks.specs.Again.{LentAgain, lends-at, back-at}
-use Rattle.walks.specs.Locals.{alloc-all, free-under}
-use Rattle.walks.specs.Said.{saids, goes-saids, gives-up, lets-go, two-go}
-use Rattle.walks.specs.Shared.{shares-on}
-use Rattle.walks.specs.Steps.{if-returns, big-lit, holds, fails}
+use Rattle.walks.specs.ChainLaws.{chain, chain-out, chain-in}
+use Rattle.walks.specs.AgainLaws.{LentAgain, lends-at, back-at}
+use Rattle.walks.specs.LocalsLaws.{alloc-all, free-under}
+use Rattle.walks.specs.SaidLaws.{saids, goes-saids, gives-up, lets-go, two-go}
+use Rattle.walks.specs.SharedLaws.{shares-on}
+use Rattle.walks.specs.StepsLaws.{if-returns, big-lit, holds, fails}
 use Rattle.state.specs.declared.State.{State}
 use Rattle.state.proofs.State as T
 use Rattle.memory.specs.Limits.{maxThresholds}
-use Rattle.between.specs.Numbers.{statesOf}
+use Rattle.between.specs.NumbersLaws.{statesOf}
 use Rattle.files.specs.declared.Given.{Given as Answer}
 use Rattle.files.proofs.Given as G
 use Rattle.files.proofs.Given.Laws as G′

@@ -5,7 +5,7 @@ use borrow.Author.Needs.{needs}
 use Rattle.memory.specs.Buffers.{rawLists, raw, heldRows, built, kept, Work, work}
 use Rattle.files.specs.File.{planned}
 use Rattle.listing.specs.ShowsLaws.{shows-listable}
-use Rattle.shown.specs.Bytes.{bytes-by}
+use Rattle.shown.specs.BytesLaws.{bytes-by}
 use Rattle.planner_main.specs.ProgramLaws.{fresh, fresh-long, ShownBy, shown-by, plans}
 use Rattle.planner_main.proofs.plan.Statement.{statement}
 use Rattle.planner_main.proofs.plan.Tie as tie

@@ -14,7 +14,7 @@ use Rattle.words.specs.Shift.{unionShifted}
 use Rattle.words.specs.ShiftLaws.{union-length, complete-visits}
 use Rattle.possible_sums.specs.Search.{searchFrom}
 use Rattle.numeric.specs.TermsLaws.{lastTerms, last-all}
-use Rattle.possible_sums.specs.SearchSteps.{
+use Rattle.possible_sums.specs.SearchStepsLaws.{
   lastTerm,
   turn,
   turn-none,

@@ -10,7 +10,7 @@ use Rattle.numeric.specs.TermsLaws.{length-terms}
 use Rattle.words.specs.Mask.{inEither}
 use Rattle.possible_sums.specs.Shape.{Prepared}
 use Rattle.possible_sums.specs.ZerosLaws.{zeros-back}
-use Rattle.possible_sums.specs.SearchSteps.{search-none, search-begins, plan-prepared}
+use Rattle.possible_sums.specs.SearchStepsLaws.{search-none, search-begins, plan-prepared}
 use Rattle.possible_sums.proofs.threshold_possible_sums.Statement.{statement}
 use Rattle.possible_sums.proofs.threshold_possible_sums.Tie as tie
 

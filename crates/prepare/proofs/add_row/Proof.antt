@@ -6,7 +6,7 @@ use Rattle.numeric.specs.Threshold.{terms}
 use Rattle.memory.specs.Buffers.{rawLists}
 use Rattle.thresholds.specs.Raw.{stretch}
 use Rattle.thresholds.specs.RawLaws.{list-is}
-use Rattle.prepare.specs.RowsGivenTerms.{terms-room}
+use Rattle.prepare.specs.RowsGivenTermsLaws.{terms-room}
 use Rattle.prepare.specs.PlaceLaws.{within, marks-tail, placing-new}
 use Rattle.thresholds.specs.Chain.{mark, printIn, classOf}
 use Rattle.thresholds.specs.ChainLaws.{print-small, mark-first, mark-print, mark-next}

@@ -9,7 +9,7 @@ use Rattle.lists.specs.Deal.{grouped}
 use Rattle.lists.specs.Columns.{withColumn}
 use Rattle.lists.specs.TallyLaws.{mapped-long}
 use Rattle.thresholds.specs.Guards.{boundItem, nodeItem, boundItems, nodeItems}
-use Rattle.prepare.specs.PrepareParts.{grouped-part, cleared-part}
+use Rattle.prepare.specs.PreparePartsLaws.{grouped-part, cleared-part}
 use mathlib.Core.Path.{_∙_, sym, ap}
 use borrow.Author.Needs.{needs}
 use Rattle.prepare.proofs.guards_in.Statement.{statement}

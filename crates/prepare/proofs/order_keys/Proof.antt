@@ -6,7 +6,7 @@ use Rattle.sort.specs.Sorted.{sorted}
 use Rattle.sort.specs.SortedLaws.{length-sorted}
 use Rattle.thresholds.specs.Guards.{guardKeys}
 use Rattle.thresholds.specs.GuardsLaws.{length-keys}
-use Rattle.prepare.specs.PrepareParts.{keys-over, spare-kept}
+use Rattle.prepare.specs.PreparePartsLaws.{keys-over, spare-kept}
 use mathlib.Core.Path.{_∙_, sym}
 use borrow.Author.Needs.{needs}
 use Rattle.prepare.proofs.order_keys.Statement.{statement}

@@ -10,7 +10,7 @@ use mir.Syntax.{w64}
 use mir.Val.{toZ, ofZ}
 use mir.Facts.{toZ-ofZ}
 use borrow.Author.Needs.{needs}
-use Rattle.signed.specs.Signed.{sub-sfits}
+use Rattle.signed.specs.SignedLaws.{sub-sfits}
 use Rattle.numeric.specs.Threshold.{terms}
 use Rattle.numeric.specs.TermsLaws.{length-terms}
 use Rattle.state.specs.declared.Upper.{Upper}
@@ -18,9 +18,8 @@ use Rattle.state.specs.State.{limit, limited}
 use Rattle.queues.specs.Queue.{queue}
 use Rattle.queues.specs.Marks.{marks}
 use Rattle.propagate.specs.Scan.{Scanned, scanned}
-use Rattle.propagate.specs.Shape.{signed}
 use Rattle.propagate.specs.Row.{light, cut}
-use Rattle.propagate.specs.RowLaws.{false-none, false-forced, forced-within}
+use Rattle.propagate.specs.RowLaws.{false-none, false-forced, forced-within, signed}
 use Rattle.propagate.proofs.false_terms.Statement.{statement}
 use Rattle.propagate.proofs.false_terms.Tie as tie
 

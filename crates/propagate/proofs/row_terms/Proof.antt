@@ -6,7 +6,7 @@ use Rattle.state.specs.declared.Step.{Step}
 use Rattle.state.specs.Step.{joined}
 use Rattle.queues.specs.Queue.{queue}
 use Rattle.queues.specs.Marks.{marks}
-use Rattle.propagate.specs.Guards.{all-terms}
+use Rattle.propagate.specs.GuardsLaws.{all-terms}
 use Rattle.propagate.specs.Row.{ran, trueTerms}
 use Rattle.propagate.specs.RowLaws.{kept-true, kept-by, figures-moved, terms-stop, terms-more}
 use Rattle.propagate.proofs.row_terms.Statement.{statement}

@@ -5,7 +5,7 @@ use Rattle.numeric.specs.Threshold.{terms}
 use Rattle.queues.specs.Queue.{queue}
 use Rattle.queues.specs.Marks.{marks}
 use Rattle.thresholds.specs.Rows.{rowOf}
-use Rattle.propagate.specs.Guards.{guards, all-guards}
+use Rattle.propagate.specs.GuardsLaws.{guards, all-guards}
 use Rattle.propagate.specs.Row.{ran, thresholdGuards}
 use Rattle.propagate.specs.RowLaws.{kept-guards, kept-by, figures-moved, row-conflict, row-guards, row-terms}
 use Rattle.propagate.proofs.threshold_row.Statement.{statement}

@@ -5,7 +5,7 @@ use lib.IntN.{pos}
 use mir.Syntax.{w64}
 use mir.Val.{toZ, ofZ, SFits}
 use mir.Facts.{toZ-ofZ}
-use Rattle.signed.specs.Signed.{natural-cast}
+use Rattle.signed.specs.SignedLaws.{natural-cast}
 use Rattle.rows.specs.ShownLaws.{below-zero}
 use borrow.Author.Needs.{needs}
 use Rattle.rows.proofs.write_signed.Statement.{statement}

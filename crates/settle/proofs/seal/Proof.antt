@@ -5,8 +5,8 @@ use Rattle.memory.specs.Limits.{totalLimit, roomLimit}
 use Rattle.memory.specs.Buffers.{HeldRows, heldRows}
 use Rattle.state.specs.declared.State.{State}
 use Rattle.between.specs.Between.{Live, did}
-use Rattle.between.specs.Numbers.{statesOf, liveOf}
-use Rattle.settle.specs.Begins.{totals-more, seal-ready, seal-is}
+use Rattle.between.specs.NumbersLaws.{statesOf, liveOf}
+use Rattle.settle.specs.BeginsLaws.{totals-more, seal-ready, seal-is}
 use mathlib.Core.Path.{_∙_}
 use Rattle.settle.proofs.seal.Statement.{statement}
 use Rattle.settle.proofs.seal.Tie as tie

@@ -4,9 +4,9 @@ use lib.Dec.{eqb}
 use borrow.Author.Tests.{not-true, not-false}
 use Rattle.memory.specs.Buffers.{heldRows, Built, built}
 use Rattle.between.specs.Between.{Live, did}
-use Rattle.between.specs.Numbers.{liveOf, Tidy, Same, same-self}
-use Rattle.ends.specs.Turns.{left}
-use Rattle.settle.specs.Settling.{Settling, settling-first, settling-next, settling-less, settling-stop, settling-end, row-waits}
+use Rattle.between.specs.NumbersLaws.{liveOf, Tidy, Same, same-self}
+use Rattle.ends.specs.TurnsLaws.{left}
+use Rattle.settle.specs.SettlingLaws.{Settling, settling-first, settling-next, settling-less, settling-stop, settling-end, row-waits}
 use mathlib.Core.Path.{_≡_, _∙_, sym}
 use borrow.Author.Needs.{needs}
 use Rattle.settle.proofs.settle.Statement.{statement}

@@ -5,11 +5,11 @@ use mathlib.Core.List.{List}
 use lib.ListN.{length}
 use Rattle.memory.specs.Buffers.{heldRows, Built, built}
 use Rattle.between.specs.Between.{Live}
-use Rattle.between.specs.Numbers.{liveOf, Tidy, Same, same-self}
-use Rattle.ends.specs.Turns.{left}
+use Rattle.between.specs.NumbersLaws.{liveOf, Tidy, Same, same-self}
+use Rattle.ends.specs.TurnsLaws.{left}
 use Rattle.regions.specs.Sift.{sifted}
 use Rattle.sift.specs.Tries.{Scratch, Round, round}
-use Rattle.sift.specs.Sifting.{Sifting, sifting-first, sifting-next, sifting-less, sifting-stop, sifting-end, scratch-next}
+use Rattle.sift.specs.SiftingLaws.{Sifting, sifting-first, sifting-next, sifting-less, sifting-stop, sifting-end, scratch-next}
 use mathlib.Core.Path.{_≡_, _∙_, refl, sym, ap}
 use borrow.Author.Needs.{needs}
 use Rattle.sift.proofs.sift.Statement.{statement}

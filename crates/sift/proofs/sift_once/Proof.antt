@@ -3,9 +3,9 @@ use native.Mathlib.Omega.{arith}
 use borrow.Author.Tests.{eq-eqb, ne-eqb}
 use Rattle.memory.specs.Buffers.{heldRows, Built, built}
 use Rattle.between.specs.Between.{Live, Did, did}
-use Rattle.between.specs.Numbers.{liveOf}
+use Rattle.between.specs.NumbersLaws.{liveOf}
 use Rattle.regions.specs.Sift.{Sifted, sifted}
-use Rattle.sift.specs.Sifting.{once-stop, once-none, once-try, settled-tries}
+use Rattle.sift.specs.SiftingLaws.{once-stop, once-none, once-try, settled-tries}
 use mathlib.Core.Path.{_∙_, refl, sym}
 use borrow.Author.Needs.{needs}
 use Rattle.sift.proofs.sift_once.Statement.{statement}

@@ -4,7 +4,7 @@ use Rattle.memory.specs.Buffers.{HeldRows, heldRows}
 use Rattle.queues.specs.Queue.{queue, rowsIn}
 use Rattle.queues.specs.Marks.{marks}
 use Rattle.between.specs.Between.{Live, live}
-use Rattle.between.specs.Numbers.{liveOf}
+use Rattle.between.specs.NumbersLaws.{liveOf}
 use Rattle.between.specs.HeldLaws.{term-slices}
 use Rattle.regions.specs.Drain.{withMarks}
 use Rattle.regions.specs.Sift.{sifted}

@@ -50,16 +50,16 @@ use denote.Triple.Spec.{Meets, tripleOf}
 use denote.Triple.Table.{entered, cited}
 use denote.Triple.Walked.{says, needs, Stays, walkOf, Walks, ends-at, walked, walk-meets}
 use Rattle.walks.specs.Pairs.{_▹_}
-use Rattle.walks.specs.Again.{LentAgain, lends-at, back-at}
-use Rattle.walks.specs.Locals.{cellsOf, diesOf, envOf, Nats, alloc-all, free-under}
-use Rattle.walks.specs.Said.{saids, goes-saids, gives-up}
-use Rattle.walks.specs.Steps.{while-goes}
+use Rattle.walks.specs.AgainLaws.{LentAgain, lends-at, back-at}
+use Rattle.walks.specs.LocalsLaws.{cellsOf, diesOf, envOf, Nats, alloc-all, free-under}
+use Rattle.walks.specs.SaidLaws.{saids, goes-saids, gives-up}
+use Rattle.walks.specs.StepsLaws.{while-goes}
 use Rattle.state.specs.State.{noState}
 use Rattle.state.specs.declared.State.{State}
 use Rattle.state.proofs.State as T
 use Rattle.state.proofs.State.Laws as T′
 use Rattle.memory.specs.Limits.{maxThresholds}
-use Rattle.between.specs.Numbers.{statesOf}
+use Rattle.between.specs.NumbersLaws.{statesOf}
 use Rattle.states.specs.StatesLaws.{showing, showing-long, showing-next, showing-all}
 use Rattle.states.proofs.show_states.Code.Mir as pieces
 use Rattle.states.proofs.row_state as row′

@@ -1,7 +1,7 @@
 -- `words::meets` meets its contract: a window behind the word, before it, or over some of it.
 use native.Mathlib.Omega.{arith}
 use borrow.Author.Needs.{needs}
-use Rattle.words.specs.ShiftSteps.{meets-behind, meets-before, meets-over}
+use Rattle.words.specs.ShiftStepsLaws.{meets-behind, meets-before, meets-over}
 use Rattle.words.proofs.meets.Statement.{statement}
 use Rattle.words.proofs.meets.Tie as tie
 

@@ -4,7 +4,7 @@ use Prim.Native.Nat.{_+_, _-_, _/_, _%_, _<_, _≤_}
 use native.Mathlib.Omega.{arith}
 use lib.ListN.{length, length-set}
 use borrow.Author.Needs.{needs}
-use Rattle.words.specs.ShiftSteps.{spills-whole, spills-last, spills-over, shift-one, shift-two, hits-one, hits-low, hits-high}
+use Rattle.words.specs.ShiftStepsLaws.{spills-whole, spills-last, spills-over, shift-one, shift-two, hits-one, hits-low, hits-high}
 use Rattle.words.proofs.shift_word.Statement.{statement}
 use Rattle.words.proofs.shift_word.Tie as tie
 

@@ -7,7 +7,7 @@ use native.Mathlib.Omega.{arith}
 use lib.ListN.{length}
 use borrow.Author.Needs.{needs}
 use Rattle.words.specs.Shift.{Shifted, shiftFrom, unionShifted}
-use Rattle.words.specs.ShiftSteps.{length-shift, from-none, from-stopped, from-hit, from-next, from-start}
+use Rattle.words.specs.ShiftStepsLaws.{length-shift, from-none, from-stopped, from-hit, from-next, from-start}
 use Rattle.words.proofs.union_shifted_until_hit.Statement.{statement}
 use Rattle.words.proofs.union_shifted_until_hit.Tie as tie
 

@@ -13,11 +13,11 @@ use borrow.Author.Needs.{needs}
 use borrow.Author.Tests.{not-true, not-false}
 use Rattle.numeric.specs.Threshold.{terms}
 use Rattle.numeric.specs.TermsLaws.{length-terms}
-use Rattle.signed.specs.Signed.{natural, leZ-nlt, nle-ltZ}
+use Rattle.signed.specs.SignedLaws.{natural, leZ-nlt, nle-ltZ}
 use Rattle.state.specs.declared.Upper.{Upper}
 use Rattle.state.specs.State.{limit, hasResidualInterval}
 use Rattle.thresholds.specs.Rows.{hasNonunit}
-use Rattle.possible_sums.specs.SearchSteps.{plan-unit, plan-wide, plan-reached, not-planned, is-planned, open-wide, lower-known, limit-known, last-known}
+use Rattle.possible_sums.specs.SearchStepsLaws.{plan-unit, plan-wide, plan-reached, not-planned, is-planned, open-wide, lower-known, limit-known, last-known}
 use Rattle.possible_sums.proofs.Plan.for_row.Statement.{statement}
 use Rattle.possible_sums.proofs.Plan.for_row.Tie as tie
 

@@ -1,0 +1,307 @@
+-- ROWS STAY DONE: whenever a row's figures change, the row is run; so each row that was run once has nothing of the rules 2 to 5 left
+-- that its figures give, its cursors passed only what is decided, and it is in no conflict, whatever is drained or handed on later.
+use Prim.Native.Nat.{ℕ, _≤_, _<_}
+use native.Mathlib.Omega.{arith}
+use mathlib.Core.Path.{_≡_, refl, sym, ap, ap₂, _∙_, subst}
+use mathlib.Core.Bool as B
+use mathlib.Core.Bool.{Bool, true, false, not, cond, _&&_, _||_}
+use mathlib.Core.List.{List, [], _∷_, List·Memᴰ, List·Memᴰ·head, List·Memᴰ·tail}
+use mathlib.Core.Logic.{⊎-elim, _≢_}
+use lib.ListN.{length, getD, set, take, drop, length-set}
+use lib.Dec.{eqb, leb}
+use lib.IntN.{ℤ, pos, _-ℤ_}
+use lib.Signed.{leZ, ltZ}
+use borrow.Author.Tests.{eq-eqb}
+use Rattle.numeric.specs.Threshold.{Threshold}
+use Rattle.state.specs.declared.Step.the-variants.{Unchanged, Changed, Contradiction}
+use Rattle.state.specs.declared.State.{State}
+use Rattle.state.specs.declared.Upper.{Upper}
+use Rattle.state.specs.declared.Upper.the-variants.{Under}
+use Rattle.state.specs.Step.{joined, contradicts}
+use Rattle.state.specs.State.{maxZ, reached, upperAtMost, conflict, withLower, withUpper, drained, withKnown, withPossible}
+use Rattle.words.specs.Mask.{bit}
+use Rattle.queues.specs.Marks.{Marks, isDecided}
+use Rattle.queues.specs.Queue.{Rows}
+use Rattle.thresholds.specs.Rows.{Row, noRow, Edge, edgesOf, rowNumber}
+use Rattle.prefixes.specs.Links.{neighbours}
+use Rattle.propagate.specs.declared.Tightened.{Tightened}
+use Rattle.propagate.specs.Row.{Ran, ran, scans, thresholdRow}
+use Rattle.propagate.specs.Told.{tight, guardState, movedLower, movedState, under}
+use Rattle.between.specs.Between.{Index, Live, live, stateAt, withState, withDirty, Did, did, runRow, runWith, bounded, thresholdGuard, conditionFrom, thresholdCondition, termCount, prefixesFrom, thresholdPrefixes}
+use Rattle.table.specs.Table.{IsRow}
+use Rattle.follows.specs.AnswersLaws.{clash, and-right, or-true, joined-right}
+use Rattle.follows.specs.CompleteLaws.{Wide, Has, wide-decide, has-stays}
+use Rattle.follows.specs.RowCompleteLaws.{Ordered, Passed, Complete, SameFigures, row-complete}
+use Rattle.follows.specs.StandsLaws.{also, also-before, also-other, put-state}
+use Rattle.follows.specs.KeepsLaws.{run-keeps}
+use Rattle.follows.specs.EdgesLaws.{edge-term}
+
+-- `ran` says which rows were run.
+pub record Done (rows : List Row) (ran : ℕ → Bool) (v : Live) : Type 0 where
+  pub sized : length rows ≤ length (v .states)
+  pub passed : (r : ℕ) → IsRow rows r → Passed (getD rows r noRow) (stateAt v r) (v .marks)
+  pub complete : (r : ℕ) → IsRow rows r → ran r ≡ true → Complete (getD rows r noRow) (stateAt v r) (v .marks)
+  pub free : (r : ℕ) → IsRow rows r → ran r ≡ true → conflict (stateAt v r) ≡ false
+
+pub done-fewer : (rows : List Row) (ran fewer : ℕ → Bool) (v : Live) → ((r : ℕ) → fewer r ≡ true → ran r ≡ true) → Done rows ran v → Done rows fewer v
+done-fewer rows ran fewer v f h = record { sized = h .sized; passed = h .passed; complete = λ r i e. h .complete r i (f r e); free = λ r i e. h .free r i (f r e) }
+
+-- MORE NODES DECIDED: what was passed and complete is so still
+abbrev pub Grows : Marks → Marks → Type 0
+Grows m m′ = (b : Bool) (n : ℕ) → Has b n m → Has b n m′
+
+grows-decided : (m m′ : Marks) → Grows m m′ → (n : ℕ) → isDecided m n ≡ true → isDecided m′ n ≡ true
+grows-decided m m′ g n d =
+    ⊎-elim (λ (e : bit (m .sure) n ≡ true). ap (λ (b : Bool). b || bit (m′ .never) n) (g true n e))
+    (λ (e : bit (m .never) n ≡ true). ap (λ (b : Bool). bit (m′ .sure) n || b) (g false n e) ∙ B.or-true (bit (m′ .sure) n)) (or-true (bit (m .sure) n) (bit (m .never) n) d)
+
+pub passed-up : (row : Row) (st : State) (m m′ : Marks) → Grows m m′ → Wide m′ → Passed row st m → Passed row st m′
+passed-up row st m m′ g w p = record {
+  wide = w;
+  inside = p .inside;
+  sure = λ y i. g true (y .node) (p .sure y i);
+  never = λ y i. g false (y .node) (p .never y i);
+  true-terms = λ t i. grows-decided m m′ g (t .condition) (p .true-terms t i);
+  false-terms = λ t i. grows-decided m m′ g (t .condition) (p .false-terms t i);
+}
+
+pub complete-up : (row : Row) (st : State) (m m′ : Marks) → Grows m m′ → Complete row st m → Complete row st m′
+complete-up row st m m′ g c = record {
+  reached = λ y i e. g true (y .node) (c .reached y i e);
+  out-of-reach = λ y i e. g false (y .node) (c .out-of-reach y i e);
+  needed = λ f t i e. grows-decided m m′ g (t .condition) (c .needed f t i e);
+  too-heavy = λ b f t i e. grows-decided m m′ g (t .condition) (c .too-heavy b f t i e);
+}
+
+-- THE SAME FIGURES: complete as well, and in conflict as well
+reached-same : (a b : State) → SameFigures b a → reached a ≡ reached b
+reached-same a b e = ap₂ maxZ (sym (e .known)) (sym (e .lower))
+
+complete-same : (row : Row) (a b : State) (m : Marks) → SameFigures b a → Complete row a m → Complete row b m
+complete-same row a b m e c = record {
+  reached = λ y i q. c .reached y i (ap (leZ (y .bound)) (reached-same a b e) ∙ q);
+  out-of-reach = λ y i q. c .out-of-reach y i
+      (ap₂ (λ (p : ℤ) (u : Upper). leZ (y .bound) p && not (upperAtMost u (y .bound))) (sym (e .possible)) (sym (e .upper)) ∙ q);
+  needed = λ f t i q. c .needed (ap₂ leZ (sym (e .lower)) (sym (e .known)) ∙ f) t i
+      (ap₂ (λ (p l : ℤ). leZ (pos (t .weight)) (p -ℤ l)) (sym (e .possible)) (sym (e .lower)) ∙ q);
+  too-heavy = λ z f t i q. c .too-heavy z (sym (e .upper) ∙ f) t i (ap (λ (k : ℤ). ltZ (pos (t .weight)) (z -ℤ k)) (sym (e .known)) ∙ q);
+}
+
+conflict-same : (a b : State) → SameFigures b a → conflict b ≡ conflict a
+unfolding conflict
+conflict-same a b e = ap₂ (λ (x y : Bool). x || y) (ap₂ ltZ (e .possible) (e .lower)) (ap₂ upperAtMost (e .upper) (sym (reached-same a b e)))
+
+-- a row in conflict contradicts
+ran-free : (row : Row) (st : State) (m : Marks) → contradicts (thresholdRow row st m .step) ≡ false → conflict st ≡ false
+unfolding thresholdRow
+ran-free row st m h = by (conflict st) refl h
+  where
+    by : (b : Bool) → conflict st ≡ b → (let o : Ran = elim b [ true ↦ ran st m Contradiction | false ↦ scans row st m ] in contradicts (o .step) ≡ false) → conflict st ≡ false
+    by true e k = absurd (clash true refl k)
+    by false e k = e
+
+-- Figures put anew leave the cursors.
+pub record SameCursors (a b : State) : Type 0 where
+  pub sure : a .«sure_guard» ≡ b .«sure_guard»
+  pub never : a .«never_guard» ≡ b .«never_guard»
+  pub true-term : a .«true_term» ≡ b .«true_term»
+  pub false-term : a .«false_term» ≡ b .«false_term»
+
+same : (a : State) → SameCursors a a
+same a = record { sure = refl; never = refl; true-term = refl; false-term = refl }
+
+passed-cursors : (row : Row) (a b : State) (m : Marks) → SameCursors b a → Passed row a m → Passed row b m
+passed-cursors row a b m e p = record {
+  wide = p .wide;
+  inside = subst (λ (n : ℕ). n ≤ length (row .guards)) (sym (e .never)) (p .inside);
+  sure = λ y i. p .sure y (subst (λ (n : ℕ). List·Memᴰ y (take n (row .guards))) (e .sure) i);
+  never = λ y i. p .never y (subst (λ (n : ℕ). List·Memᴰ y (drop n (row .guards))) (e .never) i);
+  true-terms = λ t i. p .true-terms t (subst (λ (n : ℕ). List·Memᴰ t (take n (row .terms))) (e .true-term) i);
+  false-terms = λ t i. p .false-terms t (subst (λ (n : ℕ). List·Memᴰ t (take n (row .terms))) (e .false-term) i);
+}
+
+guard-cursors : (st : State) (value : Bool) (b : ℤ) → SameCursors (guardState st value b .state) st
+unfolding withLower withUpper
+guard-cursors st true b = by (leZ b (st .lower))
+  where
+    by : (c : Bool) → let o : Tightened = elim c [ true ↦ tight st false | false ↦ tight (withLower st b) true ] in SameCursors (o .state) st
+    by true = same st
+    by false = record { sure = refl; never = refl; true-term = refl; false-term = refl }
+guard-cursors st false b = by (upperAtMost (st .upper) b)
+  where
+    by : (c : Bool) → let o : Tightened = elim c [ true ↦ tight st false | false ↦ tight (withUpper st (Under b)) true ] in SameCursors (o .state) st
+    by true = same st
+    by false = record { sure = refl; never = refl; true-term = refl; false-term = refl }
+
+drained-cursors : (value : Bool) (w : ℕ) (st : State) → SameCursors (drained value w st) st
+unfolding drained withKnown withPossible
+drained-cursors true w st = record { sure = refl; never = refl; true-term = refl; false-term = refl }
+drained-cursors false w st = record { sure = refl; never = refl; true-term = refl; false-term = refl }
+
+moved-cursors : (source st : State) (n k : ℕ) → SameCursors (movedState source st n k .state) st
+unfolding withLower withUpper
+moved-cursors source st n k = upper (leb k n && under (source .upper) (movedLower source st n k .state .upper)) (movedLower source st n k) (lower (leb n k && ltZ (st .lower) (source .lower)))
+  where
+    lower : (c : Bool) → SameCursors (cond c (tight (withLower st (source .lower)) true) (tight st false) .state) st
+    lower true = record { sure = refl; never = refl; true-term = refl; false-term = refl }
+    lower false = same st
+
+    upper : (c : Bool) (t : Tightened) → SameCursors (t .state) st → SameCursors (cond c (tight (withUpper (t .state) (source .upper)) true) t .state) st
+    upper true t e = record { sure = e .sure; never = e .never; true-term = e .true-term; false-term = e .false-term }
+    upper false t e = e
+
+module _ (x : Index) (ordered : (r : ℕ) → IsRow (x .rows) r → Ordered (getD (x .rows) r noRow)) where
+  -- what a run does to the marks: they grow
+  run-grows : (v : Live) (r : ℕ) → Wide (v .marks) → Grows (v .marks) (runRow x v r .live .marks) × Wide (runRow x v r .live .marks)
+  run-grows v r w =
+      run-keeps (λ (m : Marks). Grows (v .marks) m × Wide m)
+      (λ value m n h p. ((λ b k e. has-stays b k value m n (p .0 b k e)), wide-decide value m n (p .1))) x ordered v r ((λ b k e. e), w)
+
+  -- A ROW RUN
+  pub run-done : (ran : ℕ → Bool) (v : Live) (r : ℕ) → IsRow (x .rows) r → Done (x .rows) ran v → contradicts (runRow x v r .step) ≡ false → Done (x .rows) (also r ran) (runRow x v r .live)
+  unfolding runRow runWith
+  run-done ran v r i h c = record {
+    sized = subst (λ (n : ℕ). length (x .rows) ≤ n) (sym (length-set (v .states) r (a .state))) (h .sized);
+    passed = put-state (λ (q : ℕ) (t : State). IsRow (x .rows) q → Passed (getD (x .rows) q noRow) t (a .marks)) (v .states) r (a .state) room (λ _. k .0)
+        (λ q e j. passed-up (getD (x .rows) q noRow) (stateAt v q) (v .marks) (a .marks) (g .0) (g .1) (h .passed q j));
+    complete = put-state (λ (q : ℕ) (t : State). IsRow (x .rows) q → also r ran q ≡ true → Complete (getD (x .rows) q noRow) t (a .marks)) (v .states) r (a .state) room
+        (λ _ _. complete-same row (stateAt v r) (a .state) (a .marks) (k .2) (k .1))
+        (λ q e j n. complete-up (getD (x .rows) q noRow) (stateAt v q) (v .marks) (a .marks) (g .0) (h .complete q j (other q e n)));
+    free = put-state (λ (q : ℕ) (t : State). IsRow (x .rows) q → also r ran q ≡ true → conflict t ≡ false) (v .states) r (a .state) room
+        (λ _ _. conflict-same (stateAt v r) (a .state) (k .2) ∙ ran-free row (stateAt v r) (v .marks) c) (λ q e j n. h .free q j (other q e n));
+  }
+    where
+      row : Row
+      row = getD (x .rows) r noRow
+
+      a : Ran
+      a = thresholdRow row (stateAt v r) (v .marks)
+
+      room : r < length (v .states)
+      room = let z = h .sized in omega arith
+
+      k : Passed row (a .state) (a .marks) × Complete row (stateAt v r) (a .marks) × SameFigures (a .state) (stateAt v r)
+      k = row-complete row (ordered r i) (stateAt v r) (v .marks) (h .passed r i) c
+
+      g : Grows (v .marks) (a .marks) × Wide (a .marks)
+      g = run-grows v r (h .passed r i .wide)
+
+      other : (q : ℕ) → q ≢ r → also r ran q ≡ true → ran q ≡ true
+      other q e n = sym (also-other r ran q e) ∙ n
+
+  -- FIGURES PUT ANEW, AND THE ROW RUN
+  pub put-run-done : (ran : ℕ → Bool) (v : Live) (r : ℕ) (st : State) (d q : Rows) → IsRow (x .rows) r → SameCursors st (stateAt v r) → Done (x .rows) ran v
+      → let w = live (set (v .states) r st) (v .marks) d q in contradicts (runRow x w r .step) ≡ false → Done (x .rows) (also r ran) (runRow x w r .live)
+  put-run-done ran v r st d q i e h c =
+      done-fewer (x .rows) (also r but) (also r ran) (runRow x w r .live) (λ k n. more k (eqb k r) refl n) (run-done but w r i put c)
+    where
+      w : Live
+      w = live (set (v .states) r st) (v .marks) d q
+
+      but : ℕ → Bool
+      but k = not (eqb k r) && ran k
+
+      room : r < length (v .states)
+      room = let z = h .sized in omega arith
+
+      never : but r ≡ true → ⊥
+      never n = clash false (sym (ap (λ (b : Bool). not b && ran r) (eq-eqb r r refl)) ∙ n) refl
+
+      put : Done (x .rows) but w
+      put = record {
+        sized = subst (λ (n : ℕ). length (x .rows) ≤ n) (sym (length-set (v .states) r st)) (h .sized);
+        passed = put-state (λ (k : ℕ) (t : State). IsRow (x .rows) k → Passed (getD (x .rows) k noRow) t (v .marks)) (v .states) r st room
+            (λ j. passed-cursors (getD (x .rows) r noRow) (stateAt v r) st (v .marks) e (h .passed r j)) (λ k f j. h .passed k j);
+        complete = put-state (λ (k : ℕ) (t : State). IsRow (x .rows) k → but k ≡ true → Complete (getD (x .rows) k noRow) t (v .marks)) (v .states) r st room
+            (λ j n. absurd (never n)) (λ k f j n. h .complete k j (and-right (not (eqb k r)) (ran k) n));
+        free = put-state (λ (k : ℕ) (t : State). IsRow (x .rows) k → but k ≡ true → conflict t ≡ false) (v .states) r st room
+            (λ j n. absurd (never n)) (λ k f j n. h .free k j (and-right (not (eqb k r)) (ran k) n));
+      }
+
+      more : (k : ℕ) (b : Bool) → eqb k r ≡ b → cond b true (ran k) ≡ true → cond (eqb k r) true (not (eqb k r) && ran k) ≡ true
+      more k true f n = ap (λ (b : Bool). cond b true (not b && ran k)) f
+      more k false f n = ap (λ (b : Bool). cond b true (not b && ran k)) f ∙ n
+
+  -- What each function keeps where it does not contradict.
+  abbrev pub StillDone : (ℕ → Bool) → Did → Type 0
+  StillDone ran d = contradicts (d .step) ≡ false → Done (x .rows) ran (d .live)
+
+  one-done : (ran : ℕ → Bool) (v : Live) (r : ℕ) (st : State) (d q : Rows) → IsRow (x .rows) r → SameCursors st (stateAt v r) → Done (x .rows) ran v
+      → StillDone ran (runRow x (live (set (v .states) r st) (v .marks) d q) r)
+  one-done ran v r st d q i e h c = done-fewer (x .rows) (also r ran) ran _ (λ k n. also-before r ran k n) (put-run-done ran v r st d q i e h c)
+
+  -- A DRAINED GUARD
+  pub guard-done : (ran : ℕ → Bool) (v : Live) (t : Threshold) → IsRow (x .rows) (rowNumber (x .rows) (t .terms)) → Done (x .rows) ran v → StillDone ran (thresholdGuard x v t)
+  unfolding thresholdGuard bounded
+  guard-done ran v t i h = by (guardState (stateAt v r) (bit (v .marks .sure) (t .node)) (t .bound)) (guard-cursors (stateAt v r) (bit (v .marks .sure) (t .node)) (t .bound))
+    where
+      r : ℕ
+      r = rowNumber (x .rows) (t .terms)
+
+      whole : Tightened → Bool → Did
+      whole y c = elim c [ true ↦ bounded x v r (y .state) | false ↦ did v Unchanged ]
+
+      at-change : (y : Tightened) → SameCursors (y .state) (stateAt v r) → (c : Bool) → StillDone ran (whole y c)
+      at-change y e true = one-done ran v r (y .state) _ _ i e h
+      at-change y e false = λ _. h
+
+      by : (y : Tightened) → SameCursors (y .state) (stateAt v r) → StillDone ran (whole y (y .changed))
+      by y e = at-change y e (y .changed)
+
+  -- A DRAINED CONDITION
+  conditions-done : (ran : ℕ → Bool) (value : Bool) (es : List Edge) → ((e : Edge) → List·Memᴰ e es → IsRow (x .rows) (e .row)) → (v : Live) → Done (x .rows) ran v
+      → StillDone ran (conditionFrom x value es v)
+  unfolding conditionFrom
+  conditions-done ran value [] are v h = λ _. h
+  conditions-done ran value (e ∷ es) are v h = by (λ w k. conditions-done ran value es (λ f m. are f (List·Memᴰ·tail m)) w k) (contradicts (d .step)) refl
+    where
+      d : Did
+      d = runRow x (withState v (e .row) (drained value (e .weight) (stateAt v (e .row)))) (e .row)
+
+      first : StillDone ran d
+      first = one-done ran v (e .row) (drained value (e .weight) (stateAt v (e .row))) _ _ (are e (List·Memᴰ·head refl)) (drained-cursors value (e .weight) (stateAt v (e .row))) h
+
+      ends : Bool → Did
+      ends b = elim b [ true ↦ did (d .live) Contradiction | false ↦ did (conditionFrom x value es (d .live) .live) (joined (d .step) (conditionFrom x value es (d .live) .step)) ]
+
+      by : ((w : Live) → Done (x .rows) ran w → StillDone ran (conditionFrom x value es w)) → (b : Bool) → contradicts (d .step) ≡ b → StillDone ran (ends b)
+      by later true f = λ c. absurd (clash true refl c)
+      by later false f = λ c. later (d .live) (first f) (joined-right (d .step) (conditionFrom x value es (d .live) .step) c)
+
+  pub condition-done : (ran : ℕ → Bool) (v : Live) (n : ℕ) → Done (x .rows) ran v → StillDone ran (thresholdCondition x v n)
+  unfolding thresholdCondition
+  condition-done ran v n h = conditions-done ran (bit (v .marks .sure) n) (edgesOf (x .rows) n) (λ e m. edge-term (x .rows) n e m .0) v h
+
+  -- BOUNDS HANDED ON
+  prefixes-from-done : (ran : ℕ → Bool) (row : ℕ) (source : State) (rs : List ℕ) → ((r : ℕ) → List·Memᴰ r rs → IsRow (x .rows) r) → (v : Live) → Done (x .rows) ran v
+      → StillDone ran (prefixesFrom x row source rs v)
+  unfolding prefixesFrom
+  prefixes-from-done ran row source [] are v h = λ _. h
+  prefixes-from-done ran row source (r ∷ rs) are v h = by (λ w k. prefixes-from-done ran row source rs (λ f m. are f (List·Memᴰ·tail m)) w k) (t .changed)
+    where
+      t : Tightened
+      t = movedState source (stateAt v r) (termCount x row) (termCount x r)
+
+      d : Did
+      d = runRow x (withDirty (withState v r (t .state)) r) r
+
+      first : StillDone ran d
+      first = one-done ran v r (t .state) _ _ (are r (List·Memᴰ·head refl)) (moved-cursors source (stateAt v r) (termCount x row) (termCount x r)) h
+
+      Later : Type 0
+      Later = (w : Live) → Done (x .rows) ran w → StillDone ran (prefixesFrom x row source rs w)
+
+      after : Bool → Did
+      after c = elim c [ true ↦ did (d .live) Contradiction | false ↦ did (prefixesFrom x row source rs (d .live) .live) (joined Changed (prefixesFrom x row source rs (d .live) .step)) ]
+
+      at-run : Later → (b : Bool) → contradicts (d .step) ≡ b → StillDone ran (after b)
+      at-run later true f = λ c. absurd (clash true refl c)
+      at-run later false f = λ c. later (d .live) (first f) (joined-right Changed (prefixesFrom x row source rs (d .live) .step) c)
+
+      by : Later → (b : Bool) → StillDone ran (elim b [ false ↦ prefixesFrom x row source rs v | true ↦ after (contradicts (d .step)) ])
+      by later true = at-run later (contradicts (d .step)) refl
+      by later false = later v h
+
+  pub prefixes-done : (ran : ℕ → Bool) (v : Live) (row : ℕ) → ((r : ℕ) → List·Memᴰ r (neighbours row (x .links)) → IsRow (x .rows) r) → Done (x .rows) ran v → StillDone ran (thresholdPrefixes x v row)
+  unfolding thresholdPrefixes
+  prefixes-done ran v row are h = prefixes-from-done ran row (stateAt v row) (neighbours row (x .links)) are v h

@@ -1,0 +1,325 @@
+-- WHAT MOVES BETWEEN ROWS FOLLOWS: a row that is run, a guard that is drained (rule 1) and bounds handed on over prefix links (rule 6)
+-- keep the invariant of Stands, and where one of them contradicts, a conflict follows from the start.
+use Prim.Native.Nat.{ℕ, _≤_, _<_}
+use native.Mathlib.Omega.{arith}
+use mathlib.Core.Path.{_≡_, refl, sym, ap, _∙_, subst}
+use mathlib.Core.Bool.{Bool, true, false, not, cond, _&&_, _||_}
+use mathlib.Core.List.{List, [], _∷_, _++_, append-nil, List·Memᴰ, List·Memᴰ·head, List·Memᴰ·tail}
+use mathlib.Core.Logic.{_⊎_, inl, inr, ⊎-elim}
+use lib.ListN.{length, getD, set, length-append}
+use lib.Dec.{leb}
+use lib.IntN.{ℤ}
+use lib.Signed.{leZ, ltZ, _≤ℤ_, _<ℤ_, ≤ℤ-refl}
+use borrow.Author.Tests.{leb-true}
+use Rattle.signed.specs.SignedLaws.{nle-ltZ}
+use Rattle.numeric.specs.Threshold.{Term, Threshold}
+use Rattle.state.specs.declared.Step.the-variants.{Unchanged, Changed, Contradiction}
+use Rattle.state.specs.declared.State.{State}
+use Rattle.state.specs.declared.Upper.{Upper}
+use Rattle.state.specs.declared.Upper.the-variants.{Open, Under}
+use Rattle.state.specs.Step.{joined, contradicts}
+use Rattle.state.specs.State.{upperAtMost, withLower, withUpper}
+use Rattle.words.specs.Mask.{bit}
+use Rattle.queues.specs.Marks.{Marks, isDecided, decide}
+use Rattle.queues.specs.Queue.{Rows}
+use Rattle.thresholds.specs.Rows.{Row, noRow, Guard, guard, rowNumber}
+use Rattle.prefixes.specs.Links.{neighbours}
+use Rattle.propagate.specs.declared.Tightened.{Tightened}
+use Rattle.propagate.specs.Row.{Ran, thresholdRow}
+use Rattle.propagate.specs.Told.{tight, guardState, movedLower, movedUpper, movedState, under}
+use Rattle.between.specs.Between.{Index, Live, live, stateAt, withState, withDirty, Did, did, runRow, runWith, bounded, thresholdGuard, termCount, prefixesFrom, thresholdPrefixes}
+use Rattle.table.specs.Table.{Table, IsRow, termsOf, Guards, IsPrefix, raiseLower, lowerUpper, AtRest, sure-guard, never-guard, longer-lower, shorter-upper}
+use Rattle.table.specs.OrderLaws.{lt, ≤ℤ-trans, <ℤ-≤ℤ, ≤ℤ-or-<ℤ, UpLe, up-refl, up-trans, le-or-below}
+use Rattle.table.specs.TableLaws.{Le}
+use Rattle.follows.specs.AnswersLaws.{clash, and-left, and-right, joined-which}
+use Rattle.follows.specs.DecideLaws.{tableOf, Broken, follows-below}
+use Rattle.follows.specs.RowLaws.{Fine, row-fine}
+use Rattle.follows.specs.CursorsLaws.{row-goes}
+use Rattle.follows.specs.StandsLaws.{tableAt, Apart, Stands, Stay, stay-same, stay-decide, stay-le, apart-decide, put-state, known-inside, possible-inside, restart, put-stands}
+
+-- An upper bound that lies above a number says no more than the number as a bound would.
+pub not-above : (z : ℤ) (y : Upper) → upperAtMost y z ≡ false → UpLe (Under z) y
+not-above z Open f = tt
+not-above z (Under b) f = <ℤ-≤ℤ (lt (nle-ltZ z b f))
+
+-- WHAT EVERY REST HAS by rules 1 and 6
+module _ (rows : List Row) (u : Table) (rest : AtRest rows u) where
+  pub rest-sure : (r : ℕ) (g : Guard) → Guards rows r g → u .sure (g .node) ≡ true → g .bound ≤ℤ u .lower r
+  rest-sure r g i e =
+      ⊎-elim (λ (k : g .bound ≤ℤ u .lower r). k) (λ (k : u .lower r <ℤ g .bound). absurd (rest .1 (raiseLower u r (g .bound)) (sure-guard r g i e k))) (≤ℤ-or-<ℤ (g .bound) (u .lower r))
+
+  pub rest-never : (r : ℕ) (g : Guard) → Guards rows r g → u .never (g .node) ≡ true → UpLe (u .upper r) (Under (g .bound))
+  rest-never r g i e =
+      ⊎-elim (λ (k : UpLe (u .upper r) (Under (g .bound))). k) (λ k. absurd (rest .1 (lowerUpper u r (Under (g .bound))) (never-guard r g i e k))) (le-or-below (u .upper r) (Under (g .bound)))
+
+  pub rest-longer : (r q : ℕ) → IsPrefix rows r q → u .lower r ≤ℤ u .lower q
+  rest-longer r q i =
+      ⊎-elim (λ (k : u .lower r ≤ℤ u .lower q). k) (λ (k : u .lower q <ℤ u .lower r). absurd (rest .1 (raiseLower u q (u .lower r)) (longer-lower r q i k))) (≤ℤ-or-<ℤ (u .lower r) (u .lower q))
+
+  pub rest-shorter : (r q : ℕ) → IsPrefix rows r q → UpLe (u .upper r) (u .upper q)
+  rest-shorter r q i =
+      ⊎-elim (λ (k : UpLe (u .upper r) (u .upper q)). k) (λ k. absurd (rest .1 (lowerUpper u r (u .upper q)) (shorter-upper r q i k))) (le-or-below (u .upper r) (u .upper q))
+
+-- of two rows of which one starts the other, the shorter starts the longer; equal rows start each other
+pub prefix-by : (rows : List Row) (r q : ℕ) → IsPrefix rows r q ⊎ IsPrefix rows q r → length (termsOf rows r) ≤ length (termsOf rows q) → IsPrefix rows r q
+prefix-by rows r q (inl i) h = i
+prefix-by rows r q (inr i) h = (i .1, i .0, ([], same (i .2 .0) (i .2 .1)))
+  where
+    none : (xs : List Term) → length xs ≤ 0 → xs ≡ []
+    none [] k = refl
+    none (x ∷ xs) k = absurd (let z : length (x ∷ xs) ≤ 0 = k in omega arith)
+
+    same : (rest : List Term) → termsOf rows r ≡ termsOf rows q ++ rest → termsOf rows q ≡ termsOf rows r ++ []
+    same rest e =
+        let l = length-append (termsOf rows q) rest in
+        let k : length (termsOf rows r) ≡ length (termsOf rows q ++ rest) = ap length e in
+        let n = none rest (omega arith) in
+        sym (e ∙ ap (λ (xs : List Term). termsOf rows q ++ xs) n ∙ append-nil (termsOf rows q)) ∙ sym (append-nil (termsOf rows r))
+
+no-contradiction : {A : Type 0} → contradicts Unchanged ≡ true → A
+no-contradiction h = absurd (clash true refl (sym h))
+
+module _ (x : Index) (drained : ℕ → ℕ → Bool) where
+  -- What each function keeps: the invariant, and where it contradicts, a conflict follows.
+  abbrev pub Kept : Table → Did → Type 0
+  Kept s d = Stands (x .rows) s drained (d .live) × (contradicts (d .step) ≡ true → Broken (x .rows) s)
+
+  -- A ROW RUN ONCE: rules 2 to 5
+  pub run-stands : (s : Table) (v : Live) (r : ℕ) → IsRow (x .rows) r → Stands (x .rows) s drained v → Kept s (runRow x v r)
+  unfolding runRow runWith
+  run-stands s v r i h = (
+    put-stands (x .rows) s drained v h r (a .state) (a .marks) (v .dirty) _ i (goes .known) (goes .possible) (f .0 .2 .0) (f .0 .2 .1)
+        (record {
+          sure = stay-le (v .marks) (a .marks) l u (f .0 .2 .0) .sure;
+          never = stay-le (v .marks) (a .marks) l u (f .0 .2 .0) .never;
+          lower = put-state (λ (q : ℕ) (t : State). l q ≤ℤ t .lower) (v .states) r (a .state) room (subst (λ (z : ℤ). l r ≤ℤ z) (sym (goes .lower)) (≤ℤ-refl (l r))) (λ q e. ≤ℤ-refl (l q));
+          upper = put-state (λ (q : ℕ) (t : State). UpLe (t .upper) (u q)) (v .states) r (a .state) room (subst (λ (z : Upper). UpLe z (u r)) (sym (goes .upper)) (up-refl (u r))) (λ q e. up-refl (u q));
+        })
+        (follows-below (x .rows) s (tableAt after) (tableOf (a .marks) l u) (f .0 .0)
+        (record {
+          sure = λ n e. e;
+          never = λ n e. e;
+          lower = put-state (λ (q : ℕ) (t : State). t .lower ≤ℤ l q) (v .states) r (a .state) room (subst (λ (z : ℤ). z ≤ℤ l r) (sym (goes .lower)) (≤ℤ-refl (l r))) (λ q e. ≤ℤ-refl (l q));
+          upper = put-state (λ (q : ℕ) (t : State). UpLe (u q) (t .upper)) (v .states) r (a .state) room (subst (λ (z : Upper). UpLe (u r) z) (sym (goes .upper)) (up-refl (u r))) (λ q e. up-refl (u q));
+        })),
+    f .1,
+  )
+    where
+      l : ℕ → ℤ
+      l q = stateAt v q .lower
+
+      u : ℕ → Upper
+      u q = stateAt v q .upper
+
+      row : Row
+      row = getD (x .rows) r noRow
+
+      a : Ran
+      a = thresholdRow row (stateAt v r) (v .marks)
+
+      after : Live
+      after = runRow x v r .live
+
+      room : r < length (v .states)
+      room = let z = h .sized in omega arith
+
+      goes : Rattle.propagate.specs.RowLaws.Moved (stateAt v r) (a .state)
+      goes = row-goes row (stateAt v r) (v .marks) .0
+
+      More : Marks → Type 0
+      More m = Stay (v .marks) m × Apart m
+
+      keeps : (value : Bool) (m : Marks) (n : ℕ) → More m → More (decide value m n .marks)
+      keeps value m n k = (stay-decide (v .marks) value m n (k .0), apart-decide value m n (k .1))
+
+      f : Fine (x .rows) s l u r i More keeps a
+      f = row-fine (x .rows) s l u r i More keeps (stateAt v r) (v .marks) (
+        h .follows,
+        record { known = known-inside (x .rows) s drained v h r i; possible = possible-inside (x .rows) s drained v h r i; lower = refl; upper = refl },
+        (stay-same (v .marks), h .apart),
+      )
+
+  -- A ROW'S BOUNDS PUT ANEW, as every rest has them
+  abbrev pub Tighter : Table → ℕ → State → State → Type 0
+  Tighter s r a b =
+      (b .known ≡ a .known) × (b .possible ≡ a .possible) × (a .lower ≤ℤ b .lower) × UpLe (b .upper) (a .upper)
+      × ((u : Table) → Le s u → AtRest (x .rows) u → (b .lower ≤ℤ u .lower r) × UpLe (u .upper r) (b .upper))
+
+  pub bound-stands : (s : Table) (v : Live) (r : ℕ) (st : State) (d q : Rows) → IsRow (x .rows) r → Stands (x .rows) s drained v
+      → Tighter s r (stateAt v r) st → Stands (x .rows) s drained (live (set (v .states) r st) (v .marks) d q)
+  bound-stands s v r st d q i h t =
+      put-stands (x .rows) s drained v h r st (v .marks) d q i (t .0) (t .1) (stay-same (v .marks)) (h .apart)
+      (record {
+        sure = λ n e. e;
+        never = λ n e. e;
+        lower = put-state (λ (k : ℕ) (b : State). stateAt v k .lower ≤ℤ b .lower) (v .states) r st room (t .2) (λ k e. ≤ℤ-refl (stateAt v k .lower));
+        upper = put-state (λ (k : ℕ) (b : State). UpLe (b .upper) (stateAt v k .upper)) (v .states) r st room (t .3) (λ k e. up-refl (stateAt v k .upper));
+      })
+      (λ u a rest. let f = h .follows u a rest in record {
+        sure = f .sure;
+        never = f .never;
+        lower = put-state (λ (k : ℕ) (b : State). b .lower ≤ℤ u .lower k) (v .states) r st room (t .4 u a rest .0) (λ k e. f .lower k);
+        upper = put-state (λ (k : ℕ) (b : State). UpLe (u .upper k) (b .upper)) (v .states) r st room (t .4 u a rest .1) (λ k e. f .upper k);
+      })
+    where
+      room : r < length (v .states)
+      room = let z = h .sized in omega arith
+
+  -- A DRAINED GUARD: rule 1, and the row is run
+  pub guard-stands : (s : Table) (v : Live) (t : Threshold) → Guards (x .rows) (rowNumber (x .rows) (t .terms)) (guard (t .bound) (t .node))
+      → isDecided (v .marks) (t .node) ≡ true → Stands (x .rows) s drained v → Kept s (thresholdGuard x v t)
+  unfolding thresholdGuard bounded withLower withUpper
+  guard-stands s v t i d h = by (bit (v .marks .sure) (t .node)) refl
+    where
+      r : ℕ
+      r = rowNumber (x .rows) (t .terms)
+
+      st : State
+      st = stateAt v r
+
+      whole : Tightened → Did
+      whole y = elim (y .changed) [ true ↦ bounded x v r (y .state) | false ↦ did v Unchanged ]
+
+      kept-by : (st′ : State) → Tighter s r st st′ → Kept s (bounded x v r st′)
+      kept-by st′ better = run-stands s _ r (i .0) (bound-stands s v r st′ _ _ (i .0) h better)
+
+      raised : bit (v .marks .sure) (t .node) ≡ true → (b : Bool) → leZ (t .bound) (st .lower) ≡ b → Kept s (whole (elim b [ true ↦ tight st false | false ↦ tight (withLower st (t .bound)) true ]))
+      raised e true f = (h, λ c. no-contradiction c)
+      raised e false f = kept-by (withLower st (t .bound)) (
+        refl,
+        refl,
+        <ℤ-≤ℤ (lt (nle-ltZ (st .lower) (t .bound) f)),
+        up-refl (st .upper),
+        λ u a rest. (rest-sure (x .rows) u rest r (guard (t .bound) (t .node)) i (h .follows u a rest .sure (t .node) e), h .follows u a rest .upper r),
+      )
+
+      is-never : bit (v .marks .sure) (t .node) ≡ false → bit (v .marks .never) (t .node) ≡ true
+      is-never e = ap (λ (b : Bool). b || bit (v .marks .never) (t .node)) (sym e) ∙ d
+
+      lowered : bit (v .marks .sure) (t .node) ≡ false → (b : Bool) → upperAtMost (st .upper) (t .bound) ≡ b → Kept s (whole (elim b [ true ↦ tight st false | false ↦ tight (withUpper st (Under (t .bound))) true ]))
+      lowered e true f = (h, λ c. no-contradiction c)
+      lowered e false f = kept-by (withUpper st (Under (t .bound))) (
+        refl,
+        refl,
+        ≤ℤ-refl (st .lower),
+        not-above (t .bound) (st .upper) f,
+        λ u a rest. (h .follows u a rest .lower r, rest-never (x .rows) u rest r (guard (t .bound) (t .node)) i (h .follows u a rest .never (t .node) (is-never e))),
+      )
+
+      by : (b : Bool) → bit (v .marks .sure) (t .node) ≡ b → Kept s (whole (guardState st b (t .bound)))
+      by true e = raised e (leZ (t .bound) (st .lower)) refl
+      by false e = lowered e (upperAtMost (st .upper) (t .bound)) refl
+
+  -- BOUNDS HANDED ON: rule 6, first the lower, then the upper
+  module _ (s : Table) (v : Live) (row r : ℕ) (source : State) (link : IsPrefix (x .rows) row r ⊎ IsPrefix (x .rows) r row)
+      (low : source .lower ≤ℤ stateAt v row .lower) (high : UpLe (stateAt v row .upper) (source .upper)) (h : Stands (x .rows) s drained v) where
+    moved-lower : Tighter s r (stateAt v r) (movedLower source (stateAt v r) (termCount x row) (termCount x r) .state)
+    unfolding withLower
+    moved-lower = by (leb (termCount x row) (termCount x r) && ltZ (stateAt v r .lower) (source .lower)) refl
+      where
+        by : (b : Bool) → (leb (termCount x row) (termCount x r) && ltZ (stateAt v r .lower) (source .lower)) ≡ b
+            → Tighter s r (stateAt v r) (cond b (tight (withLower (stateAt v r) (source .lower)) true) (tight (stateAt v r) false) .state)
+        by true e = (
+          refl,
+          refl,
+          <ℤ-≤ℤ (lt (and-right (leb (termCount x row) (termCount x r)) _ e)),
+          up-refl (stateAt v r .upper),
+          λ u a rest. (
+            ≤ℤ-trans low (≤ℤ-trans (h .follows u a rest .lower row)
+                (rest-longer (x .rows) u rest row r (prefix-by (x .rows) row r link (leb-true (termCount x row) (termCount x r) (and-left (leb (termCount x row) (termCount x r)) _ e))))),
+            h .follows u a rest .upper r,
+          ),
+        )
+        by false e = (refl, refl, ≤ℤ-refl (stateAt v r .lower), up-refl (stateAt v r .upper), λ u a rest. (h .follows u a rest .lower r, h .follows u a rest .upper r))
+
+    under-le : (a b : Upper) → under a b ≡ true → UpLe a b
+    under-le Open b e = absurd (clash false e refl)
+    under-le (Under a) Open e = tt
+    under-le (Under a) (Under b) e = by (leZ b a) refl e
+      where
+        by : (t : Bool) → leZ b a ≡ t → not t ≡ true → a ≤ℤ b
+        by true f g = absurd (clash false g refl)
+        by false f g = <ℤ-≤ℤ (lt (nle-ltZ a b f))
+
+    turned : IsPrefix (x .rows) row r ⊎ IsPrefix (x .rows) r row → IsPrefix (x .rows) r row ⊎ IsPrefix (x .rows) row r
+    turned (inl i) = inr i
+    turned (inr i) = inl i
+
+    moved-upper : (t : Tightened) → Tighter s r (stateAt v r) (t .state) → Tighter s r (stateAt v r) (movedUpper source t (termCount x row) (termCount x r) .state)
+    unfolding withUpper
+    moved-upper t k = by (leb (termCount x r) (termCount x row) && under (source .upper) (t .state .upper)) refl
+      where
+        by : (b : Bool) → (leb (termCount x r) (termCount x row) && under (source .upper) (t .state .upper)) ≡ b
+            → Tighter s r (stateAt v r) (cond b (tight (withUpper (t .state) (source .upper)) true) t .state)
+        by true e = (
+          k .0,
+          k .1,
+          k .2,
+          up-trans (source .upper) (t .state .upper) (stateAt v r .upper) (under-le (source .upper) (t .state .upper) (and-right (leb (termCount x r) (termCount x row)) _ e)) (k .3),
+          λ u a rest. (
+            k .4 u a rest .0,
+            up-trans (u .upper r) (u .upper row) (source .upper)
+                (rest-shorter (x .rows) u rest r row (prefix-by (x .rows) r row (turned link) (leb-true (termCount x r) (termCount x row) (and-left (leb (termCount x r) (termCount x row)) _ e))))
+                (up-trans (u .upper row) (stateAt v row .upper) (source .upper) (h .follows u a rest .upper row) high),
+          ),
+        )
+        by false e = k
+
+    pub moved-tighter : Tighter s r (stateAt v r) (movedState source (stateAt v r) (termCount x row) (termCount x r) .state)
+    moved-tighter = moved-upper (movedLower source (stateAt v r) (termCount x row) (termCount x r)) moved-lower
+
+    isRow : IsRow (x .rows) r
+    isRow = ⊎-elim (λ (i : IsPrefix (x .rows) row r). i .1) (λ (i : IsPrefix (x .rows) r row). i .0) link
+
+    -- one neighbour that takes a bound, and is run
+    pub neighbour-stands : Kept s (runRow x (withDirty (withState v r (movedState source (stateAt v r) (termCount x row) (termCount x r) .state)) r) r)
+    neighbour-stands = run-stands s _ r isRow (bound-stands s v r _ _ _ isRow h moved-tighter)
+
+  -- the neighbours one after the other: the row that hands on keeps its bounds or betters them
+  prefixes-from : (s : Table) (row : ℕ) (source : State) (rs : List ℕ) → ((r : ℕ) → List·Memᴰ r rs → IsPrefix (x .rows) row r ⊎ IsPrefix (x .rows) r row)
+      → (v : Live) → source .lower ≤ℤ stateAt v row .lower → UpLe (stateAt v row .upper) (source .upper) → Stands (x .rows) s drained v → Kept s (prefixesFrom x row source rs v)
+  unfolding prefixesFrom
+  prefixes-from s row source [] links v low high h = (h, λ c. no-contradiction c)
+  prefixes-from s row source (r ∷ rs) links v low high h =
+      by (λ w a b k. prefixes-from s row source rs (λ q j. links q (List·Memᴰ·tail j)) w a b k) (t .changed)
+    where
+      Later : Type 0
+      Later = (w : Live) → source .lower ≤ℤ stateAt w row .lower → UpLe (stateAt w row .upper) (source .upper) → Stands (x .rows) s drained w → Kept s (prefixesFrom x row source rs w)
+
+      t : Tightened
+      t = movedState source (stateAt v r) (termCount x row) (termCount x r)
+
+      d : Did
+      d = runRow x (withDirty (withState v r (t .state)) r) r
+
+      link : IsPrefix (x .rows) row r ⊎ IsPrefix (x .rows) r row
+      link = links r (List·Memᴰ·head refl)
+
+      one : Kept s d
+      one = neighbour-stands s v row r source link low high h
+
+      -- the same from the live state itself: what stood there stands still
+      grown : Le (tableAt v) (tableAt (d .live))
+      grown = neighbour-stands (tableAt v) v row r source link low high (restart (x .rows) s drained v h) .0 .above
+
+      more : Later → Kept s (prefixesFrom x row source rs (d .live))
+      more later = later (d .live)
+          (≤ℤ-trans low (grown .lower row)) (up-trans (stateAt (d .live) row .upper) (stateAt v row .upper) (source .upper) (grown .upper row) high) (one .0)
+
+      ran : Bool → Did
+      ran c = elim c [ true ↦ did (d .live) Contradiction | false ↦ did (prefixesFrom x row source rs (d .live) .live) (joined Changed (prefixesFrom x row source rs (d .live) .step)) ]
+
+      at-run : Later → (c : Bool) → contradicts (d .step) ≡ c → Kept s (ran c)
+      at-run later true e = (one .0, λ _. one .1 e)
+      at-run later false e = (more later .0, λ c. more later .1 (joined-which Changed (prefixesFrom x row source rs (d .live) .step) refl c))
+
+      by : Later → (c : Bool) → Kept s (elim c [ false ↦ prefixesFrom x row source rs v | true ↦ ran (contradicts (d .step)) ])
+      by later true = at-run later (contradicts (d .step)) refl
+      by later false = later v low high h
+
+  -- A ROW HANDS ON ITS BOUNDS to rows that it starts or that start it
+  pub prefixes-stand : (s : Table) (v : Live) (row : ℕ) → ((r : ℕ) → List·Memᴰ r (neighbours row (x .links)) → IsPrefix (x .rows) row r ⊎ IsPrefix (x .rows) r row)
+      → Stands (x .rows) s drained v → Kept s (thresholdPrefixes x v row)
+  unfolding thresholdPrefixes
+  prefixes-stand s v row links h =
+      prefixes-from s row (stateAt v row) (neighbours row (x .links)) links v (≤ℤ-refl (stateAt v row .lower)) (up-refl (stateAt v row .upper)) h

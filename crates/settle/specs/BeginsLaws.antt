@@ -1,0 +1,138 @@
+-- A mark and a seal: what the code puts together is the definition's, and with them all is such that draining can begin. Assumes nothing.
+use Prim.Native.Nat.{ℕ, zero, suc, _+_, _-_, _<_, _≤_}
+use native.Mathlib.Omega.{arith}
+use mathlib.Core.Path.{_≡_, ap, _∙_}
+use mathlib.Core.Bool.{Bool, true, false, cond}
+use mathlib.Core.List.{List, [], _∷_}
+use lib.ListN.{length, getD}
+use lib.IntN.{ℤ}
+use Rattle.memory.specs.Limits.{maxNodes, maxTerms, totalLimit, figureLimit}
+use Rattle.memory.specs.Buffers.{HeldRows, Built}
+use Rattle.state.specs.declared.State.{State}
+use Rattle.state.specs.declared.Step.{Step}
+use Rattle.state.specs.declared.Step.the-variants.{Unchanged, Contradiction}
+use Rattle.state.specs.Step.{joined, contradicts}
+use Rattle.queues.specs.Queue.{Rows}
+use Rattle.queues.specs.RowsLaws.{Flags}
+use Rattle.queues.specs.Marks.{Marks, Decided, decided, decide}
+use Rattle.queues.specs.MarksLaws.{Waits, waits-decide}
+use Rattle.thresholds.specs.Rows.{Row, noRow}
+use Rattle.between.specs.Between.{Index, Live, live, Did, did, runRow, firstStates, seedFrom}
+use Rattle.between.specs.Held.{startBy, endBy, EdgesShaped, Shaped, Holds}
+use Rattle.between.specs.Ready.{Ready}
+use Rattle.between.specs.ReadyLaws.{ready-states}
+use Rattle.between.specs.FirstLaws.{Totals, ready-first}
+use Rattle.between.specs.KeptLaws.{kept-seed}
+use Rattle.regions.specs.Drain.{withMarks, mark, seal}
+use Rattle.ends.specs.TurnsLaws.{Sound}
+use Rattle.ends.specs.BuiltLaws.{seal-stays}
+use Rattle.follows.specs.RowCompleteLaws.{Ordered}
+use Rattle.follows.specs.WaitingLaws.{queued-decide}
+use Rattle.follows.specs.KeepsLaws.{Names}
+use Rattle.settle.specs.Serves.{Serves, owed, Tracked, Going}
+use Rattle.settle.specs.KeepingLaws.{low-decide, tracked-run}
+
+-- ---- a mark
+
+pub mark-is : (value : Bool) (v : Live) (n : ℕ) (m : Marks) (k : Step) → decided m k ≡ decide value (v .marks) n → did (withMarks v m) k ≡ mark v n value
+unfolding mark
+mark-is value v n m k e = ap (λ (d : Decided). did (withMarks v (d .marks)) (d .step)) e
+
+pub going-mark : (b : Built) (v : Live) (value : Bool) (n : ℕ) → n < maxNodes → n < length (b .nodes) → Going (b .held) (b .nodes) v → Going (b .held) (b .nodes) (mark v n value .live)
+unfolding mark
+going-mark b v value n h k g =
+    let s = g .sound in
+    let w = g .within in
+    let a = waits-decide (v .marks) (s .waits) value n h in
+    record {
+      sound = record { long = s .long; states = s .states; waits = a; dirty = s .dirty; residuals = s .residuals };
+      within = record {
+        taken = w .taken;
+        tracked = record { queued = queued-decide (w .taken) value (v .marks) n h (w .tracked .queued); low = low-decide (length (b .nodes)) value (v .marks) n k (w .tracked .low); dirty = w .tracked .dirty; residuals = w .tracked .residuals };
+        range = w .range;
+        runnable = record { ready = record { long = w .runnable .ready .long; fit = w .runnable .ready .fit; waits = a; flags = w .runnable .ready .flags }; dirty = w .runnable .dirty };
+        room = w .room;
+      };
+    }
+
+-- ---- a seal
+
+-- Totals so far inside the range that all edges can be drained.
+pub totals-more : (n k : ℕ) (cs ws : List ℕ) (rows : List (List ℕ)) → n ≤ k → Totals n cs ws rows → Totals k cs ws rows
+totals-more n k cs ws rows l t r h = omega (arith, t r h)
+
+pub seal-ready : (x : Index) (h : HeldRows) → Holds x h → Shaped h → Totals totalLimit (h .row-conditions) (h .row-weights) (h .rows) → (ss ss′ : List State) → length (h .rows) ≤ length ss
+    → ss′ ≡ firstStates 0 (x .rows) ss → (m : Marks) → Waits m → (q : Rows) → Flags q → Ready h figureLimit ss′ m q
+seal-ready x h z y t ss ss′ l e m w q f =
+    ready-states h figureLimit (firstStates 0 (x .rows) ss) ss′ m q e
+    (ready-first x h z y figureLimit (totals-more totalLimit figureLimit (h .row-conditions) (h .row-weights) (h .rows) (omega arith) t) ss l m w q f)
+
+pub seal-is : (x : Index) (v : Live) (ss : List State) → ss ≡ firstStates 0 (x .rows) (v .states) → (o : Did)
+    → o ≡ seedFrom x 0 (x .rows) (live ss (v .marks) (v .dirty) (v .residuals)) Unchanged → o ≡ seal x v
+unfolding seal
+seal-is x v ss e o made = made ∙ ap (λ (s : List State). seedFrom x 0 (x .rows) (live s (v .marks) (v .dirty) (v .residuals)) Unchanged) e
+
+-- All edges together are no more than there are.
+at-most : (b : Bool) (n : ℕ) → _≤_ (cond b 0 n) n
+at-most true n = omega arith
+at-most false n = omega arith
+
+module _ (h : HeldRows) (nodes edges : List (List ℕ)) (y : EdgesShaped h nodes edges) (taken : ℕ → Bool) where
+  owed-start : (k : ℕ) → k ≤ length nodes → owed nodes taken k ≤ startBy 2 nodes k
+  unfolding owed startBy
+  owed-start zero l = omega arith
+  owed-start (suc k) l = omega (arith, owed-start k (omega arith), at-most (taken k) (endBy 2 nodes k - startBy 2 nodes k), y .inside .rising k (omega arith))
+
+  start-most : (k : ℕ) → k ≤ length nodes → startBy 2 nodes k ≤ maxTerms
+  unfolding startBy
+  start-most zero l = omega arith
+  start-most (suc k) l = omega (arith, y .inside .ends k (omega arith), y .few)
+
+  pub owed-most : owed nodes taken (length nodes) ≤ maxTerms
+  owed-most = omega (arith, owed-start (length nodes) (omega arith), start-most (length nodes) (omega arith))
+
+tracked-seed : (x : Index) (count n : ℕ) (taken : ℕ → Bool) → ((r : ℕ) → r < length (x .rows) → Ordered (getD (x .rows) r noRow)) → ((r : ℕ) → r < length (x .rows) → Names (λ (i : ℕ). i < count) (getD (x .rows) r noRow))
+    → (r : ℕ) (rs : List Row) (v : Live) (k : Step) → r + length rs ≤ n → Tracked count n taken v → Tracked count n taken (seedFrom x r rs v k .live)
+unfolding seedFrom
+tracked-seed x count n taken o a r [] v k l t = t
+tracked-seed x count n taken o a r (_ ∷ rs) v k l t = by (λ u j p. tracked-seed x count n taken o a (r + 1) rs u j (omega arith) p) (contradicts (runRow x v r .step))
+  where
+    first : Tracked count n taken (runRow x v r .live)
+    first = tracked-run x count n taken o a v r (omega arith) t
+
+    by : ((u : Live) (j : Step) → Tracked count n taken u → Tracked count n taken (seedFrom x (r + 1) rs u j .live)) → (c : Bool)
+        → let d : Did = elim c [ true ↦ did (runRow x v r .live) Contradiction | false ↦ seedFrom x (r + 1) rs (runRow x v r .live) (joined k (runRow x v r .step)) ] in Tracked count n taken (d .live)
+    by more true = first
+    by more false = more (runRow x v r .live) (joined k (runRow x v r .step)) first
+
+-- Memory that can be sealed: every decided node waits once, and none was drained.
+pub record Fresh (b : Built) (v : Live) : Type 0 where
+  pub sound : Sound v
+  pub tracked : Tracked (length (b .nodes)) (length (b .held .rows)) (λ (n : ℕ). false) v
+
+-- SEALING FRESH MEMORY, all is such that draining can begin.
+pub going-seal : (x : Index) (bounds : List ℤ) (b : Built) → Serves x bounds b → Totals totalLimit (b .held .row-conditions) (b .held .row-weights) (b .held .rows) → (v : Live) → Fresh b v
+    → Going (b .held) (b .nodes) (seal x v .live)
+unfolding seal
+going-seal x bounds b s t v f = record {
+  sound = seal-stays x (s .indexed) (omega (arith, s .holds .many, s .shaped .few)) v (f .sound);
+  within = record {
+    taken = none;
+    tracked = tracked-seed x (length (b .nodes)) (length (b .held .rows)) none (s .ordered) (s .names) 0 (x .rows) first Unchanged (omega (arith, s .holds .many))
+        (record { queued = f .tracked .queued; low = f .tracked .low; dirty = f .tracked .dirty; residuals = f .tracked .residuals });
+    range = totalLimit;
+    runnable = kept-seed x (b .held) (s .holds) (s .shaped) totalLimit 0 (x .rows) first Unchanged (omega (arith, s .holds .many))
+        (record {
+          ready = ready-first x (b .held) (s .holds) (s .shaped) totalLimit t (v .states) (omega (arith, s .shaped .few, f .sound .long)) (v .marks) (f .sound .waits)
+              (v .residuals) (f .sound .residuals);
+          dirty = f .sound .dirty;
+        });
+    room = omega (arith, owed-most (b .held) (b .nodes) (b .edges) (s .edged) none);
+  };
+}
+  where
+    none : ℕ → Bool
+    none n = false
+
+    first : Live
+    first = live (firstStates 0 (x .rows) (v .states)) (v .marks) (v .dirty) (v .residuals)

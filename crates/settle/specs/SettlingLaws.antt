@@ -1,0 +1,105 @@
+-- The loop of `settle`: what holds between two turns. Turns never run out, since each leaves less to do than there are turns left.
+-- Assumes nothing.
+use Prim.Native.Nat.{ℕ, zero, suc, _<_}
+use native.Mathlib.Nat.{not-suc-le-zero}
+use native.Mathlib.Omega.{arith}
+use mathlib.Core.Path.{_≡_, refl, sym, ap, subst, _∙_}
+use mathlib.Core.Bool.{Bool, true, false, not, _&&_}
+use mathlib.Core.List.{List}
+use lib.Dec.{eqb}
+use borrow.Author.Tests.{eq-eqb, ne-eqb, eqb-false}
+use lib.IntN.{ℤ}
+use Rattle.memory.specs.Buffers.{Built}
+use Rattle.state.specs.declared.Step.{Step}
+use Rattle.state.specs.declared.Step.the-variants.{Unchanged}
+use Rattle.state.specs.Step.{joined, contradicts}
+use Rattle.between.specs.Between.{Index, Live, Did, did}
+use Rattle.regions.specs.Drain.{turn, atRest, drain, turns, settle}
+use Rattle.ends.specs.TurnsLaws.{left, left-most}
+use Rattle.ends.specs.SettlesLaws.{fall-turn}
+use Rattle.settle.specs.Serves.{Serves, Going}
+use Rattle.settle.specs.TurnLaws.{going-turn}
+
+-- So many turns from here are all turns from the start, and more than can be taken.
+abbrev Rest : Index → Live → Step → Live → Type 0
+Rest x v₀ k v = (n : ℕ) × (left v < n) × (drain n x v k ≡ settle x v₀)
+
+pub record Settling (bounds : List ℤ) (b : Built) (v₀ : Live) (k : Step) (v : Live) : Type 0 where
+  pub going : Going (b .held) (b .nodes) v
+  pub whole : (x : Index) → Serves x bounds b → Rest x v₀ k v
+
+abbrev goes : Index → ℕ → Live → Step → Did → Bool → Bool → Did
+goes x n v k t rest contradiction = elim rest [ true ↦ did v k | false ↦ elim contradiction [ true ↦ t | false ↦ drain n x (t .live) (joined k (t .step)) ] ]
+
+drain-goes : (x : Index) (n : ℕ) (v : Live) (k : Step) (a c : Bool) → atRest v ≡ a → contradicts (turn x v .step) ≡ c → drain (suc n) x v k ≡ goes x n v k (turn x v) a c
+unfolding drain
+drain-goes x n v k a c e f = ap (λ (i : Bool). goes x n v k (turn x v) i (contradicts (turn x v .step))) e ∙ ap (goes x n v k (turn x v) a) f
+
+pub settling-first : (bounds : List ℤ) (b : Built) (v₀ : Live) → Going (b .held) (b .nodes) v₀ → Settling bounds b v₀ Unchanged v₀
+settling-first bounds b v₀ g = record { going = g; whole = λ x s. (turns, left-most v₀ (g .sound), refl) }
+
+module _ (bounds : List ℤ) (b : Built) (v₀ : Live) (k : Step) (v : Live) (l : Settling bounds b v₀ k v) where
+  -- Nothing waits.
+  pub settling-end : atRest v ≡ true → (x : Index) → Serves x bounds b → did v k ≡ settle x v₀
+  settling-end e x s = let a = l .whole x s in by (a .0) (a .1) (a .2)
+    where
+      by : (n : ℕ) → left v < n → drain n x v k ≡ settle x v₀ → did v k ≡ settle x v₀
+      by zero h q = absurd (not-suc-le-zero h)
+      by (suc n) h q = sym (drain-goes x n v k true (contradicts (turn x v .step)) e refl) ∙ q
+
+  -- A turn was taken.
+  module _ (e : atRest v ≡ false) (o : Did) (made : (x : Index) → Serves x bounds b → o ≡ turn x v) where
+    pub settling-stop : contradicts (o .step) ≡ true → (x : Index) → Serves x bounds b → o ≡ settle x v₀
+    settling-stop c x s = let a = l .whole x s in by (a .0) (a .1) (a .2)
+      where
+        by : (n : ℕ) → left v < n → drain n x v k ≡ settle x v₀ → o ≡ settle x v₀
+        by zero h q = absurd (not-suc-le-zero h)
+        by (suc n) h q = made x s ∙ sym (drain-goes x n v k false true e (ap (λ (t : Did). contradicts (t .step)) (sym (made x s)) ∙ c)) ∙ q
+
+    pub settling-less : (x : Index) → Serves x bounds b → left (o .live) < left v
+    settling-less x s = subst (λ (t : Did). left (t .live) < left v) (sym (made x s)) (fall-turn x (s .indexed) v (l .going .sound) e .1)
+
+    pub settling-next : (x : Index) → Serves x bounds b → contradicts (o .step) ≡ false → (j : Step) → j ≡ joined k (o .step) → Settling bounds b v₀ j (o .live)
+    settling-next z t c j i = record {
+      going = subst (λ (d : Did). Going (b .held) (b .nodes) (d .live)) (sym (made z t)) (going-turn z bounds b t v (l .going) e);
+      whole = λ x s. let a = l .whole x s in by x s (a .0) (a .1) (a .2);
+    }
+      where
+        by : (x : Index) → Serves x bounds b → (n : ℕ) → left v < n → drain n x v k ≡ settle x v₀ → Rest x v₀ j (o .live)
+        by x s zero h q = absurd (not-suc-le-zero h)
+        by x s (suc n) h q = (
+          n,
+          omega (arith, settling-less x s),
+          ap (λ (m : Step). drain n x (o .live) m) i ∙ ap (λ (d : Did). drain n x (d .live) (joined k (d .step))) (made x s)
+              ∙ sym (drain-goes x n v k false false e (ap (λ (d : Did). contradicts (d .step)) (sym (made x s)) ∙ c)) ∙ q,
+        )
+
+-- ---- what can be drained stays such
+
+module _ (x : Index) (bounds : List ℤ) (b : Built) (s : Serves x bounds b) where
+  abbrev drains : ℕ → Live → Step → Bool → Bool → Did
+  drains n v k rest contradiction = elim rest [ true ↦ did v k | false ↦ elim contradiction [ true ↦ turn x v | false ↦ drain n x (turn x v .live) (joined k (turn x v .step)) ] ]
+
+  going-drain : (n : ℕ) (v : Live) (k : Step) → Going (b .held) (b .nodes) v → Going (b .held) (b .nodes) (drain n x v k .live)
+  unfolding drain
+  going-drain zero v k g = g
+  going-drain (suc n) v k g = by (λ u j h. going-drain n u j h) (atRest v) refl (contradicts (turn x v .step))
+    where
+      by : ((u : Live) (j : Step) → Going (b .held) (b .nodes) u → Going (b .held) (b .nodes) (drain n x u j .live)) → (a : Bool) → atRest v ≡ a → (c : Bool) → Going (b .held) (b .nodes) (drains n v k a c .live)
+      by more true e c = g
+      by more false e true = going-turn x bounds b s v g e
+      by more false e false = more (turn x v .live) (joined k (turn x v .step)) (going-turn x bounds b s v g e)
+
+  pub going-settle : (v : Live) → Going (b .held) (b .nodes) v → Going (b .held) (b .nodes) (settle x v .live)
+  going-settle v g = going-drain turns v Unchanged g
+
+-- Where something waits but no node does, a row does.
+pub row-waits : (a c : ℕ) → (eqb a 0 && eqb c 0) ≡ false → a ≡ 0 → 0 < c
+row-waits a c h e = omega (arith, eqb-false c 0 (sym (ap (λ (b : Bool). b && eqb c 0) (eq-eqb a 0 e)) ∙ h))
+
+-- Something waits: a node, or, where none does, a row.
+pub waits-node : (a c : ℕ) → (a ≡ 0 → ⊥) → true ≡ not (eqb a 0 && eqb c 0)
+waits-node a c h = ap (λ (b : Bool). not (b && eqb c 0)) (sym (ne-eqb a 0 h))
+
+pub waits-rows : (a c : ℕ) → a ≡ 0 → not (eqb c 0) ≡ not (eqb a 0 && eqb c 0)
+waits-rows a c h = ap (λ (b : Bool). not (b && eqb c 0)) (sym (eq-eqb a 0 h))

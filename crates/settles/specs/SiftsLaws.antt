@@ -1,0 +1,147 @@
+-- A MARK keeps the invariant with one node more in its start, and A SIFTING keeps it from the nodes that are decided after it: what
+-- it decides beyond the rules is a start like any other.
+use Prim.Native.Nat.{ℕ, zero, suc, _<_}
+use mathlib.Core.Path.{_≡_, refl, sym, ap, subst}
+use mathlib.Core.Bool.{Bool, true, false, not}
+use mathlib.Core.List.{List}
+use mathlib.Core.Logic.{⊎-elim}
+use lib.ListN.{getD}
+use Rattle.memory.specs.Limits.{maxNodes}
+use Rattle.numeric.specs.Threshold.{Term, Job}
+use Rattle.state.specs.declared.Step.{Step}
+use Rattle.state.specs.declared.Step.the-variants.{Unchanged}
+use Rattle.state.specs.Step.{contradicts, isUnchanged}
+use Rattle.words.specs.Mask.{bit}
+use Rattle.queues.specs.Queue.{Rows, isEmpty, oldest, nextRow}
+use Rattle.queues.specs.Marks.{Marks, isDecided, Decided, decide}
+use Rattle.queues.specs.MarksLaws.{decide-new}
+use Rattle.thresholds.specs.Rows.{noRow}
+use Rattle.residual.specs.Residual.{Residual, thresholdResidual}
+use Rattle.possible_sums.specs.Search.{search, searchStep, searchVisits}
+use Rattle.between.specs.Between.{Index, Live, live, stateAt}
+use Rattle.regions.specs.Drain.{indexOf, mark, turns, settle}
+use Rattle.regions.specs.Sift.{Sifted, sifted, tryRow, siftFrom, sift}
+use Rattle.ends.specs.KeepsLaws.{keeps-residual}
+use Rattle.ends.specs.TurnsLaws.{Indexed}
+use Rattle.ends.specs.SettlesLaws.{tries}
+use Rattle.ends.specs.BuiltLaws.{Fits, indexed}
+use Rattle.table.specs.Table.{Table, start}
+use Rattle.follows.specs.AnswersLaws.{true-false, clash}
+use Rattle.follows.specs.DecideLaws.{decideAs}
+use Rattle.follows.specs.StandsLaws.{decide-nothing, not-decided}
+use Rattle.follows.specs.StartLaws.{mark-leads, restarted}
+use Rattle.settles.specs.JobsLaws.{Rises, job-built, job-ordered, job-single}
+use Rattle.settles.specs.TurnedLaws.{Steady, Goes, settle-goes}
+use Rattle.settles.specs.SealsLaws.{ownStart}
+
+-- A MARK
+pub mark-goes : (x : Index) (s : Table) (v : Live) (n : ℕ) (value : Bool) → n < maxNodes → Steady x s v → Goes x (decideAs value s n) (mark v n value)
+unfolding mark
+mark-goes x s v n value small (l, e, h) = let a = mark-leads x s l v h value n small in (λ c. (l, e, a .0 c), a .1)
+
+-- The nodes decided so far as a new start.
+pub steady-own : (x : Index) (sure never : ℕ → Bool) (v : Live) → Steady x (start sure never) v → Steady x (ownStart v) v
+steady-own x sure never v (l, e, h) = (l, e, restarted x sure never l v h)
+
+-- Rows that wait for a residual play no part.
+other-residuals : (x : Index) (s : Table) (v : Live) (q : Rows) → Steady x s v → Steady x s (live (v .states) (v .marks) (v .dirty) q)
+other-residuals x s v q (l, e, h) = (
+  l,
+  e,
+  record {
+    stands = record {
+      sized = h .stands .sized;
+      above = record { sure = h .stands .above .sure; never = h .stands .above .never; lower = h .stands .above .lower; upper = h .stands .above .upper };
+      follows = λ u a rest. let f = h .stands .follows u a rest in record { sure = f .sure; never = f .never; lower = f .lower; upper = f .upper };
+      apart = h .stands .apart;
+      decided = h .stands .decided;
+      known = h .stands .known;
+      possible = h .stands .possible;
+    };
+    done = record { sized = h .done .sized; passed = h .done .passed; complete = h .done .complete; free = h .done .free };
+    told = record { decided = h .told .decided; sure = h .told .sure; never = h .told .never };
+    handed = record { sized = h .handed .sized; flags = h .handed .flags; handed = h .handed .handed };
+    queued = h .queued;
+  },
+)
+
+-- What the marks are part of, as they change.
+abbrev Own : Index → Live → Marks → Type 0
+Own x v m = Steady x (start (bit (m .sure)) (bit (m .never))) (live (v .states) m (v .dirty) (v .residuals))
+
+-- one more node decided, by whatever reason
+own-decide : (x : Index) (v : Live) (m : Marks) (value : Bool) (n : ℕ) → n < maxNodes → Own x v m → Own x v (decide value m n .marks)
+unfolding mark
+own-decide x v m value n small h =
+    ⊎-elim (λ (d : isDecided m n ≡ true). subst (Own x v) (sym (decide-nothing value m n d)) h) (λ (d : isDecided m n ≡ false). by value d) (true-false (isDecided m n))
+  where
+    w : Live
+    w = live (v .states) m (v .dirty) (v .residuals)
+
+    fine : (b : Bool) → isDecided m n ≡ false → contradicts (decide b m n .step) ≡ false
+    fine b d = ap (λ (y : Decided). contradicts (y .step)) (decide-new b m n (not-decided m n d b) (not-decided m n d (not b)))
+
+    by : (b : Bool) → isDecided m n ≡ false → Own x v (decide b m n .marks)
+    by true d = steady-own x _ _ (live (v .states) (decide true m n .marks) (v .dirty) (v .residuals)) (mark-goes x (start (bit (m .sure)) (bit (m .never))) w n true small h .0 (fine true d))
+    by false d = steady-own x _ _ (live (v .states) (decide false m n .marks) (v .dirty) (v .residuals)) (mark-goes x (start (bit (m .sure)) (bit (m .never))) w n false small h .0 (fine false d))
+
+-- A ROW IS TRIED
+try-keeps : (x : Index) → Indexed x → (v : Live) (gcds : List ℕ) (visits : ℕ) → Steady x (ownStart v) v
+    → let w = tryRow x v gcds visits .live in Steady x (ownStart w) w
+unfolding tryRow
+try-keeps x ix v gcds visits h = by (isUnchanged (a .step))
+  where
+    r : ℕ
+    r = oldest (v .residuals .queue)
+
+    ts : List Term
+    ts = getD (x .rows) r noRow .terms
+
+    a : Residual
+    a = thresholdResidual ts (stateAt v r) (v .marks) gcds
+
+    w : Live
+    w = live (v .states) (a .marks) (v .dirty) (nextRow (v .residuals))
+
+    own : Own x v (a .marks)
+    own = keeps-residual (Own x v) (λ m value n small p. own-decide x v m value n small p) ts (stateAt v r) (v .marks) gcds (ix .conditions r) h
+
+    kept : Steady x (ownStart w) w
+    kept = other-residuals x (ownStart w) (live (v .states) (a .marks) (v .dirty) (v .residuals)) (nextRow (v .residuals)) own
+
+    by : (b : Bool)
+        → let d : Sifted = elim b [
+          | true ↦ sifted w (a .gcds) (searchStep (search ts (stateAt v r) (isDecided (a .marks)))) (searchVisits visits (search ts (stateAt v r) (isDecided (a .marks))))
+          | false ↦ sifted w (a .gcds) (a .step) visits
+        ] in Steady x (ownStart (d .live)) (d .live)
+    by true = kept
+    by false = kept
+
+-- A SIFTING
+module _ (j : Job) (f : Fits j) (rises : Rises (j .thresholds)) where
+  abbrev x : Index
+  x = indexOf j
+
+  settle-keeps : (v : Live) → Steady x (ownStart v) v → contradicts (settle x v .step) ≡ false → let w = settle x v .live in Steady x (ownStart w) w
+  settle-keeps v h c = steady-own x _ _ (settle x v .live) (settle-goes j x (job-built j) (job-ordered j f) (job-single j rises) (ownStart v) v h .0 c)
+
+  abbrev Fine : Sifted → Type 0
+  Fine d = contradicts (d .step) ≡ false → Steady x (ownStart (d .live)) (d .live)
+
+  sift-from : (n : ℕ) (v : Live) (gcds : List ℕ) (k : Step) (visits : ℕ) → Steady x (ownStart v) v → Fine (siftFrom n x v gcds k visits)
+  unfolding siftFrom
+  sift-from zero v gcds k visits h = λ c. h
+  sift-from (suc n) v gcds k visits h =
+      by (λ u g i m t. sift-from n u g i m t) (contradicts (settle x v .step)) refl (isEmpty (settle x v .live .residuals .queue))
+      (contradicts (tryRow x (settle x v .live) gcds visits .step)) refl
+    where
+      by : ((u : Live) (g : List ℕ) (i : Step) (m : ℕ) → Steady x (ownStart u) u → Fine (siftFrom n x u g i m))
+          → (a : Bool) → contradicts (settle x v .step) ≡ a → (b c : Bool) → contradicts (tryRow x (settle x v .live) gcds visits .step) ≡ c → Fine (tries x n v gcds k visits a b c)
+      by ih true p b c q o = absurd (clash true refl o)
+      by ih false p true c q o = settle-keeps v h p
+      by ih false p false true q o = absurd (clash (contradicts (tryRow x (settle x v .live) gcds visits .step)) q o)
+      by ih false p false false q o = ih _ _ _ _ (try-keeps x (indexed j f) (settle x v .live) gcds visits (settle-keeps v h p)) o
+
+  pub sift-keeps : (v : Live) (gcds : List ℕ) → Steady x (ownStart v) v → contradicts (sift x v gcds .step) ≡ false
+      → let w = sift x v gcds .live in Steady x (ownStart w) w
+  sift-keeps v gcds h c = sift-from turns v gcds Unchanged 0 h c
