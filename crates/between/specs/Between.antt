@@ -16,7 +16,6 @@ use Rattle.queues.specs.Queue.{Rows, queueRow}
 use Rattle.queues.specs.Marks.{Marks}
 use Rattle.thresholds.specs.Rows.{Row, noRow, Edge, edgesOf, rowNumber, stateOfRow}
 use Rattle.prefixes.specs.Links.{Link, neighbours}
-use Rattle.propagate.specs.declared.Tightened.{Tightened}
 use Rattle.propagate.specs.Row.{thresholdRow, wantsResidual}
 use Rattle.propagate.specs.Told.{guardState, movedState}
 
@@ -89,10 +88,6 @@ unfoldable pub guardOf : Index → Live → List Threshold → ℕ → Did
 guardOf x v [] n = did v Unchanged
 guardOf x v (t ∷ ts) n = elim (eqb (t .node) n) [ true ↦ thresholdGuard x v t | false ↦ guardOf x v ts n ]
 
--- What was answered before, joined with what follows.
-abbrev pub after : Step → Did → Did
-after k d = did (d .live) (joined k (d .step))
-
 -- `threshold_condition`: the rows in which the node stands, in order.
 unfoldable pub conditionFrom : Index → Bool → List Edge → Live → Did
 conditionFrom x value [] v = did v Unchanged
@@ -111,16 +106,6 @@ thresholdCondition x v node = conditionFrom x (bit (v .marks .sure) node) (edges
 -- How many terms a row has.
 abbrev pub termCount : Index → ℕ → ℕ
 termCount x r = length (getD (x .rows) r noRow .terms)
-
--- A row that was told something new has changed, whatever its run answers, unless that is a contradiction.
-abbrev pub toldStep : Step → Step
-toldStep k = cond (contradicts k) Contradiction Changed
-
--- One neighbour: a new bound is stored, the row waits to hand it on, and is run.
-unfoldable pub handedOn : Row → Live → ℕ → Tightened → Did
-handedOn row v r t =
-    let d = runWith row (withDirty (withState v r (t .state)) r) r in
-    cond (t .changed) (did (d .live) (toldStep (d .step))) (did v Unchanged)
 
 unfoldable pub prefixesFrom : Index → ℕ → State → List ℕ → Live → Did
 prefixesFrom x row source [] v = did v Unchanged

@@ -13,8 +13,10 @@ use Rattle.state.specs.State.{drained}
 use Rattle.words.specs.Mask.{bit}
 use Rattle.thresholds.specs.Rows.{Edge, edgesOf}
 use Rattle.thresholds.specs.Raw.{stretch}
-use Rattle.memory.specs.Limits.{figureLimit, roomLimit, weightLimit, drainLimit, maxTerms}
-use Rattle.between.specs.Between.{Index, Live, stateAt, withState, did, runWith, runRow, after, conditionFrom, thresholdCondition}
+use Rattle.memory.specs.Limits.{maxTerms}
+use Rattle.memory.specs.Ranges.{figureLimit, roomLimit, weightLimit, drainLimit}
+use Rattle.between.specs.Between.{Index, Live, stateAt, withState, did, runWith, runRow, conditionFrom, thresholdCondition}
+use Rattle.between.specs.Handing.{after}
 use Rattle.between.specs.Held.{startBy, endBy, heldRow, edgeIn, edgesIn, Shaped, EdgesShaped, Holds, HoldsEdges}
 use Rattle.between.specs.HeldLaws.{stretch-cons, stretch-none, run-held, edges-back}
 use Rattle.between.specs.Ready.{ReadyLive}

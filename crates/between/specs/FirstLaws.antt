@@ -8,7 +8,7 @@ use lib.ListN.{length, getD, set, drop, length-set, drop-of-length-le}
 use lib.Seq.{drop-cons, getD-set-same, getD-set-other}
 use lib.IntN.{ℤ}
 use Rattle.memory.specs.Buffers.{HeldRows, heldRows}
-use Rattle.numeric.specs.Threshold.{terms}
+use Rattle.numeric.specs.Slices.{terms}
 use Rattle.state.specs.declared.State.{State}
 use Rattle.state.specs.State.{firstState, noState}
 use Rattle.row.specs.Terms.{total}
@@ -19,7 +19,8 @@ use Rattle.queues.specs.MarksLaws.{Waits}
 use Rattle.thresholds.specs.Rows.{Row, noRow, Guard, stateOfRow}
 use Rattle.thresholds.specs.Raw.{stretch}
 use Rattle.thresholds.specs.RawLaws.{stretch-length}
-use Rattle.propagate.specs.GuardsLaws.{guards, length-guards}
+use Rattle.propagate.specs.GuardsLaws.{length-guards}
+use Rattle.propagate.specs.Guards.{guards}
 use Rattle.between.specs.Between.{Index, firstStates}
 use Rattle.between.specs.Held.{startBy, endBy, stretchBy, heldGuards, Shaped, Holds}
 use Rattle.between.specs.Ready.{Ready}

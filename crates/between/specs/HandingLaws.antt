@@ -21,8 +21,9 @@ use Rattle.thresholds.specs.RawLaws.{stretch-length}
 use Rattle.prefixes.specs.Links.{neighbours}
 use Rattle.propagate.specs.declared.Tightened.{Tightened}
 use Rattle.propagate.specs.Told.{movedState}
-use Rattle.memory.specs.Limits.{figureLimit}
-use Rattle.between.specs.Between.{Index, Live, live, Did, did, stateAt, withState, withDirty, runWith, runRow, after, termCount, toldStep, handedOn, prefixesFrom, thresholdPrefixes}
+use Rattle.memory.specs.Ranges.{figureLimit}
+use Rattle.between.specs.Between.{Index, Live, live, Did, did, stateAt, withState, withDirty, runWith, runRow, termCount, prefixesFrom, thresholdPrefixes}
+use Rattle.between.specs.Handing.{after, toldStep, handedOn}
 use Rattle.between.specs.Held.{startBy, endBy, heldRow, Shaped, LinksShaped, Holds, HoldsLinks}
 use Rattle.between.specs.HeldLaws.{stretch-cons, stretch-none, run-held}
 use Rattle.between.specs.Ready.{Fit, ReadyLive, Runnable}

@@ -6,14 +6,15 @@ use lib.ListN.{length, getD}
 use lib.IntN.{ℤ, pos}
 use lib.Signed.{mag}
 use Rattle.memory.specs.Buffers.{HeldRows}
-use Rattle.numeric.specs.Threshold.{Term, terms, Threshold}
+use Rattle.numeric.specs.Threshold.{Term, Threshold}
 use Rattle.thresholds.specs.Rows.{Row, rowOf, noRow, Guard, Edge, edge, edgesOf, rowNumber}
 use Rattle.thresholds.specs.Raw.{stretch}
 use Rattle.thresholds.specs.Laid.{edgeRow, thresholdOf}
 use Rattle.prefixes.specs.Links.{neighbours}
-use Rattle.numeric.specs.Slices.{Below}
-use Rattle.propagate.specs.GuardsLaws.{guards}
-use Rattle.memory.specs.Limits.{figureLimit, weightLimit, maxNodes, maxTerms, maxThresholds}
+use Rattle.numeric.specs.Slices.{Below, terms}
+use Rattle.propagate.specs.Guards.{guards}
+use Rattle.memory.specs.Limits.{maxNodes, maxTerms, maxThresholds}
+use Rattle.memory.specs.Ranges.{figureLimit, weightLimit}
 use Rattle.between.specs.Between.{Index}
 
 -- By column j, where the stretch of entry n ends; it begins where the one before ends.

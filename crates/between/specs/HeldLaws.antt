@@ -9,14 +9,14 @@ use lib.ListN.{length, getD, set, drop, length-take, length-drop}
 use lib.Seq.{drop-cons, getD-drop, getD-take}
 use Rattle.memory.specs.Limits.{maxNodes}
 use Rattle.memory.specs.Buffers.{HeldRows}
-use Rattle.numeric.specs.Threshold.{Term, terms}
+use Rattle.numeric.specs.Threshold.{Term}
 use Rattle.thresholds.specs.Rows.{rowOf, noRow, Guard, Edge}
 use Rattle.thresholds.specs.Raw.{stretch}
 use Rattle.thresholds.specs.RawLaws.{stretch-length}
 use Rattle.thresholds.specs.Laid.{edgeRow}
-use Rattle.numeric.specs.Slices.{Below}
+use Rattle.numeric.specs.Slices.{Below, terms}
 use Rattle.propagate.specs.Shape.{TermSlices, GuardSlices}
-use Rattle.propagate.specs.GuardsLaws.{guards}
+use Rattle.propagate.specs.Guards.{guards}
 use Rattle.propagate.specs.Row.{Ran, wantsResidual}
 use Rattle.propagate.specs.RowLaws.{row-raw}
 use Rattle.between.specs.Between.{Index, Live, live, Did, did, stateAt, residualQueued, runWith, runRow}

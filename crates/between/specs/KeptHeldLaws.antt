@@ -15,7 +15,7 @@ use Rattle.thresholds.specs.RawLaws.{stretch-length}
 use Rattle.thresholds.specs.Laid.{edgeRow}
 use Rattle.prefixes.specs.Links.{neighbours}
 use Rattle.propagate.specs.ScanLaws.{All}
-use Rattle.memory.specs.Limits.{figureLimit, drainLimit}
+use Rattle.memory.specs.Ranges.{figureLimit, drainLimit}
 use Rattle.between.specs.Between.{Index, Live, guardOf, thresholdCondition, thresholdPrefixes}
 use Rattle.between.specs.Held.{startBy, endBy, edgeIn, edgesIn, noThreshold, rowAt, Shaped, EdgesShaped, LinksShaped, GuardsShaped, Holds, HoldsEdges, HoldsLinks, HoldsGuards}
 use Rattle.between.specs.HeldLaws.{stretch-cons, stretch-none, edges-back}

@@ -21,8 +21,10 @@ use Rattle.prefixes.specs.Links.{neighbours}
 use Rattle.propagate.specs.declared.Tightened.{Tightened}
 use Rattle.propagate.specs.ScanLaws.{All}
 use Rattle.propagate.specs.Told.{guardState, movedState}
-use Rattle.memory.specs.Limits.{figureLimit, weightLimit, drainLimit, maxThresholds}
-use Rattle.between.specs.Between.{Index, Live, Did, stateAt, withState, withBound, linkedQueued, runWith, runRow, bounded, thresholdGuard, conditionFrom, termCount, handedOn, prefixesFrom, thresholdPrefixes, seedFrom}
+use Rattle.memory.specs.Limits.{maxThresholds}
+use Rattle.memory.specs.Ranges.{figureLimit, weightLimit, drainLimit}
+use Rattle.between.specs.Between.{Index, Live, Did, stateAt, withState, withBound, linkedQueued, runWith, runRow, bounded, thresholdGuard, conditionFrom, termCount, prefixesFrom, thresholdPrefixes, seedFrom}
+use Rattle.between.specs.Handing.{handedOn}
 use Rattle.between.specs.Held.{Shaped, Holds}
 use Rattle.between.specs.HeldLaws.{run-held}
 use Rattle.between.specs.Ready.{Fit, ReadyLive, Runnable}

@@ -1,5 +1,7 @@
 pub mod Between
+pub mod Handing
 pub mod NumbersLaws
+pub mod Numbers
 pub mod Held
 pub mod HeldLaws
 pub mod BetweenLaws

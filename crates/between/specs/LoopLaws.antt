@@ -13,7 +13,8 @@ use Rattle.thresholds.specs.Rows.{Row, noRow, Edge}
 use Rattle.propagate.specs.declared.Tightened.{Tightened}
 use Rattle.propagate.specs.ScanLaws.{clash, joined-last}
 use Rattle.propagate.specs.Told.{movedState}
-use Rattle.between.specs.Between.{Index, Live, Did, did, stateAt, withState, withDirty, runWith, runRow, after, conditionFrom, termCount, handedOn, prefixesFrom, seedFrom}
+use Rattle.between.specs.Between.{Index, Live, Did, did, stateAt, withState, withDirty, runWith, runRow, conditionFrom, termCount, prefixesFrom, seedFrom}
+use Rattle.between.specs.Handing.{after, handedOn}
 
 -- ---- answers
 

@@ -1,4 +1,4 @@
--- Row states as the buffers hold them: four figures, and four cursors with a flag for the upper. All that draining changes.
+-- Laws of row states as the buffers hold them: what is stored is read again, and tidy words stay tidy.
 use Prim.Native.Nat.{ℕ, zero, suc, _≤_, _<_}
 use native.Mathlib.Nat.{not-suc-le-zero, le-of-suc-le-suc}
 use native.Mathlib.Omega.{arith}
@@ -6,30 +6,13 @@ use mathlib.Core.Path.{_≡_, refl, sym, ap, _∙_}
 use mathlib.Core.Bool.{cond}
 use mathlib.Core.List.{List, [], _∷_, map}
 use lib.ListN.{length, getD, set}
-use lib.Dec.{eqb}
-use lib.IntN.{ℤ, pos}
+use lib.IntN.{ℤ}
 use Rattle.state.specs.declared.State.{State}
 use Rattle.state.specs.declared.Upper.{Upper}
 use Rattle.state.specs.declared.Upper.the-variants.{Open, Under}
-use Rattle.state.specs.State.{Figures, stateOf, noState, limit, limited}
-use Rattle.queues.specs.declared.Rings.{Rings}
-use Rattle.queues.specs.Queue.{queue, rowsIn}
-use Rattle.queues.specs.Marks.{marks}
+use Rattle.state.specs.State.{stateOf, noState, limit, limited, figuresOf, cursorsOf}
 use Rattle.queues.specs.SlotLaws.{map-set}
-use Rattle.between.specs.Between.{Live, live}
-
-abbrev pub figuresOf : State → List ℤ
-figuresOf s = s .known ∷ s .possible ∷ s .lower ∷ limit (s .upper) ∷ []
-
-abbrev pub cursorsOf : State → List ℕ
-cursorsOf s = s .«sure_guard» ∷ s .«never_guard» ∷ s .«true_term» ∷ s .«false_term» ∷ cond (limited (s .upper)) 1 0 ∷ []
-
-abbrev pub upperOf : ℕ → ℤ → Upper
-upperOf flag z = cond (eqb flag 1) (Under z) Open
-
-unfoldable pub rowState : List ℤ → List ℕ → State
-rowState f c =
-    stateOf (getD f 0 (pos 0)) (getD f 1 (pos 0)) (getD f 2 (pos 0)) (upperOf (getD c 4 0) (getD f 3 (pos 0))) (getD c 0 0) (getD c 1 0) (getD c 2 0) (getD c 3 0)
+use Rattle.between.specs.Numbers.{rowState, Runs, statesOf, Tidy, Same}
 
 -- What is stored is what is read again.
 pub stored-read : (s : State) → rowState (figuresOf s) (cursorsOf s) ≡ s
@@ -41,19 +24,8 @@ stored-read s = by (s .upper)
     by Open = refl
     by (Under b) = refl
 
--- A state that can be run: its figures' differences fit, and its cursor from above stands in the list.
-pub record Runs (s : State) (bounds : List ℤ) : Type 0 where
-  pub figures : Figures s
-  pub inside : s .«never_guard» ≤ length bounds
-
 pub runs-by : (s t : State) (bounds : List ℤ) → s ≡ t → Runs t bounds → Runs s bounds
 runs-by s t bounds e r = rw e r
-
--- All states that the buffers hold.
-unfoldable pub statesOf : List (List ℤ) → List (List ℕ) → List State
-statesOf [] cs = []
-statesOf (f ∷ fs) [] = []
-statesOf (f ∷ fs) (c ∷ cs) = rowState f c ∷ statesOf fs cs
 
 pub states-at : (fs : List (List ℤ)) (cs : List (List ℕ)) (r : ℕ) → r < length (statesOf fs cs) → getD (statesOf fs cs) r noState ≡ rowState (getD fs r []) (getD cs r [])
 unfolding statesOf
@@ -87,11 +59,6 @@ states-set fs fs′ cs cs′ r s h e f = ap (λ (y : List (List ℤ)). statesOf 
     go (g ∷ gs) (d ∷ ds) zero a b = ap (λ (y : State). y ∷ statesOf gs ds) (stored-read s)
     go (g ∷ gs) (d ∷ ds) (suc i) a b = ap (λ (y : List State). rowState g d ∷ y) (go gs ds i (le-of-suc-le-suc a) (le-of-suc-le-suc b))
 
--- Every word of the two buffers is that of the state they hold. It is kept by what stores states, so that the states tell the words.
-pub record Tidy (fs : List (List ℤ)) (cs : List (List ℕ)) : Type 0 where
-  pub figures : fs ≡ map figuresOf (statesOf fs cs)
-  pub cursors : cs ≡ map cursorsOf (statesOf fs cs)
-
 pub tidy-store : (fs fs′ : List (List ℤ)) (cs cs′ : List (List ℕ)) (r : ℕ) (s : State) → r < length (statesOf fs cs)
     → fs′ ≡ set fs r (figuresOf s) → cs′ ≡ set cs r (cursorsOf s) → Tidy fs cs → Tidy fs′ cs′
 tidy-store fs fs′ cs cs′ r s h e f t =
@@ -105,21 +72,6 @@ tidy-store fs fs′ cs cs′ r s h e f t =
     }
 
 -- ---- all that draining changes
-
--- The live state as the buffers hold it, by where their queues stand.
-abbrev pub liveOf : List (List ℤ) → List (List ℕ) → List ℕ → List ℕ → List ℕ → List (List ℕ) → Rings → Live
-liveOf figures cursors sure never node-queue row-queues rings =
-    live (statesOf figures cursors) (marks sure never (queue node-queue (rings .nodes))) (rowsIn 0 row-queues (rings .rows)) (rowsIn 2 row-queues (rings .residuals))
-
--- Its buffers are as long as they were.
-pub record Same (fs₀ : List (List ℤ)) (cs₀ : List (List ℕ)) (s₀ n₀ l₀ : List ℕ) (q₀ : List (List ℕ)) (fs : List (List ℤ)) (cs : List (List ℕ)) (s n l : List ℕ)
-    (q : List (List ℕ)) : Type 0 where
-  pub figures : length fs ≡ length fs₀
-  pub cursors : length cs ≡ length cs₀
-  pub sure : length s ≡ length s₀
-  pub never : length n ≡ length n₀
-  pub node-queue : length l ≡ length l₀
-  pub row-queues : length q ≡ length q₀
 
 pub same-self : (fs : List (List ℤ)) (cs : List (List ℕ)) (s n l : List ℕ) (q : List (List ℕ)) → Same fs cs s n l q fs cs s n l q
 same-self fs cs s n l q = record { figures = refl; cursors = refl; sure = refl; never = refl; node-queue = refl; row-queues = refl }

@@ -10,7 +10,7 @@ use Rattle.queues.specs.Queue.{Rows}
 use Rattle.queues.specs.RowsLaws.{Flags}
 use Rattle.queues.specs.Marks.{Marks}
 use Rattle.queues.specs.MarksLaws.{Waits}
-use Rattle.memory.specs.Limits.{figureLimit}
+use Rattle.memory.specs.Ranges.{figureLimit}
 use Rattle.between.specs.Between.{Live}
 use Rattle.between.specs.Held.{endBy, startBy}
 

@@ -15,7 +15,8 @@ use Rattle.signed.specs.SignedLaws.{mag-add, mag-minus}
 use Rattle.state.specs.declared.State.{State}
 use Rattle.state.specs.declared.Upper.{Upper}
 use Rattle.state.specs.declared.Upper.the-variants.{Under}
-use Rattle.state.specs.State.{noState, limit, upperAtMost, withLower, withUpper, drained, withKnown, withPossible, Drains}
+use Rattle.state.specs.State.{noState, limit, upperAtMost, withLower, withUpper, drained, withKnown, withPossible}
+use Rattle.state.specs.Shape.{Drains}
 use Rattle.queues.specs.Queue.{Rows, queueRow}
 use Rattle.queues.specs.RowsLaws.{Flags, flags-queue}
 use Rattle.queues.specs.Marks.{Marks}
@@ -27,9 +28,10 @@ use Rattle.propagate.specs.Row.{wantsResidual, thresholdRow}
 use Rattle.propagate.specs.RowLaws.{Moved, kept-row}
 use Rattle.propagate.specs.declared.Tightened.{Tightened}
 use Rattle.propagate.specs.Told.{guardState, movedLower, movedState, under}
-use Rattle.memory.specs.Limits.{figureLimit, weightLimit, drainLimit, maxThresholds}
+use Rattle.memory.specs.Limits.{maxThresholds}
+use Rattle.memory.specs.Ranges.{figureLimit, weightLimit, drainLimit}
 use Rattle.between.specs.Between.{Live, withState, Did, residualQueued, runWith}
-use Rattle.between.specs.NumbersLaws.{Runs}
+use Rattle.between.specs.Numbers.{Runs}
 use Rattle.between.specs.Held.{endBy, startBy, heldRow, Shaped}
 use Rattle.between.specs.HeldLaws.{term-slices, guard-slices}
 use Rattle.between.specs.Ready.{Fit, Ready, ReadyLive}

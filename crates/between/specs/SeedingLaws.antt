@@ -12,7 +12,7 @@ use Rattle.state.specs.declared.Step.{Step}
 use Rattle.state.specs.declared.Step.the-variants.{Unchanged}
 use Rattle.state.specs.Step.{joined, contradicts}
 use Rattle.thresholds.specs.Rows.{Row, noRow}
-use Rattle.memory.specs.Limits.{figureLimit}
+use Rattle.memory.specs.Ranges.{figureLimit}
 use Rattle.between.specs.Between.{Index, Live, did, runWith, runRow, seedFrom}
 use Rattle.between.specs.Held.{heldRow, Shaped, Holds}
 use Rattle.between.specs.HeldLaws.{run-held}

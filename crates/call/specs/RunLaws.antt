@@ -7,7 +7,8 @@ use mathlib.Core.List.{List, [], _∷_}
 use mathlib.Core.Logic.{⊎-elim}
 use lib.ListN.{length, drop}
 use lib.IntN.{ℤ}
-use Rattle.memory.specs.Limits.{rawLimit, maxLinks}
+use Rattle.memory.specs.Limits.{maxLinks}
+use Rattle.memory.specs.Ranges.{rawLimit}
 use Rattle.memory.specs.Buffers.{rawLists, Raw, raw, Built, Kept, Work, work, fits, longestInput, clearRaw, clearBuilt, cleared}
 use Rattle.memory.specs.LengthsLaws.{Sized, fits-sized, fits-input}
 use Rattle.numeric.specs.Threshold.{Job}
@@ -19,7 +20,7 @@ use Rattle.records.specs.declared.Record.the-variants.{Seal}
 use Rattle.records.specs.declared.Next.the-variants.{Taken}
 use Rattle.records.specs.Record.{recordAt}
 use Rattle.records.specs.Facts.{Action, begins, changes, closes, decides, settles, sifts, idles, action, facts}
-use Rattle.records.specs.Checks.{nextAt}
+use Rattle.records.specs.Next.{nextAt}
 use Rattle.job.specs.Gathered.{jobIn}
 use Rattle.files.specs.declared.JobRead.{JobRead}
 use Rattle.files.specs.File.{File, standing, refusal, sealedFile, markedFile, settledFile, siftedFile, act, apply, Outcome, refusalAt, readFrom, fileOf}

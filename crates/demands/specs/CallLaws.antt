@@ -18,10 +18,9 @@ use Rattle.state.specs.declared.Step.the-variants.{Unchanged, Changed, Contradi
 use Rattle.state.specs.declared.State.{State}
 use Rattle.state.specs.declared.Upper.{Upper}
 use Rattle.state.specs.Step.{contradicts}
-use Rattle.state.specs.State.{noState, limit, limited}
+use Rattle.state.specs.State.{noState, limit, limited, figuresOf, cursorsOf}
 use Rattle.words.specs.Mask.{bit, digit}
 use Rattle.thresholds.specs.Rows.{Row, rowsOf}
-use Rattle.between.specs.NumbersLaws.{figuresOf, cursorsOf}
 use Rattle.memory.specs.Buffers.{Work, fits, zeros, cleared, clearKept}
 use Rattle.records.specs.declared.Record.{Record}
 use Rattle.records.specs.declared.Record.the-variants.{Seal, Mark, Settle}

@@ -27,10 +27,9 @@ use Rattle.table.specs.Table.{Table, knownOf, possibleOf, Conflict, Run, steps,
 use Rattle.regions.specs.Drain.{atRest}
 use Rattle.records.specs.declared.Record.{Record}
 use Rattle.records.specs.declared.Record.the-variants.{Seal, Mark, Settle, Sift}
-use Rattle.files.specs.File.{File, contradicted, sifted, begun, apply, after, refusalAt, planned}
+use Rattle.files.specs.File.{File, contradicted, sifted, begun, apply, after, refusalAt, planned, Passed}
 use Rattle.memory.specs.Buffers.{Work, lengths, fits}
 use Rattle.files.specs.Contents.{Out, out, served, whole}
-use Rattle.ends.specs.FilesLaws.{Passed}
 use Rattle.demands.specs.Reading.{Marked, SameMarks, Agrees, NoSift, lastSearch, decidedIn, decidedAnd, marksOnly, SameEnd, SameFigures, records, decoded, plainlyAll, Passes}
 
 -- What the call gave, but for its refusal.

@@ -34,14 +34,14 @@ use Rattle.regions.specs.Sift as Sift
 use Rattle.records.specs.declared.Record.{Record}
 use Rattle.records.specs.Facts.{Action, begins, changes, closes, decides, settles, sifts, idles, action, facts}
 use Rattle.records.specs.Checks.{tooMany}
-use Rattle.files.specs.File.{File, Answer, settled, sifted, begun, standing, refusal, sealedFile, markedFile, settledFile, siftedFile, act, apply, after, readFrom, fileOf}
+use Rattle.files.specs.File.{File, Answer, settled, sifted, begun, standing, refusal, sealedFile, markedFile, settledFile, siftedFile, act, apply, after, readFrom, fileOf, Passed}
 use Rattle.files.specs.FileLaws.{read-taken}
 use Rattle.ends.specs.KeepsLaws.{keeps-row, keeps-residual}
 use Rattle.ends.specs.TurnsLaws.{Indexed}
 use Rattle.ends.specs.SettlesLaws.{tries}
 use Rattle.ends.specs.BuiltLaws.{indexed}
 use Rattle.ends.specs.SizeLaws.{row-terms-few}
-use Rattle.ends.specs.FilesLaws.{Good, good-begun, taken, good-apply, Passed, read-passed}
+use Rattle.ends.specs.FilesLaws.{Good, good-begun, taken, good-apply, read-passed}
 
 -- ---- QUEUES KEEP THEIR LENGTH
 

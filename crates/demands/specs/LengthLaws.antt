@@ -14,7 +14,7 @@ use Rattle.thresholds.specs.Laid.{conditions, weights, termLists, guardLists, g
 use Rattle.prefixes.specs.Links.{neighbourLists}
 use Rattle.prefixes.specs.HeldLaws.{length-numbers}
 use Rattle.prepare.specs.RowsGivenLaidLaws.{length-ends}
-use Rattle.between.specs.NumbersLaws.{figuresOf, cursorsOf}
+use Rattle.state.specs.State.{figuresOf, cursorsOf}
 use Rattle.memory.specs.Limits.{maxNodes, maxTerms, maxThresholds, maxGcds, maxLinks}
 use Rattle.memory.specs.Buffers.{Work, rawLengths, builtLengths, keptLengths, fits, zeros, cleared, clearRaw, clearBuilt, clearKept}
 use Rattle.memory.specs.LengthsLaws.{Sized, fits-sized}

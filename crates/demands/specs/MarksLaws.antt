@@ -17,9 +17,9 @@ use Rattle.table.specs.Table.{Table}
 use Rattle.records.specs.declared.Record.{Record}
 use Rattle.records.specs.declared.Record.the-variants.{Settle}
 use Rattle.records.specs.Facts.{Action, begins, changes, closes, decides, settles, sifts, idles, action, facts}
-use Rattle.files.specs.File.{File, contradicted, begun, sealedFile, markedFile, settledFile, act, apply, after, planned}
+use Rattle.files.specs.File.{File, contradicted, begun, sealedFile, markedFile, settledFile, act, apply, after, planned, Passed}
 use Rattle.ends.specs.BlankLaws.{blank-begun}
-use Rattle.ends.specs.FilesLaws.{both, Taken, taken, building-turn, change-turn, Passed}
+use Rattle.ends.specs.FilesLaws.{both, Taken, taken, building-turn, change-turn}
 use Rattle.follows.specs.DecideLaws.{decideAs}
 use Rattle.settles.specs.SealsLaws.{ownStart}
 use Rattle.settles.specs.RecordsLaws.{From, Breaks, Keeps, keeps-begun, keeps-apply, seal-from, mark-from, settle-from}

@@ -16,9 +16,9 @@ use Rattle.thresholds.specs.Rows.{Row, rowsOf}
 use Rattle.records.specs.declared.Record.{Record}
 use Rattle.records.specs.declared.Record.the-variants.{Settle}
 use Rattle.records.specs.Facts.{Action, begins, changes, closes, decides, settles, sifts, idles, action}
-use Rattle.files.specs.File.{File, contradicted, begun, settledFile, act, apply, after, planned}
+use Rattle.files.specs.File.{File, contradicted, begun, settledFile, act, apply, after, planned, Passed}
 use Rattle.files.specs.FileLaws.{after-snoc}
-use Rattle.ends.specs.FilesLaws.{both, taken as accepts, serving-turn, Passed, planned-passed}
+use Rattle.ends.specs.FilesLaws.{both, taken as accepts, serving-turn, planned-passed}
 use Rattle.table.specs.Table.{Table, knownOf, possibleOf}
 use Rattle.table.specs.TableLaws.{Le, follows-more}
 use Rattle.follows.specs.AnswersLaws.{true-false, and-left, and-right, or-true}

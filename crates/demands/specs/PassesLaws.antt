@@ -11,8 +11,8 @@ use Rattle.records.specs.Facts.{Action, begins, changes, closes, decides, settl
 use Rattle.records.specs.declared.Standing.{Standing}
 use Rattle.records.specs.Checks.{refusedBy}
 use Rattle.job.specs.Job.{standingOf}
-use Rattle.files.specs.File.{File, Answer, contradicted, begun, standing, refusal, sealedFile, markedFile, settledFile, siftedFile, act, apply, planned}
-use Rattle.ends.specs.FilesLaws.{taken, Passed, planned-passed}
+use Rattle.files.specs.File.{File, Answer, contradicted, begun, standing, refusal, sealedFile, markedFile, settledFile, siftedFile, act, apply, planned, Passed}
+use Rattle.ends.specs.FilesLaws.{taken, planned-passed}
 use Rattle.demands.specs.Reading.{records, decoded, plain, plainly, Passes}
 use Rattle.demands.specs.ReadOnLaws.{planned-over, Level, level-same, level-apply}
 

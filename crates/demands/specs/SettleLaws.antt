@@ -14,9 +14,9 @@ use Rattle.thresholds.specs.Rows.{Row, rowsOf}
 use Rattle.between.specs.Between.{Live}
 use Rattle.records.specs.declared.Record.{Record}
 use Rattle.records.specs.declared.Record.the-variants.{Seal, Mark, Settle}
-use Rattle.files.specs.File.{File, contradicted, begun, refusal, sealedFile, markedFile, settledFile, act, apply, after, planned}
+use Rattle.files.specs.File.{File, contradicted, begun, refusal, sealedFile, markedFile, settledFile, act, apply, after, planned, Passed}
 use Rattle.ends.specs.BlankLaws.{bit-behind}
-use Rattle.ends.specs.FilesLaws.{taken, Passed, planned-passed}
+use Rattle.ends.specs.FilesLaws.{taken, planned-passed}
 use Rattle.table.specs.Table.{Table, start, ReachesConflict, AtRest}
 use Rattle.table.specs.TableLaws.{run-below}
 use Rattle.table.specs.Ends.{Finite}

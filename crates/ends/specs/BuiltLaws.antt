@@ -23,10 +23,11 @@ use Rattle.thresholds.specs.RawLaws.{same-refl}
 use Rattle.prefixes.specs.Links.{Link, links, neighbours}
 use Rattle.prefixes.specs.LinksLaws.{links-range, Joined, downward, upward, neighbours-joined}
 use Rattle.propagate.specs.ScanLaws.{All}
-use Rattle.propagate.specs.GuardsLaws.{Node, Condition}
+use Rattle.propagate.specs.Guards.{Node, Condition}
 use Rattle.between.specs.Between.{Index, Live, live, Did, did, runRow, firstStates, seedFrom}
 use Rattle.regions.specs.Drain.{indexOf, seal}
-use Rattle.job.specs.Job.{lastTerms, allTerms, addTerm, withThreshold, withTerm}
+use Rattle.job.specs.Job.{lastTerms, allTerms, addTerm}
+use Rattle.job.specs.Taken.{withThreshold, withTerm}
 use Rattle.ends.specs.RoomsLaws.{AllBounded, set-bounded, first-bounded}
 use Rattle.ends.specs.TurnsLaws.{Indexed, Sound, run-row}
 

@@ -29,7 +29,7 @@ use Rattle.records.specs.Facts.{building, within, serving, Facts, Change, opens
 use Rattle.records.specs.Checks.{noThreshold, wrongTurn}
 use Rattle.records.specs.CheckLaws.{Passes, passes}
 use Rattle.job.specs.Job.{changed, lastTerms, allTerms}
-use Rattle.files.specs.File.{File, contradicted, noJob, begun, standing, refusal, sealedFile, markedFile, settledFile, siftedFile, act, apply, Outcome, outcome, recordAt, unknownKind, cutBody, refusalAt, readFrom, fileOf, planned, after}
+use Rattle.files.specs.File.{File, contradicted, begun, standing, refusal, sealedFile, markedFile, settledFile, siftedFile, act, apply, Outcome, outcome, recordAt, unknownKind, cutBody, refusalAt, readFrom, fileOf, planned, after, Passed}
 use Rattle.files.specs.FileLaws.{checked, after-snoc}
 use Rattle.ends.specs.RoomsLaws.{Bounded, none-bounded}
 use Rattle.ends.specs.TurnsLaws.{Sound}
@@ -189,10 +189,6 @@ module _ (f : File) (g : Good f) where
   rests-sift h = sift-rests (Drain.indexOf (f .closed)) (indexed (f .closed) (g .closed)) (f .live) (f .gcds) (g .live) h
 
 -- ---- records that were taken, one after the other
-
-abbrev pub Passed : File → List Record → Type 0
-Passed f [] = Unit {0}
-Passed f (r ∷ rs) = (refusal f r ≡ 0) × Passed (apply f r) rs
 
 passed-snoc : (f : File) (rs : List Record) (r : Record) → Passed f rs → refusal (after f rs) r ≡ 0 → Passed f (rs ++ (r ∷ []))
 unfolding after

@@ -15,7 +15,7 @@ use Rattle.queues.specs.Marks.{Marks, isDecided, Decided, decided, decide}
 use Rattle.thresholds.specs.Rows.{Row, Guard}
 use Rattle.propagate.specs.Scan.{Scanned, force}
 use Rattle.propagate.specs.ScanLaws.{All, all-drop, all-take, all-reverse, scan-keeps}
-use Rattle.propagate.specs.GuardsLaws.{Node, Condition}
+use Rattle.propagate.specs.Guards.{Node, Condition}
 use Rattle.propagate.specs.Row.{Ran, ran, decides, sureWaits, sureGuards, neverWaits, neverGuards, thresholdGuards, termWaits, forces, forced, trueTerms, falseTerms, rowTerms, scans, thresholdRow}
 use Rattle.residual.specs.Residual.{thresholdResidual}
 use Rattle.residual.specs.declared.Interval.{Interval}

@@ -26,7 +26,7 @@ use Rattle.thresholds.specs.Guards.{Bound}
 use Rattle.thresholds.specs.Rows.{Row, noRow, Edge, edgesOf, rowNumber}
 use Rattle.prefixes.specs.Links.{neighbours}
 use Rattle.propagate.specs.ScanLaws.{All}
-use Rattle.propagate.specs.GuardsLaws.{Node, Condition}
+use Rattle.propagate.specs.Guards.{Node, Condition}
 use Rattle.propagate.specs.declared.Tightened.{Tightened}
 use Rattle.propagate.specs.Told.{guardState, movedState}
 use Rattle.propagate.specs.Row.{Ran, thresholdRow, wantsResidual}

@@ -8,7 +8,7 @@ use Rattle.state.specs.declared.Step.the-variants.{Unchanged}
 use Rattle.state.specs.Step.{stepNumber}
 use Rattle.thresholds.specs.Rows.{rowsOf}
 use Rattle.prepare.specs.JobBuffers.{rawOf, builtOf}
-use Rattle.between.specs.NumbersLaws.{figuresOf, cursorsOf}
+use Rattle.state.specs.State.{figuresOf, cursorsOf}
 use Rattle.memory.specs.Buffers.{Kept, Work, kept, work, fits, cleared}
 use Rattle.files.specs.declared.Given.{Given}
 use Rattle.files.specs.File.{File, Answer, settled, sifted, Outcome, fileOf}

@@ -4,6 +4,7 @@ use mathlib.Core.Bool.{Bool, true, false}
 use mathlib.Core.List.{List, [], _∷_, _++_}
 use lib.ListN.{length, drop, replicate}
 use lib.Dec.{eqb, ltb}
+use mathlib.Core.Path.{_≡_}
 use Rattle.memory.specs.Limits.{maxGcds, maxNodes, maxThresholds}
 use Rattle.numeric.specs.Threshold.{Job}
 use Rattle.state.specs.declared.Step.{Step}
@@ -146,3 +147,8 @@ planned bytes = elim (ltb 65536 (length bytes)) [ true ↦ outcome begun [] 10 0
 unfoldable pub after : File → List Record → File
 after f [] = f
 after f (r ∷ rs) = after (apply f r) rs
+
+-- Each passes all checks on what those before it left.
+abbrev pub Passed : File → List Record → Type 0
+Passed f [] = Unit {0}
+Passed f (r ∷ rs) = (refusal f r ≡ 0) × Passed (apply f r) rs

@@ -21,12 +21,14 @@ use Rattle.prepare.specs.JobBuffers.{rawOf}
 use Rattle.records.specs.declared.Standing.{Standing}
 use Rattle.records.specs.declared.Record.{Record}
 use Rattle.records.specs.declared.Record.the-variants.{Header, Opens, Adds, Areas, Seal, Unknown}
-use Rattle.records.specs.Record.{kindOf, bodyLength, recordIn}
-use Rattle.records.specs.Facts.{serving, action, closing, facts}
+use Rattle.records.specs.Record.{kindOf, bodyLength}
+use Rattle.records.specs.Next.{recordIn, closing, nextAt}
+use Rattle.records.specs.Facts.{serving, action, facts}
 use Rattle.records.specs.declared.Next.the-variants.{Refused, Taken}
-use Rattle.records.specs.Checks.{wrongTurn, refusedBy, refusedAt, nextAt}
+use Rattle.records.specs.Checks.{wrongTurn, refusedBy, refusedAt}
 use Rattle.records.specs.CheckLaws.{Passes, passes, was-refused, was-taken, taken-passes, taken-whole}
-use Rattle.job.specs.Job.{lastNode, lastTerms, allTerms, standingOf, openedBy, addedTo, withThreshold, withTerm}
+use Rattle.job.specs.Job.{lastNode, lastTerms, allTerms, standingOf}
+use Rattle.job.specs.Taken.{openedBy, addedTo, withThreshold, withTerm}
 use Rattle.job.specs.Gathered.{Gathered, Opened, Added}
 use Rattle.job.specs.JobLaws.{or-false, standing-opened, standing-added}
 use Rattle.job.specs.SoundLaws.{gathered-none}

@@ -13,7 +13,7 @@ use Rattle.state.specs.declared.Upper.the-variants.{Under}
 use Rattle.state.specs.Step.{contradicts}
 use Rattle.words.specs.Mask.{bit}
 use Rattle.queues.specs.Marks.{isDecided}
-use Rattle.row.specs.Terms.{sumOf}
+use Rattle.row.specs.SumLaws.{sumOf}
 use Rattle.thresholds.specs.Rows.{Row}
 use Rattle.between.specs.Between.{Index, Live, stateAt, Did, runRow, thresholdGuard, thresholdCondition, thresholdPrefixes}
 use Rattle.table.specs.Table.{Table, start, IsRow, termsOf}

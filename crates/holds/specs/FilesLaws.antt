@@ -8,7 +8,7 @@ use mathlib.Core.List.{List, [], _∷_}
 use lib.ListN.{length}
 use lib.Dec.{eqb}
 use borrow.Author.Tests.{leb-false}
-use Rattle.memory.specs.Limits.{rawLimit}
+use Rattle.memory.specs.Ranges.{rawLimit}
 use Rattle.memory.specs.Buffers.{Built}
 use Rattle.numeric.specs.Threshold.{Job}
 use Rattle.regions.specs.Drain as Drain
@@ -17,10 +17,10 @@ use Rattle.regions.specs.Sift as Sift
 use Rattle.records.specs.declared.Record.{Record}
 use Rattle.records.specs.declared.Record.the-variants.{Seal}
 use Rattle.records.specs.Facts.{Action, begins, changes, closes, decides, settles, sifts, idles, action, facts}
-use Rattle.files.specs.File.{File, begun, refusal, sealedFile, markedFile, settledFile, siftedFile, act, apply, after}
+use Rattle.files.specs.File.{File, begun, refusal, sealedFile, markedFile, settledFile, siftedFile, act, apply, after, Passed}
 use Rattle.prepare.specs.JobBuffers.{builtOf}
 use Rattle.ends.specs.BuiltLaws.{Fits, Light}
-use Rattle.ends.specs.FilesLaws.{Good, good-begun, both, Taken, taken, building-turn, change-turn, good-apply, Passed, good-after}
+use Rattle.ends.specs.FilesLaws.{Good, good-begun, both, Taken, taken, building-turn, change-turn, good-apply, good-after}
 use Rattle.settle.specs.Serves.{Serves, Going}
 use Rattle.settle.specs.SettlingLaws.{going-settle}
 use Rattle.settle.specs.BeginsLaws.{Fresh, going-seal, going-mark}

@@ -7,10 +7,11 @@ use mathlib.Core.List.{List, [], _∷_, map}
 use lib.ListN.{length, getD, drop}
 use lib.Seq.{getD-drop, getD-take}
 use lib.IntN.{ℤ}
-use Rattle.memory.specs.Limits.{rawLimit}
+use Rattle.memory.specs.Ranges.{rawLimit}
 use Rattle.memory.specs.Buffers.{Built, rawLists}
 use Rattle.lists.specs.Laid.{numbers}
-use Rattle.numeric.specs.Threshold.{Term, terms, Threshold}
+use Rattle.numeric.specs.Threshold.{Term, Threshold}
+use Rattle.numeric.specs.Slices.{terms}
 use Rattle.row.specs.TermsLaws.{All as Every}
 use Rattle.thresholds.specs.Raw.{startOf, endOf, stretch, listAt}
 use Rattle.thresholds.specs.RawLaws.{stretch-length}

@@ -14,7 +14,8 @@ use Rattle.row.specs.TermsLaws.{All as Every}
 use Rattle.between.specs.Between.{Index, Live}
 use Rattle.regions.specs.Drain.{indexOf, seal, mark, settle}
 use Rattle.regions.specs.Sift.{sift}
-use Rattle.memory.specs.Limits.{maxNodes, rawLimit, maxThresholds}
+use Rattle.memory.specs.Limits.{maxNodes, maxThresholds}
+use Rattle.memory.specs.Ranges.{rawLimit}
 use Rattle.memory.specs.Buffers.{Built}
 use Rattle.files.specs.File.{begun}
 use Rattle.prepare.specs.JobBuffers.{builtOf}

@@ -14,13 +14,13 @@ use Rattle.memory.specs.Buffers.{HeldRows}
 use Rattle.lists.specs.Laid.{joinAll, ends, numbers}
 use Rattle.lists.specs.Columns.{column}
 use Rattle.lists.specs.ColumnsLaws.{column-at}
-use Rattle.numeric.specs.Threshold.{Term, Threshold, terms}
-use Rattle.numeric.specs.Slices.{Below}
+use Rattle.numeric.specs.Threshold.{Term, Threshold}
+use Rattle.numeric.specs.Slices.{Below, terms}
 use Rattle.thresholds.specs.Rows.{Row, noRow, Guard, edgesOf, rowNumber}
 use Rattle.thresholds.specs.Raw.{stretch}
 use Rattle.thresholds.specs.Laid.{conditions, weights, termLists, guardLists, guardBounds, guardNodes, edgeLists, edgeRow, thresholdOf, rowOfNode}
 use Rattle.prefixes.specs.Links.{links, neighbours, neighbourLists}
-use Rattle.propagate.specs.GuardsLaws.{guards}
+use Rattle.propagate.specs.Guards.{guards}
 use Rattle.prepare.specs.RowsGivenLaidLaws.{startIn, laid-long, laid-rising, laid-inside, over-part, over-figures}
 use Rattle.prepare.specs.RowsGivenHeldLaws.{terms-back}
 use Rattle.between.specs.Between.{Index}

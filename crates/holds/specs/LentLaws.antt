@@ -19,7 +19,8 @@ use Rattle.thresholds.specs.Laid.{conditions, weights, termLists, guardLists, g
 use Rattle.prefixes.specs.Links.{links, neighbours, neighbourLists}
 use Rattle.prepare.specs.RowsGivenLaidLaws.{length-ends}
 use Rattle.prepare.specs.NodesGivenLaws.{triples-columns}
-use Rattle.memory.specs.Limits.{maxNodes, maxTerms, rawLimit, weightLimit}
+use Rattle.memory.specs.Limits.{maxNodes, maxTerms}
+use Rattle.memory.specs.Ranges.{rawLimit, weightLimit}
 use Rattle.memory.specs.Buffers.{Raw, Built, heldRows, built, zeros, clearBuilt}
 use Rattle.prepare.specs.JobBuffers.{rawOf, builtWith, builtOf}
 use Rattle.prepare.specs.JobBuffersLaws.{length-first}

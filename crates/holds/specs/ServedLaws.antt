@@ -11,7 +11,8 @@ use lib.ListN.{length, getD, length-map, length-append, List·getD-append}
 use lib.IntN.{ℤ, pos, negsuc}
 use lib.Signed.{mag}
 use borrow.Author.Tests.{leb-true}
-use Rattle.memory.specs.Limits.{maxNodes, maxTerms, rawLimit, weightLimit, totalLimit, figureLimit}
+use Rattle.memory.specs.Limits.{maxNodes, maxTerms}
+use Rattle.memory.specs.Ranges.{rawLimit, weightLimit, totalLimit, figureLimit}
 use Rattle.memory.specs.Buffers.{Built}
 use Rattle.lists.specs.Laid.{joinAll, ends, numbers}
 use Rattle.lists.specs.Columns.{column}

@@ -6,7 +6,8 @@ use mathlib.Core.Bool.{Bool, true, false}
 use mathlib.Core.List.{List, [], _∷_}
 use lib.Dec.{eqb}
 use lib.ListN.{length}
-use Rattle.memory.specs.Limits.{listTerms, rawLimit, weightLimit}
+use Rattle.memory.specs.Limits.{listTerms}
+use Rattle.memory.specs.Ranges.{rawLimit, weightLimit}
 use Rattle.numeric.specs.Threshold.{Term, Threshold, Job}
 use Rattle.row.specs.Terms.{rowTerms, total}
 use Rattle.row.specs.TermsLaws.{All as Every, all-map}

@@ -24,9 +24,9 @@ use Rattle.prepare.specs.PlaceLaws.{raws-few}
 use Rattle.prepare.specs.Given.{givenJob}
 use Rattle.prepare.specs.RowsGivenLaws.{rows-given}
 use Rattle.prepare.specs.RowsGivenLinksLaws.{held-given, neighbours-given}
-use Rattle.prepare.specs.JobBuffers.{rowEntries, nodeEntries, builtWith, builtOf, unlinkedOf}
+use Rattle.prepare.specs.JobBuffers.{rowEntries, nodeEntries, builtWith, builtOf}
 use Rattle.prepare.specs.JobBuffersLaws.{guards-even, rows-even, entries-long, entries-columns, nodes-long, neighbours-long}
-use Rattle.prepare.specs.Prepare.{Prepared}
+use Rattle.prepare.specs.Prepare.{Prepared, unlinkedOf}
 use Rattle.prepare.specs.declared.Extent.{Extent}
 use Rattle.records.specs.declared.Standing.{Standing}
 use Rattle.job.specs.Gathered.{cut, jobIn}

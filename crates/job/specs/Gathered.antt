@@ -5,13 +5,14 @@ use mathlib.Core.List.{List, [], _∷_}
 use lib.ListN.{length, getD, take, set}
 use lib.IntN.{ℤ, pos}
 use Rattle.numeric.specs.Threshold.{Job, term}
-use Rattle.memory.specs.Limits.{maxNodes, maxTerms, maxThresholds, listTerms, rawLimit}
+use Rattle.memory.specs.Limits.{maxNodes, maxTerms, maxThresholds, listTerms}
+use Rattle.memory.specs.Ranges.{rawLimit}
 use Rattle.memory.specs.Buffers.{RawLists, rawLists}
 use Rattle.thresholds.specs.Raw.{startOf, endOf}
 use Rattle.thresholds.specs.Guards.{Bound, nodeAt}
 use Rattle.prepare.specs.Given.{givenJob}
 use Rattle.records.specs.declared.Standing.{Standing}
-use Rattle.job.specs.Job.{openedBy, addedTo, withThreshold, withTerm}
+use Rattle.job.specs.Taken.{openedBy, addedTo, withThreshold, withTerm}
 
 abbrev pub cut : Standing → List ℕ → List ℕ → List (List ℕ) → RawLists
 cut k cs ws ts = rawLists (take (k .terms) cs) (take (k .terms) ws) (take (k .thresholds) ts)

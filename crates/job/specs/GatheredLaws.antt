@@ -8,7 +8,8 @@ use lib.ListN.{length, getD, take, length-map}
 use lib.Seq.{getD-take, length-take-le}
 use lib.IntN.{ℤ, pos}
 use Rattle.lists.specs.Laid.{numbers}
-use Rattle.numeric.specs.Threshold.{Term, terms, Threshold}
+use Rattle.numeric.specs.Threshold.{Term, Threshold}
+use Rattle.numeric.specs.Slices.{terms}
 use Rattle.memory.specs.Buffers.{RawLists, rawLists}
 use Rattle.thresholds.specs.Raw.{startOf, endOf, stretch, listAt}
 use Rattle.thresholds.specs.RawLaws.{length-terms, stretch-length}

@@ -3,7 +3,6 @@ use Prim.Native.Nat.{ℕ, _+_}
 use mathlib.Core.Bool.{Bool}
 use mathlib.Core.List.{List, [], _∷_, _++_}
 use lib.ListN.{length}
-use lib.IntN.{ℤ}
 use Rattle.numeric.specs.Threshold.{Term, Threshold, Job}
 use Rattle.records.specs.declared.Standing.{Standing}
 use Rattle.records.specs.Facts.{Change, opens, adds}
@@ -29,33 +28,6 @@ standingOf s e c j n =
     let ts = j .thresholds in
     record { started = s; sealed = e; contradicted = c; nodes = j .nodes; thresholds = length ts; «last_node» = lastNode ts; «last_terms» = lastTerms ts; terms = allTerms ts; answers = n }
 
--- After a threshold, and after a term.
-abbrev pub openedBy : Standing → ℕ → Standing
-openedBy s n = record {
-  started = s .started;
-  sealed = s .sealed;
-  contradicted = s .contradicted;
-  nodes = s .nodes;
-  thresholds = s .thresholds + 1;
-  «last_node» = n;
-  «last_terms» = 0;
-  terms = s .terms;
-  answers = s .answers;
-}
-
-abbrev pub addedTo : Standing → Standing
-addedTo s = record {
-  started = s .started;
-  sealed = s .sealed;
-  contradicted = s .contradicted;
-  nodes = s .nodes;
-  thresholds = s .thresholds;
-  «last_node» = s .«last_node»;
-  «last_terms» = s .«last_terms» + 1;
-  terms = s .terms + 1;
-  answers = s .answers;
-}
-
 -- What a change makes of the thresholds.
 unfoldable pub addTerm : Term → List Threshold → List Threshold
 addTerm x [] = []
@@ -68,9 +40,3 @@ changed (adds x) ts = addTerm x ts
 
 abbrev pub withChange : Job → Change → Job
 withChange j c = record { nodes = j .nodes; thresholds = changed c (j .thresholds) }
-
-abbrev pub withThreshold : Job → ℕ → ℤ → Job
-withThreshold j n b = withChange j (opens n b)
-
-abbrev pub withTerm : Job → Term → Job
-withTerm j x = withChange j (adds x)

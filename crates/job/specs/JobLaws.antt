@@ -9,9 +9,11 @@ use lib.ListN.{length, take, drop, set, length-drop, length-append}
 use lib.IntN.{ℤ}
 use lib.Seq.{take-nil, take-take, take-set-le, drop-set-add, take-suc-set}
 use Rattle.lists.specs.Laid.{numbers}
-use Rattle.numeric.specs.Threshold.{Term, term, terms, Threshold, Job}
+use Rattle.numeric.specs.Threshold.{Term, term, Threshold, Job}
+use Rattle.numeric.specs.Slices.{terms}
 use Rattle.thresholds.specs.Raw.{stretch}
-use Rattle.job.specs.Job.{lastNode, lastTerms, allTerms, standingOf, openedBy, addedTo, addTerm, withThreshold, withTerm}
+use Rattle.job.specs.Job.{lastNode, lastTerms, allTerms, standingOf, addTerm}
+use Rattle.job.specs.Taken.{openedBy, addedTo, withThreshold, withTerm}
 
 -- ---- the first numbers
 

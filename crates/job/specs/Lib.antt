@@ -1,4 +1,5 @@
 pub mod Job
+pub mod Taken
 pub mod Gathered
 pub mod JobLaws
 pub mod GatheredLaws

@@ -11,7 +11,8 @@ use Rattle.lists.specs.Laid.{over, joinAll, ends, pairs}
 use Rattle.numeric.specs.Threshold.{Term, Threshold, Job}
 use Rattle.thresholds.specs.Laid.{conditions, weights}
 use Rattle.prepare.specs.JobBuffers.{rawOf}
-use Rattle.job.specs.Job.{lastNode, allTerms, addTerm, withThreshold, withTerm}
+use Rattle.job.specs.Job.{lastNode, allTerms, addTerm}
+use Rattle.job.specs.Taken.{withThreshold, withTerm}
 
 -- ---- laid in front of a buffer
 

@@ -13,8 +13,10 @@ use lib.Signed.{ltZ}
 use borrow.Author.Tests.{eqb-false, leb-false, ne-eqb}
 use Rattle.signed.specs.SignedLaws.{nlt-leZ}
 use Rattle.lists.specs.Laid.{numbers}
-use Rattle.numeric.specs.Threshold.{term, terms, Threshold}
-use Rattle.memory.specs.Limits.{rawLimit, listTerms, maxTerms, maxThresholds}
+use Rattle.numeric.specs.Threshold.{term, Threshold}
+use Rattle.numeric.specs.Slices.{terms}
+use Rattle.memory.specs.Limits.{listTerms, maxTerms, maxThresholds}
+use Rattle.memory.specs.Ranges.{rawLimit}
 use Rattle.memory.specs.Buffers.{rawLists}
 use Rattle.thresholds.specs.Raw.{startOf, endOf, stretch, listAt}
 use Rattle.thresholds.specs.RawLaws.{start-suc, stretch-length}
@@ -25,7 +27,8 @@ use Rattle.records.specs.declared.Standing.{Standing}
 use Rattle.records.specs.Facts.{action, facts}
 use Rattle.records.specs.Checks.{refusedBy}
 use Rattle.records.specs.CheckLaws.{Passes, passes}
-use Rattle.job.specs.Job.{openedBy, addedTo, addTerm, withThreshold, withTerm}
+use Rattle.job.specs.Job.{addTerm}
+use Rattle.job.specs.Taken.{openedBy, addedTo, withThreshold, withTerm}
 use Rattle.job.specs.Gathered.{cut, jobIn, Listed, Bounded, Termed, Gathered, Opened, Added}
 use Rattle.job.specs.JobLaws.{map-same, add-more, term-more, stretch-set, stretch-more, or-false}
 use Rattle.job.specs.GatheredLaws.{threshold-by, by-last, list-by, gathered, gathered-last}

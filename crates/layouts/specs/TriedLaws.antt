@@ -26,11 +26,12 @@ use Rattle.words.specs.Mask.{bit}
 use Rattle.queues.specs.Queue.{isEmpty, oldest, nextRow}
 use Rattle.queues.specs.Marks.{Marks, isDecided, Decided, decide}
 use Rattle.queues.specs.MarksLaws.{mask, decide-there, decide-clash, decide-new}
-use Rattle.row.specs.Terms.{rowTerms, sumOf}
+use Rattle.row.specs.Terms.{rowTerms}
+use Rattle.row.specs.SumLaws.{sumOf}
 use Rattle.row.specs.TermsLaws as TermsLaws
 use Rattle.thresholds.specs.Rows.{Row, noRow, rowsOf, hasNonunit}
 use Rattle.propagate.specs.ScanLaws as ScanLaws
-use Rattle.propagate.specs.GuardsLaws.{Condition}
+use Rattle.propagate.specs.Guards.{Condition}
 use Rattle.residual.specs.declared.Interval.{Interval}
 use Rattle.residual.specs.Gcd.{gcd}
 use Rattle.residual.specs.Residual.{interval, residualCheck, suffixes, forceTerm, forceFrom, Residual, residual, over, nothingForced, thresholdResidual}

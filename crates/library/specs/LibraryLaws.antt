@@ -14,7 +14,7 @@ use Rattle.memory.specs.LengthsLaws.{both}
 use Rattle.state.specs.declared.Step.{Step}
 use Rattle.state.specs.declared.State.{State}
 use Rattle.state.specs.Step.{stepNumber}
-use Rattle.between.specs.NumbersLaws.{statesOf}
+use Rattle.between.specs.Numbers.{statesOf}
 use Rattle.files.specs.declared.Given.{Given}
 use Rattle.files.specs.Contents.{Out, out}
 use Rattle.listing.specs.Lines.{maxListing, stepOf, Sealed, Listable}

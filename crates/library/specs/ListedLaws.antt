@@ -15,7 +15,8 @@ use Rattle.row.specs.TermsLaws.{All as Every}
 use Rattle.state.specs.declared.Step.{Step}
 use Rattle.state.specs.declared.Step.the-variants.{Unchanged, Changed, Contradiction}
 use Rattle.state.specs.Step.{stepNumber}
-use Rattle.between.specs.NumbersLaws.{statesOf, states-figures, states-cursors}
+use Rattle.between.specs.NumbersLaws.{states-figures, states-cursors}
+use Rattle.between.specs.Numbers.{statesOf}
 use Rattle.files.specs.declared.Given.{Given}
 use Rattle.files.specs.File.{Outcome, begun}
 use Rattle.files.specs.Contents.{Out, whole}

@@ -3,7 +3,7 @@ ghost use mathlib.Core.Path.{_≡_};
 ghost use mathlib.Core.Bool.{cond};
 ghost use lib.ListN.{length};
 ghost use Rattle.memory.specs.Buffers.{rawLists, raw, heldRows, built, kept, work};
-ghost use Rattle.between.specs.NumbersLaws.{statesOf};
+ghost use Rattle.between.specs.Numbers.{statesOf};
 ghost use Rattle.files.specs.Contents.{whole};
 ghost use Rattle.listing.specs.Lines.{stepOf};
 ghost use Rattle.library.specs.Library.{export, exported, givenBy, readable as readableBy, Lists};

@@ -1,5 +1,5 @@
--- The limits, by name: the counts of document 01, and the powers of two below which numbers stay.
-use Prim.Native.Nat.{ℕ, _^_}
+-- The limits, by name: the counts of document 01.
+use Prim.Native.Nat.{ℕ}
 
 abbrev pub maxNodes : ℕ
 maxNodes = 4096
@@ -26,26 +26,3 @@ searchWords = 4096
 
 abbrev pub maxGcds : ℕ
 maxGcds = 1025
-
--- A raw weight is below this: the area of a term, or of areas joined to one.
-abbrev pub rawLimit : ℕ
-rawLimit = 2 ^ 36
-
--- A row's weight, and so an edge's, is below this: up to listTerms raw weights are merged into it.
-abbrev pub weightLimit : ℕ
-weightLimit = 2 ^ 46
-
--- A drained edge moves a figure by less than this.
-abbrev pub drainLimit : ℕ
-drainLimit = 2 ^ 47
-
--- Totals and bounds stand below totalLimit when they are read, below roomLimit while edges are drained (2 ^ 59 + 4,096 · 2 ^ 47), and no figure
--- reaches figureLimit.
-abbrev pub totalLimit : ℕ
-totalLimit = 2 ^ 59
-
-abbrev pub roomLimit : ℕ
-roomLimit = 2 ^ 60
-
-abbrev pub figureLimit : ℕ
-figureLimit = 2 ^ 61

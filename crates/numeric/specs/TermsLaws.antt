@@ -6,7 +6,8 @@ use mathlib.Core.Path.{_≡_, refl, sym, ap, _∙_}
 use mathlib.Core.List.{List, [], _∷_, _++_, reverse, reverseAux, reverseAux-eq, append-assoc}
 use lib.ListN.{length, getD, take, drop}
 use lib.Seq.{take-suc, take-all, drop-cons}
-use Rattle.numeric.specs.Threshold.{Term, term, terms}
+use Rattle.numeric.specs.Threshold.{Term, term}
+use Rattle.numeric.specs.Slices.{terms}
 
 abbrev pub noTerm : Term
 noTerm = term 0 0

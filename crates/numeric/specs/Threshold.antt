@@ -1,6 +1,6 @@
 -- A job: its node count and its thresholds, each with the list of weighted terms that the records gave it.
 use Prim.Native.Nat.{ℕ}
-use mathlib.Core.List.{List, [], _∷_}
+use mathlib.Core.List.{List}
 use lib.IntN.{ℤ}
 
 -- A term: a condition node and its weight.
@@ -10,12 +10,6 @@ pub record Term : Type 0 where
 
 abbrev pub term : ℕ → ℕ → Term
 term c w = record { condition = c; weight = w }
-
--- Terms stand in two parallel slices, of conditions and of weights.
-unfoldable pub terms : List ℕ → List ℕ → List Term
-terms [] ws = []
-terms (c ∷ cs) [] = []
-terms (c ∷ cs) (w ∷ ws) = term c w ∷ terms cs ws
 
 -- A threshold: its node, its bound and its raw list of terms, in the order of the records, zeros included.
 pub record Threshold : Type 0 where

@@ -13,9 +13,9 @@ use borrow.Author.Tests.{eq-eqb}
 use Rattle.records.specs.declared.Record.{Record}
 use Rattle.records.specs.declared.Record.the-variants.{Header, Opens, Adds, Areas, Seal, Mark, Settle, Sift, Unknown}
 use Rattle.records.specs.declared.Next.the-variants.{Refused, Taken}
-use Rattle.records.specs.Record.{kindOf, bodyLength, recordAt, recordIn}
-use Rattle.records.specs.Facts.{Action, begins, changes, closes, decides, settles, sifts, idles, action, facts, closing}
-use Rattle.records.specs.Checks.{nextAt}
+use Rattle.records.specs.Record.{kindOf, bodyLength, recordAt}
+use Rattle.records.specs.Next.{recordIn, closing, nextAt}
+use Rattle.records.specs.Facts.{Action, begins, changes, closes, decides, settles, sifts, idles, action, facts}
 use Rattle.memory.specs.Buffers.{Kept, clearKept}
 use Rattle.files.specs.declared.JobRead.{JobRead}
 use Rattle.files.specs.File.{File, begun, standing, refusal, act, apply, Outcome, outcome, refusalAt, fileOf}

@@ -5,7 +5,8 @@ use mathlib.Core.Bool.{true, false}
 use mathlib.Core.List.{List, []}
 use lib.ListN.{length, take}
 use lib.IntN.{ℤ}
-use Rattle.memory.specs.Limits.{maxNodes, maxTerms, maxThresholds, rawLimit, maxGcds, searchWords}
+use Rattle.memory.specs.Limits.{maxNodes, maxTerms, maxThresholds, maxGcds, searchWords}
+use Rattle.memory.specs.Ranges.{rawLimit}
 use Rattle.memory.specs.Buffers.{Raw, heldRows, Built, built, Kept, kept, clearBuilt, clearKept}
 use Rattle.state.specs.declared.Step.the-variants.{Unchanged}
 use Rattle.thresholds.specs.Rows.{rowsOf}

@@ -14,7 +14,7 @@ use Rattle.lists.specs.Laid.{over, joinAll, ends, pairs, quads}
 use Rattle.numeric.specs.Threshold.{Term, Job}
 use Rattle.state.specs.declared.State.{State}
 use Rattle.state.specs.declared.Step.the-variants.{Unchanged}
-use Rattle.state.specs.State.{noState}
+use Rattle.state.specs.State.{noState, figuresOf, cursorsOf}
 use Rattle.queues.specs.declared.Rings.{Rings}
 use Rattle.queues.specs.Queue.{queue, ring, rows}
 use Rattle.queues.specs.Marks.{marks}
@@ -23,7 +23,7 @@ use Rattle.thresholds.specs.Laid.{conditions, weights, termLists, guardLists, g
 use Rattle.prefixes.specs.Links.{neighbourLists}
 use Rattle.possible_sums.specs.Shape.{Zeros}
 use Rattle.between.specs.Between.{Live, live}
-use Rattle.between.specs.NumbersLaws.{figuresOf, cursorsOf, rowState, statesOf, Tidy}
+use Rattle.between.specs.Numbers.{rowState, statesOf, Tidy}
 use Rattle.prepare.specs.JobBuffers.{rawOf, rowEntries, nodeEntries, builtWith, builtOf}
 use Rattle.records.specs.declared.Standing.{Standing}
 use Rattle.files.specs.File.{File, Answer, begun, standing, Outcome, outcome}

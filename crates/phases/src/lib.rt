@@ -7,7 +7,7 @@ ghost use Rattle.memory.specs.Buffers.{heldRows, built, Kept, kept, longestInpu
 ghost use Rattle.files.specs.File.{File, standing as standingOf};
 ghost use Rattle.records.specs.declared.Record.the-variants.{Seal};
 ghost use Rattle.records.specs.declared.Next.the-variants.{Taken};
-ghost use Rattle.records.specs.Checks.{nextAt};
+ghost use Rattle.records.specs.Next.{nextAt};
 ghost use Rattle.serve.specs.Serve.{readAt};
 ghost use Rattle.phases.specs.Phase.{KeptRoom, Blank, Stops, ending, Leaves};
 use files::JobRead;

@@ -14,8 +14,9 @@ use Rattle.lists.specs.Laid.{over}
 use Rattle.memory.specs.Limits.{maxThresholds}
 use Rattle.memory.specs.Buffers.{Work, Kept, fits, zeros, cleared}
 use Rattle.state.specs.declared.State.{State}
-use Rattle.state.specs.State.{noState}
-use Rattle.between.specs.NumbersLaws.{figuresOf, cursorsOf, statesOf, stored-read}
+use Rattle.state.specs.State.{noState, figuresOf, cursorsOf}
+use Rattle.between.specs.NumbersLaws.{stored-read}
+use Rattle.between.specs.Numbers.{statesOf}
 use Rattle.states.specs.States.{shown}
 use Rattle.files.specs.File.{File, Outcome, fileOf}
 use Rattle.files.specs.Contents.{Out, served, untouched, whole, keptOf, laid}

@@ -11,7 +11,7 @@ use lib.Dec.{leb}
 use borrow.Author.Tests.{leb-false, lt-ltb}
 use Rattle.row.specs.TermsLaws.{All as Every}
 use Rattle.memory.specs.Buffers.{rawLists, raw, heldRows, built, kept, Work, work, needed, lengths, enough, longestInput, fitsBy}
-use Rattle.between.specs.NumbersLaws.{statesOf}
+use Rattle.between.specs.Numbers.{statesOf}
 use Rattle.files.specs.declared.Given.{Given}
 use Rattle.state.specs.declared.State.{State}
 use Rattle.files.specs.File.{Outcome, fileOf, planned}
@@ -26,7 +26,8 @@ use Rattle.planner_main.specs.declared.Chunk.{Chunk}
 use Rattle.planner_main.specs.declared.Chunk.the-variants as Chunks
 use Rattle.planner_main.specs.declared.Input.{Input}
 use Rattle.planner_main.specs.declared.Input.the-variants as Inputs
-use Rattle.planner_main.specs.Program.{Got, Within, Plans}
+use Rattle.planner_main.specs.Program.{Plans}
+use Rattle.planner_main.specs.Reads.{Got, Within}
 
 fits-by : (w : Work) → lengths w ≡ needed → (input : List ℕ) → fitsBy (lengths w) (length input) ≡ leb (length input) longestInput
 unfolding fitsBy enough

@@ -3,7 +3,8 @@
 ghost use Prim.Native.Nat.{_≤_};
 ghost use lib.ListN.{length};
 ghost use Rattle.listing.specs.Lines.{maxListing};
-ghost use Rattle.planner_main.specs.Program.{Got, Within, Plans};
+ghost use Rattle.planner_main.specs.Program.{Plans};
+ghost use Rattle.planner_main.specs.Reads.{Got, Within};
 use files::Given;
 use libc::STDERR_FILENO;
 use libc::STDIN_FILENO;

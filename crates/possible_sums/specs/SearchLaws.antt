@@ -13,7 +13,8 @@ use lib.IntN.{ℤ, pos, negsuc, _+ℤ_, _-ℤ_, +ℤ-idl, +ℤ-comm, +ℤ-negℤ
 use lib.Signed.{leZ, ltZ}
 use borrow.Author.Tests.{ltb-true, leb-true}
 use Rattle.numeric.specs.Threshold.{Term}
-use Rattle.signed.specs.SignedLaws.{natural, natural-minus, leZ-sub, ltZ-minus}
+use Rattle.signed.specs.SignedLaws.{natural-minus, leZ-sub, ltZ-minus}
+use Rattle.signed.specs.Signed.{natural}
 use Rattle.state.specs.declared.State.{State}
 use Rattle.state.specs.declared.Step.the-variants.{Unchanged, Contradiction}
 use Rattle.state.specs.declared.Upper.{Upper}

@@ -13,10 +13,12 @@ use mir.Val.{SFits}
 use borrow.Author.Tests.{le-leb, lt-leb, leb-true}
 use Rattle.memory.specs.Limits.{listTerms}
 use Rattle.numeric.specs.Threshold.{Term, term}
-use Rattle.signed.specs.SignedLaws.{natural, mag-minus, sub-sfits}
+use Rattle.signed.specs.SignedLaws.{mag-minus, sub-sfits}
+use Rattle.signed.specs.Signed.{natural}
 use Rattle.state.specs.declared.State.{State}
 use Rattle.state.specs.declared.Upper.the-variants.{Open, Under}
-use Rattle.state.specs.State.{Figures, limit, upperAtMost, hasResidualInterval}
+use Rattle.state.specs.State.{limit, upperAtMost, hasResidualInterval}
+use Rattle.state.specs.Shape.{Figures}
 use Rattle.words.specs.declared.Ended.the-variants.{Hit, Complete, Stopped}
 use Rattle.words.specs.Shift.{Shifted, unionShifted}
 use Rattle.words.specs.ShiftLaws.{Outcome, completes, hits, stops, outcome, readable}

@@ -1,7 +1,6 @@
 -- What the buffers hold of a job: Raw as its records gave it, Built as the seal builds it. Behind it each buffer stays as it was.
 use Prim.Native.Nat.{ℕ}
-use mathlib.Core.List.{List, [], map}
-use lib.ListN.{length, replicate}
+use mathlib.Core.List.{List, map}
 use Rattle.memory.specs.Buffers.{Raw, Built, rawLists, raw, heldRows, built}
 use Rattle.lists.specs.Laid.{over, joinAll, ends, pairs, triples, numbers}
 use Rattle.numeric.specs.Threshold.{Term, Threshold, Job}
@@ -43,7 +42,3 @@ builtWith neighbours links j w =
 
 abbrev pub builtOf : Job → Built → Built
 builtOf j w = builtWith (ends 0 (neighbourLists (rowsOf j))) (joinAll (neighbourLists (rowsOf j))) j w
-
--- Before the links are found.
-abbrev pub unlinkedOf : Job → Built → Built
-unlinkedOf j w = builtWith (replicate (length (rowsOf j)) 0) [] j w

@@ -1,7 +1,7 @@
 -- `prepare` on lent buffers: what the job and the buffers must be, and what stands in them afterwards.
 use Prim.Native.Nat.{ℕ, _-_, _%_, _<_, _≤_}
 use mathlib.Core.Path.{_≡_}
-use mathlib.Core.List.{List, _++_, map}
+use mathlib.Core.List.{List, _++_, map, []}
 use lib.ListN.{length, getD, take, drop, replicate}
 use lib.IntN.{ℤ}
 use Rattle.thresholds.specs.Chain.{classCount}
@@ -11,16 +11,22 @@ use Rattle.lists.specs.Deal.{Keyed, grouped}
 use Rattle.lists.specs.Columns.{column, withColumn, Wide}
 use Rattle.row.specs.Keys.{conditionsOf, weightsOf}
 use Rattle.memory.specs.Buffers.{RawLists, Built}
+use Rattle.numeric.specs.Threshold.{Job}
 use Rattle.thresholds.specs.Raw.{Lists}
 use Rattle.thresholds.specs.Guards.{Bounds, nodeAt, rowAt, NodesIn, boundItems, nodeItems}
 use Rattle.thresholds.specs.Placed.{rawsTo, termsTo, nodesTo}
 use Rattle.thresholds.specs.Incidents.{heldItems, Ends}
 use Rattle.thresholds.specs.Laid.{termLists}
+use Rattle.thresholds.specs.Rows.{rowsOf}
 use Rattle.prepare.specs.declared.Extent.{Extent}
 use Rattle.prepare.specs.Given.{givenRows, givenJob}
-use Rattle.prepare.specs.JobBuffers.{unlinkedOf}
+use Rattle.prepare.specs.JobBuffers.{builtWith}
 use Rattle.prepare.specs.NodesGivenLaws.{NodesRise}
 use Rattle.prepare.specs.Place.{Blank, rowEnds}
+
+-- What the buffers hold before the links are found.
+abbrev pub unlinkedOf : Job → Built → Built
+unlinkedOf j w = builtWith (replicate (length (rowsOf j)) 0) [] j w
 
 -- A job of so many nodes, as the records leave it in the raw buffers, cut to their number.
 pub record Sound (r : RawLists) (bounds : List ℤ) (nodes : ℕ) : Type 0 where

@@ -10,7 +10,8 @@ use lib.Seq.{drop-cons}
 use Rattle.lists.specs.Laid.{joinAll, ends}
 use Rattle.lists.specs.Deal.{Keyed}
 use Rattle.lists.specs.Columns.{column}
-use Rattle.numeric.specs.Threshold.{Term, terms}
+use Rattle.numeric.specs.Threshold.{Term}
+use Rattle.numeric.specs.Slices.{terms}
 use Rattle.thresholds.specs.Raw.{stretch}
 use Rattle.thresholds.specs.Laid.{conditions, weights}
 use Rattle.thresholds.specs.Incidents.{incidentsFrom, rowStart, rowEnd, heldTerms, heldLists, heldItems, Ends}

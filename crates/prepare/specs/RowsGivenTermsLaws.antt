@@ -9,7 +9,8 @@ use lib.ListN.{length, take, drop, getD, length-append, length-take}
 use lib.IntN.{ℤ}
 use lib.Dec.{eqb, ltb}
 use Rattle.lists.specs.Laid.{joinAll}
-use Rattle.numeric.specs.Threshold.{Term, terms}
+use Rattle.numeric.specs.Threshold.{Term}
+use Rattle.numeric.specs.Slices.{terms}
 use Rattle.numeric.specs.TermsLaws.{length-terms}
 use Rattle.row.specs.Terms.{before, merge, merged, insert, sorted, rowTerms}
 use Rattle.row.specs.TermsLaws.{All, either, all-sorted, conditions-merged}

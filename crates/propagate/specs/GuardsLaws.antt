@@ -8,18 +8,10 @@ use mathlib.Core.List.{List, [], _∷_, _++_, reverse, reverseAux}
 use lib.ListN.{length, getD, take, drop}
 use lib.Seq.{take-suc, drop-cons}
 use lib.IntN.{ℤ, pos}
-use Rattle.numeric.specs.Threshold.{Term, terms}
 use Rattle.thresholds.specs.Rows.{Guard, guard}
-use Rattle.numeric.specs.Slices.{Below}
+use Rattle.numeric.specs.Slices.{Below, terms}
 use Rattle.propagate.specs.ScanLaws.{All}
-
-unfoldable pub guards : List ℤ → List ℕ → List Guard
-guards [] ns = []
-guards (b ∷ bs) [] = []
-guards (b ∷ bs) (n ∷ ns) = guard b n ∷ guards bs ns
-
-abbrev pub noGuard : Guard
-noGuard = guard (pos 0) 0
+use Rattle.propagate.specs.Guards.{guards, noGuard, Node, Condition}
 
 pub length-guards : (bs : List ℤ) (ns : List ℕ) → length (guards bs ns) ≡ min (length bs) (length ns)
 unfolding guards
@@ -55,17 +47,11 @@ module _ (bs : List ℤ) (ns : List ℕ) (i : ℕ) (h : i < length bs) (k : i < 
       snoc [] x acc = refl
       snoc (y ∷ ys) x acc = snoc ys x (y ∷ acc)
 
-abbrev pub Node : Guard → Type 0
-Node g = g .node < 4096
-
 pub all-guards : (bs : List ℤ) (ns : List ℕ) → Below 4096 ns → All Node (guards bs ns)
 unfolding guards All
 all-guards [] ns h = Prim.tt
 all-guards (b ∷ bs) [] h = Prim.tt
 all-guards (b ∷ bs) (n ∷ ns) h = (h 0 (omega arith), all-guards bs ns (λ i k. h (suc i) (omega arith)))
-
-abbrev pub Condition : Term → Type 0
-Condition t = t .condition < 4096
 
 pub all-terms : (cs ws : List ℕ) → Below 4096 cs → All Condition (terms cs ws)
 unfolding terms All

@@ -1,7 +1,9 @@
 pub mod Scan
+pub mod Turns
 pub mod ScanLaws
 pub mod Shape
 pub mod GuardsLaws
+pub mod Guards
 pub mod Row
 pub mod RowLaws
 pub mod Told

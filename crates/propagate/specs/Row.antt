@@ -13,7 +13,6 @@ use Rattle.state.specs.Step.{joined, contradicts}
 use Rattle.state.specs.State.{reached, upperAtMost, limited, limit, conflict, hasResidualInterval, withGuards, withTerms}
 use Rattle.queues.specs.Marks.{Marks, isDecided, Decided, decide}
 use Rattle.thresholds.specs.Rows.{Row, Guard, hasNonunit}
-use Rattle.propagate.specs.declared.Cutoff.{Cutoff}
 use Rattle.propagate.specs.Scan.{scan, Scanned, force}
 
 -- A row's state and the marks after some of its scans, and their answer.
@@ -56,13 +55,6 @@ thresholdGuards gs s m =
           let b = neverGuards gs s (a .marks) (a .step) in
           ran (withGuards up (up .«sure_guard») (s .«never_guard» - b .passed)) (b .marks) (b .step)
     ]
-
--- A weight that the cutoff leaves free: up to it where sure terms are sought, below it where never ones are.
-abbrev pub light : Cutoff → ℕ → Bool
-light c w = cond (c .value) (leZ (pos w) (c .weight)) (ltZ (pos w) (c .weight))
-
-abbrev pub cut : Bool → ℤ → Cutoff
-cut b z = record { value = b; weight = z }
 
 abbrev pub termWaits : (ℕ → Bool) → Term → Marks → Bool
 termWaits waits t m = not (isDecided m (t .condition)) && waits (t .weight)

@@ -15,14 +15,16 @@ use Rattle.state.specs.declared.Step.{Step}
 use Rattle.state.specs.declared.Step.the-variants.{Unchanged, Contradiction}
 use Rattle.state.specs.declared.State.{State}
 use Rattle.state.specs.Step.{joined, contradicts}
-use Rattle.state.specs.State.{Figures, limit, limited, conflict, hasResidualInterval, withGuards, withTerms}
+use Rattle.state.specs.State.{limit, limited, conflict, hasResidualInterval, withGuards, withTerms}
+use Rattle.state.specs.Shape.{Figures}
 use Rattle.queues.specs.Marks.{Marks}
 use Rattle.queues.specs.MarksLaws.{Waits, waits-decide}
 use Rattle.thresholds.specs.Rows.{Row, rowOf, Guard, hasNonunit}
 use Rattle.propagate.specs.Scan.{Scanned}
 use Rattle.propagate.specs.ScanLaws.{All, all-drop, all-take, all-reverse, scan-keeps, scan-within, force-keeps}
-use Rattle.propagate.specs.GuardsLaws.{Node, Condition}
-use Rattle.propagate.specs.Row.{Ran, ran, decides, sureWaits, sureGuards, neverWaits, neverGuards, thresholdGuards, light, cut, termWaits, forces, forced, trueTerms, falseTerms, rowTerms, scans, thresholdRow, wantsResidual}
+use Rattle.propagate.specs.Guards.{Node, Condition}
+use Rattle.propagate.specs.Row.{Ran, ran, decides, sureWaits, sureGuards, neverWaits, neverGuards, thresholdGuards, termWaits, forces, forced, trueTerms, falseTerms, rowTerms, scans, thresholdRow, wantsResidual}
+use Rattle.propagate.specs.Turns.{light, cut}
 
 module _ (gs : List Guard) (s : State) (m : Marks) where
   -- The cursors stay within the list.

@@ -29,22 +29,6 @@ scan waits act (x ∷ xs) n m k =
           ]
     ]
 
--- One place: what the scan is after it, and whether the scan ends there.
-pub record Turned : Type 0 where
-  pub scanned : Scanned
-  pub ends : Bool
-
-abbrev pub turn : Scanned → Bool → Turned
-turn s e = record { scanned = s; ends = e }
-
-unfoldable pub turned : Bool → Decided → Scanned → Turned
-turned true d s = turn s true
-turned false d s =
-    elim (contradicts (d .step)) [
-      | true ↦ turn (scanned (s .passed + 1) (d .marks) Contradiction) true
-      | false ↦ turn (scanned (s .passed + 1) (d .marks) (joined (s .step) (d .step))) false
-    ]
-
 -- A term that is decided is passed as it is.
 abbrev pub force : Bool → Marks → ℕ → Decided
 force value m n = cond (isDecided m n) (decided m Unchanged) (decide value m n)

@@ -12,7 +12,8 @@ use Rattle.queues.specs.declared.Ring.{Ring}
 use Rattle.queues.specs.Queue.{queue}
 use Rattle.queues.specs.Marks.{Marks, marks, Decided, decided, isDecided, decide}
 use Rattle.queues.specs.MarksLaws.{Waits, waits-decide}
-use Rattle.propagate.specs.Scan.{Scanned, scanned, scan, Turned, turn, turned, force}
+use Rattle.propagate.specs.Scan.{Scanned, scanned, scan, force}
+use Rattle.propagate.specs.Turns.{Turned, turn, turned}
 
 pub clash : {A : Type 0} → true ≡ false → A
 clash h = absurd (let z : _≡_ {A = ℕ} 0 1 = cc in omega arith)

@@ -1,5 +1,7 @@
 pub mod OnceLaws
 pub mod Queue
+pub mod Slot
+pub mod Shape
 pub mod QueueLaws
 pub mod RowsLaws
 pub mod SlotLaws

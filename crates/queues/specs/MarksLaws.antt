@@ -15,7 +15,8 @@ use Rattle.state.specs.declared.Step.the-variants.{Unchanged, Changed, Contradi
 use Rattle.words.specs.Mask.{bit, digit, setBit, learn, Learned}
 use Rattle.words.specs.MaskLaws.{learn-there, learn-opposite, learn-new, learn-has, learn-other, length-learn, set-bit-same, set-bit-other, length-set-bit}
 use Rattle.words.specs.DigitsLaws.{digit-high}
-use Rattle.queues.specs.Queue.{Queue, queue, ring, Held, oldest, push, popped}
+use Rattle.queues.specs.Queue.{Queue, queue, ring, oldest, push, popped}
+use Rattle.queues.specs.Shape.{Held}
 use Rattle.queues.specs.QueueLaws.{entries, waitingList, push-times, popped-times, room-left, held-push, held-popped}
 use Rattle.queues.specs.OnceLaws.{times, times-same, times-other, times-behind}
 use Rattle.queues.specs.Marks.{Marks, marks, isDecided, Decided, decided, waiting, decide}

@@ -1,11 +1,10 @@
 -- Queues, oldest first, in a buffer that wraps at its end; a row waits at most once.
-use Prim.Native.Nat.{ℕ, _+_, _-_, _%_, _<_, _≤_}
+use Prim.Native.Nat.{ℕ, _+_, _-_, _%_}
 use mathlib.Core.Bool.{Bool, cond}
-use mathlib.Core.List.{List, [], _∷_}
-use lib.ListN.{length, getD, set}
+use mathlib.Core.List.{List}
+use lib.ListN.{getD, set}
 use lib.Dec.{eqb}
 use Rattle.memory.specs.Limits.{maxThresholds}
-use Rattle.lists.specs.Columns.{column}
 use Rattle.queues.specs.declared.Ring.{Ring}
 
 abbrev pub ring : ℕ → ℕ → Ring
@@ -24,12 +23,6 @@ isEmpty q = eqb (q .ring .count) 0
 -- The entry that has waited longest.
 abbrev pub oldest : Queue → ℕ
 oldest q = getD (q .items) (q .ring .head) 0
-
--- The slice has room for all places, the oldest entry stands at one of them, and no more wait than there are.
-pub record Held (places : ℕ) (q : Queue) : Type 0 where
-  pub head : q .ring .head < places
-  pub count : q .ring .count ≤ places
-  pub long : places ≤ length (q .items)
 
 -- The place behind all that wait; the first argument is the number of places, at which the queue wraps.
 abbrev pub behind : ℕ → Ring → ℕ
@@ -65,15 +58,3 @@ unfoldable pub nextRow : Rows → Rows
 nextRow q = rows (popped maxThresholds (q .queue)) (set (q .pending) (oldest (q .queue)) 0)
 
 -- ---- two queues of rows in one buffer of slots
-
--- The queue whose entries stand in column k, and its flags, by row, in the column behind it.
-abbrev pub rowsIn : ℕ → List (List ℕ) → Ring → Rows
-rowsIn k slots r = rows (queue (column k slots) r) (column (k + 1) slots)
-
--- The four numbers of a slot.
-abbrev pub slot : List ℕ → List ℕ
-slot l = getD l 0 0 ∷ getD l 1 0 ∷ getD l 2 0 ∷ getD l 3 0 ∷ []
-
--- Number j of one slot is written.
-unfoldable pub put : List (List ℕ) → ℕ → ℕ → ℕ → List (List ℕ)
-put slots at j x = set slots at (set (slot (getD slots at [])) j x)

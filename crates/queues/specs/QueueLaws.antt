@@ -14,7 +14,8 @@ use lib.ListN.{length, getD, set, length-set}
 use lib.Seq.{getD-set-same, getD-set-other}
 use Rattle.memory.specs.Limits.{maxThresholds}
 use Rattle.queues.specs.OnceLaws.{times, times-last, room}
-use Rattle.queues.specs.Queue.{Queue, queue, Held, isEmpty, oldest, push, popped, Rows, rows, queueRow}
+use Rattle.queues.specs.Queue.{Queue, queue, isEmpty, oldest, push, popped, Rows, rows, queueRow}
+use Rattle.queues.specs.Shape.{Held}
 
 -- A place behind the last is that much behind the first.
 pub wrap-once : (at places : ℕ) → places ≤ at → at < places + places → at % places ≡ at - places

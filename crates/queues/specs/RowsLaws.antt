@@ -10,7 +10,8 @@ use lib.Dec.{lit<}
 use lib.ListN.{length, getD, set, length-set, replicate, length-replicate, List·getD-eq-default}
 use lib.Seq.{getD-set-same, getD-set-other}
 use Rattle.memory.specs.Limits.{maxThresholds}
-use Rattle.queues.specs.Queue.{queue, ring, Held, oldest, push, popped, Rows, rows, queueRow, nextRow}
+use Rattle.queues.specs.Queue.{queue, ring, oldest, push, popped, Rows, rows, queueRow, nextRow}
+use Rattle.queues.specs.Shape.{Held}
 use Rattle.queues.specs.QueueLaws.{entries, waitingList, push-times, popped-times, room-left, held-push, held-popped, row-waits, row-new}
 use Rattle.queues.specs.OnceLaws.{times, times-same, times-other, within}
 

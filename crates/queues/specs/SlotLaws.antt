@@ -10,7 +10,8 @@ use Rattle.memory.specs.Limits.{maxThresholds}
 use Rattle.lists.specs.Columns.{column}
 use Rattle.lists.specs.ColumnsLaws.{column-at}
 use Rattle.queues.specs.declared.Ring.{Ring}
-use Rattle.queues.specs.Queue.{queue, behind, longerRing, push, popped, poppedRing, rows, rowsIn, slot, put, queueRow, nextRow}
+use Rattle.queues.specs.Queue.{queue, behind, longerRing, push, popped, poppedRing, rows, queueRow, nextRow}
+use Rattle.queues.specs.Slot.{rowsIn, slot, put}
 use Rattle.queues.specs.QueueLaws.{row-waits, row-new}
 
 slot-at : (l : List ℕ) (i : ℕ) → i < 4 → getD (slot l) i 0 ≡ getD l i 0

@@ -4,7 +4,9 @@ ghost use Prim.Native.Nat.{_+_, _-_, _<_, _≤_, _%_, _^_};
 ghost use lib.ListN.{length, getD};
 ghost use Rattle.lists.specs.Columns.{column};
 ghost use Rattle.queues.specs.declared.Ring.{Ring};
-ghost use Rattle.queues.specs.Queue.{queue, Held, push as pushed, behind as behindAll, longerRing, poppedRing, rowsIn, put as puts, queueRow, nextRow};
+ghost use Rattle.queues.specs.Queue.{queue, push as pushed, behind as behindAll, longerRing, poppedRing, queueRow, nextRow};
+ghost use Rattle.queues.specs.Slot.{rowsIn, put as puts};
+ghost use Rattle.queues.specs.Shape.{Held};
 ghost use Rattle.queues.specs.Marks.{marks, decided, waiting, decide as decides};
 use state::Step;
 

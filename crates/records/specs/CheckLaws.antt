@@ -13,9 +13,10 @@ use Rattle.records.specs.declared.Record.{Record}
 use Rattle.records.specs.declared.Record.the-variants.{Opens, Adds, Seal}
 use Rattle.records.specs.declared.Next.the-variants.{Refused, Taken}
 use Rattle.records.specs.declared.Standing.{Standing}
-use Rattle.records.specs.Record.{kindOf, bodyLength, bodyOf, recordIn}
+use Rattle.records.specs.Record.{kindOf, bodyLength, bodyOf}
+use Rattle.records.specs.Next.{recordIn, taking, nextAt}
 use Rattle.records.specs.Facts.{Facts, building, within, ofTerms, action, facts}
-use Rattle.records.specs.Checks.{wrongTurn, anyOf, notRising, badBound, tooMany, Check, check, first, checks, refusedBy, unknownKind, cutBody, refusedAt, taking, nextAt}
+use Rattle.records.specs.Checks.{wrongTurn, anyOf, notRising, badBound, tooMany, Check, check, first, checks, refusedBy, unknownKind, cutBody, refusedAt}
 
 pub first-here : (p : Bool) (n : ℕ) (cs : List Check) → p ≡ true → n ≡ first (check p n ∷ cs)
 unfolding first

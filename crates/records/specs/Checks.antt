@@ -1,17 +1,15 @@
 -- The refusal table: which check of a record applies first, by what the file so far has and what the record's facts say.
-use Prim.Native.Nat.{ℕ, _+_}
-use mathlib.Core.Bool.{Bool, true, false, cond, _&&_, _||_, not}
+use Prim.Native.Nat.{ℕ}
+use mathlib.Core.Bool.{Bool, true, false, _&&_, _||_, not}
 use mathlib.Core.List.{List, [], _∷_}
-use lib.ListN.{length, getD, drop}
+use lib.ListN.{length}
 use lib.Dec.{eqb, leb, ltb}
 use lib.IntN.{ℤ, pos, negsuc}
 use lib.Signed.{ltZ}
 use Rattle.memory.specs.Limits.{listTerms, maxNodes, maxTerms, maxThresholds}
 use Rattle.records.specs.declared.Record.{Record}
-use Rattle.records.specs.declared.Next.{Next}
-use Rattle.records.specs.declared.Next.the-variants.{Refused, Taken}
 use Rattle.records.specs.declared.Standing.{Standing}
-use Rattle.records.specs.Record.{kinds, kindOf, bodyLength, bodyOf, recordAt, recordIn}
+use Rattle.records.specs.Record.{kinds, kindOf, bodyLength, bodyOf, recordAt}
 use Rattle.records.specs.Facts.{Turn, opening, building, within, serving, whenever, Counted, ofNodes, ofThresholds, ofTerms, ofAnswers, ofNothing, Facts, action, facts}
 
 -- What the checks read of the file so far is a `Standing`, declared in the code.
@@ -85,10 +83,3 @@ cutBody kind rest = ltb (length (bodyOf kind rest)) (bodyLength (kindOf kind))
 
 abbrev pub refusedAt : Standing → ℕ → List ℕ → ℕ
 refusedAt s kind rest = first (checks s (unknownKind kind) (cutBody kind rest) (facts (action (recordAt kind rest))))
-
--- The record at an offset, or the number that refuses it.
-abbrev pub taking : ℕ → Record → Next
-taking n r = cond (eqb n 0) (Taken r) (Refused n)
-
-abbrev pub nextAt : Standing → List ℕ → ℕ → Next
-nextAt s bytes at = taking (refusedAt s (getD bytes at 0) (drop (at + 1) bytes)) (recordIn bytes at)

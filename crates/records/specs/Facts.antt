@@ -1,6 +1,5 @@
 -- What a record does, and what the checks read of it.
 use Prim.Native.Nat.{ℕ}
-use mathlib.Core.Bool.{Bool, true, false}
 use mathlib.Core.List.{List, [], _∷_}
 use lib.IntN.{ℤ}
 use Rattle.numeric.specs.Area.{weightOfArea}
@@ -54,16 +53,6 @@ action (Mark n v) = decides n v
 action Settle = settles
 action Sift = sifts
 action Unknown = idles (facing whenever [] [] [] [] ofNothing)
-
--- Whether it closes the job.
-abbrev pub closing : Action → Bool
-closing (begins n) = false
-closing (changes c) = false
-closing closes = true
-closing (decides n v) = false
-closing settles = false
-closing sifts = false
-closing (idles x) = false
 
 -- What the checks read, by what the record does; one that does nothing brings it along.
 abbrev pub facts : Action → Facts

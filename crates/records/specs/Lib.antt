@@ -1,4 +1,5 @@
 pub mod Record
+pub mod Next
 pub mod Facts
 pub mod Checks
 pub mod RecordLaws

@@ -61,10 +61,3 @@ bodyOf kind rest = take (bodyLength (kindOf kind)) rest
 
 abbrev pub recordAt : ℕ → List ℕ → Record
 recordAt kind rest = kindOf kind .made (bodyOf kind rest)
-
--- The kind of the record at an offset, and the record.
-abbrev pub kindAt : List ℕ → ℕ → Kind
-kindAt bytes at = kindOf (getD bytes at 0)
-
-abbrev pub recordIn : List ℕ → ℕ → Record
-recordIn bytes at = recordAt (getD bytes at 0) (drop (at + 1) bytes)

@@ -5,9 +5,10 @@ ghost use lib.ListN.{length, getD, take, drop};
 ghost use mathlib.Core.Bool.{_||_, _&&_, not};
 ghost use mathlib.Core.List.{[], _∷_};
 ghost use Rattle.records.specs.declared.Record.the-variants.{Adds};
-ghost use Rattle.records.specs.Facts.{building, within, ofTerms, action, closing};
-ghost use Rattle.records.specs.Checks.{wrongTurn, notRising, badBound, tooMany, check, first, refusedBy, nextAt};
-ghost use Rattle.records.specs.Record.{kindOf, bodyLength, littleEndian, signed, kindAt, recordIn};
+ghost use Rattle.records.specs.Facts.{building, within, ofTerms, action};
+ghost use Rattle.records.specs.Checks.{wrongTurn, notRising, badBound, tooMany, check, first, refusedBy};
+ghost use Rattle.records.specs.Record.{kindOf, bodyLength, littleEndian, signed};
+ghost use Rattle.records.specs.Next.{kindAt, recordIn, closing, nextAt};
 
 // A record with its fields: nodes; node and bound; condition and weight; condition and area; node and value.
 pub enum Record {

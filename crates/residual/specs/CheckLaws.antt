@@ -11,7 +11,8 @@ use lib.Seq.{take-all}
 use lib.Dec.{eqb, leb}
 use lib.Signed.{ltZ}
 use borrow.Author.Tests.{eq-eqb, ne-eqb}
-use Rattle.numeric.specs.Threshold.{Term, term, terms}
+use Rattle.numeric.specs.Threshold.{Term, term}
+use Rattle.numeric.specs.Slices.{terms}
 use Rattle.numeric.specs.TermsLaws.{lastTerms, last-next}
 use Rattle.state.specs.declared.Step.the-variants.{Unchanged, Contradiction}
 use Rattle.state.specs.declared.State.{State}

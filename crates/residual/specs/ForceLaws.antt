@@ -10,7 +10,7 @@ use native.Mathlib.Numerals.{add-one}
 use lib.ListN.{length, getD, drop, length-append, length-drop, length-reverse, drop-of-length-le, List·getD-append}
 use borrow.Author.Tests.{eq-eqb, ne-eqb}
 use Rattle.memory.specs.Limits.{maxNodes}
-use Rattle.numeric.specs.Threshold.{Term, term, terms}
+use Rattle.numeric.specs.Threshold.{Term, term}
 use Rattle.numeric.specs.TermsLaws.{up-terms, length-terms}
 use Rattle.state.specs.declared.Step.{Step}
 use Rattle.state.specs.declared.Step.the-variants.{Unchanged, Changed, Contradiction}
@@ -23,7 +23,7 @@ use Rattle.queues.specs.Marks.{Marks, marks, isDecided, Decided, decided, decid
 use Rattle.residual.specs.declared.Interval.{Interval}
 use Rattle.residual.specs.Gcd.{gcd}
 use Rattle.residual.specs.MissesLaws.{clash}
-use Rattle.numeric.specs.Slices.{Below}
+use Rattle.numeric.specs.Slices.{Below, terms}
 use Rattle.residual.specs.SuffixLaws.{length-suffix}
 use Rattle.residual.specs.Residual.{
   interval,

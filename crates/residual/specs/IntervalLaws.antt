@@ -9,7 +9,8 @@ use lib.Signed.{nonNeg, leZ, ltZ}
 use borrow.Author.Tests.{ltb-true, leb-true}
 use mir.Syntax.{w64}
 use mir.Val.{SFits, Fits}
-use Rattle.signed.specs.SignedLaws.{natural, leZ-trans, nlt-leZ, ltZ-weaken, nle-ltZ, leZ-ltZ, max-right}
+use Rattle.signed.specs.SignedLaws.{leZ-trans, nlt-leZ, ltZ-weaken, nle-ltZ, leZ-ltZ, max-right}
+use Rattle.signed.specs.Signed.{natural}
 use Rattle.state.specs.declared.Upper.{Upper}
 use Rattle.state.specs.declared.Upper.the-variants.{Open, Under}
 use Rattle.state.specs.declared.State.{State}

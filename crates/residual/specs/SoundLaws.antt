@@ -12,7 +12,7 @@ use lib.ListN.{length, getD, length-reverse}
 use lib.IntN.{pos}
 use lib.Signed.{leZ, ltZ}
 use borrow.Author.Tests.{le-leb}
-use Rattle.signed.specs.SignedLaws.{natural}
+use Rattle.signed.specs.Signed.{natural}
 use Rattle.numeric.specs.Threshold.{Term}
 use Rattle.state.specs.declared.Step.{Step}
 use Rattle.state.specs.declared.Step.the-variants.{Unchanged, Changed, Contradiction}

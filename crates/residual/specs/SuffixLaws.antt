@@ -7,7 +7,8 @@ use mathlib.Core.Bool.{Bool, cond}
 use mathlib.Core.List.{List, [], _∷_, _++_, reverse}
 use lib.ListN.{length, getD, set, take, drop, length-reverse}
 use lib.Seq.{sets, sets-eq, take-length}
-use Rattle.numeric.specs.Threshold.{Term, terms}
+use Rattle.numeric.specs.Threshold.{Term}
+use Rattle.numeric.specs.Slices.{terms}
 use Rattle.numeric.specs.TermsLaws.{down-terms}
 use Rattle.residual.specs.Gcd.{gcd}
 use Rattle.residual.specs.Residual.{suffixFrom, suffixes, over}

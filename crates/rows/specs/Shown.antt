@@ -3,7 +3,7 @@ use Prim.Native.Nat.{ℕ, _<_, _≤_, _^_}
 use mathlib.Core.List.{List}
 use lib.ListN.{length}
 use lib.IntN.{ℤ}
-use Rattle.numeric.specs.Threshold.{terms}
+use Rattle.numeric.specs.Slices.{terms}
 use Rattle.row.specs.Terms.{total}
 use Rattle.thresholds.specs.Raw.{stretch}
 use Rattle.prepare.specs.RowsGivenLaidLaws.{startIn, endIn}

@@ -11,12 +11,13 @@ use lib.Signed.{ltZ}
 use mir.Syntax.{w64}
 use mir.Val.{SFits}
 use borrow.Author.Tests.{le-ltb, ltb-true}
-use Rattle.memory.specs.Limits.{rawLimit, weightLimit}
+use Rattle.memory.specs.Ranges.{rawLimit, weightLimit}
 use Rattle.memory.specs.Buffers.{Built, heldRows, built}
 use Rattle.lists.specs.Laid.{over, joinAll, ends, numbers}
 use Rattle.lists.specs.Columns.{column}
 use Rattle.lists.specs.ColumnsLaws.{length-column}
-use Rattle.numeric.specs.Threshold.{Term, terms, Threshold}
+use Rattle.numeric.specs.Threshold.{Term, Threshold}
+use Rattle.numeric.specs.Slices.{terms}
 use Rattle.row.specs.Terms.{total, rowTerms, sameTerms}
 use Rattle.row.specs.TermsLaws.{All}
 use Rattle.row.specs.SumLaws.{row-total-fits}

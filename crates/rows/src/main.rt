@@ -3,7 +3,7 @@
 ghost use mathlib.Core.Path.{_≡_};
 ghost use Prim.Native.Nat.{_<_, _≤_, _^_};
 ghost use lib.ListN.{length};
-ghost use Rattle.numeric.specs.Threshold.{terms};
+ghost use Rattle.numeric.specs.Slices.{terms};
 ghost use Rattle.row.specs.Terms.{total};
 ghost use Rattle.memory.specs.Buffers.{rawLists, raw, heldRows, built};
 ghost use Rattle.prepare.specs.RowsGivenLaidLaws.{startIn, endIn};

@@ -11,9 +11,10 @@ use borrow.Author.Tests.{eqb-true, eqb-false, le-leb}
 use Rattle.records.specs.declared.Record.{Record}
 use Rattle.records.specs.declared.Next.{Next}
 use Rattle.records.specs.declared.Next.the-variants.{Refused, Taken}
-use Rattle.records.specs.Record.{kindOf, bodyLength, kindAt, recordIn}
+use Rattle.records.specs.Record.{kindOf, bodyLength}
+use Rattle.records.specs.Next.{kindAt, recordIn, nextAt}
 use Rattle.records.specs.declared.Record.the-variants.{Header, Opens, Adds, Areas, Seal, Mark, Settle, Sift, Unknown}
-use Rattle.records.specs.Checks.{nextAt, unknownKind, cutBody}
+use Rattle.records.specs.Checks.{unknownKind, cutBody}
 use Rattle.files.specs.File.{File, standing, refusal, apply, Outcome, outcome, recordAt, refusalAt, readFrom}
 use Rattle.files.specs.FileLaws.{read-enough, checked}
 use Rattle.ends.specs.FilesLaws.{refused-by, both}

@@ -5,7 +5,7 @@ use mathlib.Core.Path.{_≡_, refl, sym, ap, subst, _∙_}
 use mathlib.Core.List.{List, []}
 use lib.ListN.{length}
 use lib.IntN.{ℤ}
-use Rattle.memory.specs.Limits.{totalLimit}
+use Rattle.memory.specs.Ranges.{totalLimit}
 use Rattle.memory.specs.Buffers.{Built, Kept}
 use Rattle.lists.specs.Laid.{over}
 use Rattle.state.specs.declared.Step.{Step}
@@ -15,13 +15,13 @@ use Rattle.queues.specs.MarksLaws.{Waits}
 use Rattle.between.specs.Between.{Index, Live, Did, did}
 use Rattle.between.specs.Held.{Shaped, Holds}
 use Rattle.between.specs.FirstLaws.{Totals}
-use Rattle.between.specs.NumbersLaws.{Tidy}
+use Rattle.between.specs.Numbers.{Tidy}
 use Rattle.regions.specs.Drain as Drain
 use Rattle.regions.specs.Drain.{indexOf}
 use Rattle.records.specs.declared.Record.the-variants.{Seal}
 use Rattle.records.specs.declared.Standing.{Standing}
 use Rattle.records.specs.declared.Next.the-variants.{Taken}
-use Rattle.records.specs.Checks.{nextAt}
+use Rattle.records.specs.Next.{nextAt}
 use Rattle.files.specs.File.{File, standing, refusal, told, sealedFile, act, apply, outcome}
 use Rattle.settle.specs.BeginsLaws.{Fresh}
 use Rattle.sift.specs.Tries.{Scratch}

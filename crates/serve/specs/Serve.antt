@@ -6,7 +6,7 @@ use mathlib.Core.List.{List, [], _∷_, map}
 use lib.ListN.{length, drop}
 use lib.Dec.{eqb}
 use lib.IntN.{ℤ}
-use Rattle.memory.specs.Limits.{rawLimit}
+use Rattle.memory.specs.Ranges.{rawLimit}
 use Rattle.memory.specs.Buffers.{Built, Kept}
 use Rattle.lists.specs.Columns.{column}
 use Rattle.lists.specs.Laid.{over, pairs, quads}
@@ -17,7 +17,7 @@ use Rattle.state.specs.Step.{contradicts}
 use Rattle.queues.specs.declared.Rings.{Rings}
 use Rattle.queues.specs.Queue.{ring}
 use Rattle.between.specs.Between.{Live, Did}
-use Rattle.between.specs.NumbersLaws.{liveOf, Tidy}
+use Rattle.between.specs.Numbers.{liveOf, Tidy}
 use Rattle.regions.specs.Drain as Drain
 use Rattle.regions.specs.Drain.{indexOf}
 use Rattle.regions.specs.Sift as Sift

@@ -28,7 +28,7 @@ use Rattle.possible_sums.specs.declared.Search.the-variants.{Skipped, Fits, Not
 use Rattle.possible_sums.specs.Search.{search, searchStep, searchVisits}
 use Rattle.possible_sums.specs.SearchLaws.{search-visits}
 use Rattle.between.specs.Between.{Index, Live, live, Did, stateAt}
-use Rattle.between.specs.NumbersLaws.{Tidy}
+use Rattle.between.specs.Numbers.{Tidy}
 use Rattle.regions.specs.Drain as Drain
 use Rattle.regions.specs.Drain.{indexOf}
 use Rattle.regions.specs.Sift as Sift
@@ -38,8 +38,8 @@ use Rattle.records.specs.declared.Record.the-variants.{Header, Opens, Adds, Are
 use Rattle.records.specs.declared.Standing.{Standing}
 use Rattle.records.specs.declared.Next.{Next}
 use Rattle.records.specs.declared.Next.the-variants.{Refused, Taken}
-use Rattle.records.specs.Record.{bodyLength, kindAt}
-use Rattle.records.specs.Checks.{nextAt}
+use Rattle.records.specs.Record.{bodyLength}
+use Rattle.records.specs.Next.{kindAt, nextAt}
 use Rattle.records.specs.Facts.{adds}
 use Rattle.files.specs.File.{File, Answer, sifted, standing, refusal, told, markedFile, settledFile, siftedFile, act, apply, Outcome, outcome}
 use Rattle.files.specs.Contents.{answerNumber, answerVisits}

@@ -6,7 +6,8 @@ use mathlib.Core.Bool.{Bool, true, false, cond}
 use mathlib.Core.List.{List, [], _∷_}
 use lib.ListN.{length, getD}
 use lib.IntN.{ℤ}
-use Rattle.memory.specs.Limits.{maxNodes, maxTerms, totalLimit, figureLimit}
+use Rattle.memory.specs.Limits.{maxNodes, maxTerms}
+use Rattle.memory.specs.Ranges.{totalLimit, figureLimit}
 use Rattle.memory.specs.Buffers.{HeldRows, Built}
 use Rattle.state.specs.declared.State.{State}
 use Rattle.state.specs.declared.Step.{Step}

@@ -5,7 +5,7 @@ use mathlib.Core.Bool.{Bool, true, cond}
 use mathlib.Core.List.{List}
 use lib.ListN.{length, getD}
 use lib.IntN.{ℤ}
-use Rattle.memory.specs.Limits.{drainLimit, roomLimit}
+use Rattle.memory.specs.Ranges.{drainLimit, roomLimit}
 use Rattle.memory.specs.Buffers.{HeldRows, Built}
 use Rattle.queues.specs.Queue.{Rows}
 use Rattle.thresholds.specs.Rows.{noRow}

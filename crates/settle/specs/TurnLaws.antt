@@ -11,7 +11,8 @@ use lib.ListN.{length, getD, List·getD-eq-default}
 use lib.Pow.{pow-pos}
 use borrow.Author.Tests.{eqb-false}
 use lib.IntN.{ℤ}
-use Rattle.memory.specs.Limits.{maxNodes, drainLimit, roomLimit, figureLimit}
+use Rattle.memory.specs.Limits.{maxNodes}
+use Rattle.memory.specs.Ranges.{drainLimit, roomLimit, figureLimit}
 use Rattle.memory.specs.Buffers.{HeldRows, Built}
 use Rattle.lists.specs.Columns.{column}
 use Rattle.lists.specs.ColumnsLaws.{length-column}
@@ -20,7 +21,8 @@ use Rattle.state.specs.Step.{joined, contradicts}
 use Rattle.words.specs.Mask.{bit, digit}
 use Rattle.words.specs.DigitsLaws.{digit-high}
 use Rattle.queues.specs.declared.Ring.{Ring}
-use Rattle.queues.specs.Queue.{Rows, queue, isEmpty, oldest, poppedRing, popped, nextRow, rowsIn}
+use Rattle.queues.specs.Queue.{Rows, queue, isEmpty, oldest, poppedRing, popped, nextRow}
+use Rattle.queues.specs.Slot.{rowsIn}
 use Rattle.queues.specs.RowsLaws.{Flags, flags-next, oldest-row}
 use Rattle.queues.specs.Marks.{Marks, marks, isDecided}
 use Rattle.queues.specs.MarksLaws.{Waits, waits-popped}

@@ -15,9 +15,9 @@ use Rattle.regions.specs.Drain.{indexOf}
 use Rattle.records.specs.declared.Record.{Record}
 use Rattle.records.specs.Facts.{Change, opens, adds, Action, begins, changes, closes, decides, settles, sifts, idles, action, facts}
 use Rattle.job.specs.Job.{changed}
-use Rattle.files.specs.File.{File, contradicted, begun, refusal, sealedFile, markedFile, settledFile, siftedFile, act, apply, after}
+use Rattle.files.specs.File.{File, contradicted, begun, refusal, sealedFile, markedFile, settledFile, siftedFile, act, apply, after, Passed}
 use Rattle.ends.specs.BlankLaws.{blank-begun}
-use Rattle.ends.specs.FilesLaws.{Good, good-begun, both, Taken, taken, building-turn, change-turn, serving-turn, node-small, good-apply, Passed}
+use Rattle.ends.specs.FilesLaws.{Good, good-begun, both, Taken, taken, building-turn, change-turn, serving-turn, node-small, good-apply}
 use Rattle.table.specs.Table.{Table}
 use Rattle.follows.specs.DecideLaws.{Broken, decideAs}
 use Rattle.follows.specs.FirstLaws.{Undrained, undrained-from, undrained-none}

@@ -6,7 +6,7 @@ use mathlib.Core.Bool.{Bool, true, false}
 use mathlib.Core.List.{List, [], _∷_, _++_}
 use lib.ListN.{length, getD, take, drop, length-take, length-drop}
 use lib.Dec.{eqb, ltb}
-use Rattle.memory.specs.Limits.{rawLimit}
+use Rattle.memory.specs.Ranges.{rawLimit}
 use Rattle.row.specs.TermsLaws.{All as Every}
 use Rattle.records.specs.declared.Record.{Record}
 use Rattle.records.specs.Record.{littleEndian, behind, kindOf, bodyLength}

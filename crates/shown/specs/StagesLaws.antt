@@ -5,7 +5,7 @@ use native.Mathlib.Omega.{arith}
 use mathlib.Core.Path.{_≡_, refl, sym, ap, _∙_, subst}
 use mathlib.Core.Bool.{Bool, true, false, _||_}
 use mathlib.Core.List.{List, [], _∷_}
-use Rattle.memory.specs.Limits.{rawLimit}
+use Rattle.memory.specs.Ranges.{rawLimit}
 use Rattle.memory.specs.Buffers.{Built, heldRows, built}
 use Rattle.numeric.specs.Area.{weightOfArea}
 use Rattle.numeric.specs.Threshold.{Term, term, Threshold, Job}
@@ -14,9 +14,9 @@ use Rattle.row.specs.TermsLaws.{All as Every}
 use Rattle.prepare.specs.JobBuffers.{builtOf}
 use Rattle.records.specs.declared.Record.{Record}
 use Rattle.records.specs.declared.Record.the-variants.{Header, Opens, Adds, Areas, Seal, Mark, Settle, Sift, Unknown}
-use Rattle.files.specs.File.{File, begun, refusal, act, apply, after, planned}
+use Rattle.files.specs.File.{File, begun, refusal, act, apply, after, planned, Passed}
 use Rattle.ends.specs.BuiltLaws.{Fits, Light, every-last, light-term}
-use Rattle.ends.specs.FilesLaws.{Good, good-begun, both, taken, serving-turn, good-apply, Passed, planned-passed}
+use Rattle.ends.specs.FilesLaws.{Good, good-begun, both, taken, serving-turn, good-apply, planned-passed}
 use Rattle.settle.specs.Serves.{Low}
 use Rattle.settle.specs.BeginsLaws.{Fresh}
 use Rattle.holds.specs.LentLaws.{lentOf, Lendable, served-built}

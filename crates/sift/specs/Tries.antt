@@ -3,7 +3,8 @@ use Prim.Native.Nat.{ℕ, _-_, _<_, _≤_}
 use mathlib.Core.Bool.{Bool, true, false}
 use mathlib.Core.List.{List}
 use lib.ListN.{length}
-use Rattle.memory.specs.Limits.{listTerms, figureLimit, searchWords}
+use Rattle.memory.specs.Limits.{listTerms, searchWords}
+use Rattle.memory.specs.Ranges.{figureLimit}
 use Rattle.memory.specs.Buffers.{HeldRows}
 use Rattle.numeric.specs.Threshold.{Term}
 use Rattle.state.specs.declared.State.{State}

@@ -9,12 +9,13 @@ use borrow.Author.Tests.{eqb-false}
 use lib.IntN.{ℤ}
 use Rattle.memory.specs.Limits.{listTerms}
 use Rattle.memory.specs.Buffers.{HeldRows, Built}
-use Rattle.numeric.specs.Threshold.{Term, terms}
+use Rattle.numeric.specs.Threshold.{Term}
+use Rattle.numeric.specs.Slices.{terms}
 use Rattle.state.specs.declared.State.{State}
 use Rattle.state.specs.declared.Step.{Step}
 use Rattle.state.specs.declared.Step.the-variants.{Unchanged, Changed, Contradiction}
 use Rattle.state.specs.Step.{stepNumber, isUnchanged}
-use Rattle.state.specs.State.{Figures}
+use Rattle.state.specs.Shape.{Figures}
 use Rattle.queues.specs.Queue.{Rows, isEmpty, oldest, nextRow}
 use Rattle.queues.specs.RowsLaws.{flags-next}
 use Rattle.queues.specs.Marks.{Marks, isDecided, Decided}

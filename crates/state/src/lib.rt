@@ -4,7 +4,8 @@ ghost use mathlib.Core.Bool.{not};
 ghost use Prim.Native.Nat.{_<_, _^_};
 ghost use lib.Signed.{leZ};
 ghost use Rattle.state.specs.Step.{joined, stepNumber, contradicts};
-ghost use Rattle.state.specs.State.{reached, conflict, hasResidualInterval, upperAtMost, withLower, withUpper, withGuards, withTerms, drained, firstState, Drains};
+ghost use Rattle.state.specs.State.{reached, conflict, hasResidualInterval, upperAtMost, withLower, withUpper, withGuards, withTerms, drained, firstState};
+ghost use Rattle.state.specs.Shape.{Drains};
 
 // What a record or a step of it did, the strongest last.
 pub enum Step {

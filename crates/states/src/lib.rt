@@ -4,7 +4,7 @@ ghost use Prim.Native.Nat.{_<_, _≤_};
 ghost use lib.ListN.{length, getD, set, take};
 ghost use Rattle.memory.specs.Limits.{maxThresholds};
 ghost use Rattle.state.specs.State.{noState};
-ghost use Rattle.between.specs.NumbersLaws.{statesOf};
+ghost use Rattle.between.specs.Numbers.{statesOf};
 ghost use Rattle.states.specs.States.{shown};
 use state::State;
 

@@ -18,8 +18,8 @@ use Rattle.numeric.specs.Layout.{Layout, IsLayout, satisfied, constraint, weigh
 use Rattle.state.specs.declared.Upper.{Upper}
 use Rattle.state.specs.declared.Upper.the-variants.{Open, Under}
 use Rattle.state.specs.State.{maxZ}
-use Rattle.row.specs.Terms.{rowTerms, sumOf, sameTerms}
-use Rattle.row.specs.SumLaws.{row-sum, value-sum}
+use Rattle.row.specs.Terms.{rowTerms, sameTerms}
+use Rattle.row.specs.SumLaws.{row-sum, value-sum, sumOf}
 use Rattle.thresholds.specs.Rows.{Row, rowOf, Guard, guard, noRow, insertGuard, below, place, placeAll, rowsOf}
 use Rattle.table.specs.Table.{Table, start, known, possible, AtMost, Below, IsRow, termsOf, Guards, knownOf, possibleOf, reachedOf, Step, sure-guard, never-guard, bound-reached, bound-out-of-reach, term-needed, term-too-heavy, longer-lower, shorter-upper, Conflict, both, lower-above, upper-reached, AtRest}
 use Rattle.table.specs.OrderLaws.{le, lt, of-le, of-lt, ≤ℤ-trans, ≤ℤ-or-<ℤ, <ℤ-≤ℤ, pos-≤ℤ}

@@ -8,7 +8,8 @@ use lib.Dec.{T}
 use lib.IntN.{ℤ, pos, _+ℤ_, _-ℤ_, -ℤ-+ℤ-cancel, +ℤ-comm, pos-+ℤ-pos}
 use lib.Signed.{leZ, ltZ, _≤ℤ_, _<ℤ_, leZ-yes, ltZ-yes, ≤ℤ-refl, clashℤ}
 use borrow.Author.Tests.{le-leb}
-use Rattle.signed.specs.SignedLaws.{leZ-trans, leZ-antisymm, leZ-ltZ, ltZ-weaken, nle-ltZ, leZ-add, leZ-minus, pos-minus, leZ-pos, maxZ, max-left, max-right, max-least}
+use Rattle.signed.specs.SignedLaws.{leZ-trans, leZ-antisymm, leZ-ltZ, ltZ-weaken, nle-ltZ, leZ-add, leZ-minus, pos-minus, leZ-pos, max-left, max-right, max-least}
+use Rattle.signed.specs.Signed.{maxZ}
 use Rattle.state.specs.declared.Upper.{Upper}
 use Rattle.state.specs.declared.Upper.the-variants.{Open, Under}
 use Rattle.table.specs.Table.{AtMost, Below}

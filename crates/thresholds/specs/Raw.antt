@@ -6,9 +6,11 @@ use mathlib.Core.List.{List, [], _∷_}
 use lib.ListN.{length, take, drop, getD}
 use lib.Dec.{ltb}
 use lib.IntN.{ℤ, pos}
-use Rattle.memory.specs.Limits.{maxThresholds, listTerms, rawLimit}
+use Rattle.memory.specs.Limits.{maxThresholds, listTerms}
+use Rattle.memory.specs.Ranges.{rawLimit}
 use Rattle.memory.specs.Buffers.{RawLists}
-use Rattle.numeric.specs.Threshold.{Term, Threshold, terms}
+use Rattle.numeric.specs.Threshold.{Term, Threshold}
+use Rattle.numeric.specs.Slices.{terms}
 use Rattle.row.specs.Terms.{sameTerms}
 use Rattle.thresholds.specs.declared.Found.{Found}
 use Rattle.thresholds.specs.declared.Found.the-variants.{At, Nothing}

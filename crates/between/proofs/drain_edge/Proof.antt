@@ -4,9 +4,9 @@ use mathlib.Core.Path.{_∙_, ap}
 use native.Mathlib.Omega.{arith}
 use Rattle.memory.specs.Buffers.{heldRows}
 use Rattle.state.specs.State.{drained}
-use Rattle.memory.specs.Limits.{figureLimit, drainLimit}
+use Rattle.memory.specs.Ranges.{figureLimit, drainLimit}
 use Rattle.between.specs.Between.{did, stateAt}
-use Rattle.between.specs.NumbersLaws.{liveOf}
+use Rattle.between.specs.Numbers.{liveOf}
 use Rattle.between.specs.Held.{heldRow}
 use Rattle.between.specs.ReadyLaws.{ready-more, fit-more, fit-by, fit-drained, fit-drains, drains-by, from-state}
 use Rattle.between.proofs.drain_edge.Statement.{statement}

@@ -2,7 +2,7 @@
 use mathlib.Core.Path.{_∙_, sym}
 use native.Mathlib.Omega.{arith}
 use Rattle.thresholds.specs.RawLaws.{stretch-length}
-use Rattle.memory.specs.Limits.{roomLimit}
+use Rattle.memory.specs.Ranges.{roomLimit}
 use Rattle.between.specs.FirstLaws.{first-cut, small-cut}
 use Rattle.between.proofs.first_at.Statement.{statement}
 use Rattle.between.proofs.first_at.Tie as tie

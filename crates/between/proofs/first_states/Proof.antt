@@ -3,7 +3,8 @@ use Prim.Native.Nat.{_-_, _<_}
 use mathlib.Core.Path.{_≡_, _∙_, refl}
 use native.Mathlib.Omega.{arith}
 use lib.ListN.{length}
-use Rattle.between.specs.NumbersLaws.{statesOf, states-set, Tidy, tidy-store}
+use Rattle.between.specs.NumbersLaws.{states-set, tidy-store}
+use Rattle.between.specs.Numbers.{statesOf, Tidy}
 use Rattle.between.specs.FirstLaws.{Starting, starting-first, starting-next, starting-end}
 use Rattle.between.proofs.first_states.Statement.{statement}
 use Rattle.between.proofs.first_states.Tie as tie

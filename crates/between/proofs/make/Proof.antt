@@ -5,7 +5,7 @@ use mir.Val.{toZ, ofZ}
 use lib.ListN.{getD}
 use lib.IntN.{pos}
 use borrow.Author.Tests.{eq-eqb, ne-eqb}
-use Rattle.between.specs.NumbersLaws.{rowState}
+use Rattle.between.specs.Numbers.{rowState}
 use borrow.Author.Needs.{needs}
 use Rattle.between.proofs.make.Statement.{statement}
 use Rattle.between.proofs.make.Tie as tie

@@ -1,7 +1,7 @@
 -- `between::queue_residual` meets its contract.
 use mathlib.Core.Path.{refl, sym, _∙_}
-use Rattle.numeric.specs.Threshold.{terms}
-use Rattle.queues.specs.Queue.{rowsIn}
+use Rattle.numeric.specs.Slices.{terms}
+use Rattle.queues.specs.Slot.{rowsIn}
 use Rattle.thresholds.specs.Rows.{rowOf}
 use Rattle.between.specs.BetweenLaws.{residual-waits, residual-not}
 use borrow.Author.Needs.{needs}

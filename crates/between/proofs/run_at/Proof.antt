@@ -1,9 +1,9 @@
 -- `between::run_at` meets its contract.
 use native.Mathlib.Omega.{arith}
 use Rattle.memory.specs.Buffers.{heldRows}
-use Rattle.memory.specs.Limits.{figureLimit}
+use Rattle.memory.specs.Ranges.{figureLimit}
 use Rattle.between.specs.Between.{did, stateAt}
-use Rattle.between.specs.NumbersLaws.{liveOf}
+use Rattle.between.specs.Numbers.{liveOf}
 use Rattle.between.specs.HeldLaws.{term-slices, guard-slices, run-cut}
 use Rattle.between.specs.ReadyLaws.{fit-runs}
 use borrow.Author.Needs.{needs}

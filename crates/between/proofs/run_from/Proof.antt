@@ -3,9 +3,10 @@ use mathlib.Core.Path.{_∙_}
 use native.Mathlib.Omega.{arith}
 use lib.ListN.{length, set}
 use Rattle.memory.specs.Buffers.{heldRows}
-use Rattle.memory.specs.Limits.{figureLimit}
+use Rattle.memory.specs.Ranges.{figureLimit}
 use Rattle.between.specs.Between.{did}
-use Rattle.between.specs.NumbersLaws.{statesOf, liveOf, states-set, tidy-store}
+use Rattle.between.specs.NumbersLaws.{states-set, tidy-store}
+use Rattle.between.specs.Numbers.{statesOf, liveOf}
 use Rattle.between.specs.Held.{heldRow}
 use Rattle.between.specs.BetweenLaws.{store-run}
 use Rattle.between.specs.ReadyLaws.{ready-set, ready-states}

@@ -1,12 +1,13 @@
 -- `between::run_row` meets its contract: the state is read, run and written back, and the row waits for a residual if it wants one.
 use mathlib.Core.Path.{sym}
 use mathlib.Core.List.{[]}
-use Rattle.numeric.specs.Threshold.{terms}
+use Rattle.numeric.specs.Slices.{terms}
 use Rattle.queues.specs.declared.Rings.{Rings}
 use Rattle.thresholds.specs.Rows.{rowOf}
-use Rattle.propagate.specs.GuardsLaws.{guards}
+use Rattle.propagate.specs.Guards.{guards}
 use Rattle.between.specs.Between.{stateAt}
-use Rattle.between.specs.NumbersLaws.{liveOf, runs-by, states-set, tidy-store}
+use Rattle.between.specs.NumbersLaws.{runs-by, states-set, tidy-store}
+use Rattle.between.specs.Numbers.{liveOf}
 use Rattle.between.specs.BetweenLaws.{run-made}
 use Rattle.between.proofs.run_row.Statement.{statement}
 use Rattle.between.proofs.run_row.Tie as tie

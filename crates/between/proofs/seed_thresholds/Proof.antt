@@ -4,7 +4,8 @@ use mathlib.Core.Path.{_∙_, sym}
 use native.Mathlib.Omega.{arith}
 use lib.ListN.{length}
 use Rattle.memory.specs.Buffers.{heldRows}
-use Rattle.between.specs.NumbersLaws.{liveOf, Tidy, Same, same-self}
+use Rattle.between.specs.NumbersLaws.{same-self}
+use Rattle.between.specs.Numbers.{liveOf, Tidy, Same}
 use Rattle.between.specs.SeedingLaws.{Seeding, seeding-first, seeding-next, seeding-stop, seeding-end}
 use borrow.Author.Needs.{needs}
 use Rattle.between.proofs.seed_thresholds.Statement.{statement}

@@ -4,7 +4,8 @@ use mathlib.Core.Path.{_∙_, sym}
 use native.Mathlib.Omega.{arith}
 use lib.ListN.{length}
 use Rattle.memory.specs.Buffers.{heldRows}
-use Rattle.between.specs.NumbersLaws.{liveOf, Tidy, Same, same-self}
+use Rattle.between.specs.NumbersLaws.{same-self}
+use Rattle.between.specs.Numbers.{liveOf, Tidy, Same}
 use Rattle.between.specs.DrainingLaws.{Draining, edges-of, draining-first, draining-ready, draining-next, draining-stop, draining-end, condition-held}
 use borrow.Author.Needs.{needs}
 use Rattle.between.proofs.threshold_condition.Statement.{statement}

@@ -3,10 +3,10 @@ use mathlib.Core.Path.{_∙_}
 use native.Mathlib.Omega.{arith}
 use lib.ListN.{length}
 use Rattle.memory.specs.Buffers.{heldRows}
-use Rattle.queues.specs.Queue.{rowsIn}
-use Rattle.memory.specs.Limits.{figureLimit}
+use Rattle.queues.specs.Slot.{rowsIn}
+use Rattle.memory.specs.Ranges.{figureLimit}
 use Rattle.between.specs.Between.{did}
-use Rattle.between.specs.NumbersLaws.{liveOf}
+use Rattle.between.specs.Numbers.{liveOf}
 use Rattle.between.specs.Held.{heldRow}
 use Rattle.between.specs.BetweenLaws.{linked-run}
 use Rattle.between.specs.ReadyLaws.{ready-queue}

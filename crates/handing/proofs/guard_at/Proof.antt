@@ -5,9 +5,9 @@ use native.Mathlib.Omega.{arith}
 use lib.ListN.{length, getD}
 use lib.Signed.{mag}
 use Rattle.propagate.specs.RowLaws.{signed}
-use Rattle.memory.specs.Limits.{figureLimit}
+use Rattle.memory.specs.Ranges.{figureLimit}
 use Rattle.between.specs.Between.{did, thresholdGuard}
-use Rattle.between.specs.NumbersLaws.{liveOf}
+use Rattle.between.specs.Numbers.{liveOf}
 use Rattle.between.specs.Held.{noThreshold}
 use Rattle.between.specs.GuardLaws.{guard-not, guard-is, guard-bound, guard-row}
 use Rattle.handing.proofs.guard_at.Statement.{statement}

@@ -5,9 +5,9 @@ use Rattle.memory.specs.Buffers.{heldRows}
 use Rattle.state.specs.declared.State.{State}
 use Rattle.propagate.specs.declared.Tightened.{Tightened}
 use Rattle.propagate.specs.Told.{movedState}
-use Rattle.memory.specs.Limits.{figureLimit}
+use Rattle.memory.specs.Ranges.{figureLimit}
 use Rattle.between.specs.Between.{did, stateAt}
-use Rattle.between.specs.NumbersLaws.{liveOf}
+use Rattle.between.specs.Numbers.{liveOf}
 use Rattle.between.specs.Held.{heldRow}
 use Rattle.between.specs.HandingLaws.{handed-new, handed-none}
 use Rattle.between.specs.ReadyLaws.{fit-by, fit-prefix}

@@ -1,6 +1,6 @@
 -- `handing::queue_linked` meets its contract.
 use mathlib.Core.Path.{refl, _∙_}
-use Rattle.queues.specs.Queue.{rowsIn}
+use Rattle.queues.specs.Slot.{rowsIn}
 use Rattle.between.specs.BetweenLaws.{linked-waits, linked-not}
 use borrow.Author.Needs.{needs}
 use Rattle.handing.proofs.queue_linked.Statement.{statement}

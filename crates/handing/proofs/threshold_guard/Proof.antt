@@ -7,9 +7,9 @@ use Rattle.memory.specs.Buffers.{heldRows}
 use Rattle.propagate.specs.declared.Tightened.{Tightened}
 use Rattle.propagate.specs.RowLaws.{signed}
 use Rattle.propagate.specs.Told.{guardState}
-use Rattle.memory.specs.Limits.{figureLimit}
+use Rattle.memory.specs.Ranges.{figureLimit}
 use Rattle.between.specs.Between.{did, stateAt}
-use Rattle.between.specs.NumbersLaws.{liveOf}
+use Rattle.between.specs.Numbers.{liveOf}
 use Rattle.between.specs.BetweenLaws.{guard-moves, guard-tells-nothing, bounded-held}
 use Rattle.between.specs.ReadyLaws.{fit-by, fit-guard}
 use borrow.Author.Needs.{needs}

@@ -4,9 +4,10 @@ use mathlib.Core.Path.{_∙_, sym}
 use native.Mathlib.Omega.{arith}
 use lib.ListN.{length}
 use Rattle.memory.specs.Buffers.{heldRows}
-use Rattle.memory.specs.Limits.{figureLimit}
+use Rattle.memory.specs.Ranges.{figureLimit}
 use Rattle.between.specs.Between.{stateAt}
-use Rattle.between.specs.NumbersLaws.{liveOf, Tidy, Same, same-self}
+use Rattle.between.specs.NumbersLaws.{same-self}
+use Rattle.between.specs.Numbers.{liveOf, Tidy, Same}
 use Rattle.between.specs.ReadyLaws.{fit-by}
 use Rattle.between.specs.HandingLaws.{Handing, links-of, handing-first, handing-next, handing-stop, handing-end, prefixes-held}
 use borrow.Author.Needs.{needs}

@@ -4,7 +4,7 @@ use mathlib.Core.List.{List}
 use Prim.Native.Nat.{ℕ}
 use native.Mathlib.Omega.{arith}
 use lib.ListN.{set}
-use Rattle.job.specs.Job.{addedTo}
+use Rattle.job.specs.Taken.{addedTo}
 use Rattle.job.specs.Gathered.{Added}
 use Rattle.job.specs.TakenLaws.{term-room, term-open, counts-left, added}
 use borrow.Author.Needs.{needs}

@@ -6,7 +6,7 @@ use lib.ListN.{set}
 use lib.IntN.{ℤ}
 use mir.Syntax.{w64}
 use mir.Val.{toZ, ofZ}
-use Rattle.job.specs.Job.{openedBy}
+use Rattle.job.specs.Taken.{openedBy}
 use Rattle.job.specs.Gathered.{Opened}
 use Rattle.job.specs.TakenLaws.{open-room, opened}
 use borrow.Author.Needs.{needs}

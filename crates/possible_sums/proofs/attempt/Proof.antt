@@ -4,7 +4,7 @@ use mathlib.Core.Path.{ap, ap₂, _∙_}
 use mathlib.Core.List.{List, reverse}
 use lib.ListN.{set, replicate}
 use borrow.Author.Needs.{needs}
-use Rattle.numeric.specs.Threshold.{terms}
+use Rattle.numeric.specs.Slices.{terms}
 use Rattle.words.specs.Mask.{inEither}
 use Rattle.possible_sums.specs.Search.{searchFrom}
 use Rattle.possible_sums.proofs.attempt.Statement.{statement}

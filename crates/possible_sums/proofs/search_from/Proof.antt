@@ -8,7 +8,8 @@ use mathlib.Core.List.{List, _∷_, reverse}
 use lib.ListN.{length, getD}
 use borrow.Author.Needs.{needs}
 use borrow.Author.Tests.{lt-ltb, le-ltb}
-use Rattle.numeric.specs.Threshold.{Term, terms}
+use Rattle.numeric.specs.Threshold.{Term}
+use Rattle.numeric.specs.Slices.{terms}
 use Rattle.words.specs.Mask.{inEither}
 use Rattle.words.specs.Shift.{unionShifted}
 use Rattle.words.specs.ShiftLaws.{union-length, complete-visits}

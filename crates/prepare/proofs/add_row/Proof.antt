@@ -2,7 +2,7 @@
 use Prim.Native.Nat.{ℕ, _+_}
 use lib.ListN.{getD, set}
 use native.Mathlib.Omega.{arith}
-use Rattle.numeric.specs.Threshold.{terms}
+use Rattle.numeric.specs.Slices.{terms}
 use Rattle.memory.specs.Buffers.{rawLists}
 use Rattle.thresholds.specs.Raw.{stretch}
 use Rattle.thresholds.specs.RawLaws.{list-is}

@@ -6,14 +6,16 @@ use mathlib.Core.Bool.{Bool, not, _&&_}
 use mathlib.Core.List.{List, [], _∷_}
 use lib.ListN.{length, getD, drop, drop-of-length-le}
 use native.Mathlib.Numerals.{add-one}
-use Rattle.numeric.specs.Threshold.{Term, term, terms}
+use Rattle.numeric.specs.Threshold.{Term, term}
+use Rattle.numeric.specs.Slices.{terms}
 use Rattle.numeric.specs.TermsLaws.{up-terms, length-terms}
 use Rattle.queues.specs.Queue.{queue}
 use Rattle.queues.specs.Marks.{marks, isDecided}
 use Rattle.queues.specs.MarksLaws.{Waits}
-use Rattle.propagate.specs.Scan.{scan, scanned, turn}
+use Rattle.propagate.specs.Scan.{scan, scanned}
+use Rattle.propagate.specs.Turns.{turn, light}
 use Rattle.propagate.specs.ScanLaws.{force-keeps, place-ends, place-goes, place-passed, place-keeps, scan-none}
-use Rattle.propagate.specs.Row.{termWaits, light, forces, forced}
+use Rattle.propagate.specs.Row.{termWaits, forces, forced}
 use Rattle.propagate.proofs.forced_terms.Statement.{statement}
 use Rattle.propagate.proofs.forced_terms.Tie as tie
 

@@ -1,7 +1,7 @@
 -- `propagate::row_terms` meets its contract: true terms, and false ones where they did not contradict.
 use mathlib.Core.Path.{_≡_, sym, ap, _∙_}
 use borrow.Author.Needs.{needs}
-use Rattle.numeric.specs.Threshold.{terms}
+use Rattle.numeric.specs.Slices.{terms}
 use Rattle.state.specs.declared.Step.{Step}
 use Rattle.state.specs.Step.{joined}
 use Rattle.queues.specs.Queue.{queue}

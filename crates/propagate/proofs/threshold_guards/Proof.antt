@@ -8,7 +8,8 @@ use Rattle.queues.specs.Queue.{queue}
 use Rattle.queues.specs.Marks.{Marks, marks}
 use Rattle.queues.specs.MarksLaws.{Waits}
 use Rattle.propagate.specs.Scan.{Scanned, scanned}
-use Rattle.propagate.specs.GuardsLaws.{guards, length-guards, all-guards}
+use Rattle.propagate.specs.GuardsLaws.{length-guards, all-guards}
+use Rattle.propagate.specs.Guards.{guards}
 use Rattle.propagate.specs.RowLaws.{sure-within, never-within, sure-keeps, guards-stop, guards-more}
 use Rattle.propagate.proofs.threshold_guards.Statement.{statement}
 use Rattle.propagate.proofs.threshold_guards.Tie as tie

@@ -1,11 +1,12 @@
 -- `propagate::threshold_row` meets its contract: a conflict, a contradiction of the guards, or the terms behind them.
 use mathlib.Core.Path.{_≡_, sym, _∙_}
 use borrow.Author.Needs.{needs}
-use Rattle.numeric.specs.Threshold.{terms}
+use Rattle.numeric.specs.Slices.{terms}
 use Rattle.queues.specs.Queue.{queue}
 use Rattle.queues.specs.Marks.{marks}
 use Rattle.thresholds.specs.Rows.{rowOf}
-use Rattle.propagate.specs.GuardsLaws.{guards, all-guards}
+use Rattle.propagate.specs.GuardsLaws.{all-guards}
+use Rattle.propagate.specs.Guards.{guards}
 use Rattle.propagate.specs.Row.{ran, thresholdGuards}
 use Rattle.propagate.specs.RowLaws.{kept-guards, kept-by, figures-moved, row-conflict, row-guards, row-terms}
 use Rattle.propagate.proofs.threshold_row.Statement.{statement}

@@ -2,7 +2,7 @@
 use mathlib.Core.Path.{sym, _∙_}
 use borrow.Author.Needs.{needs}
 use borrow.Author.Tests.{not-true, not-false}
-use Rattle.numeric.specs.Threshold.{terms}
+use Rattle.numeric.specs.Slices.{terms}
 use Rattle.thresholds.specs.Rows.{rowOf}
 use Rattle.propagate.specs.RowLaws.{wants-conflict, wants-unit, wants-interval}
 use Rattle.propagate.proofs.wants_residual.Statement.{statement}

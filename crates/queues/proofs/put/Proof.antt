@@ -1,5 +1,5 @@
 -- `queues::put` meets its contract. Assumes nothing.
-use Rattle.queues.specs.Queue.{put}
+use Rattle.queues.specs.Slot.{put}
 use borrow.Author.Needs.{needs}
 use Rattle.queues.proofs.put.Statement.{statement}
 use Rattle.queues.proofs.put.Tie as tie

@@ -4,7 +4,8 @@ use native.Mathlib.Omega.{arith}
 use mathlib.Core.Path.{_≡_, sym, ap, _∙_}
 use mathlib.Core.List.{List, reverse}
 use lib.ListN.{length}
-use Rattle.numeric.specs.Threshold.{Term, terms}
+use Rattle.numeric.specs.Threshold.{Term}
+use Rattle.numeric.specs.Slices.{terms}
 use Rattle.numeric.specs.TermsLaws.{lastTerms, last-all, last-none}
 use Rattle.words.specs.Mask.{inEither}
 use Rattle.residual.specs.Gcd.{misses}

@@ -5,7 +5,8 @@ use mathlib.Core.Path.{_≡_, sym, ap, _∙_}
 use mathlib.Core.Bool.{false}
 use mathlib.Core.List.{List, reverse}
 use lib.ListN.{length}
-use Rattle.numeric.specs.Threshold.{Term, terms}
+use Rattle.numeric.specs.Threshold.{Term}
+use Rattle.numeric.specs.Slices.{terms}
 use Rattle.words.specs.Mask.{inEither}
 use Rattle.residual.specs.Residual.{fitsFrom}
 use Rattle.numeric.specs.TermsLaws.{lastTerms, last-all}

@@ -3,7 +3,7 @@ use mathlib.Core.Path.{sym, ap, _∙_}
 use mathlib.Core.Bool.{false}
 use mathlib.Core.List.{reverse}
 use borrow.Author.Tests.{not-true, not-false}
-use Rattle.numeric.specs.Threshold.{terms}
+use Rattle.numeric.specs.Slices.{terms}
 use Rattle.words.specs.Mask.{inEither}
 use Rattle.residual.specs.declared.Interval.{Interval}
 use Rattle.residual.specs.Residual.{fitsFrom}

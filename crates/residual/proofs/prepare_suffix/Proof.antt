@@ -5,7 +5,7 @@ use mathlib.Core.Path.{_≡_, refl, sym, ap, _∙_}
 use mathlib.Core.Bool.{Bool, cond}
 use lib.ListN.{length, getD, set, length-set}
 use borrow.Author.Needs.{needs}
-use Rattle.numeric.specs.Threshold.{terms}
+use Rattle.numeric.specs.Slices.{terms}
 use Rattle.numeric.specs.TermsLaws.{length-terms}
 use Rattle.words.specs.Mask.{inEither}
 use Rattle.residual.specs.Gcd.{gcd}

@@ -6,7 +6,7 @@ use lib.Signed.{ltZ}
 use mir.Syntax.{w64}
 use mir.Val.{toZ, ofZ}
 use borrow.Author.Tests.{not-true, not-false}
-use Rattle.numeric.specs.Threshold.{terms}
+use Rattle.numeric.specs.Slices.{terms}
 use Rattle.words.specs.Mask.{inEither}
 use Rattle.state.specs.State.{reached, upperAtMost, hasResidualInterval}
 use Rattle.thresholds.specs.Rows.{hasNonunit}

@@ -3,7 +3,7 @@ use native.Mathlib.Omega.{arith}
 use Rattle.queues.specs.Queue.{queue}
 use Rattle.queues.specs.Marks.{marks}
 use Rattle.between.specs.Between.{Live}
-use Rattle.between.specs.NumbersLaws.{liveOf}
+use Rattle.between.specs.Numbers.{liveOf}
 use Rattle.settle.specs.BeginsLaws.{mark-is}
 use Rattle.settle.proofs.mark.Statement.{statement}
 use Rattle.settle.proofs.mark.Tie as tie

@@ -1,11 +1,11 @@
 -- `settle::seal` meets its contract: the first states, then each row once.
 use native.Mathlib.Omega.{arith}
 use mathlib.Core.List.{List}
-use Rattle.memory.specs.Limits.{totalLimit, roomLimit}
+use Rattle.memory.specs.Ranges.{totalLimit, roomLimit}
 use Rattle.memory.specs.Buffers.{HeldRows, heldRows}
 use Rattle.state.specs.declared.State.{State}
 use Rattle.between.specs.Between.{Live, did}
-use Rattle.between.specs.NumbersLaws.{statesOf, liveOf}
+use Rattle.between.specs.Numbers.{statesOf, liveOf}
 use Rattle.settle.specs.BeginsLaws.{totals-more, seal-ready, seal-is}
 use mathlib.Core.Path.{_∙_}
 use Rattle.settle.proofs.seal.Statement.{statement}

@@ -4,7 +4,8 @@ use lib.Dec.{eqb}
 use borrow.Author.Tests.{not-true, not-false}
 use Rattle.memory.specs.Buffers.{heldRows, Built, built}
 use Rattle.between.specs.Between.{Live, did}
-use Rattle.between.specs.NumbersLaws.{liveOf, Tidy, Same, same-self}
+use Rattle.between.specs.NumbersLaws.{same-self}
+use Rattle.between.specs.Numbers.{liveOf, Tidy, Same}
 use Rattle.ends.specs.TurnsLaws.{left}
 use Rattle.settle.specs.SettlingLaws.{Settling, settling-first, settling-next, settling-less, settling-stop, settling-end, row-waits}
 use mathlib.Core.Path.{_≡_, _∙_, sym}

@@ -4,7 +4,7 @@ use mathlib.Core.List.{List}
 use Prim.Native.Nat.{ℕ}
 use Rattle.memory.specs.Buffers.{HeldRows, heldRows, Built, built}
 use Rattle.between.specs.Between.{Live, did}
-use Rattle.between.specs.NumbersLaws.{liveOf}
+use Rattle.between.specs.Numbers.{liveOf}
 use Rattle.between.specs.KeptHeldLaws.{counts-links}
 use Rattle.settle.specs.TurnLaws.{node-taken, node-next-run, node-stop, node-next}
 use mathlib.Core.Path.{_∙_, sym}

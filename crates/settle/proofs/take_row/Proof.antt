@@ -1,11 +1,11 @@
 -- `settle::take_row` meets its contract: the row waits no longer, and hands its bounds on.
 use native.Mathlib.Omega.{arith}
 use lib.ListN.{length}
-use Rattle.memory.specs.Limits.{figureLimit}
+use Rattle.memory.specs.Ranges.{figureLimit}
 use Rattle.memory.specs.Buffers.{HeldRows, heldRows}
-use Rattle.queues.specs.Queue.{rowsIn}
+use Rattle.queues.specs.Slot.{rowsIn}
 use Rattle.between.specs.Between.{Live, did}
-use Rattle.between.specs.NumbersLaws.{liveOf}
+use Rattle.between.specs.Numbers.{liveOf}
 use Rattle.settle.specs.TurnLaws.{slots-head, slots-oldest, row-there, row-run, row-is}
 use mathlib.Core.Path.{_∙_, refl}
 use Rattle.settle.proofs.take_row.Statement.{statement}

@@ -5,7 +5,8 @@ use mathlib.Core.List.{List}
 use lib.ListN.{length}
 use Rattle.memory.specs.Buffers.{heldRows, Built, built}
 use Rattle.between.specs.Between.{Live}
-use Rattle.between.specs.NumbersLaws.{liveOf, Tidy, Same, same-self}
+use Rattle.between.specs.NumbersLaws.{same-self}
+use Rattle.between.specs.Numbers.{liveOf, Tidy, Same}
 use Rattle.ends.specs.TurnsLaws.{left}
 use Rattle.regions.specs.Sift.{sifted}
 use Rattle.sift.specs.Tries.{Scratch, Round, round}

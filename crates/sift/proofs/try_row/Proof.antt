@@ -1,10 +1,11 @@
 -- `sift::try_row` meets its contract: the row's own stretches and its state are tried.
 use native.Mathlib.Omega.{arith}
 use Rattle.memory.specs.Buffers.{HeldRows, heldRows}
-use Rattle.queues.specs.Queue.{queue, rowsIn}
+use Rattle.queues.specs.Queue.{queue}
+use Rattle.queues.specs.Slot.{rowsIn}
 use Rattle.queues.specs.Marks.{marks}
 use Rattle.between.specs.Between.{Live, live}
-use Rattle.between.specs.NumbersLaws.{liveOf}
+use Rattle.between.specs.Numbers.{liveOf}
 use Rattle.between.specs.HeldLaws.{term-slices}
 use Rattle.regions.specs.Drain.{withMarks}
 use Rattle.regions.specs.Sift.{sifted}

@@ -1,7 +1,8 @@
 -- `sift::try_terms` meets its contract: divisibility, then a search where that left all as it was.
 use native.Mathlib.Omega.{arith}
 use mathlib.Core.List.{List}
-use Rattle.numeric.specs.Threshold.{Term, terms}
+use Rattle.numeric.specs.Threshold.{Term}
+use Rattle.numeric.specs.Slices.{terms}
 use Rattle.queues.specs.Queue.{queue}
 use Rattle.queues.specs.Marks.{Marks, marks}
 use Rattle.residual.specs.Residual.{Residual, residual}

@@ -1,6 +1,7 @@
 -- `thresholds::build_at` meets its contract. Assumes nothing.
-use Rattle.memory.specs.Limits.{maxNodes, rawLimit}
-use Rattle.numeric.specs.Threshold.{terms}
+use Rattle.memory.specs.Limits.{maxNodes}
+use Rattle.memory.specs.Ranges.{rawLimit}
+use Rattle.numeric.specs.Slices.{terms}
 use Rattle.row.specs.Terms.{rowTerms}
 use Rattle.row.specs.Keys.{conditionsOf, weightsOf}
 use Rattle.thresholds.specs.Raw.{stretch}

@@ -3,7 +3,8 @@ use Rattle.thresholds.specs.PlacedLaws.{raw-by, laid-fits}
 use Rattle.sort.specs.Runs.{cleared}
 use Rattle.row.specs.Keys.{Raw, laid, conditionsOf, weightsOf}
 use Rattle.row.specs.Terms.{rowTerms}
-use Rattle.numeric.specs.Threshold.{Term, terms}
+use Rattle.numeric.specs.Threshold.{Term}
+use Rattle.numeric.specs.Slices.{terms}
 use mathlib.Core.Path.{subst, sym, ap, ap₂, _∙_}
 use mathlib.Core.List.{List}
 use Prim.Native.Nat.{ℕ, _≤_}

@@ -2,7 +2,7 @@
 use lib.Dec.{lit<}
 use native.Mathlib.Nat.{mod-lt}
 use Rattle.thresholds.specs.RawLaws.{mixed-next, mixed-done, fingerprint-of}
-use Rattle.numeric.specs.Threshold.{terms}
+use Rattle.numeric.specs.Slices.{terms}
 use Rattle.thresholds.specs.Raw.{prints, mixed as mixedOf}
 use mathlib.Core.Path.{_≡_, refl, sym, _∙_}
 use Prim.Native.Nat.{_+_, _*_, _-_, _<_, _≤_}

@@ -1,6 +1,6 @@
 -- `thresholds::print_stretch` meets its contract. Assumes nothing.
 use native.Mathlib.Omega.{arith}
-use Rattle.memory.specs.Limits.{rawLimit}
+use Rattle.memory.specs.Ranges.{rawLimit}
 use Rattle.thresholds.specs.PlacedLaws.{stretch-small}
 use Rattle.thresholds.specs.RawLaws.{stretch-length}
 use borrow.Author.Needs.{needs}

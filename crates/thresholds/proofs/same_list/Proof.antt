@@ -1,6 +1,6 @@
 -- `thresholds::same_list` meets its contract. Assumes nothing.
 use Rattle.thresholds.specs.RawLaws.{same-lengths, length-terms, same-left, same-right, same-equal, same-done}
-use Rattle.numeric.specs.Threshold.{terms}
+use Rattle.numeric.specs.Slices.{terms}
 use Rattle.row.specs.Terms.{sameTerms}
 use mathlib.Core.Path.{_≡_, refl, sym, _∙_}
 use Prim.Native.Nat.{_-_, _≤_}

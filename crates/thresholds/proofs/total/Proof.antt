@@ -1,7 +1,7 @@
 -- `thresholds::total` meets its contract. Assumes nothing.
 use Rattle.thresholds.specs.RawLaws.{total-next, total-done}
 use Rattle.row.specs.Terms.{total as totalOf}
-use Rattle.numeric.specs.Threshold.{terms}
+use Rattle.numeric.specs.Slices.{terms}
 use native.Mathlib.Nat.{zero-add}
 use mathlib.Core.Path.{_≡_, sym, _∙_}
 use Prim.Native.Nat.{_+_, _-_, _≤_}

@@ -11,9 +11,10 @@ use mir.Val.{toZ, ofZ}
 use mir.Facts.{toZ-ofZ}
 use borrow.Author.Needs.{needs}
 use borrow.Author.Tests.{not-true, not-false}
-use Rattle.numeric.specs.Threshold.{terms}
+use Rattle.numeric.specs.Slices.{terms}
 use Rattle.numeric.specs.TermsLaws.{length-terms}
-use Rattle.signed.specs.SignedLaws.{natural, leZ-nlt, nle-ltZ}
+use Rattle.signed.specs.SignedLaws.{leZ-nlt, nle-ltZ}
+use Rattle.signed.specs.Signed.{natural}
 use Rattle.state.specs.declared.Upper.{Upper}
 use Rattle.state.specs.State.{limit, hasResidualInterval}
 use Rattle.thresholds.specs.Rows.{hasNonunit}
