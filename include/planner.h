@@ -125,16 +125,9 @@ struct planner_given planner_run(
     uint16_t (*row_queues)[4], size_t row_queues_length,
     uint16_t (*answers)[2], size_t answers_length);
 
-/* THE LISTING of what the call gave back and left in these buffers, as bytes of text from the start of `out`: how many there are. Nothing is
-   written and 0 is given back if `out` has fewer than PLANNER_LISTING bytes or the others do not hold as much as the numbers say. */
-size_t planner_list(
-    struct planner_given given,
-    const uint16_t (*answers)[2], size_t answers_length,
-    const int64_t (*figures)[4], size_t figures_length,
-    const size_t (*cursors)[5], size_t cursors_length,
-    const uint64_t *sure, size_t sure_length,
-    const uint64_t *never, size_t never_length,
-    uint8_t *out, size_t out_length);
+/* THE LISTING of a job file, as bytes of text from the start of `out`: how many there are. Nothing is written and 0 is given back if `out` has
+   fewer than PLANNER_LISTING bytes. The file is planned for it, over buffers of the call's own: some 420 KB of stack. */
+size_t planner_list(const uint8_t *input, size_t input_length, uint8_t *out, size_t out_length);
 
 /* All buffers at their listed lengths, and what they hold after the call; unused places are 0. A row is a list of terms that thresholds
    share, numbered by first use, and the terms, guards, edges and links of all rows lie one behind the other. */
@@ -191,19 +184,6 @@ static inline struct planner_given planner_plan(struct planner_work *work, const
         work->node_queue, PLANNER_NODE_QUEUE,
         work->row_queues, PLANNER_ROW_QUEUES,
         work->answers, PLANNER_ANSWERS);
-}
-
-/* The listing of what planner_plan gave back and left, in `out` of at least PLANNER_LISTING bytes: how many it has. */
-static inline size_t planner_listing(struct planner_given given, struct planner_work *work, uint8_t *out, size_t length)
-{
-    return planner_list(
-        given,
-        (const uint16_t (*)[2])work->answers, PLANNER_ANSWERS,
-        (const int64_t (*)[4])work->figures, PLANNER_FIGURES,
-        (const size_t (*)[5])work->cursors, PLANNER_CURSORS,
-        work->sure, PLANNER_SURE,
-        work->never, PLANNER_NEVER,
-        out, length);
 }
 
 /* Whether a node below PLANNER_MAX_NODES is sure or never; it is undecided if it is neither. */

@@ -63,7 +63,7 @@ int main(void)
     print_rows(work, given.rows);
     if (given.last == PLANNER_CONTRADICTION)
         printf("no layout is left\n");
-    size_t length = planner_listing(given, work, text, PLANNER_LISTING);
+    size_t length = planner_list(file_a, sizeof file_a, text, PLANNER_LISTING);
     printf("\nas a listing:\n%.*s", (int)length, (const char *)text);
     free(text);
     free(work);

@@ -64,8 +64,7 @@ static void run(struct area *area, const uint8_t *input, size_t length)
         PLANNER_NODES, b[10], PLANNER_EDGES, b[11], PLANNER_LINKS, b[12], PLANNER_FIGURES, b[13], PLANNER_CURSORS, b[14], PLANNER_SURE, b[15],
         PLANNER_NEVER, b[16], PLANNER_SEARCH, b[17], PLANNER_GCDS, b[18], PLANNER_NODE_QUEUE, b[19], PLANNER_ROW_QUEUES, b[20],
         PLANNER_ANSWERS);
-    area->listed = planner_list(area->given, b[20], PLANNER_ANSWERS, b[12], PLANNER_FIGURES, b[13], PLANNER_CURSORS, b[14], PLANNER_SURE, b[15],
-                                PLANNER_NEVER, area->text, PLANNER_LISTING);
+    area->listed = planner_list(input, length, area->text, PLANNER_LISTING);
 }
 
 static uint64_t next(uint64_t *seed)

@@ -100,24 +100,10 @@ macro_rules! buffers {
 
         extern "C" {
             fn planner_run(input: *const u8, length: usize, $($name: *mut $element, _: usize),*) -> Given;
-            fn planner_list(
-                given: Given,
-                answers: *const [u16; 2],
-                _: usize,
-                figures: *const [i64; 4],
-                _: usize,
-                cursors: *const [usize; 5],
-                _: usize,
-                sure: *const u64,
-                _: usize,
-                never: *const u64,
-                _: usize,
-                out: *mut u8,
-                _: usize,
-            ) -> usize;
+            fn planner_list(input: *const u8, length: usize, out: *mut u8, _: usize) -> usize;
         }
 
-        /// Plans the input, and lists what came of it in `out`: how many bytes the listing has, 0 if `out` is shorter than `LISTING`.
+        /// Plans the input, and lists its file in `out`: how many bytes the listing has, 0 if `out` is shorter than `LISTING`.
         pub fn run(input: &[u8], work: &mut Work, out: &mut [u8]) -> (Given, usize) {
             // SAFETY: every pointer comes from a slice with its own length, and the slices are borrowed for the call, those that are
             // written exclusively. The functions ask nothing else, and what they take and give back has no invalid values.
@@ -127,21 +113,7 @@ macro_rules! buffers {
                     input.len(),
                     $(work.$name.as_mut_ptr(), work.$name.len(),)*
                 );
-                let listed = planner_list(
-                    given,
-                    work.answers.as_ptr(),
-                    work.answers.len(),
-                    work.figures.as_ptr(),
-                    work.figures.len(),
-                    work.cursors.as_ptr(),
-                    work.cursors.len(),
-                    work.sure.as_ptr(),
-                    work.sure.len(),
-                    work.never.as_ptr(),
-                    work.never.len(),
-                    out.as_mut_ptr(),
-                    out.len(),
-                );
+                let listed = planner_list(input.as_ptr(), input.len(), out.as_mut_ptr(), out.len());
                 (given, listed)
             }
         }

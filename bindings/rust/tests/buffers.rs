@@ -36,8 +36,7 @@ fn one_element_shorter() {
         let before = Work::filled(lengths, OLD);
         let mut work = before.clone();
         for vector in &vectors {
-            let mut text = vec![0; LISTING];
-            let (given, length) = raw::run(&vector.file, &mut work, &mut text);
+            let (given, _) = raw::run(&vector.file, &mut work, &mut []);
             let untouched = raw::Given {
                 refused: 10,
                 last: 0,
@@ -48,7 +47,6 @@ fn one_element_shorter() {
                 answered: 0,
             };
             assert_eq!(given, untouched, "{}", vector.name);
-            assert_eq!(text[..length], *b"refused 10 at 0\n", "{}", vector.name);
         }
         assert!(work == before, "buffer {buffer} shorter, and something was touched");
     }
@@ -57,9 +55,8 @@ fn one_element_shorter() {
 #[test]
 fn nothing_lent() {
     let mut none = Work::filled([0; 21], 0);
-    let mut text = vec![0; LISTING];
-    let (given, length) = raw::run(&[], &mut none, &mut text);
-    assert_eq!((given.refused, &text[..length]), (10, &b"refused 10 at 0\n"[..]));
+    let (given, _) = raw::run(&[], &mut none, &mut []);
+    assert_eq!(given.refused, 10);
 }
 
 #[test]

@@ -1,3 +1,2 @@
 pub mod Library
 pub mod LibraryLaws
-pub mod ListedLaws

@@ -2,13 +2,11 @@
 ghost use mathlib.Core.Path.{_≡_};
 ghost use mathlib.Core.Bool.{cond};
 ghost use lib.ListN.{length};
+ghost use lib.Dec.{leb};
 ghost use Rattle.memory.specs.Buffers.{rawLists, raw, heldRows, built, kept, work};
-ghost use Rattle.between.specs.Numbers.{statesOf};
 ghost use Rattle.files.specs.Contents.{whole};
-ghost use Rattle.listing.specs.Lines.{stepOf};
-ghost use Rattle.library.specs.Library.{export, exported, givenBy, readable as readableBy, Lists};
-use files::Given;
-use state::Step;
+ghost use Rattle.listing.specs.Lines.{maxListing};
+ghost use Rattle.library.specs.Library.{export, exported, Lists};
 
 // What the call gives back, in numbers, so that every value of every byte is one: the refusal (0 for none) and its offset; the last step; 1
 // if the job is sealed, its nodes and rows, and how many answers there are.
@@ -103,75 +101,14 @@ pub extern "C" fn planner_run(
 
 // ---- the listing
 
-// A step by its number.
-fn step(number: u8) -> Step
-    ensures { λ r. ⌜ r ≡ stepOf number ⌝ }
-{
-    if number == 0 {
-        return Step::Unchanged;
-    }
-    if number == 1 {
-        return Step::Changed;
-    }
-    Step::Contradiction
-}
-
-// Whether buffers of these lengths hold all that the listing of these numbers reads, and `out` its bytes.
-fn readable(
-    given: Numbers,
-    out: usize,
-    answers: usize,
-    figures: usize,
-    cursors: usize,
-    sure: usize,
-    never: usize,
-) -> bool
-    ensures { λ r. ⌜ r ≡ readableBy given out answers figures cursors sure never ⌝ }
-{
-    let counted = (out >= 262144) & (given.answered <= 64) & (given.answered <= answers);
-    let masks = (sure >= 64) & (never >= 64);
-    let rows = (given.nodes <= 4096)
-        & (given.rows <= 1024)
-        & (given.rows <= figures)
-        & (given.rows <= cursors);
-    let stated = (masks & rows) | (given.sealed == 0);
-    let ended = masks | (given.refused != 0);
-    counted & stated & ended
-}
-
-// THE LISTING of what the call gave back and left, for C: how many bytes of `out` it has; 0, and nothing written, if a buffer is too short.
+// THE LISTING of an input's file, for C: how many bytes of `out` it has; 0, and nothing written, if `out` is too short.
 #[no_mangle]
-pub extern "C" fn planner_list(
-    given: Numbers,
-    answers: &[[u16; 2]],
-    figures: &[[i64; 4]],
-    cursors: &[[usize; 5]],
-    sure: &[u64],
-    never: &[u64],
-    out: &mut [u8],
-) -> usize
-    ensures { λ r. ⌜ Lists (readableBy given (length (now (out .entry))) (length (now (answers .entry))) (length (now (figures .entry))) (length (now (cursors .entry))) (length (now (sure .entry))) (length (now (never .entry))))
-        (givenBy given) (now (answers .entry)) (statesOf (now (figures .entry)) (now (cursors .entry))) (now (sure .entry)) (now (never .entry)) (now (out .entry)) (now (out .exit)) r ⌝ }
+pub extern "C" fn planner_list(input: &[u8], out: &mut [u8]) -> usize
+    ensures { λ r. ⌜ Lists (leb maxListing (length (now (out .entry)))) (now (input .entry)) (now (out .entry)) (now (out .exit)) r ⌝ }
 {
-    if readable(
-        given,
-        out.len(),
-        answers.len(),
-        figures.len(),
-        cursors.len(),
-        sure.len(),
-        never.len(),
-    ) {
-        let shown = Given {
-            refused: given.refused,
-            at: given.at,
-            sealed: given.sealed != 0,
-            nodes: given.nodes,
-            rows: given.rows,
-            last: step(given.last),
-            answered: given.answered,
-        };
-        return listing::list(out, shown, answers, figures, cursors, sure, never);
+    if out.len() < 262144 {
+        return 0;
     }
-    0
+    let planned = plan::plan(input, out);
+    planned.length
 }
