@@ -96,7 +96,10 @@ pub record SameFigures (f g : File) : Type 0 where
 
 -- A search that was begun, else the one before.
 abbrev pub orBefore : Search → Search → Search
-orBefore before s = elim s [ Skipped ↦ before | Fits n ↦ s | Nothing n ↦ s | Cut n ↦ s ]
+orBefore before Skipped = before
+orBefore before (Fits n) = Fits n
+orBefore before (Nothing n) = Nothing n
+orBefore before (Cut n) = Cut n
 
 -- Trying the oldest residual row begins one only where divisibility leaves all as it was.
 abbrev pub triedSearch : Index → Live → List ℕ → Search → Search
