@@ -711,8 +711,8 @@ def planner_run():
     p = Proof('planner', 'run', 'The rows of numbers are lent again to `call::run`, then read to show the states; every other buffer is given up to `call::run`.', buffers(),
               [short, core, test, show], STATE + ROWS + GIVEN + '''use Rattle.memory.specs.Buffers.{Work, rawLists, raw as rawOf, heldRows, built, kept, work}
 use Rattle.states.specs.States.{shown}
-use Rattle.files.specs.Contents.{whole as wholeOf, out}
-use Rattle.planner.specs.Planner.{left, plan, nothing as refusal}
+use Rattle.files.specs.Contents.{whole as wholeOf, out, nothing as refusal}
+use Rattle.planner.specs.Planner.{left, plan}
 use Rattle.planner.specs.PlannerLaws.{plan-short, plan-ten, plan-many, plan-shown}
 ''')
     n_front = 1 + len(RAW) + len(BUILT)

@@ -409,12 +409,12 @@ use denote.Triple.Walked.{says, needs, Stays, walkOf, Walks, ends-at, walked, wa
 use borrow.Author.Needs.{scaled-fits}
 use borrow.Author.Tests.{ltb-true, ltb-false, eqb-true, eqb-false}
 use Rattle.walks.specs.Pairs.{_▹_}
-use Rattle.walks.specs.Chain.{chain, chain-out, chain-in}
-use Rattle.walks.specs.Again.{LentAgain, lends-again, comes-back, lends-at, back-at}
-use Rattle.walks.specs.Locals.{cellsOf, diesOf, envOf, Nats, alloc-all, free-all, free-under}
-use Rattle.walks.specs.Said.{saids, goes-saids, last-list, gives-up, lets-go, two-go}
-use Rattle.walks.specs.Shared.{shares-on}
-use Rattle.walks.specs.Steps.{if-returns, while-goes, big-lit, holds, fails, holds-not}
+use Rattle.walks.specs.ChainLaws.{chain, chain-out, chain-in}
+use Rattle.walks.specs.AgainLaws.{LentAgain, lends-again, comes-back, lends-at, back-at}
+use Rattle.walks.specs.LocalsLaws.{cellsOf, diesOf, envOf, Nats, alloc-all, free-all, free-under}
+use Rattle.walks.specs.SaidLaws.{saids, goes-saids, last-list, gives-up, lets-go, two-go}
+use Rattle.walks.specs.SharedLaws.{shares-on}
+use Rattle.walks.specs.StepsLaws.{if-returns, while-goes, big-lit, holds, fails, holds-not}
 '''
 
 

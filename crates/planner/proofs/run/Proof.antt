@@ -866,8 +866,8 @@ module _ {M : Type 1} (𝓤 : URA M) (H : Heap 𝓤) (A : Atoms 𝓤) (W : Given
         (someᴼ (v-never)) ▹ (someᴼ (vptr (x-search .ptr .0) (x-search .ptr .1))) ▹ (someᴼ (v-search)) ▹ (someᴼ (vptr (x-gcds .ptr .0) (x-gcds .ptr .1))) ▹ (someᴼ (v-gcds)) ▹ (someᴼ (vptr
         (x-node-queue .ptr .0) (x-node-queue .ptr .1))) ▹ (someᴼ (v-node-queue)) ▹ (someᴼ (vptr (x-row-queues .ptr .0) (x-row-queues .ptr .1))) ▹ (someᴼ (v-row-queues)) ▹ (someᴼ (vptr
         (x-answers .ptr .0) (x-answers .ptr .1))) ▹ (someᴼ (v-answers)) ▹ (someᴼ (vbool b)) ▹ none ▹ none ▹ none ▹ none ▹ none ▹ none ▹ none ▹ tt) $
-        by ! (exits r v zs ss refl same-f same-c (plan-ten (x-input .now) ss w₀ (ltb-false (length ss) 1024 (fails (ltb (length ss) 1024) enough)) (out r (work-at zs)) e (eqb-true (r .refused) 10
-        (sym e₂ ∙ holds b ten)))))
+        by ! (exits r v zs ss refl same-f same-c (plan-ten (x-input .now) ss w₀ (ltb-false (length ss) 1024 (fails (ltb (length ss) 1024) enough)) (out r (work-at zs)) e (eqb-true (r .refused) 10 (sym
+        e₂ ∙ holds b ten)))))
         (λ other. move ! (2 ∷ 3 ∷ []) $
         use2 W (later (some (λ (φ : GName). ‵ (shr-figures φ (zs .1 .1 .1 .1 .1 .1 .1 .1 .1 .1 .1 .1 .1 .0)) ⊛ (‵ (finally Figures (x-figures .name) (zs .1 .1 .1 .1 .1 .1 .1 .1 .1 .1 .1 .1 .1 .0)) ⊛ ‵
         (flft (κs .1 .1 .1 .1 .1 .1 .1 .1 .1 .1 .1 .1 .1 .1 .0) (qs .1 .1 .1 .1 .1 .1 .1 .1 .1 .1 .1 .1 .1 .1 .0))))))
@@ -929,8 +929,8 @@ module _ {M : Type 1} (𝓤 : URA M) (H : Heap 𝓤) (A : Atoms 𝓤) (W : Given
         (x-node-queue .ptr .0) (x-node-queue .ptr .1))) ▹ (someᴼ (v-node-queue)) ▹ (someᴼ (vptr (x-row-queues .ptr .0) (x-row-queues .ptr .1))) ▹ (someᴼ (v-row-queues)) ▹ (someᴼ (vptr
         (x-answers .ptr .0) (x-answers .ptr .1))) ▹ (someᴼ (v-answers)) ▹ (someᴼ (vbool b)) ▹ (someᴼ (v₃)) ▹ (someᴼ (vptr (x-states .ptr .0) (x-states .ptr .1))) ▹ (someᴼ (v-states)) ▹ (someᴼ (vptr
         (x-figures .ptr .0) (x-figures .ptr .1))) ▹ (someᴼ (v-figures)) ▹ (someᴼ (vptr (x-cursors .ptr .0) (x-cursors .ptr .1))) ▹ (someᴼ (v-cursors)) ▹ tt) $
-        by ! (exits r v zs (ts .0) same same-f same-c (plan-shown (x-input .now) ss w₀ (ltb-false (length ss) 1024 (fails (ltb (length ss) 1024) enough)) (out r (work-at zs)) e (eqb-false
-        (r .refused) 10 (sym e₂ ∙ fails b other)) (ts .0) e₃)))))))))))))))))))))))))))))
+        by ! (exits r v zs (ts .0) same same-f same-c (plan-shown (x-input .now) ss w₀ (ltb-false (length ss) 1024 (fails (ltb (length ss) 1024) enough)) (out r (work-at zs)) e (eqb-false (r .refused)
+        10 (sym e₂ ∙ fails b other)) (ts .0) e₃)))))))))))))))))))))))))))))
 
 module _ {M : Type 1} (𝓤 : URA M) (H : Heap 𝓤) (A : Atoms 𝓤) (W : Given 𝓤 H A) (at-mem : Memory → SProp 𝓤) (run : Routine → Fun 𝓤) (𝓣 : Tables 𝓤 H) (known-short : Triple 𝓤 (𝓣 .C #planner·too-short)
     (Short 𝓤 H A at-mem run)) (known-core : Triple 𝓤 (𝓣 .C #call·run) (Core 𝓤 H A at-mem run)) (known-test : Triple 𝓤 (𝓣 .C #planner·is-too-short) (Test 𝓤 H A at-mem run)) (known-show : Triple 𝓤 (𝓣 .C
