@@ -35,8 +35,7 @@ use Rattle.demands.specs.Reading.{Marked, SameMarks, Agrees, NoSift, las
 -- What the call gave, but for its refusal.
 abbrev pub accepted : Out → Out
 accepted o =
-    let g = o .given in
-    out (record { refused = 0; at = g .at; sealed = g .sealed; nodes = g .nodes; rows = g .rows; last = g .last; answered = g .answered }) (o .work)
+    let g = o .given in out (record { refused = 0; at = g .at; sealed = g .sealed; nodes = g .nodes; rows = g .rows; last = g .last; answered = g .answered }) (o .work)
 
 -- DEMAND 1. The program as a whole takes each record or refuses it by one of ten numbers, and always ends. After a refused
 -- record all lent memory is as if the file had ended just before it. (That it makes every check itself is the public call's
@@ -179,12 +178,9 @@ pub record Call : Type 0 where
 -- CLAUSE A. For every input definitions fix each answer, offset, visit count and buffer word, refusals too. `whole` is that
 -- definition, and the public call's contract is an equation with it; what it gives depends on nothing that the lent memory
 -- held before, and every buffer keeps its length.
-abbrev pub SameLengths : Work → Work → Type 0
-SameLengths v w = lengths v ≡ lengths w
-
 pub record ClauseA : Type 0 where
-  pub memory : (input : List ℕ) (v w : Work) → SameLengths v w → fits input v ≡ true → whole input v ≡ whole input w
-  pub lengths : (input : List ℕ) (w : Work) → SameLengths (whole input w .work) w
+  pub memory : (input : List ℕ) (v w : Work) → lengths v ≡ lengths w → fits input v ≡ true → whole input v ≡ whole input w
+  pub lengths : (input : List ℕ) (w : Work) → lengths (whole input w .work) ≡ lengths w
   -- what demands 2 and 3 say of a file they say of what the call gives and leaves in memory
   pub files : (input : List ℕ) (w : Work) → fits input w ≡ true → whole input w ≡ served (planned input) w
 

@@ -25,7 +25,7 @@ use Rattle.files.specs.Contents.{answerNumber, answerVisits, keptOf, laid, Out,
 use Rattle.ends.specs.BuiltLaws.{rows-few}
 use Rattle.ends.specs.SizeLaws.{zeros-long, terms-few, guards-few, edges-most, links-most, pairs-few, triples-few, quads-few}
 use Rattle.follows.specs.AnswersLaws.{true-false}
-use Rattle.demands.specs.Demands.{SameLengths}
+use Rattle.demands.specs.MemoryLaws.{SameLengths}
 use Rattle.demands.specs.RefusalLaws.{served-when, untouched-when}
 use Rattle.demands.specs.KeptLaws.{Kept, kept-file}
 

@@ -9,8 +9,11 @@ use lib.IntN.{pos}
 use Rattle.memory.specs.Buffers.{Work, rawLists, raw, heldRows, built, kept, work, lengths, fitsBy, fits, zeros, cleared, clearRaw, clearBuilt, clearKept}
 use Rattle.files.specs.File.{Outcome, fileOf}
 use Rattle.files.specs.Contents.{Out, laid, whole, givenOf, out}
-use Rattle.demands.specs.Demands.{SameLengths}
 use Rattle.demands.specs.RefusalLaws.{served-when}
+
+-- Each buffer is as long in one as in the other.
+abbrev pub SameLengths : Work → Work → Type 0
+SameLengths v w = lengths v ≡ lengths w
 
 -- Clearing keeps the length, and nothing else.
 zeros-same : {X : Type 0} (z : X) (l m : List X) → length l ≡ length m → zeros z l ≡ zeros z m
