@@ -985,7 +985,335 @@ use Rattle.planner.specs.PlannerLaws.{plan-short, plan-ten, plan-many, p
 {p.ending('(𝓣 .C) (𝓣 .Λ) (fmOf 𝓤 H (W .laws) 𝓣)')}''')
 
 
-WALKS = {'states/load': load, 'states/store': store, 'states/show_states': show_states, 'listing/row_lines': row_lines, 'listing/list': lent_list, 'planner/run': planner_run}
+# ---- the plan over buffers of numbers: the states are a local array
+
+FIRST = '''use Rattle.state.specs.State.{firstState}
+'''
+
+
+def first_callee():
+    return Callee('first', 'Rattle.state.proofs.State.first', 'state·State·first')
+
+
+def first_texts(first):
+    """`State::first(0, 0)`."""
+    zero = Made('u64', '(uint-makes 𝓤 H A W w64)', '0', '(vint w64 0 ∷ [])', '(refl, lit< tt)')
+    return [ghost('first', first, [], [], ['0', '0'], ['vint w64 0 ∷ []'] * 2), goes(first, [], [], [], [zero, number('0', 'lit< tt')], '(lit< tt)')]
+
+
+def first_array(w, first, array, fm):
+    """let none = State::first(0, 0); let mut states = [none; n];"""
+    w.say(f'use0 W (raw ({first.triple} .pre to-first)) goes-first $')
+    w.top(0, 'pre')
+    w.call(first, fm, 'to-first', ['(lit ! tt)', '(lit ! tt)'], 'v₀', ('s', 'State'), 'T.the-row', '‵ ftrue', ('us', 'Unit {0} × (Unit {0} × Unit {0})'), ('e₀', 's ≡ firstState 0 0'), ['true', 'own', 'lasts'])
+    w.peek('own', 'T.the-row', 's', 'v₀', 'is₀')
+    w.land(array.local - 1, lawful('T', 's', 'is₀'), 'v₀')
+    w.fill(array, array.local - 1, 's', 'v₀', 'isa')
+    w.drop('true', 'lasts')
+
+
+class Seg:
+    """One or several parameters that go together: `one` alone, or `name` for a group."""
+
+    def __init__(self, name, members, single):
+        self.name, self.members, self.single = name, members, single
+
+
+def group(name, members):
+    return Seg(name, members, False)
+
+
+def alone(q):
+    return Seg(q.name, [q], True)
+
+
+def suffix(segs, kind, one):
+    """The nested proposition of these: kind-NAME for a group, `one` of a single parameter."""
+    s = 'emp 𝓤'
+    for g in reversed(segs):
+        s = f'sep 𝓤 ({one(g)}) ({s})' if g.single else f'chain 𝓤 {kind}-{g.name} ({s})' if ' ' not in kind else f'chain 𝓤 ({kind.replace("@", g.name)}) ({s})'
+    return s
+
+
+def take_apart(w, name, prefix, segs, kind, one, item):
+    """An entry that is nested so becomes one entry for each segment."""
+    w.move(name)
+    for i, g in enumerate(segs):
+        rest = suffix(segs[i + 1:], kind, one)
+        many = f'({kind.replace("@", g.name)})' if ' ' in kind else f'{kind}-{g.name}'
+        if g.single:
+            w.say(f'use1 W ({item(g)} ⊛ raw ({rest})) (id⊢ 𝓤 _) $ split ! $ move ! (1 ∷ []) $')
+        else:
+            w.say(f'use1 W (raw (chain 𝓤 {many} (emp 𝓤)) ⊛ raw ({rest})) (chain-out 𝓤 H A W {many} ({rest})) $ split ! $ move ! (1 ∷ []) $')
+    w.say('drop ! $')
+    w.top(1, *[f'{prefix}-{g.name}' for g in reversed(segs)])
+
+
+def put_together(w, prefix, segs, kind, one):
+    """The other way; the entry at the head is then all of them."""
+    w.say('nothing ! $')
+    w.top(0, 'acc')
+    for i in reversed(range(len(segs))):
+        g = segs[i]
+        many = f'({kind.replace("@", g.name)})' if ' ' in kind else f'{kind}-{g.name}'
+        w.move(f'{prefix}-{g.name}', 'acc')
+        if g.single:
+            w.say('join ! $')
+        else:
+            rest = suffix(segs[i + 1:], kind, one)
+            w.say(f'use2 W (raw (chain 𝓤 {many} ({rest}))) (chain-in 𝓤 H A W {many} ({rest})) $')
+        w.top(2, 'acc')
+
+
+def plan_in():
+    first = first_callee()
+    core = Callee('core', 'Rattle.planner.proofs.run', 'planner·run')
+    lines = Callee('lines', 'Rattle.listing.proofs.list', 'listing·list')
+    pair = Callee('pair', 'Rattle.plan.proofs.together', 'plan·together')
+    all_ = buffers()
+    numbers = [q for q in all_ if q.name not in ('input', 'states')]
+    p = Proof('plan', 'plan_in', 'The local array of states is lent to `planner::run`, then to `list`; what is listed is lent again to the first, every other buffer is given up to it.',
+              [all_[0], Slice('out', 'u8', 'ℕ', True)] + numbers, [first, core, lines, pair], STATE + FIRST + ROWS + GIVEN + '''use Rattle.memory.specs.Buffers.{Work, rawLists, raw as rawOf, heldRows, built, kept, work}
+use Rattle.files.specs.Contents.{out}
+use Rattle.planner.specs.Planner.{left, plan}
+use Rattle.listing.specs.Lines.{maxListing, Listable}
+use Rattle.listing.specs.Shows.{Listed}
+use Rattle.plan.specs.declared.Planned.{Planned}
+use Rattle.plan.specs.Plan.{Plans}
+use Rattle.plan.specs.Ready.{Ready, planOf}
+use Rattle.plan.specs.PlanLaws.{ran-listable, ran-plans}
+use Rattle.plan.proofs.Planned as P
+use Rattle.plan.proofs.Planned.Laws as P′
+use Rattle.plan.proofs.Array.{arrayTy, lends-array, array-back}
+''', 'Ready (a .0 .now) (a .1 .0 .now) (' + work([f'a{proj(2 + i)} .now' for i in range(21)]).replace('raw (', 'rawOf (', 1) + ')')
+    by = {q.name: q for q in p.params}
+    inp, out_, sure, never, answers = (by[x] for x in ('input', 'out', 'sure', 'never', 'answers'))
+    array = LocalArray('states', 'T', 'State', 1024, 25)
+    b, count = array.block, 82
+    # the order of the caller's parameters, and of the callee's
+    front, middle, back = group('front', numbers[:12]), group('middle', numbers[12:14]), group('back', numbers[16:20])
+    mine = [alone(inp), alone(out_), front, middle, alone(sure), alone(never), back, alone(answers)]
+    st = Seg('states', [array], True)
+    its = [alone(inp), front, st, middle, alone(sure), alone(never), back, alone(answers)]
+    loans = {'states': ('α', 'δ'), 'sure': ('β', 'ε'), 'never': ('η', 'θ'), 'answers': ('ι', 'ζ')}
+    life = lambda q: (q.κ, q.q)
+    loan = lambda α: (f'({α} ∷ [])', 'fullShare')
+    own = lambda q: f'own-{q.name} {q.κ} ({q.x} .name) ({q.x} .now)'
+    vals = lambda q: f'slice-vals {q.x}'
+    fm = 'fm'
+    order = [q for g in its for q in g.members]
+    z = {q.name: f'zs{proj(i)}' for i, q in enumerate(order)}
+    lasts_type = ' × ('.join(['Unit {0}' if q is inp else f'List {q.element}' for q in order]) + ' × Unit {0}' + ')' * (len(order) - 1)
+    name_of = lambda q: loans[q.name][1] if q.name in loans else f'({q.x} .name)'
+    long_of = lambda q: '(replicate 1024 s)' if q is array else f'({q.x} .now)'
+    last = lambda q, name: f'fsep (finally {q.row} {name} ({z[q.name]})) (feq ℕ (length ({z[q.name]})) (length {long_of(q)}))'
+    # tokens, owned and last lists of a segment: here, and in the callee
+    tok_mine = lambda g: f'A .lft {g.members[0].κ} {g.members[0].q}'
+    tok_its = lambda g: f'A .lft ({loans[g.name][0]} ∷ []) fullShare' if g.name in loans else tok_mine(g)
+    own_mine = lambda g: f'sem 𝓤 H A ({own(g.members[0])})'
+    lent = lambda g: (f'own-states b (α ∷ []) δ (replicate 1024 s)' if g is st else f'own-{g.name} ({loans[g.name][0]} ∷ []) {loans[g.name][1]} ({g.members[0].x} .now)') if g.name in loans else own(g.members[0])
+    own_its = lambda g: f'sem 𝓤 H A ({lent(g)})'
+    last_its = lambda g: 'emp 𝓤' if g.members[0] is inp else f'sem 𝓤 H A ({last(g.members[0], name_of(g.members[0]))})'
+    tok_item = lambda tok: lambda g: '‵ (flft ' + tok(g)[7:] + ')'
+    last_item = lambda g: '‵ ftrue' if g.members[0] is inp else f'‵ ({last(g.members[0], name_of(g.members[0]))})'
+
+    w = Walk([f'L{k}' for k in range(count)] + ['dies', 'T', 'O'])
+    w.passes(p.params)
+    first_array(w, first, array, fm)
+    args, k = [1], 28
+    for q in order[1:]:
+        if q is array:
+            w.point(array, k, k + 1)
+        else:
+            w.reborrow(p.params.index(q) + 1, q, k, k + 1)
+        args.append(k + 1)
+        k += 2
+    take_apart(w, 'T', 't', mine, 'toks', tok_mine, tok_item(tok_mine))
+    take_apart(w, 'O', 'o', mine, 'owns', own_mine, lambda g: f'‵ ({own(g.members[0])})')
+    w.lend_array(array, 'α', 'δ', '(replicate 1024 s)', 'arrayVal (replicate 1024 v₀)', 'length-replicate 1024 s')
+    for q in (sure, never, answers):
+        w.lend(q, *loans[q.name], f'({q.x} .now)', 'refl')
+    ins = [(f'o-{g.name}T' if g.name in loans else f't-{g.name}') for g in its] + [(f'o-{g.name}A' if g.name in loans else f'o-{g.name}') for g in its]
+    w.move(*ins)
+    names = 's α δ β ε η θ ι ζ'
+    to = f'(to-core {b} {names})'
+    w.say(f'group ! {len(ins)} $ use1 W (raw ({core.triple} .pre {to})) (goes-core {b} {names}) $')
+    w.top(len(ins), 'pre')
+    ran = f'left (out r (work-at zs)) ({z["states"]}) ≡ plan (x-input .now) (replicate 1024 s) w₀'
+    w.call(core, fm, to, args, 'v', ('r', 'Answer'), 'G.the-row', f'raw (toks 𝓤 A {len(order)} ({to} .0 .0) ({to} .0 .1))', ('zs', 'Lasts-core'), ('e', ran), ['tokens', 'own', 'lasts'])
+    w.peek('own', 'G.the-row', 'r', 'v', 'is')
+    w.land(26, lawful('G', 'r', 'is'), 'v')
+    take_apart(w, 'tokens', 'k', its, 'toks', tok_its, tok_item(tok_its))
+    take_apart(w, 'lasts', 'l', its, 'lasts-@ zs', last_its, last_item)
+    for g in its:
+        w.ctx[w.at(f'k-{g.name}')] = f'o-{g.name}T' if g.name in loans else f't-{g.name}'
+    for g in its:
+        if g.name in loans:
+            q, (α, δ) = g.members[0], loans[g.name]
+            w.move(f'l-{g.name}')
+            w.say(f'fsplit ! $ move ! (1 ∷ []) $ feqL ! {w.bind(f"same-{g.name}")}')
+            w.top(1, f'o-{g.name}F')
+            if g is st:
+                w.array_back(array, α, δ, f'({z["states"]})', 'v₁')
+            else:
+                w.back(q, α, δ, f'({q.x} .now)', f'({z[q.name]})', q.room, 'refl', f'same-{g.name}')
+    # the listing
+    w.reborrow(2, out_, 72, 73)
+    w.reborrow(23, answers, 74, 75)
+    w.point(array, 76, 77)
+    w.reborrow(17, sure, 78, 79)
+    w.reborrow(18, never, 80, 81)
+    zst = f'({z["states"]})'
+    w.lend_array(array, 'ν', 'ξ', zst, 'v₁', 'same-states ∙ length-replicate 1024 s')
+    w.move('o-statesA', 'o-statesT')
+    w.say(f'use2 W (later (some (λ (φ : GName). ‵ (shr-states {b} (ν ∷ []) φ {zst}) ⊛ (‵ (finally T.the-row ξ {zst}) ⊛ ‵ (flft (ν ∷ []) fullShare)))))')
+    w.say(f'(shares-on 𝓤 H A W T.the-row erased erased (ν ∷ []) fullShare {b} 0 ξ {zst} 1024 (same-states ∙ length-replicate 1024 s)) $ await ! tt $ pick ! {w.bind("φ-states")} split ! $ move ! (1 ∷ []) $ split ! $')
+    w.top(2, 'o-statesF', 'o-statesT', 's-states')
+    for q in (sure, never, answers):
+        l = f'({z[q.name]})'
+        w.move(f'o-{q.name}', f't-{q.name}')
+        w.say(f'use2 W (later (some (λ (φ : GName). ‵ (shr-{q.name} φ {l}) ⊛ (‵ (finally {q.row} ({q.x} .name) {l}) ⊛ ‵ (flft {q.κ} {q.q})))))')
+        w.say(f'(shares-on 𝓤 H A W {q.row} {q.named} {q.named} {q.κ} {q.q} ({q.x} .ptr .0) ({q.x} .ptr .1) ({q.x} .name) {l} (length ({q.x} .now)) same-{q.name}) $ await ! tt $ pick ! {w.bind(f"φ-{q.name}")} split ! $ move ! (1 ∷ []) $ split ! $')
+        w.top(2, f'f-{q.name}', f't-{q.name}', f's-{q.name}')
+    ins = ['t-out', 't-answers', 'o-statesT', 't-sure', 't-never', 'o-out', 's-answers', 's-states', 's-sure', 's-never']
+    w.move(*ins)
+    to = f'(to-lines {b} ν φ-states {zst} r v φ-answers ({z["answers"]}) φ-sure ({z["sure"]}) φ-never ({z["never"]}))'
+    facts = f'(many s) e'
+    w.say(f'group ! {len(ins)} $ use1 W (raw ({lines.triple} .pre {to})) (goes-lines {to[10:-1]} is (ran-listable pre (replicate 1024 s) {zst} (work-at zs) r {facts})) $')
+    w.top(len(ins), 'pre')
+    listed = f'Listed r ({z["answers"]}) {zst} ({z["sure"]}) ({z["never"]}) (x-out .now) (ls .0) n'
+    w.call(lines, fm, to, [73, 26, 75, 77, 79, 81], 'v₂', ('n', 'ℕ'), 'usize', nest_toks([life(out_), life(answers), loan('ν'), life(sure), life(never)]),
+           ('ls', 'List ℕ × (Unit {0} × (Unit {0} × (Unit {0} × (Unit {0} × (Unit {0} × Unit {0})))))'), ('e₂', listed), ['tokens', 'number', 'put'])
+    w.peek('number', 'usize', 'n', 'v₂', 'is₂')
+    w.land(27, '(uint-lawful 𝓤 H A W w64 .typed n _ is₂ .0)', 'v₂')
+    w.unpack('tokens', ['t-out', 't-answers', 'o-statesT', 't-sure', 't-never', 'true'], 'split')
+    w.array_back(array, 'ν', 'ξ', zst, 'v₃')
+    w.move('put')
+    w.say(f'fsplit ! $ fsplit ! $ move ! (1 ∷ []) $ feqL ! {w.bind("same-out")}')
+    w.top(1, 'f-out', 'rest')
+    w.drop('true', 'rest', 'o-states')
+    # both in one
+    w.move('own', 'number')
+    w.say(f'group ! 2 $ use1 W (raw ({pair.triple} .pre (to-pair r v n v₂))) (goes-pair r v n v₂) $')
+    w.top(2, 'pre')
+    w.call(pair, fm, '(to-pair r v n v₂)', [26, 27], 'v₄', ('t', 'Planned'), 'P.the-row', '‵ ftrue', ('us₂', 'Unit {0} × (Unit {0} × Unit {0})'), ('e₃', 't ≡ planOf r n'), ['true', 'own', 'none'])
+    w.peek('own', 'P.the-row', 't', 'v₄', 'is₄')
+    w.land(0, lawful('P', 't', 'is₄'), 'v₄')
+    w.drop('true', 'none')
+    left_ = [f't-{g.name}' for g in mine] + ['l-front', 'l-middle', 'l-back', 'f-out', 'f-sure', 'f-never', 'f-answers', 'own']
+    junk = [x for x in w.ctx if x not in left_ and not x.startswith('L') and x != 'dies']
+    w.drop(*junk)
+    w.move(*left_)
+    w.say(f'group ! {len(left_)} $')
+    w.top(len(left_), 'left')
+    w.move('left', *[f'L{i}' for i in range(array.local + 1)])
+    assert w.ctx == ['left'] + [f'L{i}' for i in range(count)] + ['dies'], w.ctx
+    said = f'(subst (Plans (x-input .now) (ls .0)) (sym e₃) (ran-plans pre (replicate 1024 s) {zst} (work-at zs) r {facts} same-out e₂))'
+    w.say(f'returns ! (look ! {w.at("L0")} refl) $ free-under ! (code.function .locals) ns {w.slots(count)} $')
+    w.say(f'by ! (exits t v₄ zs (ls .0) same-out same-sure same-never same-answers {said})' + ')' * w.open)
+
+    binds = [('b', 'ℕ'), ('s', 'State'), ('α', 'ℕ'), ('δ', 'GName'), ('β', 'ℕ'), ('ε', 'GName'), ('η', 'ℕ'), ('θ', 'GName'), ('ι', 'ℕ'), ('ζ', 'GName')]
+    core_lives = [loan(loans[q.name][0]) if q.name in loans else life(q) for q in order]
+    core_args = [f'record {{ ptr = (b, 0); name = δ; now = replicate 1024 s }}' if q is array else lent_as(q, loans[q.name][1], f'{q.x} .now') if q.name in loans else q.x for q in order]
+    core_vals = ['sliceVal (b, 0) 1024 ∷ []' if q is array else vals(q) for q in order]
+    entries = [f'raw (chain 𝓤 toks-{g.name} (emp 𝓤))' if not g.single else tok_item(tok_its)(g) for g in its] + [f'raw (chain 𝓤 owns-{g.name} (emp 𝓤))' if not g.single else f'‵ ({lent(g)})' for g in its]
+    seps = lambda xs: nest('sep 𝓤', [x[4:].strip() if x.startswith('raw') else f'sem 𝓤 H A {x[2:]}' for x in xs])
+    gw = Walk([f't-{g.name}' for g in its] + [f'o-{g.name}' for g in its])
+    put_together(gw, 't', its, 'toks', tok_its)
+    gw.ctx[0] = 'tokens'
+    put_together(gw, 'o', its, 'owns', own_its)
+    gw.move('tokens', 'acc')
+    gw.say('join ! $ frame ! $ done !')
+    lb = [('b', 'ℕ'), ('ν', 'ℕ'), ('φ', 'GName'), ('l', 'List State'), ('r', 'Answer'), ('v', 'Val'), ('φa', 'GName'), ('ys', 'List (List ℕ)'), ('φs', 'GName'), ('ms', 'List ℕ'), ('φn', 'GName'), ('mn', 'List ℕ')]
+    lives = [life(out_), life(answers), loan('ν'), life(sure), life(never)]
+    rv = [('r', 'Answer'), ('v', 'Val'), ('n', 'ℕ'), ('u', 'Val')]
+    lines_vals = [vals(out_), 'v ∷ []', vals(answers), 'sliceVal (b, 0) 1024 ∷ []', vals(sure), vals(never)]
+    texts = first_texts(first) + [
+        ghost('lines', lines, lb, lives, ['x-out', 'r', lent_as(answers, 'φa', 'ys'), 'record { ptr = (b, 0); name = φ; now = l }', lent_as(sure, 'φs', 'ms'), lent_as(never, 'φn', 'mn')], lines_vals),
+        goes(lines, lb, [('is', 'Is G.the-row r (v ∷ [])'), ('able', 'Listable r ys l ms mn')], lives,
+             [own(out_), Made('G.the-row', '(LL.makes G.the-type G′.the-plain 𝓤 H A)', 'r', '(v ∷ [])', 'is'), 'shr-answers φa ys', 'shr-states b (ν ∷ []) φ l', 'shr-sure φs ms', 'shr-never φn mn'], '(able, pre .room)'),
+        ghost('pair', pair, rv, [], ['r', 'n'], ['v ∷ []', 'u ∷ []']),
+        goes(pair, rv, [], [], ['G.the-row .own r (v ∷ [])', 'usize .own n (u ∷ [])'], None)]
+    # the end
+    val = lambda q: 'l' if q is out_ else z[q.name]
+    said_of = lambda q: f'fsep (finally {q.row} ({q.x} .name) ({val(q)})) (feq ℕ (length ({val(q)})) (length ({q.x} .now)))'
+    last_mine = lambda g: 'emp 𝓤' if g.members[0] is inp else f'sem 𝓤 H A ({said_of(g.members[0])})'
+    fins = [out_, sure, never, answers]
+    left_items = [f'raw (chain 𝓤 toks-{g.name} (emp 𝓤))' if not g.single else tok_item(tok_mine)(g) for g in mine]
+    left_items += [f'raw (chain 𝓤 (lasts-{g.name} zs) (emp 𝓤))' for g in (front, middle, back)] + [f'‵ (finally {q.row} ({q.x} .name) ({val(q)}))' for q in fins] + ['‵ (P.the-row .own t (v ∷ []))']
+    ex = Walk(left_)
+    put_together(ex, 't', mine, 'toks', tok_mine)
+    ex.say(f'use1 W (raw (toks 𝓤 A {len(p.params)} κs qs)) (id⊢ 𝓤 _) $ frame ! $')
+    ex.top(1)
+    for q in fins:
+        ex.say(f'feqI ! ℕ (length ({val(q)})) (length ({q.x} .now)) same-{q.name} $')
+        ex.top(0, 'long')
+        ex.move(f'f-{q.name}', 'long')
+        ex.say('fjoin ! $')
+        ex.top(2, f'l-{q.name}')
+    ex.say('nothing ! $')
+    ex.top(0, 'l-input')
+    put_together(ex, 'l', mine, 'lasts-@ zs', last_mine)
+    ends = long_tup(['tt', 'l'] + [z[q.name] for q in numbers])
+    ex.say(f'use1 W (‵ (lasts f.ended κs a {ends})) (id⊢ 𝓤 _) $ done !')
+    raw_work = lambda zs: work(zs).replace('raw (', 'rawOf (', 1)
+    groups = [front, middle, back]
+    lists = '\n'.join(f'''  abbrev toks-{g.name} : List (SProp 𝓤)
+  toks-{g.name} = {' ∷ '.join(f'A .lft {q.κ} {q.q}' for q in g.members)} ∷ []
+
+  abbrev owns-{g.name} : List (SProp 𝓤)
+  owns-{g.name} = {' ∷ '.join(f'sem 𝓤 H A ({own(q)})' for q in g.members)} ∷ []
+
+  abbrev lasts-{g.name} : Lasts-core → List (SProp 𝓤)
+  lasts-{g.name} zs = {' ∷ '.join(f'sem 𝓤 H A ({said_of(q)})' for q in g.members)} ∷ []
+''' for g in groups)
+    shrs = '\n'.join(f'''  abbrev shr-{q.name} : GName → List {q.element} → Fml
+  shr-{q.name} φ l = ShrSlice {q.named} {q.κ} {q.row} .own (record {{ ptr = {q.x} .ptr; name = φ; now = l }}) (slice-vals {q.x})
+''' for q in (sure, never, answers))
+    types = ''.join(f' ({x} : {t})' for x, t in binds)
+    names = ''.join(f' {x}' for x, _ in binds)
+    return p.file(f'''{SHAPES}{p.top()}{p.module()}
+{array.names()}
+  abbrev w₀ : Work
+  w₀ = {raw_work([f'{q.x} .now' for q in numbers])}
+
+  -- what `planner::run` says of the last list of each of its parameters
+  abbrev Lasts-core : Type 0
+  Lasts-core = {lasts_type}
+
+  abbrev work-at : Lasts-core → Work
+  work-at zs = {raw_work([z[q.name] for q in numbers])}
+
+  -- buffers that go together: their tokens, what they own, their last lists
+{lists}
+  -- what is listed, shared
+{shrs}
+  many : (s : State) → maxThresholds ≤ length (replicate 1024 s)
+  many s = subst (λ (k : ℕ). maxThresholds ≤ k) (sym (length-replicate 1024 s)) (lit≤ tt)
+
+  -- what each callee's triple binds outside, and that the caller has what it asks
+{chr(10).join(texts)}
+{ghost('core', core, binds, core_lives, core_args, core_vals)}
+  goes-core :{types} → ent 𝓤 ({seps(entries)}) ({core.triple} .pre (to-core{names}))
+  goes-core{names} =
+      qed W ({' ∷ '.join(entries)} ∷ []) ∵ {gw.text('      ')}
+
+  exits : (t : Planned) (v : Val) (zs : Lasts-core) (l : List ℕ) → {' → '.join(f'length ({val(q)}) ≡ length ({q.x} .now)' for q in fins)} → Plans (x-input .now) l t
+      → ent 𝓤 ({seps(left_items)}) (Post v)
+  exits t v zs l {' '.join(f'same-{q.name}' for q in fins)} said =
+      qed W ({' ∷ '.join(left_items)} ∷ []) ∵
+      {p.ends_at('v', 't', ends)} says ! said $ {ex.text('      ')}
+
+  module _ (C : Calls 𝓤 H) (Λ : Loops 𝓤 H) (fm : FmC 𝓤 H (W .laws) C){p.known('C')} where
+    walk : ent 𝓤 (onEntry 𝓤 H A f.signature κs qs a (at κs a)) (WpFn 𝓤 H C Λ code.function ({p.machine}) Post)
+    walk =
+        qed W (raw (toks 𝓤 A {len(p.params)} κs qs) ∷ ‵ (owns (typesAt (f.signature .params) κs) a (at κs a)) ∷ []) ∵
+        enter ! C Λ code.function ({p.machine}) _ $ alloc-all ! (code.function .locals) (λ ns. params1 ! $
+        {w.text(' ' * 8)})
+{p.ending('(𝓣 .C) (𝓣 .Λ) (fmOf 𝓤 H (W .laws) 𝓣)')}''')
+
+
+WALKS = {'states/load': load, 'states/store': store, 'states/show_states': show_states, 'listing/row_lines': row_lines, 'listing/list': lent_list, 'planner/run': planner_run, 'plan/plan_in': plan_in}
 
 
 def main():

@@ -1,3 +1,2 @@
-pub mod Program
 pub mod Reads
-pub mod ProgramLaws
+pub mod ReadsLaws

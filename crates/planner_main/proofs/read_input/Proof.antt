@@ -5,7 +5,7 @@ use native.Mathlib.Omega.{arith}
 use lib.ListN.{length}
 use borrow.Author.Needs.{needs}
 use borrow.Rule.Slice.PartMut.{same-len-mid}
-use Rattle.planner_main.specs.ProgramLaws.{got-bytes}
+use Rattle.planner_main.specs.ReadsLaws.{got-bytes}
 use Rattle.planner_main.proofs.read_input.Statement.{statement}
 use Rattle.planner_main.proofs.read_input.Tie as tie
 

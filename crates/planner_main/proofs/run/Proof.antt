@@ -5,7 +5,7 @@ use native.Mathlib.Omega.{arith}
 use lib.ListN.{length}
 use lib.Seq.{length-take-le}
 use borrow.Author.Needs.{needs}
-use Rattle.planner_main.specs.ProgramLaws.{read-within}
+use Rattle.planner_main.specs.ReadsLaws.{read-within}
 use Rattle.planner_main.proofs.run.Statement.{statement}
 use Rattle.planner_main.proofs.run.Tie as tie
 

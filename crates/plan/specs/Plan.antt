@@ -1,4 +1,4 @@
--- What the program makes of an input: what the call gives back, and the listing.
+-- What the plan of an input is: what the call gives back, and the listing.
 use Prim.Native.Nat.{ℕ, _≤_}
 use mathlib.Core.Path.{_≡_}
 use mathlib.Core.List.{List}
@@ -6,7 +6,7 @@ use lib.ListN.{length, take}
 use Rattle.files.specs.File.{planned}
 use Rattle.files.specs.Listing.{listing}
 use Rattle.files.specs.Contents.{givenOf}
-use Rattle.planner_main.specs.declared.Planned.{Planned}
+use Rattle.plan.specs.declared.Planned.{Planned}
 
 -- THE PLAN: what the call gives back of the input's file, and its listing in front of the buffer.
 pub record Plans (input out : List ℕ) (r : Planned) : Type 0 where
