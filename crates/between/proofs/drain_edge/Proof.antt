@@ -12,16 +12,27 @@ use Rattle.between.specs.ReadyLaws.{ready-more, fit-more, fit-by, fit-dr
 use Rattle.between.proofs.drain_edge.Statement.{statement}
 use Rattle.between.proofs.drain_edge.Tie as tie
 
+-- Ways back to earlier places.
+
+abbrev start-of : tie.After-load-arg2 → tie.Start
+start-of p = p .before .before .before .before .before .before .before .before
+
+abbrev drained-of : tie.After-run-from-arg6 → tie.After-drained
+drained-of p = p .before .before .before .before .before .before
+
+abbrev run-from-of : tie.After-row-queues → tie.After-run-from
+run-from-of p = p .before .before .before .before .before .before .before .before .before
+
 load-requires : tie.Need-load-requires
 load-requires c κs =
-    let s = c .before .before .before .before .before .before .before .before in
+    let s = start-of c in
     let p = s .pre in
     omega (arith, p .1 .long, p .0 .1)
 
 drained-requires : tie.Need-drained-requires
 drained-requires c κs =
     let load = c .load in
-    let s = c .before .before .before .before .before .before .before .before .before in
+    let s = start-of (c .before) in
     let a = s .args in
     let p = s .pre in
     let h = heldRows (a .row-conditions .now) (a .row-weights .now) (a .rows .now) (a .guard-bounds .now) (a .guard-nodes .now) in
@@ -32,10 +43,10 @@ drained-requires c κs =
 
 run-from-requires : tie.Need-run-from-requires
 run-from-requires c κs =
-    let at-drained = c .before .before .before .before .before .before in
+    let at-drained = drained-of c in
     let moved = at-drained .drained in
     let load = at-drained .before .load in
-    let s = at-drained .before .before .before .before .before .before .before .before .before .before in
+    let s = start-of (at-drained .before .before) in
     let a = s .args in
     let p = s .pre in
     let h = heldRows (a .row-conditions .now) (a .row-weights .now) (a .rows .now) (a .guard-bounds .now) (a .guard-nodes .now) in
@@ -48,31 +59,31 @@ run-from-requires c κs =
     ((p .0 .0, p .0 .1, fit), ready-more h n figureLimit (v .states) (v .marks) (v .residuals) (omega arith) (p .1))
 
 same-length : tie.Need-same-length
-same-length c = c .before .before .before .before .before .before .before .before .before .run-from .kept .1 .1 .1 .1 .1 .0
+same-length c = run-from-of c .run-from .kept .1 .1 .1 .1 .1 .0
 
 same-length-2 : tie.Need-same-length-2
-same-length-2 c = c .before .before .before .before .before .before .before .before .before .run-from .kept .1 .1 .1 .1 .1 .1 .0
+same-length-2 c = run-from-of c .run-from .kept .1 .1 .1 .1 .1 .1 .0
 
 same-length-3 : tie.Need-same-length-3
-same-length-3 c = c .before .before .before .before .before .before .before .before .before .run-from .kept .1 .1 .1 .1 .1 .1 .1 .0
+same-length-3 c = run-from-of c .run-from .kept .1 .1 .1 .1 .1 .1 .1 .0
 
 same-length-4 : tie.Need-same-length-4
-same-length-4 c = c .before .before .before .before .before .before .before .before .before .run-from .kept .1 .1 .1 .1 .1 .1 .1 .1 .0
+same-length-4 c = run-from-of c .run-from .kept .1 .1 .1 .1 .1 .1 .1 .1 .0
 
 same-length-5 : tie.Need-same-length-5
-same-length-5 c = c .before .before .before .before .before .before .before .before .before .run-from .kept .1 .1 .1 .1 .1 .1 .1 .1 .1 .0
+same-length-5 c = run-from-of c .run-from .kept .1 .1 .1 .1 .1 .1 .1 .1 .1 .0
 
 same-length-6 : tie.Need-same-length-6
-same-length-6 c = c .before .before .before .before .before .before .before .before .before .run-from .kept .1 .1 .1 .1 .1 .1 .1 .1 .1 .1 .0
+same-length-6 c = run-from-of c .run-from .kept .1 .1 .1 .1 .1 .1 .1 .1 .1 .1 .0
 
 returns : tie.Need-returns
 returns c =
-    let at-run-from = c .before .before .before .before .before .before .before .before .before in
+    let at-run-from = run-from-of c in
     let run-from = at-run-from .run-from in
-    let at-drained = at-run-from .before .before .before .before .before .before .before in
+    let at-drained = drained-of (at-run-from .before) in
     let moved = at-drained .drained in
     let load = at-drained .before .load in
-    let s = at-drained .before .before .before .before .before .before .before .before .before .before in
+    let s = start-of (at-drained .before .before) in
     let a = s .args in
     let h = heldRows (a .row-conditions .now) (a .row-weights .now) (a .rows .now) (a .guard-bounds .now) (a .guard-nodes .now) in
     let v = liveOf (a .figures .now) (a .cursors .now) (a .sure .now) (a .never .now) (a .node-queue .now) (a .row-queues .now) (a .rings) in

@@ -7,6 +7,11 @@ use Rattle.between.specs.FirstLaws.{first-cut, small-cut}
 use Rattle.between.proofs.first_at.Statement.{statement}
 use Rattle.between.proofs.first_at.Tie as tie
 
+-- Ways back to earlier places.
+
+abbrev start-of : tie.After-end-by → tie.Start
+start-of p = p .before .before .before .before
+
 start-by-requires : tie.Need-start-by-requires
 start-by-requires c κs = (omega (arith, c .before .before .pre .3), omega arith)
 
@@ -18,19 +23,19 @@ mul-total c = omega (arith, c .before .start-by .ensures .1)
 
 sub-total : tie.Need-sub-total
 sub-total c =
-    let s = c .before .before .before .before in
+    let s = start-of c in
     let p = s .pre in
     omega (arith, c .before .start-by .ensures .0, c .end-by .ensures .0, p .0 .rising (s .args .row) (p .3))
 
 part-total-start : tie.Need-part-total-start
 part-total-start c =
-    let s = c .before .before .before .before in
+    let s = start-of c in
     let p = s .pre in
     omega (arith, c .before .start-by .ensures .0, c .end-by .ensures .0, p .0 .rising (s .args .row) (p .3))
 
 part-total-end : tie.Need-part-total-end
 part-total-end c =
-    let s = c .before .before .before .before in
+    let s = start-of c in
     let p = s .pre in
     omega (arith, c .end-by .ensures .0, p .0 .ends (s .args .row) (p .3))
 
@@ -40,20 +45,20 @@ mul-total-2 c = omega (arith, c .before .before .start-by .ensures .1)
 sub-total-2 : tie.Need-sub-total-2
 sub-total-2 c =
     let start-by = c .before .before .start-by in
-    let s = c .before .before .before .before .before in
+    let s = start-of (c .before) in
     let p = s .pre in
     omega (arith, start-by .ensures .0, c .before .end-by .ensures .0, p .0 .rising (s .args .row) (p .3))
 
 part-total-start-2 : tie.Need-part-total-start-2
 part-total-start-2 c =
     let start-by = c .before .before .start-by in
-    let s = c .before .before .before .before .before in
+    let s = start-of (c .before) in
     let p = s .pre in
     omega (arith, start-by .ensures .0, c .before .end-by .ensures .0, p .0 .rising (s .args .row) (p .3))
 
 part-total-end-2 : tie.Need-part-total-end-2
 part-total-end-2 c =
-    let s = c .before .before .before .before .before in
+    let s = start-of (c .before) in
     let p = s .pre in
     omega (arith, c .before .end-by .ensures .0, p .0 .ends (s .args .row) (p .3), p .1)
 
@@ -61,7 +66,7 @@ total-requires : tie.Need-total-requires
 total-requires c κs =
     let end-by = c .before .before .end-by in
     let start-by = c .before .before .before .start-by in
-    let s = c .before .before .before .before .before .before in
+    let s = start-of (c .before .before) in
     let a = s .args in
     let p = s .pre in
     let from = start-by .result in
@@ -76,7 +81,7 @@ total-requires c κs =
 
 count-by-requires : tie.Need-count-by-requires
 count-by-requires c κs =
-    let s = c .before .before .before .before .before .before .before in
+    let s = start-of (c .before .before .before) in
     let p = s .pre in
     (p .3, omega arith, p .2 (s .args .row) (p .3))
 
@@ -85,7 +90,7 @@ first-requires c κs =
     let at-end-by = c .before .before .before .before in
     let end-by = at-end-by .end-by in
     let start-by = at-end-by .before .start-by in
-    let s = at-end-by .before .before .before .before in
+    let s = start-of at-end-by in
     let a = s .args in
     let small = small-cut (a .row-conditions .now) (a .row-weights .now) (a .rows .now) (a .row) (start-by .result) (end-by .result) roomLimit (start-by .ensures .0) (end-by .ensures .0) (s .pre .4) in
     omega (arith, c .before .total .ensures, small)
@@ -97,7 +102,7 @@ returns c =
     let at-end-by = c .before .before .before .before .before in
     let end-by = at-end-by .end-by in
     let start-by = at-end-by .before .start-by in
-    let s = at-end-by .before .before .before .before in
+    let s = start-of at-end-by in
     let a = s .args in
     let cut = first-cut (a .row-conditions .now) (a .row-weights .now) (a .rows .now) (a .row) (start-by .result) (end-by .result) (count-by .result) (sum .result)
     (start-by .ensures .0) (end-by .ensures .0) (sum .ensures) (count-by .ensures) in

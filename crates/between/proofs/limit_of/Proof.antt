@@ -7,12 +7,6 @@ use borrow.Author.Needs.{needs}
 use Rattle.between.proofs.limit_of.Statement.{statement}
 use Rattle.between.proofs.limit_of.Tie as tie
 
-enum-told : tie.Need-enum-told
-enum-told c = search needs
-
-enum-known-upper : tie.Need-enum-known-upper
-enum-known-upper c = search needs
-
 returns : tie.Need-returns
 returns c = sym (ap limit (c .enum-told .given .1))
 
@@ -23,4 +17,4 @@ returns-2 c =
     hu ∙ sym (ap limit (u .1))
 
 pub limit-of-spec : {M : Type 1} → statement M
-limit-of-spec = tie.close (tie.spec enum-told enum-known-upper returns returns-2)
+limit-of-spec = tie.close (tie.spec (λ c. search needs) (λ c. search needs) returns returns-2)

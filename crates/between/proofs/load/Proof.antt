@@ -18,9 +18,6 @@ mul-c c = search (needs, states-cursors (c .before .args .figures .now) (c .befo
 shared-slice-copy-out-c : tie.Need-shared-slice-copy-out-c
 shared-slice-copy-out-c c = omega (arith, c .before .pre, states-cursors (c .before .args .figures .now) (c .before .args .cursors .now))
 
-make-requires : tie.Need-make-requires
-make-requires c κs = tt
-
 returns : tie.Need-returns
 returns c = c .make .ensures ∙ sym (states-at (c .before .before .before .args .figures .now) (c .before .before .before .args .cursors .now) (c .before .before .before .args .row) (c .before .before .before .pre))
 
@@ -32,5 +29,5 @@ load-spec =
     shared-slice-copy-out-f
     mul-c
     shared-slice-copy-out-c
-    make-requires
+    (λ c κs. tt)
     returns)

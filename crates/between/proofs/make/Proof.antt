@@ -10,33 +10,6 @@ use borrow.Author.Needs.{needs}
 use Rattle.between.proofs.make.Statement.{statement}
 use Rattle.between.proofs.make.Tie as tie
 
-array-copy-out-known : tie.Need-array-copy-out-known
-array-copy-out-known c = search needs
-
-array-copy-out-possible : tie.Need-array-copy-out-possible
-array-copy-out-possible c = search needs
-
-array-copy-out-lower : tie.Need-array-copy-out-lower
-array-copy-out-lower c = search needs
-
-array-copy-out-limit : tie.Need-array-copy-out-limit
-array-copy-out-limit c = search needs
-
-array-read-sure-guard : tie.Need-array-read-sure-guard
-array-read-sure-guard c = search needs
-
-array-read-never-guard : tie.Need-array-read-never-guard
-array-read-never-guard c = search needs
-
-array-read-true-term : tie.Need-array-read-true-term
-array-read-true-term c = search needs
-
-array-read-false-term : tie.Need-array-read-false-term
-array-read-false-term c = search needs
-
-array-read-if1 : tie.Need-array-read-if1
-array-read-if1 c = search needs
-
 returns : tie.Need-returns
 unfolding rowState
 returns c =
@@ -62,14 +35,7 @@ pub make-spec : {M : Type 1} → statement M
 make-spec =
     tie.close
     (tie.spec
-    array-copy-out-known
-    array-copy-out-possible
-    array-copy-out-lower
-    array-copy-out-limit
-    array-read-sure-guard
-    array-read-never-guard
-    array-read-true-term
-    array-read-false-term
-    array-read-if1
+    (λ c. search needs) (λ c. search needs) (λ c. search needs) (λ c. search needs) (λ c. search needs) (λ c. search needs)
+    (λ c. search needs) (λ c. search needs) (λ c. search needs)
     returns
     returns-2)

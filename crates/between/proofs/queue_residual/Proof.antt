@@ -8,18 +8,6 @@ use borrow.Author.Needs.{needs}
 use Rattle.between.proofs.queue_residual.Statement.{statement}
 use Rattle.between.proofs.queue_residual.Tie as tie
 
-wants-residual-requires : tie.Need-wants-residual-requires
-wants-residual-requires c κs =
-    search needs
-
-queue-row-requires : tie.Need-queue-row-requires
-queue-row-requires c κs =
-    search needs
-
-same-length : tie.Need-same-length
-same-length c =
-    search needs
-
 returns : tie.Need-returns
 returns c =
     let queue-row = c .before .queue-row in
@@ -47,8 +35,6 @@ pub queue-residual-spec : {M : Type 1} → statement M
 queue-residual-spec =
     tie.close
     (tie.spec
-    wants-residual-requires
-    queue-row-requires
-    same-length
+    (λ c κs. search needs) (λ c κs. search needs) (λ c. search needs)
     returns
     returns-2)

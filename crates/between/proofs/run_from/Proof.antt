@@ -13,17 +13,28 @@ use Rattle.between.specs.ReadyLaws.{ready-set, ready-states}
 use Rattle.between.proofs.run_from.Statement.{statement}
 use Rattle.between.proofs.run_from.Tie as tie
 
+-- Ways back to earlier places.
+
+abbrev start-of : tie.After-store-arg2 → tie.Start
+start-of p = p .before .before .before .before .before .before .before .before
+
+abbrev store-of : tie.After-run-at-arg6 → tie.After-store
+store-of p = p .before .before .before .before .before .before .before .before
+
+abbrev run-at-of : tie.After-row-queues → tie.After-run-at
+run-at-of p = p .before .before .before .before .before .before .before .before .before
+
 store-requires : tie.Need-store-requires
 store-requires c κs =
-    let s = c .before .before .before .before .before .before .before .before in
+    let s = start-of c in
     let p = s .pre in
     omega (arith, p .1 .long, p .0 .1)
 
 run-at-requires : tie.Need-run-at-requires
 run-at-requires c κs =
-    let at-store = c .before .before .before .before .before .before .before .before in
+    let at-store = store-of c in
     let store = at-store .store in
-    let s = at-store .before .before .before .before .before .before .before .before .before in
+    let s = start-of (at-store .before) in
     let a = s .args in
     let p = s .pre in
     let h = heldRows (a .row-conditions .now) (a .row-weights .now) (a .rows .now) (a .guard-bounds .now) (a .guard-nodes .now) in
@@ -35,37 +46,37 @@ run-at-requires c κs =
 
 same-length : tie.Need-same-length
 same-length c =
-    let at-run-at = c .before .before .before .before .before .before .before .before .before in
+    let at-run-at = run-at-of c in
     let run-at = at-run-at .run-at in
-    let store = at-run-at .before .before .before .before .before .before .before .before .before .store in
+    let store = store-of (at-run-at .before) .store in
     _∙_ {b = length (store .last .0)} (run-at .kept .1 .1 .1 .1 .1 .0) (store .kept .0)
 
 same-length-2 : tie.Need-same-length-2
 same-length-2 c =
-    let at-run-at = c .before .before .before .before .before .before .before .before .before in
+    let at-run-at = run-at-of c in
     let run-at = at-run-at .run-at in
-    let store = at-run-at .before .before .before .before .before .before .before .before .before .store in
+    let store = store-of (at-run-at .before) .store in
     _∙_ {b = length (store .last .1 .0)} (run-at .kept .1 .1 .1 .1 .1 .1 .0) (store .kept .1 .0)
 
 same-length-3 : tie.Need-same-length-3
-same-length-3 c = c .before .before .before .before .before .before .before .before .before .run-at .kept .1 .1 .1 .1 .1 .1 .1 .0
+same-length-3 c = run-at-of c .run-at .kept .1 .1 .1 .1 .1 .1 .1 .0
 
 same-length-4 : tie.Need-same-length-4
-same-length-4 c = c .before .before .before .before .before .before .before .before .before .run-at .kept .1 .1 .1 .1 .1 .1 .1 .1 .0
+same-length-4 c = run-at-of c .run-at .kept .1 .1 .1 .1 .1 .1 .1 .1 .0
 
 same-length-5 : tie.Need-same-length-5
-same-length-5 c = c .before .before .before .before .before .before .before .before .before .run-at .kept .1 .1 .1 .1 .1 .1 .1 .1 .1 .0
+same-length-5 c = run-at-of c .run-at .kept .1 .1 .1 .1 .1 .1 .1 .1 .1 .0
 
 same-length-6 : tie.Need-same-length-6
-same-length-6 c = c .before .before .before .before .before .before .before .before .before .run-at .kept .1 .1 .1 .1 .1 .1 .1 .1 .1 .1 .0
+same-length-6 c = run-at-of c .run-at .kept .1 .1 .1 .1 .1 .1 .1 .1 .1 .1 .0
 
 returns : tie.Need-returns
 returns c =
-    let at-run-at = c .before .before .before .before .before .before .before .before .before in
+    let at-run-at = run-at-of c in
     let run-at = at-run-at .run-at in
-    let at-store = at-run-at .before .before .before .before .before .before .before .before .before in
+    let at-store = store-of (at-run-at .before) in
     let store = at-store .store in
-    let s = at-store .before .before .before .before .before .before .before .before .before in
+    let s = start-of (at-store .before) in
     let a = s .args in
     let p = s .pre in
     let h = heldRows (a .row-conditions .now) (a .row-weights .now) (a .rows .now) (a .guard-bounds .now) (a .guard-nodes .now) in

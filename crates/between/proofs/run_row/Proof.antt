@@ -12,12 +12,23 @@ use Rattle.between.specs.BetweenLaws.{run-made}
 use Rattle.between.proofs.run_row.Statement.{statement}
 use Rattle.between.proofs.run_row.Tie as tie
 
+-- Ways back to earlier places.
+
+abbrev start-of : tie.After-load-arg2 → tie.Start
+start-of p = p .before .before .before .before .before .before .before .before .before .before .before
+
+abbrev queue-residual-of : tie.After-store-arg2 → tie.After-queue-residual
+queue-residual-of p = p .before .before .before .before .before .before .before .before .before .before .before .before .before .before .before
+
+abbrev threshold-row-of : tie.After-cursors → tie.After-threshold-row
+threshold-row-of p = p .before .before .before .before .before .before .before .before .before .before .before .before .before
+
 load-requires : tie.Need-load-requires
-load-requires c κs = c .before .before .before .before .before .before .before .before .before .before .before .pre .0 .0
+load-requires c κs = start-of c .pre .0 .0
 
 queue-residual-requires : tie.Need-queue-residual-requires
 queue-residual-requires c κs =
-    let s = c .before .before .before .before .before .before .before .before .before .before .before .before .before in
+    let s = start-of (c .before .before) in
     let p = s .pre in
     (p .0 .1 .same, p .1 .1 .0, p .1 .1 .1)
 
@@ -25,7 +36,7 @@ threshold-row-requires : tie.Need-threshold-row-requires
 threshold-row-requires c κs =
     let at-load = c .before .before .before .before .before .before in
     let load = at-load .load in
-    let s = at-load .before .before .before .before .before .before .before .before .before .before .before .before in
+    let s = start-of (at-load .before) in
     let a = s .args in
     let p = s .pre in
     let v = liveOf (a .figures .now) (a .cursors .now) (a .sure .now) (a .never .now) (a .node-queue .now) (a .row-queues .now) (a .rings) in
@@ -33,7 +44,7 @@ threshold-row-requires c κs =
     (p .0 .1, p .0 .2, r .figures, r .inside, p .1 .0 .1)
 
 store-requires : tie.Need-store-requires
-store-requires c κs = c .before .before .before .before .before .before .before .before .before .before .before .before .before .before .before .before .before .before .before .before .before .before .before .before .before .before .before .before .before .pre .0 .0
+store-requires c κs = start-of (queue-residual-of c .before .before .before) .pre .0 .0
 
 same-length : tie.Need-same-length
 same-length c = c .before .before .store .kept .0
@@ -42,26 +53,26 @@ same-length-2 : tie.Need-same-length-2
 same-length-2 c = c .before .before .store .kept .1 .0
 
 same-length-3 : tie.Need-same-length-3
-same-length-3 c = c .before .before .before .before .before .before .before .before .before .before .before .before .before .threshold-row .kept .1 .1 .1 .1 .1 .0
+same-length-3 c = threshold-row-of c .threshold-row .kept .1 .1 .1 .1 .1 .0
 
 same-length-4 : tie.Need-same-length-4
-same-length-4 c = c .before .before .before .before .before .before .before .before .before .before .before .before .before .threshold-row .kept .1 .1 .1 .1 .1 .1 .0
+same-length-4 c = threshold-row-of c .threshold-row .kept .1 .1 .1 .1 .1 .1 .0
 
 same-length-5 : tie.Need-same-length-5
-same-length-5 c = c .before .before .before .before .before .before .before .before .before .before .before .before .before .threshold-row .kept .1 .1 .1 .1 .1 .1 .1 .0
+same-length-5 c = threshold-row-of c .threshold-row .kept .1 .1 .1 .1 .1 .1 .1 .0
 
 same-length-6 : tie.Need-same-length-6
-same-length-6 c = c .before .before .before .before .before .before .before .before .before .before .before .before .before .before .before .before .before .before .queue-residual .kept .1 .1 .0
+same-length-6 c = queue-residual-of (c .before .before .before) .queue-residual .kept .1 .1 .0
 
 returns : tie.Need-returns
 returns c =
     let store = c .before .before .store in
-    let at-threshold-row = c .before .before .before .before .before .before .before .before .before .before .before .before .before in
+    let at-threshold-row = threshold-row-of c in
     let threshold-row = at-threshold-row .threshold-row in
     let at-queue-residual = at-threshold-row .before .before .before .before .before in
     let queue-residual = at-queue-residual .queue-residual in
     let load = at-queue-residual .before .before .load in
-    let s = at-queue-residual .before .before .before .before .before .before .before .before .before .before .before .before .before .before in
+    let s = start-of (at-queue-residual .before .before .before) in
     let a = s .args in
     let p = s .pre in
     let v = liveOf (a .figures .now) (a .cursors .now) (a .sure .now) (a .never .now) (a .node-queue .now) (a .row-queues .now) (a .rings) in

@@ -22,6 +22,20 @@ abbrev μ-loop : tie.MeasureT-loop
 μ-loop row-conditions row-weights rows guard-bounds guard-nodes figures₀ cursors₀ sure₀ never₀ node-queue₀ row-queues₀ row₀ so-far₀ figures cursors sure never node-queue row-queues row so-far =
     length rows - row
 
+-- Ways back to earlier places.
+
+abbrev start-of : tie.At-loop Inv-loop μ-loop → tie.Start Inv-loop μ-loop
+start-of p = p .before .before .before .before .before .before .before
+
+abbrev loop-of : tie.After-run-at Inv-loop μ-loop → tie.At-loop Inv-loop μ-loop
+loop-of p = p .before .before .before .before .before .before .before .before .before
+
+abbrev in-loop-of : tie.After-run-at-arg6 Inv-loop μ-loop → tie.In-loop Inv-loop μ-loop
+in-loop-of p = p .before .before .before .before .before .before .before
+
+abbrev run-at-of : tie.After-contradicts Inv-loop μ-loop → tie.After-run-at Inv-loop μ-loop
+run-at-of p = p .before .before .before .before .before .before .before .before .before .before
+
 loop-holds : tie.Need-loop-holds Inv-loop μ-loop
 loop-holds c =
     let s = c .before .before .before .before .before .before in
@@ -35,66 +49,62 @@ loop-holds c =
 
 run-at-requires : tie.Need-run-at-requires Inv-loop μ-loop
 run-at-requires c κs =
-    let at-loop-test = c .before .before .before .before .before .before .before in
+    let at-loop-test = in-loop-of c in
     let test = at-loop-test .loop-test in
     let w = at-loop-test .before .loop in
-    let s = at-loop-test .before .before .before .before .before .before .before .before in
+    let s = start-of (at-loop-test .before) in
     ((s .pre .0, test .taken), w .inv .0 .ready)
-
-contradicts-requires : tie.Need-contradicts-requires Inv-loop μ-loop
-contradicts-requires c κs =
-    search needs
 
 same-length : tie.Need-same-length Inv-loop μ-loop
 same-length c =
-    let at-run-at = c .before .before .before .before .before .before .before .before .before .before .before in
+    let at-run-at = run-at-of (c .before) in
     let run-at = at-run-at .run-at in
-    let w = at-run-at .before .before .before .before .before .before .before .before .before .loop in
+    let w = loop-of at-run-at .loop in
     _∙_ {b = length (w .figures)} (run-at .kept .1 .1 .1 .1 .1 .0) (w .inv .1 .figures)
 
 same-length-2 : tie.Need-same-length-2 Inv-loop μ-loop
 same-length-2 c =
-    let at-run-at = c .before .before .before .before .before .before .before .before .before .before .before in
+    let at-run-at = run-at-of (c .before) in
     let run-at = at-run-at .run-at in
-    let w = at-run-at .before .before .before .before .before .before .before .before .before .loop in
+    let w = loop-of at-run-at .loop in
     _∙_ {b = length (w .cursors)} (run-at .kept .1 .1 .1 .1 .1 .1 .0) (w .inv .1 .cursors)
 
 same-length-3 : tie.Need-same-length-3 Inv-loop μ-loop
 same-length-3 c =
-    let at-run-at = c .before .before .before .before .before .before .before .before .before .before .before in
+    let at-run-at = run-at-of (c .before) in
     let run-at = at-run-at .run-at in
-    let w = at-run-at .before .before .before .before .before .before .before .before .before .loop in
+    let w = loop-of at-run-at .loop in
     _∙_ {b = length (w .sure)} (run-at .kept .1 .1 .1 .1 .1 .1 .1 .0) (w .inv .1 .sure)
 
 same-length-4 : tie.Need-same-length-4 Inv-loop μ-loop
 same-length-4 c =
-    let at-run-at = c .before .before .before .before .before .before .before .before .before .before .before in
+    let at-run-at = run-at-of (c .before) in
     let run-at = at-run-at .run-at in
-    let w = at-run-at .before .before .before .before .before .before .before .before .before .loop in
+    let w = loop-of at-run-at .loop in
     _∙_ {b = length (w .never)} (run-at .kept .1 .1 .1 .1 .1 .1 .1 .1 .0) (w .inv .1 .never)
 
 same-length-5 : tie.Need-same-length-5 Inv-loop μ-loop
 same-length-5 c =
-    let at-run-at = c .before .before .before .before .before .before .before .before .before .before .before in
+    let at-run-at = run-at-of (c .before) in
     let run-at = at-run-at .run-at in
-    let w = at-run-at .before .before .before .before .before .before .before .before .before .loop in
+    let w = loop-of at-run-at .loop in
     _∙_ {b = length (w .node-queue)} (run-at .kept .1 .1 .1 .1 .1 .1 .1 .1 .1 .0) (w .inv .1 .node-queue)
 
 same-length-6 : tie.Need-same-length-6 Inv-loop μ-loop
 same-length-6 c =
-    let at-run-at = c .before .before .before .before .before .before .before .before .before .before .before in
+    let at-run-at = run-at-of (c .before) in
     let run-at = at-run-at .run-at in
-    let w = at-run-at .before .before .before .before .before .before .before .before .before .loop in
+    let w = loop-of at-run-at .loop in
     _∙_ {b = length (w .row-queues)} (run-at .kept .1 .1 .1 .1 .1 .1 .1 .1 .1 .1 .0) (w .inv .1 .row-queues)
 
 returns : tie.Need-returns Inv-loop μ-loop
 returns c =
-    let at-run-at = c .before .before .before .before .before .before .before .before .before .before .before in
+    let at-run-at = run-at-of (c .before) in
     let run-at = at-run-at .run-at in
-    let at-loop-test = at-run-at .before .before .before .before .before .before .before .before in
+    let at-loop-test = in-loop-of (at-run-at .before) in
     let test = at-loop-test .loop-test in
     let w = at-loop-test .before .loop in
-    let s = at-loop-test .before .before .before .before .before .before .before .before in
+    let s = start-of (at-loop-test .before) in
     let a = s .args in
     let h = heldRows (a .row-conditions .now) (a .row-weights .now) (a .rows .now) (a .guard-bounds .now) (a .guard-nodes .now) in
     let v = liveOf (a .figures .now) (a .cursors .now) (a .sure .now) (a .never .now) (a .node-queue .now) (a .row-queues .now) (a .rings) in
@@ -106,31 +116,27 @@ returns c =
       λ t. run-at .ensures .1 (w .inv .2 t),
     )
 
-join-requires : tie.Need-join-requires Inv-loop μ-loop
-join-requires c κs =
-    search needs
-
 add-row : tie.Need-add-row Inv-loop μ-loop
 add-row c =
-    let at-loop-test = c .before .before .before .before .before .before .before .before .before .before .before .before .before .before .before .before .before .before .before .before .before in
+    let at-loop-test = in-loop-of (run-at-of (c .before .before .before) .before) in
     let test = at-loop-test .loop-test in
-    let s = at-loop-test .before .before .before .before .before .before .before .before in
+    let s = start-of (at-loop-test .before) in
     omega (arith, test .taken, s .pre .0 .few)
 
 loop-less : tie.Need-loop-less Inv-loop μ-loop
-loop-less c = omega (arith, c .before .before .before .before .before .before .before .before .before .before .before .before .before .before .before .before .before .before .before .before .before .loop-test .taken)
+loop-less c = omega (arith, in-loop-of (run-at-of (c .before .before .before) .before) .loop-test .taken)
 
 loop-again : tie.Need-loop-again Inv-loop μ-loop
 loop-again c =
     let join = c .join in
     let if1 = c .before .before .if1 in
     let contradicts = c .before .before .before .contradicts in
-    let at-run-at = c .before .before .before .before .before .before .before .before .before .before .before .before .before in
+    let at-run-at = run-at-of (c .before .before .before) in
     let run-at = at-run-at .run-at in
-    let at-loop-test = at-run-at .before .before .before .before .before .before .before .before in
+    let at-loop-test = in-loop-of (at-run-at .before) in
     let test = at-loop-test .loop-test in
     let w = at-loop-test .before .loop in
-    let s = at-loop-test .before .before .before .before .before .before .before .before in
+    let s = start-of (at-loop-test .before) in
     let a = s .args in
     let h = heldRows (a .row-conditions .now) (a .row-weights .now) (a .rows .now) (a .guard-bounds .now) (a .guard-nodes .now) in
     let v = liveOf (a .figures .now) (a .cursors .now) (a .sure .now) (a .never .now) (a .node-queue .now) (a .row-queues .now) (a .rings) in
@@ -173,7 +179,7 @@ same-length-12 c = c .before .loop .inv .1 .row-queues
 returns-2 : tie.Need-returns-2 Inv-loop μ-loop
 returns-2 c =
     let w = c .before .loop in
-    let s = c .before .before .before .before .before .before .before .before in
+    let s = start-of (c .before) in
     let a = s .args in
     let h = heldRows (a .row-conditions .now) (a .row-weights .now) (a .rows .now) (a .guard-bounds .now) (a .guard-nodes .now) in
     let v = liveOf (a .figures .now) (a .cursors .now) (a .sure .now) (a .never .now) (a .node-queue .now) (a .row-queues .now) (a .rings) in
@@ -188,7 +194,7 @@ seed-thresholds-spec =
     μ-loop
     loop-holds
     run-at-requires
-    contradicts-requires
+    (λ c κs. search needs)
     same-length
     same-length-2
     same-length-3
@@ -196,7 +202,7 @@ seed-thresholds-spec =
     same-length-5
     same-length-6
     returns
-    join-requires
+    (λ c κs. search needs)
     add-row
     loop-less
     loop-again

@@ -9,12 +9,6 @@ use Rattle.between.proofs.start_by.Tie as tie
 returns : tie.Need-returns
 returns c = (start-zero (c .before .args .j) (c .before .args .table .now) (c .before .args .n) (c .if1 .taken), omega arith)
 
-sub-end-by : tie.Need-sub-end-by
-sub-end-by c = search needs
-
-end-by-requires : tie.Need-end-by-requires
-end-by-requires c κs = search needs
-
 returns-2 : tie.Need-returns-2
 returns-2 c = (c .end-by .ensures .0 ∙ start-before (c .before .before .args .j) (c .before .before .args .table .now) (c .before .before .args .n) (omega arith), c .end-by .ensures .1)
 
@@ -23,6 +17,5 @@ start-by-spec =
     tie.close
     (tie.spec
     returns
-    sub-end-by
-    end-by-requires
+    (λ c. search needs) (λ c κs. search needs)
     returns-2)

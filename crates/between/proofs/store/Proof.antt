@@ -8,33 +8,26 @@ use Rattle.between.specs.NumbersLaws.{states-figures, states-cursors}
 use Rattle.between.proofs.store.Statement.{statement}
 use Rattle.between.proofs.store.Tie as tie
 
-limit-of-requires : tie.Need-limit-of-requires
-limit-of-requires c κs = search needs
+-- Ways back to earlier places.
 
-flag-of-requires : tie.Need-flag-of-requires
-flag-of-requires c κs = search needs
+abbrev start-of : tie.After-struct-told3 → tie.Start
+start-of p = p .before .before .before .before .before
 
 mul-f : tie.Need-mul-f
-mul-f c = search (needs, states-figures (c .before .before .before .before .before .args .figures .now) (c .before .before .before .before .before .args .cursors .now))
+mul-f c = search (needs, states-figures (start-of c .args .figures .now) (start-of c .args .cursors .now))
 
 slice-set-from-f : tie.Need-slice-set-from-f
-slice-set-from-f c = omega (arith, c .before .before .before .before .before .pre, states-figures (c .before .before .before .before .before .args .figures .now) (c .before .before .before .before .before .args .cursors .now))
+slice-set-from-f c = omega (arith, start-of c .pre, states-figures (start-of c .args .figures .now) (start-of c .args .cursors .now))
 
 mul-c : tie.Need-mul-c
-mul-c c = search (needs, states-cursors (c .before .before .before .before .before .args .figures .now) (c .before .before .before .before .before .args .cursors .now))
+mul-c c = search (needs, states-cursors (start-of c .args .figures .now) (start-of c .args .cursors .now))
 
 slice-set-from-c : tie.Need-slice-set-from-c
-slice-set-from-c c = omega (arith, c .before .before .before .before .before .pre, states-cursors (c .before .before .before .before .before .args .figures .now) (c .before .before .before .before .before .args .cursors .now))
-
-same-length : tie.Need-same-length
-same-length c = search needs
-
-same-length-2 : tie.Need-same-length-2
-same-length-2 c = search needs
+slice-set-from-c c = omega (arith, start-of c .pre, states-cursors (start-of c .args .figures .now) (start-of c .args .cursors .now))
 
 returns : tie.Need-returns
 returns c =
-    let s = c .before .before .before .before .before .args .state in
+    let s = start-of c .args .state in
     let l = c .before .before .before .before .limit-of in
     let hk : toZ w64 (ofZ w64 (s .known)) ≡ s .known = search needs in
     let hp : toZ w64 (ofZ w64 (s .possible)) ≡ s .possible = search needs in
@@ -46,12 +39,10 @@ pub store-spec : {M : Type 1} → statement M
 store-spec =
     tie.close
     (tie.spec
-    limit-of-requires
-    flag-of-requires
+    (λ c κs. search needs) (λ c κs. search needs)
     mul-f
     slice-set-from-f
     mul-c
     slice-set-from-c
-    same-length
-    same-length-2
+    (λ c. search needs) (λ c. search needs)
     returns)

@@ -22,24 +22,41 @@ abbrev μ-loop : tie.MeasureT-loop
 μ-loop row-conditions row-weights rows guard-bounds guard-nodes nodes edges figures₀ cursors₀ sure₀ never₀ node-queue₀ row-queues₀ node value end at₀ so-far₀ figures cursors sure never node-queue row-queues at so-far =
     end - at
 
+-- Ways back to earlier places.
+
+abbrev start-of : tie.After-bit-arg Inv-loop μ-loop → tie.Start Inv-loop μ-loop
+start-of p = p .before .before .before .before .before .before .before
+
+abbrev loop-of : tie.After-drain-edge Inv-loop μ-loop → tie.At-loop Inv-loop μ-loop
+loop-of p = p .before .before .before .before .before .before .before .before .before .before .before
+
+abbrev in-loop-of : tie.After-join Inv-loop μ-loop → tie.In-loop Inv-loop μ-loop
+in-loop-of p = p .before .before .before .before .before .before .before .before .before .before .before .before .before .before .before .before .before .before .before .before .before .before .before
+
+abbrev edge-weight-of : tie.After-drain-edge-arg6 Inv-loop μ-loop → tie.After-edge-weight Inv-loop μ-loop
+edge-weight-of p = p .before .before .before .before .before .before .before
+
+abbrev drain-edge-of : tie.After-contradicts Inv-loop μ-loop → tie.After-drain-edge Inv-loop μ-loop
+drain-edge-of p = p .before .before .before .before .before .before .before .before .before .before
+
 bit-requires : tie.Need-bit-requires Inv-loop μ-loop
 bit-requires c κs =
-    let s = c .before .before .before .before .before .before .before in
+    let s = start-of c in
     let p = s .pre in
     omega (arith, p .0 .3, p .1 .waits .sures)
 
 end-by-requires : tie.Need-end-by-requires Inv-loop μ-loop
-end-by-requires c κs = (c .before .before .before .before .before .before .before .before .pre .0 .2, omega arith)
+end-by-requires c κs = (start-of (c .before) .pre .0 .2, omega arith)
 
 start-by-requires : tie.Need-start-by-requires Inv-loop μ-loop
-start-by-requires c κs = (omega (arith, c .before .before .before .before .before .before .before .before .before .pre .0 .2), omega arith)
+start-by-requires c κs = (omega (arith, start-of (c .before .before) .pre .0 .2), omega arith)
 
 loop-holds : tie.Need-loop-holds Inv-loop μ-loop
 loop-holds c =
     let start-by = c .start-by in
     let end-by = c .before .end-by in
     let bit = c .before .before .bit in
-    let s = c .before .before .before .before .before .before .before .before .before .before in
+    let s = start-of (c .before .before .before) in
     let a = s .args in
     let p = s .pre in
     let h = heldRows (a .row-conditions .now) (a .row-weights .now) (a .rows .now) (a .guard-bounds .now) (a .guard-nodes .now) in
@@ -61,7 +78,7 @@ edge-weight-requires c κs =
 
 drain-edge-requires : tie.Need-drain-edge-requires Inv-loop μ-loop
 drain-edge-requires c κs =
-    let at-edge-weight = c .before .before .before .before .before .before .before in
+    let at-edge-weight = edge-weight-of c in
     let edge-weight = at-edge-weight .edge-weight in
     let edge-row = at-edge-weight .before .edge-row in
     let test = at-edge-weight .before .before .loop-test in
@@ -70,7 +87,7 @@ drain-edge-requires c κs =
     let start-by = at-start-by .start-by in
     let end-by = at-start-by .before .end-by in
     let bit = at-start-by .before .before .bit in
-    let s = at-start-by .before .before .before .before .before .before .before .before .before .before in
+    let s = start-of (at-start-by .before .before .before) in
     let a = s .args in
     let h = heldRows (a .row-conditions .now) (a .row-weights .now) (a .rows .now) (a .guard-bounds .now) (a .guard-nodes .now) in
     let v = liveOf (a .figures .now) (a .cursors .now) (a .sure .now) (a .never .now) (a .node-queue .now) (a .row-queues .now) (a .rings) in
@@ -83,57 +100,53 @@ drain-edge-requires c κs =
       draining-ready h (a .edges .now) (bit .result) (start-by .result) (end-by .result) v (w .at) (w .so-far .step) u l k,
     )
 
-contradicts-requires : tie.Need-contradicts-requires Inv-loop μ-loop
-contradicts-requires c κs =
-    search needs
-
 same-length : tie.Need-same-length Inv-loop μ-loop
 same-length c =
-    let at-drain-edge = c .before .before .before .before .before .before .before .before .before .before .before in
+    let at-drain-edge = drain-edge-of (c .before) in
     let drain-edge = at-drain-edge .drain-edge in
-    let w = at-drain-edge .before .before .before .before .before .before .before .before .before .before .before .loop in
+    let w = loop-of at-drain-edge .loop in
     _∙_ {b = length (w .figures)} (drain-edge .kept .1 .1 .1 .1 .1 .0) (w .inv .1 .figures)
 
 same-length-2 : tie.Need-same-length-2 Inv-loop μ-loop
 same-length-2 c =
-    let at-drain-edge = c .before .before .before .before .before .before .before .before .before .before .before in
+    let at-drain-edge = drain-edge-of (c .before) in
     let drain-edge = at-drain-edge .drain-edge in
-    let w = at-drain-edge .before .before .before .before .before .before .before .before .before .before .before .loop in
+    let w = loop-of at-drain-edge .loop in
     _∙_ {b = length (w .cursors)} (drain-edge .kept .1 .1 .1 .1 .1 .1 .0) (w .inv .1 .cursors)
 
 same-length-3 : tie.Need-same-length-3 Inv-loop μ-loop
 same-length-3 c =
-    let at-drain-edge = c .before .before .before .before .before .before .before .before .before .before .before in
+    let at-drain-edge = drain-edge-of (c .before) in
     let drain-edge = at-drain-edge .drain-edge in
-    let w = at-drain-edge .before .before .before .before .before .before .before .before .before .before .before .loop in
+    let w = loop-of at-drain-edge .loop in
     _∙_ {b = length (w .sure)} (drain-edge .kept .1 .1 .1 .1 .1 .1 .1 .0) (w .inv .1 .sure)
 
 same-length-4 : tie.Need-same-length-4 Inv-loop μ-loop
 same-length-4 c =
-    let at-drain-edge = c .before .before .before .before .before .before .before .before .before .before .before in
+    let at-drain-edge = drain-edge-of (c .before) in
     let drain-edge = at-drain-edge .drain-edge in
-    let w = at-drain-edge .before .before .before .before .before .before .before .before .before .before .before .loop in
+    let w = loop-of at-drain-edge .loop in
     _∙_ {b = length (w .never)} (drain-edge .kept .1 .1 .1 .1 .1 .1 .1 .1 .0) (w .inv .1 .never)
 
 same-length-5 : tie.Need-same-length-5 Inv-loop μ-loop
 same-length-5 c =
-    let at-drain-edge = c .before .before .before .before .before .before .before .before .before .before .before in
+    let at-drain-edge = drain-edge-of (c .before) in
     let drain-edge = at-drain-edge .drain-edge in
-    let w = at-drain-edge .before .before .before .before .before .before .before .before .before .before .before .loop in
+    let w = loop-of at-drain-edge .loop in
     _∙_ {b = length (w .node-queue)} (drain-edge .kept .1 .1 .1 .1 .1 .1 .1 .1 .1 .0) (w .inv .1 .node-queue)
 
 same-length-6 : tie.Need-same-length-6 Inv-loop μ-loop
 same-length-6 c =
-    let at-drain-edge = c .before .before .before .before .before .before .before .before .before .before .before in
+    let at-drain-edge = drain-edge-of (c .before) in
     let drain-edge = at-drain-edge .drain-edge in
-    let w = at-drain-edge .before .before .before .before .before .before .before .before .before .before .before .loop in
+    let w = loop-of at-drain-edge .loop in
     _∙_ {b = length (w .row-queues)} (drain-edge .kept .1 .1 .1 .1 .1 .1 .1 .1 .1 .1 .0) (w .inv .1 .row-queues)
 
 returns : tie.Need-returns Inv-loop μ-loop
 returns c =
-    let at-drain-edge = c .before .before .before .before .before .before .before .before .before .before .before in
+    let at-drain-edge = drain-edge-of (c .before) in
     let drain-edge = at-drain-edge .drain-edge in
-    let at-edge-weight = at-drain-edge .before .before .before .before .before .before .before .before in
+    let at-edge-weight = edge-weight-of (at-drain-edge .before) in
     let edge-weight = at-edge-weight .edge-weight in
     let edge-row = at-edge-weight .before .edge-row in
     let test = at-edge-weight .before .before .loop-test in
@@ -142,7 +155,7 @@ returns c =
     let start-by = at-start-by .start-by in
     let end-by = at-start-by .before .end-by in
     let bit = at-start-by .before .before .bit in
-    let s = at-start-by .before .before .before .before .before .before .before .before .before .before in
+    let s = start-of (at-start-by .before .before .before) in
     let a = s .args in
     let p = s .pre in
     let h = heldRows (a .row-conditions .now) (a .row-weights .now) (a .rows .now) (a .guard-bounds .now) (a .guard-nodes .now) in
@@ -158,28 +171,24 @@ returns c =
       λ t. drain-edge .ensures .1 (w .inv .2 t),
     )
 
-join-requires : tie.Need-join-requires Inv-loop μ-loop
-join-requires c κs =
-    search needs
-
 add-at : tie.Need-add-at Inv-loop μ-loop
 add-at c =
-    let at-loop-test = c .before .before .before .before .before .before .before .before .before .before .before .before .before .before .before .before .before .before .before .before .before .before .before in
+    let at-loop-test = in-loop-of c in
     let test = at-loop-test .loop-test in
     let end-by = at-loop-test .before .before .before .end-by in
     omega (arith, test .taken, end-by .ensures .1)
 
 loop-less : tie.Need-loop-less Inv-loop μ-loop
-loop-less c = omega (arith, c .before .before .before .before .before .before .before .before .before .before .before .before .before .before .before .before .before .before .before .before .before .before .before .loop-test .taken)
+loop-less c = omega (arith, in-loop-of c .loop-test .taken)
 
 loop-again : tie.Need-loop-again Inv-loop μ-loop
 loop-again c =
     let join = c .join in
     let if1 = c .before .before .if1 in
     let contradicts = c .before .before .before .contradicts in
-    let at-drain-edge = c .before .before .before .before .before .before .before .before .before .before .before .before .before in
+    let at-drain-edge = drain-edge-of (c .before .before .before) in
     let drain-edge = at-drain-edge .drain-edge in
-    let at-edge-weight = at-drain-edge .before .before .before .before .before .before .before .before in
+    let at-edge-weight = edge-weight-of (at-drain-edge .before) in
     let edge-weight = at-edge-weight .edge-weight in
     let edge-row = at-edge-weight .before .edge-row in
     let test = at-edge-weight .before .before .loop-test in
@@ -188,7 +197,7 @@ loop-again c =
     let start-by = at-start-by .start-by in
     let end-by = at-start-by .before .end-by in
     let bit = at-start-by .before .before .bit in
-    let s = at-start-by .before .before .before .before .before .before .before .before .before .before in
+    let s = start-of (at-start-by .before .before .before) in
     let a = s .args in
     let h = heldRows (a .row-conditions .now) (a .row-weights .now) (a .rows .now) (a .guard-bounds .now) (a .guard-nodes .now) in
     let v = liveOf (a .figures .now) (a .cursors .now) (a .sure .now) (a .never .now) (a .node-queue .now) (a .row-queues .now) (a .rings) in
@@ -237,7 +246,7 @@ returns-2 c =
     let end-by = c .before .before .before .end-by in
     let at-bit = c .before .before .before .before in
     let bit = at-bit .bit in
-    let s = at-bit .before .before .before .before .before .before .before .before in
+    let s = start-of (at-bit .before) in
     let a = s .args in
     let h = heldRows (a .row-conditions .now) (a .row-weights .now) (a .rows .now) (a .guard-bounds .now) (a .guard-nodes .now) in
     let v = liveOf (a .figures .now) (a .cursors .now) (a .sure .now) (a .never .now) (a .node-queue .now) (a .row-queues .now) (a .rings) in
@@ -261,7 +270,7 @@ threshold-condition-spec =
     edge-row-requires
     edge-weight-requires
     drain-edge-requires
-    contradicts-requires
+    (λ c κs. search needs)
     same-length
     same-length-2
     same-length-3
@@ -269,7 +278,7 @@ threshold-condition-spec =
     same-length-5
     same-length-6
     returns
-    join-requires
+    (λ c κs. search needs)
     add-at
     loop-less
     loop-again

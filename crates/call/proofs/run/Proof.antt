@@ -7,6 +7,17 @@ use Rattle.call.specs.RunLaws.{raw-room, built-room, links-room, long, w
 use Rattle.call.proofs.run.Statement.{statement}
 use Rattle.call.proofs.run.Tie as tie
 
+-- Ways back to earlier places.
+
+abbrev to-start : tie.After-short → tie.Start
+to-start p = p .before .before .before .before .before .before .before .before .before .before .before .before .before
+
+abbrev to-read : tie.After-build-arg12 → tie.After-read
+to-read p = p .before .before .before .before .before .before .before .before .before .before .before .before .before .before .before .before .before .before
+
+abbrev to-build : tie.After-serve-arg18 → tie.After-build
+to-build p = p .before .before .before .before .before .before .before .before .before .before .before .before .before .before .before .before .before .before .before .before .before .before .before .before .before .before .before .before .before .before
+
 -- Places on the way from the start to the end.
 
 abbrev start-of : tie.Else1 → tie.Start
@@ -48,13 +59,10 @@ fitting p =
     let t = p .before .short in
     long (start-of p .args .input .now) (entry (start-of p)) (t .result) (t .ensures) (p .if1 .left)
 
-short-requires : tie.Need-short-requires
-short-requires c κs = tt
-
 returns : tie.Need-returns
 returns c =
     let after-short = c .before in
-    let start = after-short .before .before .before .before .before .before .before .before .before .before .before .before .before in
+    let start = to-start after-short in
     let t = after-short .short in
     let h = whole-none (start .args .input .now) (entry start) (t .result) (t .ensures) (c .if1 .taken) in
     h
@@ -70,7 +78,7 @@ read-requires c κs =
 
 build-requires : tie.Need-build-requires
 build-requires c κs =
-    let after-read = c .before .before .before .before .before .before .before .before .before .before .before .before .before .before .before .before .before .before in
+    let after-read = to-read c in
     let else1 = else-of after-read in
     let start = start-of else1 in
     let x = start .args .input .now in
@@ -81,7 +89,7 @@ build-requires c κs =
 
 serve-requires : tie.Need-serve-requires
 serve-requires c κs =
-    let after-build = c .before .before .before .before .before .before .before .before .before .before .before .before .before .before .before .before .before .before .before .before .before .before .before .before .before .before .before .before .before .before in
+    let after-build = to-build c in
     let after-read = read-of after-build in
     let else1 = else-of after-read in
     let start = start-of else1 in
@@ -175,7 +183,7 @@ pub run-spec : {M : Type 1} → statement M
 run-spec =
     tie.close
     (tie.spec
-    short-requires
+    (λ c κs. tt)
     returns
     read-requires
     build-requires

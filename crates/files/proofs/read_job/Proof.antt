@@ -18,6 +18,14 @@ Inv-loop input raw-conditions₀ raw-weights₀ thresholds₀ bounds₀ read₀ 
 abbrev μ-loop : tie.MeasureT-loop
 μ-loop input raw-conditions₀ raw-weights₀ thresholds₀ bounds₀ read₀ raw-conditions raw-weights thresholds bounds read = length input - read .at
 
+-- Ways back to earlier places.
+
+abbrev read-record-of : tie.Else2 Inv-loop μ-loop → tie.After-read-record Inv-loop μ-loop
+read-record-of p = p .before .before .before .before .before .before .before .before .before
+
+abbrev read-record-of-then2 : tie.Then2 Inv-loop μ-loop → tie.After-read-record Inv-loop μ-loop
+read-record-of-then2 p = p .before .before .before .before .before .before .before .before .before
+
 loop-holds : tie.Need-loop-holds Inv-loop μ-loop
 loop-holds c =
     let g = c .before .before .before .args in
@@ -33,21 +41,9 @@ read-record-requires c κs =
     let w = raw (rawLists (g .raw-conditions .now) (g .raw-weights .now) (g .thresholds .now)) (g .bounds .now) in
     (at-test .if1 .taken, going-unsealed (g .input .now) w (v .read) (v .raw-conditions) (v .raw-weights) (v .thresholds) (v .bounds) (v .inv .0), v .inv .0 .held .gathered)
 
-same-length : tie.Need-same-length Inv-loop μ-loop
-same-length c = search needs
-
-same-length-2 : tie.Need-same-length-2 Inv-loop μ-loop
-same-length-2 c = search needs
-
-same-length-3 : tie.Need-same-length-3 Inv-loop μ-loop
-same-length-3 c = search needs
-
-same-length-4 : tie.Need-same-length-4 Inv-loop μ-loop
-same-length-4 c = search needs
-
 returns : tie.Need-returns Inv-loop μ-loop
 returns c =
-    let at-read = c .before .before .before .before .before .before .before .before .before in
+    let at-read = read-record-of-then2 c in
     let at-test = at-read .before .before .before .before .before .before in
     let at-loop = at-test .before .before in
     let s = at-loop .before .before .before .before in
@@ -60,7 +56,7 @@ returns c =
 
 loop-less : tie.Need-loop-less Inv-loop μ-loop
 loop-less c =
-    let at-read = c .before .before .before .before .before .before .before .before .before in
+    let at-read = read-record-of c in
     let at-test = at-read .before .before .before .before .before .before in
     let at-loop = at-test .before .before in
     let s = at-loop .before .before .before .before in
@@ -74,7 +70,7 @@ loop-less c =
 
 loop-again : tie.Need-loop-again Inv-loop μ-loop
 loop-again c =
-    let at-read = c .before .before .before .before .before .before .before .before .before in
+    let at-read = read-record-of c in
     let at-test = at-read .before .before .before .before .before .before in
     let at-loop = at-test .before .before in
     let s = at-loop .before .before .before .before in
@@ -89,18 +85,6 @@ loop-again c =
       n .kept .1 .1 .1 .1 .1 .0 ∙ v .inv .3,
       n .kept .1 .1 .1 .1 .1 .1 .0 ∙ v .inv .4,
     )
-
-same-length-5 : tie.Need-same-length-5 Inv-loop μ-loop
-same-length-5 c = search needs
-
-same-length-6 : tie.Need-same-length-6 Inv-loop μ-loop
-same-length-6 c = search needs
-
-same-length-7 : tie.Need-same-length-7 Inv-loop μ-loop
-same-length-7 c = search needs
-
-same-length-8 : tie.Need-same-length-8 Inv-loop μ-loop
-same-length-8 c = search needs
 
 returns-2 : tie.Need-returns-2 Inv-loop μ-loop
 returns-2 c =
@@ -120,15 +104,9 @@ read-job-spec =
     μ-loop
     loop-holds
     read-record-requires
-    same-length
-    same-length-2
-    same-length-3
-    same-length-4
+    (λ c. search needs) (λ c. search needs) (λ c. search needs) (λ c. search needs)
     returns
     loop-less
     loop-again
-    same-length-5
-    same-length-6
-    same-length-7
-    same-length-8
+    (λ c. search needs) (λ c. search needs) (λ c. search needs) (λ c. search needs)
     returns-2)

@@ -6,17 +6,16 @@ use borrow.Author.Needs.{needs}
 use Rattle.files.proofs.read_record.Statement.{statement}
 use Rattle.files.proofs.read_record.Tie as tie
 
-next-record-requires : tie.Need-next-record-requires
-next-record-requires c κs = search needs
+-- Ways back to earlier places.
 
-enum-known-next : tie.Need-enum-known-next
-enum-known-next c = search needs
+abbrev next-record-of : tie.Else1 → tie.After-next-record
+next-record-of p = p .before .before .before .before .before
 
-enum-known-next-2 : tie.Need-enum-known-next-2
-enum-known-next-2 c = search needs
+abbrev else1-of : tie.After-take-record-arg4 → tie.Else1
+else1-of p = p .before .before .before .before .before .before
 
-closes-requires : tie.Need-closes-requires
-closes-requires c κs = search needs
+abbrev body-length-of : tie.After-bounds → tie.After-body-length
+body-length-of p = p .before .before .before .before .before .before .before .before .before .before .before
 
 returns : tie.Need-returns
 returns c =
@@ -26,27 +25,18 @@ returns c =
     let e = sym (c .before .before .before .next2 .given .1) ∙ at-next .next-record .ensures in
     record { part = λ f w room h. read-sealing (g .input .now) (g .at) (s .pre .0) f w (g .standing) (g .raw-conditions .now) (g .raw-weights .now) (g .thresholds .now) (g .bounds .now) h _ e (sym (c .before .closes .ensures) ∙ c .if1 .taken) }
 
-shared-slice-read-body-length : tie.Need-shared-slice-read-body-length
-shared-slice-read-body-length c = search needs
-
-body-length-requires : tie.Need-body-length-requires
-body-length-requires c κs = search needs
-
 take-record-requires : tie.Need-take-record-requires
 take-record-requires c κs =
-    let at-next = c .before .before .before .before .before .before .before .before .before .before .before in
+    let at-next = next-record-of (else1-of c) in
     let s = at-next .before .before .before .before in
     let g = s .args in
-    let e = sym (c .before .before .before .before .before .before .before .before .before .next2 .given .1) ∙ at-next .next-record .ensures in
-    (s .pre .2, next-passes (g .standing) (g .input .now) (g .at) _ e, s .pre .1, sym (c .before .before .before .before .before .before .before .closes .ensures) ∙ c .before .before .before .before .before .before .if1 .left)
-
-add-t25 : tie.Need-add-t25
-add-t25 c = search needs
+    let e = sym (else1-of c .before .before .before .next2 .given .1) ∙ at-next .next-record .ensures in
+    (s .pre .2, next-passes (g .standing) (g .input .now) (g .at) _ e, s .pre .1, sym (else1-of c .before .closes .ensures) ∙ else1-of c .if1 .left)
 
 add-t26 : tie.Need-add-t26
 add-t26 c =
-    let at-size = c .before .before .before .before .before .before .before .before .before .before .before in
-    let at-next = at-size .before .before .before .before .before .before .before in
+    let at-size = body-length-of c in
+    let at-next = next-record-of (at-size .before .before) in
     let s = at-next .before .before .before .before in
     let g = s .args in
     let e = sym (at-size .before .before .before .before .before .next2 .given .1) ∙ at-next .next-record .ensures in
@@ -61,22 +51,10 @@ returns-2 c =
     let e = sym (c .before .next .given .1) ∙ at-next .next-record .ensures in
     record { part = λ f w room h. read-refused (g .input .now) (g .at) (s .pre .0) f w (g .standing) (g .raw-conditions .now) (g .raw-weights .now) (g .thresholds .now) (g .bounds .now) h _ e }
 
-same-length : tie.Need-same-length
-same-length c = search needs
-
-same-length-2 : tie.Need-same-length-2
-same-length-2 c = search needs
-
-same-length-3 : tie.Need-same-length-3
-same-length-3 c = search needs
-
-same-length-4 : tie.Need-same-length-4
-same-length-4 c = search needs
-
 returns-3 : tie.Need-returns-3
 returns-3 c =
-    let at-size = c .before .before .before .before .before .before .before .before .before .before .before in
-    let at-next = at-size .before .before .before .before .before .before .before in
+    let at-size = body-length-of c in
+    let at-next = next-record-of (at-size .before .before) in
     let s = at-next .before .before .before .before in
     let g = s .args in
     let e = sym (at-size .before .before .before .before .before .next2 .given .1) ∙ at-next .next-record .ensures in
@@ -88,19 +66,12 @@ pub read-record-spec : {M : Type 1} → statement M
 read-record-spec =
     tie.close
     (tie.spec
-    next-record-requires
-    enum-known-next
-    enum-known-next-2
-    closes-requires
+    (λ c κs. search needs) (λ c. search needs) (λ c. search needs) (λ c κs. search needs)
     returns
-    shared-slice-read-body-length
-    body-length-requires
+    (λ c. search needs) (λ c κs. search needs)
     take-record-requires
-    add-t25
+    (λ c. search needs)
     add-t26
     returns-2
-    same-length
-    same-length-2
-    same-length-3
-    same-length-4
+    (λ c. search needs) (λ c. search needs) (λ c. search needs) (λ c. search needs)
     returns-3)

@@ -10,67 +10,39 @@ use borrow.Author.Needs.{needs}
 use Rattle.files.proofs.take_record.Statement.{statement}
 use Rattle.files.proofs.take_record.Tie as tie
 
-enum-known-entry : tie.Need-enum-known-entry
-enum-known-entry c = search needs
+-- Ways back to earlier places.
 
-begin-requires : tie.Need-begin-requires
-begin-requires c κs = search needs
+abbrev start-of : tie.After-open-threshold-arg2 → tie.Start
+start-of p = p .before .before .before .before .before .before .before
 
-enum-known-entry-2 : tie.Need-enum-known-entry-2
-enum-known-entry-2 c = search needs
+abbrev start-of-add-term-arg3 : tie.After-add-term-arg3 → tie.Start
+start-of-add-term-arg3 p = p .before .before .before .before .before .before .before .before
+
+abbrev start-of-add-term-arg6 : tie.After-add-term-arg6 → tie.Start
+start-of-add-term-arg6 p = p .before .before .before .before .before .before .before .before .before
 
 open-threshold-requires : tie.Need-open-threshold-requires
 open-threshold-requires c κs =
-    let s = c .before .before .before .before .before .before .before in
+    let s = start-of c in
     let g = s .args in
     let e = c .before .before .before .entry2 .given in
     let z = e .0 .1 .0 in
     let same : toZ w64 (ofZ w64 z) ≡ z = search needs in
     (s .pre .0 .listed, s .pre .0 .bounded, ap (λ (y : ℤ). refusedBy (g .standing) (Opens (e .0 .0) y)) same ∙ sym (ap (refusedBy (g .standing)) (e .1)) ∙ s .pre .1)
 
-enum-known-entry-3 : tie.Need-enum-known-entry-3
-enum-known-entry-3 c = search needs
-
-cast-add-term : tie.Need-cast-add-term
-cast-add-term c = search needs
-
 add-term-requires : tie.Need-add-term-requires
 add-term-requires c κs =
-    let s = c .before .before .before .before .before .before .before .before in
+    let s = start-of-add-term-arg3 c in
     let g = s .args in
     let e = c .before .before .before .before .entry3 .given in
     (s .pre .0 .listed, s .pre .0 .termed, search needs, sym (ap (refusedBy (g .standing)) (e .1)) ∙ s .pre .1)
 
-enum-known-entry-4 : tie.Need-enum-known-entry-4
-enum-known-entry-4 c = search needs
-
-weight-of-area-requires : tie.Need-weight-of-area-requires
-weight-of-area-requires c κs = search needs
-
-cast-weight : tie.Need-cast-weight
-cast-weight c = search needs
-
 add-term-requires-2 : tie.Need-add-term-requires-2
 add-term-requires-2 c κs =
-    let s = c .before .before .before .before .before .before .before .before .before in
+    let s = start-of-add-term-arg6 c in
     let g = s .args in
     let e = c .before .before .before .before .before .entry4 .given in
     (s .pre .0 .listed, s .pre .0 .termed, search needs, sym (ap (refusedBy (g .standing)) (e .1)) ∙ s .pre .1)
-
-enum-told : tie.Need-enum-told
-enum-told c = search needs
-
-enum-told-2 : tie.Need-enum-told-2
-enum-told-2 c = search needs
-
-enum-told-3 : tie.Need-enum-told-3
-enum-told-3 c = search needs
-
-enum-told-4 : tie.Need-enum-told-4
-enum-told-4 c = search needs
-
-enum-told-5 : tie.Need-enum-told-5
-enum-told-5 c = search needs
 
 returns : tie.Need-returns
 returns c =
@@ -78,51 +50,27 @@ returns c =
     let g = s .args in
     takes-header (g .entry) (g .standing) (g .raw-conditions .now) (g .raw-weights .now) (g .thresholds .now) (g .bounds .now) (s .pre .1) _ (c .before .before .entry .given .1) (c .begin .result) (c .begin .ensures)
 
-same-length : tie.Need-same-length
-same-length c = search needs
-
-same-length-2 : tie.Need-same-length-2
-same-length-2 c = search needs
-
 returns-2 : tie.Need-returns-2
 returns-2 c =
-    let s = c .before .before .before .before .before .before .before .before .before .before in
+    let s = start-of (c .before .before .before) in
     let g = s .args in
     let e = c .before .before .before .before .before .before .entry2 .given in
     let z = e .0 .1 .0 in
     let same : toZ w64 (ofZ w64 z) ≡ z = search needs in
     takes-opens (g .entry) (g .standing) (g .raw-conditions .now) (g .raw-weights .now) (g .thresholds .now) (g .bounds .now) (s .pre .1) (e .0 .0) z (toZ w64 (ofZ w64 z)) (e .1) same (c .before .before .open-threshold .result) _ _ (c .before .before .open-threshold .ensures)
 
-same-length-3 : tie.Need-same-length-3
-same-length-3 c = search needs
-
-same-length-4 : tie.Need-same-length-4
-same-length-4 c = search needs
-
-same-length-5 : tie.Need-same-length-5
-same-length-5 c = search needs
-
 returns-3 : tie.Need-returns-3
 returns-3 c =
     let at-term = c .before .before .before .before .before in
-    let s = at-term .before .before .before .before .before .before .before .before .before in
+    let s = start-of-add-term-arg3 (at-term .before) in
     let g = s .args in
     let t = at-term .add-term in
     takes-adds (g .entry) (g .standing) (g .raw-conditions .now) (g .raw-weights .now) (g .thresholds .now) (g .bounds .now) (s .pre .1) _ _ (at-term .before .before .before .before .before .entry3 .given .1) (t .result) _ _ _ (t .ensures)
 
-same-length-6 : tie.Need-same-length-6
-same-length-6 c = search needs
-
-same-length-7 : tie.Need-same-length-7
-same-length-7 c = search needs
-
-same-length-8 : tie.Need-same-length-8
-same-length-8 c = search needs
-
 returns-4 : tie.Need-returns-4
 returns-4 c =
     let at-term = c .before .before .before .before .before in
-    let s = at-term .before .before .before .before .before .before .before .before .before .before in
+    let s = start-of-add-term-arg6 (at-term .before) in
     let g = s .args in
     let t = at-term .add-term2 in
     takes-areas (g .entry) (g .standing) (g .raw-conditions .now) (g .raw-weights .now) (g .thresholds .now) (g .bounds .now) (s .pre .1) _ _ _ (at-term .before .before .before .before .before .before .entry4 .given .1)
@@ -162,33 +110,19 @@ pub take-record-spec : {M : Type 1} → statement M
 take-record-spec =
     tie.close
     (tie.spec
-    enum-known-entry
-    begin-requires
-    enum-known-entry-2
+    (λ c. search needs) (λ c κs. search needs) (λ c. search needs)
     open-threshold-requires
-    enum-known-entry-3
-    cast-add-term
+    (λ c. search needs) (λ c. search needs)
     add-term-requires
-    enum-known-entry-4
-    weight-of-area-requires
-    cast-weight
+    (λ c. search needs) (λ c κs. search needs) (λ c. search needs)
     add-term-requires-2
-    enum-told
-    enum-told-2
-    enum-told-3
-    enum-told-4
-    enum-told-5
+    (λ c. search needs) (λ c. search needs) (λ c. search needs) (λ c. search needs) (λ c. search needs)
     returns
-    same-length
-    same-length-2
+    (λ c. search needs) (λ c. search needs)
     returns-2
-    same-length-3
-    same-length-4
-    same-length-5
+    (λ c. search needs) (λ c. search needs) (λ c. search needs)
     returns-3
-    same-length-6
-    same-length-7
-    same-length-8
+    (λ c. search needs) (λ c. search needs) (λ c. search needs)
     returns-4
     returns-5
     returns-6

@@ -13,17 +13,28 @@ use Rattle.between.specs.ReadyLaws.{ready-queue}
 use Rattle.handing.proofs.bounded.Statement.{statement}
 use Rattle.handing.proofs.bounded.Tie as tie
 
+-- Ways back to earlier places.
+
+abbrev start-of : tie.After-queue-linked-arg → tie.Start
+start-of p = p .before .before .before .before .before .before .before .before .before .before
+
+abbrev queue-linked-of : tie.After-run-from-arg6 → tie.After-queue-linked
+queue-linked-of p = p .before .before .before .before .before .before .before
+
+abbrev run-from-of : tie.After-row-queues2 → tie.After-run-from
+run-from-of p = p .before .before .before .before .before .before .before .before .before
+
 queue-linked-requires : tie.Need-queue-linked-requires
 queue-linked-requires c κs =
-    let s = c .before .before .before .before .before .before .before .before .before .before in
+    let s = start-of c in
     let p = s .pre in
     (p .1 .dirty .held, omega (arith, p .0 .0 .few, p .0 .1))
 
 run-from-requires : tie.Need-run-from-requires
 run-from-requires c κs =
-    let at-queue-linked = c .before .before .before .before .before .before .before in
+    let at-queue-linked = queue-linked-of c in
     let queue-linked = at-queue-linked .queue-linked in
-    let s = at-queue-linked .before .before .before .before .before .before .before .before .before .before .before in
+    let s = start-of (at-queue-linked .before) in
     let a = s .args in
     let p = s .pre in
     let h = heldRows (a .row-conditions .now) (a .row-weights .now) (a .rows .now) (a .guard-bounds .now) (a .guard-nodes .now) in
@@ -32,34 +43,34 @@ run-from-requires c κs =
     ((p .0 .0, p .0 .1, p .0 .2), ready-queue h figureLimit v left (queue-linked .ensures .1 (a .rings .residuals)) (p .1 .ready))
 
 same-length : tie.Need-same-length
-same-length c = c .before .before .before .before .before .before .before .before .before .run-from .kept .1 .1 .1 .1 .1 .0
+same-length c = run-from-of c .run-from .kept .1 .1 .1 .1 .1 .0
 
 same-length-2 : tie.Need-same-length-2
-same-length-2 c = c .before .before .before .before .before .before .before .before .before .run-from .kept .1 .1 .1 .1 .1 .1 .0
+same-length-2 c = run-from-of c .run-from .kept .1 .1 .1 .1 .1 .1 .0
 
 same-length-3 : tie.Need-same-length-3
-same-length-3 c = c .before .before .before .before .before .before .before .before .before .run-from .kept .1 .1 .1 .1 .1 .1 .1 .0
+same-length-3 c = run-from-of c .run-from .kept .1 .1 .1 .1 .1 .1 .1 .0
 
 same-length-4 : tie.Need-same-length-4
-same-length-4 c = c .before .before .before .before .before .before .before .before .before .run-from .kept .1 .1 .1 .1 .1 .1 .1 .1 .0
+same-length-4 c = run-from-of c .run-from .kept .1 .1 .1 .1 .1 .1 .1 .1 .0
 
 same-length-5 : tie.Need-same-length-5
-same-length-5 c = c .before .before .before .before .before .before .before .before .before .run-from .kept .1 .1 .1 .1 .1 .1 .1 .1 .1 .0
+same-length-5 c = run-from-of c .run-from .kept .1 .1 .1 .1 .1 .1 .1 .1 .1 .0
 
 same-length-6 : tie.Need-same-length-6
 same-length-6 c =
-    let at-run-from = c .before .before .before .before .before .before .before .before .before in
+    let at-run-from = run-from-of c in
     let run-from = at-run-from .run-from in
-    let queue-linked = at-run-from .before .before .before .before .before .before .before .before .queue-linked in
+    let queue-linked = queue-linked-of (at-run-from .before) .queue-linked in
     _∙_ {b = length (queue-linked .last .0)} (run-from .kept .1 .1 .1 .1 .1 .1 .1 .1 .1 .1 .0) (queue-linked .kept .0)
 
 returns : tie.Need-returns
 returns c =
-    let at-run-from = c .before .before .before .before .before .before .before .before .before in
+    let at-run-from = run-from-of c in
     let run-from = at-run-from .run-from in
-    let at-queue-linked = at-run-from .before .before .before .before .before .before .before .before in
+    let at-queue-linked = queue-linked-of (at-run-from .before) in
     let queue-linked = at-queue-linked .queue-linked in
-    let s = at-queue-linked .before .before .before .before .before .before .before .before .before .before .before in
+    let s = start-of (at-queue-linked .before) in
     let a = s .args in
     let h = heldRows (a .row-conditions .now) (a .row-weights .now) (a .rows .now) (a .guard-bounds .now) (a .guard-nodes .now) in
     let v = liveOf (a .figures .now) (a .cursors .now) (a .sure .now) (a .never .now) (a .node-queue .now) (a .row-queues .now) (a .rings) in

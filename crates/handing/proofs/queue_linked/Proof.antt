@@ -12,14 +12,6 @@ returns c =
     let a = s .args in
     (linked-not (a .links) (rowsIn 0 (a .row-queues .now) (a .ring)) (a .row) (c .if1 .taken), λ other. refl)
 
-queue-row-requires : tie.Need-queue-row-requires
-queue-row-requires c κs =
-    search needs
-
-same-length : tie.Need-same-length
-same-length c =
-    search needs
-
 returns-2 : tie.Need-returns-2
 returns-2 c =
     let queue-row = c .before .queue-row in
@@ -33,6 +25,5 @@ queue-linked-spec =
     tie.close
     (tie.spec
     returns
-    queue-row-requires
-    same-length
+    (λ c κs. search needs) (λ c. search needs)
     returns-2)

@@ -16,29 +16,36 @@ use borrow.Author.Needs.{needs}
 use Rattle.handing.proofs.threshold_guard.Statement.{statement}
 use Rattle.handing.proofs.threshold_guard.Tie as tie
 
+-- Ways back to earlier places.
+
+abbrev start-of : tie.After-load-arg2 → tie.Start
+start-of p = p .before .before .before .before .before .before .before .before
+
+abbrev then1-of : tie.After-bounded-arg6 → tie.Then1
+then1-of p = p .before .before .before .before .before .before
+
+abbrev bounded-of : tie.After-row-queues → tie.After-bounded
+bounded-of p = p .before .before .before .before .before .before .before .before .before
+
 load-requires : tie.Need-load-requires
 load-requires c κs =
-    let s = c .before .before .before .before .before .before .before .before in
+    let s = start-of c in
     let p = s .pre in
     omega (arith, p .1 .ready .long, p .0 .1)
 
 bit-requires : tie.Need-bit-requires
 bit-requires c κs =
-    let s = c .before .before .before .before .before .before .before .before .before .before in
+    let s = start-of (c .before .before) in
     let p = s .pre in
     omega (arith, p .0 .2, p .1 .ready .waits .sures)
 
-guard-state-requires : tie.Need-guard-state-requires
-guard-state-requires c κs =
-    tt
-
 bounded-requires : tie.Need-bounded-requires
 bounded-requires c κs =
-    let at-guard-state = c .before .before .before .before .before .before .before .before in
+    let at-guard-state = then1-of c .before .before in
     let guard-state = at-guard-state .guard-state in
     let bit = at-guard-state .before .bit in
     let load = at-guard-state .before .before .before .load in
-    let s = at-guard-state .before .before .before .before .before .before .before .before .before .before .before .before in
+    let s = start-of (at-guard-state .before .before .before .before) in
     let a = s .args in
     let p = s .pre in
     let h = heldRows (a .row-conditions .now) (a .row-weights .now) (a .rows .now) (a .guard-bounds .now) (a .guard-nodes .now) in
@@ -53,34 +60,34 @@ bounded-requires c κs =
     ((p .0 .0, p .0 .1, fit), p .1)
 
 same-length : tie.Need-same-length
-same-length c = c .before .before .before .before .before .before .before .before .before .bounded .kept .1 .1 .1 .1 .1 .0
+same-length c = bounded-of c .bounded .kept .1 .1 .1 .1 .1 .0
 
 same-length-2 : tie.Need-same-length-2
-same-length-2 c = c .before .before .before .before .before .before .before .before .before .bounded .kept .1 .1 .1 .1 .1 .1 .0
+same-length-2 c = bounded-of c .bounded .kept .1 .1 .1 .1 .1 .1 .0
 
 same-length-3 : tie.Need-same-length-3
-same-length-3 c = c .before .before .before .before .before .before .before .before .before .bounded .kept .1 .1 .1 .1 .1 .1 .1 .0
+same-length-3 c = bounded-of c .bounded .kept .1 .1 .1 .1 .1 .1 .1 .0
 
 same-length-4 : tie.Need-same-length-4
-same-length-4 c = c .before .before .before .before .before .before .before .before .before .bounded .kept .1 .1 .1 .1 .1 .1 .1 .1 .0
+same-length-4 c = bounded-of c .bounded .kept .1 .1 .1 .1 .1 .1 .1 .1 .0
 
 same-length-5 : tie.Need-same-length-5
-same-length-5 c = c .before .before .before .before .before .before .before .before .before .bounded .kept .1 .1 .1 .1 .1 .1 .1 .1 .1 .0
+same-length-5 c = bounded-of c .bounded .kept .1 .1 .1 .1 .1 .1 .1 .1 .1 .0
 
 same-length-6 : tie.Need-same-length-6
-same-length-6 c = c .before .before .before .before .before .before .before .before .before .bounded .kept .1 .1 .1 .1 .1 .1 .1 .1 .1 .1 .0
+same-length-6 c = bounded-of c .bounded .kept .1 .1 .1 .1 .1 .1 .1 .1 .1 .1 .0
 
 returns : tie.Need-returns
 returns c =
-    let at-bounded = c .before .before .before .before .before .before .before .before .before in
+    let at-bounded = bounded-of c in
     let ran = at-bounded .bounded in
-    let at-if1 = at-bounded .before .before .before .before .before .before .before in
+    let at-if1 = then1-of (at-bounded .before) in
     let if1 = at-if1 .if1 in
     let guard-state = at-if1 .before .before .guard-state in
     let bit = at-if1 .before .before .before .bit in
     let at-load = at-if1 .before .before .before .before .before in
     let load = at-load .load in
-    let s = at-load .before .before .before .before .before .before .before .before .before in
+    let s = start-of (at-load .before) in
     let a = s .args in
     let p = s .pre in
     let h = heldRows (a .row-conditions .now) (a .row-weights .now) (a .rows .now) (a .guard-bounds .now) (a .guard-nodes .now) in
@@ -98,25 +105,13 @@ returns c =
       ran .ensures .1,
     )
 
-same-length-7 : tie.Need-same-length-7
-same-length-7 c =
-    search needs
-
-same-length-8 : tie.Need-same-length-8
-same-length-8 c =
-    search needs
-
-same-length-9 : tie.Need-same-length-9
-same-length-9 c =
-    search needs
-
 returns-2 : tie.Need-returns-2
 returns-2 c =
     let guard-state = c .before .before .guard-state in
     let bit = c .before .before .before .bit in
     let at-load = c .before .before .before .before .before in
     let load = at-load .load in
-    let s = at-load .before .before .before .before .before .before .before .before .before in
+    let s = start-of (at-load .before) in
     let a = s .args in
     let v = liveOf (a .figures .now) (a .cursors .now) (a .sure .now) (a .never .now) (a .node-queue .now) (a .row-queues .now) (a .rings) in
     let r = a .row in
@@ -134,7 +129,7 @@ threshold-guard-spec =
     (tie.spec
     load-requires
     bit-requires
-    guard-state-requires
+    (λ c κs. tt)
     bounded-requires
     same-length
     same-length-2
@@ -143,7 +138,5 @@ threshold-guard-spec =
     same-length-5
     same-length-6
     returns
-    same-length-7
-    same-length-8
-    same-length-9
+    (λ c. search needs) (λ c. search needs) (λ c. search needs)
     returns-2)

@@ -25,30 +25,50 @@ abbrev μ-loop : tie.MeasureT-loop
 μ-loop row-conditions row-weights rows guard-bounds guard-nodes links figures₀ cursors₀ sure₀ never₀ node-queue₀ row-queues₀ row source many end at₀ so-far₀ figures cursors sure never node-queue row-queues at so-far =
     end - at
 
+-- Ways back to earlier places.
+
+abbrev start-of : tie.After-load-arg2 Inv-loop μ-loop → tie.Start Inv-loop μ-loop
+start-of p = p .before .before .before .before .before .before .before .before .before
+
+abbrev start-of-start-by : tie.After-start-by Inv-loop μ-loop → tie.Start Inv-loop μ-loop
+start-of-start-by p = start-of (p .before .before .before .before)
+
+abbrev loop-of : tie.After-hand-on Inv-loop μ-loop → tie.At-loop Inv-loop μ-loop
+loop-of p = p .before .before .before .before .before .before .before .before .before .before .before
+
+abbrev in-loop-of : tie.After-join Inv-loop μ-loop → tie.In-loop Inv-loop μ-loop
+in-loop-of p = p .before .before .before .before .before .before .before .before .before .before .before .before .before .before .before .before .before .before .before .before .before .before .before
+
+abbrev count-by2-of : tie.After-hand-on-arg6 Inv-loop μ-loop → tie.After-count-by2 Inv-loop μ-loop
+count-by2-of p = p .before .before .before .before .before .before .before
+
+abbrev hand-on-of : tie.After-contradicts Inv-loop μ-loop → tie.After-hand-on Inv-loop μ-loop
+hand-on-of p = p .before .before .before .before .before .before .before .before .before .before
+
 load-requires : tie.Need-load-requires Inv-loop μ-loop
 load-requires c κs =
-    let s = c .before .before .before .before .before .before .before .before .before in
+    let s = start-of c in
     let p = s .pre in
     omega (arith, p .1 .ready .long, p .0 .2)
 
 count-by-requires : tie.Need-count-by-requires Inv-loop μ-loop
 count-by-requires c κs =
-    let s = c .before .before .before .before .before .before .before .before .before .before in
+    let s = start-of (c .before) in
     let p = s .pre in
     (p .0 .2, omega arith, p .0 .0 .terms .rising (s .args .row) (p .0 .2))
 
 end-by-requires : tie.Need-end-by-requires Inv-loop μ-loop
-end-by-requires c κs = (c .before .before .before .before .before .before .before .before .before .before .before .pre .0 .2, omega arith)
+end-by-requires c κs = (start-of (c .before .before) .pre .0 .2, omega arith)
 
 start-by-requires : tie.Need-start-by-requires Inv-loop μ-loop
-start-by-requires c κs = (omega (arith, c .before .before .before .before .before .before .before .before .before .before .before .before .pre .0 .2), omega arith)
+start-by-requires c κs = (omega (arith, start-of (c .before .before .before) .pre .0 .2), omega arith)
 
 loop-holds : tie.Need-loop-holds Inv-loop μ-loop
 loop-holds c =
     let start-by = c .start-by in
     let end-by = c .before .end-by in
     let load = c .before .before .before .load in
-    let s = c .before .before .before .before .before .before .before .before .before .before .before .before .before in
+    let s = start-of-start-by c in
     let a = s .args in
     let p = s .pre in
     let h = heldRows (a .row-conditions .now) (a .row-weights .now) (a .rows .now) (a .guard-bounds .now) (a .guard-nodes .now) in
@@ -67,19 +87,19 @@ count-by-requires-2 : tie.Need-count-by-requires-2 Inv-loop μ-loop
 count-by-requires-2 c κs =
     let link-at = c .link-at in
     let w = c .before .before .loop in
-    let s = c .before .before .before .before .before .before .before .before .before .before .before .before .before .before .before .before in
+    let s = start-of-start-by (c .before .before .before) in
     let k = w .inv .0 .own .rows (w .at) (link-at .result) (w .inv .0 .above) (c .before .loop-test .taken) (link-at .ensures) in
     (k, omega arith, s .pre .0 .0 .terms .rising (link-at .result) k)
 
 hand-on-requires : tie.Need-hand-on-requires Inv-loop μ-loop
 hand-on-requires c κs =
-    let at-link-at = c .before .before .before .before .before .before .before .before in
+    let at-link-at = count-by2-of c .before in
     let link-at = at-link-at .link-at in
     let test = at-link-at .before .loop-test in
     let w = at-link-at .before .before .loop in
     let at-load = at-link-at .before .before .before .before .before .before in
     let load = at-load .load in
-    let s = at-load .before .before .before .before .before .before .before .before .before .before in
+    let s = start-of (at-load .before) in
     let a = s .args in
     let p = s .pre in
     let h = heldRows (a .row-conditions .now) (a .row-weights .now) (a .rows .now) (a .guard-bounds .now) (a .guard-nodes .now) in
@@ -89,57 +109,53 @@ hand-on-requires c κs =
     let f = fit-by h figureLimit (a .row) (load .result) (stateAt v (a .row)) (load .ensures) (p .1 .ready .fit (a .row) (p .0 .2)) in
     ((p .0 .0, k, f .lower, f .upper), l .runnable)
 
-contradicts-requires : tie.Need-contradicts-requires Inv-loop μ-loop
-contradicts-requires c κs =
-    search needs
-
 same-length : tie.Need-same-length Inv-loop μ-loop
 same-length c =
-    let at-hand-on = c .before .before .before .before .before .before .before .before .before .before .before in
+    let at-hand-on = hand-on-of (c .before) in
     let hand-on = at-hand-on .hand-on in
-    let w = at-hand-on .before .before .before .before .before .before .before .before .before .before .before .loop in
+    let w = loop-of at-hand-on .loop in
     _∙_ {b = length (w .figures)} (hand-on .kept .1 .1 .1 .1 .1 .0) (w .inv .1 .figures)
 
 same-length-2 : tie.Need-same-length-2 Inv-loop μ-loop
 same-length-2 c =
-    let at-hand-on = c .before .before .before .before .before .before .before .before .before .before .before in
+    let at-hand-on = hand-on-of (c .before) in
     let hand-on = at-hand-on .hand-on in
-    let w = at-hand-on .before .before .before .before .before .before .before .before .before .before .before .loop in
+    let w = loop-of at-hand-on .loop in
     _∙_ {b = length (w .cursors)} (hand-on .kept .1 .1 .1 .1 .1 .1 .0) (w .inv .1 .cursors)
 
 same-length-3 : tie.Need-same-length-3 Inv-loop μ-loop
 same-length-3 c =
-    let at-hand-on = c .before .before .before .before .before .before .before .before .before .before .before in
+    let at-hand-on = hand-on-of (c .before) in
     let hand-on = at-hand-on .hand-on in
-    let w = at-hand-on .before .before .before .before .before .before .before .before .before .before .before .loop in
+    let w = loop-of at-hand-on .loop in
     _∙_ {b = length (w .sure)} (hand-on .kept .1 .1 .1 .1 .1 .1 .1 .0) (w .inv .1 .sure)
 
 same-length-4 : tie.Need-same-length-4 Inv-loop μ-loop
 same-length-4 c =
-    let at-hand-on = c .before .before .before .before .before .before .before .before .before .before .before in
+    let at-hand-on = hand-on-of (c .before) in
     let hand-on = at-hand-on .hand-on in
-    let w = at-hand-on .before .before .before .before .before .before .before .before .before .before .before .loop in
+    let w = loop-of at-hand-on .loop in
     _∙_ {b = length (w .never)} (hand-on .kept .1 .1 .1 .1 .1 .1 .1 .1 .0) (w .inv .1 .never)
 
 same-length-5 : tie.Need-same-length-5 Inv-loop μ-loop
 same-length-5 c =
-    let at-hand-on = c .before .before .before .before .before .before .before .before .before .before .before in
+    let at-hand-on = hand-on-of (c .before) in
     let hand-on = at-hand-on .hand-on in
-    let w = at-hand-on .before .before .before .before .before .before .before .before .before .before .before .loop in
+    let w = loop-of at-hand-on .loop in
     _∙_ {b = length (w .node-queue)} (hand-on .kept .1 .1 .1 .1 .1 .1 .1 .1 .1 .0) (w .inv .1 .node-queue)
 
 same-length-6 : tie.Need-same-length-6 Inv-loop μ-loop
 same-length-6 c =
-    let at-hand-on = c .before .before .before .before .before .before .before .before .before .before .before in
+    let at-hand-on = hand-on-of (c .before) in
     let hand-on = at-hand-on .hand-on in
-    let w = at-hand-on .before .before .before .before .before .before .before .before .before .before .before .loop in
+    let w = loop-of at-hand-on .loop in
     _∙_ {b = length (w .row-queues)} (hand-on .kept .1 .1 .1 .1 .1 .1 .1 .1 .1 .1 .0) (w .inv .1 .row-queues)
 
 returns : tie.Need-returns Inv-loop μ-loop
 returns c =
-    let at-hand-on = c .before .before .before .before .before .before .before .before .before .before .before in
+    let at-hand-on = hand-on-of (c .before) in
     let hand-on = at-hand-on .hand-on in
-    let at-count-by2 = at-hand-on .before .before .before .before .before .before .before .before in
+    let at-count-by2 = count-by2-of (at-hand-on .before) in
     let count-by2 = at-count-by2 .count-by2 in
     let link-at = at-count-by2 .before .link-at in
     let test = at-count-by2 .before .before .loop-test in
@@ -149,7 +165,7 @@ returns c =
     let end-by = at-start-by .before .end-by in
     let count-by = at-start-by .before .before .count-by in
     let load = at-start-by .before .before .before .load in
-    let s = at-start-by .before .before .before .before .before .before .before .before .before .before .before .before .before in
+    let s = start-of-start-by at-start-by in
     let a = s .args in
     let p = s .pre in
     let h = heldRows (a .row-conditions .now) (a .row-weights .now) (a .rows .now) (a .guard-bounds .now) (a .guard-nodes .now) in
@@ -166,28 +182,24 @@ returns c =
       λ t. hand-on .ensures .1 (w .inv .2 t),
     )
 
-join-requires : tie.Need-join-requires Inv-loop μ-loop
-join-requires c κs =
-    search needs
-
 add-at : tie.Need-add-at Inv-loop μ-loop
 add-at c =
-    let at-loop-test = c .before .before .before .before .before .before .before .before .before .before .before .before .before .before .before .before .before .before .before .before .before .before .before in
+    let at-loop-test = in-loop-of c in
     let test = at-loop-test .loop-test in
     let end-by = at-loop-test .before .before .before .end-by in
     omega (arith, test .taken, end-by .ensures .1)
 
 loop-less : tie.Need-loop-less Inv-loop μ-loop
-loop-less c = omega (arith, c .before .before .before .before .before .before .before .before .before .before .before .before .before .before .before .before .before .before .before .before .before .before .before .loop-test .taken)
+loop-less c = omega (arith, in-loop-of c .loop-test .taken)
 
 loop-again : tie.Need-loop-again Inv-loop μ-loop
 loop-again c =
     let join = c .join in
     let if1 = c .before .before .if1 in
     let contradicts = c .before .before .before .contradicts in
-    let at-hand-on = c .before .before .before .before .before .before .before .before .before .before .before .before .before in
+    let at-hand-on = hand-on-of (c .before .before .before) in
     let hand-on = at-hand-on .hand-on in
-    let at-count-by2 = at-hand-on .before .before .before .before .before .before .before .before in
+    let at-count-by2 = count-by2-of (at-hand-on .before) in
     let count-by2 = at-count-by2 .count-by2 in
     let link-at = at-count-by2 .before .link-at in
     let test = at-count-by2 .before .before .loop-test in
@@ -197,7 +209,7 @@ loop-again c =
     let end-by = at-start-by .before .end-by in
     let count-by = at-start-by .before .before .count-by in
     let load = at-start-by .before .before .before .load in
-    let s = at-start-by .before .before .before .before .before .before .before .before .before .before .before .before .before in
+    let s = start-of-start-by at-start-by in
     let a = s .args in
     let p = s .pre in
     let h = heldRows (a .row-conditions .now) (a .row-weights .now) (a .rows .now) (a .guard-bounds .now) (a .guard-nodes .now) in
@@ -248,7 +260,7 @@ returns-2 c =
     let end-by = c .before .before .before .end-by in
     let at-load = c .before .before .before .before .before in
     let load = at-load .load in
-    let s = at-load .before .before .before .before .before .before .before .before .before .before in
+    let s = start-of (at-load .before) in
     let a = s .args in
     let h = heldRows (a .row-conditions .now) (a .row-weights .now) (a .rows .now) (a .guard-bounds .now) (a .guard-nodes .now) in
     let v = liveOf (a .figures .now) (a .cursors .now) (a .sure .now) (a .never .now) (a .node-queue .now) (a .row-queues .now) (a .rings) in
@@ -274,7 +286,7 @@ threshold-prefixes-spec =
     link-at-requires
     count-by-requires-2
     hand-on-requires
-    contradicts-requires
+    (λ c κs. search needs)
     same-length
     same-length-2
     same-length-3
@@ -282,7 +294,7 @@ threshold-prefixes-spec =
     same-length-5
     same-length-6
     returns
-    join-requires
+    (λ c κs. search needs)
     add-at
     loop-less
     loop-again

@@ -11,17 +11,11 @@ use borrow.Author.Needs.{needs}
 use Rattle.job.proofs.add_term.Statement.{statement}
 use Rattle.job.proofs.add_term.Tie as tie
 
-mul-raw-conditions : tie.Need-mul-raw-conditions
-mul-raw-conditions c = search needs
-
 slice-write-raw-conditions : tie.Need-slice-write-raw-conditions
 slice-write-raw-conditions c =
     let s = c .before .before in
     let g = s .args in
     omega (arith, term-room (g .standing) (g .condition) (g .weight) (g .raw-conditions .now) (g .raw-weights .now) (g .thresholds .now) (s .pre .0) (s .pre .1) (s .pre .3), s .pre .1 .conditions)
-
-mul-raw-weights : tie.Need-mul-raw-weights
-mul-raw-weights c = search needs
 
 slice-write-raw-weights : tie.Need-slice-write-raw-weights
 slice-write-raw-weights c =
@@ -36,29 +30,11 @@ sub-set-end c =
     let e = term-open (g .standing) (g .condition) (g .weight) (g .raw-conditions .now) (g .raw-weights .now) (g .thresholds .now) (s .pre .0) (s .pre .1) (s .pre .3) in
     omega (arith, e)
 
-add-set-end : tie.Need-add-set-end
-add-set-end c = search needs
-
-set-end-requires : tie.Need-set-end-requires
-set-end-requires c κs = search needs
-
 add-t9 : tie.Need-add-t9
 add-t9 c =
     let s = c .before .before .before .before .before .before in
     let g = s .args in
     record { fits = omega (arith, counts-left (g .standing) (g .condition) (g .weight) (g .raw-conditions .now) (g .raw-weights .now) (g .thresholds .now) (s .pre .0) (s .pre .1) (s .pre .3) .0) }
-
-add-t15 : tie.Need-add-t15
-add-t15 c = search needs
-
-same-length : tie.Need-same-length
-same-length c = search needs
-
-same-length-2 : tie.Need-same-length-2
-same-length-2 c = search needs
-
-same-length-3 : tie.Need-same-length-3
-same-length-3 c = search needs
 
 returns : tie.Need-returns
 returns c =
@@ -73,16 +49,12 @@ pub add-term-spec : {M : Type 1} → statement M
 add-term-spec =
     tie.close
     (tie.spec
-    mul-raw-conditions
+    (λ c. search needs)
     slice-write-raw-conditions
-    mul-raw-weights
+    (λ c. search needs)
     slice-write-raw-weights
     sub-set-end
-    add-set-end
-    set-end-requires
+    (λ c. search needs) (λ c κs. search needs)
     add-t9
-    add-t15
-    same-length
-    same-length-2
-    same-length-3
+    (λ c. search needs) (λ c. search needs) (λ c. search needs) (λ c. search needs)
     returns)

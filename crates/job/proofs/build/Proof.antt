@@ -9,22 +9,24 @@ use borrow.Author.Needs.{needs}
 use Rattle.job.proofs.build.Statement.{statement}
 use Rattle.job.proofs.build.Tie as tie
 
-slice-aggregate-build-rows : tie.Need-slice-aggregate-build-rows
-slice-aggregate-build-rows c = search needs
+-- Ways back to earlier places.
+
+abbrev start-of : tie.After-scratch → tie.Start
+start-of p = p .before .before .before .before .before .before .before .before .before .before .before .before .before .before
+
+abbrev build-rows-of : tie.After-prepare-arg4 → tie.After-build-rows
+build-rows-of p = p .before .before .before .before .before .before .before .before .before .before .before .before .before .before .before .before
 
 build-rows-requires : tie.Need-build-rows-requires
 build-rows-requires c κs =
-    let s = c .before .before .before .before .before .before .before .before .before .before .before .before .before .before in
+    let s = start-of c in
     let g = s .args in
     (s .pre .0, roomy-links (built (heldRows (g .row-conditions .now) (g .row-weights .now) (g .rows .now) (g .guard-bounds .now) (g .guard-nodes .now)) (g .nodes .now) (g .edges .now) (g .links .now)) [] (s .pre .1), zeros-spare)
 
-slice-aggregate-prepare : tie.Need-slice-aggregate-prepare
-slice-aggregate-prepare c = search needs
-
 prepare-requires : tie.Need-prepare-requires
 prepare-requires c κs =
-    let d = c .before .before .before .before .before .before .before .before .before .before .before .before .before .before .before .before in
-    let s = d .before .before .before .before .before .before .before .before .before .before .before .before .before .before .before in
+    let d = build-rows-of c in
+    let s = start-of (d .before) in
     let g = s .args in
     let p = s .pre in
     let b = built (heldRows (g .row-conditions .now) (g .row-weights .now) (g .rows .now) (g .guard-bounds .now) (g .guard-nodes .now)) (g .nodes .now) (g .edges .now) (g .links .now) in
@@ -38,35 +40,11 @@ prepare-requires c κs =
       words-clear (replicate 3072 0) _ zeros-spare (e .3),
     )
 
-same-length : tie.Need-same-length
-same-length c = search needs
-
-same-length-2 : tie.Need-same-length-2
-same-length-2 c = search needs
-
-same-length-3 : tie.Need-same-length-3
-same-length-3 c = search needs
-
-same-length-4 : tie.Need-same-length-4
-same-length-4 c = search needs
-
-same-length-5 : tie.Need-same-length-5
-same-length-5 c = search needs
-
-same-length-6 : tie.Need-same-length-6
-same-length-6 c = search needs
-
-same-length-7 : tie.Need-same-length-7
-same-length-7 c = search needs
-
-same-length-8 : tie.Need-same-length-8
-same-length-8 c = search needs
-
 returns : tie.Need-returns
 returns c =
     let q = c .before .before .before .before in
-    let d = q .before .before .before .before .before .before .before .before .before .before .before .before .before .before .before .before .before in
-    let s = d .before .before .before .before .before .before .before .before .before .before .before .before .before .before .before in
+    let d = build-rows-of (q .before) in
+    let s = start-of (d .before) in
     let g = s .args in
     let b = built (heldRows (g .row-conditions .now) (g .row-weights .now) (g .rows .now) (g .guard-bounds .now) (g .guard-nodes .now)) (g .nodes .now) (g .edges .now) (g .links .now) in
     let j = jobIn (g .standing) (g .raw-conditions .now) (g .raw-weights .now) (g .thresholds .now) (g .bounds .now) in
@@ -78,16 +56,10 @@ pub build-spec : {M : Type 1} → statement M
 build-spec =
     tie.close
     (tie.spec
-    slice-aggregate-build-rows
+    (λ c. search needs)
     build-rows-requires
-    slice-aggregate-prepare
+    (λ c. search needs)
     prepare-requires
-    same-length
-    same-length-2
-    same-length-3
-    same-length-4
-    same-length-5
-    same-length-6
-    same-length-7
-    same-length-8
+    (λ c. search needs) (λ c. search needs) (λ c. search needs) (λ c. search needs) (λ c. search needs) (λ c. search needs)
+    (λ c. search needs) (λ c. search needs)
     returns)

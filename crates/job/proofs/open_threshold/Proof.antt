@@ -13,29 +13,11 @@ use borrow.Author.Needs.{needs}
 use Rattle.job.proofs.open_threshold.Statement.{statement}
 use Rattle.job.proofs.open_threshold.Tie as tie
 
-cast-t9 : tie.Need-cast-t9
-cast-t9 c = search needs
-
-mul-entry : tie.Need-mul-entry
-mul-entry c = search needs
-
 slice-set-from-entry : tie.Need-slice-set-from-entry
 slice-set-from-entry c = let g = c .args in omega (arith, open-room (g .standing) (g .node) (g .bound) (g .thresholds .now) (g .bounds .now) (c .pre .0) (c .pre .1) (c .pre .2), c .pre .0 .room)
 
-mul-bound : tie.Need-mul-bound
-mul-bound c = search needs
-
 slice-set-from-bound : tie.Need-slice-set-from-bound
 slice-set-from-bound c = let g = c .args in omega (arith, open-room (g .standing) (g .node) (g .bound) (g .thresholds .now) (g .bounds .now) (c .pre .0) (c .pre .1) (c .pre .2), c .pre .1 .room)
-
-add-t10 : tie.Need-add-t10
-add-t10 c = search needs
-
-same-length : tie.Need-same-length
-same-length c = search needs
-
-same-length-2 : tie.Need-same-length-2
-same-length-2 c = search needs
 
 returns : tie.Need-returns
 returns c =
@@ -50,12 +32,9 @@ pub open-threshold-spec : {M : Type 1} → statement M
 open-threshold-spec =
     tie.close
     (tie.spec
-    cast-t9
-    mul-entry
+    (λ c. search needs) (λ c. search needs)
     slice-set-from-entry
-    mul-bound
+    (λ c. search needs)
     slice-set-from-bound
-    add-t10
-    same-length
-    same-length-2
+    (λ c. search needs) (λ c. search needs) (λ c. search needs)
     returns)

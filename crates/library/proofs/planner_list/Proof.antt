@@ -10,12 +10,6 @@ returns c =
     let a = c .before .before .before .args in
     lists-none (a .input .now) (a .out .now) (omega arith)
 
-plan-requires : tie.Need-plan-requires
-plan-requires c κs = search needs
-
-same-length : tie.Need-same-length
-same-length c = search needs
-
 returns-2 : tie.Need-returns-2
 returns-2 c =
     let made = c .before .before in
@@ -24,4 +18,4 @@ returns-2 c =
     lists-made (a .input .now) (a .out .now) (made .plan .last .1 .0) (made .plan .result .length) (omega (arith, left .if1 .left)) (made .plan .ensures .within) (made .plan .ensures .listed)
 
 pub planner-list-spec : {M : Type 1} → statement M
-planner-list-spec = tie.close (tie.spec returns plan-requires same-length returns-2)
+planner-list-spec = tie.close (tie.spec returns (λ c κs. search needs) (λ c. search needs) returns-2)

@@ -32,15 +32,6 @@ after p =
     (built (heldRows (b .0) (b .1 .0) (b .1 .1 .0) (b .1 .1 .1 .0) (b .1 .1 .1 .1 .0)) (b .1 .1 .1 .1 .1 .0) (b .1 .1 .1 .1 .1 .1 .0) (b .1 .1 .1 .1 .1 .1 .1 .0))
     (kept (k .0) (k .1 .0) (k .1 .1 .0) (k .1 .1 .1 .0) (k .1 .1 .1 .1 .0) (k .1 .1 .1 .1 .1 .0) (k .1 .1 .1 .1 .1 .1 .0) (k .1 .1 .1 .1 .1 .1 .1 .0) (k .1 .1 .1 .1 .1 .1 .1 .1 .0))
 
-run-requires : tie.Need-run-requires
-run-requires c κs = search needs
-
-number-requires : tie.Need-number-requires
-number-requires c κs = search needs
-
-flag-requires : tie.Need-flag-requires
-flag-requires c κs = search needs
-
 same-length : tie.Need-same-length
 same-length c = run-of c .run .kept .1 .0
 
@@ -108,16 +99,14 @@ returns : tie.Need-returns
 returns c =
     let r = run-of c .run in
     let s = start-of (run-of c) in
-    let n = number-of c .number in
+    let n = c .before .number in
     exports (r .result) (n .result) (c .flag .result) (after (run-of c)) (whole (s .args .input .now) (entry s)) (n .ensures) (c .flag .ensures) (r .ensures)
 
 pub planner-run-spec : {M : Type 1} → statement M
 planner-run-spec =
     tie.close
     (tie.spec
-    run-requires
-    number-requires
-    flag-requires
+    (λ c κs. search needs) (λ c κs. search needs) (λ c κs. search needs)
     same-length
     same-length-2
     same-length-3

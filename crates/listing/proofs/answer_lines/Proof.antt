@@ -18,34 +18,10 @@ loop-holds c =
     let a = c .before .args in
     joins-none 40 (a .out .now) (a .at) (answerAt (a .answers .now)) (a .count)
 
-mul-number : tie.Need-mul-number Inv-loop μ-loop
-mul-number c = omega arith
-
-index-1-number : tie.Need-index-1-number Inv-loop μ-loop
-index-1-number c = omega arith
-
-index-2-number : tie.Need-index-2-number Inv-loop μ-loop
-index-2-number c = omega arith
-
-mul-visits : tie.Need-mul-visits Inv-loop μ-loop
-mul-visits c = omega arith
-
-index-1-visits : tie.Need-index-1-visits Inv-loop μ-loop
-index-1-visits c = omega arith
-
-index-2-visits : tie.Need-index-2-visits Inv-loop μ-loop
-index-2-visits c = omega arith
-
 answer-requires : tie.Need-answer-requires Inv-loop μ-loop
 answer-requires c κs =
     let s = c .before .before .before .before .before .before in
     joins-room (s .pre .1) (c .before .before .before .loop-test .taken) (c .before .before .before .before .loop .inv)
-
-add-i : tie.Need-add-i Inv-loop μ-loop
-add-i c = omega arith
-
-loop-less : tie.Need-loop-less Inv-loop μ-loop
-loop-less c = omega arith
 
 loop-again : tie.Need-loop-again Inv-loop μ-loop
 unfolding answerAt
@@ -67,15 +43,9 @@ answer-lines-spec =
     Inv-loop
     μ-loop
     loop-holds
-    mul-number
-    index-1-number
-    index-2-number
-    mul-visits
-    index-1-visits
-    index-2-visits
+    (λ c. omega arith) (λ c. omega arith) (λ c. omega arith) (λ c. omega arith) (λ c. omega arith) (λ c. omega arith)
     answer-requires
-    add-i
-    loop-less
+    (λ c. omega arith) (λ c. omega arith)
     loop-again
     same-length
     returns)

@@ -1,6 +1,5 @@
 -- `listing::decided_lines` meets its contract: the nodes, where the file is sealed.
 use mathlib.Core.Path.{sym}
-use Prim.Native.Nat.{_≤_}
 use native.Mathlib.Omega.{arith}
 use borrow.Author.Needs.{needs}
 use Rattle.listing.specs.TextLaws.{wrote-none, wrote-as}
@@ -14,9 +13,6 @@ node-lines-requires c κs =
     let s = at-if1 .before .before .before .before in
     let p = s .pre .1 (at-if1 .if1 .taken) in
     (omega (arith, p .nodes), p .in-sure, p .in-never)
-
-same-length : tie.Need-same-length
-same-length c = search needs
 
 returns : tie.Need-returns
 returns c =
@@ -33,4 +29,4 @@ returns-2 c =
     wrote-as (omega arith) (sym (nodes-none (s .args .given) (s .args .sure .now) (s .args .never .now) (c .if1 .left))) (wrote-none (s .args .out .now) (s .args .at))
 
 pub decided-lines-spec : {M : Type 1} → statement M
-decided-lines-spec = tie.close (tie.spec node-lines-requires same-length returns returns-2)
+decided-lines-spec = tie.close (tie.spec node-lines-requires (λ c. search needs) returns returns-2)

@@ -11,12 +11,6 @@ Inv-loop into₀ n first₀ rest₀ into first rest = Digits n into first rest
 abbrev μ-loop : tie.MeasureT-loop
 μ-loop into₀ n first₀ rest₀ into first rest = rest
 
-digit-requires : tie.Need-digit-requires Inv-loop μ-loop
-digit-requires c κs = tt
-
-slice-write-into : tie.Need-slice-write-into Inv-loop μ-loop
-slice-write-into c = omega arith
-
 loop-holds : tie.Need-loop-holds Inv-loop μ-loop
 loop-holds c =
     let s = c .before .before in
@@ -27,17 +21,11 @@ sub-first c =
     let w = c .before .loop in
     digits-next (c .before .before .before .before .args .n) (w .into) (w .first) (w .rest) (w .inv) (c .loop-test .taken) .0
 
-digit-requires-2 : tie.Need-digit-requires-2 Inv-loop μ-loop
-digit-requires-2 c κs = tt
-
 slice-write-into-2 : tie.Need-slice-write-into-2 Inv-loop μ-loop
 slice-write-into-2 c =
     let i = c .before .before .loop .inv .inside in
     let l = c .before .before .loop .inv .long in
     omega arith
-
-loop-less : tie.Need-loop-less Inv-loop μ-loop
-loop-less c = omega arith
 
 loop-again : tie.Need-loop-again Inv-loop μ-loop
 loop-again c =
@@ -59,13 +47,12 @@ digits-spec =
     (tie.spec
     Inv-loop
     μ-loop
-    digit-requires
-    slice-write-into
+    (λ c κs. tt) (λ c. omega arith)
     loop-holds
     sub-first
-    digit-requires-2
+    (λ c κs. tt)
     slice-write-into-2
-    loop-less
+    (λ c. omega arith)
     loop-again
     same-length
     returns)

@@ -10,18 +10,6 @@ use Rattle.listing.specs.NumberLaws.{held}
 use Rattle.listing.proofs.figure.Statement.{statement}
 use Rattle.listing.proofs.figure.Tie as tie
 
-signed-requires : tie.Need-signed-requires
-signed-requires c κs = search needs
-
-slice-aggregate-put : tie.Need-slice-aggregate-put
-slice-aggregate-put c = search needs
-
-put-requires : tie.Need-put-requires
-put-requires c κs = search needs
-
-same-length : tie.Need-same-length
-same-length c = search needs
-
 returns : tie.Need-returns
 unfolding text
 returns c =
@@ -34,4 +22,4 @@ returns c =
 
 pub figure-spec : {M : Type 1} → statement M
 figure-spec =
-    tie.close (tie.spec signed-requires slice-aggregate-put put-requires same-length returns)
+    tie.close (tie.spec (λ c κs. search needs) (λ c. search needs) (λ c κs. search needs) (λ c. search needs) returns)

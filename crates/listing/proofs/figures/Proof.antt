@@ -12,21 +12,6 @@ use Rattle.listing.specs.NumberLaws.{held}
 use Rattle.listing.proofs.figures.Statement.{statement}
 use Rattle.listing.proofs.figures.Tie as tie
 
-figure-requires : tie.Need-figure-requires
-figure-requires c κs = search needs
-
-figure-requires-2 : tie.Need-figure-requires-2
-figure-requires-2 c κs = search needs
-
-figure-requires-3 : tie.Need-figure-requires-3
-figure-requires-3 c κs = search needs
-
-upper-requires : tie.Need-upper-requires
-upper-requires c κs = search needs
-
-same-length : tie.Need-same-length
-same-length c = search needs
-
 as-held : (s : tie.Start) → let x = s .args .state in (held (x .known) ≡ x .known) × (held (x .possible) ≡ x .possible) × (held (x .lower) ≡ x .lower)
 as-held s = (search needs, search needs, search needs)
 
@@ -49,9 +34,5 @@ pub figures-spec : {M : Type 1} → statement M
 figures-spec =
     tie.close
     (tie.spec
-    figure-requires
-    figure-requires-2
-    figure-requires-3
-    upper-requires
-    same-length
+    (λ c κs. search needs) (λ c κs. search needs) (λ c κs. search needs) (λ c κs. search needs) (λ c. search needs)
     returns)

@@ -8,15 +8,6 @@ use Rattle.listing.specs.TextLaws.{wrote-as, wrote-then}
 use Rattle.listing.proofs.front_lines.Statement.{statement}
 use Rattle.listing.proofs.front_lines.Tie as tie
 
-answer-lines-requires : tie.Need-answer-lines-requires
-answer-lines-requires c κs = search needs
-
-decided-lines-requires : tie.Need-decided-lines-requires
-decided-lines-requires c κs = search needs
-
-same-length : tie.Need-same-length
-same-length c = search needs
-
 returns : tie.Need-returns
 returns c =
     let at-decided-lines = c .before .before in
@@ -26,4 +17,4 @@ returns c =
     wrote-as (omega (arith, s .pre .1 .few)) refl (wrote-then h (at-answer-lines .answer-lines .ensures) (at-decided-lines .decided-lines .ensures))
 
 pub front-lines-spec : {M : Type 1} → statement M
-front-lines-spec = tie.close (tie.spec answer-lines-requires decided-lines-requires same-length returns)
+front-lines-spec = tie.close (tie.spec (λ c κs. search needs) (λ c κs. search needs) (λ c. search needs) returns)

@@ -7,15 +7,6 @@ use Rattle.listing.specs.TextLaws.{wrote-then}
 use Rattle.listing.proofs.labelled.Statement.{statement}
 use Rattle.listing.proofs.labelled.Tie as tie
 
-put-requires : tie.Need-put-requires
-put-requires c κs = search needs
-
-decimal-requires : tie.Need-decimal-requires
-decimal-requires c κs = search needs
-
-same-length : tie.Need-same-length
-same-length c = search needs
-
 returns : tie.Need-returns
 returns c =
     let at-decimal = c .before .before in
@@ -25,4 +16,4 @@ returns c =
     wrote-then h (at-put .put .ensures) (at-decimal .decimal .ensures)
 
 pub labelled-spec : {M : Type 1} → statement M
-labelled-spec = tie.close (tie.spec put-requires decimal-requires same-length returns)
+labelled-spec = tie.close (tie.spec (λ c κs. search needs) (λ c κs. search needs) (λ c. search needs) returns)

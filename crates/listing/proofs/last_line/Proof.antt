@@ -14,21 +14,12 @@ end-line-requires c κs =
     let p = s .pre .1 (at-if1 .if1 .taken) in
     (omega arith, p .0, p .1)
 
-same-length : tie.Need-same-length
-same-length c = search needs
-
 returns : tie.Need-returns
 returns c =
     let at-end-line = c .before .before in
     let at-if1 = at-end-line .before .before in
     let s = at-if1 .before .before .before .before in
     wrote-same (sym (last-end (s .args .given) (s .args .sure .now) (s .args .never .now) (at-if1 .if1 .taken))) (at-end-line .end-line .ensures)
-
-refused-line-requires : tie.Need-refused-line-requires
-refused-line-requires c κs = search needs
-
-same-length-2 : tie.Need-same-length-2
-same-length-2 c = search needs
 
 returns-2 : tie.Need-returns-2
 returns-2 c =
@@ -40,4 +31,4 @@ returns-2 c =
 pub last-line-spec : {M : Type 1} → statement M
 last-line-spec =
     tie.close
-    (tie.spec end-line-requires same-length returns refused-line-requires same-length-2 returns-2)
+    (tie.spec end-line-requires (λ c. search needs) returns (λ c κs. search needs) (λ c. search needs) returns-2)

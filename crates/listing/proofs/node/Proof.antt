@@ -8,18 +8,6 @@ use Rattle.listing.specs.TextLaws.{wrote-then}
 use Rattle.listing.proofs.node.Statement.{statement}
 use Rattle.listing.proofs.node.Tie as tie
 
-slice-aggregate-labelled : tie.Need-slice-aggregate-labelled
-slice-aggregate-labelled c = search needs
-
-labelled-requires : tie.Need-labelled-requires
-labelled-requires c κs = search needs
-
-put-requires : tie.Need-put-requires
-put-requires c κs = search needs
-
-same-length : tie.Need-same-length
-same-length c = search needs
-
 returns : tie.Need-returns
 unfolding text
 returns c =
@@ -32,4 +20,4 @@ returns c =
 pub node-spec : {M : Type 1} → statement M
 node-spec =
     tie.close
-    (tie.spec slice-aggregate-labelled labelled-requires put-requires same-length returns)
+    (tie.spec (λ c. search needs) (λ c κs. search needs) (λ c κs. search needs) (λ c. search needs) returns)

@@ -8,18 +8,6 @@ use Rattle.listing.specs.LinesLaws.{node-sure, node-never, node-none}
 use Rattle.listing.proofs.node_line.Statement.{statement}
 use Rattle.listing.proofs.node_line.Tie as tie
 
-bit-requires : tie.Need-bit-requires
-bit-requires c κs = search needs
-
-slice-aggregate-node : tie.Need-slice-aggregate-node
-slice-aggregate-node c = search needs
-
-node-requires : tie.Need-node-requires
-node-requires c κs = search needs
-
-same-length : tie.Need-same-length
-same-length c = search needs
-
 returns : tie.Need-returns
 unfolding text
 returns c =
@@ -28,18 +16,6 @@ returns c =
     let at-bit = at-if1 .before in
     let s = at-bit .before .before .before .before in
     wrote-as (omega arith) (sym (node-sure (s .args .sure .now) (s .args .never .now) (s .args .n) (sym (at-bit .bit .ensures) ∙ at-if1 .if1 .taken))) (at-node .node .ensures)
-
-bit-requires-2 : tie.Need-bit-requires-2
-bit-requires-2 c κs = search needs
-
-slice-aggregate-node-2 : tie.Need-slice-aggregate-node-2
-slice-aggregate-node-2 c = search needs
-
-node-requires-2 : tie.Need-node-requires-2
-node-requires-2 c κs = search needs
-
-same-length-2 : tie.Need-same-length-2
-same-length-2 c = search needs
 
 returns-2 : tie.Need-returns-2
 unfolding text
@@ -64,14 +40,8 @@ pub node-line-spec : {M : Type 1} → statement M
 node-line-spec =
     tie.close
     (tie.spec
-    bit-requires
-    slice-aggregate-node
-    node-requires
-    same-length
+    (λ c κs. search needs) (λ c. search needs) (λ c κs. search needs) (λ c. search needs)
     returns
-    bit-requires-2
-    slice-aggregate-node-2
-    node-requires-2
-    same-length-2
+    (λ c κs. search needs) (λ c. search needs) (λ c κs. search needs) (λ c. search needs)
     returns-2
     returns-3)

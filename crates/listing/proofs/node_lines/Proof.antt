@@ -24,12 +24,6 @@ node-line-requires c κs =
     let s = c .before .before .before .before .before .before in
     (joins-room (s .pre .0) (c .before .loop-test .taken) (w .inv), omega arith, omega arith)
 
-add-n : tie.Need-add-n Inv-loop μ-loop
-add-n c = omega arith
-
-loop-less : tie.Need-loop-less Inv-loop μ-loop
-loop-less c = omega arith
-
 loop-again : tie.Need-loop-again Inv-loop μ-loop
 loop-again c =
     let d = c .before .before .node-line in
@@ -43,4 +37,4 @@ returns : tie.Need-returns Inv-loop μ-loop
 returns c = joins-done (c .loop-test .left) (c .before .loop .inv)
 
 pub node-lines-spec : {M : Type 1} → statement M
-node-lines-spec = tie.close (tie.spec Inv-loop μ-loop loop-holds node-line-requires add-n loop-less loop-again same-length returns)
+node-lines-spec = tie.close (tie.spec Inv-loop μ-loop loop-holds node-line-requires (λ c. omega arith) (λ c. omega arith) loop-again same-length returns)

@@ -15,21 +15,6 @@ use Rattle.listing.specs.NumberLaws.{held, signed-below, signed-from}
 use Rattle.listing.proofs.signed.Statement.{statement}
 use Rattle.listing.proofs.signed.Tie as tie
 
-magnitude-requires : tie.Need-magnitude-requires
-magnitude-requires c κs = search needs
-
-slice-aggregate-put : tie.Need-slice-aggregate-put
-slice-aggregate-put c = search needs
-
-put-requires : tie.Need-put-requires
-put-requires c κs = search needs
-
-decimal-requires : tie.Need-decimal-requires
-decimal-requires c κs = search needs
-
-same-length : tie.Need-same-length
-same-length c = search needs
-
 returns : tie.Need-returns
 returns c =
     let at-decimal = c .before .before in
@@ -41,12 +26,6 @@ returns c =
     let f : SFits w64 (s .args .z) = search needs in
     let e : held (s .args .z) ≡ s .args .z = toZ-ofZ {w = w64} f in
     wrote-as (omega arith) (ap (λ (n : ℕ). 45 ∷ decimal n) (at-magnitude .magnitude .ensures ∙ ap natAbs e) ∙ sym (signed-below (s .args .z) (rw e at (at-if1 .if1 .taken)))) (wrote-then h (at-put .put .ensures) (at-decimal .decimal .ensures))
-
-decimal-requires-2 : tie.Need-decimal-requires-2
-decimal-requires-2 c κs = search needs
-
-same-length-2 : tie.Need-same-length-2
-same-length-2 c = search needs
 
 returns-2 : tie.Need-returns-2
 returns-2 c =
@@ -62,12 +41,7 @@ pub signed-spec : {M : Type 1} → statement M
 signed-spec =
     tie.close
     (tie.spec
-    magnitude-requires
-    slice-aggregate-put
-    put-requires
-    decimal-requires
-    same-length
+    (λ c κs. search needs) (λ c. search needs) (λ c κs. search needs) (λ c κs. search needs) (λ c. search needs)
     returns
-    decimal-requires-2
-    same-length-2
+    (λ c κs. search needs) (λ c. search needs)
     returns-2)

@@ -8,33 +8,12 @@ use Rattle.listing.specs.NumberLaws.{held}
 use Rattle.listing.proofs.upper.Statement.{statement}
 use Rattle.listing.proofs.upper.Tie as tie
 
-enum-told : tie.Need-enum-told
-enum-told c = search needs
-
-slice-aggregate-put : tie.Need-slice-aggregate-put
-slice-aggregate-put c = search needs
-
-put-requires : tie.Need-put-requires
-put-requires c κs = search needs
-
-enum-known-limit : tie.Need-enum-known-limit
-enum-known-limit c = search needs
-
-signed-requires : tie.Need-signed-requires
-signed-requires c κs = search needs
-
-same-length : tie.Need-same-length
-same-length c = search needs
-
 returns : tie.Need-returns
 returns c =
     let at-put = c .before .before in
     let at-enum-told = at-put .before .before .before in
     let s = at-enum-told .before .before .before in
     wrote-as (omega arith) (ap upperText (sym (at-enum-told .enum-told .given .1))) (at-put .put .ensures)
-
-same-length-2 : tie.Need-same-length-2
-same-length-2 c = search needs
 
 returns-2 : tie.Need-returns-2
 returns-2 c =
@@ -49,12 +28,7 @@ pub upper-spec : {M : Type 1} → statement M
 upper-spec =
     tie.close
     (tie.spec
-    enum-told
-    slice-aggregate-put
-    put-requires
-    enum-known-limit
-    signed-requires
-    same-length
+    (λ c. search needs) (λ c. search needs) (λ c κs. search needs) (λ c. search needs) (λ c κs. search needs) (λ c. search needs)
     returns
-    same-length-2
+    (λ c. search needs)
     returns-2)

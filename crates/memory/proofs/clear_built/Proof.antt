@@ -5,54 +5,6 @@ use Rattle.memory.specs.BuffersLaws.{byBuilt}
 use Rattle.memory.proofs.clear_built.Statement.{statement}
 use Rattle.memory.proofs.clear_built.Tie as tie
 
-clear-u16-requires : tie.Need-clear-u16-requires
-clear-u16-requires c κs = tt
-
-clear-u64-requires : tie.Need-clear-u64-requires
-clear-u64-requires c κs = tt
-
-clear-u16x3-requires : tie.Need-clear-u16x3-requires
-clear-u16x3-requires c κs = tt
-
-clear-i64-requires : tie.Need-clear-i64-requires
-clear-i64-requires c κs = tt
-
-clear-u16-requires-2 : tie.Need-clear-u16-requires-2
-clear-u16-requires-2 c κs = tt
-
-clear-u16x3-requires-2 : tie.Need-clear-u16x3-requires-2
-clear-u16x3-requires-2 c κs = tt
-
-clear-u64x2-requires : tie.Need-clear-u64x2-requires
-clear-u64x2-requires c κs = tt
-
-clear-u16-requires-3 : tie.Need-clear-u16-requires-3
-clear-u16-requires-3 c κs = tt
-
-same-length : tie.Need-same-length
-same-length c = search needs
-
-same-length-2 : tie.Need-same-length-2
-same-length-2 c = search needs
-
-same-length-3 : tie.Need-same-length-3
-same-length-3 c = search needs
-
-same-length-4 : tie.Need-same-length-4
-same-length-4 c = search needs
-
-same-length-5 : tie.Need-same-length-5
-same-length-5 c = search needs
-
-same-length-6 : tie.Need-same-length-6
-same-length-6 c = search needs
-
-same-length-7 : tie.Need-same-length-7
-same-length-7 c = search needs
-
-same-length-8 : tie.Need-same-length-8
-same-length-8 c = search needs
-
 returns : tie.Need-returns
 returns c =
     let links = c .before .before in
@@ -71,20 +23,7 @@ pub clear-built-spec : {M : Type 1} → statement M
 clear-built-spec =
     tie.close
     (tie.spec
-    clear-u16-requires
-    clear-u64-requires
-    clear-u16x3-requires
-    clear-i64-requires
-    clear-u16-requires-2
-    clear-u16x3-requires-2
-    clear-u64x2-requires
-    clear-u16-requires-3
-    same-length
-    same-length-2
-    same-length-3
-    same-length-4
-    same-length-5
-    same-length-6
-    same-length-7
-    same-length-8
+    (λ c κs. tt) (λ c κs. tt) (λ c κs. tt) (λ c κs. tt) (λ c κs. tt) (λ c κs. tt) (λ c κs. tt) (λ c κs. tt) (λ c. search needs)
+    (λ c. search needs) (λ c. search needs) (λ c. search needs) (λ c. search needs) (λ c. search needs) (λ c. search needs)
+    (λ c. search needs)
     returns)

@@ -5,30 +5,6 @@ use Rattle.memory.specs.BuffersLaws.{byRaw}
 use Rattle.memory.proofs.clear_raw.Statement.{statement}
 use Rattle.memory.proofs.clear_raw.Tie as tie
 
-clear-u16-requires : tie.Need-clear-u16-requires
-clear-u16-requires c κs = tt
-
-clear-u64-requires : tie.Need-clear-u64-requires
-clear-u64-requires c κs = tt
-
-clear-u16x2-requires : tie.Need-clear-u16x2-requires
-clear-u16x2-requires c κs = tt
-
-clear-i64-requires : tie.Need-clear-i64-requires
-clear-i64-requires c κs = tt
-
-same-length : tie.Need-same-length
-same-length c = search needs
-
-same-length-2 : tie.Need-same-length-2
-same-length-2 c = search needs
-
-same-length-3 : tie.Need-same-length-3
-same-length-3 c = search needs
-
-same-length-4 : tie.Need-same-length-4
-same-length-4 c = search needs
-
 returns : tie.Need-returns
 returns c =
     let bounds = c .before in
@@ -43,12 +19,6 @@ pub clear-raw-spec : {M : Type 1} → statement M
 clear-raw-spec =
     tie.close
     (tie.spec
-    clear-u16-requires
-    clear-u64-requires
-    clear-u16x2-requires
-    clear-i64-requires
-    same-length
-    same-length-2
-    same-length-3
-    same-length-4
+    (λ c κs. tt) (λ c κs. tt) (λ c κs. tt) (λ c κs. tt) (λ c. search needs) (λ c. search needs) (λ c. search needs)
+    (λ c. search needs)
     returns)

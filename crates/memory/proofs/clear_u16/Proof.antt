@@ -16,18 +16,6 @@ abbrev μ-loop : tie.MeasureT-loop
 loop-holds : tie.Need-loop-holds Inv-loop μ-loop
 loop-holds c = clearing-start 0 (c .args .b .now)
 
-mul-b : tie.Need-mul-b Inv-loop μ-loop
-mul-b c = search needs
-
-slice-write-b : tie.Need-slice-write-b Inv-loop μ-loop
-slice-write-b c = search needs
-
-add-i : tie.Need-add-i Inv-loop μ-loop
-add-i c = search needs
-
-loop-less : tie.Need-loop-less Inv-loop μ-loop
-loop-less c = omega arith
-
 loop-again : tie.Need-loop-again Inv-loop μ-loop
 loop-again c = clearing-next 0 (c .before .before .args .b .now) (c .before .loop .b) (c .before .loop .i) (c .before .loop .inv) (c .loop-test .taken)
 
@@ -44,10 +32,7 @@ clear-u16-spec =
     Inv-loop
     μ-loop
     loop-holds
-    mul-b
-    slice-write-b
-    add-i
-    loop-less
+    (λ c. search needs) (λ c. search needs) (λ c. search needs) (λ c. omega arith)
     loop-again
     same-length
     returns)

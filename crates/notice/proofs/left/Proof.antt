@@ -8,18 +8,6 @@ use Rattle.notice.specs.NoticeLaws.{left-none, left-some}
 use Rattle.notice.proofs.left.Statement.{statement}
 use Rattle.notice.proofs.left.Tie as tie
 
-contradicts-requires : tie.Need-contradicts-requires
-contradicts-requires c κs = search needs
-
-slice-aggregate-put : tie.Need-slice-aggregate-put
-slice-aggregate-put c = search needs
-
-put-requires : tie.Need-put-requires
-put-requires c κs = search needs
-
-same-length : tie.Need-same-length
-same-length c = search needs
-
 returns : tie.Need-returns
 unfolding text
 returns c =
@@ -36,4 +24,4 @@ returns-2 c =
 pub left-spec : {M : Type 1} → statement M
 left-spec =
     tie.close
-    (tie.spec contradicts-requires slice-aggregate-put put-requires same-length returns returns-2)
+    (tie.spec (λ c κs. search needs) (λ c. search needs) (λ c κs. search needs) (λ c. search needs) returns returns-2)

@@ -6,15 +6,6 @@ use Rattle.notice.specs.Notice.{notice}
 use Rattle.notice.proofs.notice.Statement.{statement}
 use Rattle.notice.proofs.notice.Tie as tie
 
-refused-requires : tie.Need-refused-requires
-refused-requires c κs = search needs
-
-left-requires : tie.Need-left-requires
-left-requires c κs = search needs
-
-same-length : tie.Need-same-length
-same-length c = search needs
-
 returns : tie.Need-returns
 unfolding notice
 returns c =
@@ -23,4 +14,4 @@ returns c =
     wrote-then (omega arith) (at-refused .refused .ensures) (at-left .left .ensures)
 
 pub notice-spec : {M : Type 1} → statement M
-notice-spec = tie.close (tie.spec refused-requires left-requires same-length returns)
+notice-spec = tie.close (tie.spec (λ c κs. search needs) (λ c κs. search needs) (λ c. search needs) returns)

@@ -15,30 +15,6 @@ returns c =
     let s = c .before .before in
     wrote-as (omega arith) (sym (refused-none (s .args .number) (s .args .offset) (c .if1 .taken))) (wrote-none (s .args .out .now) (s .args .at))
 
-slice-aggregate-put : tie.Need-slice-aggregate-put
-slice-aggregate-put c = search needs
-
-put-requires : tie.Need-put-requires
-put-requires c κs = search needs
-
-meaning-requires : tie.Need-meaning-requires
-meaning-requires c κs = search needs
-
-slice-aggregate-labelled : tie.Need-slice-aggregate-labelled
-slice-aggregate-labelled c = search needs
-
-labelled-requires : tie.Need-labelled-requires
-labelled-requires c κs = search needs
-
-slice-aggregate-put-2 : tie.Need-slice-aggregate-put-2
-slice-aggregate-put-2 c = search needs
-
-put-requires-2 : tie.Need-put-requires-2
-put-requires-2 c κs = search needs
-
-same-length : tie.Need-same-length
-same-length c = search needs
-
 returns-2 : tie.Need-returns-2
 unfolding text
 returns-2 c =
@@ -58,12 +34,6 @@ refused-spec =
     tie.close
     (tie.spec
     returns
-    slice-aggregate-put
-    put-requires
-    meaning-requires
-    slice-aggregate-labelled
-    labelled-requires
-    slice-aggregate-put-2
-    put-requires-2
-    same-length
+    (λ c. search needs) (λ c κs. search needs) (λ c κs. search needs) (λ c. search needs) (λ c κs. search needs)
+    (λ c. search needs) (λ c κs. search needs) (λ c. search needs)
     returns-2)

@@ -10,6 +10,20 @@ use borrow.Author.Needs.{needs}
 use Rattle.phases.proofs.lend.Statement.{statement}
 use Rattle.phases.proofs.lend.Tie as tie
 
+-- Ways back to earlier places.
+
+abbrev start-of : tie.After-seal-and-serve-arg → tie.Start
+start-of p = p .before .before .before .before .before .before .before .before .before .before .before
+
+abbrev start-of-seal-and-serve-arg8 : tie.After-seal-and-serve-arg8 → tie.Start
+start-of-seal-and-serve-arg8 p = start-of (p .before .before .before .before .before .before .before)
+
+abbrev start-of-seal-and-serve-arg13 : tie.After-seal-and-serve-arg13 → tie.Start
+start-of-seal-and-serve-arg13 p = start-of-seal-and-serve-arg8 (p .before .before .before .before .before)
+
+abbrev seal-and-serve-of : tie.After-answers → tie.After-seal-and-serve
+seal-and-serve-of p = p .before .before .before .before .before .before .before .before .before .before .before .before .before .before
+
 abbrev buffers : tie.Start → Built
 buffers p =
     let a = p .args in
@@ -27,175 +41,175 @@ after p =
 
 slice-aggregate-seal-and-serve : tie.Need-slice-aggregate-seal-and-serve
 slice-aggregate-seal-and-serve c =
-    let start = c .before .before .before .before .before .before .before .before .before .before .before in
+    let start = start-of c in
     let a = start .args in
     let p = start .pre .0 in
     sym (length-take-le 4096 (a .row-conditions .now) (phase-room (a .bounds .now) (buffers start) (p .0) (a .row-count) (p .2) .conditions))
 
 slice-aggregate-seal-and-serve-2 : tie.Need-slice-aggregate-seal-and-serve-2
 slice-aggregate-seal-and-serve-2 c =
-    let start = c .before .before .before .before .before .before .before .before .before .before .before .before in
+    let start = start-of (c .before) in
     let a = start .args in
     let p = start .pre .0 in
     sym (length-take-le 4096 (a .row-weights .now) (phase-room (a .bounds .now) (buffers start) (p .0) (a .row-count) (p .2) .weights))
 
 slice-aggregate-seal-and-serve-3 : tie.Need-slice-aggregate-seal-and-serve-3
 slice-aggregate-seal-and-serve-3 c =
-    let start = c .before .before .before .before .before .before .before .before .before .before .before .before .before in
+    let start = start-of (c .before .before) in
     let a = start .args in
     let p = start .pre .0 in
     sym (length-take-le (a .row-count) (a .rows .now) (phase-rows (a .bounds .now) (buffers start) (p .0) (a .row-count) (p .2)))
 
 slice-aggregate-seal-and-serve-4 : tie.Need-slice-aggregate-seal-and-serve-4
 slice-aggregate-seal-and-serve-4 c =
-    let start = c .before .before .before .before .before .before .before .before .before .before .before .before .before .before in
+    let start = start-of (c .before .before .before) in
     let a = start .args in
     let p = start .pre .0 in
     sym (length-take-le 1024 (a .guard-bounds .now) (phase-room (a .bounds .now) (buffers start) (p .0) (a .row-count) (p .2) .bounds))
 
 slice-aggregate-seal-and-serve-5 : tie.Need-slice-aggregate-seal-and-serve-5
 slice-aggregate-seal-and-serve-5 c =
-    let start = c .before .before .before .before .before .before .before .before .before .before .before .before .before .before .before in
+    let start = start-of (c .before .before .before .before) in
     let a = start .args in
     let p = start .pre .0 in
     sym (length-take-le 1024 (a .guard-nodes .now) (phase-room (a .bounds .now) (buffers start) (p .0) (a .row-count) (p .2) .guards))
 
 slice-aggregate-seal-and-serve-6 : tie.Need-slice-aggregate-seal-and-serve-6
 slice-aggregate-seal-and-serve-6 c =
-    let start = c .before .before .before .before .before .before .before .before .before .before .before .before .before .before .before .before in
+    let start = start-of (c .before .before .before .before .before) in
     let a = start .args in
     let p = start .pre .0 in
     sym (length-take-le (a .standing .nodes) (a .nodes .now) (phase-nodes (a .bounds .now) (buffers start) (p .0) (a .row-count) (p .2) (a .standing) (p .6)))
 
 slice-aggregate-seal-and-serve-7 : tie.Need-slice-aggregate-seal-and-serve-7
 slice-aggregate-seal-and-serve-7 c =
-    let start = c .before .before .before .before .before .before .before .before .before .before .before .before .before .before .before .before .before in
+    let start = start-of (c .before .before .before .before .before .before) in
     let a = start .args in
     let p = start .pre .0 in
     sym (length-take-le (a .standing .thresholds) (a .bounds .now) (phase-bounds (a .bounds .now) (buffers start) (p .0) (a .row-count) (p .2) (a .standing) (p .6)))
 
 slice-aggregate-seal-and-serve-8 : tie.Need-slice-aggregate-seal-and-serve-8
 slice-aggregate-seal-and-serve-8 c =
-    let start = c .before .before .before .before .before .before .before .before .before .before .before .before .before .before .before .before .before .before in
+    let start = start-of-seal-and-serve-arg8 c in
     let a = start .args in
     let p = start .pre .0 in
     sym (length-take-le 4096 (a .edges .now) (phase-room (a .bounds .now) (buffers start) (p .0) (a .row-count) (p .2) .edges))
 
 slice-relend-prefix-seal-and-serve : tie.Need-slice-relend-prefix-seal-and-serve
 slice-relend-prefix-seal-and-serve c =
-    let start = c .before .before .before .before .before .before .before .before .before .before .before .before .before .before .before .before .before .before in
+    let start = start-of-seal-and-serve-arg8 c in
     let a = start .args in
     let p = start .pre .0 in
     kept-room (p .1) (p .4) (entry start) (p .5) .figures
 
 slice-aggregate-seal-and-serve-9 : tie.Need-slice-aggregate-seal-and-serve-9
 slice-aggregate-seal-and-serve-9 c =
-    let start = c .before .before .before .before .before .before .before .before .before .before .before .before .before .before .before .before .before .before .before in
+    let start = start-of-seal-and-serve-arg8 (c .before) in
     let a = start .args in
     let p = start .pre .0 in
     sym (length-take-le 1024 (a .figures .now) (kept-room (p .1) (p .4) (entry start) (p .5) .figures))
 
 slice-relend-prefix-seal-and-serve-2 : tie.Need-slice-relend-prefix-seal-and-serve-2
 slice-relend-prefix-seal-and-serve-2 c =
-    let start = c .before .before .before .before .before .before .before .before .before .before .before .before .before .before .before .before .before .before .before in
+    let start = start-of-seal-and-serve-arg8 (c .before) in
     let a = start .args in
     let p = start .pre .0 in
     kept-room (p .1) (p .4) (entry start) (p .5) .cursors
 
 slice-aggregate-seal-and-serve-10 : tie.Need-slice-aggregate-seal-and-serve-10
 slice-aggregate-seal-and-serve-10 c =
-    let start = c .before .before .before .before .before .before .before .before .before .before .before .before .before .before .before .before .before .before .before .before in
+    let start = start-of-seal-and-serve-arg8 (c .before .before) in
     let a = start .args in
     let p = start .pre .0 in
     sym (length-take-le 1024 (a .cursors .now) (kept-room (p .1) (p .4) (entry start) (p .5) .cursors))
 
 slice-relend-prefix-seal-and-serve-3 : tie.Need-slice-relend-prefix-seal-and-serve-3
 slice-relend-prefix-seal-and-serve-3 c =
-    let start = c .before .before .before .before .before .before .before .before .before .before .before .before .before .before .before .before .before .before .before .before in
+    let start = start-of-seal-and-serve-arg8 (c .before .before) in
     let a = start .args in
     let p = start .pre .0 in
     kept-room (p .1) (p .4) (entry start) (p .5) .sure
 
 slice-aggregate-seal-and-serve-11 : tie.Need-slice-aggregate-seal-and-serve-11
 slice-aggregate-seal-and-serve-11 c =
-    let start = c .before .before .before .before .before .before .before .before .before .before .before .before .before .before .before .before .before .before .before .before .before in
+    let start = start-of-seal-and-serve-arg8 (c .before .before .before) in
     let a = start .args in
     let p = start .pre .0 in
     sym (length-take-le 64 (a .sure .now) (kept-room (p .1) (p .4) (entry start) (p .5) .sure))
 
 slice-relend-prefix-seal-and-serve-4 : tie.Need-slice-relend-prefix-seal-and-serve-4
 slice-relend-prefix-seal-and-serve-4 c =
-    let start = c .before .before .before .before .before .before .before .before .before .before .before .before .before .before .before .before .before .before .before .before .before in
+    let start = start-of-seal-and-serve-arg8 (c .before .before .before) in
     let a = start .args in
     let p = start .pre .0 in
     kept-room (p .1) (p .4) (entry start) (p .5) .never
 
 slice-aggregate-seal-and-serve-12 : tie.Need-slice-aggregate-seal-and-serve-12
 slice-aggregate-seal-and-serve-12 c =
-    let start = c .before .before .before .before .before .before .before .before .before .before .before .before .before .before .before .before .before .before .before .before .before .before in
+    let start = start-of-seal-and-serve-arg8 (c .before .before .before .before) in
     let a = start .args in
     let p = start .pre .0 in
     sym (length-take-le 64 (a .never .now) (kept-room (p .1) (p .4) (entry start) (p .5) .never))
 
 slice-relend-prefix-seal-and-serve-5 : tie.Need-slice-relend-prefix-seal-and-serve-5
 slice-relend-prefix-seal-and-serve-5 c =
-    let start = c .before .before .before .before .before .before .before .before .before .before .before .before .before .before .before .before .before .before .before .before .before .before in
+    let start = start-of-seal-and-serve-arg8 (c .before .before .before .before) in
     let a = start .args in
     let p = start .pre .0 in
     kept-room (p .1) (p .4) (entry start) (p .5) .node-queue
 
 slice-aggregate-seal-and-serve-13 : tie.Need-slice-aggregate-seal-and-serve-13
 slice-aggregate-seal-and-serve-13 c =
-    let start = c .before .before .before .before .before .before .before .before .before .before .before .before .before .before .before .before .before .before .before .before .before .before .before in
+    let start = start-of-seal-and-serve-arg13 c in
     let a = start .args in
     let p = start .pre .0 in
     sym (length-take-le 4096 (a .node-queue .now) (kept-room (p .1) (p .4) (entry start) (p .5) .node-queue))
 
 slice-relend-prefix-seal-and-serve-6 : tie.Need-slice-relend-prefix-seal-and-serve-6
 slice-relend-prefix-seal-and-serve-6 c =
-    let start = c .before .before .before .before .before .before .before .before .before .before .before .before .before .before .before .before .before .before .before .before .before .before .before in
+    let start = start-of-seal-and-serve-arg13 c in
     let a = start .args in
     let p = start .pre .0 in
     kept-room (p .1) (p .4) (entry start) (p .5) .row-queues
 
 slice-aggregate-seal-and-serve-14 : tie.Need-slice-aggregate-seal-and-serve-14
 slice-aggregate-seal-and-serve-14 c =
-    let start = c .before .before .before .before .before .before .before .before .before .before .before .before .before .before .before .before .before .before .before .before .before .before .before .before in
+    let start = start-of-seal-and-serve-arg13 (c .before) in
     let a = start .args in
     let p = start .pre .0 in
     sym (length-take-le 1024 (a .row-queues .now) (kept-room (p .1) (p .4) (entry start) (p .5) .row-queues))
 
 slice-relend-prefix-seal-and-serve-7 : tie.Need-slice-relend-prefix-seal-and-serve-7
 slice-relend-prefix-seal-and-serve-7 c =
-    let start = c .before .before .before .before .before .before .before .before .before .before .before .before .before .before .before .before .before .before .before .before .before .before .before .before in
+    let start = start-of-seal-and-serve-arg13 (c .before) in
     let a = start .args in
     let p = start .pre .0 in
     kept-room (p .1) (p .4) (entry start) (p .5) .gcds
 
 slice-aggregate-seal-and-serve-15 : tie.Need-slice-aggregate-seal-and-serve-15
 slice-aggregate-seal-and-serve-15 c =
-    let start = c .before .before .before .before .before .before .before .before .before .before .before .before .before .before .before .before .before .before .before .before .before .before .before .before .before in
+    let start = start-of-seal-and-serve-arg13 (c .before .before) in
     let a = start .args in
     let p = start .pre .0 in
     sym (length-take-le 1025 (a .gcds .now) (kept-room (p .1) (p .4) (entry start) (p .5) .gcds))
 
 slice-relend-prefix-seal-and-serve-8 : tie.Need-slice-relend-prefix-seal-and-serve-8
 slice-relend-prefix-seal-and-serve-8 c =
-    let start = c .before .before .before .before .before .before .before .before .before .before .before .before .before .before .before .before .before .before .before .before .before .before .before .before .before in
+    let start = start-of-seal-and-serve-arg13 (c .before .before) in
     let a = start .args in
     let p = start .pre .0 in
     kept-room (p .1) (p .4) (entry start) (p .5) .search
 
 slice-aggregate-seal-and-serve-16 : tie.Need-slice-aggregate-seal-and-serve-16
 slice-aggregate-seal-and-serve-16 c =
-    let start = c .before .before .before .before .before .before .before .before .before .before .before .before .before .before .before .before .before .before .before .before .before .before .before .before .before .before in
+    let start = start-of-seal-and-serve-arg13 (c .before .before .before) in
     let a = start .args in
     let p = start .pre .0 in
     sym (length-take-le 4096 (a .search .now) (kept-room (p .1) (p .4) (entry start) (p .5) .search))
 
 seal-and-serve-requires : tie.Need-seal-and-serve-requires
 seal-and-serve-requires c κs =
-    let start = c .before .before .before .before .before .before .before .before .before .before .before .before .before .before .before .before .before .before .before .before .before .before .before .before .before .before .before in
+    let start = start-of-seal-and-serve-arg13 (c .before .before .before .before) in
     let a = start .args in
     let w = start .pre in
     let p = w .0 in (
@@ -205,37 +219,10 @@ seal-and-serve-requires c κs =
       w .3,
     )
 
-same-length : tie.Need-same-length
-same-length c = search needs
-
-same-length-2 : tie.Need-same-length-2
-same-length-2 c = search needs
-
-same-length-3 : tie.Need-same-length-3
-same-length-3 c = search needs
-
-same-length-4 : tie.Need-same-length-4
-same-length-4 c = search needs
-
-same-length-5 : tie.Need-same-length-5
-same-length-5 c = search needs
-
-same-length-6 : tie.Need-same-length-6
-same-length-6 c = search needs
-
-same-length-7 : tie.Need-same-length-7
-same-length-7 c = search needs
-
-same-length-8 : tie.Need-same-length-8
-same-length-8 c = search needs
-
-same-length-9 : tie.Need-same-length-9
-same-length-9 c = search needs
-
 returns : tie.Need-returns
 returns c =
-    let after-seal-and-serve = c .before .before .before .before .before .before .before .before .before .before .before .before .before .before in
-    let start = after-seal-and-serve .before .before .before .before .before .before .before .before .before .before .before .before .before .before .before .before .before .before .before .before .before .before .before .before .before .before .before .before in
+    let after-seal-and-serve = seal-and-serve-of c in
+    let start = start-of-seal-and-serve-arg13 (after-seal-and-serve .before .before .before .before .before) in
     let a = start .args in
     let t = after-seal-and-serve .seal-and-serve in
     let k = t .kept .1 .1 .1 .1 .1 .1 .1 .1 .1 .1 in
@@ -276,13 +263,6 @@ lend-spec =
     slice-relend-prefix-seal-and-serve-8
     slice-aggregate-seal-and-serve-16
     seal-and-serve-requires
-    same-length
-    same-length-2
-    same-length-3
-    same-length-4
-    same-length-5
-    same-length-6
-    same-length-7
-    same-length-8
-    same-length-9
+    (λ c. search needs) (λ c. search needs) (λ c. search needs) (λ c. search needs) (λ c. search needs) (λ c. search needs)
+    (λ c. search needs) (λ c. search needs) (λ c. search needs)
     returns)

@@ -15,20 +15,13 @@ Inv-loop into₀ end₀ into end = (end ≤ length into) × (length into ≡ len
 abbrev μ-loop : tie.MeasureT-loop
 μ-loop into₀ end₀ into end = length into₀ - end
 
+-- Ways back to earlier places.
+
+abbrev to-loop : tie.After-enum-told Inv-loop μ-loop → tie.At-loop Inv-loop μ-loop
+to-loop p = p .before .before .before .before .before .before .before
+
 loop-holds : tie.Need-loop-holds Inv-loop μ-loop
 loop-holds c = (omega arith, refl)
-
-sub-read-some : tie.Need-sub-read-some Inv-loop μ-loop
-sub-read-some c = omega arith
-
-part-read-some-start : tie.Need-part-read-some-start Inv-loop μ-loop
-part-read-some-start c = omega arith
-
-part-read-some-end : tie.Need-part-read-some-end Inv-loop μ-loop
-part-read-some-end c = omega arith
-
-read-some-requires : tie.Need-read-some-requires Inv-loop μ-loop
-read-some-requires c κs = search needs
 
 -- Places behind a read that gave bytes, and what is known there.
 
@@ -37,9 +30,6 @@ read-of c = c .before .before .before .before .before
 
 abbrev loop-of : tie.After-known-told Inv-loop μ-loop → tie.At-loop Inv-loop μ-loop
 loop-of c = read-of c .before .before .before
-
-enum-known-chunk : tie.Need-enum-known-chunk Inv-loop μ-loop
-enum-known-chunk c = search needs
 
 add-end : tie.Need-add-end Inv-loop μ-loop
 add-end c =
@@ -63,26 +53,8 @@ loop-again c =
     let k = same-len-mid (l .end) (length (l .into) - l .end) (l .into) (r .last .0) (r .kept .0) in
     (omega (arith, g .1, k), omega (arith, k, l .inv .1))
 
-enum-told : tie.Need-enum-told Inv-loop μ-loop
-enum-told c = search needs
-
-same-length : tie.Need-same-length Inv-loop μ-loop
-same-length c = search needs
-
 returns : tie.Need-returns Inv-loop μ-loop
-returns c = let l = c .before .before .before .before .before .before .before .loop in omega (arith, l .inv .0, l .inv .1)
-
-enum-told-2 : tie.Need-enum-told-2 Inv-loop μ-loop
-enum-told-2 c = search needs
-
-same-length-2 : tie.Need-same-length-2 Inv-loop μ-loop
-same-length-2 c = search needs
-
-returns-2 : tie.Need-returns-2 Inv-loop μ-loop
-returns-2 c = tt
-
-same-length-3 : tie.Need-same-length-3 Inv-loop μ-loop
-same-length-3 c = search needs
+returns c = let l = to-loop c .loop in omega (arith, l .inv .0, l .inv .1)
 
 returns-3 : tie.Need-returns-3 Inv-loop μ-loop
 returns-3 c = let l = c .before .loop in omega (arith, l .inv .0, l .inv .1)
@@ -94,19 +66,11 @@ read-input-spec =
     Inv-loop
     μ-loop
     loop-holds
-    sub-read-some
-    part-read-some-start
-    part-read-some-end
-    read-some-requires
-    enum-known-chunk
+    (λ c. omega arith) (λ c. omega arith) (λ c. omega arith) (λ c κs. search needs) (λ c. search needs)
     add-end
     loop-less
     loop-again
-    enum-told
-    same-length
+    (λ c. search needs) (λ c. search needs)
     returns
-    enum-told-2
-    same-length-2
-    returns-2
-    same-length-3
+    (λ c. search needs) (λ c. search needs) (λ c. tt) (λ c. search needs)
     returns-3)

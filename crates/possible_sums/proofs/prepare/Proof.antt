@@ -8,24 +8,15 @@ use borrow.Author.Needs.{needs}
 use Rattle.possible_sums.proofs.prepare.Statement.{statement}
 use Rattle.possible_sums.proofs.prepare.Tie as tie
 
-clear-requires : tie.Need-clear-requires
-clear-requires c κs = search needs
-
-slice-write-words : tie.Need-slice-write-words
-slice-write-words c = search needs
-
 add-result : tie.Need-add-result
 add-result c = simp length-set (omega arith)
 
 sub-result : tie.Need-sub-result
 sub-result c = simp length-set (omega arith)
 
-same-length : tie.Need-same-length
-same-length c = search needs
-
 returns : tie.Need-returns
 returns c = (simp length-set (omega arith), ap (λ (l : List ℕ). set l 0 1) (c .before .before .clear .ensures))
 
 pub prepare-spec : {M : Type 1} → statement M
 prepare-spec =
-    tie.close (tie.spec clear-requires slice-write-words add-result sub-result same-length returns)
+    tie.close (tie.spec (λ c κs. search needs) (λ c. search needs) add-result sub-result (λ c. search needs) returns)

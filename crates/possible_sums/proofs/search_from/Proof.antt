@@ -40,6 +40,29 @@ Inv-loop conditions weights w sure never words₀ allowance limit visits count�
 abbrev μ-loop : tie.MeasureT-loop
 μ-loop conditions weights w sure never words₀ allowance limit visits count₀ maximum₀ left₀ words count maximum left = count
 
+-- Ways back to earlier places.
+
+abbrev start-of : tie.At-loop Inv-loop μ-loop → tie.Start Inv-loop μ-loop
+start-of p = p .before .before .before .before .before .before
+
+abbrev start-of-else1 : tie.Else1 Inv-loop μ-loop → tie.Start Inv-loop μ-loop
+start-of-else1 p = start-of (p .before .before)
+
+abbrev loop-of : tie.Else2 Inv-loop μ-loop → tie.At-loop Inv-loop μ-loop
+loop-of p = p .before .before .before .before
+
+abbrev else1-of : tie.Else3 Inv-loop μ-loop → tie.Else1 Inv-loop μ-loop
+else1-of p = p .before .before .before .before .before
+
+abbrev else2-of : tie.After-union-shifted-until-hit Inv-loop μ-loop → tie.Else2 Inv-loop μ-loop
+else2-of p = p .before .before .before .before .before
+
+abbrev else3-of : tie.After-known-told Inv-loop μ-loop → tie.Else3 Inv-loop μ-loop
+else3-of p = p .before .before .before .before .before .before .before
+
+abbrev else3-of-smaller : tie.After-smaller Inv-loop μ-loop → tie.Else3 Inv-loop μ-loop
+else3-of-smaller p = p .before .before .before .before .before .before .before .before
+
 loop-holds : tie.Need-loop-holds Inv-loop μ-loop
 loop-holds c =
     let g = c .before .before .before .before .before .args in
@@ -54,56 +77,35 @@ loop-holds c =
           (last-all (g .conditions .now) (g .weights .now) (p .0 .same)),
     )
 
-same-length : tie.Need-same-length Inv-loop μ-loop
-same-length c = search needs
-
 returns : tie.Need-returns Inv-loop μ-loop
 returns c =
-    let g = c .before .before .before .before .before .before .before .before .args in
+    let g = start-of (c .before .before) .args in
     let v = c .before .before .loop in
-    let s = c .before .before .before .before .before .before .before .before .pre .0 .same in
+    let s = start-of (c .before .before) .pre .0 .same in
     sym
     (turn-cut (g .w) (inEither (g .sure .now) (g .never .now)) (g .conditions .now) (g .weights .now) (v .words) (v .count) (v .maximum) (v .left)
     (omega arith) (omega arith) (omega arith) (c .if1 .taken))
     ∙ v .inv .6
 
-sub-left : tie.Need-sub-left Inv-loop μ-loop
-sub-left c = omega arith
-
-sub-count : tie.Need-sub-count Inv-loop μ-loop
-sub-count c = omega arith
-
 -- With a visit left, the search goes on with the lightest term that is left.
-from-here : (c : tie.Else1 Inv-loop μ-loop) → searchFrom (c .before .before .before .before .before .before .before .before .args .w) (inEither (c .before .before .before .before .before .before .before .before .args .sure .now) (c .before .before .before .before .before .before .before .before .args .never .now))
-    (lastTerm (c .before .before .before .before .before .before .before .before .args .conditions .now) (c .before .before .before .before .before .before .before .before .args .weights .now) (c .before .before .loop .count)
-    ∷ lastTerms (c .before .before .before .before .before .before .before .before .args .conditions .now) (c .before .before .before .before .before .before .before .before .args .weights .now) (c .before .before .loop .count - 1))
+from-here : (c : tie.Else1 Inv-loop μ-loop) → searchFrom (start-of-else1 c .args .w) (inEither (start-of-else1 c .args .sure .now) (start-of-else1 c .args .never .now))
+    (lastTerm (start-of-else1 c .args .conditions .now) (start-of-else1 c .args .weights .now) (c .before .before .loop .count)
+    ∷ lastTerms (start-of-else1 c .args .conditions .now) (start-of-else1 c .args .weights .now) (c .before .before .loop .count - 1))
     (c .before .before .loop .words) (c .before .before .loop .maximum) (suc (c .before .before .loop .left - 1))
-    ≡ searchFrom (c .before .before .before .before .before .before .before .before .args .w) (inEither (c .before .before .before .before .before .before .before .before .args .sure .now) (c .before .before .before .before .before .before .before .before .args .never .now))
-    (reverse (terms (c .before .before .before .before .before .before .before .before .args .conditions .now) (c .before .before .before .before .before .before .before .before .args .weights .now))) (c .before .before .before .before .before .before .before .before .args .words .now) 0 (c .before .before .before .before .before .before .before .before .args .allowance)
+    ≡ searchFrom (start-of-else1 c .args .w) (inEither (start-of-else1 c .args .sure .now) (start-of-else1 c .args .never .now))
+    (reverse (terms (start-of-else1 c .args .conditions .now) (start-of-else1 c .args .weights .now))) (start-of-else1 c .args .words .now) 0 (start-of-else1 c .args .allowance)
 from-here c =
-    let g = c .before .before .before .before .before .before .before .before .args in
+    let g = start-of-else1 c .args in
     let v = c .before .before .loop in
-    let s = c .before .before .before .before .before .before .before .before .pre .0 .same in
+    let s = start-of-else1 c .pre .0 .same in
     sym
     (turn (g .w) (inEither (g .sure .now) (g .never .now)) (g .conditions .now) (g .weights .now) (v .words) (v .count) (v .maximum) (v .left)
     (omega arith) (omega arith) (omega arith) (c .if1 .left))
     ∙ v .inv .6
 
-mul-weight : tie.Need-mul-weight Inv-loop μ-loop
-mul-weight c = omega arith
-
-shared-slice-read-weight : tie.Need-shared-slice-read-weight Inv-loop μ-loop
-shared-slice-read-weight c = omega arith
-
-sub-used : tie.Need-sub-used Inv-loop μ-loop
-sub-used c = omega arith
-
-same-length-2 : tie.Need-same-length-2 Inv-loop μ-loop
-same-length-2 c = search needs
-
 returns-2 : tie.Need-returns-2 Inv-loop μ-loop
 returns-2 c =
-    let g = c .before .before .before .before .before .before .before .before .before .before .args in
+    let g = start-of-else1 (c .before .before) .args in
     let v = c .before .before .before .before .loop in
     sym
     (from-heavy (g .w) (inEither (g .sure .now) (g .never .now)) (lastTerm (g .conditions .now) (g .weights .now) (v .count)) (lastTerms (g .conditions .now) (g .weights .now) (v .count - 1))
@@ -112,30 +114,24 @@ returns-2 c =
     ∙ from-here (c .before .before)
 
 -- A term that is not too heavy.
-light : (c : tie.Else2 Inv-loop μ-loop) → ltb (c .before .before .before .before .before .before .before .before .before .before .args .w .maximum) (getD (c .before .before .before .before .before .before .before .before .before .before .args .weights .now) (c .before .before .before .before .loop .count - 1) 0) ≡ false
-light c = le-ltb (c .before .before .before .before .before .before .before .before .before .before .args .w .maximum) (getD (c .before .before .before .before .before .before .before .before .before .before .args .weights .now) (c .before .before .before .before .loop .count - 1) 0) (c .if2 .left)
-
-mul-decided : tie.Need-mul-decided Inv-loop μ-loop
-mul-decided c = omega arith
+light : (c : tie.Else2 Inv-loop μ-loop) → ltb (start-of (loop-of c) .args .w .maximum) (getD (start-of (loop-of c) .args .weights .now) (loop-of c .loop .count - 1) 0) ≡ false
+light c = le-ltb (start-of (loop-of c) .args .w .maximum) (getD (start-of (loop-of c) .args .weights .now) (loop-of c .loop .count - 1) 0) (c .if2 .left)
 
 shared-slice-read-decided : tie.Need-shared-slice-read-decided Inv-loop μ-loop
-shared-slice-read-decided c = let s = c .before .before .before .before .before .before .before .before .before .before .before .pre .0 .same in omega arith
+shared-slice-read-decided c = let s = start-of (loop-of (c .before)) .pre .0 .same in omega arith
 
 decided-requires : tie.Need-decided-requires Inv-loop μ-loop
 decided-requires c κs =
-    let p = c .before .before .before .before .before .before .before .before .before .before .before .pre .0 in
+    let p = start-of (loop-of (c .before)) .pre .0 in
     let s = p .same in
-    let v = c .before .before .before .before .before .loop in
+    let v = loop-of (c .before) .loop in
     let t = c .before .before .before .before .loop-test .taken in
     (p .below (v .count - 1) (omega arith), p .inSure, p .inNever)
 
-loop-less : tie.Need-loop-less Inv-loop μ-loop
-loop-less c = omega arith
-
 loop-again : tie.Need-loop-again Inv-loop μ-loop
 loop-again c =
-    let g = c .before .before .before .before .before .before .before .before .before .before .before .before .before .args in
-    let v = c .before .before .before .before .before .before .before .loop in (
+    let g = start-of (loop-of (c .before .before .before)) .args in
+    let v = loop-of (c .before .before .before) .loop in (
       refl,
       refl,
       omega arith,
@@ -149,75 +145,48 @@ loop-again c =
           ∙ from-here (c .before .before .before .before .before),
     )
 
-add-union-shifted-until-hit : tie.Need-add-union-shifted-until-hit Inv-loop μ-loop
-add-union-shifted-until-hit c = omega arith
-
 -- A term that is undecided.
-undecided : (c : tie.Else3 Inv-loop μ-loop) → inEither (c .before .before .before .before .before .before .before .before .before .before .before .before .before .args .sure .now) (c .before .before .before .before .before .before .before .before .before .before .before .before .before .args .never .now) (getD (c .before .before .before .before .before .before .before .before .before .before .before .before .before .args .conditions .now) (c .before .before .before .before .before .before .before .loop .count - 1) 0) ≡ false
+undecided : (c : tie.Else3 Inv-loop μ-loop) → inEither (start-of-else1 (else1-of c) .args .sure .now) (start-of-else1 (else1-of c) .args .never .now) (getD (start-of-else1 (else1-of c) .args .conditions .now) (loop-of (c .before .before .before) .loop .count - 1) 0) ≡ false
 undecided c = sym (c .before .decided .ensures) ∙ c .if3 .left
-
-union-shifted-until-hit-requires : tie.Need-union-shifted-until-hit-requires Inv-loop μ-loop
-union-shifted-until-hit-requires c κs = search needs
-
-enum-known-ended : tie.Need-enum-known-ended Inv-loop μ-loop
-enum-known-ended c = search needs
 
 sub-hit : tie.Need-sub-hit Inv-loop μ-loop
 sub-hit c =
-    let g = c .before .before .before .before .before .before .before .before .before .before .before .before .before .before .before .before .before .before .before .before .args in
-    let v = c .before .before .before .before .before .before .before .before .before .before .before .before .before .before .loop in
+    let g = start-of-else1 (else1-of (else3-of c)) .args in
+    let v = loop-of (else2-of (c .before .before .before .before .before)) .loop in
     let e = c .before .ended .given in
     let h = hit-left (v .words) (v .maximum / 64 + 1) (getD (g .weights .now) (v .count - 1) 0) (g .w .lower) (g .w .maximum) (v .left - 1) (e .0 .0) (sym (c .before .before .before .before .before .union-shifted-until-hit .ensures .1) ∙ e .1) in
     omega arith
 
-same-length-3 : tie.Need-same-length-3 Inv-loop μ-loop
-same-length-3 c = search needs
-
 returns-3 : tie.Need-returns-3 Inv-loop μ-loop
 returns-3 c =
-    let g = c .before .before .before .before .before .before .before .before .before .before .before .before .before .before .before .before .before .before .before .before .args in
-    let v = c .before .before .before .before .before .before .before .before .before .before .before .before .before .before .loop in
+    let g = start-of-else1 (else1-of (else3-of c)) .args in
+    let v = loop-of (else2-of (c .before .before .before .before .before)) .loop in
     let e = c .before .ended .given in
     sym
     (from-fits (g .w) (inEither (g .sure .now) (g .never .now)) (lastTerm (g .conditions .now) (g .weights .now) (v .count)) (lastTerms (g .conditions .now) (g .weights .now) (v .count - 1))
     (v .words) (v .maximum) (v .left - 1)
-    (light (c .before .before .before .before .before .before .before .before .before .before)) (undecided (c .before .before .before .before .before .before .before)) (e .0 .0) (sym (c .before .before .before .before .before .union-shifted-until-hit .ensures .1) ∙ e .1))
-    ∙ from-here (c .before .before .before .before .before .before .before .before .before .before .before .before)
-
-enum-told : tie.Need-enum-told Inv-loop μ-loop
-enum-told c = search needs
-
-same-length-4 : tie.Need-same-length-4 Inv-loop μ-loop
-same-length-4 c = search needs
+    (light (else2-of (c .before .before .before .before .before))) (undecided (else3-of c)) (e .0 .0) (sym (c .before .before .before .before .before .union-shifted-until-hit .ensures .1) ∙ e .1))
+    ∙ from-here (else1-of (else3-of c))
 
 returns-4 : tie.Need-returns-4 Inv-loop μ-loop
 returns-4 c =
-    let g = c .before .before .before .before .before .before .before .before .before .before .before .before .before .before .before .before .before .before .before .args in
-    let v = c .before .before .before .before .before .before .before .before .before .before .before .before .before .loop in
+    let g = start-of (loop-of (else2-of (c .before .before .before .before))) .args in
+    let v = loop-of (else2-of (c .before .before .before .before)) .loop in
     sym
     (from-stopped (g .w) (inEither (g .sure .now) (g .never .now)) (lastTerm (g .conditions .now) (g .weights .now) (v .count)) (lastTerms (g .conditions .now) (g .weights .now) (v .count - 1))
     (v .words) (v .maximum) (v .left - 1)
-    (light (c .before .before .before .before .before .before .before .before .before)) (undecided (c .before .before .before .before .before .before)) (sym (c .before .before .before .before .union-shifted-until-hit .ensures .1) ∙ c .enum-told .given .1))
-    ∙ from-here (c .before .before .before .before .before .before .before .before .before .before .before)
-
-enum-known-ended-2 : tie.Need-enum-known-ended-2 Inv-loop μ-loop
-enum-known-ended-2 c = search needs
+    (light (else2-of (c .before .before .before .before))) (undecided (c .before .before .before .before .before .before)) (sym (c .before .before .before .before .union-shifted-until-hit .ensures .1) ∙ c .enum-told .given .1))
+    ∙ from-here (else1-of (c .before .before .before .before .before .before))
 
 add-smaller : tie.Need-add-smaller Inv-loop μ-loop
 add-smaller c =
-    let p = c .before .before .before .before .before .before .before .before .before .before .before .before .before .before .before .before .before .before .before .before .pre .1 .0 in
-    omega (arith, p .words, p .enough, p .visits, c .before .before .before .before .before .before .before .before .before .before .before .before .before .before .loop .inv .4, c .before .before .before .before .before .before .before .before .before .before .if2 .left)
-
-smaller-requires : tie.Need-smaller-requires Inv-loop μ-loop
-smaller-requires c κs = search needs
-
-loop-less-2 : tie.Need-loop-less-2 Inv-loop μ-loop
-loop-less-2 c = omega arith
+    let p = start-of (loop-of (else2-of (c .before .before .before .before .before))) .pre .1 .0 in
+    omega (arith, p .words, p .enough, p .visits, loop-of (else2-of (c .before .before .before .before .before)) .loop .inv .4, else2-of (c .before .before .before .before .before) .if2 .left)
 
 loop-again-2 : tie.Need-loop-again-2 Inv-loop μ-loop
 loop-again-2 c =
-    let g = c .before .before .before .before .before .before .before .before .before .before .before .before .before .before .before .before .before .before .before .before .before .args in
-    let v = c .before .before .before .before .before .before .before .before .before .before .before .before .before .before .before .loop in
+    let g = start-of-else1 (else1-of (else3-of-smaller c)) .args in
+    let v = loop-of (else2-of (c .before .before .before .before .before .before)) .loop in
     let u = c .before .before .before .before .before .before .union-shifted-until-hit .ensures in
     let e = c .before .before .ended2 .given in
     let q : unionShifted (v .words) (v .maximum / 64 + 1) (getD (g .weights .now) (v .count - 1) 0) (g .w .lower) (g .w .maximum) (v .left - 1) .ended ≡ _ = sym (u .1) ∙ e .1 in
@@ -233,19 +202,13 @@ loop-again-2 c =
           ∙ sym
           (from-more (g .w) (inEither (g .sure .now) (g .never .now)) (lastTerm (g .conditions .now) (g .weights .now) (v .count)) (lastTerms (g .conditions .now) (g .weights .now) (v .count - 1))
           (v .words) (v .maximum) (v .left - 1)
-          (light (c .before .before .before .before .before .before .before .before .before .before .before)) (undecided (c .before .before .before .before .before .before .before .before)) (e .0 .0) q)
-          ∙ from-here (c .before .before .before .before .before .before .before .before .before .before .before .before .before),
+          (light (else2-of (c .before .before .before .before .before .before))) (undecided (else3-of-smaller c)) (e .0 .0) q)
+          ∙ from-here (else1-of (else3-of-smaller c)),
     )
-
-sub-all : tie.Need-sub-all Inv-loop μ-loop
-sub-all c = omega arith
-
-same-length-5 : tie.Need-same-length-5 Inv-loop μ-loop
-same-length-5 c = search needs
 
 returns-5 : tie.Need-returns-5 Inv-loop μ-loop
 returns-5 c =
-    let g = c .before .before .before .before .before .before .before .args in
+    let g = start-of (c .before) .args in
     let v = c .before .loop in
     sym
     (turn-none (g .w) (inEither (g .sure .now) (g .never .now)) (g .conditions .now) (g .weights .now) (v .words) (v .count) (v .maximum) (v .left)
@@ -259,34 +222,24 @@ search-from-spec =
     Inv-loop
     μ-loop
     loop-holds
-    same-length
+    (λ c. search needs)
     returns
-    sub-left
-    sub-count
-    mul-weight
-    shared-slice-read-weight
-    sub-used
-    same-length-2
+    (λ c. omega arith) (λ c. omega arith) (λ c. omega arith) (λ c. omega arith) (λ c. omega arith) (λ c. search needs)
     returns-2
-    mul-decided
+    (λ c. omega arith)
     shared-slice-read-decided
     decided-requires
-    loop-less
+    (λ c. omega arith)
     loop-again
-    add-union-shifted-until-hit
-    union-shifted-until-hit-requires
-    enum-known-ended
+    (λ c. omega arith) (λ c κs. search needs) (λ c. search needs)
     sub-hit
-    same-length-3
+    (λ c. search needs)
     returns-3
-    enum-told
-    same-length-4
+    (λ c. search needs) (λ c. search needs)
     returns-4
-    enum-known-ended-2
+    (λ c. search needs)
     add-smaller
-    smaller-requires
-    loop-less-2
+    (λ c κs. search needs) (λ c. omega arith)
     loop-again-2
-    sub-all
-    same-length-5
+    (λ c. omega arith) (λ c. search needs)
     returns-5)

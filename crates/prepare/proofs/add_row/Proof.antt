@@ -15,17 +15,25 @@ use borrow.Author.Needs.{needs}
 use Rattle.prepare.proofs.add_row.Statement.{statement}
 use Rattle.prepare.proofs.add_row.Tie as tie
 
-start-of-requires : tie.Need-start-of-requires
-start-of-requires c κs = search needs
+-- Ways back to earlier places.
 
-end-of-requires : tie.Need-end-of-requires
-end-of-requires c κs = search needs
+abbrev to-start : tie.After-start-of → tie.Start
+to-start p = p .before .before .before .before .before .before .before
+
+abbrev to-start-of : tie.After-slice-known7 → tie.After-start-of
+to-start-of p = p .before .before .before .before .before .before .before .before .before .before .before
+
+abbrev to-end-of : tie.After-build-at → tie.After-end-of
+to-end-of p = p .before .before .before .before
+
+abbrev build-at-of : tie.After-slice-known7 → tie.After-build-at
+build-at-of p = p .before .before .before .before .before .before
 
 build-at-requires : tie.Need-build-at-requires
 build-at-requires c κs =
     let end-of = c .before .before .before in
     let start-of = end-of .before in
-    let s = start-of .before .before .before .before .before .before .before in
+    let s = to-start start-of in
     let g = s .args in
     let p = s .pre in
     let r = rawLists (g .raw-conditions .now) (g .raw-weights .now) (g .thresholds .now) in
@@ -42,21 +50,21 @@ build-at-requires c κs =
     (omega arith, omega arith, l .weighed, omega arith, omega arith, p .0 .even, p .0 .below, l .light, p .0 .words, marks-tail r (g .t) (g .so .rows) (g .scratch .now) (g .heads .now) (p .3 .marks) (omega arith))
 
 cast-t25 : tie.Need-cast-t25
-cast-t25 c = let g = c .before .before .before .before .before .before .before .before .before .before .before .before .before .before .before .before .before .before .args in
-    let p = c .before .before .before .before .before .before .before .before .before .before .before .before .before .before .before .before .before .before .pre in
+cast-t25 c = let g = to-start (to-start-of c) .args in
+    let p = to-start (to-start-of c) .pre in
     let r = rawLists (g .raw-conditions .now) (g .raw-weights .now) (g .thresholds .now) in
-    let a = c .before .before .before .before .before .before .before .before .before .before .before .start-of .ensures in
-    let e = c .before .before .before .before .before .before .before .before .before .before .end-of .ensures in
+    let a = to-start-of c .start-of .ensures in
+    let e = to-end-of (build-at-of c) .end-of .ensures in
     let end = p .3 .end in
     let fit = terms-room r _ (g .t) (p .0 .lists) (p .1) in
     let few = p .0 .few in
-    let n = c .before .before .before .before .before .before .build-at .ensures .0 in
-    let k = c .before .before .before .before .before .before .build-at .ensures .1 in
+    let n = build-at-of c .build-at .ensures .0 in
+    let k = build-at-of c .build-at .ensures .1 in
     record { fits = omega arith }
 
 mul-entry : tie.Need-mul-entry
 mul-entry c =
-    let s = c .before .before .before .before .before .before .before .before .before .before .before .before .before .before .before .before .before .before in
+    let s = to-start (to-start-of c) in
     let g = s .args in
     let p = s .pre in
     let w = within (rawLists (g .raw-conditions .now) (g .raw-weights .now) (g .thresholds .now)) (g .t) (g .so) (g .row-conditions .now) (g .row-weights .now) (g .rows .now) (g .scratch .now) (g .heads .now) (p .0) (p .3) (p .1) in
@@ -64,7 +72,7 @@ mul-entry c =
 
 slice-set-from-entry : tie.Need-slice-set-from-entry
 slice-set-from-entry c =
-    let s = c .before .before .before .before .before .before .before .before .before .before .before .before .before .before .before .before .before .before in
+    let s = to-start (to-start-of c) in
     let g = s .args in
     let p = s .pre in
     let w = within (rawLists (g .raw-conditions .now) (g .raw-weights .now) (g .thresholds .now)) (g .t) (g .so) (g .row-conditions .now) (g .row-weights .now) (g .rows .now) (g .scratch .now) (g .heads .now) (p .0) (p .3) (p .1) in
@@ -72,7 +80,7 @@ slice-set-from-entry c =
 
 link-row-requires : tie.Need-link-row-requires
 link-row-requires c κs =
-    let s′ = c .before .before .before .before .before .before .before .before .before .before .before .before .before .before .before .before .before .before .before in
+    let s′ = to-start (to-start-of (c .before)) in
     let g = s′ .args in
     let p = s′ .pre in
     let s = print-small (rawLists (g .raw-conditions .now) (g .raw-weights .now) (g .thresholds .now)) (g .t) (p .0 .lists) (p .1) in
@@ -88,7 +96,7 @@ mul-scratch c = let n = c .before .before .link-row .ensures .1 in record { fits
 add-scratch : tie.Need-add-scratch
 add-scratch c =
     let link-row = c .before .before in
-    let s′ = link-row .before .before .before .before .before .before .before .before .before .before .before .before .before .before .before .before .before .before .before .before in
+    let s′ = to-start (to-start-of (link-row .before .before)) in
     let g = s′ .args in
     let p = s′ .pre in
     let s = print-small (rawLists (g .raw-conditions .now) (g .raw-weights .now) (g .thresholds .now)) (g .t) (p .0 .lists) (p .1) in
@@ -99,7 +107,7 @@ add-scratch c =
 mul-scratch-2 : tie.Need-mul-scratch-2
 mul-scratch-2 c =
     let link-row = c .before .before in
-    let s′ = link-row .before .before .before .before .before .before .before .before .before .before .before .before .before .before .before .before .before .before .before .before in
+    let s′ = to-start (to-start-of (link-row .before .before)) in
     let g = s′ .args in
     let p = s′ .pre in
     let s = print-small (rawLists (g .raw-conditions .now) (g .raw-weights .now) (g .thresholds .now)) (g .t) (p .0 .lists) (p .1) in
@@ -110,7 +118,7 @@ mul-scratch-2 c =
 add-scratch-2 : tie.Need-add-scratch-2
 add-scratch-2 c =
     let link-row = c .before .before in
-    let s′ = link-row .before .before .before .before .before .before .before .before .before .before .before .before .before .before .before .before .before .before .before .before in
+    let s′ = to-start (to-start-of (link-row .before .before)) in
     let g = s′ .args in
     let p = s′ .pre in
     let s = print-small (rawLists (g .raw-conditions .now) (g .raw-weights .now) (g .thresholds .now)) (g .t) (p .0 .lists) (p .1) in
@@ -122,7 +130,7 @@ add-scratch-2 c =
 
 mul-scratch-3 : tie.Need-mul-scratch-3
 mul-scratch-3 c =
-    let s = c .before .before .before .before .before .before .before .before .before .before .before .before .before .before .before .before .before .before .before .before .before .before in
+    let s = to-start (to-start-of (c .before .before .before .before)) in
     let g = s .args in
     let p = s .pre in
     let w = within (rawLists (g .raw-conditions .now) (g .raw-weights .now) (g .thresholds .now)) (g .t) (g .so) (g .row-conditions .now) (g .row-weights .now) (g .rows .now) (g .scratch .now) (g .heads .now) (p .0) (p .3) (p .1) in
@@ -130,8 +138,8 @@ mul-scratch-3 c =
 
 slice-write-scratch : tie.Need-slice-write-scratch
 slice-write-scratch c =
-    let build-at = c .before .before .before .before .before .before .before .before .before .before in
-    let s = build-at .before .before .before .before .before .before .before .before .before .before .before .before in
+    let build-at = build-at-of (c .before .before .before .before) in
+    let s = to-start (build-at .before .before .before .before .before) in
     let g = s .args in
     let p = s .pre in
     let w = within (rawLists (g .raw-conditions .now) (g .raw-weights .now) (g .thresholds .now)) (g .t) (g .so) (g .row-conditions .now) (g .row-weights .now) (g .rows .now) (g .scratch .now) (g .heads .now) (p .0) (p .3) (p .1) in
@@ -140,34 +148,25 @@ slice-write-scratch c =
 
 add-t26 : tie.Need-add-t26
 add-t26 c =
-    let s = c .before .before .before .before .before .before .before .before .before .before .before .before .before .before .before .before .before .before .before .before .before .before in
+    let s = to-start (to-start-of (c .before .before .before .before)) in
     let g = s .args in
     let p = s .pre in
     let w = within (rawLists (g .raw-conditions .now) (g .raw-weights .now) (g .thresholds .now)) (g .t) (g .so) (g .row-conditions .now) (g .row-weights .now) (g .rows .now) (g .scratch .now) (g .heads .now) (p .0) (p .3) (p .1) in
     record { fits = omega arith }
 
 same-length : tie.Need-same-length
-same-length c = c .before .before .before .before .before .before .before .before .before .before .build-at .kept .1 .1 .1 .1 .1 .0
+same-length c = build-at-of (c .before .before .before .before) .build-at .kept .1 .1 .1 .1 .1 .0
 
 same-length-2 : tie.Need-same-length-2
-same-length-2 c = c .before .before .before .before .before .before .before .before .before .before .build-at .kept .1 .1 .1 .1 .1 .1 .0
-
-same-length-3 : tie.Need-same-length-3
-same-length-3 c = search needs
-
-same-length-4 : tie.Need-same-length-4
-same-length-4 c = search needs
-
-same-length-5 : tie.Need-same-length-5
-same-length-5 c = search needs
+same-length-2 c = build-at-of (c .before .before .before .before) .build-at .kept .1 .1 .1 .1 .1 .1 .0
 
 returns : tie.Need-returns
 returns c =
     let link-row = c .before .before in
-    let build-at = link-row .before .before .before .before .before .before .before .before in
-    let end-of = build-at .before .before .before .before in
+    let build-at = build-at-of (link-row .before .before) in
+    let end-of = to-end-of build-at in
     let start-of = end-of .before in
-    let s′ = start-of .before .before .before .before .before .before .before in
+    let s′ = to-start start-of in
     let g = s′ .args in
     let p = s′ .pre in
     let r = rawLists (g .raw-conditions .now) (g .raw-weights .now) (g .thresholds .now) in
@@ -194,8 +193,7 @@ pub add-row-spec : {M : Type 1} → statement M
 add-row-spec =
     tie.close
     (tie.spec
-    start-of-requires
-    end-of-requires
+    (λ c κs. search needs) (λ c κs. search needs)
     build-at-requires
     cast-t25
     mul-entry
@@ -210,7 +208,5 @@ add-row-spec =
     add-t26
     same-length
     same-length-2
-    same-length-3
-    same-length-4
-    same-length-5
+    (λ c. search needs) (λ c. search needs) (λ c. search needs)
     returns)

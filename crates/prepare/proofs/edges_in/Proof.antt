@@ -5,27 +5,26 @@ use borrow.Author.Needs.{needs}
 use Rattle.prepare.proofs.edges_in.Statement.{statement}
 use Rattle.prepare.proofs.edges_in.Tie as tie
 
+-- Ways back to earlier places.
+
+abbrev start-of : tie.After-index-edges-arg2 → tie.Start
+start-of p = p .before .before .before .before
+
 slice-aggregate-index-edges : tie.Need-slice-aggregate-index-edges
 slice-aggregate-index-edges c = let g = c .before .before .before .args in
     sym (length-take-le (g .end) (g .row-conditions .now) (c .before .before .before .pre .0))
 
 slice-aggregate-index-edges-2 : tie.Need-slice-aggregate-index-edges-2
-slice-aggregate-index-edges-2 c = let g = c .before .before .before .before .args in
-    sym (length-take-le (g .end) (g .row-weights .now) (c .before .before .before .before .pre .1))
+slice-aggregate-index-edges-2 c = let g = start-of c .args in
+    sym (length-take-le (g .end) (g .row-weights .now) (start-of c .pre .1))
 
 slice-aggregate-index-edges-3 : tie.Need-slice-aggregate-index-edges-3
-slice-aggregate-index-edges-3 c = let g = c .before .before .before .before .before .args in
-    sym (length-take-le (g .count) (g .rows .now) (c .before .before .before .before .before .pre .2))
+slice-aggregate-index-edges-3 c = let g = start-of (c .before) .args in
+    sym (length-take-le (g .count) (g .rows .now) (start-of (c .before) .pre .2))
 
 index-edges-requires : tie.Need-index-edges-requires
-index-edges-requires c κs = let p = c .before .before .before .before .before .before .before .pre .3 in
+index-edges-requires c κs = let p = start-of (c .before .before .before) .pre .3 in
     (p .inside, p .even, p .keys, p .short, p .room, p .below, p .wide, p .clear)
-
-same-length : tie.Need-same-length
-same-length c = search needs
-
-same-length-2 : tie.Need-same-length-2
-same-length-2 c = search needs
 
 returns : tie.Need-returns
 returns c = let s = c .before .before .index-edges .ensures in
@@ -39,6 +38,5 @@ edges-in-spec =
     slice-aggregate-index-edges-2
     slice-aggregate-index-edges-3
     index-edges-requires
-    same-length
-    same-length-2
+    (λ c. search needs) (λ c. search needs)
     returns)

@@ -15,37 +15,36 @@ use borrow.Author.Needs.{needs}
 use Rattle.prepare.proofs.guards_in.Statement.{statement}
 use Rattle.prepare.proofs.guards_in.Tie as tie
 
-slice-reshare-prefix-index-guards : tie.Need-slice-reshare-prefix-index-guards
-slice-reshare-prefix-index-guards c = search needs
+-- Ways back to earlier places.
+
+abbrev start-of : tie.After-index-guards-arg2 → tie.Start
+start-of p = p .before .before .before .before
+
+abbrev start-of-clear-arg : tie.After-clear-arg → tie.Start
+start-of-clear-arg p = start-of (p .before .before .before .before .before .before .before .before)
+
+abbrev index-guards-of : tie.After-clear → tie.After-index-guards
+index-guards-of p = p .before .before .before .before .before .before
 
 slice-aggregate-index-guards : tie.Need-slice-aggregate-index-guards
 slice-aggregate-index-guards c = let g = c .before .before .before .args in
     sym (length-take-le (length (g .bounds .now)) (g .scratch .now) (c .before .before .before .pre .3))
 
-slice-relend-prefix-index-guards : tie.Need-slice-relend-prefix-index-guards
-slice-relend-prefix-index-guards c = search needs
-
 slice-aggregate-index-guards-2 : tie.Need-slice-aggregate-index-guards-2
-slice-aggregate-index-guards-2 c = let g = c .before .before .before .before .args in
-    sym (length-take-le (g .count) (g .rows .now) (c .before .before .before .before .pre .0))
-
-slice-relend-prefix-index-guards-2 : tie.Need-slice-relend-prefix-index-guards-2
-slice-relend-prefix-index-guards-2 c = search needs
+slice-aggregate-index-guards-2 c = let g = start-of c .args in
+    sym (length-take-le (g .count) (g .rows .now) (start-of c .pre .0))
 
 slice-aggregate-index-guards-3 : tie.Need-slice-aggregate-index-guards-3
-slice-aggregate-index-guards-3 c = let g = c .before .before .before .before .before .args in
-    sym (length-take-le (length (g .bounds .now)) (g .guard-bounds .now) (c .before .before .before .before .before .pre .1))
-
-slice-relend-prefix-index-guards-3 : tie.Need-slice-relend-prefix-index-guards-3
-slice-relend-prefix-index-guards-3 c = search needs
+slice-aggregate-index-guards-3 c = let g = start-of (c .before) .args in
+    sym (length-take-le (length (g .bounds .now)) (g .guard-bounds .now) (start-of (c .before) .pre .1))
 
 slice-aggregate-index-guards-4 : tie.Need-slice-aggregate-index-guards-4
-slice-aggregate-index-guards-4 c = let g = c .before .before .before .before .before .before .args in
-    sym (length-take-le (length (g .bounds .now)) (g .guard-nodes .now) (c .before .before .before .before .before .before .pre .2))
+slice-aggregate-index-guards-4 c = let g = start-of (c .before .before) .args in
+    sym (length-take-le (length (g .bounds .now)) (g .guard-nodes .now) (start-of (c .before .before) .pre .2))
 
 index-guards-requires : tie.Need-index-guards-requires
-index-guards-requires c κs = let g = c .before .before .before .before .before .before .args in
-    let p = c .before .before .before .before .before .before .pre in
+index-guards-requires c κs = let g = start-of (c .before .before) .args in
+    let p = start-of (c .before .before) .pre in
     let d = p .4 in
     let few = d .few in
     let k = length-take-le (length (g .bounds .now)) (g .scratch .now) (p .3) in
@@ -53,32 +52,14 @@ index-guards-requires c κs = let g = c .before .before .before .before .before 
     let b = length-take-le (length (g .bounds .now)) (g .guard-nodes .now) (p .2) in
     (d .even, d .inside, d .wide, d .names, d .placed, d .clear, omega arith, omega arith, omega arith)
 
-slice-relend-prefix-clear : tie.Need-slice-relend-prefix-clear
-slice-relend-prefix-clear c = search needs
-
 slice-aggregate-clear : tie.Need-slice-aggregate-clear
-slice-aggregate-clear c = let g = c .before .before .before .before .before .before .before .before .before .before .before .before .args in
-    sym (length-take-le (length (g .bounds .now)) (g .scratch .now) (c .before .before .before .before .before .before .before .before .before .before .before .before .pre .3))
-
-clear-requires : tie.Need-clear-requires
-clear-requires c κs = search needs
-
-same-length : tie.Need-same-length
-same-length c = search needs
-
-same-length-2 : tie.Need-same-length-2
-same-length-2 c = search needs
-
-same-length-3 : tie.Need-same-length-3
-same-length-3 c = search needs
-
-same-length-4 : tie.Need-same-length-4
-same-length-4 c = search needs
+slice-aggregate-clear c = let g = start-of-clear-arg c .args in
+    sym (length-take-le (length (g .bounds .now)) (g .scratch .now) (start-of-clear-arg c .pre .3))
 
 returns : tie.Need-returns
-returns c = let g = c .before .before .before .before .before .before .before .before .before .before .before .before .before .before .before .args in
-    let p = c .before .before .before .before .before .before .before .before .before .before .before .before .before .before .before .pre in
-    let s = c .before .before .before .before .before .before .before .before .index-guards .ensures in
+returns c = let g = start-of-clear-arg (c .before .before .before) .args in
+    let p = start-of-clear-arg (c .before .before .before) .pre in
+    let s = index-guards-of (c .before .before) .index-guards .ensures in
     let ks = take (length (g .bounds .now)) (g .scratch .now) in
     let k = length-take-le (length (g .bounds .now)) (g .scratch .now) (p .3) in
     let n = length-take-le (g .count) (g .rows .now) (p .0) in
@@ -97,20 +78,16 @@ pub guards-in-spec : {M : Type 1} → statement M
 guards-in-spec =
     tie.close
     (tie.spec
-    slice-reshare-prefix-index-guards
+    (λ c. search needs)
     slice-aggregate-index-guards
-    slice-relend-prefix-index-guards
+    (λ c. search needs)
     slice-aggregate-index-guards-2
-    slice-relend-prefix-index-guards-2
+    (λ c. search needs)
     slice-aggregate-index-guards-3
-    slice-relend-prefix-index-guards-3
+    (λ c. search needs)
     slice-aggregate-index-guards-4
     index-guards-requires
-    slice-relend-prefix-clear
+    (λ c. search needs)
     slice-aggregate-clear
-    clear-requires
-    same-length
-    same-length-2
-    same-length-3
-    same-length-4
+    (λ c κs. search needs) (λ c. search needs) (λ c. search needs) (λ c. search needs) (λ c. search needs)
     returns)

@@ -14,14 +14,28 @@ use borrow.Author.Needs.{needs}
 use Rattle.prepare.proofs.place_all.Statement.{statement}
 use Rattle.prepare.proofs.place_all.Tie as tie
 
+-- Ways back to earlier places.
+
+abbrev start-of : tie.After-place-rows-arg6 → tie.Start
+start-of p = p .before .before .before .before .before .before .before .before .before .before .before .before
+
+abbrev place-rows-of : tie.After-slice-known8 → tie.After-place-rows
+place-rows-of p = p .before .before .before .before .before .before .before .before .before .before
+
+abbrev place-rows-of-clear : tie.After-clear → tie.After-place-rows
+place-rows-of-clear p = place-rows-of (p .before .before)
+
+abbrev clear-of : tie.After-slice-known10 → tie.After-clear
+clear-of p = p .before .before .before .before .before .before
+
 place-rows-requires : tie.Need-place-rows-requires
-place-rows-requires c κs = let p = c .before .before .before .before .before .before .before .before .before .before .before .before .pre in
+place-rows-requires c κs = let p = start-of c .pre in
     (p .0, p .1, p .2, p .3, p .4, p .5, p .6)
 
 slice-relend-prefix-clear : tie.Need-slice-relend-prefix-clear
 slice-relend-prefix-clear c =
-    let place-rows = c .before .before .before .before .before .before .before .before .before .before in
-    let s = place-rows .before .before .before .before .before .before .before .before .before .before .before .before .before in
+    let place-rows = place-rows-of c in
+    let s = start-of (place-rows .before) in
     let g = s .args in
     let p = s .pre in
     let few = marks-few (rawLists (g .raw-conditions .now) (g .raw-weights .now) (g .thresholds .now)) _ _ _ _ (place-rows .place-rows .ensures .0 .marks) in
@@ -32,8 +46,8 @@ slice-relend-prefix-clear c =
 
 slice-aggregate-clear : tie.Need-slice-aggregate-clear
 slice-aggregate-clear c =
-    let place-rows = c .before .before .before .before .before .before .before .before .before .before .before in
-    let s = place-rows .before .before .before .before .before .before .before .before .before .before .before .before .before in
+    let place-rows = place-rows-of (c .before) in
+    let s = start-of (place-rows .before) in
     let g = s .args in
     let p = s .pre in
     let few = marks-few (rawLists (g .raw-conditions .now) (g .raw-weights .now) (g .thresholds .now)) _ _ _ _ (place-rows .place-rows .ensures .0 .marks) in
@@ -42,38 +56,26 @@ slice-aggregate-clear c =
     let k = place-rows .place-rows .kept .1 .1 .1 .1 .1 .1 .1 .0 in
     sym (length-take-le _ _ (omega arith))
 
-clear-requires : tie.Need-clear-requires
-clear-requires c κs = search needs
-
-clear-u16-requires : tie.Need-clear-u16-requires
-clear-u16-requires c κs = search needs
-
 same-length : tie.Need-same-length
-same-length c = c .before .before .before .before .before .before .before .before .before .before .before .before .before .before .before .before .before .before .place-rows .kept .1 .1 .1 .0
+same-length c = place-rows-of-clear (clear-of c) .place-rows .kept .1 .1 .1 .0
 
 same-length-2 : tie.Need-same-length-2
-same-length-2 c = c .before .before .before .before .before .before .before .before .before .before .before .before .before .before .before .before .before .before .place-rows .kept .1 .1 .1 .1 .0
+same-length-2 c = place-rows-of-clear (clear-of c) .place-rows .kept .1 .1 .1 .1 .0
 
 same-length-3 : tie.Need-same-length-3
-same-length-3 c = c .before .before .before .before .before .before .before .before .before .before .before .before .before .before .before .before .before .before .place-rows .kept .1 .1 .1 .1 .1 .0
+same-length-3 c = place-rows-of-clear (clear-of c) .place-rows .kept .1 .1 .1 .1 .1 .0
 
 same-length-4 : tie.Need-same-length-4
 same-length-4 c =
-    let place-rows = c .before .before .before .before .before .before .before .before .before .before .before .before .before .before .before .before .before .before in
+    let place-rows = place-rows-of-clear (clear-of c) in
     place-rows .place-rows .kept .1 .1 .1 .1 .1 .1 .0
-
-same-length-5 : tie.Need-same-length-5
-same-length-5 c = search needs
-
-same-length-6 : tie.Need-same-length-6
-same-length-6 c = search needs
 
 returns : tie.Need-returns
 returns c =
     let clear-u16 = c .before .before in
     let clear = clear-u16 .before .before .before .before in
-    let place-rows = clear .before .before .before .before .before .before .before .before .before .before .before .before in
-    let s′ = place-rows .before .before .before .before .before .before .before .before .before .before .before .before .before in
+    let place-rows = place-rows-of-clear clear in
+    let s′ = start-of (place-rows .before) in
     let g = s′ .args in
     let p = s′ .pre in
     let r = rawLists (g .raw-conditions .now) (g .raw-weights .now) (g .thresholds .now) in
@@ -102,12 +104,10 @@ place-all-spec =
     place-rows-requires
     slice-relend-prefix-clear
     slice-aggregate-clear
-    clear-requires
-    clear-u16-requires
+    (λ c κs. search needs) (λ c κs. search needs)
     same-length
     same-length-2
     same-length-3
     same-length-4
-    same-length-5
-    same-length-6
+    (λ c. search needs) (λ c. search needs)
     returns)

@@ -17,58 +17,39 @@ use borrow.Author.Needs.{needs}
 use Rattle.prepare.proofs.place_in.Statement.{statement}
 use Rattle.prepare.proofs.place_in.Tie as tie
 
+-- Ways back to earlier places.
+
+abbrev start-of : tie.After-place-all-arg → tie.Start
+start-of p = p .before .before .before .before .before .before .before
+
+abbrev place-all-of : tie.After-slice-known8 → tie.After-place-all
+place-all-of p = p .before .before .before .before .before .before .before .before .before .before
+
 slice-relend-prefix-place-all : tie.Need-slice-relend-prefix-place-all
 slice-relend-prefix-place-all c = c .before .before .before .before .before .before .pre .conditions
 
 slice-aggregate-place-all : tie.Need-slice-aggregate-place-all
-slice-aggregate-place-all c = let g = c .before .before .before .before .before .before .before .args in
-    sym (length-take-le (length (g .raw-conditions .now)) (g .row-conditions .now) (c .before .before .before .before .before .before .before .pre .conditions))
+slice-aggregate-place-all c = let g = start-of c .args in
+    sym (length-take-le (length (g .raw-conditions .now)) (g .row-conditions .now) (start-of c .pre .conditions))
 
 slice-relend-prefix-place-all-2 : tie.Need-slice-relend-prefix-place-all-2
-slice-relend-prefix-place-all-2 c = c .before .before .before .before .before .before .before .pre .weights
+slice-relend-prefix-place-all-2 c = start-of c .pre .weights
 
 slice-aggregate-place-all-2 : tie.Need-slice-aggregate-place-all-2
-slice-aggregate-place-all-2 c = let g = c .before .before .before .before .before .before .before .before .args in
-    sym (length-take-le (length (g .raw-conditions .now)) (g .row-weights .now) (c .before .before .before .before .before .before .before .before .pre .weights))
-
-sub-place-all : tie.Need-sub-place-all
-sub-place-all c = search needs
-
-part-place-all-start : tie.Need-part-place-all-start
-part-place-all-start c = search needs
-
-part-place-all-end : tie.Need-part-place-all-end
-part-place-all-end c = search needs
+slice-aggregate-place-all-2 c = let g = start-of (c .before) .args in
+    sym (length-take-le (length (g .raw-conditions .now)) (g .row-weights .now) (start-of (c .before) .pre .weights))
 
 place-all-requires : tie.Need-place-all-requires
 place-all-requires c κs =
-    let s = c .before .before .before .before .before .before .before .before .before .before .before .before in
+    let s = start-of (c .before .before .before .before .before) in
     let g = s .args in
     let r = rawLists (g .raw-conditions .now) (g .raw-weights .now) (g .thresholds .now) in
     open-ready r (g .row-conditions .now) (g .row-weights .now) (g .rows .now) (g .nodes .now) (g .scratch .now) (g .heads .now) (s .pre)
 
-same-length : tie.Need-same-length
-same-length c = search needs
-
-same-length-2 : tie.Need-same-length-2
-same-length-2 c = search needs
-
-same-length-3 : tie.Need-same-length-3
-same-length-3 c = search needs
-
-same-length-4 : tie.Need-same-length-4
-same-length-4 c = search needs
-
-same-length-5 : tie.Need-same-length-5
-same-length-5 c = search needs
-
-same-length-6 : tie.Need-same-length-6
-same-length-6 c = search needs
-
 returns : tie.Need-returns
 returns c =
-    let place-all = c .before .before .before .before .before .before .before .before .before .before in
-    let s′ = place-all .before .before .before .before .before .before .before .before .before .before .before .before .before in
+    let place-all = place-all-of c in
+    let s′ = start-of (place-all .before .before .before .before .before .before) in
     let g = s′ .args in
     let p = s′ .pre in
     let r = rawLists (g .raw-conditions .now) (g .raw-weights .now) (g .thresholds .now) in
@@ -99,14 +80,7 @@ place-in-spec =
     slice-aggregate-place-all
     slice-relend-prefix-place-all-2
     slice-aggregate-place-all-2
-    sub-place-all
-    part-place-all-start
-    part-place-all-end
+    (λ c. search needs) (λ c. search needs) (λ c. search needs)
     place-all-requires
-    same-length
-    same-length-2
-    same-length-3
-    same-length-4
-    same-length-5
-    same-length-6
+    (λ c. search needs) (λ c. search needs) (λ c. search needs) (λ c. search needs) (λ c. search needs) (λ c. search needs)
     returns)

@@ -14,12 +14,23 @@ use borrow.Author.Needs.{needs}
 use Rattle.prepare.proofs.place_one.Statement.{statement}
 use Rattle.prepare.proofs.place_one.Tie as tie
 
-print-of-requires : tie.Need-print-of-requires
-print-of-requires c κs = search needs
+-- Ways back to earlier places.
+
+abbrev start-of : tie.After-print-of → tie.Start
+start-of p = p .before .before .before .before .before .before .before
+
+abbrev to-print-of : tie.After-enter-node-arg → tie.After-print-of
+to-print-of p = p .before .before .before .before .before .before .before
+
+abbrev enter-node2-of : tie.After-add-row-arg5 → tie.After-enter-node2
+enter-node2-of p = p .before .before .before .before .before .before
+
+abbrev add-row-of : tie.After-slice-known8 → tie.After-add-row
+add-row-of p = p .before .before .before .before .before .before .before .before .before
 
 slice-reshare-prefix-find-row : tie.Need-slice-reshare-prefix-find-row
 slice-reshare-prefix-find-row c =
-    let s = c .before .before .before .before .before .before .before in
+    let s = start-of c in
     let g = s .args in
     let p = s .pre in
     let w = within (rawLists (g .raw-conditions .now) (g .raw-weights .now) (g .thresholds .now)) (g .t) (g .so) (g .row-conditions .now) (g .row-weights .now) (g .rows .now) (g .scratch .now) (g .heads .now) (p .0) (p .3) (p .1) in
@@ -27,24 +38,21 @@ slice-reshare-prefix-find-row c =
 
 slice-aggregate-find-row : tie.Need-slice-aggregate-find-row
 slice-aggregate-find-row c =
-    let s = c .before .before .before .before .before .before .before .before in
+    let s = start-of (c .before) in
     let g = s .args in
     let p = s .pre in
     let w = within (rawLists (g .raw-conditions .now) (g .raw-weights .now) (g .thresholds .now)) (g .t) (g .so) (g .row-conditions .now) (g .row-weights .now) (g .rows .now) (g .scratch .now) (g .heads .now) (p .0) (p .3) (p .1) in
     sym (length-take-le (g .so .rows) (g .scratch .now) (omega arith))
 
 find-row-requires : tie.Need-find-row-requires
-find-row-requires c κs = let g = c .before .before .before .before .before .before .before .before .before .args in
+find-row-requires c κs = let g = start-of (c .before .before) .args in
     let r = rawLists (g .raw-conditions .now) (g .raw-weights .now) (g .thresholds .now) in
-    let p = c .before .before .before .before .before .before .before .before .before .pre in
+    let p = start-of (c .before .before) .pre in
     (p .0 .lists, p .1, p .3 .marks .marked, p .3 .marks .headed, subst Own (sym (p .3 .marks .named)) (raws-own r (g .t)), c .before .before .print-of .ensures)
 
-enum-known-found : tie.Need-enum-known-found
-enum-known-found c = search needs
-
 enter-node-requires : tie.Need-enter-node-requires
-enter-node-requires c κs = let g = c .before .before .before .before .before .before .before .before .before .before .before .before .before .before .args in
-    let p = c .before .before .before .before .before .before .before .before .before .before .before .before .before .before .pre in
+enter-node-requires c κs = let g = start-of (to-print-of c) .args in
+    let p = start-of (to-print-of c) .pre in
     let r = rawLists (g .raw-conditions .now) (g .raw-weights .now) (g .thresholds .now) in
     let f = found-old r (g .t) (take (g .so .rows) (g .scratch .now)) (p .3 .marks .named) _ (sym (c .before .before .before .before .find-row .ensures) ∙ c .before .before .found .given .1) in
     let w = within r (g .t) (g .so) (g .row-conditions .now) (g .row-weights .now) (g .rows .now) (g .scratch .now) (g .heads .now) (p .0) (p .3) (p .1) in
@@ -58,7 +66,7 @@ enum-told c = search needs
 
 enter-node-requires-2 : tie.Need-enter-node-requires-2
 enter-node-requires-2 c κs =
-    let s = c .before .before .before .before .before .before .before .before .before .before .before .before .before in
+    let s = start-of (c .before .before .before .before .before .before) in
     let g = s .args in
     let p = s .pre in
     let w = within (rawLists (g .raw-conditions .now) (g .raw-weights .now) (g .thresholds .now)) (g .t) (g .so) (g .row-conditions .now) (g .row-weights .now) (g .rows .now) (g .scratch .now) (g .heads .now) (p .0) (p .3) (p .1) in
@@ -66,30 +74,21 @@ enter-node-requires-2 c κs =
 
 add-row-requires : tie.Need-add-row-requires
 add-row-requires c κs =
-    let enum-told = c .before .before .before .before .before .before .before .before in
+    let enum-told = enter-node2-of c .before .before in
     let find-row = enum-told .before .before in
     let print-of = find-row .before .before .before in
-    let s = print-of .before .before .before .before .before .before .before in
+    let s = start-of print-of in
     let g = s .args in
     let p = s .pre in
     let r = rawLists (g .raw-conditions .now) (g .raw-weights .now) (g .thresholds .now) in
     let f = found-new r (g .t) (take (g .so .rows) (g .scratch .now)) (p .3 .marks .named) (sym (find-row .find-row .ensures) ∙ enum-told .enum-told .given .1) in
     (p .0, p .1, print-of .print-of .ensures, p .3, f ∙ sym (p .3 .marks .many))
 
-same-length : tie.Need-same-length
-same-length c = search needs
-
-same-length-2 : tie.Need-same-length-2
-same-length-2 c = search needs
-
-same-length-3 : tie.Need-same-length-3
-same-length-3 c = search needs
-
 returns : tie.Need-returns
 returns c =
     let found = c .before .before .before .before in
     let find-row = found .before .before in
-    let s = find-row .before .before .before .before .before .before .before .before .before .before in
+    let s = start-of (find-row .before .before .before) in
     let g = s .args in
     let p = s .pre in
     let r = rawLists (g .raw-conditions .now) (g .raw-weights .now) (g .thresholds .now) in
@@ -99,31 +98,13 @@ returns c =
       c .before .enter-node .ensures ∙ ap (λ (n : ℕ). set (g .nodes .now) (nodeAt (g .thresholds .now) (g .t)) (nodeEntry (g .t) n)) (f .0),
     )
 
-same-length-4 : tie.Need-same-length-4
-same-length-4 c = search needs
-
-same-length-5 : tie.Need-same-length-5
-same-length-5 c = search needs
-
-same-length-6 : tie.Need-same-length-6
-same-length-6 c = search needs
-
-same-length-7 : tie.Need-same-length-7
-same-length-7 c = search needs
-
-same-length-8 : tie.Need-same-length-8
-same-length-8 c = search needs
-
-same-length-9 : tie.Need-same-length-9
-same-length-9 c = search needs
-
 returns-2 : tie.Need-returns-2
 returns-2 c =
-    let add-row = c .before .before .before .before .before .before .before .before .before in
-    let enter-node2 = add-row .before .before .before .before .before .before .before in
+    let add-row = add-row-of c in
+    let enter-node2 = enter-node2-of (add-row .before) in
     let enum-told = enter-node2 .before .before in
     let find-row = enum-told .before .before in
-    let s′ = find-row .before .before .before .before .before .before .before .before .before .before in
+    let s′ = start-of (find-row .before .before .before) in
     let g = s′ .args in
     let p = s′ .pre in
     let r = rawLists (g .raw-conditions .now) (g .raw-weights .now) (g .thresholds .now) in
@@ -138,23 +119,16 @@ pub place-one-spec : {M : Type 1} → statement M
 place-one-spec =
     tie.close
     (tie.spec
-    print-of-requires
+    (λ c κs. search needs)
     slice-reshare-prefix-find-row
     slice-aggregate-find-row
     find-row-requires
-    enum-known-found
+    (λ c. search needs)
     enter-node-requires
     enum-told
     enter-node-requires-2
     add-row-requires
-    same-length
-    same-length-2
-    same-length-3
+    (λ c. search needs) (λ c. search needs) (λ c. search needs)
     returns
-    same-length-4
-    same-length-5
-    same-length-6
-    same-length-7
-    same-length-8
-    same-length-9
+    (λ c. search needs) (λ c. search needs) (λ c. search needs) (λ c. search needs) (λ c. search needs) (λ c. search needs)
     returns-2)

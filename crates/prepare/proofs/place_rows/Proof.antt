@@ -13,12 +13,24 @@ use Rattle.prepare.proofs.place_rows.Statement.{statement}
 use Rattle.prepare.proofs.place_rows.Tie as tie
 
 abbrev Inv-loop : tie.InvT-loop
-Inv-loop conditions weights thresholds row-conditions₀ row-weights₀ rows₀ nodes₀ scratch₀ heads₀ so₀ t₀ row-conditions row-weights rows nodes scratch heads so t = (t ≤ length thresholds) × (Same row-conditions₀ row-weights₀ rows₀ nodes₀ scratch₀ heads₀ row-conditions row-weights rows nodes scratch heads)
+Inv-loop conditions weights thresholds row-conditions₀ row-weights₀ rows₀ nodes₀ scratch₀ heads₀ so₀ t₀ row-conditions row-weights rows nodes scratch heads so t =
+    (t ≤ length thresholds) × (Same row-conditions₀ row-weights₀ rows₀ nodes₀ scratch₀ heads₀ row-conditions row-weights rows nodes scratch heads)
     × (Placing (rawLists conditions weights thresholds) t so row-conditions row-weights scratch heads)
     × (rows ≡ over (rowEnds (rawLists conditions weights thresholds) t) rows₀) × (nodes ≡ nodesTo (rawLists conditions weights thresholds) nodes₀ t)
 
 abbrev μ-loop : tie.MeasureT-loop
 μ-loop conditions weights thresholds row-conditions₀ row-weights₀ rows₀ nodes₀ scratch₀ heads₀ so₀ t₀ row-conditions row-weights rows nodes scratch heads so t = length thresholds - t
+
+-- Ways back to earlier places.
+
+abbrev start-of : tie.At-loop Inv-loop μ-loop → tie.Start Inv-loop μ-loop
+start-of p = p .before .before .before .before .before .before .before
+
+abbrev in-loop-of : tie.After-place-one-arg6 Inv-loop μ-loop → tie.In-loop Inv-loop μ-loop
+in-loop-of p = p .before .before .before .before .before .before
+
+abbrev place-one-of : tie.After-slice-known8 Inv-loop μ-loop → tie.After-place-one Inv-loop μ-loop
+place-one-of p = p .before .before .before .before .before .before .before .before .before .before
 
 loop-holds : tie.Need-loop-holds Inv-loop μ-loop
 loop-holds c = let g = c .before .before .before .before .before .before .args in
@@ -32,37 +44,34 @@ loop-holds c = let g = c .before .before .before .before .before .before .args i
     )
 
 place-one-requires : tie.Need-place-one-requires Inv-loop μ-loop
-place-one-requires c κs = let g = c .before .before .before .before .before .before .before .before .before .before .before .before .before .before .args in
-    let p = c .before .before .before .before .before .before .before .before .before .before .before .before .before .before .pre in
-    let w = c .before .before .before .before .before .before .before .loop in
+place-one-requires c κs = let g = start-of (in-loop-of c .before) .args in
+    let p = start-of (in-loop-of c .before) .pre in
+    let w = in-loop-of c .before .loop in
     let r = rawLists (g .raw-conditions .now) (g .raw-weights .now) (g .thresholds .now) in
     let k = w .inv .1 in
     let n = k .nodes in
-    let h = p .1 (w .t) (c .before .before .before .before .before .before .loop-test .taken) in (
+    let h = p .1 (w .t) (in-loop-of c .loop-test .taken) in (
       ready-by r (g .row-conditions .now) (g .row-weights .now) (g .rows .now) (g .scratch .now) (w .row-conditions) (w .row-weights) (w .rows) (w .scratch)
           (k .row-conditions) (k .row-weights) (k .rows) (k .scratch) (p .0),
-      c .before .before .before .before .before .before .loop-test .taken,
+      in-loop-of c .loop-test .taken,
       omega arith,
       w .inv .2,
     )
 
 add-t : tie.Need-add-t Inv-loop μ-loop
 add-t c =
-    let loop-test = c .before .before .before .before .before .before .before .before .before .before .before .before .before .before .before .before .before in
-    let s = loop-test .before .before .before .before .before .before .before .before in
+    let loop-test = in-loop-of (place-one-of c .before) in
+    let s = start-of (loop-test .before) in
     let h = loop-test .loop-test .taken in
     let many = s .pre .0 .lists .many in
     record { fits = omega arith }
 
-loop-less : tie.Need-loop-less Inv-loop μ-loop
-loop-less c = search needs
-
 loop-again : tie.Need-loop-again Inv-loop μ-loop
 loop-again c =
-    let place-one = c .before .before .before .before .before .before .before .before .before .before in
-    let loop-test = place-one .before .before .before .before .before .before .before in
+    let place-one = place-one-of c in
+    let loop-test = in-loop-of (place-one .before) in
     let loop = loop-test .before in
-    let s′ = loop .before .before .before .before .before .before .before in
+    let s′ = start-of loop in
     let g = s′ .args in
     let p = s′ .pre in
     let w = loop .loop in
@@ -106,7 +115,7 @@ same-length-6 c = c .before .loop .inv .1 .heads
 
 returns : tie.Need-returns Inv-loop μ-loop
 returns c =
-    let s = c .before .before .before .before .before .before .before .before in
+    let s = start-of (c .before) in
     let g = s .args in
     let w = c .before .loop in
     let r = rawLists (g .raw-conditions .now) (g .raw-weights .now) (g .thresholds .now) in
@@ -124,7 +133,7 @@ place-rows-spec =
     loop-holds
     place-one-requires
     add-t
-    loop-less
+    (λ c. search needs)
     loop-again
     same-length
     same-length-2

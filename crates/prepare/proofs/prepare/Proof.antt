@@ -7,8 +7,22 @@ use mathlib.Core.Path.{_∙_}
 use Rattle.prepare.proofs.prepare.Statement.{statement}
 use Rattle.prepare.proofs.prepare.Tie as tie
 
+-- Ways back to earlier places.
+
+abbrev start-of : tie.After-order-keys-arg2 → tie.Start
+start-of p = p .before .before .before .before .before .before .before .before
+
+abbrev order-keys-of : tie.After-place-in-arg6 → tie.After-order-keys
+order-keys-of p = p .before .before .before .before .before .before .before .before .before .before
+
+abbrev place-in-of : tie.After-guards-in-arg5 → tie.After-place-in
+place-in-of p = p .before .before .before .before .before .before .before .before .before .before .before .before .before .before .before
+
+abbrev guards-in-of : tie.After-edges-in-arg5 → tie.After-guards-in
+guards-in-of p = p .before .before .before .before .before .before .before .before .before .before .before
+
 order-keys-requires : tie.Need-order-keys-requires
-order-keys-requires c κs = let p = c .before .before .before .before .before .before .before .before .pre in
+order-keys-requires c κs = let p = start-of c .pre in
     let e = p .0 .even in
     let n = p .0 .lists .many in
     let w = p .1 .spare in
@@ -16,18 +30,18 @@ order-keys-requires c κs = let p = c .before .before .before .before .before .b
     (omega arith, p .0 .bounded, omega arith, omega arith, p .1 .weights-clear)
 
 place-in-requires : tie.Need-place-in-requires
-place-in-requires c κs = let g = c .before .before .before .before .before .before .before .before .before .before .before .before .before .before .before .before .before .before .before .args in
-    let p = c .before .before .before .before .before .before .before .before .before .before .before .before .before .before .before .before .before .before .before .pre in
+place-in-requires c κs = let g = start-of (order-keys-of c .before) .args in
+    let p = start-of (order-keys-of c .before) .pre in
     let r = rawLists (g .raw-conditions .now) (g .raw-weights .now) (g .thresholds .now) in
     let b = built (heldRows (g .row-conditions .now) (g .row-weights .now) (g .rows .now) (g .guard-bounds .now) (g .guard-nodes .now)) (g .nodes .now) (g .edges .now) [] in
-    let o = c .before .before .before .before .before .before .before .before .before .before .order-keys .ensures in
+    let o = order-keys-of c .order-keys .ensures in
     opened r (g .bounds .now) b (g .scratch .now) (p .0) (p .1) _ _ (o .0) (o .1)
 
 guards-in-requires : tie.Need-guards-in-requires
 guards-in-requires c κs =
-    let place-in = c .before .before .before .before .before .before .before .before .before .before .before .before .before .before .before in
-    let order-keys = place-in .before .before .before .before .before .before .before .before .before .before .before in
-    let s = order-keys .before .before .before .before .before .before .before .before .before in
+    let place-in = place-in-of c in
+    let order-keys = order-keys-of (place-in .before) in
+    let s = start-of (order-keys .before) in
     let g = s .args in
     let p = s .pre in
     let r = rawLists (g .raw-conditions .now) (g .raw-weights .now) (g .thresholds .now) in
@@ -38,10 +52,10 @@ guards-in-requires c κs =
 
 edges-in-requires : tie.Need-edges-in-requires
 edges-in-requires c κs =
-    let guards-in = c .before .before .before .before .before .before .before .before .before .before .before in
-    let place-in = guards-in .before .before .before .before .before .before .before .before .before .before .before .before .before .before .before .before in
-    let order-keys = place-in .before .before .before .before .before .before .before .before .before .before .before in
-    let s = order-keys .before .before .before .before .before .before .before .before .before in
+    let guards-in = guards-in-of c in
+    let place-in = place-in-of (guards-in .before) in
+    let order-keys = order-keys-of (place-in .before) in
+    let s = start-of (order-keys .before) in
     let g = s .args in
     let p = s .pre in
     let r = rawLists (g .raw-conditions .now) (g .raw-weights .now) (g .thresholds .now) in
@@ -53,34 +67,34 @@ edges-in-requires c κs =
 
 same-length : tie.Need-same-length
 same-length c =
-    let place-in = c .before .before .before .before .before .before .before .before .before .before .before .before .before .before .before .before .before .before .before .before .before .before .before .before .before .before .before .before .before .before in
+    let place-in = place-in-of (guards-in-of (c .before .before .before) .before) in
     place-in .place-in .kept .1 .1 .1 .0
 
 same-length-2 : tie.Need-same-length-2
 same-length-2 c =
-    let place-in = c .before .before .before .before .before .before .before .before .before .before .before .before .before .before .before .before .before .before .before .before .before .before .before .before .before .before .before .before .before .before in
-    let order-keys = place-in .before .before .before .before .before .before .before .before .before .before .before in
+    let place-in = place-in-of (guards-in-of (c .before .before .before) .before) in
+    let order-keys = order-keys-of (place-in .before) in
     place-in .place-in .kept .1 .1 .1 .1 .0 ∙ order-keys .order-keys .kept .1 .0
 
 same-length-3 : tie.Need-same-length-3
 same-length-3 c =
-    let guards-in = c .before .before .before .before .before .before .before .before .before .before .before .before .before .before in
-    let place-in = guards-in .before .before .before .before .before .before .before .before .before .before .before .before .before .before .before .before in
+    let guards-in = guards-in-of (c .before .before .before) in
+    let place-in = place-in-of (guards-in .before) in
     guards-in .guards-in .kept .1 .1 .1 .1 .0 ∙ place-in .place-in .kept .1 .1 .1 .1 .1 .0
 
 same-length-4 : tie.Need-same-length-4
-same-length-4 c = c .before .before .before .before .before .before .before .before .before .before .before .before .before .before .guards-in .kept .1 .1 .1 .1 .1 .0
+same-length-4 c = guards-in-of (c .before .before .before) .guards-in .kept .1 .1 .1 .1 .1 .0
 
 same-length-5 : tie.Need-same-length-5
 same-length-5 c =
-    let guards-in = c .before .before .before .before .before .before .before .before .before .before .before .before .before .before in
-    let place-in = guards-in .before .before .before .before .before .before .before .before .before .before .before .before .before .before .before .before in
+    let guards-in = guards-in-of (c .before .before .before) in
+    let place-in = place-in-of (guards-in .before) in
     guards-in .guards-in .kept .1 .1 .1 .1 .1 .1 .0 ∙ place-in .place-in .kept .1 .1 .1 .1 .1 .1 .1 .1 .0
 
 same-length-6 : tie.Need-same-length-6
 same-length-6 c =
     let edges-in = c .before .before in
-    let place-in = edges-in .before .before .before .before .before .before .before .before .before .before .before .before .before .before .before .before .before .before .before .before .before .before .before .before .before .before .before .before in
+    let place-in = place-in-of (guards-in-of (edges-in .before) .before) in
     edges-in .edges-in .kept .1 .1 .1 .1 .1 .0 ∙ place-in .place-in .kept .1 .1 .1 .1 .1 .1 .0
 
 same-length-7 : tie.Need-same-length-7
@@ -88,18 +102,18 @@ same-length-7 c = c .before .before .edges-in .kept .1 .1 .1 .1 .1 .1 .0
 
 same-length-8 : tie.Need-same-length-8
 same-length-8 c =
-    let guards-in = c .before .before .before .before .before .before .before .before .before .before .before .before .before .before in
-    let place-in = guards-in .before .before .before .before .before .before .before .before .before .before .before .before .before .before .before .before in
-    let order-keys = place-in .before .before .before .before .before .before .before .before .before .before .before in
+    let guards-in = guards-in-of (c .before .before .before) in
+    let place-in = place-in-of (guards-in .before) in
+    let order-keys = order-keys-of (place-in .before) in
     guards-in .guards-in .kept .1 .1 .1 .1 .1 .1 .1 .0 ∙ place-in .place-in .kept .1 .1 .1 .1 .1 .1 .1 .0 ∙ order-keys .order-keys .kept .1 .1 .0
 
 returns : tie.Need-returns
 returns c =
     let edges-in = c .before .before in
-    let guards-in = edges-in .before .before .before .before .before .before .before .before .before .before .before .before in
-    let place-in = guards-in .before .before .before .before .before .before .before .before .before .before .before .before .before .before .before .before in
-    let order-keys = place-in .before .before .before .before .before .before .before .before .before .before .before in
-    let s = order-keys .before .before .before .before .before .before .before .before .before in
+    let guards-in = guards-in-of (edges-in .before) in
+    let place-in = place-in-of (guards-in .before) in
+    let order-keys = order-keys-of (place-in .before) in
+    let s = start-of (order-keys .before) in
     let g = s .args in
     let p = s .pre in
     let r = rawLists (g .raw-conditions .now) (g .raw-weights .now) (g .thresholds .now) in

@@ -1,9 +1,7 @@
 -- `propagate::false_terms` meets its contract: nothing is forced, or the scan of the terms below the cutoff's difference.
-use Prim.Native.Nat.{_+_}
 use native.Mathlib.Omega.{arith}
 use mathlib.Core.Path.{_≡_, sym, ap}
 use mathlib.Core.Bool.{false}
-use lib.ListN.{length}
 use lib.IntN.{ℤ, _-ℤ_}
 use lib.Signed.{mag}
 use mir.Syntax.{w64}
@@ -13,7 +11,6 @@ use borrow.Author.Needs.{needs}
 use Rattle.signed.specs.SignedLaws.{sub-sfits}
 use Rattle.numeric.specs.Slices.{terms}
 use Rattle.numeric.specs.TermsLaws.{length-terms}
-use Rattle.state.specs.declared.Upper.{Upper}
 use Rattle.state.specs.State.{limit, limited}
 use Rattle.queues.specs.Queue.{queue}
 use Rattle.queues.specs.Marks.{marks}
@@ -23,16 +20,24 @@ use Rattle.propagate.specs.RowLaws.{false-none, false-forced, forced-wit
 use Rattle.propagate.proofs.false_terms.Statement.{statement}
 use Rattle.propagate.proofs.false_terms.Tie as tie
 
-enum-told : tie.Need-enum-told
-enum-told c = search needs
+-- Ways back to earlier places.
 
-enum-known-upper : tie.Need-enum-known-upper
-enum-known-upper c = search needs
+abbrev start-of : tie.After-enum-told → tie.Start
+start-of p = p .before .before .before .before .before .before .before .before
+
+abbrev start-of-upper : tie.After-upper → tie.Start
+start-of-upper p = p .before .before .before .before .before .before .before .before
+
+abbrev upper-of : tie.After-struct-known → tie.After-upper
+upper-of p = p .before .before .before .before .before .before .before .before .before .before .before .before
+
+abbrev forced-terms-of : tie.After-struct-known → tie.After-forced-terms
+forced-terms-of p = p .before .before .before .before .before .before .before
 
 sub-t19 : tie.Need-sub-t19
 sub-t19 c =
-    let a = c .before .before .before .before .before .before .before .before .before .args in
-    let p = c .before .before .before .before .before .before .before .before .before .pre in
+    let a = start-of-upper (c .before) .args in
+    let p = start-of-upper (c .before) .pre in
     let u = c .before .upper .given in
     let v = u .0 .0 in
     let l : limit (a .state .upper) ≡ v = ap limit (u .1) in
@@ -40,14 +45,11 @@ sub-t19 c =
     let hk : toZ w64 (ofZ w64 (a .state .known)) ≡ a .state .known = signed (a .state .known) (p .1 .known) in
     simp (hu, hk) (sub-sfits v (a .state .known) (omega (arith, p .1 .upper, p .1 .known, ap mag l)))
 
-forced-terms-requires : tie.Need-forced-terms-requires
-forced-terms-requires c κs = search needs
-
 add-with-terms : tie.Need-add-with-terms
 add-with-terms c =
-    let a = c .before .before .before .before .before .before .before .before .before .before .before .before .before .before .before .before .before .before .before .before .args in
-    let p = c .before .before .before .before .before .before .before .before .before .before .before .before .before .before .before .before .before .before .before .before .pre in
-    let u = c .before .before .before .before .before .before .before .before .before .before .before .before .upper .given in
+    let a = start-of-upper (upper-of c) .args in
+    let p = start-of-upper (upper-of c) .pre in
+    let u = upper-of c .upper .given in
     let v = u .0 .0 in
     let l : limit (a .state .upper) ≡ v = ap limit (u .1) in
     let hu : toZ w64 (ofZ w64 v) ≡ v = signed v (omega (arith, p .1 .upper, ap mag l)) in
@@ -56,36 +58,24 @@ add-with-terms c =
     let z = toZ w64 (ofZ w64 (toZ w64 (ofZ w64 v) -ℤ toZ w64 (ofZ w64 (a .state .known)))) in
     omega (
       arith,
-      c .before .before .before .before .before .before .before .before .before .before .before .before .before .before .before .before .before .before .before .before .good .1 .0,
-      c .before .before .before .before .before .before .before .before .before .before .before .before .before .before .before .before .before .before .before .before .good .1 .1 .0,
+      start-of-upper (upper-of c) .good .1 .0,
+      start-of-upper (upper-of c) .good .1 .1 .0,
       forced-within false (light (cut false z)) (terms (a .conditions .now) (a .weights .now)) (a .state .«false_term») m,
-      ap (λ (x : Scanned). x .passed) (c .before .before .before .before .before .before .before .forced-terms .ensures),
+      ap (λ (x : Scanned). x .passed) (forced-terms-of c .forced-terms .ensures),
       length-terms (a .conditions .now) (a .weights .now),
     )
 
-with-terms-requires : tie.Need-with-terms-requires
-with-terms-requires c κs = search needs
-
 returns : tie.Need-returns
 returns c =
-    let a = c .before .before .before .before .before .before .before .before .args in
+    let a = start-of c .args in
     false-none (terms (a .conditions .now) (a .weights .now)) (a .state) (marks (a .sure .now) (a .never .now) (queue (a .node-queue .now) (a .ring))) (ap limited (c .enum-told .given .1))
-
-same-length : tie.Need-same-length
-same-length c = search needs
-
-same-length-2 : tie.Need-same-length-2
-same-length-2 c = search needs
-
-same-length-3 : tie.Need-same-length-3
-same-length-3 c = search needs
 
 returns-2 : tie.Need-returns-2
 returns-2 c =
-    let a = c .before .before .before .before .before .before .before .before .before .before .before .before .before .before .before .before .before .before .before .before .before .before .args in
-    let p = c .before .before .before .before .before .before .before .before .before .before .before .before .before .before .before .before .before .before .before .before .before .before .pre in
-    let f = c .before .before .before .before .before .before .before .before .before .forced-terms in
-    let u = c .before .before .before .before .before .before .before .before .before .before .before .before .before .before .upper .given in
+    let a = start-of-upper (upper-of (c .before .before)) .args in
+    let p = start-of-upper (upper-of (c .before .before)) .pre in
+    let f = forced-terms-of (c .before .before) .forced-terms in
+    let u = upper-of (c .before .before) .upper .given in
     let v = u .0 .0 in
     let l : limit (a .state .upper) ≡ v = ap limit (u .1) in
     let hu : toZ w64 (ofZ w64 v) ≡ v = signed v (omega (arith, p .1 .upper, ap mag l)) in
@@ -101,14 +91,11 @@ pub false-terms-spec : {M : Type 1} → statement M
 false-terms-spec =
     tie.close
     (tie.spec
-    enum-told
-    enum-known-upper
+    (λ c. search needs) (λ c. search needs)
     sub-t19
-    forced-terms-requires
+    (λ c κs. search needs)
     add-with-terms
-    with-terms-requires
+    (λ c κs. search needs)
     returns
-    same-length
-    same-length-2
-    same-length-3
+    (λ c. search needs) (λ c. search needs) (λ c. search needs)
     returns-2)

@@ -1,17 +1,11 @@
 -- `propagate::guard_state` meets its contract.
-use mathlib.Core.Path.{_≡_, sym, ap, _∙_}
+use mathlib.Core.Path.{_≡_, sym, _∙_}
 use mir.Syntax.{w64}
 use mir.Val.{toZ, ofZ}
 use borrow.Author.Needs.{needs}
 use Rattle.propagate.specs.ToldLaws.{guard-raises, guard-reached, guard-lowers, guard-limited}
 use Rattle.propagate.proofs.guard_state.Statement.{statement}
 use Rattle.propagate.proofs.guard_state.Tie as tie
-
-needs-lower-requires : tie.Need-needs-lower-requires
-needs-lower-requires c κs = search needs
-
-tighten-requires : tie.Need-tighten-requires
-tighten-requires c κs = search needs
 
 returns : tie.Need-returns
 returns c =
@@ -26,17 +20,11 @@ returns-2 c =
     let hb : toZ w64 (ofZ w64 (a .bound)) ≡ a .bound = search needs in
     guard-reached (a .state) (a .value) (a .bound) (c .before .before .if1 .taken) (sym (simp hb at (c .before .needs-lower .ensures)) ∙ c .if2 .left)
 
-upper-at-most-requires : tie.Need-upper-at-most-requires
-upper-at-most-requires c κs = search needs
-
 returns-3 : tie.Need-returns-3
 returns-3 c =
     let a = c .before .before .before .args in
     let hb : toZ w64 (ofZ w64 (a .bound)) ≡ a .bound = search needs in
     guard-limited (a .state) (a .value) (a .bound) (c .before .before .if1 .left) (sym (simp hb at (c .before .upper-at-most .ensures)) ∙ c .if3 .taken)
-
-tighten-requires-2 : tie.Need-tighten-requires-2
-tighten-requires-2 c κs = search needs
 
 returns-4 : tie.Need-returns-4
 returns-4 c =
@@ -47,4 +35,4 @@ returns-4 c =
 
 pub guard-state-spec : {M : Type 1} → statement M
 guard-state-spec =
-    tie.close (tie.spec needs-lower-requires tighten-requires returns returns-2 upper-at-most-requires returns-3 tighten-requires-2 returns-4)
+    tie.close (tie.spec (λ c κs. search needs) (λ c κs. search needs) returns returns-2 (λ c κs. search needs) returns-3 (λ c κs. search needs) returns-4)

@@ -7,6 +7,17 @@ use borrow.Author.Needs.{needs}
 use Rattle.propagate.proofs.guard_turn.Statement.{statement}
 use Rattle.propagate.proofs.guard_turn.Tie as tie
 
+-- Ways back to earlier places.
+
+abbrev start-of : tie.Else1 → tie.Start
+start-of p = p .before .before .before .before
+
+abbrev else1-of : tie.After-decide → tie.Else1
+else1-of p = p .before .before .before .before .before
+
+abbrev decide-of : tie.After-passed-turn → tie.After-decide
+decide-of p = p .before .before .before .before .before .before .before
+
 returns : tie.Need-returns
 returns c =
     let a = c .before .before .before .before .args in
@@ -15,29 +26,17 @@ returns c =
 
 decide-requires : tie.Need-decide-requires
 decide-requires c κs =
-    let p = c .before .before .before .before .before .before .before .before .pre in
+    let p = start-of (c .before .before .before .before) .pre in
     (p .0 .held, p .1, search needs, search needs)
-
-passed-turn-requires : tie.Need-passed-turn-requires
-passed-turn-requires c κs = search needs
-
-same-length : tie.Need-same-length
-same-length c = search needs
-
-same-length-2 : tie.Need-same-length-2
-same-length-2 c = search needs
-
-same-length-3 : tie.Need-same-length-3
-same-length-3 c = search needs
 
 returns-2 : tie.Need-returns-2
 returns-2 c =
-    let a = c .before .before .before .before .before .before .before .before .before .before .before .before .before .before .before .before .args in
-    let d = c .before .before .before .before .before .before .before .decide in
+    let a = start-of (else1-of (decide-of c)) .args in
+    let d = decide-of c .decide in
     let t = c .passed-turn in
     guard-passed (a .value) (a .waits) (marks (a .sure .now) (a .never .now) (queue (a .node-queue .now) (a .scan .ring))) (a .node) (a .scan .passed) (a .scan .step)
     (d .last .1 .0) (d .last .1 .1 .0) (d .last .1 .1 .1 .0) (d .result .ring) (t .result .scan .ring) (d .result .step) (t .result .scan .passed) (t .result .scan .step) (t .result .ends)
-    (t .ensures .1) (t .ensures .0) (c .before .before .before .before .before .before .before .before .before .before .before .before .if1 .left) (d .ensures)
+    (t .ensures .1) (t .ensures .0) (else1-of (decide-of c) .if1 .left) (d .ensures)
 
 pub guard-turn-spec : {M : Type 1} → statement M
 guard-turn-spec =
@@ -45,8 +44,5 @@ guard-turn-spec =
     (tie.spec
     returns
     decide-requires
-    passed-turn-requires
-    same-length
-    same-length-2
-    same-length-3
+    (λ c κs. search needs) (λ c. search needs) (λ c. search needs) (λ c. search needs)
     returns-2)

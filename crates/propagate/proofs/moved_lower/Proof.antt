@@ -1,17 +1,11 @@
 -- `propagate::moved_lower` meets its contract.
-use mathlib.Core.Path.{_≡_, sym, ap, _∙_}
+use mathlib.Core.Path.{_≡_, sym, _∙_}
 use mir.Syntax.{w64}
 use mir.Val.{toZ, ofZ}
 use borrow.Author.Needs.{needs}
 use Rattle.propagate.specs.ToldLaws.{lower-moves, lower-stays, lower-not}
 use Rattle.propagate.proofs.moved_lower.Statement.{statement}
 use Rattle.propagate.proofs.moved_lower.Tie as tie
-
-needs-lower-requires : tie.Need-needs-lower-requires
-needs-lower-requires c κs = search needs
-
-tighten-requires : tie.Need-tighten-requires
-tighten-requires c κs = search needs
 
 returns : tie.Need-returns
 returns c =
@@ -31,4 +25,4 @@ returns-3 c = let a = c .before .before .args in lower-not (a .source) (a .state
 
 pub moved-lower-spec : {M : Type 1} → statement M
 moved-lower-spec =
-    tie.close (tie.spec needs-lower-requires tighten-requires returns returns-2 returns-3)
+    tie.close (tie.spec (λ c κs. search needs) (λ c κs. search needs) returns returns-2 returns-3)

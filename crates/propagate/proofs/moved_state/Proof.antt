@@ -6,16 +6,10 @@ use Rattle.propagate.specs.Told.{movedUpper}
 use Rattle.propagate.proofs.moved_state.Statement.{statement}
 use Rattle.propagate.proofs.moved_state.Tie as tie
 
-moved-lower-requires : tie.Need-moved-lower-requires
-moved-lower-requires c κs = search needs
-
-moved-upper-requires : tie.Need-moved-upper-requires
-moved-upper-requires c κs = search needs
-
 returns : tie.Need-returns
 returns c =
     let a = c .before .before .args in
     c .moved-upper .ensures ∙ ap (λ (t : Tightened). movedUpper (a .source) t (a .from) (a .to)) (c .before .moved-lower .ensures)
 
 pub moved-state-spec : {M : Type 1} → statement M
-moved-state-spec = tie.close (tie.spec moved-lower-requires moved-upper-requires returns)
+moved-state-spec = tie.close (tie.spec (λ c κs. search needs) (λ c κs. search needs) returns)

@@ -1,5 +1,5 @@
 -- `propagate::never_waits` meets its contract: both tests of the definition, in turn.
-use mathlib.Core.Path.{_≡_, sym, ap, _∙_}
+use mathlib.Core.Path.{_≡_, ap}
 use mathlib.Core.Bool.{not}
 use mir.Syntax.{w64}
 use mir.Val.{toZ, ofZ}
@@ -16,9 +16,6 @@ returns c =
     let hp : toZ w64 (ofZ w64 (a .state .possible)) ≡ a .state .possible = search needs in
     simp (ltZ-nle (a .state .possible) (a .bound) (simp (hp, hb) at (c .if1 .taken)))
 
-upper-at-most-requires : tie.Need-upper-at-most-requires
-upper-at-most-requires c κs = search needs
-
 returns-2 : tie.Need-returns-2
 returns-2 c =
     let a = c .before .before .before .args in
@@ -28,4 +25,4 @@ returns-2 c =
     simp (nlt-leZ (a .state .possible) (a .bound) (simp (hp, hb) at (c .before .if1 .left))) (ap not u)
 
 pub never-waits-spec : {M : Type 1} → statement M
-never-waits-spec = tie.close (tie.spec returns upper-at-most-requires returns-2)
+never-waits-spec = tie.close (tie.spec returns (λ c κs. search needs) returns-2)

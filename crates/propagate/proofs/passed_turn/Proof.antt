@@ -11,19 +11,10 @@ use borrow.Author.Needs.{needs}
 use Rattle.propagate.proofs.passed_turn.Statement.{statement}
 use Rattle.propagate.proofs.passed_turn.Tie as tie
 
-add-passed : tie.Need-add-passed
-add-passed c = search needs
-
-contradicts-requires : tie.Need-contradicts-requires
-contradicts-requires c κs = search needs
-
 returns : tie.Need-returns
 returns c =
     let a = c .before .before .before .before .args in
     (λ m n. sym (turn-stops (decided m (a .made .step)) (scanned (a .scan .passed) n (a .scan .step)) (sym (c .before .contradicts .ensures) ∙ c .if1 .taken)), refl)
-
-join-requires : tie.Need-join-requires
-join-requires c κs = search needs
 
 returns-2 : tie.Need-returns-2
 returns-2 c =
@@ -35,4 +26,4 @@ returns-2 c =
 
 pub passed-turn-spec : {M : Type 1} → statement M
 passed-turn-spec =
-    tie.close (tie.spec add-passed contradicts-requires returns join-requires returns-2)
+    tie.close (tie.spec (λ c. search needs) (λ c κs. search needs) returns (λ c κs. search needs) returns-2)

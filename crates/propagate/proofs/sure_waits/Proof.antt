@@ -8,9 +8,6 @@ use borrow.Author.Needs.{needs}
 use Rattle.propagate.proofs.sure_waits.Statement.{statement}
 use Rattle.propagate.proofs.sure_waits.Tie as tie
 
-reached-requires : tie.Need-reached-requires
-reached-requires c κs = search needs
-
 returns : tie.Need-returns
 returns c =
     let a = c .before .args in
@@ -19,4 +16,4 @@ returns c =
     simp (hr, hb) (ap (λ (z : ℤ). ltZ z (a .bound)) (c .reached .ensures))
 
 pub sure-waits-spec : {M : Type 1} → statement M
-sure-waits-spec = tie.close (tie.spec reached-requires returns)
+sure-waits-spec = tie.close (tie.spec (λ c κs. search needs) returns)

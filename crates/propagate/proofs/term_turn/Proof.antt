@@ -2,28 +2,24 @@
 use mathlib.Core.Path.{refl, sym, _∙_}
 use Rattle.state.specs.declared.Step.the-variants.{Unchanged}
 use Rattle.queues.specs.Queue.{queue}
-use Rattle.queues.specs.Marks.{marks, decide}
+use Rattle.queues.specs.Marks.{marks}
 use Rattle.propagate.specs.Scan.{scanned}
 use Rattle.propagate.specs.ScanLaws.{term-passed, term-free}
 use borrow.Author.Needs.{needs}
 use Rattle.propagate.proofs.term_turn.Statement.{statement}
 use Rattle.propagate.proofs.term_turn.Tie as tie
 
-decided-requires : tie.Need-decided-requires
-decided-requires c κs = search needs
+-- Ways back to earlier places.
 
-passed-turn-requires : tie.Need-passed-turn-requires
-passed-turn-requires c κs = search needs
+abbrev start-of : tie.After-decided → tie.Start
+start-of p = p .before .before .before .before .before .before .before
 
-same-length : tie.Need-same-length
-same-length c = search needs
-
-same-length-2 : tie.Need-same-length-2
-same-length-2 c = search needs
+abbrev else1-of : tie.After-slice-known6 → tie.Else1
+else1-of p = p .before .before .before .before .before .before .before .before .before .before
 
 returns : tie.Need-returns
 returns c =
-    let a = c .before .before .before .before .before .before .before .before .before .args in
+    let a = start-of (c .before .before) .args in
     let t = c .passed-turn in
     let m = marks (a .sure .now) (a .never .now) (queue (a .node-queue .now) (a .scan .ring)) in
     term-passed (a .value) (a .waits) m (a .node) (a .scan .passed) (a .scan .step)
@@ -31,35 +27,21 @@ returns c =
     (t .ensures .1) (t .ensures .0) refl refl (sym (c .before .before .decided .ensures) ∙ c .before .if1 .taken)
 
 guard-turn-requires : tie.Need-guard-turn-requires
-guard-turn-requires c κs = c .before .before .before .before .before .before .before .before .before .before .before .pre
-
-same-length-3 : tie.Need-same-length-3
-same-length-3 c = search needs
-
-same-length-4 : tie.Need-same-length-4
-same-length-4 c = search needs
-
-same-length-5 : tie.Need-same-length-5
-same-length-5 c = search needs
+guard-turn-requires c κs = start-of (c .before .before .before .before) .pre
 
 returns-2 : tie.Need-returns-2
 returns-2 c =
-    let a = c .before .before .before .before .before .before .before .before .before .before .before .before .before .before .before .before .before .before .args in
+    let a = start-of (else1-of c .before) .args in
     let m = marks (a .sure .now) (a .never .now) (queue (a .node-queue .now) (a .scan .ring)) in
     c .before .before .before .before .before .before .guard-turn .ensures
-    ∙ term-free (a .value) (a .waits) m (a .node) (scanned (a .scan .passed) m (a .scan .step)) (sym (c .before .before .before .before .before .before .before .before .before .before .before .decided .ensures) ∙ c .before .before .before .before .before .before .before .before .before .before .if1 .left)
+    ∙ term-free (a .value) (a .waits) m (a .node) (scanned (a .scan .passed) m (a .scan .step)) (sym (else1-of c .before .decided .ensures) ∙ else1-of c .if1 .left)
 
 pub term-turn-spec : {M : Type 1} → statement M
 term-turn-spec =
     tie.close
     (tie.spec
-    decided-requires
-    passed-turn-requires
-    same-length
-    same-length-2
+    (λ c κs. search needs) (λ c κs. search needs) (λ c. search needs) (λ c. search needs)
     returns
     guard-turn-requires
-    same-length-3
-    same-length-4
-    same-length-5
+    (λ c. search needs) (λ c. search needs) (λ c. search needs)
     returns-2)

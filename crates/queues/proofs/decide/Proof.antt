@@ -5,63 +5,39 @@ use borrow.Author.Needs.{needs}
 use Rattle.queues.proofs.decide.Statement.{statement}
 use Rattle.queues.proofs.decide.Tie as tie
 
-learn-requires : tie.Need-learn-requires
-learn-requires c κs = search needs
+-- Ways back to earlier places.
 
-wait-requires : tie.Need-wait-requires
-wait-requires c κs = search needs
+abbrev start-of : tie.Else1 → tie.Start
+start-of p = p .before .before .before .before
 
-same-length : tie.Need-same-length
-same-length c = search needs
+abbrev start-of-then1 : tie.Then1 → tie.Start
+start-of-then1 p = p .before .before .before .before
 
-same-length-2 : tie.Need-same-length-2
-same-length-2 c = search needs
+abbrev else1-of : tie.After-slice-known7 → tie.Else1
+else1-of p = p .before .before .before .before .before .before .before .before .before
 
-same-length-3 : tie.Need-same-length-3
-same-length-3 c = search needs
+abbrev then1-of : tie.After-slice-known5 → tie.Then1
+then1-of p = p .before .before .before .before .before .before .before .before .before
 
 returns : tie.Need-returns
 returns c =
-    let a = c .before .before .before .before .before .before .before .before .before .before .before .before .before .args in
+    let a = start-of-then1 (then1-of c) .args in
     let l = c .before .before .before .before .before .before .learn in
     decide-sure (a .sure .now) (a .never .now) (queue (a .node-queue .now) (a .ring)) (a .n) (a .value)
-    (l .last .0) (l .result) (queue (c .before .before .wait .last .0) (c .before .before .wait .result)) (c .before .before .wait .ensures) (c .before .before .before .before .before .before .before .before .before .if1 .taken) (l .ensures .0) (l .ensures .1)
-
-learn-requires-2 : tie.Need-learn-requires-2
-learn-requires-2 c κs = search needs
-
-wait-requires-2 : tie.Need-wait-requires-2
-wait-requires-2 c κs = search needs
-
-same-length-4 : tie.Need-same-length-4
-same-length-4 c = search needs
-
-same-length-5 : tie.Need-same-length-5
-same-length-5 c = search needs
-
-same-length-6 : tie.Need-same-length-6
-same-length-6 c = search needs
+    (l .last .0) (l .result) (queue (c .before .before .wait .last .0) (c .before .before .wait .result)) (c .before .before .wait .ensures) (then1-of c .if1 .taken) (l .ensures .0) (l .ensures .1)
 
 returns-2 : tie.Need-returns-2
 returns-2 c =
-    let a = c .before .before .before .before .before .before .before .before .before .before .before .before .before .args in
+    let a = start-of (else1-of c) .args in
     let l = c .before .before .before .before .before .before .learn2 in
     decide-never (a .sure .now) (a .never .now) (queue (a .node-queue .now) (a .ring)) (a .n) (a .value)
-    (l .last .0) (l .result) (queue (c .before .before .wait2 .last .0) (c .before .before .wait2 .result)) (c .before .before .wait2 .ensures) (c .before .before .before .before .before .before .before .before .before .if1 .left) (l .ensures .0) (l .ensures .1)
+    (l .last .0) (l .result) (queue (c .before .before .wait2 .last .0) (c .before .before .wait2 .result)) (c .before .before .wait2 .ensures) (else1-of c .if1 .left) (l .ensures .0) (l .ensures .1)
 
 pub decide-spec : {M : Type 1} → statement M
 decide-spec =
     tie.close
     (tie.spec
-    learn-requires
-    wait-requires
-    same-length
-    same-length-2
-    same-length-3
+    (λ c κs. search needs) (λ c κs. search needs) (λ c. search needs) (λ c. search needs) (λ c. search needs)
     returns
-    learn-requires-2
-    wait-requires-2
-    same-length-4
-    same-length-5
-    same-length-6
+    (λ c κs. search needs) (λ c κs. search needs) (λ c. search needs) (λ c. search needs) (λ c. search needs)
     returns-2)

@@ -12,29 +12,11 @@ mul-slot c = let a = c .args in search (needs, length-column (a .k) (a .row-queu
 slice-copy-out-slot : tie.Need-slice-copy-out-slot
 slice-copy-out-slot c = let a = c .args in omega (arith, c .pre .2 .head, c .pre .2 .long, length-column (a .k) (a .row-queues .now))
 
-mul-place : tie.Need-mul-place
-mul-place c = search needs
-
-array-read-place : tie.Need-array-read-place
-array-read-place c = search needs
-
-place-requires : tie.Need-place-requires
-place-requires c κs = search needs
-
-add-put : tie.Need-add-put
-add-put c = search needs
-
 put-requires : tie.Need-put-requires
 put-requires c κs =
     let s = c .before .before .before in
     let a = s .args in
     (omega (arith, s .pre .4, column-at (a .k) (a .row-queues .now) (a .ring .head), c .before .place .ensures), omega (arith, s .pre .0, s .pre .1))
-
-popped-requires : tie.Need-popped-requires
-popped-requires c κs = search needs
-
-same-length : tie.Need-same-length
-same-length c = search needs
 
 returns : tie.Need-returns
 returns c =
@@ -53,11 +35,7 @@ next-row-spec =
     (tie.spec
     mul-slot
     slice-copy-out-slot
-    mul-place
-    array-read-place
-    place-requires
-    add-put
+    (λ c. search needs) (λ c. search needs) (λ c κs. search needs) (λ c. search needs)
     put-requires
-    popped-requires
-    same-length
+    (λ c κs. search needs) (λ c. search needs)
     returns)

@@ -8,21 +8,6 @@ use borrow.Author.Needs.{needs}
 use Rattle.queues.proofs.push.Statement.{statement}
 use Rattle.queues.proofs.push.Tie as tie
 
-behind-requires : tie.Need-behind-requires
-behind-requires c κs = search needs
-
-mul-items : tie.Need-mul-items
-mul-items c = search needs
-
-slice-write-items : tie.Need-slice-write-items
-slice-write-items c = search needs
-
-longer-requires : tie.Need-longer-requires
-longer-requires c κs = search needs
-
-same-length : tie.Need-same-length
-same-length c = search needs
-
 returns : tie.Need-returns
 unfolding push
 returns c =
@@ -32,4 +17,4 @@ returns c =
 pub push-spec : {M : Type 1} → statement M
 push-spec =
     tie.close
-    (tie.spec behind-requires mul-items slice-write-items longer-requires same-length returns)
+    (tie.spec (λ c κs. search needs) (λ c. search needs) (λ c. search needs) (λ c κs. search needs) (λ c. search needs) returns)

@@ -10,20 +10,8 @@ use borrow.Author.Needs.{needs}
 use Rattle.records.proofs.i64_at.Statement.{statement}
 use Rattle.records.proofs.i64_at.Tie as tie
 
-u64-at-requires : tie.Need-u64-at-requires
-u64-at-requires c κs = search needs
-
-cast-result : tie.Need-cast-result
-cast-result c = search needs
-
 returns : tie.Need-returns
 returns c = toZ-pos w64 (omega arith) ∙ signed-low (c .before .u64-at .result) (omega arith) ∙ ap (λ (n : ℕ). signed n) (c .before .u64-at .ensures)
-
-sub-below : tie.Need-sub-below
-sub-below c = search needs
-
-cast-below : tie.Need-cast-below
-cast-below c = search needs
 
 sub-result : tie.Need-sub-result
 sub-result c = rw (toZ-pos w64 {n = 18446744073709551615 - c .before .u64-at .result} (omega arith)) (below-fits (c .before .u64-at .result) (omega arith))
@@ -34,4 +22,4 @@ returns-2 c = rw (toZ-pos w64 {n = 18446744073709551615 - c .before .u64-at .res
 pub i64-at-spec : {M : Type 1} → statement M
 i64-at-spec =
     tie.close
-    (tie.spec u64-at-requires cast-result returns sub-below cast-below sub-result returns-2)
+    (tie.spec (λ c κs. search needs) (λ c. search needs) returns (λ c. search needs) (λ c. search needs) sub-result returns-2)

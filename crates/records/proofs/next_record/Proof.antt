@@ -7,17 +7,8 @@ use borrow.Author.Needs.{needs}
 use Rattle.records.proofs.next_record.Statement.{statement}
 use Rattle.records.proofs.next_record.Tie as tie
 
-shared-slice-read-kind : tie.Need-shared-slice-read-kind
-shared-slice-read-kind c = search needs
-
 returns : tie.Need-returns
 returns c = let a = c .before .before .before .args in next-unknown (a .standing) (a .input .now) (a .at) (c .if1 .taken)
-
-body-length-requires : tie.Need-body-length-requires
-body-length-requires c κs = search needs
-
-sub-if2 : tie.Need-sub-if2
-sub-if2 c = search needs
 
 returns-2 : tie.Need-returns-2
 returns-2 c =
@@ -25,12 +16,6 @@ returns-2 c =
     let e = c .before .body-length .ensures in
     let l = c .if2 .taken in
     next-cut (a .standing) (a .input .now) (a .at) (c .before .before .if1 .left) (c .before .before .before .before .before .pre) (omega (arith, e, l))
-
-record-at-requires : tie.Need-record-at-requires
-record-at-requires c κs = search needs
-
-refusal-requires : tie.Need-refusal-requires
-refusal-requires c κs = search needs
 
 returns-3 : tie.Need-returns-3
 returns-3 c =
@@ -60,12 +45,10 @@ pub next-record-spec : {M : Type 1} → statement M
 next-record-spec =
     tie.close
     (tie.spec
-    shared-slice-read-kind
+    (λ c. search needs)
     returns
-    body-length-requires
-    sub-if2
+    (λ c κs. search needs) (λ c. search needs)
     returns-2
-    record-at-requires
-    refusal-requires
+    (λ c κs. search needs) (λ c κs. search needs)
     returns-3
     returns-4)

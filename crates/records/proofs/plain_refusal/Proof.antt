@@ -4,12 +4,9 @@ use borrow.Author.Needs.{needs}
 use Rattle.records.proofs.plain_refusal.Statement.{statement}
 use Rattle.records.proofs.plain_refusal.Tie as tie
 
-first-number-requires : tie.Need-first-number-requires
-first-number-requires c κs = search needs
-
 returns : tie.Need-returns
 unfolding first
 returns c = c .first-number .ensures
 
 pub plain-refusal-spec : {M : Type 1} → statement M
-plain-refusal-spec = tie.close (tie.spec first-number-requires returns)
+plain-refusal-spec = tie.close (tie.spec (λ c κs. search needs) returns)

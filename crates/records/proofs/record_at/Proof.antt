@@ -11,59 +11,29 @@ use borrow.Author.Needs.{needs}
 use Rattle.records.proofs.record_at.Statement.{statement}
 use Rattle.records.proofs.record_at.Tie as tie
 
-shared-slice-read-kind : tie.Need-shared-slice-read-kind
-shared-slice-read-kind c = search needs
-
-add-u16-at : tie.Need-add-u16-at
-add-u16-at c = search needs
-
 u16-at-requires : tie.Need-u16-at-requires
 u16-at-requires c κs = let p = c .before .before .before in omega (arith, room-by (p .args .input .now) (p .args .at) 1 (c .match .keys1) (p .pre))
-
-add-u16-at-2 : tie.Need-add-u16-at-2
-add-u16-at-2 c = search needs
 
 u16-at-requires-2 : tie.Need-u16-at-requires-2
 u16-at-requires-2 c κs = let p = c .before .before .before in omega (arith, room-by (p .args .input .now) (p .args .at) 2 (c .match .keys2) (p .pre))
 
-add-i64-at : tie.Need-add-i64-at
-add-i64-at c = search needs
-
 i64-at-requires : tie.Need-i64-at-requires
 i64-at-requires c κs = let p = c .before .before .before .before in omega (arith, room-by (p .args .input .now) (p .args .at) 2 (c .before .match .keys2) (p .pre))
-
-add-u16-at-3 : tie.Need-add-u16-at-3
-add-u16-at-3 c = search needs
 
 u16-at-requires-3 : tie.Need-u16-at-requires-3
 u16-at-requires-3 c κs = let p = c .before .before .before in omega (arith, room-by (p .args .input .now) (p .args .at) 3 (c .match .keys3) (p .pre))
 
-add-u32-at : tie.Need-add-u32-at
-add-u32-at c = search needs
-
 u32-at-requires : tie.Need-u32-at-requires
 u32-at-requires c κs = let p = c .before .before .before .before in omega (arith, room-by (p .args .input .now) (p .args .at) 3 (c .before .match .keys3) (p .pre))
-
-add-u16-at-4 : tie.Need-add-u16-at-4
-add-u16-at-4 c = search needs
 
 u16-at-requires-4 : tie.Need-u16-at-requires-4
 u16-at-requires-4 c κs = let p = c .before .before .before in omega (arith, room-by (p .args .input .now) (p .args .at) 5 (c .match .keys5) (p .pre))
 
-add-t19 : tie.Need-add-t19
-add-t19 c = search needs
-
 shared-slice-read-t21 : tie.Need-shared-slice-read-t21
 shared-slice-read-t21 c = let p = c .before .before .before .before .before in omega (arith, room-by (p .args .input .now) (p .args .at) 5 (c .before .before .match .keys5) (p .pre))
 
-add-u16-at-5 : tie.Need-add-u16-at-5
-add-u16-at-5 c = search needs
-
 u16-at-requires-5 : tie.Need-u16-at-requires-5
 u16-at-requires-5 c κs = let p = c .before .before .before in omega (arith, room-by (p .args .input .now) (p .args .at) 8 (c .match .keys8) (p .pre))
-
-add-u32-at-2 : tie.Need-add-u32-at-2
-add-u32-at-2 c = search needs
 
 u32-at-requires-2 : tie.Need-u32-at-requires-2
 u32-at-requires-2 c κs = let p = c .before .before .before .before in omega (arith, room-by (p .args .input .now) (p .args .at) 8 (c .before .match .keys8) (p .pre))
@@ -113,24 +83,23 @@ pub record-at-spec : {M : Type 1} → statement M
 record-at-spec =
     tie.close
     (tie.spec
-    shared-slice-read-kind
-    add-u16-at
+    (λ c. search needs) (λ c. search needs)
     u16-at-requires
-    add-u16-at-2
+    (λ c. search needs)
     u16-at-requires-2
-    add-i64-at
+    (λ c. search needs)
     i64-at-requires
-    add-u16-at-3
+    (λ c. search needs)
     u16-at-requires-3
-    add-u32-at
+    (λ c. search needs)
     u32-at-requires
-    add-u16-at-4
+    (λ c. search needs)
     u16-at-requires-4
-    add-t19
+    (λ c. search needs)
     shared-slice-read-t21
-    add-u16-at-5
+    (λ c. search needs)
     u16-at-requires-5
-    add-u32-at-2
+    (λ c. search needs)
     u32-at-requires-2
     returns
     returns-2

@@ -9,77 +9,10 @@ use borrow.Author.Needs.{needs}
 use Rattle.records.proofs.refusal.Statement.{statement}
 use Rattle.records.proofs.refusal.Tie as tie
 
-enum-known-entry : tie.Need-enum-known-entry
-enum-known-entry c = search needs
+-- Ways back to earlier places.
 
-plain-refusal-requires : tie.Need-plain-refusal-requires
-plain-refusal-requires c κs = search needs
-
-enum-known-entry-2 : tie.Need-enum-known-entry-2
-enum-known-entry-2 c = search needs
-
-cast-outside : tie.Need-cast-outside
-cast-outside c = search needs
-
-not-building-requires : tie.Need-not-building-requires
-not-building-requires c κs = search needs
-
-not-rising-requires : tie.Need-not-rising-requires
-not-rising-requires c κs = search needs
-
-bad-bound-requires : tie.Need-bad-bound-requires
-bad-bound-requires c κs = search needs
-
-first-number-requires : tie.Need-first-number-requires
-first-number-requires c κs = search needs
-
-enum-known-entry-3 : tie.Need-enum-known-entry-3
-enum-known-entry-3 c = search needs
-
-term-refusal-requires : tie.Need-term-refusal-requires
-term-refusal-requires c κs = search needs
-
-enum-known-entry-4 : tie.Need-enum-known-entry-4
-enum-known-entry-4 c = search needs
-
-term-refusal-requires-2 : tie.Need-term-refusal-requires-2
-term-refusal-requires-2 c κs = search needs
-
-enum-told : tie.Need-enum-told
-enum-told c = search needs
-
-not-building-requires-2 : tie.Need-not-building-requires-2
-not-building-requires-2 c κs = search needs
-
-plain-refusal-requires-2 : tie.Need-plain-refusal-requires-2
-plain-refusal-requires-2 c κs = search needs
-
-enum-known-entry-5 : tie.Need-enum-known-entry-5
-enum-known-entry-5 c = search needs
-
-cast-outside-2 : tie.Need-cast-outside-2
-cast-outside-2 c = search needs
-
-first-number-requires-2 : tie.Need-first-number-requires-2
-first-number-requires-2 c κs = search needs
-
-enum-told-2 : tie.Need-enum-told-2
-enum-told-2 c = search needs
-
-plain-refusal-requires-3 : tie.Need-plain-refusal-requires-3
-plain-refusal-requires-3 c κs = search needs
-
-enum-told-3 : tie.Need-enum-told-3
-enum-told-3 c = search needs
-
-plain-refusal-requires-4 : tie.Need-plain-refusal-requires-4
-plain-refusal-requires-4 c κs = search needs
-
-enum-told-4 : tie.Need-enum-told-4
-enum-told-4 c = search needs
-
-plain-refusal-requires-5 : tie.Need-plain-refusal-requires-5
-plain-refusal-requires-5 c κs = search needs
+abbrev entry2-of : tie.After-first-number → tie.After-entry2
+entry2-of p = p .before .before .before .before .before .before .before
 
 returns : tie.Need-returns
 unfolding first
@@ -87,8 +20,8 @@ returns c = refused-as (c .before .before .before .before .args .standing) (c .p
 
 returns-2 : tie.Need-returns-2
 returns-2 c =
-    let s = c .before .before .before .before .before .before .before .before .before .args .standing in
-    let e = c .before .before .before .before .before .before .before .entry2 .given in
+    let s = entry2-of c .before .before .args .standing in
+    let e = entry2-of c .entry2 .given in
     let z = e .0 .1 .0 in
     let same : toZ w64 (ofZ w64 z) ≡ z = search needs in
     refused-as s (c .first-number .result) (e .1)
@@ -128,30 +61,11 @@ pub refusal-spec : {M : Type 1} → statement M
 refusal-spec =
     tie.close
     (tie.spec
-    enum-known-entry
-    plain-refusal-requires
-    enum-known-entry-2
-    cast-outside
-    not-building-requires
-    not-rising-requires
-    bad-bound-requires
-    first-number-requires
-    enum-known-entry-3
-    term-refusal-requires
-    enum-known-entry-4
-    term-refusal-requires-2
-    enum-told
-    not-building-requires-2
-    plain-refusal-requires-2
-    enum-known-entry-5
-    cast-outside-2
-    first-number-requires-2
-    enum-told-2
-    plain-refusal-requires-3
-    enum-told-3
-    plain-refusal-requires-4
-    enum-told-4
-    plain-refusal-requires-5
+    (λ c. search needs) (λ c κs. search needs) (λ c. search needs) (λ c. search needs) (λ c κs. search needs)
+    (λ c κs. search needs) (λ c κs. search needs) (λ c κs. search needs) (λ c. search needs) (λ c κs. search needs)
+    (λ c. search needs) (λ c κs. search needs) (λ c. search needs) (λ c κs. search needs) (λ c κs. search needs)
+    (λ c. search needs) (λ c. search needs) (λ c κs. search needs) (λ c. search needs) (λ c κs. search needs) (λ c. search needs)
+    (λ c κs. search needs) (λ c. search needs) (λ c κs. search needs)
     returns
     returns-2
     returns-3

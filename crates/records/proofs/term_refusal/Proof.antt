@@ -4,15 +4,6 @@ use borrow.Author.Needs.{needs}
 use Rattle.records.proofs.term_refusal.Statement.{statement}
 use Rattle.records.proofs.term_refusal.Tie as tie
 
-not-within-requires : tie.Need-not-within-requires
-not-within-requires c κs = search needs
-
-too-many-terms-requires : tie.Need-too-many-terms-requires
-too-many-terms-requires c κs = search needs
-
-first-number-requires : tie.Need-first-number-requires
-first-number-requires c κs = search needs
-
 returns : tie.Need-returns
 returns c =
     let s = c .before .before .before .before .args in
@@ -20,4 +11,4 @@ returns c =
 
 pub term-refusal-spec : {M : Type 1} → statement M
 term-refusal-spec =
-    tie.close (tie.spec not-within-requires too-many-terms-requires first-number-requires returns)
+    tie.close (tie.spec (λ c κs. search needs) (λ c κs. search needs) (λ c κs. search needs) returns)

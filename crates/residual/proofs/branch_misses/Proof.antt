@@ -7,19 +7,10 @@ use Rattle.residual.specs.MissesLaws.{branch-empty, branch-open}
 use Rattle.residual.proofs.branch_misses.Statement.{statement}
 use Rattle.residual.proofs.branch_misses.Tie as tie
 
-larger-requires : tie.Need-larger-requires
-larger-requires c κs = search needs
-
-smaller-requires : tie.Need-smaller-requires
-smaller-requires c κs = search needs
-
 returns : tie.Need-returns
 returns c =
     let g = c .before .before .before .args in
     sym (branch-empty (g .base) (g .maximum) (g .lower) (g .upper) (g .divisor) (search needs))
-
-misses-requires : tie.Need-misses-requires
-misses-requires c κs = search needs
 
 returns-2 : tie.Need-returns-2
 returns-2 c =
@@ -30,4 +21,4 @@ returns-2 c =
 
 pub branch-misses-spec : {M : Type 1} → statement M
 branch-misses-spec =
-    tie.close (tie.spec larger-requires smaller-requires returns misses-requires returns-2)
+    tie.close (tie.spec (λ c κs. search needs) (λ c κs. search needs) returns (λ c κs. search needs) returns-2)

@@ -30,33 +30,29 @@ Inv-loop conditions weights i sure never remaining₀ divisor₀ remaining divis
 abbrev μ-loop : tie.MeasureT-loop
 μ-loop conditions weights i sure never remaining₀ divisor₀ remaining divisor = remaining
 
+-- Ways back to earlier places.
+
+abbrev start-of : tie.At-loop Inv-loop μ-loop → tie.Start Inv-loop μ-loop
+start-of p = p .before .before .before .before .before
+
+abbrev loop-of : tie.After-gcd Inv-loop μ-loop → tie.At-loop Inv-loop μ-loop
+loop-of p = p .before .before .before .before .before .before
+
 loop-holds : tie.Need-loop-holds Inv-loop μ-loop
 loop-holds c =
     let g = c .before .before .before .before .args in
     let p = c .before .before .before .before .pre .0 in
     (omega arith, ap (λ (l : List Term). checkFrom (g .i) (inEither (g .sure .now) (g .never .now)) l 0) (last-all (g .conditions .now) (g .weights .now) (p .same)))
 
-sub-remaining : tie.Need-sub-remaining Inv-loop μ-loop
-sub-remaining c = omega arith
-
-mul-decided : tie.Need-mul-decided Inv-loop μ-loop
-mul-decided c = omega arith
-
-shared-slice-read-decided : tie.Need-shared-slice-read-decided Inv-loop μ-loop
-shared-slice-read-decided c = omega arith
-
 decided-requires : tie.Need-decided-requires Inv-loop μ-loop
 decided-requires c κs =
-    let p = c .before .before .before .before .before .before .before .pre .0 in
+    let p = start-of (c .before .before) .pre .0 in
     (p .below (c .before .before .loop .remaining - 1) (omega arith), p .inSure, p .inNever)
-
-loop-less : tie.Need-loop-less Inv-loop μ-loop
-loop-less c = omega arith
 
 loop-again : tie.Need-loop-again Inv-loop μ-loop
 loop-again c =
     let b = c .before .before .before .before in
-    let g = b .before .before .before .before .before .args in
+    let g = start-of b .args in
     let w = b .loop in (
       omega arith,
       sym
@@ -65,22 +61,13 @@ loop-again c =
           ∙ w .inv .1,
     )
 
-mul-weight : tie.Need-mul-weight Inv-loop μ-loop
-mul-weight c = omega arith
-
-shared-slice-read-weight : tie.Need-shared-slice-read-weight Inv-loop μ-loop
-shared-slice-read-weight c = omega arith
-
-gcd-requires : tie.Need-gcd-requires Inv-loop μ-loop
-gcd-requires c κs = tt
-
 stops-requires : tie.Need-stops-requires Inv-loop μ-loop
-stops-requires c κs = c .before .before .before .before .before .before .before .before .before .before .before .pre .1
+stops-requires c κs = start-of (loop-of c) .pre .1
 
 returns : tie.Need-returns Inv-loop μ-loop
 returns c =
-    let b = c .before .before .before .before .before .before .before .before in
-    let g = b .before .before .before .before .before .args in
+    let b = loop-of (c .before .before) in
+    let g = start-of b .args in
     let w = b .loop in
     let e = c .before .before .before .before in
     sym
@@ -89,13 +76,10 @@ returns c =
     (sym (c .before .stops .ensures) ∙ c .if2 .taken))
     ∙ w .inv .1
 
-loop-less-2 : tie.Need-loop-less-2 Inv-loop μ-loop
-loop-less-2 c = omega arith
-
 loop-again-2 : tie.Need-loop-again-2 Inv-loop μ-loop
 loop-again-2 c =
-    let b = c .before .before .before .before .before .before .before .before in
-    let g = b .before .before .before .before .before .args in
+    let b = loop-of (c .before .before) in
+    let g = start-of b .args in
     let w = b .loop in
     let e = c .before .before .before .before in (
       omega arith,
@@ -109,7 +93,7 @@ loop-again-2 c =
 returns-2 : tie.Need-returns-2 Inv-loop μ-loop
 returns-2 c =
     let b = c .before .before in
-    let g = b .before .before .before .before .before .args in
+    let g = start-of b .args in
     let d = inEither (g .sure .now) (g .never .now) in
     let w = b .loop in
     sym
@@ -117,18 +101,15 @@ returns-2 c =
     ∙ check-end-divisor (g .i) d (w .divisor) (c .if3 .taken))
     ∙ w .inv .1
 
-smaller-requires : tie.Need-smaller-requires Inv-loop μ-loop
-smaller-requires c κs = tt
-
 misses-requires : tie.Need-misses-requires Inv-loop μ-loop
 misses-requires c κs =
-    let p = c .before .before .before .before .before .before .before .before .pre .1 in
+    let p = start-of (c .before .before .before) .pre .1 in
     (p .above, omega (arith, p .inside, c .smaller .ensures))
 
 returns-3 : tie.Need-returns-3 Inv-loop μ-loop
 returns-3 c =
     let b = c .before .before .before .before .before in
-    let g = b .before .before .before .before .before .args in
+    let g = start-of b .args in
     let d = inEither (g .sure .now) (g .never .now) in
     let w = b .loop in
     let z : w .divisor ≡ 0 = omega (arith, c .before .before .before .if3 .left) in
@@ -141,7 +122,7 @@ returns-3 c =
 returns-4 : tie.Need-returns-4 Inv-loop μ-loop
 returns-4 c =
     let b = c .before .before .before .before .before in
-    let g = b .before .before .before .before .before .args in
+    let g = start-of b .args in
     let d = inEither (g .sure .now) (g .never .now) in
     let w = b .loop in
     let z : w .divisor ≡ 0 = omega (arith, c .before .before .before .if3 .left) in
@@ -158,21 +139,17 @@ check-from-spec =
     Inv-loop
     μ-loop
     loop-holds
-    sub-remaining
-    mul-decided
-    shared-slice-read-decided
+    (λ c. omega arith) (λ c. omega arith) (λ c. omega arith)
     decided-requires
-    loop-less
+    (λ c. omega arith)
     loop-again
-    mul-weight
-    shared-slice-read-weight
-    gcd-requires
+    (λ c. omega arith) (λ c. omega arith) (λ c κs. tt)
     stops-requires
     returns
-    loop-less-2
+    (λ c. omega arith)
     loop-again-2
     returns-2
-    smaller-requires
+    (λ c κs. tt)
     misses-requires
     returns-3
     returns-4)

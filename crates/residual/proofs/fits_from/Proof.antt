@@ -23,51 +23,38 @@ Inv-loop conditions weights i sure never unread₀ fitting₀ complement₀ unre
 abbrev μ-loop : tie.MeasureT-loop
 μ-loop conditions weights i sure never unread₀ fitting₀ complement₀ unread fitting complement = unread
 
+-- Ways back to earlier places.
+
+abbrev start-of : tie.At-loop Inv-loop μ-loop → tie.Start Inv-loop μ-loop
+start-of p = p .before .before .before .before .before
+
+abbrev loop-of : tie.After-decided Inv-loop μ-loop → tie.At-loop Inv-loop μ-loop
+loop-of p = p .before .before .before .before .before .before
+
 loop-holds : tie.Need-loop-holds Inv-loop μ-loop
 loop-holds c =
     let g = c .before .before .before .before .args in
     let p = c .before .before .before .before .pre in
     (omega arith, ap (λ (l : List Term). fitsFrom (g .i) (inEither (g .sure .now) (g .never .now)) l false 0) (last-all (g .conditions .now) (g .weights .now) (p .same)))
 
-sub-unread : tie.Need-sub-unread Inv-loop μ-loop
-sub-unread c = omega arith
-
-mul-weight : tie.Need-mul-weight Inv-loop μ-loop
-mul-weight c = omega arith
-
-shared-slice-read-weight : tie.Need-shared-slice-read-weight Inv-loop μ-loop
-shared-slice-read-weight c = omega arith
-
-too-wide-requires : tie.Need-too-wide-requires Inv-loop μ-loop
-too-wide-requires c κs = tt
-
 returns : tie.Need-returns Inv-loop μ-loop
 returns c =
     let w = c .before .before .before .before .loop in
-    let g = c .before .before .before .before .before .before .before .before .before .args in
+    let g = start-of (c .before .before .before .before) .args in
     sym
     (fits-wide (g .i) (inEither (g .sure .now) (g .never .now)) (g .conditions .now) (g .weights .now) (w .unread) (w .fitting) (w .complement) (omega arith) (omega arith) (omega arith)
     (sym (c .before .too-wide .ensures) ∙ c .if1 .taken))
     ∙ w .inv .1
 
-mul-decided : tie.Need-mul-decided Inv-loop μ-loop
-mul-decided c = omega arith
-
-shared-slice-read-decided : tie.Need-shared-slice-read-decided Inv-loop μ-loop
-shared-slice-read-decided c = omega arith
-
 decided-requires : tie.Need-decided-requires Inv-loop μ-loop
 decided-requires c κs =
-    let p = c .before .before .before .before .before .before .before .before .before .before .pre in
+    let p = start-of (c .before .before .before .before .before) .pre in
     (p .below (c .before .before .before .before .before .loop .unread - 1) (omega arith), p .inSure, p .inNever)
-
-loop-less : tie.Need-loop-less Inv-loop μ-loop
-loop-less c = omega arith
 
 loop-again : tie.Need-loop-again Inv-loop μ-loop
 loop-again c =
-    let w = c .before .before .before .before .before .before .before .loop in
-    let g = c .before .before .before .before .before .before .before .before .before .before .before .before .args in
+    let w = loop-of (c .before) .loop in
+    let g = start-of (loop-of (c .before)) .args in
     let e = c .before .before .before in (
       omega arith,
       sym
@@ -76,16 +63,10 @@ loop-again c =
           ∙ w .inv .1,
     )
 
-gcd-requires : tie.Need-gcd-requires Inv-loop μ-loop
-gcd-requires c κs = tt
-
-both-fit-requires : tie.Need-both-fit-requires Inv-loop μ-loop
-both-fit-requires c κs = tt
-
 returns-2 : tie.Need-returns-2 Inv-loop μ-loop
 returns-2 c =
-    let w = c .before .before .before .before .before .before .before .before .before .before .before .loop in
-    let g = c .before .before .before .before .before .before .before .before .before .before .before .before .before .before .before .before .args in
+    let w = loop-of (c .before .before .before .before .before) .loop in
+    let g = start-of (loop-of (c .before .before .before .before .before)) .args in
     let b = c .before .before .before .before in
     let e = b .before .before .before in
     sym
@@ -95,13 +76,10 @@ returns-2 c =
     (sym (c .before .both-fit .ensures) ∙ c .if4 .taken))
     ∙ w .inv .1
 
-loop-less-2 : tie.Need-loop-less-2 Inv-loop μ-loop
-loop-less-2 c = omega arith
-
 loop-again-2 : tie.Need-loop-again-2 Inv-loop μ-loop
 loop-again-2 c =
-    let w = c .before .before .before .before .before .before .before .before .before .before .before .loop in
-    let g = c .before .before .before .before .before .before .before .before .before .before .before .before .before .before .before .before .args in
+    let w = loop-of (c .before .before .before .before .before) .loop in
+    let g = start-of (loop-of (c .before .before .before .before .before)) .args in
     let b = c .before .before .before .before in
     let e = b .before .before .before in (
       omega arith,
@@ -113,13 +91,10 @@ loop-again-2 c =
           ∙ w .inv .1,
     )
 
-loop-less-3 : tie.Need-loop-less-3 Inv-loop μ-loop
-loop-less-3 c = omega arith
-
 loop-again-3 : tie.Need-loop-again-3 Inv-loop μ-loop
 loop-again-3 c =
-    let w = c .before .before .before .before .before .before .before .before .loop in
-    let g = c .before .before .before .before .before .before .before .before .before .before .before .before .before .args in
+    let w = loop-of (c .before .before) .loop in
+    let g = start-of (loop-of (c .before .before)) .args in
     let b = c .before in
     let e = b .before .before .before in (
       omega arith,
@@ -132,7 +107,7 @@ loop-again-3 c =
 returns-3 : tie.Need-returns-3 Inv-loop μ-loop
 returns-3 c =
     let w = c .before .loop in
-    let g = c .before .before .before .before .before .before .args in
+    let g = start-of (c .before) .args in
     sym (fits-none (g .i) (inEither (g .sure .now) (g .never .now)) (g .conditions .now) (g .weights .now) (w .unread) (w .fitting) (w .complement) (omega arith))
     ∙ w .inv .1
 
@@ -143,21 +118,16 @@ fits-from-spec =
     Inv-loop
     μ-loop
     loop-holds
-    sub-unread
-    mul-weight
-    shared-slice-read-weight
-    too-wide-requires
+    (λ c. omega arith) (λ c. omega arith) (λ c. omega arith) (λ c κs. tt)
     returns
-    mul-decided
-    shared-slice-read-decided
+    (λ c. omega arith) (λ c. omega arith)
     decided-requires
-    loop-less
+    (λ c. omega arith)
     loop-again
-    gcd-requires
-    both-fit-requires
+    (λ c κs. tt) (λ c κs. tt)
     returns-2
-    loop-less-2
+    (λ c. omega arith)
     loop-again-2
-    loop-less-3
+    (λ c. omega arith)
     loop-again-3
     returns-3)

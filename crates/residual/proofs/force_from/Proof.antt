@@ -23,34 +23,42 @@ Inv-loop conditions weights gcds i sure₀ never₀ nodes₀ position₀ prefix�
 abbrev μ-loop : tie.MeasureT-loop
 μ-loop conditions weights gcds i sure₀ never₀ nodes₀ position₀ prefix₀ so-far₀ sure never nodes position prefix so-far = length weights - position
 
+-- Ways back to earlier places.
+
+abbrev start-of : tie.At-loop Inv-loop μ-loop → tie.Start Inv-loop μ-loop
+start-of p = p .before .before .before .before .before .before .before
+
+abbrev loop-of : tie.After-gcd Inv-loop μ-loop → tie.At-loop Inv-loop μ-loop
+loop-of p = p .before .before .before .before .before .before .before .before .before
+
+abbrev in-loop-of : tie.After-gcd Inv-loop μ-loop → tie.In-loop Inv-loop μ-loop
+in-loop-of p = p .before .before .before .before .before .before .before .before
+
+abbrev else1-of : tie.After-contradicts Inv-loop μ-loop → tie.Else1 Inv-loop μ-loop
+else1-of p = p .before .before .before .before .before .before .before .before .before .before .before .before .before .before .before
+
+abbrev gcd-of : tie.After-contradicts Inv-loop μ-loop → tie.After-gcd Inv-loop μ-loop
+gcd-of p = p .before .before .before .before .before .before .before .before .before .before .before .before
+
+abbrev force-term-of : tie.After-contradicts Inv-loop μ-loop → tie.After-force-term Inv-loop μ-loop
+force-term-of p = p .before .before .before .before .before .before .before .before
+
 loop-holds : tie.Need-loop-holds Inv-loop μ-loop
 loop-holds c =
     let g = c .before .before .before .before .before .before .args in
     let p = c .before .before .before .before .before .before .pre .1 .3 in
     (omega arith, refl, refl, refl, p, refl)
 
-mul-node : tie.Need-mul-node Inv-loop μ-loop
-mul-node c = omega arith
-
-shared-slice-read-node : tie.Need-shared-slice-read-node Inv-loop μ-loop
-shared-slice-read-node c = omega arith
-
 decided-requires : tie.Need-decided-requires Inv-loop μ-loop
 decided-requires c κs =
-    let p = c .before .before .before .before .before .before .before .before .before .before .before .pre .0 in
+    let p = start-of (c .before .before .before .before) .pre .0 in
     let w = c .before .before .before .before .loop in
     (p .below (w .position) (omega arith), omega (arith, w .inv .1, p .inSure), omega (arith, w .inv .2, p .inNever))
 
-add-position : tie.Need-add-position Inv-loop μ-loop
-add-position c = omega arith
-
-loop-less : tie.Need-loop-less Inv-loop μ-loop
-loop-less c = omega arith
-
 loop-again : tie.Need-loop-again Inv-loop μ-loop
 loop-again c =
-    let g = c .before .before .before .before .before .before .before .before .before .before .before .before .before .args in
-    let p = c .before .before .before .before .before .before .before .before .before .before .before .before .before .pre .0 in
+    let g = start-of (c .before .before .before .before .before .before) .args in
+    let p = start-of (c .before .before .before .before .before .before) .pre .0 in
     let w = c .before .before .before .before .before .before .loop in (
       omega arith,
       w .inv .1,
@@ -64,105 +72,75 @@ loop-again c =
           ∙ w .inv .5,
     )
 
-mul-weight : tie.Need-mul-weight Inv-loop μ-loop
-mul-weight c = omega arith
-
-shared-slice-read-weight : tie.Need-shared-slice-read-weight Inv-loop μ-loop
-shared-slice-read-weight c = omega arith
-
-sub-gcd : tie.Need-sub-gcd Inv-loop μ-loop
-sub-gcd c = omega arith
-
-sub-gcd-2 : tie.Need-sub-gcd-2 Inv-loop μ-loop
-sub-gcd-2 c = omega arith
-
-mul-gcd : tie.Need-mul-gcd Inv-loop μ-loop
-mul-gcd c = omega arith
-
-shared-slice-read-gcd : tie.Need-shared-slice-read-gcd Inv-loop μ-loop
-shared-slice-read-gcd c = omega arith
-
-gcd-requires : tie.Need-gcd-requires Inv-loop μ-loop
-gcd-requires c κs = tt
-
 force-term-requires : tie.Need-force-term-requires Inv-loop μ-loop
 force-term-requires c κs =
-    let s = c .before .before .before .before .before .before .before .before .before .before .before .before .before .before .before .before .before .before .before in
-    let w = c .before .before .before .before .before .before .before .before .before .before .before .before .loop in
-    let t = c .before .before .before .before .before .before .before .before .before .before .before .loop-test .taken in
+    let s = start-of (loop-of (c .before .before .before)) in
+    let w = loop-of (c .before .before .before) .loop in
+    let t = in-loop-of (c .before .before .before) .loop-test .taken in
     let p = s .pre .0 in
     let q = s .pre .1 in (
       omega (arith, q .1, q .2 (w .position) (omega (arith, t))),
       (w .inv .4 .held, p .below (w .position) (omega (arith, t, p .same)), omega (arith, w .inv .1, p .inSure), omega (arith, w .inv .2, p .inNever)),
     )
 
-joined-decision-requires : tie.Need-joined-decision-requires Inv-loop μ-loop
-joined-decision-requires c κs = tt
-
-contradicts-requires : tie.Need-contradicts-requires Inv-loop μ-loop
-contradicts-requires c κs = tt
-
 same-length : tie.Need-same-length Inv-loop μ-loop
 same-length c =
     let b = c .before in
-    b .before .before .before .before .before .before .before .before .force-term .kept .1 .1 .1 .1 .0 ∙ b .before .before .before .before .before .before .before .before .before .before .before .before .before .before .before .before .before .before .before .before .before .loop .inv .1
+    force-term-of b .force-term .kept .1 .1 .1 .1 .0 ∙ loop-of (gcd-of b) .loop .inv .1
 
 same-length-2 : tie.Need-same-length-2 Inv-loop μ-loop
 same-length-2 c =
     let b = c .before in
-    b .before .before .before .before .before .before .before .before .force-term .kept .1 .1 .1 .1 .1 .0 ∙ b .before .before .before .before .before .before .before .before .before .before .before .before .before .before .before .before .before .before .before .before .before .loop .inv .2
+    force-term-of b .force-term .kept .1 .1 .1 .1 .1 .0 ∙ loop-of (gcd-of b) .loop .inv .2
 
 same-length-3 : tie.Need-same-length-3 Inv-loop μ-loop
 same-length-3 c =
     let b = c .before in
-    b .before .before .before .before .before .before .before .before .force-term .kept .1 .1 .1 .1 .1 .1 .0 ∙ b .before .before .before .before .before .before .before .before .before .before .before .before .before .before .before .before .before .before .before .before .before .loop .inv .3
+    force-term-of b .force-term .kept .1 .1 .1 .1 .1 .1 .0 ∙ loop-of (gcd-of b) .loop .inv .3
 
 returns : tie.Need-returns Inv-loop μ-loop
 returns c =
     let b = c .before in
-    let g = b .before .before .before .before .before .before .before .before .before .before .before .before .before .before .before .before .before .before .before .before .before .before .before .before .before .before .before .before .args in
-    let p = b .before .before .before .before .before .before .before .before .before .before .before .before .before .before .before .before .before .before .before .before .before .before .before .before .before .before .before .before .pre .0 in
-    let w = b .before .before .before .before .before .before .before .before .before .before .before .before .before .before .before .before .before .before .before .before .before .loop in
-    let t = b .before .before .before .before .before .before .before .before .before .before .before .before .before .before .before .before .before .before .before .before .loop-test .taken in
+    let g = start-of (loop-of (gcd-of b)) .args in
+    let p = start-of (loop-of (gcd-of b)) .pre .0 in
+    let w = loop-of (gcd-of b) .loop in
+    let t = in-loop-of (gcd-of b) .loop-test .taken in
     let j = b .before .joined-decision in
-    let f = b .before .before .before .before .before .before .before .before .force-term in
+    let f = force-term-of b .force-term in
     (turn-stops (g .i) (g .gcds .now) (g .conditions .now) (g .weights .now) (w .position) (w .prefix)
     (marks (w .sure) (w .never) (queue (w .node-queue) (w .so-far .ring))) (w .so-far .step) (omega (arith, t, p .same)) (omega (arith, t)) (p .same)
-    (sym (b .before .before .before .before .before .before .before .before .before .before .before .before .before .before .before .before .decided .ensures) ∙ b .before .before .before .before .before .before .before .before .before .before .before .before .before .before .before .if1 .left) (b .before .before .before .before .before .before .before .before .before .before .before .before .gcd .result) (b .before .before .before .before .before .before .before .before .before .before .before .before .gcd .ensures)
+    (sym (else1-of b .before .decided .ensures) ∙ else1-of b .if1 .left) (gcd-of b .gcd .result) (gcd-of b .gcd .ensures)
     (f .last .1 .1 .1 .1 .0) (f .last .1 .1 .1 .1 .1 .0) (f .last .1 .1 .1 .1 .1 .1 .0) (f .result .ring) (j .result .ring) (f .result .step) (j .result .step)
     (f .ensures) (j .ensures .1) (j .ensures .0) (sym (b .contradicts .ensures) ∙ c .if2 .taken))
     ∙ w .inv .5
 
-gcd-requires-2 : tie.Need-gcd-requires-2 Inv-loop μ-loop
-gcd-requires-2 c κs = tt
-
 add-position-2 : tie.Need-add-position-2 Inv-loop μ-loop
-add-position-2 c = omega (arith, c .before .before .before .before .before .before .before .before .before .before .before .before .before .before .before .before .before .before .before .before .before .before .loop-test .taken, c .before .before .before .before .before .before .before .before .before .before .before .before .before .before .before .before .before .before .before .before .before .before .before .before .before .before .before .before .before .before .good .1 .0 .0)
+add-position-2 c = omega (arith, in-loop-of (gcd-of (c .before .before)) .loop-test .taken, start-of (loop-of (gcd-of (c .before .before))) .good .1 .0 .0)
 
 loop-less-2 : tie.Need-loop-less-2 Inv-loop μ-loop
-loop-less-2 c = omega (arith, c .before .before .before .before .before .before .before .before .before .before .before .before .before .before .before .before .before .before .before .before .before .before .loop-test .taken)
+loop-less-2 c = omega (arith, in-loop-of (gcd-of (c .before .before)) .loop-test .taken)
 
 loop-again-2 : tie.Need-loop-again-2 Inv-loop μ-loop
 loop-again-2 c =
     let b = c .before .before in
-    let g = b .before .before .before .before .before .before .before .before .before .before .before .before .before .before .before .before .before .before .before .before .before .before .before .before .before .before .before .before .args in
-    let p = b .before .before .before .before .before .before .before .before .before .before .before .before .before .before .before .before .before .before .before .before .before .before .before .before .before .before .before .before .pre .0 in
-    let w = b .before .before .before .before .before .before .before .before .before .before .before .before .before .before .before .before .before .before .before .before .before .loop in
-    let t = b .before .before .before .before .before .before .before .before .before .before .before .before .before .before .before .before .before .before .before .before .loop-test .taken in
+    let g = start-of (loop-of (gcd-of b)) .args in
+    let p = start-of (loop-of (gcd-of b)) .pre .0 in
+    let w = loop-of (gcd-of b) .loop in
+    let t = in-loop-of (gcd-of b) .loop-test .taken in
     let j = b .before .joined-decision in
-    let f = b .before .before .before .before .before .before .before .before .force-term in (
+    let f = force-term-of b .force-term in (
       omega (arith, t),
       f .kept .1 .1 .1 .1 .0 ∙ w .inv .1,
       f .kept .1 .1 .1 .1 .1 .0 ∙ w .inv .2,
       f .kept .1 .1 .1 .1 .1 .1 .0 ∙ w .inv .3,
       turn-waits (g .i) (g .gcds .now) (g .conditions .now) (g .weights .now) (w .position) (w .prefix)
           (marks (w .sure) (w .never) (queue (w .node-queue) (w .so-far .ring))) (w .so-far .step) (omega (arith, t, p .same)) (omega (arith, t)) (p .same)
-          (sym (b .before .before .before .before .before .before .before .before .before .before .before .before .before .before .before .before .decided .ensures) ∙ b .before .before .before .before .before .before .before .before .before .before .before .before .before .before .before .if1 .left) (b .before .before .before .before .before .before .before .before .before .before .before .before .gcd .result) (b .before .before .before .before .before .before .before .before .before .before .before .before .gcd .ensures)
+          (sym (else1-of b .before .decided .ensures) ∙ else1-of b .if1 .left) (gcd-of b .gcd .result) (gcd-of b .gcd .ensures)
           (f .last .1 .1 .1 .1 .0) (f .last .1 .1 .1 .1 .1 .0) (f .last .1 .1 .1 .1 .1 .1 .0) (f .result .ring) (j .result .ring) (f .result .step) (j .result .step)
           (f .ensures) (j .ensures .1) (j .ensures .0) (p .below (w .position) (omega (arith, t, p .same))) (w .inv .4),
       (turn-goes-on (g .i) (g .gcds .now) (g .conditions .now) (g .weights .now) (w .position) (w .prefix)
           (marks (w .sure) (w .never) (queue (w .node-queue) (w .so-far .ring))) (w .so-far .step) (omega (arith, t, p .same)) (omega (arith, t)) (p .same)
-          (sym (b .before .before .before .before .before .before .before .before .before .before .before .before .before .before .before .before .decided .ensures) ∙ b .before .before .before .before .before .before .before .before .before .before .before .before .before .before .before .if1 .left) (b .before .before .before .before .before .before .before .before .before .before .before .before .gcd .result) (b .before .before .before .before .before .before .before .before .before .before .before .before .gcd .ensures)
+          (sym (else1-of b .before .decided .ensures) ∙ else1-of b .if1 .left) (gcd-of b .gcd .result) (gcd-of b .gcd .ensures)
           (f .last .1 .1 .1 .1 .0) (f .last .1 .1 .1 .1 .1 .0) (f .last .1 .1 .1 .1 .1 .1 .0) (f .result .ring) (j .result .ring) (f .result .step) (j .result .step)
           (f .ensures) (j .ensures .1) (j .ensures .0) (c .gcd2 .result) (c .gcd2 .ensures) (sym (b .contradicts .ensures) ∙ c .before .if2 .left))
           ∙ w .inv .5,
@@ -179,7 +157,7 @@ same-length-6 c = c .before .loop .inv .3
 
 returns-2 : tie.Need-returns-2 Inv-loop μ-loop
 returns-2 c =
-    let g = c .before .before .before .before .before .before .before .before .args in
+    let g = start-of (c .before) .args in
     let w = c .before .loop in
     sym
     (force-end (g .i) (g .gcds .now) (g .conditions .now) (g .weights .now) (w .position) (w .prefix)
@@ -193,27 +171,18 @@ force-from-spec =
     Inv-loop
     μ-loop
     loop-holds
-    mul-node
-    shared-slice-read-node
+    (λ c. omega arith) (λ c. omega arith)
     decided-requires
-    add-position
-    loop-less
+    (λ c. omega arith) (λ c. omega arith)
     loop-again
-    mul-weight
-    shared-slice-read-weight
-    sub-gcd
-    sub-gcd-2
-    mul-gcd
-    shared-slice-read-gcd
-    gcd-requires
+    (λ c. omega arith) (λ c. omega arith) (λ c. omega arith) (λ c. omega arith) (λ c. omega arith) (λ c. omega arith) (λ c κs. tt)
     force-term-requires
-    joined-decision-requires
-    contradicts-requires
+    (λ c κs. tt) (λ c κs. tt)
     same-length
     same-length-2
     same-length-3
     returns
-    gcd-requires-2
+    (λ c κs. tt)
     add-position-2
     loop-less-2
     loop-again-2

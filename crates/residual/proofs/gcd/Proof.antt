@@ -24,12 +24,6 @@ returns-2 c =
     let g = c .before .before .args in
     sym (ap (λ (x : ℕ). gcd x (g .right)) (c .if2 .taken) ∙ gcd-same (g .right))
 
-loop-holds : tie.Need-loop-holds Inv-loop μ-loop
-loop-holds c = refl
-
-rem-remainder : tie.Need-rem-remainder Inv-loop μ-loop
-rem-remainder c = omega arith
-
 loop-less : tie.Need-loop-less Inv-loop μ-loop
 loop-less c = mod-lt (c .before .loop .a) (omega arith)
 
@@ -51,8 +45,7 @@ gcd-spec =
     μ-loop
     returns
     returns-2
-    loop-holds
-    rem-remainder
+    (λ c. refl) (λ c. omega arith)
     loop-less
     loop-again
     returns-3)

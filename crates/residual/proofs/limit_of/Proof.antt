@@ -6,18 +6,6 @@ use borrow.Author.Needs.{needs}
 use Rattle.residual.proofs.limit_of.Statement.{statement}
 use Rattle.residual.proofs.limit_of.Tie as tie
 
-enum-told : tie.Need-enum-told
-enum-told c = search needs
-
-enum-known-upper : tie.Need-enum-known-upper
-enum-known-upper c = search needs
-
-natural-requires : tie.Need-natural-requires
-natural-requires c κs = search needs
-
-returns : tie.Need-returns
-returns c = search needs
-
 returns-2 : tie.Need-returns-2
 returns-2 c =
     let e = c .before .before .upper .given in
@@ -25,4 +13,4 @@ returns-2 c =
     simp (e .1, simp h at (c .natural .ensures))
 
 pub limit-of-spec : {M : Type 1} → statement M
-limit-of-spec = tie.close (tie.spec enum-told enum-known-upper natural-requires returns returns-2)
+limit-of-spec = tie.close (tie.spec (λ c. search needs) (λ c. search needs) (λ c κs. search needs) (λ c. search needs) returns-2)

@@ -20,12 +20,6 @@ returns-2 c =
     let g = c .before .before .args in
     simp (eq-eqb (g .divisor) 0 (c .before .if1 .taken), le-ltb (g .base) (g .lower) (c .if2 .left))
 
-sub-offset : tie.Need-sub-offset
-sub-offset c = search needs
-
-rem-remainder : tie.Need-rem-remainder
-rem-remainder c = search needs
-
 returns-3 : tie.Need-returns-3
 unfolding misses
 returns-3 c =
@@ -41,9 +35,6 @@ sub-distance c =
     let g = c .before .before .args in
     omega (arith, mod-lt (g .lower - g .base) {m = g .divisor} (omega arith))
 
-sub-width : tie.Need-sub-width
-sub-width c = search needs
-
 returns-4 : tie.Need-returns-4
 unfolding misses
 returns-4 c =
@@ -56,9 +47,8 @@ misses-spec =
     (tie.spec
     returns
     returns-2
-    sub-offset
-    rem-remainder
+    (λ c. search needs) (λ c. search needs)
     returns-3
     sub-distance
-    sub-width
+    (λ c. search needs)
     returns-4)

@@ -12,37 +12,30 @@ use borrow.Author.Needs.{needs}
 use Rattle.residual.proofs.nothing_forced.Statement.{statement}
 use Rattle.residual.proofs.nothing_forced.Tie as tie
 
-has-nonunit-requires : tie.Need-has-nonunit-requires
-has-nonunit-requires c κs = search needs
+-- Ways back to earlier places.
+
+abbrev start-of : tie.After-has-nonunit → tie.Start
+start-of p = p .before .before .before .before .before
 
 returns : tie.Need-returns
 returns c =
-    let g = c .before .before .before .before .before .before .args in
+    let g = start-of (c .before) .args in
     sym
     (nothing-unit (terms (g .conditions .now) (g .weights .now)) (g .state) (inEither (g .sure .now) (g .never .now))
     (sym (c .before .has-nonunit .ensures) ∙ not-true (c .before .has-nonunit .result) (c .if1 .taken)))
 
-has-residual-interval-requires : tie.Need-has-residual-interval-requires
-has-residual-interval-requires c κs = search needs
-
 returns-2 : tie.Need-returns-2
 returns-2 c =
-    let g = c .before .before .before .before .before .before .before .before .args in
+    let g = start-of (c .before .before .before) .args in
     let n = c .before .before .before .has-nonunit in
     let r = c .before .has-residual-interval in
     sym
     (nothing-wide (terms (g .conditions .now) (g .weights .now)) (g .state) (inEither (g .sure .now) (g .never .now))
     (sym (n .ensures) ∙ not-false (n .result) (c .before .before .if1 .left)) (sym (r .ensures) ∙ not-true (r .result) (c .if2 .taken)))
 
-interval-of-requires : tie.Need-interval-of-requires
-interval-of-requires c κs = search needs
-
-fits-from-requires : tie.Need-fits-from-requires
-fits-from-requires c κs = search needs
-
 returns-3 : tie.Need-returns-3
 returns-3 c =
-    let g = c .before .before .before .before .before .before .before .before .before .before .args in
+    let g = start-of (c .before .before .before .before .before) .args in
     let ts = terms (g .conditions .now) (g .weights .now) in
     let d = inEither (g .sure .now) (g .never .now) in
     let n = c .before .before .before .before .before .has-nonunit in
@@ -57,10 +50,9 @@ pub nothing-forced-spec : {M : Type 1} → statement M
 nothing-forced-spec =
     tie.close
     (tie.spec
-    has-nonunit-requires
+    (λ c κs. search needs)
     returns
-    has-residual-interval-requires
+    (λ c κs. search needs)
     returns-2
-    interval-of-requires
-    fits-from-requires
+    (λ c κs. search needs) (λ c κs. search needs)
     returns-3)

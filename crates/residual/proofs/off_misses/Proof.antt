@@ -6,16 +6,10 @@ use borrow.Author.Needs.{needs}
 use Rattle.residual.proofs.off_misses.Statement.{statement}
 use Rattle.residual.proofs.off_misses.Tie as tie
 
-minus-requires : tie.Need-minus-requires
-minus-requires c κs = search needs
-
-branch-misses-requires : tie.Need-branch-misses-requires
-branch-misses-requires c κs = search needs
-
 returns : tie.Need-returns
 returns c =
     let g = c .before .before .args in
     c .branch-misses .ensures ∙ ap (λ (x : ℕ). branchMisses (g .i .known) x (g .i .lower) (g .i .upper) (g .divisor)) (c .before .minus .ensures)
 
 pub off-misses-spec : {M : Type 1} → statement M
-off-misses-spec = tie.close (tie.spec minus-requires branch-misses-requires returns)
+off-misses-spec = tie.close (tie.spec (λ c κs. search needs) (λ c κs. search needs) returns)

@@ -23,9 +23,14 @@ Inv-loop conditions weights sure never gcds₀ count left₀ suffix₀ gcds left
 abbrev μ-loop : tie.MeasureT-loop
 μ-loop conditions weights sure never gcds₀ count left₀ suffix₀ gcds left suffix = left
 
+-- Ways back to earlier places.
+
+abbrev start-of : tie.After-slice-known Inv-loop μ-loop → tie.Start Inv-loop μ-loop
+start-of p = p .before .before .before .before .before
+
 loop-holds : tie.Need-loop-holds Inv-loop μ-loop
 loop-holds c =
-    let g = c .before .before .before .before .before .args in
+    let g = start-of c .args in
     let e = length-terms (g .conditions .now) (g .weights .now) in (
       refl,
       omega arith,
@@ -34,45 +39,15 @@ loop-holds c =
           (omega arith) (omega arith),
     )
 
-sub-gcds : tie.Need-sub-gcds Inv-loop μ-loop
-sub-gcds c = omega arith
-
-mul-gcds : tie.Need-mul-gcds Inv-loop μ-loop
-mul-gcds c = omega arith
-
-slice-write-gcds : tie.Need-slice-write-gcds Inv-loop μ-loop
-slice-write-gcds c = omega arith
-
-sub-left : tie.Need-sub-left Inv-loop μ-loop
-sub-left c = omega arith
-
-mul-decided : tie.Need-mul-decided Inv-loop μ-loop
-mul-decided c = omega arith
-
-shared-slice-read-decided : tie.Need-shared-slice-read-decided Inv-loop μ-loop
-shared-slice-read-decided c = omega arith
-
 decided-requires : tie.Need-decided-requires Inv-loop μ-loop
 decided-requires c κs =
-    let b = c .before .before .before .before .before .before .before .before in
+    let b = start-of (c .before .before .before) in
     (b .pre .0 .below (c .before .before .loop .left - 1) (omega arith), b .pre .0 .inSure, b .pre .0 .inNever)
-
-mul-reduce : tie.Need-mul-reduce Inv-loop μ-loop
-mul-reduce c = omega arith
-
-shared-slice-read-reduce : tie.Need-shared-slice-read-reduce Inv-loop μ-loop
-shared-slice-read-reduce c = omega arith
-
-reduce-requires : tie.Need-reduce-requires Inv-loop μ-loop
-reduce-requires c κs = search needs
-
-loop-less : tie.Need-loop-less Inv-loop μ-loop
-loop-less c = omega arith
 
 loop-again : tie.Need-loop-again Inv-loop μ-loop
 loop-again c =
     let b = c .before .before .before .before .before in
-    let g = b .before .before .before .before .before .before .args in
+    let g = start-of (b .before) .args in
     let w = b .loop in
     let d = inEither (g .sure .now) (g .never .now) in
     let n = length (g .weights .now) in (
@@ -86,18 +61,12 @@ loop-again c =
           ∙ w .inv .3,
     )
 
-mul-gcds-2 : tie.Need-mul-gcds-2 Inv-loop μ-loop
-mul-gcds-2 c = omega arith
-
-slice-write-gcds-2 : tie.Need-slice-write-gcds-2 Inv-loop μ-loop
-slice-write-gcds-2 c = omega arith
-
 same-length : tie.Need-same-length Inv-loop μ-loop
 same-length c = simp length-set (omega arith)
 
 returns : tie.Need-returns Inv-loop μ-loop
 returns c =
-    let g = c .before .before .before .before .before .before .before .args in
+    let g = start-of (c .before .before) .args in
     let w = c .before .loop in
     laid-end (inEither (g .sure .now) (g .never .now)) (terms (g .conditions .now) (g .weights .now)) (length (g .weights .now)) (w .left) (w .suffix) (w .gcds)
     (omega arith)
@@ -110,19 +79,10 @@ prepare-suffix-spec =
     Inv-loop
     μ-loop
     loop-holds
-    sub-gcds
-    mul-gcds
-    slice-write-gcds
-    sub-left
-    mul-decided
-    shared-slice-read-decided
+    (λ c. omega arith) (λ c. omega arith) (λ c. omega arith) (λ c. omega arith) (λ c. omega arith) (λ c. omega arith)
     decided-requires
-    mul-reduce
-    shared-slice-read-reduce
-    reduce-requires
-    loop-less
+    (λ c. omega arith) (λ c. omega arith) (λ c κs. search needs) (λ c. omega arith)
     loop-again
-    mul-gcds-2
-    slice-write-gcds-2
+    (λ c. omega arith) (λ c. omega arith)
     same-length
     returns)

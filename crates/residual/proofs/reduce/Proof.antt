@@ -3,14 +3,8 @@ use borrow.Author.Needs.{needs}
 use Rattle.residual.proofs.reduce.Statement.{statement}
 use Rattle.residual.proofs.reduce.Tie as tie
 
-returns : tie.Need-returns
-returns c = search needs
-
-gcd-requires : tie.Need-gcd-requires
-gcd-requires c κs = search needs
-
 returns-2 : tie.Need-returns-2
 returns-2 c = simp (c .before .if1 .left, c .gcd .ensures)
 
 pub reduce-spec : {M : Type 1} → statement M
-reduce-spec = tie.close (tie.spec returns gcd-requires returns-2)
+reduce-spec = tie.close (tie.spec (λ c. search needs) (λ c κs. search needs) returns-2)

@@ -8,9 +8,6 @@ use borrow.Author.Needs.{needs}
 use Rattle.residual.proofs.stops.Statement.{statement}
 use Rattle.residual.proofs.stops.Tie as tie
 
-first-fits-requires : tie.Need-first-fits-requires
-first-fits-requires c κs = search needs
-
 returns : tie.Need-returns
 returns c =
     let g = c .before .before .args in
@@ -28,12 +25,6 @@ returns-3 c =
     (stops-same (g .i) (g .divisor) (g .weight) (g .next) (sym (c .before .before .before .first-fits .ensures) ∙ c .before .before .if1 .left)
     (c .before .if2 .left) (c .if3 .taken))
 
-smaller-requires : tie.Need-smaller-requires
-smaller-requires c κs = search needs
-
-misses-requires : tie.Need-misses-requires
-misses-requires c κs = search needs
-
 returns-4 : tie.Need-returns-4
 returns-4 c =
     let b = c .before .before in
@@ -47,10 +38,9 @@ pub stops-spec : {M : Type 1} → statement M
 stops-spec =
     tie.close
     (tie.spec
-    first-fits-requires
+    (λ c κs. search needs)
     returns
     returns-2
     returns-3
-    smaller-requires
-    misses-requires
+    (λ c κs. search needs) (λ c κs. search needs)
     returns-4)

@@ -3,11 +3,8 @@ use borrow.Author.Needs.{needs}
 use Rattle.residual.proofs.too_wide.Statement.{statement}
 use Rattle.residual.proofs.too_wide.Tie as tie
 
-returns : tie.Need-returns
-returns c = search needs
-
 returns-2 : tie.Need-returns-2
 returns-2 c = simp (c .if1 .left)
 
 pub too-wide-spec : {M : Type 1} → statement M
-too-wide-spec = tie.close (tie.spec returns returns-2)
+too-wide-spec = tie.close (tie.spec (λ c. search needs) returns-2)

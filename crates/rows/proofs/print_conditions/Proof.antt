@@ -11,23 +11,8 @@ Inv-loop count nodes edges node₀ node = node ≤ count
 abbrev μ-loop : tie.MeasureT-loop
 μ-loop count nodes edges node₀ node = count - node
 
-loop-holds : tie.Need-loop-holds Inv-loop μ-loop
-loop-holds c = omega arith
-
 print-edges-of-requires : tie.Need-print-edges-of-requires Inv-loop μ-loop
 print-edges-of-requires c κs = c .before .before .pre (c .before .loop .node) (c .loop-test .taken)
-
-add-node : tie.Need-add-node Inv-loop μ-loop
-add-node c = search needs
-
-loop-less : tie.Need-loop-less Inv-loop μ-loop
-loop-less c = omega arith
-
-loop-again : tie.Need-loop-again Inv-loop μ-loop
-loop-again c = omega arith
-
-returns : tie.Need-returns Inv-loop μ-loop
-returns c = tt
 
 pub print-conditions-spec : {M : Type 1} → statement M
 print-conditions-spec =
@@ -35,9 +20,7 @@ print-conditions-spec =
     (tie.spec
     Inv-loop
     μ-loop
-    loop-holds
+    (λ c. omega arith)
     print-edges-of-requires
-    add-node
-    loop-less
-    loop-again
-    returns)
+    (λ c. search needs) (λ c. omega arith) (λ c. omega arith)
+    (λ c. tt))

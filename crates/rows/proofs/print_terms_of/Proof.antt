@@ -7,36 +7,6 @@ use borrow.Author.Needs.{needs}
 use Rattle.rows.proofs.print_terms_of.Statement.{statement}
 use Rattle.rows.proofs.print_terms_of.Tie as tie
 
-start-in-requires : tie.Need-start-in-requires
-start-in-requires c κs = search needs
-
-end-in-requires : tie.Need-end-in-requires
-end-in-requires c κs = search needs
-
-mul-print-terms : tie.Need-mul-print-terms
-mul-print-terms c = search needs
-
-sub-print-terms : tie.Need-sub-print-terms
-sub-print-terms c = search needs
-
-part-print-terms-start : tie.Need-part-print-terms-start
-part-print-terms-start c = search needs
-
-part-print-terms-end : tie.Need-part-print-terms-end
-part-print-terms-end c = search needs
-
-mul-print-terms-2 : tie.Need-mul-print-terms-2
-mul-print-terms-2 c = search needs
-
-sub-print-terms-2 : tie.Need-sub-print-terms-2
-sub-print-terms-2 c = search needs
-
-part-print-terms-start-2 : tie.Need-part-print-terms-start-2
-part-print-terms-start-2 c = search needs
-
-part-print-terms-end-2 : tie.Need-part-print-terms-end-2
-part-print-terms-end-2 c = search needs
-
 print-terms-requires : tie.Need-print-terms-requires
 print-terms-requires c κs =
     let end-in = c .before .before in
@@ -53,22 +23,11 @@ print-terms-requires c κs =
     let even = stretch-length from to (g .row-weights .now) (omega (arith, e, w)) ∙ sym (stretch-length from to (g .row-conditions .now) (omega (arith, e, v))) in
     (even, fits-by (g .rows .now) (g .row-conditions .now) (g .row-weights .now) (g .r) from to s e (p .2))
 
-returns : tie.Need-returns
-returns c = search needs
-
 pub print-terms-of-spec : {M : Type 1} → statement M
 print-terms-of-spec =
     tie.close
     (tie.spec
-    start-in-requires
-    end-in-requires
-    mul-print-terms
-    sub-print-terms
-    part-print-terms-start
-    part-print-terms-end
-    mul-print-terms-2
-    sub-print-terms-2
-    part-print-terms-start-2
-    part-print-terms-end-2
+    (λ c κs. search needs) (λ c κs. search needs) (λ c. search needs) (λ c. search needs) (λ c. search needs) (λ c. search needs)
+    (λ c. search needs) (λ c. search needs) (λ c. search needs) (λ c. search needs)
     print-terms-requires
-    returns)
+    (λ c. search needs))

@@ -9,14 +9,8 @@ use Rattle.rows.proofs.start_in.Tie as tie
 returns : tie.Need-returns
 returns c = start-zero (c .before .args .column) (c .before .args .lists .now) (c .before .args .at) (c .if1 .taken)
 
-sub-end-in : tie.Need-sub-end-in
-sub-end-in c = search needs
-
-end-in-requires : tie.Need-end-in-requires
-end-in-requires c κs = search needs
-
 returns-2 : tie.Need-returns-2
 returns-2 c = c .end-in .ensures ∙ start-next (c .before .before .args .column) (c .before .before .args .lists .now) (c .before .before .args .at) (omega (arith, c .before .if1 .left))
 
 pub start-in-spec : {M : Type 1} → statement M
-start-in-spec = tie.close (tie.spec returns sub-end-in end-in-requires returns-2)
+start-in-spec = tie.close (tie.spec returns (λ c. search needs) (λ c κs. search needs) returns-2)

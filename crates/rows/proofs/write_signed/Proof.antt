@@ -11,12 +11,6 @@ use borrow.Author.Needs.{needs}
 use Rattle.rows.proofs.write_signed.Statement.{statement}
 use Rattle.rows.proofs.write_signed.Tie as tie
 
-slice-aggregate-write : tie.Need-slice-aggregate-write
-slice-aggregate-write c = search needs
-
-write-requires : tie.Need-write-requires
-write-requires c κs = search needs
-
 sub-write-number : tie.Need-sub-write-number
 sub-write-number c =
     let if1 = c .before .before in
@@ -54,32 +48,18 @@ add-write-number c =
     let l = m .1 .1 in
     rw (hz, m .1 .0, k) (record { fits = omega (arith, l) })
 
-write-number-requires : tie.Need-write-number-requires
-write-number-requires c κs = search needs
-
-returns : tie.Need-returns
-returns c = search needs
-
 cast-write-number-2 : tie.Need-cast-write-number-2
 cast-write-number-2 c = let z = c .before .args .z in let hz : toZ w64 (ofZ w64 z) ≡ z = search needs in let f : SFits w64 z = search needs in rw hz (natural-cast z (simp hz at (c .if1 .left)) f)
-
-write-number-requires-2 : tie.Need-write-number-requires-2
-write-number-requires-2 c κs = search needs
-
-returns-2 : tie.Need-returns-2
-returns-2 c = search needs
 
 pub write-signed-spec : {M : Type 1} → statement M
 write-signed-spec =
     tie.close
     (tie.spec
-    slice-aggregate-write
-    write-requires
+    (λ c. search needs) (λ c κs. search needs)
     sub-write-number
     cast-write-number
     add-write-number
-    write-number-requires
-    returns
+    (λ c κs. search needs) (λ c. search needs)
     cast-write-number-2
-    write-number-requires-2
-    returns-2)
+    (λ c κs. search needs)
+    (λ c. search needs))

@@ -28,21 +28,6 @@ more q i h k n l = by (ℕ-discrete n i)
 loop-holds : tie.Need-loop-holds Inv-loop μ-loop
 loop-holds c = (omega arith, λ n h. absurd (not-suc-le-zero h))
 
-mul-four : tie.Need-mul-four Inv-loop μ-loop
-mul-four c = search needs
-
-shared-slice-copy-out-four : tie.Need-shared-slice-copy-out-four Inv-loop μ-loop
-shared-slice-copy-out-four c = search needs
-
-four-requires : tie.Need-four-requires Inv-loop μ-loop
-four-requires c κs = search needs
-
-add-i : tie.Need-add-i Inv-loop μ-loop
-add-i c = search needs
-
-loop-less : tie.Need-loop-less Inv-loop μ-loop
-loop-less c = search needs
-
 loop-again : tie.Need-loop-again Inv-loop μ-loop
 loop-again c =
     let at-loop = c .before .before .before in
@@ -54,4 +39,4 @@ returns c =
     fourfold-all (at-loop .before .args .row-queues .now) (λ n h. at-loop .loop .inv .1 n (omega arith))
 
 pub fours-spec : {M : Type 1} → statement M
-fours-spec = tie.close (tie.spec Inv-loop μ-loop loop-holds mul-four shared-slice-copy-out-four four-requires add-i loop-less loop-again returns)
+fours-spec = tie.close (tie.spec Inv-loop μ-loop loop-holds (λ c. search needs) (λ c. search needs) (λ c κs. search needs) (λ c. search needs) (λ c. search needs) loop-again returns)

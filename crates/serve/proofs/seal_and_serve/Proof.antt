@@ -11,6 +11,20 @@ use borrow.Author.Needs.{needs}
 use Rattle.serve.proofs.seal_and_serve.Statement.{statement}
 use Rattle.serve.proofs.seal_and_serve.Tie as tie
 
+-- Ways back to earlier places.
+
+abbrev start-of : tie.After-seal-arg6 → tie.Start
+start-of p = p .before .before .before .before .before .before .before .before .before .before .before .before .before .before .before .before
+
+abbrev seal-of : tie.After-stood → tie.After-seal
+seal-of p = p .before .before .before .before .before .before .before .before .before .before .before
+
+abbrev stood-of : tie.After-serve-records-arg9 → tie.After-stood
+stood-of p = p .before .before .before .before .before .before .before .before .before
+
+abbrev serve-records-of : tie.After-fours → tie.After-serve-records
+serve-records-of p = p .before .before .before .before .before .before .before .before .before .before .before .before .before .before .before .before
+
 abbrev buffers : tie.Start → Built
 buffers p =
     let a = p .args in
@@ -39,7 +53,7 @@ first p q s =
 
 seal-requires : tie.Need-seal-requires
 seal-requires c κs =
-    let start = c .before .before .before .before .before .before .before .before .before .before .before .before .before .before .before .before in
+    let start = start-of c in
     let a = start .args in
     let p = start .pre .0 in (
       (
@@ -54,19 +68,16 @@ seal-requires c κs =
       ),
     )
 
-stood-requires : tie.Need-stood-requires
-stood-requires c κs = search needs
-
 add-behind : tie.Need-add-behind
 add-behind c =
-    let start = c .before .before .before .before .before .before .before .before .before .before .before .before .before .before .before .before .before .before .before .before .before .before .before .before .before .before .before .before in
+    let start = start-of (seal-of c .before) in
     omega (arith, start .pre .1, start .pre .3)
 
 serve-records-requires : tie.Need-serve-records-requires
 serve-records-requires c κs =
-    let after-stood = c .before .before .before .before .before .before .before .before .before in
-    let after-seal = after-stood .before .before .before .before .before .before .before .before .before .before .before in
-    let start = after-seal .before .before .before .before .before .before .before .before .before .before .before .before .before .before .before .before .before in
+    let after-stood = stood-of c in
+    let after-seal = seal-of after-stood in
+    let start = start-of (after-seal .before) in
     let a = start .args in
     let w = start .pre in
     let p = w .0 in
@@ -81,66 +92,63 @@ serve-records-requires c κs =
       w .3,
     )
 
-fours-requires : tie.Need-fours-requires
-fours-requires c κs = search needs
-
 same-length : tie.Need-same-length
 same-length c =
-    let after-serve-records = c .before .before .before .before .before .before .before .before .before .before .before .before .before .before .before .before in
-    let after-seal = after-serve-records .before .before .before .before .before .before .before .before .before .before .before .before .before .before .before .before .before .before .before .before .before in
+    let after-serve-records = serve-records-of c in
+    let after-seal = seal-of (stood-of (after-serve-records .before)) in
     after-serve-records .serve-records .kept .1 .1 .1 .1 .1 .1 .1 .1 .1 .1 .0 ∙ after-seal .seal .kept .1 .1 .1 .1 .1 .0
 
 same-length-2 : tie.Need-same-length-2
 same-length-2 c =
-    let after-serve-records = c .before .before .before .before .before .before .before .before .before .before .before .before .before .before .before .before in
-    let after-seal = after-serve-records .before .before .before .before .before .before .before .before .before .before .before .before .before .before .before .before .before .before .before .before .before in
+    let after-serve-records = serve-records-of c in
+    let after-seal = seal-of (stood-of (after-serve-records .before)) in
     after-serve-records .serve-records .kept .1 .1 .1 .1 .1 .1 .1 .1 .1 .1 .1 .0 ∙ after-seal .seal .kept .1 .1 .1 .1 .1 .1 .0
 
 same-length-3 : tie.Need-same-length-3
 same-length-3 c =
-    let after-serve-records = c .before .before .before .before .before .before .before .before .before .before .before .before .before .before .before .before in
-    let after-seal = after-serve-records .before .before .before .before .before .before .before .before .before .before .before .before .before .before .before .before .before .before .before .before .before in
+    let after-serve-records = serve-records-of c in
+    let after-seal = seal-of (stood-of (after-serve-records .before)) in
     after-serve-records .serve-records .kept .1 .1 .1 .1 .1 .1 .1 .1 .1 .1 .1 .1 .0 ∙ after-seal .seal .kept .1 .1 .1 .1 .1 .1 .1 .0
 
 same-length-4 : tie.Need-same-length-4
 same-length-4 c =
-    let after-serve-records = c .before .before .before .before .before .before .before .before .before .before .before .before .before .before .before .before in
-    let after-seal = after-serve-records .before .before .before .before .before .before .before .before .before .before .before .before .before .before .before .before .before .before .before .before .before in
+    let after-serve-records = serve-records-of c in
+    let after-seal = seal-of (stood-of (after-serve-records .before)) in
     after-serve-records .serve-records .kept .1 .1 .1 .1 .1 .1 .1 .1 .1 .1 .1 .1 .1 .0 ∙ after-seal .seal .kept .1 .1 .1 .1 .1 .1 .1 .1 .0
 
 same-length-5 : tie.Need-same-length-5
 same-length-5 c =
-    let after-serve-records = c .before .before .before .before .before .before .before .before .before .before .before .before .before .before .before .before in
-    let after-seal = after-serve-records .before .before .before .before .before .before .before .before .before .before .before .before .before .before .before .before .before .before .before .before .before in
+    let after-serve-records = serve-records-of c in
+    let after-seal = seal-of (stood-of (after-serve-records .before)) in
     after-serve-records .serve-records .kept .1 .1 .1 .1 .1 .1 .1 .1 .1 .1 .1 .1 .1 .1 .0 ∙ after-seal .seal .kept .1 .1 .1 .1 .1 .1 .1 .1 .1 .0
 
 same-length-6 : tie.Need-same-length-6
 same-length-6 c =
-    let after-serve-records = c .before .before .before .before .before .before .before .before .before .before .before .before .before .before .before .before in
-    let after-seal = after-serve-records .before .before .before .before .before .before .before .before .before .before .before .before .before .before .before .before .before .before .before .before .before in
+    let after-serve-records = serve-records-of c in
+    let after-seal = seal-of (stood-of (after-serve-records .before)) in
     after-serve-records .serve-records .kept .1 .1 .1 .1 .1 .1 .1 .1 .1 .1 .1 .1 .1 .1 .1 .0 ∙ after-seal .seal .kept .1 .1 .1 .1 .1 .1 .1 .1 .1 .1 .0
 
 same-length-7 : tie.Need-same-length-7
 same-length-7 c =
-    let after-serve-records = c .before .before .before .before .before .before .before .before .before .before .before .before .before .before .before .before in
+    let after-serve-records = serve-records-of c in
     after-serve-records .serve-records .kept .1 .1 .1 .1 .1 .1 .1 .1 .1 .1 .1 .1 .1 .1 .1 .1 .0
 
 same-length-8 : tie.Need-same-length-8
 same-length-8 c =
-    let after-serve-records = c .before .before .before .before .before .before .before .before .before .before .before .before .before .before .before .before in
+    let after-serve-records = serve-records-of c in
     after-serve-records .serve-records .kept .1 .1 .1 .1 .1 .1 .1 .1 .1 .1 .1 .1 .1 .1 .1 .1 .1 .0
 
 same-length-9 : tie.Need-same-length-9
 same-length-9 c =
-    let after-serve-records = c .before .before .before .before .before .before .before .before .before .before .before .before .before .before .before .before in
+    let after-serve-records = serve-records-of c in
     after-serve-records .serve-records .kept .1 .1 .1 .1 .1 .1 .1 .1 .1 .1 .1 .1 .1 .1 .1 .1 .1 .1 .0
 
 returns : tie.Need-returns
 returns c =
-    let after-serve-records = c .before .before .before .before .before .before .before .before .before .before .before .before .before .before .before .before in
-    let after-stood = after-serve-records .before .before .before .before .before .before .before .before .before .before in
-    let after-seal = after-stood .before .before .before .before .before .before .before .before .before .before .before in
-    let start = after-seal .before .before .before .before .before .before .before .before .before .before .before .before .before .before .before .before .before in
+    let after-serve-records = serve-records-of c in
+    let after-stood = stood-of (after-serve-records .before) in
+    let after-seal = seal-of after-stood in
+    let start = start-of (after-seal .before) in
     let a = start .args in
     let w = start .pre in
     let s = after-seal .seal in
@@ -158,10 +166,10 @@ seal-and-serve-spec =
     tie.close
     (tie.spec
     seal-requires
-    stood-requires
+    (λ c κs. search needs)
     add-behind
     serve-records-requires
-    fours-requires
+    (λ c κs. search needs)
     same-length
     same-length-2
     same-length-3

@@ -10,6 +10,17 @@ use borrow.Author.Needs.{needs}
 use Rattle.serve.proofs.serve_record.Statement.{statement}
 use Rattle.serve.proofs.serve_record.Tie as tie
 
+-- Ways back to earlier places.
+
+abbrev start-of : tie.After-next-record → tie.Start
+start-of p = p .before .before .before .before .before .before .before .before .before .before .before .before
+
+abbrev body-length-of : tie.After-take-record-arg9 → tie.After-body-length
+body-length-of p = p .before .before .before .before .before .before .before .before .before
+
+abbrev take-record-of : tie.After-answers → tie.After-take-record
+take-record-of p = p .before .before .before .before .before .before .before .before .before .before .before .before .before .before
+
 abbrev buffers : tie.Start → Built
 buffers p =
     let a = p .args in
@@ -25,35 +36,17 @@ after p =
     let l = p .take-record .last .1 .1 .1 .1 .1 .1 .1 .1 .1 in
     kept (l .0) (l .1 .0) (l .1 .1 .0) (l .1 .1 .1 .0) (l .1 .1 .1 .1 .1 .1 .1 .0) (l .1 .1 .1 .1 .1 .1 .0) (l .1 .1 .1 .1 .0) (l .1 .1 .1 .1 .1 .0) (l .1 .1 .1 .1 .1 .1 .1 .1 .0)
 
-next-record-requires : tie.Need-next-record-requires
-next-record-requires c κs = search needs
-
-enum-known-found : tie.Need-enum-known-found
-enum-known-found c = search needs
-
-enum-known-found-2 : tie.Need-enum-known-found-2
-enum-known-found-2 c = search needs
-
-shared-slice-read-body-length : tie.Need-shared-slice-read-body-length
-shared-slice-read-body-length c = search needs
-
-body-length-requires : tie.Need-body-length-requires
-body-length-requires c κs = search needs
-
-add-behind : tie.Need-add-behind
-add-behind c = search needs
-
 add-behind-2 : tie.Need-add-behind-2
 add-behind-2 c =
-    let start = c .before .before .before .before .before .before .before .before .before .before .before .before .before .before .before .before .before in
+    let start = start-of (c .before .before .before .before .before) in
     let a = start .args in
     omega (arith, start .pre .1, start .pre .2, body-small (getD (a .input .now) (a .reached .at) 0), c .body-length .ensures)
 
 take-record-requires : tie.Need-take-record-requires
 take-record-requires c κs =
-    let after-found2 = c .before .before .before .before .before .before .before .before .before .before .before .before in
+    let after-found2 = body-length-of c .before .before .before in
     let after-next-record = after-found2 .before .before in
-    let start = after-next-record .before .before .before .before .before .before .before .before .before .before .before .before in
+    let start = start-of after-next-record in
     let a = start .args in
     let p = start .pre in
     let n = after-next-record .next-record in
@@ -69,46 +62,19 @@ returns : tie.Need-returns
 returns c =
     let after-found = c .before .before in
     let after-next-record = after-found .before .before in
-    let start = after-next-record .before .before .before .before .before .before .before .before .before .before .before .before in
+    let start = start-of after-next-record in
     let a = start .args in
     let n = after-next-record .next-record in
     let e = after-found .found .given in
     λ f base z. next-refused (a .bounds .now) (buffers start) base f (entry start) (a .reached) z (a .input .now) (start .pre .1) (n .result) (n .ensures) (e .0 .0) (e .1) _ refl refl refl refl refl
 
-same-length : tie.Need-same-length
-same-length c = search needs
-
-same-length-2 : tie.Need-same-length-2
-same-length-2 c = search needs
-
-same-length-3 : tie.Need-same-length-3
-same-length-3 c = search needs
-
-same-length-4 : tie.Need-same-length-4
-same-length-4 c = search needs
-
-same-length-5 : tie.Need-same-length-5
-same-length-5 c = search needs
-
-same-length-6 : tie.Need-same-length-6
-same-length-6 c = search needs
-
-same-length-7 : tie.Need-same-length-7
-same-length-7 c = search needs
-
-same-length-8 : tie.Need-same-length-8
-same-length-8 c = search needs
-
-same-length-9 : tie.Need-same-length-9
-same-length-9 c = search needs
-
 returns-2 : tie.Need-returns-2
 returns-2 c =
-    let after-take-record = c .before .before .before .before .before .before .before .before .before .before .before .before .before .before in
-    let after-body-length = after-take-record .before .before .before .before .before .before .before .before .before .before in
+    let after-take-record = take-record-of c in
+    let after-body-length = body-length-of (after-take-record .before) in
     let after-found2 = after-body-length .before .before .before in
     let after-next-record = after-found2 .before .before in
-    let start = after-next-record .before .before .before .before .before .before .before .before .before .before .before .before in
+    let start = start-of after-next-record in
     let a = start .args in
     let n = after-next-record .next-record in
     let e = after-found2 .found2 .given in
@@ -124,22 +90,10 @@ pub serve-record-spec : {M : Type 1} → statement M
 serve-record-spec =
     tie.close
     (tie.spec
-    next-record-requires
-    enum-known-found
-    enum-known-found-2
-    shared-slice-read-body-length
-    body-length-requires
-    add-behind
+    (λ c κs. search needs) (λ c. search needs) (λ c. search needs) (λ c. search needs) (λ c κs. search needs) (λ c. search needs)
     add-behind-2
     take-record-requires
     returns
-    same-length
-    same-length-2
-    same-length-3
-    same-length-4
-    same-length-5
-    same-length-6
-    same-length-7
-    same-length-8
-    same-length-9
+    (λ c. search needs) (λ c. search needs) (λ c. search needs) (λ c. search needs) (λ c. search needs) (λ c. search needs)
+    (λ c. search needs) (λ c. search needs) (λ c. search needs)
     returns-2)

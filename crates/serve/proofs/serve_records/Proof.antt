@@ -18,6 +18,23 @@ Inv-loop input conditions weights rows guard-bounds guard-nodes nodes bounds edg
 abbrev μ-loop : tie.MeasureT-loop
 μ-loop input conditions weights rows guard-bounds guard-nodes nodes bounds edges links figures₀ cursors₀ sure₀ never₀ node-queue₀ row-queues₀ gcds₀ search₀ answers₀ reached₀ figures cursors sure never node-queue row-queues gcds search answers reached = length input - reached .at
 
+-- Ways back to earlier places.
+
+abbrev start-of : tie.After-slice-known5 Inv-loop μ-loop → tie.Start Inv-loop μ-loop
+start-of p = p .before .before .before .before .before .before .before .before .before .before
+
+abbrev loop-of : tie.After-serve-record Inv-loop μ-loop → tie.At-loop Inv-loop μ-loop
+loop-of p = p .before .before .before .before .before .before .before .before .before .before .before .before
+
+abbrev then1-of : tie.After-serve-record-arg9 Inv-loop μ-loop → tie.Then1 Inv-loop μ-loop
+then1-of p = p .before .before .before .before .before .before .before .before .before
+
+abbrev serve-record-of : tie.Else2 Inv-loop μ-loop → tie.After-serve-record Inv-loop μ-loop
+serve-record-of p = p .before .before .before .before .before .before .before .before .before .before .before .before .before .before .before
+
+abbrev serve-record-of-then2 : tie.Then2 Inv-loop μ-loop → tie.After-serve-record Inv-loop μ-loop
+serve-record-of-then2 p = p .before .before .before .before .before .before .before .before .before .before .before .before .before .before .before
+
 abbrev buffers : tie.Start Inv-loop μ-loop → Built
 buffers p =
     let a = p .args in
@@ -40,7 +57,7 @@ after p =
 
 loop-holds : tie.Need-loop-holds Inv-loop μ-loop
 loop-holds c =
-    let start = c .before .before .before .before .before .before .before .before .before .before in
+    let start = start-of c in
     let a = start .args in (
       loops-first (a .input .now) (a .bounds .now) (buffers start) (entry start) (a .first),
       record { figures = refl; cursors = refl; sure = refl; never = refl; search = refl; gcds = refl; node-queue = refl; row-queues = refl; answers = refl },
@@ -48,73 +65,73 @@ loop-holds c =
 
 serve-record-requires : tie.Need-serve-record-requires Inv-loop μ-loop
 serve-record-requires c κs =
-    let then1 = c .before .before .before .before .before .before .before .before .before in
+    let then1 = then1-of c in
     let at-loop = then1 .before .before in
-    let start = at-loop .before .before .before .before .before .before .before .before .before .before .before in
+    let start = start-of (at-loop .before) in
     let p = start .pre in
     let w = at-loop .loop .inv .0 .so-far (p .0 .0) (p .0 .1) (p .0 .2) in
     ((w .0, p .0 .1, w .1), then1 .if1 .taken, p .1)
 
 same-length : tie.Need-same-length Inv-loop μ-loop
 same-length c =
-    let after-serve-record = c .before .before .before .before .before .before .before .before .before .before .before .before .before .before .before in
-    let at-loop = after-serve-record .before .before .before .before .before .before .before .before .before .before .before .before in
+    let after-serve-record = serve-record-of-then2 c in
+    let at-loop = loop-of after-serve-record in
     after-serve-record .serve-record .kept .1 .1 .1 .1 .1 .1 .1 .1 .1 .1 .0 ∙ at-loop .loop .inv .1 .figures
 
 same-length-2 : tie.Need-same-length-2 Inv-loop μ-loop
 same-length-2 c =
-    let after-serve-record = c .before .before .before .before .before .before .before .before .before .before .before .before .before .before .before in
-    let at-loop = after-serve-record .before .before .before .before .before .before .before .before .before .before .before .before in
+    let after-serve-record = serve-record-of-then2 c in
+    let at-loop = loop-of after-serve-record in
     after-serve-record .serve-record .kept .1 .1 .1 .1 .1 .1 .1 .1 .1 .1 .1 .0 ∙ at-loop .loop .inv .1 .cursors
 
 same-length-3 : tie.Need-same-length-3 Inv-loop μ-loop
 same-length-3 c =
-    let after-serve-record = c .before .before .before .before .before .before .before .before .before .before .before .before .before .before .before in
-    let at-loop = after-serve-record .before .before .before .before .before .before .before .before .before .before .before .before in
+    let after-serve-record = serve-record-of-then2 c in
+    let at-loop = loop-of after-serve-record in
     after-serve-record .serve-record .kept .1 .1 .1 .1 .1 .1 .1 .1 .1 .1 .1 .1 .0 ∙ at-loop .loop .inv .1 .sure
 
 same-length-4 : tie.Need-same-length-4 Inv-loop μ-loop
 same-length-4 c =
-    let after-serve-record = c .before .before .before .before .before .before .before .before .before .before .before .before .before .before .before in
-    let at-loop = after-serve-record .before .before .before .before .before .before .before .before .before .before .before .before in
+    let after-serve-record = serve-record-of-then2 c in
+    let at-loop = loop-of after-serve-record in
     after-serve-record .serve-record .kept .1 .1 .1 .1 .1 .1 .1 .1 .1 .1 .1 .1 .1 .0 ∙ at-loop .loop .inv .1 .never
 
 same-length-5 : tie.Need-same-length-5 Inv-loop μ-loop
 same-length-5 c =
-    let after-serve-record = c .before .before .before .before .before .before .before .before .before .before .before .before .before .before .before in
-    let at-loop = after-serve-record .before .before .before .before .before .before .before .before .before .before .before .before in
+    let after-serve-record = serve-record-of-then2 c in
+    let at-loop = loop-of after-serve-record in
     after-serve-record .serve-record .kept .1 .1 .1 .1 .1 .1 .1 .1 .1 .1 .1 .1 .1 .1 .0 ∙ at-loop .loop .inv .1 .node-queue
 
 same-length-6 : tie.Need-same-length-6 Inv-loop μ-loop
 same-length-6 c =
-    let after-serve-record = c .before .before .before .before .before .before .before .before .before .before .before .before .before .before .before in
-    let at-loop = after-serve-record .before .before .before .before .before .before .before .before .before .before .before .before in
+    let after-serve-record = serve-record-of-then2 c in
+    let at-loop = loop-of after-serve-record in
     after-serve-record .serve-record .kept .1 .1 .1 .1 .1 .1 .1 .1 .1 .1 .1 .1 .1 .1 .1 .0 ∙ at-loop .loop .inv .1 .row-queues
 
 same-length-7 : tie.Need-same-length-7 Inv-loop μ-loop
 same-length-7 c =
-    let after-serve-record = c .before .before .before .before .before .before .before .before .before .before .before .before .before .before .before in
-    let at-loop = after-serve-record .before .before .before .before .before .before .before .before .before .before .before .before in
+    let after-serve-record = serve-record-of-then2 c in
+    let at-loop = loop-of after-serve-record in
     after-serve-record .serve-record .kept .1 .1 .1 .1 .1 .1 .1 .1 .1 .1 .1 .1 .1 .1 .1 .1 .0 ∙ at-loop .loop .inv .1 .gcds
 
 same-length-8 : tie.Need-same-length-8 Inv-loop μ-loop
 same-length-8 c =
-    let after-serve-record = c .before .before .before .before .before .before .before .before .before .before .before .before .before .before .before in
-    let at-loop = after-serve-record .before .before .before .before .before .before .before .before .before .before .before .before in
+    let after-serve-record = serve-record-of-then2 c in
+    let at-loop = loop-of after-serve-record in
     after-serve-record .serve-record .kept .1 .1 .1 .1 .1 .1 .1 .1 .1 .1 .1 .1 .1 .1 .1 .1 .1 .0 ∙ at-loop .loop .inv .1 .search
 
 same-length-9 : tie.Need-same-length-9 Inv-loop μ-loop
 same-length-9 c =
-    let after-serve-record = c .before .before .before .before .before .before .before .before .before .before .before .before .before .before .before in
-    let at-loop = after-serve-record .before .before .before .before .before .before .before .before .before .before .before .before in
+    let after-serve-record = serve-record-of-then2 c in
+    let at-loop = loop-of after-serve-record in
     after-serve-record .serve-record .kept .1 .1 .1 .1 .1 .1 .1 .1 .1 .1 .1 .1 .1 .1 .1 .1 .1 .1 .0 ∙ at-loop .loop .inv .1 .answers
 
 returns : tie.Need-returns Inv-loop μ-loop
 returns c =
-    let after-serve-record = c .before .before .before .before .before .before .before .before .before .before .before .before .before .before .before in
-    let then1 = after-serve-record .before .before .before .before .before .before .before .before .before .before in
+    let after-serve-record = serve-record-of-then2 c in
+    let then1 = then1-of (after-serve-record .before) in
     let at-loop = then1 .before .before in
-    let start = at-loop .before .before .before .before .before .before .before .before .before .before .before in
+    let start = start-of (at-loop .before) in
     let a = start .args in
     let l = at-loop .loop in
     let s = after-serve-record .serve-record in
@@ -122,10 +139,10 @@ returns c =
 
 loop-less : tie.Need-loop-less Inv-loop μ-loop
 loop-less c =
-    let after-serve-record = c .before .before .before .before .before .before .before .before .before .before .before .before .before .before .before in
-    let then1 = after-serve-record .before .before .before .before .before .before .before .before .before .before in
+    let after-serve-record = serve-record-of c in
+    let then1 = then1-of (after-serve-record .before) in
     let at-loop = then1 .before .before in
-    let start = at-loop .before .before .before .before .before .before .before .before .before .before .before in
+    let start = start-of (at-loop .before) in
     let a = start .args in
     let l = at-loop .loop in
     let s = after-serve-record .serve-record in
@@ -134,10 +151,10 @@ loop-less c =
 
 loop-again : tie.Need-loop-again Inv-loop μ-loop
 loop-again c =
-    let after-serve-record = c .before .before .before .before .before .before .before .before .before .before .before .before .before .before .before in
-    let then1 = after-serve-record .before .before .before .before .before .before .before .before .before .before in
+    let after-serve-record = serve-record-of c in
+    let then1 = then1-of (after-serve-record .before) in
     let at-loop = then1 .before .before in
-    let start = at-loop .before .before .before .before .before .before .before .before .before .before .before in
+    let start = start-of (at-loop .before) in
     let a = start .args in
     let l = at-loop .loop in
     let s = after-serve-record .serve-record in
@@ -205,7 +222,7 @@ same-length-18 c =
 returns-2 : tie.Need-returns-2 Inv-loop μ-loop
 returns-2 c =
     let at-loop = c .before .before in
-    let start = at-loop .before .before .before .before .before .before .before .before .before .before .before in
+    let start = start-of (at-loop .before) in
     let a = start .args in
     let l = at-loop .loop in
     loops-end (a .input .now) (a .bounds .now) (buffers start) (entry start) (a .first) (here at-loop) (l .reached) (l .inv .0) (omega (arith, c .if1 .left))

@@ -6,9 +6,6 @@ use borrow.Author.Needs.{needs}
 use Rattle.serve.proofs.stood.Statement.{statement}
 use Rattle.serve.proofs.stood.Tie as tie
 
-contradicts-requires : tie.Need-contradicts-requires
-contradicts-requires c κs = search needs
-
 returns : tie.Need-returns
 returns c =
     let start = c .before in
@@ -29,4 +26,4 @@ returns c =
     y) (c .contradicts .ensures)
 
 pub stood-spec : {M : Type 1} → statement M
-stood-spec = tie.close (tie.spec contradicts-requires returns)
+stood-spec = tie.close (tie.spec (λ c κs. search needs) returns)

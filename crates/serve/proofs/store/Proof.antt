@@ -33,15 +33,6 @@ none Unknown h k m = refl
 room : (r : Record) (k : Step) (n : ℕ) (a : Answer) → answered r k n ≡ a ∷ [] → 0 < length (answered r k n)
 room r k n a e = subst (λ (l : List Answer). 0 < length l) (sym e) (omega arith)
 
-number-requires : tie.Need-number-requires
-number-requires c κs = search needs
-
-enum-told : tie.Need-enum-told
-enum-told c = search needs
-
-cast-put : tie.Need-cast-put
-cast-put c = search needs
-
 put-requires : tie.Need-put-requires
 put-requires c κs =
     let after-enum-told = c .before in
@@ -51,18 +42,6 @@ put-requires c κs =
     let h = start .pre .0 (room (a .given) (a .step) (a .visits) (settled (a .step)) e) in
     (omega (arith, start .pre .1), h)
 
-enum-told-2 : tie.Need-enum-told-2
-enum-told-2 c = search needs
-
-cast-used : tie.Need-cast-used
-cast-used c = search needs
-
-cast-tagged : tie.Need-cast-tagged
-cast-tagged c = search needs
-
-add-tagged : tie.Need-add-tagged
-add-tagged c = search needs
-
 put-requires-2 : tie.Need-put-requires-2
 put-requires-2 c κs =
     let after-enum-told2 = c .before in
@@ -71,9 +50,6 @@ put-requires-2 c κs =
     let e = ap (λ (r : Record). answered r (a .step) (a .visits)) (after-enum-told2 .enum-told2 .given .1) in
     let h = start .pre .0 (room (a .given) (a .step) (a .visits) (sifted (a .step) (a .visits)) e) in
     (omega (arith, start .pre .1), h)
-
-same-length : tie.Need-same-length
-same-length c = search needs
 
 returns : tie.Need-returns
 returns c =
@@ -89,9 +65,6 @@ returns c =
       answer-put before base (a .answers .now) laid (a .count) many (omega arith) (settled (a .step)) (after-number .number .result) 0 (after-number .number .ensures) refl (after-put .put .last .0) (after-put .put .ensures .0),
       answer-more before (settled (a .step)) (a .count) (after-put .put .result) many (after-put .put .ensures .1),
     )
-
-same-length-2 : tie.Need-same-length-2
-same-length-2 c = search needs
 
 returns-2 : tie.Need-returns-2
 returns-2 c =
@@ -119,17 +92,12 @@ pub store-spec : {M : Type 1} → statement M
 store-spec =
     tie.close
     (tie.spec
-    number-requires
-    enum-told
-    cast-put
+    (λ c κs. search needs) (λ c. search needs) (λ c. search needs)
     put-requires
-    enum-told-2
-    cast-used
-    cast-tagged
-    add-tagged
+    (λ c. search needs) (λ c. search needs) (λ c. search needs) (λ c. search needs)
     put-requires-2
-    same-length
+    (λ c. search needs)
     returns
-    same-length-2
+    (λ c. search needs)
     returns-2
     returns-3)

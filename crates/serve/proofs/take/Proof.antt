@@ -16,6 +16,41 @@ use borrow.Author.Needs.{needs}
 use Rattle.serve.proofs.take.Statement.{statement}
 use Rattle.serve.proofs.take.Tie as tie
 
+-- Ways back to earlier places.
+
+abbrev start-of : tie.At-match-keys4 → tie.Start
+start-of p = p .before .before .before .before .before .before .before .before .before .before
+
+abbrev start-of-enum-told : tie.After-enum-told → tie.Start
+start-of-enum-told p = p .before .before .before .before .before .before .before .before .before .before .before
+
+abbrev start-of-enum-told2 : tie.After-enum-told2 → tie.Start
+start-of-enum-told2 p = p .before .before .before .before .before .before .before .before .before .before .before
+
+abbrev start-of-given : tie.After-given → tie.Start
+start-of-given p = p .before .before .before .before .before .before .before .before .before .before .before
+
+abbrev start-of-sift-arg8 : tie.After-sift-arg8 → tie.Start
+start-of-sift-arg8 p = start-of-enum-told2 (p .before .before .before .before .before .before .before .before)
+
+abbrev enum-told-of : tie.After-settle-arg6 → tie.After-enum-told
+enum-told-of p = p .before .before .before .before .before .before
+
+abbrev given-of : tie.After-mark-arg6 → tie.After-given
+given-of p = p .before .before .before .before .before .before .before
+
+abbrev enum-told2-of : tie.After-sift → tie.After-enum-told2
+enum-told2-of p = p .before .before .before .before .before .before .before .before .before
+
+abbrev settle-of : tie.After-later2 → tie.After-settle
+settle-of p = p .before .before .before .before .before .before .before .before .before .before
+
+abbrev mark-of : tie.After-later → tie.After-mark
+mark-of p = p .before .before .before .before .before .before .before .before .before .before
+
+abbrev sift-of : tie.After-slice-known16 → tie.After-sift
+sift-of p = p .before .before .before .before .before .before .before .before .before .before .before .before .before
+
 abbrev buffers : tie.Start → Built
 buffers p =
     let a = p .args in
@@ -50,16 +85,10 @@ no-other (Mark n v) a h = miss (0 ∷ 1 ∷ 2 ∷ 3 ∷ 4 ∷ 8 ∷ []) 5 tt h
 no-other Settle a h = miss (0 ∷ 1 ∷ 2 ∷ 3 ∷ 4 ∷ 8 ∷ []) 6 tt h
 no-other Sift a h = miss (0 ∷ 1 ∷ 2 ∷ 3 ∷ 4 ∷ 8 ∷ []) 7 tt h
 
-enum-known-given : tie.Need-enum-known-given
-enum-known-given c = search needs
-
-cast-place : tie.Need-cast-place
-cast-place c = search needs
-
 mark-requires : tie.Need-mark-requires
 mark-requires c κs =
-    let after-given = c .before .before .before .before .before .before .before in
-    let start = after-given .before .before .before .before .before .before .before .before .before .before .before in
+    let after-given = given-of c in
+    let start = start-of-given after-given in
     let a = start .args in
     let p = start .pre in
     let e = after-given .given .given in (
@@ -67,24 +96,18 @@ mark-requires c κs =
       takes-mark (a .bounds .now) (buffers start) (p .0) (a .given) (entry start) (a .gcds .now) (a .search .now) (p .1) (e .0 .0) (e .0 .1 .0) (e .1),
     )
 
-enum-told : tie.Need-enum-told
-enum-told c = search needs
-
 settle-requires : tie.Need-settle-requires
 settle-requires c κs =
-    let start = c .before .before .before .before .before .before .before .before .before .before .before .before .before .before .before .before .before in
+    let start = start-of-enum-told (enum-told-of c) in
     let a = start .args in
     let p = start .pre in (
       takes-serves (a .bounds .now) (buffers start) (p .0) (a .given) (entry start) (a .gcds .now) (a .search .now) (p .1),
       takes-going (a .bounds .now) (buffers start) (p .0) (a .given) (entry start) (a .gcds .now) (a .search .now) (p .1),
     )
 
-enum-told-2 : tie.Need-enum-told-2
-enum-told-2 c = search needs
-
 sift-requires : tie.Need-sift-requires
 sift-requires c κs =
-    let start = c .before .before .before .before .before .before .before .before .before .before .before .before .before .before .before .before .before .before .before in
+    let start = start-of-sift-arg8 c in
     let a = start .args in
     let p = start .pre in (
       (
@@ -95,131 +118,54 @@ sift-requires c κs =
       takes-going (a .bounds .now) (buffers start) (p .0) (a .given) (entry start) (a .gcds .now) (a .search .now) (p .1),
     )
 
-same-length : tie.Need-same-length
-same-length c = search needs
-
-same-length-2 : tie.Need-same-length-2
-same-length-2 c = search needs
-
-same-length-3 : tie.Need-same-length-3
-same-length-3 c = search needs
-
-same-length-4 : tie.Need-same-length-4
-same-length-4 c = search needs
-
-same-length-5 : tie.Need-same-length-5
-same-length-5 c = search needs
-
-same-length-6 : tie.Need-same-length-6
-same-length-6 c = search needs
-
 returns : tie.Need-returns
 returns c =
-    let after-mark = c .before .before .before .before .before .before .before .before .before .before in
-    let after-given = after-mark .before .before .before .before .before .before .before .before in
-    let start = after-given .before .before .before .before .before .before .before .before .before .before .before in
+    let after-mark = mark-of c in
+    let after-given = given-of (after-mark .before) in
+    let start = start-of-given after-given in
     let a = start .args in
     let e = after-given .given .given in
     let m = after-mark .mark in
     (λ f t. took-mark (a .bounds .now) (buffers start) f (a .given) (entry start) (a .gcds .now) (a .search .now) t (e .0 .0) (e .0 .1 .0) (e .1) (marked after-mark) (m .ensures .0), m .ensures .1, refl)
 
-same-length-7 : tie.Need-same-length-7
-same-length-7 c = search needs
-
-same-length-8 : tie.Need-same-length-8
-same-length-8 c = search needs
-
-same-length-9 : tie.Need-same-length-9
-same-length-9 c = search needs
-
-same-length-10 : tie.Need-same-length-10
-same-length-10 c = search needs
-
-same-length-11 : tie.Need-same-length-11
-same-length-11 c = search needs
-
-same-length-12 : tie.Need-same-length-12
-same-length-12 c = search needs
-
 returns-2 : tie.Need-returns-2
 returns-2 c =
-    let after-settle = c .before .before .before .before .before .before .before .before .before .before in
-    let after-enum-told = after-settle .before .before .before .before .before .before .before in
-    let start = after-enum-told .before .before .before .before .before .before .before .before .before .before .before in
+    let after-settle = settle-of c in
+    let after-enum-told = enum-told-of (after-settle .before) in
+    let start = start-of-enum-told after-enum-told in
     let a = start .args in
     let m = after-settle .settle in
     (λ f t. took-settle (a .bounds .now) (buffers start) f (a .given) (entry start) (a .gcds .now) (a .search .now) t (after-enum-told .enum-told .given .1) (settled after-settle) (m .ensures .0), m .ensures .1, refl)
 
-same-length-13 : tie.Need-same-length-13
-same-length-13 c = search needs
-
-same-length-14 : tie.Need-same-length-14
-same-length-14 c = search needs
-
-same-length-15 : tie.Need-same-length-15
-same-length-15 c = search needs
-
-same-length-16 : tie.Need-same-length-16
-same-length-16 c = search needs
-
-same-length-17 : tie.Need-same-length-17
-same-length-17 c = search needs
-
-same-length-18 : tie.Need-same-length-18
-same-length-18 c = search needs
-
-same-length-19 : tie.Need-same-length-19
-same-length-19 c = search needs
-
-same-length-20 : tie.Need-same-length-20
-same-length-20 c = search needs
-
 returns-3 : tie.Need-returns-3
 returns-3 c =
-    let after-sift = c .before .before .before .before .before .before .before .before .before .before .before .before .before in
-    let after-enum-told2 = after-sift .before .before .before .before .before .before .before .before .before in
-    let start = after-enum-told2 .before .before .before .before .before .before .before .before .before .before .before in
+    let after-sift = sift-of c in
+    let after-enum-told2 = enum-told2-of after-sift in
+    let start = start-of-enum-told2 after-enum-told2 in
     let a = start .args in
     let m = after-sift .sift in
     (λ f t. took-sift (a .bounds .now) (buffers start) f (a .given) (entry start) (a .gcds .now) (a .search .now) t (after-enum-told2 .enum-told2 .given .1) (searched after-sift) (m .ensures .0), m .ensures .1, m .ensures .2)
 
 returns-4 : tie.Need-returns-4
 returns-4 c =
-    let start = c .before .before .before .before .before .before .before .before .before .before in
+    let start = start-of c in
     (λ f t. absurd (no-other (start .args .given) (t .asks) (c .match .keys4)), λ t. t, refl)
 
 pub take-spec : {M : Type 1} → statement M
 take-spec =
     tie.close
     (tie.spec
-    enum-known-given
-    cast-place
+    (λ c. search needs) (λ c. search needs)
     mark-requires
-    enum-told
+    (λ c. search needs)
     settle-requires
-    enum-told-2
+    (λ c. search needs)
     sift-requires
-    same-length
-    same-length-2
-    same-length-3
-    same-length-4
-    same-length-5
-    same-length-6
+    (λ c. search needs) (λ c. search needs) (λ c. search needs) (λ c. search needs) (λ c. search needs) (λ c. search needs)
     returns
-    same-length-7
-    same-length-8
-    same-length-9
-    same-length-10
-    same-length-11
-    same-length-12
+    (λ c. search needs) (λ c. search needs) (λ c. search needs) (λ c. search needs) (λ c. search needs) (λ c. search needs)
     returns-2
-    same-length-13
-    same-length-14
-    same-length-15
-    same-length-16
-    same-length-17
-    same-length-18
-    same-length-19
-    same-length-20
+    (λ c. search needs) (λ c. search needs) (λ c. search needs) (λ c. search needs) (λ c. search needs) (λ c. search needs)
+    (λ c. search needs) (λ c. search needs)
     returns-3
     returns-4)

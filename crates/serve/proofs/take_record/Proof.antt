@@ -10,6 +10,14 @@ use borrow.Author.Needs.{needs}
 use Rattle.serve.proofs.take_record.Statement.{statement}
 use Rattle.serve.proofs.take_record.Tie as tie
 
+-- Ways back to earlier places.
+
+abbrev start-of : tie.After-take-arg8 → tie.Start
+start-of p = p .before .before .before .before .before .before .before .before .before .before .before .before .before .before .before .before .before .before
+
+abbrev take-of : tie.After-store-arg → tie.After-take
+take-of p = p .before .before .before .before .before .before .before .before .before .before .before .before .before .before .before .before
+
 abbrev buffers : tie.Start → Built
 buffers p =
     let a = p .args in
@@ -28,15 +36,15 @@ after p answers =
 
 take-requires : tie.Need-take-requires
 take-requires c κs =
-    let start = c .before .before .before .before .before .before .before .before .before .before .before .before .before .before .before .before .before .before in
+    let start = start-of c in
     let a = start .args in
     let p = start .pre in
     (p .0, record-takes (a .bounds .now) (buffers start) (p .1) (p .0) (entry start) (a .reached) (p .2) (a .given) (p .3) (p .4))
 
 store-requires : tie.Need-store-requires
 store-requires c κs =
-    let after-take = c .before .before .before .before .before .before .before .before .before .before .before .before .before .before .before .before in
-    let start = after-take .before .before .before .before .before .before .before .before .before .before .before .before .before .before .before .before .before .before .before in
+    let after-take = take-of c in
+    let start = start-of (after-take .before) in
     let a = start .args in
     let p = start .pre in
     let t = after-take .take in
@@ -46,41 +54,11 @@ store-requires c κs =
       record-visits (a .bounds .now) (buffers start) (p .1) (p .0) (entry start) (a .reached) (p .2) (a .given) (p .3) (p .4) (after after-take (a .answers .now)) (t .result .rings) (t .result .step) (t .result .visits) (t .ensures .0 (p .0) takes),
     )
 
-stood-requires : tie.Need-stood-requires
-stood-requires c κs = search needs
-
-same-length : tie.Need-same-length
-same-length c = search needs
-
-same-length-2 : tie.Need-same-length-2
-same-length-2 c = search needs
-
-same-length-3 : tie.Need-same-length-3
-same-length-3 c = search needs
-
-same-length-4 : tie.Need-same-length-4
-same-length-4 c = search needs
-
-same-length-5 : tie.Need-same-length-5
-same-length-5 c = search needs
-
-same-length-6 : tie.Need-same-length-6
-same-length-6 c = search needs
-
-same-length-7 : tie.Need-same-length-7
-same-length-7 c = search needs
-
-same-length-8 : tie.Need-same-length-8
-same-length-8 c = search needs
-
-same-length-9 : tie.Need-same-length-9
-same-length-9 c = search needs
-
 returns : tie.Need-returns
 returns c =
     let after-store = c .before .before in
-    let after-take = after-store .before .before .before .before .before .before .before .before .before .before .before .before .before .before .before .before .before in
-    let start = after-take .before .before .before .before .before .before .before .before .before .before .before .before .before .before .before .before .before .before .before in
+    let after-take = take-of (after-store .before) in
+    let start = start-of (after-take .before) in
     let a = start .args in
     let t = after-take .take in
     let s = after-store .store in
@@ -97,14 +75,6 @@ take-record-spec =
     (tie.spec
     take-requires
     store-requires
-    stood-requires
-    same-length
-    same-length-2
-    same-length-3
-    same-length-4
-    same-length-5
-    same-length-6
-    same-length-7
-    same-length-8
-    same-length-9
+    (λ c κs. search needs) (λ c. search needs) (λ c. search needs) (λ c. search needs) (λ c. search needs) (λ c. search needs)
+    (λ c. search needs) (λ c. search needs) (λ c. search needs) (λ c. search needs)
     returns)

@@ -7,21 +7,6 @@ use borrow.Author.Needs.{needs}
 use Rattle.settle.proofs.oldest_row.Statement.{statement}
 use Rattle.settle.proofs.oldest_row.Tie as tie
 
-mul-slot : tie.Need-mul-slot
-mul-slot c = search needs
-
-shared-slice-copy-out-slot : tie.Need-shared-slice-copy-out-slot
-shared-slice-copy-out-slot c = search needs
-
-mul-place : tie.Need-mul-place
-mul-place c = search needs
-
-array-read-place : tie.Need-array-read-place
-array-read-place c = search needs
-
-place-requires : tie.Need-place-requires
-place-requires c κs = search needs
-
 returns : tie.Need-returns
 returns c =
     let start = c .before .before in
@@ -34,9 +19,5 @@ pub oldest-row-spec : {M : Type 1} → statement M
 oldest-row-spec =
     tie.close
     (tie.spec
-    mul-slot
-    shared-slice-copy-out-slot
-    mul-place
-    array-read-place
-    place-requires
+    (λ c. search needs) (λ c. search needs) (λ c. search needs) (λ c. search needs) (λ c κs. search needs)
     returns)

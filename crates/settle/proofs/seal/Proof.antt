@@ -11,6 +11,17 @@ use mathlib.Core.Path.{_∙_}
 use Rattle.settle.proofs.seal.Statement.{statement}
 use Rattle.settle.proofs.seal.Tie as tie
 
+-- Ways back to earlier places.
+
+abbrev start-of : tie.After-first-states-arg2 → tie.Start
+start-of p = p .before .before .before .before .before .before .before .before
+
+abbrev first-states-of : tie.After-seed-thresholds-arg6 → tie.After-first-states
+first-states-of p = p .before .before .before .before .before .before .before .before
+
+abbrev seed-thresholds-of : tie.After-row-queues → tie.After-seed-thresholds
+seed-thresholds-of p = p .before .before .before .before .before .before .before .before .before
+
 -- The rows as the buffers hold them.
 abbrev held : tie.Start → HeldRows
 held p = let a = p .args in
@@ -32,7 +43,7 @@ last p = let l = p .seed-thresholds .last .1 .1 .1 .1 .1 in
 
 first-states-requires : tie.Need-first-states-requires
 first-states-requires c κs =
-    let start = c .before .before .before .before .before .before .before .before in
+    let start = start-of c in
     let w = start .pre .0 in
     let h = held start in
     let y = w .1 in
@@ -40,8 +51,8 @@ first-states-requires c κs =
 
 seed-thresholds-requires : tie.Need-seed-thresholds-requires
 seed-thresholds-requires c κs =
-    let after-first-states = c .before .before .before .before .before .before .before .before in
-    let start = after-first-states .before .before .before .before .before .before .before .before .before in
+    let after-first-states = first-states-of c in
+    let start = start-of (after-first-states .before) in
     let w = start .pre in
     let h = held start in
     let v = entry start in
@@ -52,41 +63,41 @@ seed-thresholds-requires c κs =
 
 same-length : tie.Need-same-length
 same-length c =
-    let after-seed-thresholds = c .before .before .before .before .before .before .before .before .before in
-    let after-first-states = after-seed-thresholds .before .before .before .before .before .before .before .before .before in
+    let after-seed-thresholds = seed-thresholds-of c in
+    let after-first-states = first-states-of (after-seed-thresholds .before) in
     after-seed-thresholds .seed-thresholds .kept .1 .1 .1 .1 .1 .0 ∙ after-first-states .first-states .kept .1 .1 .1 .0
 
 same-length-2 : tie.Need-same-length-2
 same-length-2 c =
-    let after-seed-thresholds = c .before .before .before .before .before .before .before .before .before in
-    let after-first-states = after-seed-thresholds .before .before .before .before .before .before .before .before .before in
+    let after-seed-thresholds = seed-thresholds-of c in
+    let after-first-states = first-states-of (after-seed-thresholds .before) in
     after-seed-thresholds .seed-thresholds .kept .1 .1 .1 .1 .1 .1 .0 ∙ after-first-states .first-states .kept .1 .1 .1 .1 .0
 
 same-length-3 : tie.Need-same-length-3
 same-length-3 c =
-    let after-seed-thresholds = c .before .before .before .before .before .before .before .before .before in
+    let after-seed-thresholds = seed-thresholds-of c in
     after-seed-thresholds .seed-thresholds .kept .1 .1 .1 .1 .1 .1 .1 .0
 
 same-length-4 : tie.Need-same-length-4
 same-length-4 c =
-    let after-seed-thresholds = c .before .before .before .before .before .before .before .before .before in
+    let after-seed-thresholds = seed-thresholds-of c in
     after-seed-thresholds .seed-thresholds .kept .1 .1 .1 .1 .1 .1 .1 .1 .0
 
 same-length-5 : tie.Need-same-length-5
 same-length-5 c =
-    let after-seed-thresholds = c .before .before .before .before .before .before .before .before .before in
+    let after-seed-thresholds = seed-thresholds-of c in
     after-seed-thresholds .seed-thresholds .kept .1 .1 .1 .1 .1 .1 .1 .1 .1 .0
 
 same-length-6 : tie.Need-same-length-6
 same-length-6 c =
-    let after-seed-thresholds = c .before .before .before .before .before .before .before .before .before in
+    let after-seed-thresholds = seed-thresholds-of c in
     after-seed-thresholds .seed-thresholds .kept .1 .1 .1 .1 .1 .1 .1 .1 .1 .1 .0
 
 returns : tie.Need-returns
 returns c =
-    let after-seed-thresholds = c .before .before .before .before .before .before .before .before .before in
-    let after-first-states = after-seed-thresholds .before .before .before .before .before .before .before .before .before in
-    let start = after-first-states .before .before .before .before .before .before .before .before .before in
+    let after-seed-thresholds = seed-thresholds-of c in
+    let after-first-states = first-states-of (after-seed-thresholds .before) in
+    let start = start-of (after-first-states .before) in
     let h = held start in
     let t = after-seed-thresholds .seed-thresholds in (
       λ x z.

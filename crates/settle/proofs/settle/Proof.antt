@@ -28,6 +28,20 @@ abbrev μ-loop : tie.MeasureT-loop
     let v = liveOf figures cursors sure never node-queue row-queues (so-far .rings) in
     left v
 
+-- Ways back to earlier places.
+
+abbrev start-of : tie.After-waits Inv-loop μ-loop → tie.Start Inv-loop μ-loop
+start-of p = p .before .before .before .before .before .before .before .before
+
+abbrev loop-of : tie.After-turn Inv-loop μ-loop → tie.At-loop Inv-loop μ-loop
+loop-of p = p .before .before .before .before .before .before .before .before .before
+
+abbrev in-loop-of : tie.After-turn-arg6 Inv-loop μ-loop → tie.In-loop Inv-loop μ-loop
+in-loop-of p = p .before .before .before .before .before .before .before
+
+abbrev turn-of : tie.After-contradicts Inv-loop μ-loop → tie.After-turn Inv-loop μ-loop
+turn-of p = p .before .before .before .before .before .before .before .before .before .before
+
 -- What the seal built.
 abbrev buffers : tie.Start Inv-loop μ-loop → Built
 buffers p = let a = p .args in
@@ -52,12 +66,9 @@ then p = let l = p .turn .last .1 .1 .1 .1 .1 .1 .1 .1 .1 in
 abbrev busy : (p : tie.At-loop Inv-loop μ-loop) → p .loop .busy ≡ true → (eqb (p .loop .so-far .rings .nodes .count) 0 && eqb (p .loop .so-far .rings .rows .count) 0) ≡ false
 busy p e = not-true (eqb (p .loop .so-far .rings .nodes .count) 0 && eqb (p .loop .so-far .rings .rows .count) 0) (sym (p .loop .inv .1) ∙ e)
 
-waits-requires : tie.Need-waits-requires Inv-loop μ-loop
-waits-requires c κs = tt
-
 loop-holds : tie.Need-loop-holds Inv-loop μ-loop
 loop-holds c =
-    let start = c .before .before .before .before .before .before .before .before in (
+    let start = start-of c in (
       settling-first (start .args .bounds .now) (buffers start) (entry start) (start .pre .1),
       c .waits .ensures,
       same-self (start .args .figures .now) (start .args .cursors .now) (start .args .sure .now) (start .args .never .now) (start .args .node-queue .now) (start .args .row-queues .now),
@@ -66,59 +77,56 @@ loop-holds c =
 
 turn-requires : tie.Need-turn-requires Inv-loop μ-loop
 turn-requires c κs =
-    let in-loop = c .before .before .before .before .before .before .before in
+    let in-loop = in-loop-of c in
     let at-loop = in-loop .before in
-    let start = at-loop .before .before .before .before .before .before .before .before .before in
+    let start = start-of (at-loop .before) in
     let l = at-loop .loop in
     let e = busy at-loop (in-loop .loop-test .taken) in
     ((start .pre .0, row-waits (l .so-far .rings .nodes .count) (l .so-far .rings .rows .count) e), l .inv .0 .going)
 
-contradicts-requires : tie.Need-contradicts-requires Inv-loop μ-loop
-contradicts-requires c κs = search needs
-
 same-length : tie.Need-same-length Inv-loop μ-loop
 same-length c =
-    let after-turn = c .before .before .before .before .before .before .before .before .before .before .before in
-    let at-loop = after-turn .before .before .before .before .before .before .before .before .before in
+    let after-turn = turn-of (c .before) in
+    let at-loop = loop-of after-turn in
     after-turn .turn .kept .1 .1 .1 .1 .1 .1 .1 .1 .1 .0 ∙ at-loop .loop .inv .2 .figures
 
 same-length-2 : tie.Need-same-length-2 Inv-loop μ-loop
 same-length-2 c =
-    let after-turn = c .before .before .before .before .before .before .before .before .before .before .before in
-    let at-loop = after-turn .before .before .before .before .before .before .before .before .before in
+    let after-turn = turn-of (c .before) in
+    let at-loop = loop-of after-turn in
     after-turn .turn .kept .1 .1 .1 .1 .1 .1 .1 .1 .1 .1 .0 ∙ at-loop .loop .inv .2 .cursors
 
 same-length-3 : tie.Need-same-length-3 Inv-loop μ-loop
 same-length-3 c =
-    let after-turn = c .before .before .before .before .before .before .before .before .before .before .before in
-    let at-loop = after-turn .before .before .before .before .before .before .before .before .before in
+    let after-turn = turn-of (c .before) in
+    let at-loop = loop-of after-turn in
     after-turn .turn .kept .1 .1 .1 .1 .1 .1 .1 .1 .1 .1 .1 .0 ∙ at-loop .loop .inv .2 .sure
 
 same-length-4 : tie.Need-same-length-4 Inv-loop μ-loop
 same-length-4 c =
-    let after-turn = c .before .before .before .before .before .before .before .before .before .before .before in
-    let at-loop = after-turn .before .before .before .before .before .before .before .before .before in
+    let after-turn = turn-of (c .before) in
+    let at-loop = loop-of after-turn in
     after-turn .turn .kept .1 .1 .1 .1 .1 .1 .1 .1 .1 .1 .1 .1 .0 ∙ at-loop .loop .inv .2 .never
 
 same-length-5 : tie.Need-same-length-5 Inv-loop μ-loop
 same-length-5 c =
-    let after-turn = c .before .before .before .before .before .before .before .before .before .before .before in
-    let at-loop = after-turn .before .before .before .before .before .before .before .before .before in
+    let after-turn = turn-of (c .before) in
+    let at-loop = loop-of after-turn in
     after-turn .turn .kept .1 .1 .1 .1 .1 .1 .1 .1 .1 .1 .1 .1 .1 .0 ∙ at-loop .loop .inv .2 .node-queue
 
 same-length-6 : tie.Need-same-length-6 Inv-loop μ-loop
 same-length-6 c =
-    let after-turn = c .before .before .before .before .before .before .before .before .before .before .before in
-    let at-loop = after-turn .before .before .before .before .before .before .before .before .before in
+    let after-turn = turn-of (c .before) in
+    let at-loop = loop-of after-turn in
     after-turn .turn .kept .1 .1 .1 .1 .1 .1 .1 .1 .1 .1 .1 .1 .1 .1 .0 ∙ at-loop .loop .inv .2 .row-queues
 
 returns : tie.Need-returns Inv-loop μ-loop
 returns c =
     let after-contradicts = c .before in
-    let after-turn = after-contradicts .before .before .before .before .before .before .before .before .before .before in
-    let in-loop = after-turn .before .before .before .before .before .before .before .before in
+    let after-turn = turn-of after-contradicts in
+    let in-loop = in-loop-of (after-turn .before) in
     let at-loop = in-loop .before in
-    let start = at-loop .before .before .before .before .before .before .before .before .before in
+    let start = start-of (at-loop .before) in
     let l = at-loop .loop in
     let t = after-turn .turn in
     let e = busy at-loop (in-loop .loop-test .taken) in (
@@ -127,18 +135,12 @@ returns c =
       λ i. t .ensures .1 (l .inv .3 i),
     )
 
-join-requires : tie.Need-join-requires Inv-loop μ-loop
-join-requires c κs = search needs
-
-waits-requires-2 : tie.Need-waits-requires-2 Inv-loop μ-loop
-waits-requires-2 c κs = tt
-
 loop-less : tie.Need-loop-less Inv-loop μ-loop
 loop-less c =
-    let after-turn = c .before .before .before .before .before .before .before .before .before .before .before .before .before .before in
-    let in-loop = after-turn .before .before .before .before .before .before .before .before in
+    let after-turn = turn-of (c .before .before .before .before) in
+    let in-loop = in-loop-of (after-turn .before) in
     let at-loop = in-loop .before in
-    let start = at-loop .before .before .before .before .before .before .before .before .before in
+    let start = start-of (at-loop .before) in
     let l = at-loop .loop in
     let t = after-turn .turn in
     let w = start .pre .0 in
@@ -150,10 +152,10 @@ loop-again c =
     let after-join = c .before in
     let else1 = after-join .before .before in
     let after-contradicts = else1 .before in
-    let after-turn = after-contradicts .before .before .before .before .before .before .before .before .before .before in
-    let in-loop = after-turn .before .before .before .before .before .before .before .before in
+    let after-turn = turn-of after-contradicts in
+    let in-loop = in-loop-of (after-turn .before) in
     let at-loop = in-loop .before in
-    let start = at-loop .before .before .before .before .before .before .before .before .before in
+    let start = start-of (at-loop .before) in
     let l = at-loop .loop in
     let t = after-turn .turn in
     let w = start .pre .0 in
@@ -207,7 +209,7 @@ same-length-12 c =
 returns-2 : tie.Need-returns-2 Inv-loop μ-loop
 returns-2 c =
     let at-loop = c .before in
-    let start = at-loop .before .before .before .before .before .before .before .before .before in
+    let start = start-of (at-loop .before) in
     let l = at-loop .loop in
     let e = not-false (eqb (l .so-far .rings .nodes .count) 0 && eqb (l .so-far .rings .rows .count) 0) (sym (l .inv .1) ∙ c .loop-test .left) in
     (settling-end (start .args .bounds .now) (buffers start) (entry start) (l .so-far .step) (here at-loop) (l .inv .0) e, l .inv .3)
@@ -218,10 +220,10 @@ settle-spec =
     (tie.spec
     Inv-loop
     μ-loop
-    waits-requires
+    (λ c κs. tt)
     loop-holds
     turn-requires
-    contradicts-requires
+    (λ c κs. search needs)
     same-length
     same-length-2
     same-length-3
@@ -229,8 +231,7 @@ settle-spec =
     same-length-5
     same-length-6
     returns
-    join-requires
-    waits-requires-2
+    (λ c κs. search needs) (λ c κs. tt)
     loop-less
     loop-again
     same-length-7

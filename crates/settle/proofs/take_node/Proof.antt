@@ -12,6 +12,26 @@ use borrow.Author.Needs.{needs}
 use Rattle.settle.proofs.take_node.Statement.{statement}
 use Rattle.settle.proofs.take_node.Tie as tie
 
+-- Ways back to earlier places.
+
+abbrev start-of : tie.After-oldest-node-arg → tie.Start
+start-of p = p .before .before .before .before .before .before .before .before
+
+abbrev popped-of : tie.After-guard-at-arg6 → tie.After-popped
+popped-of p = p .before .before .before .before .before .before .before .before
+
+abbrev guard-at-of : tie.After-contradicts → tie.After-guard-at
+guard-at-of p = p .before .before .before .before .before .before .before .before .before .before
+
+abbrev contradicts-of : tie.After-threshold-condition → tie.After-contradicts
+contradicts-of p = p .before .before .before .before .before .before .before .before .before
+
+abbrev else1-of : tie.After-threshold-condition-arg6 → tie.Else1
+else1-of p = p .before .before .before .before .before .before .before
+
+abbrev threshold-condition-of : tie.After-join → tie.After-threshold-condition
+threshold-condition-of p = p .before .before .before .before .before .before .before .before .before .before .before
+
 -- The rows as the buffers hold them.
 abbrev held : tie.Start → HeldRows
 held p = let a = p .args in
@@ -38,20 +58,20 @@ last p = let l = p .threshold-condition .last .1 .1 .1 .1 .1 .1 .1 in
 
 oldest-node-requires : tie.Need-oldest-node-requires
 oldest-node-requires c κs =
-    let start = c .before .before .before .before .before .before .before .before in
+    let start = start-of c in
     let h = start .pre .1 .sound .waits .held in
     omega (arith, h .head, h .long)
 
 popped-requires : tie.Need-popped-requires
 popped-requires c κs =
-    let start = c .before .before .before .before .before .before .before .before .before in
+    let start = start-of (c .before) in
     (start .pre .1 .sound .waits .held .head, start .pre .0 .1)
 
 guard-at-requires : tie.Need-guard-at-requires
 guard-at-requires c κs =
-    let after-popped = c .before .before .before .before .before .before .before .before in
+    let after-popped = popped-of c in
     let after-oldest-node = after-popped .before in
-    let start = after-oldest-node .before .before .before .before .before .before .before .before .before in
+    let start = start-of (after-oldest-node .before) in
     let w = start .pre in
     let x = w .0 .0 .0 in
     let b = buffers start (w .0 .0 .1) in
@@ -63,46 +83,43 @@ guard-at-requires c κs =
     let t = node-taken x bounds b s v (w .1) (w .0 .1) (o .result) (o .ensures) (p .result) (p .ensures) in
     ((s .shaped, s .guarded, t .there, t .small, s .linked .inside .rising), t .run)
 
-contradicts-requires : tie.Need-contradicts-requires
-contradicts-requires c κs = search needs
-
 same-length : tie.Need-same-length
 same-length c =
-    let after-guard-at = c .before .before .before .before .before .before .before .before .before .before .before in
+    let after-guard-at = guard-at-of (c .before) in
     after-guard-at .guard-at .kept .1 .1 .1 .1 .1 .1 .1 .0
 
 same-length-2 : tie.Need-same-length-2
 same-length-2 c =
-    let after-guard-at = c .before .before .before .before .before .before .before .before .before .before .before in
+    let after-guard-at = guard-at-of (c .before) in
     after-guard-at .guard-at .kept .1 .1 .1 .1 .1 .1 .1 .1 .0
 
 same-length-3 : tie.Need-same-length-3
 same-length-3 c =
-    let after-guard-at = c .before .before .before .before .before .before .before .before .before .before .before in
+    let after-guard-at = guard-at-of (c .before) in
     after-guard-at .guard-at .kept .1 .1 .1 .1 .1 .1 .1 .1 .1 .0
 
 same-length-4 : tie.Need-same-length-4
 same-length-4 c =
-    let after-guard-at = c .before .before .before .before .before .before .before .before .before .before .before in
+    let after-guard-at = guard-at-of (c .before) in
     after-guard-at .guard-at .kept .1 .1 .1 .1 .1 .1 .1 .1 .1 .1 .0
 
 same-length-5 : tie.Need-same-length-5
 same-length-5 c =
-    let after-guard-at = c .before .before .before .before .before .before .before .before .before .before .before in
+    let after-guard-at = guard-at-of (c .before) in
     after-guard-at .guard-at .kept .1 .1 .1 .1 .1 .1 .1 .1 .1 .1 .1 .0
 
 same-length-6 : tie.Need-same-length-6
 same-length-6 c =
-    let after-guard-at = c .before .before .before .before .before .before .before .before .before .before .before in
+    let after-guard-at = guard-at-of (c .before) in
     after-guard-at .guard-at .kept .1 .1 .1 .1 .1 .1 .1 .1 .1 .1 .1 .1 .0
 
 returns : tie.Need-returns
 returns c =
     let after-contradicts = c .before in
-    let after-guard-at = after-contradicts .before .before .before .before .before .before .before .before .before .before in
-    let after-popped = after-guard-at .before .before .before .before .before .before .before .before .before in
+    let after-guard-at = guard-at-of after-contradicts in
+    let after-popped = popped-of (after-guard-at .before) in
     let after-oldest-node = after-popped .before in
-    let start = after-oldest-node .before .before .before .before .before .before .before .before .before in
+    let start = start-of (after-oldest-node .before) in
     let w = start .pre in
     let o = after-oldest-node .oldest-node in
     let p = after-popped .popped in
@@ -115,10 +132,10 @@ returns c =
 
 threshold-condition-requires : tie.Need-threshold-condition-requires
 threshold-condition-requires c κs =
-    let after-guard-at = c .before .before .before .before .before .before .before .before .before .before .before .before .before .before .before .before .before .before in
-    let after-popped = after-guard-at .before .before .before .before .before .before .before .before .before in
+    let after-guard-at = guard-at-of (else1-of c .before) in
+    let after-popped = popped-of (after-guard-at .before) in
     let after-oldest-node = after-popped .before in
-    let start = after-oldest-node .before .before .before .before .before .before .before .before .before in
+    let start = start-of (after-oldest-node .before) in
     let w = start .pre in
     let x = w .0 .0 .0 in
     let l = w .0 .0 .1 in
@@ -134,54 +151,51 @@ threshold-condition-requires c κs =
     let run = node-next-run x bounds b s v (w .1) (w .0 .1) (o .result) (o .ensures) (p .result) (p .ensures) (did (told after-guard-at) (g .result .step)) made in
     ((s .shaped, s .edged, t .there, t .small), run .ready)
 
-join-requires : tie.Need-join-requires
-join-requires c κs = search needs
-
 same-length-7 : tie.Need-same-length-7
 same-length-7 c =
-    let after-threshold-condition = c .before .before .before .before .before .before .before .before .before .before .before in
-    let after-guard-at = after-threshold-condition .before .before .before .before .before .before .before .before .before .before .before .before .before .before .before .before .before .before .before in
+    let after-threshold-condition = threshold-condition-of c in
+    let after-guard-at = guard-at-of (contradicts-of after-threshold-condition) in
     after-threshold-condition .threshold-condition .kept .1 .1 .1 .1 .1 .1 .1 .0 ∙ after-guard-at .guard-at .kept .1 .1 .1 .1 .1 .1 .1 .0
 
 same-length-8 : tie.Need-same-length-8
 same-length-8 c =
-    let after-threshold-condition = c .before .before .before .before .before .before .before .before .before .before .before in
-    let after-guard-at = after-threshold-condition .before .before .before .before .before .before .before .before .before .before .before .before .before .before .before .before .before .before .before in
+    let after-threshold-condition = threshold-condition-of c in
+    let after-guard-at = guard-at-of (contradicts-of after-threshold-condition) in
     after-threshold-condition .threshold-condition .kept .1 .1 .1 .1 .1 .1 .1 .1 .0 ∙ after-guard-at .guard-at .kept .1 .1 .1 .1 .1 .1 .1 .1 .0
 
 same-length-9 : tie.Need-same-length-9
 same-length-9 c =
-    let after-threshold-condition = c .before .before .before .before .before .before .before .before .before .before .before in
-    let after-guard-at = after-threshold-condition .before .before .before .before .before .before .before .before .before .before .before .before .before .before .before .before .before .before .before in
+    let after-threshold-condition = threshold-condition-of c in
+    let after-guard-at = guard-at-of (contradicts-of after-threshold-condition) in
     after-threshold-condition .threshold-condition .kept .1 .1 .1 .1 .1 .1 .1 .1 .1 .0 ∙ after-guard-at .guard-at .kept .1 .1 .1 .1 .1 .1 .1 .1 .1 .0
 
 same-length-10 : tie.Need-same-length-10
 same-length-10 c =
-    let after-threshold-condition = c .before .before .before .before .before .before .before .before .before .before .before in
-    let after-guard-at = after-threshold-condition .before .before .before .before .before .before .before .before .before .before .before .before .before .before .before .before .before .before .before in
+    let after-threshold-condition = threshold-condition-of c in
+    let after-guard-at = guard-at-of (contradicts-of after-threshold-condition) in
     after-threshold-condition .threshold-condition .kept .1 .1 .1 .1 .1 .1 .1 .1 .1 .1 .0 ∙ after-guard-at .guard-at .kept .1 .1 .1 .1 .1 .1 .1 .1 .1 .1 .0
 
 same-length-11 : tie.Need-same-length-11
 same-length-11 c =
-    let after-threshold-condition = c .before .before .before .before .before .before .before .before .before .before .before in
-    let after-guard-at = after-threshold-condition .before .before .before .before .before .before .before .before .before .before .before .before .before .before .before .before .before .before .before in
+    let after-threshold-condition = threshold-condition-of c in
+    let after-guard-at = guard-at-of (contradicts-of after-threshold-condition) in
     after-threshold-condition .threshold-condition .kept .1 .1 .1 .1 .1 .1 .1 .1 .1 .1 .1 .0 ∙ after-guard-at .guard-at .kept .1 .1 .1 .1 .1 .1 .1 .1 .1 .1 .1 .0
 
 same-length-12 : tie.Need-same-length-12
 same-length-12 c =
-    let after-threshold-condition = c .before .before .before .before .before .before .before .before .before .before .before in
-    let after-guard-at = after-threshold-condition .before .before .before .before .before .before .before .before .before .before .before .before .before .before .before .before .before .before .before in
+    let after-threshold-condition = threshold-condition-of c in
+    let after-guard-at = guard-at-of (contradicts-of after-threshold-condition) in
     after-threshold-condition .threshold-condition .kept .1 .1 .1 .1 .1 .1 .1 .1 .1 .1 .1 .1 .0 ∙ after-guard-at .guard-at .kept .1 .1 .1 .1 .1 .1 .1 .1 .1 .1 .1 .1 .0
 
 returns-2 : tie.Need-returns-2
 returns-2 c =
-    let after-threshold-condition = c .before .before .before .before .before .before .before .before .before .before .before in
-    let else1 = after-threshold-condition .before .before .before .before .before .before .before .before in
+    let after-threshold-condition = threshold-condition-of c in
+    let else1 = else1-of (after-threshold-condition .before) in
     let after-contradicts = else1 .before in
-    let after-guard-at = after-contradicts .before .before .before .before .before .before .before .before .before .before in
-    let after-popped = after-guard-at .before .before .before .before .before .before .before .before .before in
+    let after-guard-at = guard-at-of after-contradicts in
+    let after-popped = popped-of (after-guard-at .before) in
     let after-oldest-node = after-popped .before in
-    let start = after-oldest-node .before .before .before .before .before .before .before .before .before in
+    let start = start-of (after-oldest-node .before) in
     let w = start .pre in
     let o = after-oldest-node .oldest-node in
     let p = after-popped .popped in
@@ -201,7 +215,7 @@ take-node-spec =
     oldest-node-requires
     popped-requires
     guard-at-requires
-    contradicts-requires
+    (λ c κs. search needs)
     same-length
     same-length-2
     same-length-3
@@ -210,7 +224,7 @@ take-node-spec =
     same-length-6
     returns
     threshold-condition-requires
-    join-requires
+    (λ c κs. search needs)
     same-length-7
     same-length-8
     same-length-9

@@ -11,6 +11,17 @@ use mathlib.Core.Path.{_∙_, refl}
 use Rattle.settle.proofs.take_row.Statement.{statement}
 use Rattle.settle.proofs.take_row.Tie as tie
 
+-- Ways back to earlier places.
+
+abbrev start-of : tie.After-oldest-row-arg → tie.Start
+start-of p = p .before .before .before .before .before .before .before .before .before
+
+abbrev next-row-of : tie.After-threshold-prefixes-arg6 → tie.After-next-row
+next-row-of p = p .before .before .before .before .before .before .before .before .before
+
+abbrev threshold-prefixes-of : tie.After-row-queues2 → tie.After-threshold-prefixes
+threshold-prefixes-of p = p .before .before .before .before .before .before .before .before .before
+
 -- The rows as the buffers hold them.
 abbrev held : tie.Start → HeldRows
 held p = let a = p .args in
@@ -28,21 +39,21 @@ last p = let l = p .threshold-prefixes .last .1 .1 .1 .1 .1 .1 in
 
 oldest-row-requires : tie.Need-oldest-row-requires
 oldest-row-requires c κs =
-    let start = c .before .before .before .before .before .before .before .before .before in
+    let start = start-of c in
     (slots-head 0 (start .args .row-queues .now) (start .args .rings .rows) (start .pre .1 .dirty), omega arith)
 
 next-row-requires : tie.Need-next-row-requires
 next-row-requires c κs =
-    let start = c .before .before .before .before .before .before .before .before .before .before .before in
+    let start = start-of (c .before .before) in
     let f = start .pre .1 .dirty in
     let some = start .pre .0 .2 in
     (omega arith, refl, f .held, some, slots-oldest 0 (start .args .row-queues .now) (start .args .rings .rows) f some)
 
 threshold-prefixes-requires : tie.Need-threshold-prefixes-requires
 threshold-prefixes-requires c κs =
-    let after-next-row = c .before .before .before .before .before .before .before .before .before in
+    let after-next-row = next-row-of c in
     let after-oldest-row = after-next-row .before .before in
-    let start = after-oldest-row .before .before .before .before .before .before .before .before .before .before in
+    let start = start-of (after-oldest-row .before) in
     let v = entry start in
     let w = start .pre .0 in
     let n = after-next-row .next-row in
@@ -53,41 +64,41 @@ threshold-prefixes-requires c κs =
 
 same-length : tie.Need-same-length
 same-length c =
-    let after-threshold-prefixes = c .before .before .before .before .before .before .before .before .before in
+    let after-threshold-prefixes = threshold-prefixes-of c in
     after-threshold-prefixes .threshold-prefixes .kept .1 .1 .1 .1 .1 .1 .0
 
 same-length-2 : tie.Need-same-length-2
 same-length-2 c =
-    let after-threshold-prefixes = c .before .before .before .before .before .before .before .before .before in
+    let after-threshold-prefixes = threshold-prefixes-of c in
     after-threshold-prefixes .threshold-prefixes .kept .1 .1 .1 .1 .1 .1 .1 .0
 
 same-length-3 : tie.Need-same-length-3
 same-length-3 c =
-    let after-threshold-prefixes = c .before .before .before .before .before .before .before .before .before in
+    let after-threshold-prefixes = threshold-prefixes-of c in
     after-threshold-prefixes .threshold-prefixes .kept .1 .1 .1 .1 .1 .1 .1 .1 .0
 
 same-length-4 : tie.Need-same-length-4
 same-length-4 c =
-    let after-threshold-prefixes = c .before .before .before .before .before .before .before .before .before in
+    let after-threshold-prefixes = threshold-prefixes-of c in
     after-threshold-prefixes .threshold-prefixes .kept .1 .1 .1 .1 .1 .1 .1 .1 .1 .0
 
 same-length-5 : tie.Need-same-length-5
 same-length-5 c =
-    let after-threshold-prefixes = c .before .before .before .before .before .before .before .before .before in
+    let after-threshold-prefixes = threshold-prefixes-of c in
     after-threshold-prefixes .threshold-prefixes .kept .1 .1 .1 .1 .1 .1 .1 .1 .1 .1 .0
 
 same-length-6 : tie.Need-same-length-6
 same-length-6 c =
-    let after-threshold-prefixes = c .before .before .before .before .before .before .before .before .before in
-    let after-next-row = after-threshold-prefixes .before .before .before .before .before .before .before .before .before .before in
+    let after-threshold-prefixes = threshold-prefixes-of c in
+    let after-next-row = next-row-of (after-threshold-prefixes .before) in
     after-threshold-prefixes .threshold-prefixes .kept .1 .1 .1 .1 .1 .1 .1 .1 .1 .1 .1 .0 ∙ after-next-row .next-row .kept .0
 
 returns : tie.Need-returns
 returns c =
-    let after-threshold-prefixes = c .before .before .before .before .before .before .before .before .before in
-    let after-next-row = after-threshold-prefixes .before .before .before .before .before .before .before .before .before .before in
+    let after-threshold-prefixes = threshold-prefixes-of c in
+    let after-next-row = next-row-of (after-threshold-prefixes .before) in
     let after-oldest-row = after-next-row .before .before in
-    let start = after-oldest-row .before .before .before .before .before .before .before .before .before .before in
+    let start = start-of (after-oldest-row .before) in
     let v = entry start in
     let n = after-next-row .next-row in
     let q = n .last .0 in

@@ -9,6 +9,26 @@ use Rattle.settle.specs.TurnLaws.{going-run, turn-is}
 use Rattle.settle.proofs.turn.Statement.{statement}
 use Rattle.settle.proofs.turn.Tie as tie
 
+-- Ways back to earlier places.
+
+abbrev start-of : tie.Else1 → tie.Start
+start-of p = p .before .before .before .before .before .before .before .before .before
+
+abbrev start-of-then1 : tie.Then1 → tie.Start
+start-of-then1 p = p .before .before .before .before .before .before .before .before .before
+
+abbrev else1-of : tie.After-take-node-arg6 → tie.Else1
+else1-of p = p .before .before .before .before .before .before
+
+abbrev then1-of : tie.After-take-row-arg6 → tie.Then1
+then1-of p = p .before .before .before .before .before .before
+
+abbrev take-node-of : tie.After-row-queues2 → tie.After-take-node
+take-node-of p = p .before .before .before .before .before .before .before .before .before
+
+abbrev take-row-of : tie.After-row-queues → tie.After-take-row
+take-row-of p = p .before .before .before .before .before .before .before .before .before
+
 -- The rows as the buffers hold them.
 abbrev held : tie.Start → HeldRows
 held p = let a = p .args in
@@ -31,93 +51,93 @@ node p = let l = p .take-node .last .1 .1 .1 .1 .1 .1 .1 .1 in
 
 take-row-requires : tie.Need-take-row-requires
 take-row-requires c κs =
-    let then1 = c .before .before .before .before .before .before in
-    let start = then1 .before .before .before .before .before .before .before .before .before in
+    let then1 = then1-of c in
+    let start = start-of-then1 then1 in
     let w = start .pre in
     let s = w .0 .0 .1 in
     ((s .shaped, s .linked, w .0 .1 (then1 .if1 .taken), w .1 .within .tracked .dirty), going-run (held start) (start .args .nodes .now) (entry start) (w .1))
 
 same-length : tie.Need-same-length
 same-length c =
-    let after-take-row = c .before .before .before .before .before .before .before .before .before in
+    let after-take-row = take-row-of c in
     after-take-row .take-row .kept .1 .1 .1 .1 .1 .1 .0
 
 same-length-2 : tie.Need-same-length-2
 same-length-2 c =
-    let after-take-row = c .before .before .before .before .before .before .before .before .before in
+    let after-take-row = take-row-of c in
     after-take-row .take-row .kept .1 .1 .1 .1 .1 .1 .1 .0
 
 same-length-3 : tie.Need-same-length-3
 same-length-3 c =
-    let after-take-row = c .before .before .before .before .before .before .before .before .before in
+    let after-take-row = take-row-of c in
     after-take-row .take-row .kept .1 .1 .1 .1 .1 .1 .1 .1 .0
 
 same-length-4 : tie.Need-same-length-4
 same-length-4 c =
-    let after-take-row = c .before .before .before .before .before .before .before .before .before in
+    let after-take-row = take-row-of c in
     after-take-row .take-row .kept .1 .1 .1 .1 .1 .1 .1 .1 .1 .0
 
 same-length-5 : tie.Need-same-length-5
 same-length-5 c =
-    let after-take-row = c .before .before .before .before .before .before .before .before .before in
+    let after-take-row = take-row-of c in
     after-take-row .take-row .kept .1 .1 .1 .1 .1 .1 .1 .1 .1 .1 .0
 
 same-length-6 : tie.Need-same-length-6
 same-length-6 c =
-    let after-take-row = c .before .before .before .before .before .before .before .before .before in
+    let after-take-row = take-row-of c in
     after-take-row .take-row .kept .1 .1 .1 .1 .1 .1 .1 .1 .1 .1 .1 .0
 
 returns : tie.Need-returns
 returns c =
-    let after-take-row = c .before .before .before .before .before .before .before .before .before in
-    let then1 = after-take-row .before .before .before .before .before .before .before in
-    let start = then1 .before .before .before .before .before .before .before .before .before in
+    let after-take-row = take-row-of c in
+    let then1 = then1-of (after-take-row .before) in
+    let start = start-of-then1 then1 in
     let t = after-take-row .take-row in
     let e = eq-eqb (start .args .rings .nodes .count) 0 (then1 .if1 .taken) in
     (λ x s. turn-is x (entry start) (did (row after-take-row) (t .result .step)) true e (t .ensures .0 x (s .holds) (s .holds-links)), t .ensures .1)
 
 take-node-requires : tie.Need-take-node-requires
 take-node-requires c κs =
-    let else1 = c .before .before .before .before .before .before in
-    let start = else1 .before .before .before .before .before .before .before .before .before in
+    let else1 = else1-of c in
+    let start = start-of else1 in
     let w = start .pre in
     (((w .0 .0 .0, start .args .links .now, w .0 .0 .1), omega (arith, else1 .if1 .left)), w .1)
 
 same-length-7 : tie.Need-same-length-7
 same-length-7 c =
-    let after-take-node = c .before .before .before .before .before .before .before .before .before in
+    let after-take-node = take-node-of c in
     after-take-node .take-node .kept .1 .1 .1 .1 .1 .1 .1 .1 .0
 
 same-length-8 : tie.Need-same-length-8
 same-length-8 c =
-    let after-take-node = c .before .before .before .before .before .before .before .before .before in
+    let after-take-node = take-node-of c in
     after-take-node .take-node .kept .1 .1 .1 .1 .1 .1 .1 .1 .1 .0
 
 same-length-9 : tie.Need-same-length-9
 same-length-9 c =
-    let after-take-node = c .before .before .before .before .before .before .before .before .before in
+    let after-take-node = take-node-of c in
     after-take-node .take-node .kept .1 .1 .1 .1 .1 .1 .1 .1 .1 .1 .0
 
 same-length-10 : tie.Need-same-length-10
 same-length-10 c =
-    let after-take-node = c .before .before .before .before .before .before .before .before .before in
+    let after-take-node = take-node-of c in
     after-take-node .take-node .kept .1 .1 .1 .1 .1 .1 .1 .1 .1 .1 .1 .0
 
 same-length-11 : tie.Need-same-length-11
 same-length-11 c =
-    let after-take-node = c .before .before .before .before .before .before .before .before .before in
+    let after-take-node = take-node-of c in
     after-take-node .take-node .kept .1 .1 .1 .1 .1 .1 .1 .1 .1 .1 .1 .1 .0
 
 same-length-12 : tie.Need-same-length-12
 same-length-12 c =
-    let after-take-node = c .before .before .before .before .before .before .before .before .before in
+    let after-take-node = take-node-of c in
     after-take-node .take-node .kept .1 .1 .1 .1 .1 .1 .1 .1 .1 .1 .1 .1 .1 .0
 
 returns-2 : tie.Need-returns-2
 returns-2 c =
-    let after-take-node = c .before .before .before .before .before .before .before .before .before in
-    let else1 = after-take-node .before .before .before .before .before .before .before in
-    let start = else1 .before .before .before .before .before .before .before .before .before in
+    let after-take-node = take-node-of c in
+    let else1 = else1-of (after-take-node .before) in
+    let start = start-of else1 in
     let t = after-take-node .take-node in
     let e = ne-eqb (start .args .rings .nodes .count) 0 (else1 .if1 .left) in
     (λ x s. turn-is x (entry start) (did (node after-take-node) (t .result .step)) false e (t .ensures .0 x (start .args .links .now) s), t .ensures .1)

@@ -33,6 +33,20 @@ abbrev μ-loop : tie.MeasureT-loop
     let v = liveOf figures cursors sure never node-queue row-queues (so-far .rings) in
     left v + cond more 1 0
 
+-- Ways back to earlier places.
+
+abbrev start-of : tie.After-slice-known5 Inv-loop μ-loop → tie.Start Inv-loop μ-loop
+start-of p = p .before .before .before .before .before .before .before .before .before
+
+abbrev loop-of : tie.After-sift-once Inv-loop μ-loop → tie.At-loop Inv-loop μ-loop
+loop-of p = p .before .before .before .before .before .before .before .before .before .before .before
+
+abbrev in-loop-of : tie.After-sift-once-arg8 Inv-loop μ-loop → tie.In-loop Inv-loop μ-loop
+in-loop-of p = p .before .before .before .before .before .before .before .before .before
+
+abbrev sift-once-of : tie.After-contradicts Inv-loop μ-loop → tie.After-sift-once Inv-loop μ-loop
+sift-once-of p = p .before .before .before .before .before .before .before .before .before .before .before .before .before .before .before
+
 -- What the seal built.
 abbrev buffers : tie.Start Inv-loop μ-loop → Built
 buffers p = let a = p .args in
@@ -56,7 +70,7 @@ turned p = let l = p .sift-once .last .1 .1 .1 .1 .1 .1 .1 .1 .1 in
 
 loop-holds : tie.Need-loop-holds Inv-loop μ-loop
 loop-holds c =
-    let start = c .before .before .before .before .before .before .before .before .before in (
+    let start = start-of c in (
       sifting-first (start .args .bounds .now) (buffers start) (entry start) (start .args .gcds .now) (start .pre .1),
       start .pre .0 .2,
       refl,
@@ -67,68 +81,65 @@ loop-holds c =
 
 sift-once-requires : tie.Need-sift-once-requires Inv-loop μ-loop
 sift-once-requires c κs =
-    let at-loop = c .before .before .before .before .before .before .before .before .before .before in
-    let start = at-loop .before .before .before .before .before .before .before .before .before .before in
+    let at-loop = in-loop-of c .before in
+    let start = start-of (at-loop .before) in
     ((start .pre .0 .0, start .pre .0 .1, at-loop .loop .inv .1), at-loop .loop .inv .0 .going)
-
-contradicts-requires : tie.Need-contradicts-requires Inv-loop μ-loop
-contradicts-requires c κs = search needs
 
 same-length : tie.Need-same-length Inv-loop μ-loop
 same-length c =
-    let after-sift-once = c .before .before .before .before .before .before .before .before .before .before .before .before .before .before .before .before in
-    let at-loop = after-sift-once .before .before .before .before .before .before .before .before .before .before .before in
+    let after-sift-once = sift-once-of (c .before) in
+    let at-loop = loop-of after-sift-once in
     after-sift-once .sift-once .kept .1 .1 .1 .1 .1 .1 .1 .1 .1 .0 ∙ at-loop .loop .inv .3 .figures
 
 same-length-2 : tie.Need-same-length-2 Inv-loop μ-loop
 same-length-2 c =
-    let after-sift-once = c .before .before .before .before .before .before .before .before .before .before .before .before .before .before .before .before in
-    let at-loop = after-sift-once .before .before .before .before .before .before .before .before .before .before .before in
+    let after-sift-once = sift-once-of (c .before) in
+    let at-loop = loop-of after-sift-once in
     after-sift-once .sift-once .kept .1 .1 .1 .1 .1 .1 .1 .1 .1 .1 .0 ∙ at-loop .loop .inv .3 .cursors
 
 same-length-3 : tie.Need-same-length-3 Inv-loop μ-loop
 same-length-3 c =
-    let after-sift-once = c .before .before .before .before .before .before .before .before .before .before .before .before .before .before .before .before in
-    let at-loop = after-sift-once .before .before .before .before .before .before .before .before .before .before .before in
+    let after-sift-once = sift-once-of (c .before) in
+    let at-loop = loop-of after-sift-once in
     after-sift-once .sift-once .kept .1 .1 .1 .1 .1 .1 .1 .1 .1 .1 .1 .0 ∙ at-loop .loop .inv .3 .sure
 
 same-length-4 : tie.Need-same-length-4 Inv-loop μ-loop
 same-length-4 c =
-    let after-sift-once = c .before .before .before .before .before .before .before .before .before .before .before .before .before .before .before .before in
-    let at-loop = after-sift-once .before .before .before .before .before .before .before .before .before .before .before in
+    let after-sift-once = sift-once-of (c .before) in
+    let at-loop = loop-of after-sift-once in
     after-sift-once .sift-once .kept .1 .1 .1 .1 .1 .1 .1 .1 .1 .1 .1 .1 .0 ∙ at-loop .loop .inv .3 .never
 
 same-length-5 : tie.Need-same-length-5 Inv-loop μ-loop
 same-length-5 c =
-    let after-sift-once = c .before .before .before .before .before .before .before .before .before .before .before .before .before .before .before .before in
-    let at-loop = after-sift-once .before .before .before .before .before .before .before .before .before .before .before in
+    let after-sift-once = sift-once-of (c .before) in
+    let at-loop = loop-of after-sift-once in
     after-sift-once .sift-once .kept .1 .1 .1 .1 .1 .1 .1 .1 .1 .1 .1 .1 .1 .0 ∙ at-loop .loop .inv .3 .node-queue
 
 same-length-6 : tie.Need-same-length-6 Inv-loop μ-loop
 same-length-6 c =
-    let after-sift-once = c .before .before .before .before .before .before .before .before .before .before .before .before .before .before .before .before in
-    let at-loop = after-sift-once .before .before .before .before .before .before .before .before .before .before .before in
+    let after-sift-once = sift-once-of (c .before) in
+    let at-loop = loop-of after-sift-once in
     after-sift-once .sift-once .kept .1 .1 .1 .1 .1 .1 .1 .1 .1 .1 .1 .1 .1 .1 .0 ∙ at-loop .loop .inv .3 .row-queues
 
 same-length-7 : tie.Need-same-length-7 Inv-loop μ-loop
 same-length-7 c =
-    let after-sift-once = c .before .before .before .before .before .before .before .before .before .before .before .before .before .before .before .before in
-    let at-loop = after-sift-once .before .before .before .before .before .before .before .before .before .before .before in
+    let after-sift-once = sift-once-of (c .before) in
+    let at-loop = loop-of after-sift-once in
     after-sift-once .sift-once .kept .1 .1 .1 .1 .1 .1 .1 .1 .1 .1 .1 .1 .1 .1 .1 .0 ∙ at-loop .loop .inv .4
 
 same-length-8 : tie.Need-same-length-8 Inv-loop μ-loop
 same-length-8 c =
-    let after-sift-once = c .before .before .before .before .before .before .before .before .before .before .before .before .before .before .before .before in
-    let at-loop = after-sift-once .before .before .before .before .before .before .before .before .before .before .before in
+    let after-sift-once = sift-once-of (c .before) in
+    let at-loop = loop-of after-sift-once in
     after-sift-once .sift-once .kept .1 .1 .1 .1 .1 .1 .1 .1 .1 .1 .1 .1 .1 .1 .1 .1 .0 ∙ ap (λ (l : List ℕ). length l) (at-loop .loop .inv .2)
 
 returns : tie.Need-returns Inv-loop μ-loop
 returns c =
     let after-contradicts = c .before in
-    let after-sift-once = after-contradicts .before .before .before .before .before .before .before .before .before .before .before .before .before .before .before in
-    let in-loop = after-sift-once .before .before .before .before .before .before .before .before .before .before in
+    let after-sift-once = sift-once-of after-contradicts in
+    let in-loop = in-loop-of (after-sift-once .before) in
     let at-loop = in-loop .before in
-    let start = at-loop .before .before .before .before .before .before .before .before .before .before in
+    let start = start-of (at-loop .before) in
     let a = start .args in
     let l = at-loop .loop in
     let t = after-sift-once .sift-once in (
@@ -138,15 +149,12 @@ returns c =
       t .ensures .2 ∙ l .inv .2,
     )
 
-join-requires : tie.Need-join-requires Inv-loop μ-loop
-join-requires c κs = search needs
-
 loop-less : tie.Need-loop-less Inv-loop μ-loop
 loop-less c =
-    let after-sift-once = c .before .before .before .before .before .before .before .before .before .before .before .before .before .before .before .before .before in
-    let in-loop = after-sift-once .before .before .before .before .before .before .before .before .before .before in
+    let after-sift-once = sift-once-of (c .before .before) in
+    let in-loop = in-loop-of (after-sift-once .before) in
     let at-loop = in-loop .before in
-    let start = at-loop .before .before .before .before .before .before .before .before .before .before in
+    let start = start-of (at-loop .before) in
     let a = start .args in
     let l = at-loop .loop in
     let w = start .pre .0 .0 in
@@ -157,10 +165,10 @@ loop-again : tie.Need-loop-again Inv-loop μ-loop
 loop-again c =
     let else1 = c .before in
     let after-contradicts = else1 .before in
-    let after-sift-once = after-contradicts .before .before .before .before .before .before .before .before .before .before .before .before .before .before .before in
-    let in-loop = after-sift-once .before .before .before .before .before .before .before .before .before .before in
+    let after-sift-once = sift-once-of after-contradicts in
+    let in-loop = in-loop-of (after-sift-once .before) in
     let at-loop = in-loop .before in
-    let start = at-loop .before .before .before .before .before .before .before .before .before .before in
+    let start = start-of (at-loop .before) in
     let a = start .args in
     let l = at-loop .loop in
     let w = start .pre .0 .0 in
@@ -227,7 +235,7 @@ same-length-16 c =
 returns-2 : tie.Need-returns-2 Inv-loop μ-loop
 returns-2 c =
     let at-loop = c .before in
-    let start = at-loop .before .before .before .before .before .before .before .before .before .before in
+    let start = start-of (at-loop .before) in
     let a = start .args in
     let l = at-loop .loop in (
       sifting-end (a .bounds .now) (buffers start) (entry start) (a .gcds .now) (l .so-far .step) (l .so-far .visits) (l .more) (here at-loop) (l .gcds) (l .inv .0) (c .loop-test .left),
@@ -243,7 +251,7 @@ sift-spec =
     μ-loop
     loop-holds
     sift-once-requires
-    contradicts-requires
+    (λ c κs. search needs)
     same-length
     same-length-2
     same-length-3
@@ -253,7 +261,7 @@ sift-spec =
     same-length-7
     same-length-8
     returns
-    join-requires
+    (λ c κs. search needs)
     loop-less
     loop-again
     same-length-9

@@ -11,6 +11,23 @@ use borrow.Author.Needs.{needs}
 use Rattle.sift.proofs.sift_once.Statement.{statement}
 use Rattle.sift.proofs.sift_once.Tie as tie
 
+-- Ways back to earlier places.
+
+abbrev start-of : tie.After-settle-arg6 → tie.Start
+start-of p = p .before .before .before .before .before .before .before .before .before .before .before .before .before .before .before
+
+abbrev settle-of : tie.After-contradicts → tie.After-settle
+settle-of p = p .before .before .before .before .before .before .before .before .before .before .before
+
+abbrev contradicts-of : tie.After-try-row → tie.After-contradicts
+contradicts-of p = p .before .before .before .before .before .before .before .before .before .before .before .before
+
+abbrev else2-of : tie.After-try-row-arg8 → tie.Else2
+else2-of p = p .before .before .before .before .before .before .before .before
+
+abbrev try-row-of : tie.After-join → tie.After-try-row
+try-row-of p = p .before .before .before .before .before .before .before .before .before .before .before .before .before
+
 -- What the seal built.
 abbrev buffers : tie.Start → Built
 buffers p = let a = p .args in
@@ -36,158 +53,152 @@ tried p q = let s = p .settle .last .1 .1 .1 .1 .1 .1 .1 .1 .1 in
 
 settle-requires : tie.Need-settle-requires
 settle-requires c κs =
-    let start = c .before .before .before .before .before .before .before .before .before .before .before .before .before .before .before in
+    let start = start-of c in
     (start .pre .0 .0, start .pre .1)
-
-contradicts-requires : tie.Need-contradicts-requires
-contradicts-requires c κs = search needs
 
 same-length : tie.Need-same-length
 same-length c =
-    let after-settle = c .before .before .before .before .before .before .before .before .before .before .before .before in
+    let after-settle = settle-of (c .before) in
     after-settle .settle .kept .1 .1 .1 .1 .1 .1 .1 .1 .1 .0
 
 same-length-2 : tie.Need-same-length-2
 same-length-2 c =
-    let after-settle = c .before .before .before .before .before .before .before .before .before .before .before .before in
+    let after-settle = settle-of (c .before) in
     after-settle .settle .kept .1 .1 .1 .1 .1 .1 .1 .1 .1 .1 .0
 
 same-length-3 : tie.Need-same-length-3
 same-length-3 c =
-    let after-settle = c .before .before .before .before .before .before .before .before .before .before .before .before in
+    let after-settle = settle-of (c .before) in
     after-settle .settle .kept .1 .1 .1 .1 .1 .1 .1 .1 .1 .1 .1 .0
 
 same-length-4 : tie.Need-same-length-4
 same-length-4 c =
-    let after-settle = c .before .before .before .before .before .before .before .before .before .before .before .before in
+    let after-settle = settle-of (c .before) in
     after-settle .settle .kept .1 .1 .1 .1 .1 .1 .1 .1 .1 .1 .1 .1 .0
 
 same-length-5 : tie.Need-same-length-5
 same-length-5 c =
-    let after-settle = c .before .before .before .before .before .before .before .before .before .before .before .before in
+    let after-settle = settle-of (c .before) in
     after-settle .settle .kept .1 .1 .1 .1 .1 .1 .1 .1 .1 .1 .1 .1 .1 .0
 
 same-length-6 : tie.Need-same-length-6
 same-length-6 c =
-    let after-settle = c .before .before .before .before .before .before .before .before .before .before .before .before in
+    let after-settle = settle-of (c .before) in
     after-settle .settle .kept .1 .1 .1 .1 .1 .1 .1 .1 .1 .1 .1 .1 .1 .1 .0
 
 returns : tie.Need-returns
 returns c =
     let after-contradicts = c .before in
-    let after-settle = after-contradicts .before .before .before .before .before .before .before .before .before .before .before in
-    let start = after-settle .before .before .before .before .before .before .before .before .before .before .before .before .before .before .before .before in
+    let after-settle = settle-of after-contradicts in
+    let start = start-of (after-settle .before) in
     let t = after-settle .settle in
     (λ x s. once-stop x (entry start) (start .args .gcds .now) (start .args .visits) (settled after-settle) (t .ensures .0 x s) (sym (after-contradicts .contradicts .ensures) ∙ c .if1 .taken), t .ensures .1, refl)
 
 same-length-7 : tie.Need-same-length-7
 same-length-7 c =
-    let after-settle = c .before .before .before .before .before .before .before .before .before .before .before .before .before .before in
+    let after-settle = settle-of (c .before .before .before) in
     after-settle .settle .kept .1 .1 .1 .1 .1 .1 .1 .1 .1 .0
 
 same-length-8 : tie.Need-same-length-8
 same-length-8 c =
-    let after-settle = c .before .before .before .before .before .before .before .before .before .before .before .before .before .before in
+    let after-settle = settle-of (c .before .before .before) in
     after-settle .settle .kept .1 .1 .1 .1 .1 .1 .1 .1 .1 .1 .0
 
 same-length-9 : tie.Need-same-length-9
 same-length-9 c =
-    let after-settle = c .before .before .before .before .before .before .before .before .before .before .before .before .before .before in
+    let after-settle = settle-of (c .before .before .before) in
     after-settle .settle .kept .1 .1 .1 .1 .1 .1 .1 .1 .1 .1 .1 .0
 
 same-length-10 : tie.Need-same-length-10
 same-length-10 c =
-    let after-settle = c .before .before .before .before .before .before .before .before .before .before .before .before .before .before in
+    let after-settle = settle-of (c .before .before .before) in
     after-settle .settle .kept .1 .1 .1 .1 .1 .1 .1 .1 .1 .1 .1 .1 .0
 
 same-length-11 : tie.Need-same-length-11
 same-length-11 c =
-    let after-settle = c .before .before .before .before .before .before .before .before .before .before .before .before .before .before in
+    let after-settle = settle-of (c .before .before .before) in
     after-settle .settle .kept .1 .1 .1 .1 .1 .1 .1 .1 .1 .1 .1 .1 .1 .0
 
 same-length-12 : tie.Need-same-length-12
 same-length-12 c =
-    let after-settle = c .before .before .before .before .before .before .before .before .before .before .before .before .before .before in
+    let after-settle = settle-of (c .before .before .before) in
     after-settle .settle .kept .1 .1 .1 .1 .1 .1 .1 .1 .1 .1 .1 .1 .1 .1 .0
 
 returns-2 : tie.Need-returns-2
 returns-2 c =
     let else1 = c .before .before in
     let after-contradicts = else1 .before in
-    let after-settle = after-contradicts .before .before .before .before .before .before .before .before .before .before .before in
-    let start = after-settle .before .before .before .before .before .before .before .before .before .before .before .before .before .before .before .before in
+    let after-settle = settle-of after-contradicts in
+    let start = start-of (after-settle .before) in
     let t = after-settle .settle in
     let e = eq-eqb (t .result .rings .residuals .count) 0 (c .if2 .taken) in
     (λ x s. once-none x (entry start) (start .args .gcds .now) (start .args .visits) (settled after-settle) (t .ensures .0 x s) (sym (after-contradicts .contradicts .ensures) ∙ else1 .if1 .left) e, t .ensures .1, refl)
 
 try-row-requires : tie.Need-try-row-requires
 try-row-requires c κs =
-    let else2 = c .before .before .before .before .before .before .before .before in
-    let after-settle = else2 .before .before .before .before .before .before .before .before .before .before .before .before .before .before in
-    let start = after-settle .before .before .before .before .before .before .before .before .before .before .before .before .before .before .before .before in
+    let else2 = else2-of c in
+    let after-settle = settle-of (else2 .before .before .before) in
+    let start = start-of (after-settle .before) in
     let w = start .pre in
     let x = w .0 .0 .0 in
     let s = w .0 .0 .1 in
     let v = settled-tries x (start .args .bounds .now) (buffers start) s (entry start) (w .1) (settled after-settle) (after-settle .settle .ensures .0 x s) (omega (arith, else2 .if2 .left)) in
     (start .args .guard-bounds .now, start .args .guard-nodes .now, v (start .args .gcds .now) (start .args .search .now) (w .0 .1) (w .0 .2))
 
-join-requires : tie.Need-join-requires
-join-requires c κs = search needs
-
 same-length-13 : tie.Need-same-length-13
 same-length-13 c =
-    let after-contradicts = c .before .before .before .before .before .before .before .before .before .before .before .before .before .before .before .before .before .before .before .before .before .before .before .before .before in
-    let after-settle = after-contradicts .before .before .before .before .before .before .before .before .before .before .before in
+    let after-contradicts = contradicts-of (try-row-of c) in
+    let after-settle = settle-of after-contradicts in
     after-settle .settle .kept .1 .1 .1 .1 .1 .1 .1 .1 .1 .0
 
 same-length-14 : tie.Need-same-length-14
 same-length-14 c =
-    let after-contradicts = c .before .before .before .before .before .before .before .before .before .before .before .before .before .before .before .before .before .before .before .before .before .before .before .before .before in
-    let after-settle = after-contradicts .before .before .before .before .before .before .before .before .before .before .before in
+    let after-contradicts = contradicts-of (try-row-of c) in
+    let after-settle = settle-of after-contradicts in
     after-settle .settle .kept .1 .1 .1 .1 .1 .1 .1 .1 .1 .1 .0
 
 same-length-15 : tie.Need-same-length-15
 same-length-15 c =
-    let after-try-row = c .before .before .before .before .before .before .before .before .before .before .before .before .before in
-    let after-settle = after-try-row .before .before .before .before .before .before .before .before .before .before .before .before .before .before .before .before .before .before .before .before .before .before .before in
+    let after-try-row = try-row-of c in
+    let after-settle = settle-of (contradicts-of after-try-row) in
     after-try-row .try-row .kept .1 .1 .1 .1 .1 .0 ∙ after-settle .settle .kept .1 .1 .1 .1 .1 .1 .1 .1 .1 .1 .1 .0
 
 same-length-16 : tie.Need-same-length-16
 same-length-16 c =
-    let after-try-row = c .before .before .before .before .before .before .before .before .before .before .before .before .before in
-    let after-settle = after-try-row .before .before .before .before .before .before .before .before .before .before .before .before .before .before .before .before .before .before .before .before .before .before .before in
+    let after-try-row = try-row-of c in
+    let after-settle = settle-of (contradicts-of after-try-row) in
     after-try-row .try-row .kept .1 .1 .1 .1 .1 .1 .0 ∙ after-settle .settle .kept .1 .1 .1 .1 .1 .1 .1 .1 .1 .1 .1 .1 .0
 
 same-length-17 : tie.Need-same-length-17
 same-length-17 c =
-    let after-try-row = c .before .before .before .before .before .before .before .before .before .before .before .before .before in
-    let after-settle = after-try-row .before .before .before .before .before .before .before .before .before .before .before .before .before .before .before .before .before .before .before .before .before .before .before in
+    let after-try-row = try-row-of c in
+    let after-settle = settle-of (contradicts-of after-try-row) in
     after-try-row .try-row .kept .1 .1 .1 .1 .1 .1 .1 .0 ∙ after-settle .settle .kept .1 .1 .1 .1 .1 .1 .1 .1 .1 .1 .1 .1 .1 .0
 
 same-length-18 : tie.Need-same-length-18
 same-length-18 c =
-    let after-try-row = c .before .before .before .before .before .before .before .before .before .before .before .before .before in
-    let after-settle = after-try-row .before .before .before .before .before .before .before .before .before .before .before .before .before .before .before .before .before .before .before .before .before .before .before in
+    let after-try-row = try-row-of c in
+    let after-settle = settle-of (contradicts-of after-try-row) in
     after-try-row .try-row .kept .1 .1 .1 .1 .1 .1 .1 .1 .0 ∙ after-settle .settle .kept .1 .1 .1 .1 .1 .1 .1 .1 .1 .1 .1 .1 .1 .1 .0
 
 same-length-19 : tie.Need-same-length-19
 same-length-19 c =
-    let after-try-row = c .before .before .before .before .before .before .before .before .before .before .before .before .before in
+    let after-try-row = try-row-of c in
     after-try-row .try-row .kept .1 .1 .1 .1 .1 .1 .1 .1 .1 .0
 
 same-length-20 : tie.Need-same-length-20
 same-length-20 c =
-    let after-try-row = c .before .before .before .before .before .before .before .before .before .before .before .before .before in
+    let after-try-row = try-row-of c in
     after-try-row .try-row .kept .1 .1 .1 .1 .1 .1 .1 .1 .1 .1 .0
 
 returns-3 : tie.Need-returns-3
 returns-3 c =
-    let after-try-row = c .before .before .before .before .before .before .before .before .before .before .before .before .before in
-    let else2 = after-try-row .before .before .before .before .before .before .before .before .before in
+    let after-try-row = try-row-of c in
+    let else2 = else2-of (after-try-row .before) in
     let else1 = else2 .before .before in
     let after-contradicts = else1 .before in
-    let after-settle = after-contradicts .before .before .before .before .before .before .before .before .before .before .before in
-    let start = after-settle .before .before .before .before .before .before .before .before .before .before .before .before .before .before .before .before in
+    let after-settle = settle-of after-contradicts in
+    let start = start-of (after-settle .before) in
     let a = start .args in
     let t = after-settle .settle in
     let o = after-try-row .try-row in
@@ -204,7 +215,7 @@ sift-once-spec =
     tie.close
     (tie.spec
     settle-requires
-    contradicts-requires
+    (λ c κs. search needs)
     same-length
     same-length-2
     same-length-3
@@ -220,7 +231,7 @@ sift-once-spec =
     same-length-12
     returns-2
     try-row-requires
-    join-requires
+    (λ c κs. search needs)
     same-length-13
     same-length-14
     same-length-15

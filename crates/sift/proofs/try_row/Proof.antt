@@ -15,6 +15,20 @@ use mathlib.Core.Path.{refl}
 use Rattle.sift.proofs.try_row.Statement.{statement}
 use Rattle.sift.proofs.try_row.Tie as tie
 
+-- Ways back to earlier places.
+
+abbrev start-of : tie.After-oldest-row-arg → tie.Start
+start-of p = p .before .before .before .before .before .before .before .before .before
+
+abbrev oldest-row-of : tie.After-start-by → tie.After-oldest-row
+oldest-row-of p = p .before .before .before .before
+
+abbrev load-of : tie.After-try-terms-arg7 → tie.After-load
+load-of p = p .before .before .before .before .before .before .before .before
+
+abbrev try-terms-of : tie.After-waiting → tie.After-try-terms
+try-terms-of p = p .before .before .before .before .before .before .before .before .before .before .before .before
+
 -- The rows, with some guards.
 abbrev held : tie.Start → HeldRows
 held p = let a = p .args in heldRows (a .row-conditions .now) (a .row-weights .now) (a .rows .now) (p .pre .0) (p .pre .1)
@@ -26,12 +40,12 @@ entry p = let a = p .args in
 
 oldest-row-requires : tie.Need-oldest-row-requires
 oldest-row-requires c κs =
-    let start = c .before .before .before .before .before .before .before .before .before in
+    let start = start-of c in
     (slots-head 2 (start .args .row-queues .now) (start .args .rings .residuals) (start .pre .2 .ready .flags), omega arith)
 
 next-row-requires : tie.Need-next-row-requires
 next-row-requires c κs =
-    let start = c .before .before .before .before .before .before .before .before .before .before .before in
+    let start = start-of (c .before .before) in
     let t = start .pre .2 in
     let f = t .ready .flags in
     (omega arith, refl, f .held, t .some, slots-oldest 2 (start .args .row-queues .now) (start .args .rings .residuals) f (t .some))
@@ -39,22 +53,22 @@ next-row-requires c κs =
 start-by-requires : tie.Need-start-by-requires
 start-by-requires c κs =
     let after-oldest-row = c .before .before .before in
-    let start = after-oldest-row .before .before .before .before .before .before .before .before .before .before in
+    let start = start-of (after-oldest-row .before) in
     let o = after-oldest-row .oldest-row in
     let i = try-inside (held start) (entry start) (start .args .gcds .now) (start .args .search .now) (start .pre .2) (o .result) (o .ensures) in
     (omega (arith, i), omega arith)
 
 end-by-requires : tie.Need-end-by-requires
 end-by-requires c κs =
-    let after-oldest-row = c .before .before .before .before in
-    let start = after-oldest-row .before .before .before .before .before .before .before .before .before .before in
+    let after-oldest-row = oldest-row-of c in
+    let start = start-of (after-oldest-row .before) in
     let o = after-oldest-row .oldest-row in
     (try-inside (held start) (entry start) (start .args .gcds .now) (start .args .search .now) (start .pre .2) (o .result) (o .ensures), omega arith)
 
 load-requires : tie.Need-load-requires
 load-requires c κs =
-    let after-oldest-row = c .before .before .before .before .before in
-    let start = after-oldest-row .before .before .before .before .before .before .before .before .before .before in
+    let after-oldest-row = oldest-row-of (c .before) in
+    let start = start-of (after-oldest-row .before) in
     let o = after-oldest-row .oldest-row in
     try-state (held start) (entry start) (start .args .gcds .now) (start .args .search .now) (start .pre .2) (o .result) (o .ensures)
 
@@ -67,8 +81,8 @@ sub-try-terms : tie.Need-sub-try-terms
 sub-try-terms c =
     let after-end-by = c .before .before in
     let after-start-by = after-end-by .before in
-    let after-oldest-row = after-start-by .before .before .before .before in
-    let start = after-oldest-row .before .before .before .before .before .before .before .before .before .before in
+    let after-oldest-row = oldest-row-of after-start-by in
+    let start = start-of (after-oldest-row .before) in
     let o = after-oldest-row .oldest-row in
     let a = after-start-by .start-by in
     let e = after-end-by .end-by in
@@ -79,8 +93,8 @@ part-try-terms-start : tie.Need-part-try-terms-start
 part-try-terms-start c =
     let after-end-by = c .before .before in
     let after-start-by = after-end-by .before in
-    let after-oldest-row = after-start-by .before .before .before .before in
-    let start = after-oldest-row .before .before .before .before .before .before .before .before .before .before in
+    let after-oldest-row = oldest-row-of after-start-by in
+    let start = start-of (after-oldest-row .before) in
     let o = after-oldest-row .oldest-row in
     let a = after-start-by .start-by in
     let e = after-end-by .end-by in
@@ -91,8 +105,8 @@ part-try-terms-end : tie.Need-part-try-terms-end
 part-try-terms-end c =
     let after-end-by = c .before .before in
     let after-start-by = after-end-by .before in
-    let after-oldest-row = after-start-by .before .before .before .before in
-    let start = after-oldest-row .before .before .before .before .before .before .before .before .before .before in
+    let after-oldest-row = oldest-row-of after-start-by in
+    let start = start-of (after-oldest-row .before) in
     let o = after-oldest-row .oldest-row in
     let a = after-start-by .start-by in
     let e = after-end-by .end-by in
@@ -108,8 +122,8 @@ sub-try-terms-2 : tie.Need-sub-try-terms-2
 sub-try-terms-2 c =
     let after-end-by = c .before .before .before in
     let after-start-by = after-end-by .before in
-    let after-oldest-row = after-start-by .before .before .before .before in
-    let start = after-oldest-row .before .before .before .before .before .before .before .before .before .before in
+    let after-oldest-row = oldest-row-of after-start-by in
+    let start = start-of (after-oldest-row .before) in
     let o = after-oldest-row .oldest-row in
     let a = after-start-by .start-by in
     let e = after-end-by .end-by in
@@ -120,8 +134,8 @@ part-try-terms-start-2 : tie.Need-part-try-terms-start-2
 part-try-terms-start-2 c =
     let after-end-by = c .before .before .before in
     let after-start-by = after-end-by .before in
-    let after-oldest-row = after-start-by .before .before .before .before in
-    let start = after-oldest-row .before .before .before .before .before .before .before .before .before .before in
+    let after-oldest-row = oldest-row-of after-start-by in
+    let start = start-of (after-oldest-row .before) in
     let o = after-oldest-row .oldest-row in
     let a = after-start-by .start-by in
     let e = after-end-by .end-by in
@@ -132,8 +146,8 @@ part-try-terms-end-2 : tie.Need-part-try-terms-end-2
 part-try-terms-end-2 c =
     let after-end-by = c .before .before .before in
     let after-start-by = after-end-by .before in
-    let after-oldest-row = after-start-by .before .before .before .before in
-    let start = after-oldest-row .before .before .before .before .before .before .before .before .before .before in
+    let after-oldest-row = oldest-row-of after-start-by in
+    let start = start-of (after-oldest-row .before) in
     let o = after-oldest-row .oldest-row in
     let a = after-start-by .start-by in
     let e = after-end-by .end-by in
@@ -142,11 +156,11 @@ part-try-terms-end-2 c =
 
 try-terms-requires : tie.Need-try-terms-requires
 try-terms-requires c κs =
-    let after-load = c .before .before .before .before .before .before .before .before in
+    let after-load = load-of c in
     let after-end-by = after-load .before in
     let after-start-by = after-end-by .before in
-    let after-oldest-row = after-start-by .before .before .before .before in
-    let start = after-oldest-row .before .before .before .before .before .before .before .before .before .before in
+    let after-oldest-row = oldest-row-of after-start-by in
+    let start = start-of (after-oldest-row .before) in
     let t = start .pre .2 in
     let o = after-oldest-row .oldest-row in
     let a = after-start-by .start-by in
@@ -162,43 +176,43 @@ try-terms-requires c κs =
 
 same-length : tie.Need-same-length
 same-length c =
-    let after-try-terms = c .before .before .before .before .before .before .before .before .before .before .before .before in
+    let after-try-terms = try-terms-of c in
     after-try-terms .try-terms .kept .1 .1 .1 .0
 
 same-length-2 : tie.Need-same-length-2
 same-length-2 c =
-    let after-try-terms = c .before .before .before .before .before .before .before .before .before .before .before .before in
+    let after-try-terms = try-terms-of c in
     after-try-terms .try-terms .kept .1 .1 .1 .1 .0
 
 same-length-3 : tie.Need-same-length-3
 same-length-3 c =
-    let after-try-terms = c .before .before .before .before .before .before .before .before .before .before .before .before in
+    let after-try-terms = try-terms-of c in
     after-try-terms .try-terms .kept .1 .1 .1 .1 .1 .0
 
 same-length-4 : tie.Need-same-length-4
 same-length-4 c =
-    let after-next-row = c .before .before .before .before .before .before .before .before .before .before .before .before .before .before .before .before .before .before .before .before .before .before .before .before .before in
+    let after-next-row = load-of (try-terms-of c .before) .before .before .before .before in
     after-next-row .next-row .kept .0
 
 same-length-5 : tie.Need-same-length-5
 same-length-5 c =
-    let after-try-terms = c .before .before .before .before .before .before .before .before .before .before .before .before in
+    let after-try-terms = try-terms-of c in
     after-try-terms .try-terms .kept .1 .1 .1 .1 .1 .1 .0
 
 same-length-6 : tie.Need-same-length-6
 same-length-6 c =
-    let after-try-terms = c .before .before .before .before .before .before .before .before .before .before .before .before in
+    let after-try-terms = try-terms-of c in
     after-try-terms .try-terms .kept .1 .1 .1 .1 .1 .1 .1 .0
 
 returns : tie.Need-returns
 returns c =
-    let after-try-terms = c .before .before .before .before .before .before .before .before .before .before .before .before in
-    let after-load = after-try-terms .before .before .before .before .before .before .before .before .before in
+    let after-try-terms = try-terms-of c in
+    let after-load = load-of (after-try-terms .before) in
     let after-end-by = after-load .before in
     let after-start-by = after-end-by .before in
     let after-next-row = after-start-by .before .before in
     let after-oldest-row = after-next-row .before .before in
-    let start = after-oldest-row .before .before .before .before .before .before .before .before .before .before in
+    let start = start-of (after-oldest-row .before) in
     let o = after-oldest-row .oldest-row in
     let a = after-start-by .start-by in
     let e = after-end-by .end-by in

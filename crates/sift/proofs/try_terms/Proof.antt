@@ -13,6 +13,17 @@ use borrow.Author.Needs.{needs}
 use Rattle.sift.proofs.try_terms.Statement.{statement}
 use Rattle.sift.proofs.try_terms.Tie as tie
 
+-- Ways back to earlier places.
+
+abbrev start-of : tie.After-threshold-residual-arg4 → tie.Start
+start-of p = p .before .before .before .before .before .before .before .before .before .before .before
+
+abbrev threshold-residual-of : tie.After-number → tie.After-threshold-residual
+threshold-residual-of p = p .before .before .before .before .before .before .before .before .before .before
+
+abbrev number-of : tie.After-step → tie.After-number
+number-of p = p .before .before .before .before .before .before .before .before .before
+
 -- The row's terms.
 abbrev row : tie.Start → List Term
 row p = terms (p .args .conditions .now) (p .args .weights .now)
@@ -29,7 +40,7 @@ forced p = let r = p .threshold-residual in
 
 threshold-residual-requires : tie.Need-threshold-residual-requires
 threshold-residual-requires c κs =
-    let start = c .before .before .before .before .before .before .before .before .before .before .before in
+    let start = start-of c in
     let w = start .pre in
     let m = w .3 in
     let t = w .0 in (
@@ -37,34 +48,31 @@ threshold-residual-requires c κs =
       (omega (arith, w .1, w .4 .room), t .light, m),
     )
 
-number-requires : tie.Need-number-requires
-number-requires c κs = search needs
-
 same-length : tie.Need-same-length
 same-length c =
-    let after-threshold-residual = c .before .before .before .before .before .before .before .before .before .before .before in
+    let after-threshold-residual = threshold-residual-of (c .before) in
     after-threshold-residual .threshold-residual .kept .1 .1 .1 .0
 
 same-length-2 : tie.Need-same-length-2
 same-length-2 c =
-    let after-threshold-residual = c .before .before .before .before .before .before .before .before .before .before .before in
+    let after-threshold-residual = threshold-residual-of (c .before) in
     after-threshold-residual .threshold-residual .kept .1 .1 .1 .1 .0
 
 same-length-3 : tie.Need-same-length-3
 same-length-3 c =
-    let after-threshold-residual = c .before .before .before .before .before .before .before .before .before .before .before in
+    let after-threshold-residual = threshold-residual-of (c .before) in
     after-threshold-residual .threshold-residual .kept .1 .1 .1 .1 .1 .0
 
 same-length-4 : tie.Need-same-length-4
 same-length-4 c =
-    let after-threshold-residual = c .before .before .before .before .before .before .before .before .before .before .before in
+    let after-threshold-residual = threshold-residual-of (c .before) in
     after-threshold-residual .threshold-residual .kept .1 .1 .1 .1 .1 .1 .1 .0
 
 returns : tie.Need-returns
 returns c =
     let after-number = c .before in
-    let after-threshold-residual = after-number .before .before .before .before .before .before .before .before .before .before in
-    let start = after-threshold-residual .before .before .before .before .before .before .before .before .before .before .before .before in (
+    let after-threshold-residual = threshold-residual-of after-number in
+    let start = start-of (after-threshold-residual .before) in (
       λ v.
           tried-not (row start) (start .args .state) (withMarks v (entry start)) (start .args .gcds .now) (start .args .visits) (forced after-threshold-residual) (after-threshold-residual .threshold-residual .ensures)
           (after-number .number .result) (after-number .number .ensures) (c .if1 .taken),
@@ -73,8 +81,8 @@ returns c =
 
 threshold-possible-sums-requires : tie.Need-threshold-possible-sums-requires
 threshold-possible-sums-requires c κs =
-    let after-threshold-residual = c .before .before .before .before .before .before .before .before .before .before .before .before .before .before in
-    let start = after-threshold-residual .before .before .before .before .before .before .before .before .before .before .before .before in
+    let after-threshold-residual = threshold-residual-of (c .before .before .before .before) in
+    let start = start-of (after-threshold-residual .before) in
     let w = start .pre in
     let t = w .0 in
     let k = after-threshold-residual .threshold-residual .kept .1 .1 .1 in (
@@ -82,30 +90,24 @@ threshold-possible-sums-requires c κs =
       (w .4 .long, w .4 .zero),
     )
 
-visits-requires : tie.Need-visits-requires
-visits-requires c κs = search needs
-
-step-requires : tie.Need-step-requires
-step-requires c κs = search needs
-
 same-length-5 : tie.Need-same-length-5
 same-length-5 c =
-    let after-threshold-residual = c .before .before .before .before .before .before .before .before .before .before .before .before .before .before .before .before .before .before .before in
+    let after-threshold-residual = threshold-residual-of (number-of c) in
     after-threshold-residual .threshold-residual .kept .1 .1 .1 .0
 
 same-length-6 : tie.Need-same-length-6
 same-length-6 c =
-    let after-threshold-residual = c .before .before .before .before .before .before .before .before .before .before .before .before .before .before .before .before .before .before .before in
+    let after-threshold-residual = threshold-residual-of (number-of c) in
     after-threshold-residual .threshold-residual .kept .1 .1 .1 .1 .0
 
 same-length-7 : tie.Need-same-length-7
 same-length-7 c =
-    let after-threshold-residual = c .before .before .before .before .before .before .before .before .before .before .before .before .before .before .before .before .before .before .before in
+    let after-threshold-residual = threshold-residual-of (number-of c) in
     after-threshold-residual .threshold-residual .kept .1 .1 .1 .1 .1 .0
 
 same-length-8 : tie.Need-same-length-8
 same-length-8 c =
-    let after-threshold-residual = c .before .before .before .before .before .before .before .before .before .before .before .before .before .before .before .before .before .before .before in
+    let after-threshold-residual = threshold-residual-of (number-of c) in
     after-threshold-residual .threshold-residual .kept .1 .1 .1 .1 .1 .1 .1 .0
 
 same-length-9 : tie.Need-same-length-9
@@ -119,8 +121,8 @@ returns-2 c =
     let after-threshold-possible-sums = after-visits .before .before .before in
     let else1 = after-threshold-possible-sums .before .before .before .before in
     let after-number = else1 .before in
-    let after-threshold-residual = after-number .before .before .before .before .before .before .before .before .before .before in
-    let start = after-threshold-residual .before .before .before .before .before .before .before .before .before .before .before .before in
+    let after-threshold-residual = threshold-residual-of after-number in
+    let start = start-of (after-threshold-residual .before) in
     let f = after-threshold-possible-sums .threshold-possible-sums in (
       λ v.
           tried-search (row start) (start .args .state) (withMarks v (entry start)) (start .args .gcds .now) (start .args .visits) (forced after-threshold-residual) (after-threshold-residual .threshold-residual .ensures)
@@ -133,15 +135,14 @@ try-terms-spec =
     tie.close
     (tie.spec
     threshold-residual-requires
-    number-requires
+    (λ c κs. search needs)
     same-length
     same-length-2
     same-length-3
     same-length-4
     returns
     threshold-possible-sums-requires
-    visits-requires
-    step-requires
+    (λ c κs. search needs) (λ c κs. search needs)
     same-length-5
     same-length-6
     same-length-7

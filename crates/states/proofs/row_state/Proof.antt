@@ -10,16 +10,10 @@ use Rattle.between.specs.Numbers.{statesOf}
 use Rattle.states.proofs.row_state.Statement.{statement}
 use Rattle.states.proofs.row_state.Tie as tie
 
-load-requires : tie.Need-load-requires
-load-requires c κs = search needs
-
 returns : tie.Need-returns
 returns c =
     let a = c .before .before .args in
     c .load .ensures ∙ sym (getD-take maxThresholds (statesOf (a .figures .now) (a .cursors .now)) (a .row) noState (omega (arith, c .before .if1 .taken)))
-
-first-requires : tie.Need-first-requires
-first-requires c κs = search needs
 
 none : firstState 0 0 ≡ noState
 unfolding firstState noState
@@ -32,4 +26,4 @@ returns-2 c =
     c .first .ensures ∙ none ∙ sym (List·getD-eq-default (take maxThresholds l) noState (omega (arith, length-take maxThresholds l, c .before .if1 .left)))
 
 pub row-state-spec : {M : Type 1} → statement M
-row-state-spec = tie.close (tie.spec load-requires returns first-requires returns-2)
+row-state-spec = tie.close (tie.spec (λ c κs. search needs) returns (λ c κs. search needs) returns-2)

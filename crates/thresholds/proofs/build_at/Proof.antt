@@ -16,73 +16,18 @@ use borrow.Author.Needs.{needs}
 use Rattle.thresholds.proofs.build_at.Statement.{statement}
 use Rattle.thresholds.proofs.build_at.Tie as tie
 
-sub-to : tie.Need-sub-to
-sub-to c = search needs
+-- Ways back to earlier places.
 
-add-to : tie.Need-add-to
-add-to c = search needs
+abbrev start-of : tie.After-build-row-arg5 → tie.Start
+start-of p = p .before .before .before .before .before .before .before .before .before .before
 
-mul-build-row : tie.Need-mul-build-row
-mul-build-row c = search needs
-
-sub-build-row : tie.Need-sub-build-row
-sub-build-row c = search needs
-
-part-build-row-start : tie.Need-part-build-row-start
-part-build-row-start c = search needs
-
-part-build-row-end : tie.Need-part-build-row-end
-part-build-row-end c = search needs
-
-mul-build-row-2 : tie.Need-mul-build-row-2
-mul-build-row-2 c = search needs
-
-sub-build-row-2 : tie.Need-sub-build-row-2
-sub-build-row-2 c = search needs
-
-part-build-row-start-2 : tie.Need-part-build-row-start-2
-part-build-row-start-2 c = search needs
-
-part-build-row-end-2 : tie.Need-part-build-row-end-2
-part-build-row-end-2 c = search needs
-
-mul-build-row-3 : tie.Need-mul-build-row-3
-mul-build-row-3 c = search needs
-
-sub-build-row-3 : tie.Need-sub-build-row-3
-sub-build-row-3 c = search needs
-
-part-build-row-start-3 : tie.Need-part-build-row-start-3
-part-build-row-start-3 c = search needs
-
-part-build-row-end-3 : tie.Need-part-build-row-end-3
-part-build-row-end-3 c = search needs
-
-mul-build-row-4 : tie.Need-mul-build-row-4
-mul-build-row-4 c = search needs
-
-sub-build-row-4 : tie.Need-sub-build-row-4
-sub-build-row-4 c = search needs
-
-part-build-row-start-4 : tie.Need-part-build-row-start-4
-part-build-row-start-4 c = search needs
-
-part-build-row-end-4 : tie.Need-part-build-row-end-4
-part-build-row-end-4 c = search needs
-
-sub-build-row-5 : tie.Need-sub-build-row-5
-sub-build-row-5 c = search needs
-
-part-build-row-start-5 : tie.Need-part-build-row-start-5
-part-build-row-start-5 c = search needs
-
-part-build-row-end-5 : tie.Need-part-build-row-end-5
-part-build-row-end-5 c = search needs
+abbrev start-of-slice-known6 : tie.After-slice-known6 → tie.Start
+start-of-slice-known6 p = start-of (p .before .before .before .before .before .before .before)
 
 build-row-requires : tie.Need-build-row-requires
 build-row-requires c κs =
-    let g = c .before .before .before .before .before .before .before .before .before .before .args in
-    let p = c .before .before .before .before .before .before .before .before .before .before .pre in
+    let g = start-of c .args in
+    let p = start-of c .pre in
     let cs = g .raw-conditions .now in
     let ws = g .raw-weights .now in
     let lc = stretch-length (g .a) (g .e) cs (p .1) in
@@ -100,22 +45,10 @@ build-row-requires c κs =
       stretch-small (g .a) (g .e) ws rawLimit (p .7),
     )
 
-add-result : tie.Need-add-result
-add-result c = search needs
-
-same-length : tie.Need-same-length
-same-length c = search needs
-
-same-length-2 : tie.Need-same-length-2
-same-length-2 c = search needs
-
-same-length-3 : tie.Need-same-length-3
-same-length-3 c = search needs
-
 returns : tie.Need-returns
 returns c =
-    let g = c .before .before .before .before .before .before .before .before .before .before .before .before .before .before .before .before .before .args in
-    let p = c .before .before .before .before .before .before .before .before .before .before .before .before .before .before .before .before .before .pre in
+    let g = start-of-slice-known6 c .args in
+    let p = start-of-slice-known6 c .pre in
     let cs = g .raw-conditions .now in
     let ws = g .raw-weights .now in
     let lc = stretch-length (g .a) (g .e) cs (p .1) in
@@ -138,30 +71,10 @@ pub build-at-spec : {M : Type 1} → statement M
 build-at-spec =
     tie.close
     (tie.spec
-    sub-to
-    add-to
-    mul-build-row
-    sub-build-row
-    part-build-row-start
-    part-build-row-end
-    mul-build-row-2
-    sub-build-row-2
-    part-build-row-start-2
-    part-build-row-end-2
-    mul-build-row-3
-    sub-build-row-3
-    part-build-row-start-3
-    part-build-row-end-3
-    mul-build-row-4
-    sub-build-row-4
-    part-build-row-start-4
-    part-build-row-end-4
-    sub-build-row-5
-    part-build-row-start-5
-    part-build-row-end-5
+    (λ c. search needs) (λ c. search needs) (λ c. search needs) (λ c. search needs) (λ c. search needs) (λ c. search needs)
+    (λ c. search needs) (λ c. search needs) (λ c. search needs) (λ c. search needs) (λ c. search needs) (λ c. search needs)
+    (λ c. search needs) (λ c. search needs) (λ c. search needs) (λ c. search needs) (λ c. search needs) (λ c. search needs)
+    (λ c. search needs) (λ c. search needs) (λ c. search needs)
     build-row-requires
-    add-result
-    same-length
-    same-length-2
-    same-length-3
+    (λ c. search needs) (λ c. search needs) (λ c. search needs) (λ c. search needs)
     returns)

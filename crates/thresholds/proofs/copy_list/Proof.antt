@@ -10,7 +10,9 @@ use Rattle.thresholds.proofs.copy_list.Statement.{statement}
 use Rattle.thresholds.proofs.copy_list.Tie as tie
 
 abbrev Inv-loop : tie.InvT-loop
-Inv-loop conditions weights row-conditions₀ row-weights₀ i₀ row-conditions row-weights i = (i ≤ length conditions) × (row-conditions ≡ blend i conditions row-conditions₀) × (row-weights ≡ blend i weights row-weights₀) × (length row-conditions ≡ length row-conditions₀) × (length row-weights ≡ length row-weights₀)
+Inv-loop conditions weights row-conditions₀ row-weights₀ i₀ row-conditions row-weights i =
+    (i ≤ length conditions) × (row-conditions ≡ blend i conditions row-conditions₀) × (row-weights ≡ blend i weights row-weights₀) × (length row-conditions ≡ length row-conditions₀)
+    × (length row-weights ≡ length row-weights₀)
 
 abbrev μ-loop : tie.MeasureT-loop
 μ-loop conditions weights row-conditions₀ row-weights₀ i₀ row-conditions row-weights i = length conditions - i
@@ -18,41 +20,17 @@ abbrev μ-loop : tie.MeasureT-loop
 loop-holds : tie.Need-loop-holds Inv-loop μ-loop
 loop-holds c = (search needs, refl, refl, refl, refl)
 
-mul-row-conditions : tie.Need-mul-row-conditions Inv-loop μ-loop
-mul-row-conditions c = search needs
-
-shared-slice-read-row-conditions : tie.Need-shared-slice-read-row-conditions Inv-loop μ-loop
-shared-slice-read-row-conditions c = search needs
-
-mul-row-conditions-2 : tie.Need-mul-row-conditions-2 Inv-loop μ-loop
-mul-row-conditions-2 c = search needs
-
 slice-write-row-conditions : tie.Need-slice-write-row-conditions Inv-loop μ-loop
 slice-write-row-conditions c =
     let p = c .before .before .before .pre in
     let v = c .before .before .loop .inv in
     omega (arith, p .1, v .3, c .before .loop-test .taken)
 
-mul-row-weights : tie.Need-mul-row-weights Inv-loop μ-loop
-mul-row-weights c = search needs
-
-shared-slice-read-row-weights : tie.Need-shared-slice-read-row-weights Inv-loop μ-loop
-shared-slice-read-row-weights c = search needs
-
-mul-row-weights-2 : tie.Need-mul-row-weights-2 Inv-loop μ-loop
-mul-row-weights-2 c = search needs
-
 slice-write-row-weights : tie.Need-slice-write-row-weights Inv-loop μ-loop
 slice-write-row-weights c =
     let p = c .before .before .before .before .pre in
     let v = c .before .before .before .loop .inv in
     omega (arith, p .2, v .4, c .before .before .loop-test .taken)
-
-add-i : tie.Need-add-i Inv-loop μ-loop
-add-i c = search needs
-
-loop-less : tie.Need-loop-less Inv-loop μ-loop
-loop-less c = search needs
 
 loop-again : tie.Need-loop-again Inv-loop μ-loop
 loop-again c =
@@ -90,16 +68,11 @@ copy-list-spec =
     Inv-loop
     μ-loop
     loop-holds
-    mul-row-conditions
-    shared-slice-read-row-conditions
-    mul-row-conditions-2
+    (λ c. search needs) (λ c. search needs) (λ c. search needs)
     slice-write-row-conditions
-    mul-row-weights
-    shared-slice-read-row-weights
-    mul-row-weights-2
+    (λ c. search needs) (λ c. search needs) (λ c. search needs)
     slice-write-row-weights
-    add-i
-    loop-less
+    (λ c. search needs) (λ c. search needs)
     loop-again
     same-length
     same-length-2

@@ -21,15 +21,6 @@ abbrev μ-loop : tie.MeasureT-loop
 loop-holds : tie.Need-loop-holds Inv-loop μ-loop
 loop-holds c = (search needs, search needs, refl)
 
-mul-mixed : tie.Need-mul-mixed Inv-loop μ-loop
-mul-mixed c = search needs
-
-mul-mixed-2 : tie.Need-mul-mixed-2 Inv-loop μ-loop
-mul-mixed-2 c = search needs
-
-shared-slice-read-mixed : tie.Need-shared-slice-read-mixed Inv-loop μ-loop
-shared-slice-read-mixed c = search needs
-
 cast-mixed : tie.Need-cast-mixed Inv-loop μ-loop
 cast-mixed c = omega (arith, c .shared-slice-known .given (c .before .before .loop .i))
 
@@ -39,22 +30,10 @@ mul-mixed-3 c = omega (arith, c .shared-slice-known .given (c .before .before .l
 add-mixed : tie.Need-add-mixed Inv-loop μ-loop
 add-mixed c = omega (arith, c .shared-slice-known .given (c .before .before .loop .i))
 
-mul-mixed-4 : tie.Need-mul-mixed-4 Inv-loop μ-loop
-mul-mixed-4 c = search needs
-
-shared-slice-read-mixed-2 : tie.Need-shared-slice-read-mixed-2 Inv-loop μ-loop
-shared-slice-read-mixed-2 c = search needs
-
 add-mixed-2 : tie.Need-add-mixed-2 Inv-loop μ-loop
 add-mixed-2 c =
     let i = c .before .before .before .loop .i in
     omega (arith, c .before .before .before .before .pre .2 i, c .before .shared-slice-known .given i)
-
-add-i : tie.Need-add-i Inv-loop μ-loop
-add-i c = search needs
-
-loop-less : tie.Need-loop-less Inv-loop μ-loop
-loop-less c = search needs
 
 loop-again : tie.Need-loop-again Inv-loop μ-loop
 loop-again c = let g = c .before .before .before .before .args in
@@ -75,16 +54,12 @@ fingerprint-spec =
     Inv-loop
     μ-loop
     loop-holds
-    mul-mixed
-    mul-mixed-2
-    shared-slice-read-mixed
+    (λ c. search needs) (λ c. search needs) (λ c. search needs)
     cast-mixed
     mul-mixed-3
     add-mixed
-    mul-mixed-4
-    shared-slice-read-mixed-2
+    (λ c. search needs) (λ c. search needs)
     add-mixed-2
-    add-i
-    loop-less
+    (λ c. search needs) (λ c. search needs)
     loop-again
     returns)

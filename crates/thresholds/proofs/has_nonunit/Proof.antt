@@ -7,11 +7,8 @@ use Rattle.thresholds.proofs.has_nonunit.Tie as tie
 returns : tie.Need-returns
 returns c = nonunit-none _ _ (c .before .pre) (c .if1 .taken)
 
-shared-slice-read-result : tie.Need-shared-slice-read-result
-shared-slice-read-result c = search needs
-
 returns-2 : tie.Need-returns-2
 returns-2 c = nonunit-first _ _ (c .before .before .pre) (c .before .if1 .left)
 
 pub has-nonunit-spec : {M : Type 1} → statement M
-has-nonunit-spec = tie.close (tie.spec returns shared-slice-read-result returns-2)
+has-nonunit-spec = tie.close (tie.spec returns (λ c. search needs) returns-2)

@@ -11,27 +11,20 @@ use borrow.Author.Needs.{needs}
 use Rattle.thresholds.proofs.is_marked.Statement.{statement}
 use Rattle.thresholds.proofs.is_marked.Tie as tie
 
+-- Ways back to earlier places.
+
+abbrev to-start : tie.After-end-of2 → tie.Start
+to-start p = p .before .before .before .before .before .before .before
+
 returns : tie.Need-returns
 returns c = let g = c .before .before .before .args in
     let p = c .before .before .before .pre in
     let r = rawLists (g .raw-conditions .now) (g .raw-weights .now) (g .thresholds .now) in
     sym (prints-differ r (g .mark) (listAt r (g .t)) (p .3) (λ e. c .if1 .taken (e ∙ sym (p .4))))
 
-start-of-requires : tie.Need-start-of-requires
-start-of-requires c κs = search needs
-
-end-of-requires : tie.Need-end-of-requires
-end-of-requires c κs = search needs
-
-start-of-requires-2 : tie.Need-start-of-requires-2
-start-of-requires-2 c κs = search needs
-
-end-of-requires-2 : tie.Need-end-of-requires-2
-end-of-requires-2 c κs = search needs
-
 same-stretch-requires : tie.Need-same-stretch-requires
-same-stretch-requires c κs = let g = c .before .before .before .before .before .before .before .args in
-    let p = c .before .before .before .before .before .before .before .pre in
+same-stretch-requires c κs = let g = to-start c .args in
+    let p = to-start c .pre in
     let f = g .mark % 1024 in
     let ts = g .thresholds .now in
     let a : c .before .before .before .start-of .result ≡ startOf ts f = c .before .before .before .start-of .ensures in
@@ -42,7 +35,7 @@ same-stretch-requires c κs = let g = c .before .before .before .before .before 
     (omega (arith, l .rising f (p .2)), omega (arith, l .rising (g .t) (p .1)), omega (arith, l .inside f (p .2)), omega (arith, l .inside (g .t) (p .1)), l .weighed)
 
 returns-2 : tie.Need-returns-2
-returns-2 c = let g = c .before .before .before .before .before .before .before .before .args in
+returns-2 c = let g = to-start (c .before) .args in
     let r = rawLists (g .raw-conditions .now) (g .raw-weights .now) (g .thresholds .now) in
     c .same-stretch .ensures
     ∙ ap₂ sameTerms (list-is r (g .mark % 1024) (c .before .before .before .before .start-of .result) (c .before .before .before .end-of .result) (c .before .before .before .before .start-of .ensures) (c .before .before .before .end-of .ensures))
@@ -53,9 +46,6 @@ is-marked-spec =
     tie.close
     (tie.spec
     returns
-    start-of-requires
-    end-of-requires
-    start-of-requires-2
-    end-of-requires-2
+    (λ c κs. search needs) (λ c κs. search needs) (λ c κs. search needs) (λ c κs. search needs)
     same-stretch-requires
     returns-2)

@@ -8,12 +8,6 @@ use borrow.Author.Needs.{needs}
 use Rattle.thresholds.proofs.print_of.Statement.{statement}
 use Rattle.thresholds.proofs.print_of.Tie as tie
 
-start-of-requires : tie.Need-start-of-requires
-start-of-requires c κs = search needs
-
-end-of-requires : tie.Need-end-of-requires
-end-of-requires c κs = search needs
-
 print-stretch-requires : tie.Need-print-stretch-requires
 print-stretch-requires c κs =
     let g = c .before .before .before .before .args in
@@ -31,4 +25,4 @@ returns c =
 
 pub print-of-spec : {M : Type 1} → statement M
 print-of-spec =
-    tie.close (tie.spec start-of-requires end-of-requires print-stretch-requires returns)
+    tie.close (tie.spec (λ c κs. search needs) (λ c κs. search needs) print-stretch-requires returns)

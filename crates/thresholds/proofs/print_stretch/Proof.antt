@@ -7,30 +7,6 @@ use borrow.Author.Needs.{needs}
 use Rattle.thresholds.proofs.print_stretch.Statement.{statement}
 use Rattle.thresholds.proofs.print_stretch.Tie as tie
 
-mul-fingerprint : tie.Need-mul-fingerprint
-mul-fingerprint c = search needs
-
-sub-fingerprint : tie.Need-sub-fingerprint
-sub-fingerprint c = search needs
-
-part-fingerprint-start : tie.Need-part-fingerprint-start
-part-fingerprint-start c = search needs
-
-part-fingerprint-end : tie.Need-part-fingerprint-end
-part-fingerprint-end c = search needs
-
-mul-fingerprint-2 : tie.Need-mul-fingerprint-2
-mul-fingerprint-2 c = search needs
-
-sub-fingerprint-2 : tie.Need-sub-fingerprint-2
-sub-fingerprint-2 c = search needs
-
-part-fingerprint-start-2 : tie.Need-part-fingerprint-start-2
-part-fingerprint-start-2 c = search needs
-
-part-fingerprint-end-2 : tie.Need-part-fingerprint-end-2
-part-fingerprint-end-2 c = search needs
-
 fingerprint-requires : tie.Need-fingerprint-requires
 fingerprint-requires c κs =
     let s = c .before .before .before .before in
@@ -42,20 +18,11 @@ fingerprint-requires c κs =
     let lw = stretch-length (g .a) (g .e) ws (omega (arith, p .1, p .3)) in
     (omega (arith, lc, p .0, p .2), omega (arith, lw, lc), stretch-small (g .a) (g .e) ws rawLimit (p .4))
 
-returns : tie.Need-returns
-returns c = search needs
-
 pub print-stretch-spec : {M : Type 1} → statement M
 print-stretch-spec =
     tie.close
     (tie.spec
-    mul-fingerprint
-    sub-fingerprint
-    part-fingerprint-start
-    part-fingerprint-end
-    mul-fingerprint-2
-    sub-fingerprint-2
-    part-fingerprint-start-2
-    part-fingerprint-end-2
+    (λ c. search needs) (λ c. search needs) (λ c. search needs) (λ c. search needs) (λ c. search needs) (λ c. search needs)
+    (λ c. search needs) (λ c. search needs)
     fingerprint-requires
-    returns)
+    (λ c. search needs))

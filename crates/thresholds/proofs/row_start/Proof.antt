@@ -9,14 +9,8 @@ use Rattle.thresholds.proofs.row_start.Tie as tie
 returns : tie.Need-returns
 returns c = row-start-zero _ _ (c .if1 .taken)
 
-sub-row-end : tie.Need-sub-row-end
-sub-row-end c = search needs
-
-row-end-requires : tie.Need-row-end-requires
-row-end-requires c κs = search needs
-
 returns-2 : tie.Need-returns-2
 returns-2 c = c .row-end .ensures ∙ row-start-before _ _ (omega arith)
 
 pub row-start-spec : {M : Type 1} → statement M
-row-start-spec = tie.close (tie.spec returns sub-row-end row-end-requires returns-2)
+row-start-spec = tie.close (tie.spec returns (λ c. search needs) (λ c κs. search needs) returns-2)

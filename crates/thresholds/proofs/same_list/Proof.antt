@@ -16,6 +16,14 @@ Inv-loop left left-weights right right-weights i₀ i = (i ≤ length left) × (
 abbrev μ-loop : tie.MeasureT-loop
 μ-loop left left-weights right right-weights i₀ i = length left - i
 
+-- Ways back to earlier places.
+
+abbrev start-of : tie.Else2 Inv-loop μ-loop → tie.Start Inv-loop μ-loop
+start-of p = p .before .before .before .before .before .before
+
+abbrev loop-of : tie.Else2 Inv-loop μ-loop → tie.At-loop Inv-loop μ-loop
+loop-of p = p .before .before .before .before
+
 returns : tie.Need-returns Inv-loop μ-loop
 returns c = let g = c .before .args in
     let p = c .before .pre in
@@ -26,18 +34,6 @@ returns c = let g = c .before .args in
 loop-holds : tie.Need-loop-holds Inv-loop μ-loop
 loop-holds c = (search needs, search needs, refl)
 
-mul-if2 : tie.Need-mul-if2 Inv-loop μ-loop
-mul-if2 c = search needs
-
-shared-slice-read-if2 : tie.Need-shared-slice-read-if2 Inv-loop μ-loop
-shared-slice-read-if2 c = search needs
-
-mul-if2-2 : tie.Need-mul-if2-2 Inv-loop μ-loop
-mul-if2-2 c = search needs
-
-shared-slice-read-if2-2 : tie.Need-shared-slice-read-if2-2 Inv-loop μ-loop
-shared-slice-read-if2-2 c = search needs
-
 returns-2 : tie.Need-returns-2 Inv-loop μ-loop
 returns-2 c = let g = c .before .before .before .before .before .before .args in
     let w = c .before .before .before .before .loop in
@@ -45,35 +41,17 @@ returns-2 c = let g = c .before .before .before .before .before .before .args in
     let t = c .before .before .before .loop-test .taken in
     sym (same-left (g .left .now) (g .left-weights .now) (g .right .now) (g .right-weights .now) (w .i) t (omega arith) (omega arith) (omega arith) (c .if2 .taken)) ∙ w .inv .2
 
-mul-if3 : tie.Need-mul-if3 Inv-loop μ-loop
-mul-if3 c = search needs
-
-shared-slice-read-if3 : tie.Need-shared-slice-read-if3 Inv-loop μ-loop
-shared-slice-read-if3 c = search needs
-
-mul-if3-2 : tie.Need-mul-if3-2 Inv-loop μ-loop
-mul-if3-2 c = search needs
-
-shared-slice-read-if3-2 : tie.Need-shared-slice-read-if3-2 Inv-loop μ-loop
-shared-slice-read-if3-2 c = search needs
-
 returns-3 : tie.Need-returns-3 Inv-loop μ-loop
-returns-3 c = let g = c .before .before .before .before .before .before .before .before .before .args in
-    let w = c .before .before .before .before .before .before .before .loop in
-    let p = c .before .before .before .before .before .before .before .before .before .pre in
+returns-3 c = let g = start-of (c .before .before .before) .args in
+    let w = loop-of (c .before .before .before) .loop in
+    let p = start-of (c .before .before .before) .pre in
     let t = c .before .before .before .before .before .before .loop-test .taken in
     sym (same-right (g .left .now) (g .left-weights .now) (g .right .now) (g .right-weights .now) (w .i) t (omega arith) (omega arith) (omega arith) (c .before .before .before .if2 .left) (c .if3 .taken)) ∙ w .inv .2
 
-add-i : tie.Need-add-i Inv-loop μ-loop
-add-i c = search needs
-
-loop-less : tie.Need-loop-less Inv-loop μ-loop
-loop-less c = search needs
-
 loop-again : tie.Need-loop-again Inv-loop μ-loop
-loop-again c = let g = c .before .before .before .before .before .before .before .before .before .args in
-    let w = c .before .before .before .before .before .before .before .loop in
-    let p = c .before .before .before .before .before .before .before .before .before .pre in
+loop-again c = let g = start-of (c .before .before .before) .args in
+    let w = loop-of (c .before .before .before) .loop in
+    let p = start-of (c .before .before .before) .pre in
     let t = c .before .before .before .before .before .before .loop-test .taken in
     (omega arith, w .inv .1, sym (same-equal (g .left .now) (g .left-weights .now) (g .right .now) (g .right-weights .now) (w .i) t (omega arith) (omega arith) (omega arith) (c .before .before .before .if2 .left) (c .if3 .left)) ∙ w .inv .2)
 
@@ -92,17 +70,10 @@ same-list-spec =
     μ-loop
     returns
     loop-holds
-    mul-if2
-    shared-slice-read-if2
-    mul-if2-2
-    shared-slice-read-if2-2
+    (λ c. search needs) (λ c. search needs) (λ c. search needs) (λ c. search needs)
     returns-2
-    mul-if3
-    shared-slice-read-if3
-    mul-if3-2
-    shared-slice-read-if3-2
+    (λ c. search needs) (λ c. search needs) (λ c. search needs) (λ c. search needs)
     returns-3
-    add-i
-    loop-less
+    (λ c. search needs) (λ c. search needs)
     loop-again
     returns-4)

@@ -9,14 +9,8 @@ use Rattle.thresholds.proofs.start_of.Tie as tie
 returns : tie.Need-returns
 returns c = start-zero _ _ (c .if1 .taken)
 
-sub-end-of : tie.Need-sub-end-of
-sub-end-of c = search needs
-
-end-of-requires : tie.Need-end-of-requires
-end-of-requires c κs = search needs
-
 returns-2 : tie.Need-returns-2
 returns-2 c = c .end-of .ensures ∙ start-next _ _ (omega arith)
 
 pub start-of-spec : {M : Type 1} → statement M
-start-of-spec = tie.close (tie.spec returns sub-end-of end-of-requires returns-2)
+start-of-spec = tie.close (tie.spec returns (λ c. search needs) (λ c κs. search needs) returns-2)

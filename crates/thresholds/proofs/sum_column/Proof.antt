@@ -21,30 +21,6 @@ abbrev μ-loop : tie.MeasureT-loop
 loop-holds : tie.Need-loop-holds Inv-loop μ-loop
 loop-holds c = (search needs, c .pre .1, beside-self (c .args .j) _, refl, sum-zero _)
 
-mul-row : tie.Need-mul-row Inv-loop μ-loop
-mul-row c = search needs
-
-slice-copy-out-row : tie.Need-slice-copy-out-row Inv-loop μ-loop
-slice-copy-out-row c = search needs
-
-mul-rows : tie.Need-mul-rows Inv-loop μ-loop
-mul-rows c = search needs
-
-mul-rows-2 : tie.Need-mul-rows-2 Inv-loop μ-loop
-mul-rows-2 c = search needs
-
-index-1-rows : tie.Need-index-1-rows Inv-loop μ-loop
-index-1-rows c = search needs
-
-index-2-rows : tie.Need-index-2-rows Inv-loop μ-loop
-index-2-rows c = search needs
-
-mul-sum : tie.Need-mul-sum Inv-loop μ-loop
-mul-sum c = search needs
-
-array-read-sum : tie.Need-array-read-sum Inv-loop μ-loop
-array-read-sum c = search needs
-
 add-sum : tie.Need-add-sum Inv-loop μ-loop
 add-sum c =
     let w = c .before .before .loop in
@@ -63,12 +39,6 @@ add-sum c =
     let g = sum-grows cs (i + 1) (length rows) (omega arith) in
     let q = c .before .before .before .pre .2 in
     omega arith
-
-add-i : tie.Need-add-i Inv-loop μ-loop
-add-i c = search needs
-
-loop-less : tie.Need-loop-less Inv-loop μ-loop
-loop-less c = search needs
 
 loop-again : tie.Need-loop-again Inv-loop μ-loop
 loop-again c =
@@ -117,17 +87,10 @@ sum-column-spec =
     Inv-loop
     μ-loop
     loop-holds
-    mul-row
-    slice-copy-out-row
-    mul-rows
-    mul-rows-2
-    index-1-rows
-    index-2-rows
-    mul-sum
-    array-read-sum
+    (λ c. search needs) (λ c. search needs) (λ c. search needs) (λ c. search needs) (λ c. search needs) (λ c. search needs)
+    (λ c. search needs) (λ c. search needs)
     add-sum
-    add-i
-    loop-less
+    (λ c. search needs) (λ c. search needs)
     loop-again
     same-length
     returns)

@@ -4,17 +4,5 @@ use borrow.Author.Needs.{needs}
 use Rattle.words.proofs.bit.Statement.{statement}
 use Rattle.words.proofs.bit.Tie as tie
 
-mul-result : tie.Need-mul-result
-mul-result c = search needs
-
-shared-slice-read-result : tie.Need-shared-slice-read-result
-shared-slice-read-result c = search needs
-
-shr-result : tie.Need-shr-result
-shr-result c = search needs
-
-returns : tie.Need-returns
-returns c = refl
-
 pub bit-spec : {M : Type 1} → statement M
-bit-spec = tie.close (tie.spec mul-result shared-slice-read-result shr-result returns)
+bit-spec = tie.close (tie.spec (λ c. search needs) (λ c. search needs) (λ c. search needs) (λ c. refl))

@@ -15,27 +15,6 @@ returns-2 c =
     let g = c .before .before .args in
     meets-before (g .position) (g .bits) (g .start) (g .end) (c .if2 .taken)
 
-mul-base : tie.Need-mul-base
-mul-base c = search needs
-
-sub-saturating-sub : tie.Need-sub-saturating-sub
-sub-saturating-sub c = search needs
-
-saturating-sub-requires : tie.Need-saturating-sub-requires
-saturating-sub-requires c κs = search needs
-
-saturating-sub-requires-2 : tie.Need-saturating-sub-requires-2
-saturating-sub-requires-2 c κs = search needs
-
-shl-result : tie.Need-shl-result
-shl-result c = search needs
-
-shr-result : tie.Need-shr-result
-shr-result c = search needs
-
-shr-result-2 : tie.Need-shr-result-2
-shr-result-2 c = search needs
-
 returns-3 : tie.Need-returns-3
 returns-3 c =
     let g = c .before .before .before .before .args in
@@ -48,11 +27,6 @@ meets-spec =
     (tie.spec
     returns
     returns-2
-    mul-base
-    sub-saturating-sub
-    saturating-sub-requires
-    saturating-sub-requires-2
-    shl-result
-    shr-result
-    shr-result-2
+    (λ c. search needs) (λ c. search needs) (λ c κs. search needs) (λ c κs. search needs) (λ c. search needs) (λ c. search needs)
+    (λ c. search needs)
     returns-3)

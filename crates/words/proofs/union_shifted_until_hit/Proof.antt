@@ -19,8 +19,13 @@ Inv-loop words₀ source-words shift start end allowance source₀ left₀ words
 abbrev μ-loop : tie.MeasureT-loop
 μ-loop words₀ source-words shift start end allowance source₀ left₀ words source left = source
 
-readable-words-requires : tie.Need-readable-words-requires Inv-loop μ-loop
-readable-words-requires c κs = search needs
+-- Ways back to earlier places.
+
+abbrev start-of : tie.In-loop Inv-loop μ-loop → tie.Start Inv-loop μ-loop
+start-of p = p .before .before .before .before
+
+abbrev loop-of : tie.After-shift-word Inv-loop μ-loop → tie.At-loop Inv-loop μ-loop
+loop-of p = p .before .before .before .before
 
 loop-holds : tie.Need-loop-holds Inv-loop μ-loop
 loop-holds c =
@@ -28,45 +33,27 @@ loop-holds c =
     let r = c .readable-words .ensures in
     (refl, omega arith, from-start (g .shift) (g .start) (g .end) (g .words .now) (g .source-words) (g .allowance) (c .readable-words .result) r)
 
-same-length : tie.Need-same-length Inv-loop μ-loop
-same-length c = search needs
-
 returns : tie.Need-returns Inv-loop μ-loop
 returns c =
-    let g = c .before .before .before .before .before .args in
+    let g = start-of (c .before) .args in
     let w = c .before .before .loop in
     let e = sym (w .inv .2) ∙ from-stopped (g .shift) (g .start) (g .end) (w .words) (w .source) (w .left) (c .before .loop-test .taken) (c .if1 .taken) in
     (ap (λ (x : Shifted). x .words) (sym e), ap (λ (x : Shifted). x .ended) (sym e))
 
-sub-left : tie.Need-sub-left Inv-loop μ-loop
-sub-left c = search needs
-
-sub-source : tie.Need-sub-source Inv-loop μ-loop
-sub-source c = search needs
-
-shift-word-requires : tie.Need-shift-word-requires Inv-loop μ-loop
-shift-word-requires c κs = search needs
-
-same-length-2 : tie.Need-same-length-2 Inv-loop μ-loop
-same-length-2 c = search needs
-
 returns-2 : tie.Need-returns-2 Inv-loop μ-loop
 returns-2 c =
-    let g = c .before .before .before .before .before .before .before .before .before .before .args in
-    let w = c .before .before .before .before .before .before .before .loop in
+    let g = start-of (c .before .before .before .before .before .before) .args in
+    let w = loop-of (c .before .before .before) .loop in
     let k = c .before .before .before .shift-word .ensures in
     let e = sym (w .inv .2)
     ∙ from-hit (g .shift) (g .start) (g .end) (w .words) (w .source) (w .left) (c .before .before .before .shift-word .result) (c .before .before .before .before .before .before .loop-test .taken)
     (c .before .before .before .before .before .if1 .left) (k .1) (c .if2 .taken) in
     (k .0 ∙ ap (λ (x : Shifted). x .words) (sym e), ap (λ (x : Shifted). x .ended) (sym e))
 
-loop-less : tie.Need-loop-less Inv-loop μ-loop
-loop-less c = search needs
-
 loop-again : tie.Need-loop-again Inv-loop μ-loop
 loop-again c =
-    let g = c .before .before .before .before .before .before .before .before .before .before .args in
-    let w = c .before .before .before .before .before .before .before .loop in
+    let g = start-of (c .before .before .before .before .before .before) .args in
+    let w = loop-of (c .before .before .before) .loop in
     let k = c .before .before .before .shift-word .ensures in (
       ap length (k .0) ∙ length-shift (w .words) (w .source - 1) (g .shift) ∙ w .inv .0,
       search needs,
@@ -75,9 +62,6 @@ loop-again c =
           (c .before .before .before .before .before .if1 .left) (k .1) (c .if2 .left))
           ∙ w .inv .2,
     )
-
-same-length-3 : tie.Need-same-length-3 Inv-loop μ-loop
-same-length-3 c = search needs
 
 returns-3 : tie.Need-returns-3 Inv-loop μ-loop
 returns-3 c =
@@ -92,16 +76,13 @@ union-shifted-until-hit-spec =
     (tie.spec
     Inv-loop
     μ-loop
-    readable-words-requires
+    (λ c κs. search needs)
     loop-holds
-    same-length
+    (λ c. search needs)
     returns
-    sub-left
-    sub-source
-    shift-word-requires
-    same-length-2
+    (λ c. search needs) (λ c. search needs) (λ c κs. search needs) (λ c. search needs)
     returns-2
-    loop-less
+    (λ c. search needs)
     loop-again
-    same-length-3
+    (λ c. search needs)
     returns-3)

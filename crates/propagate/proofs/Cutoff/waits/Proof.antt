@@ -9,9 +9,6 @@ use borrow.Author.Needs.{needs}
 use Rattle.propagate.proofs.Cutoff.waits.Statement.{statement}
 use Rattle.propagate.proofs.Cutoff.waits.Tie as tie
 
-cast-own : tie.Need-cast-own
-cast-own c = search needs
-
 returns : tie.Need-returns
 returns c =
     let a = c .before .before .args in
@@ -27,4 +24,4 @@ returns-2 c =
     simp (hw, hc, c .if1 .left)
 
 pub waits-spec : {M : Type 1} → statement M
-waits-spec = tie.close (tie.spec cast-own returns returns-2)
+waits-spec = tie.close (tie.spec (λ c. search needs) returns returns-2)
