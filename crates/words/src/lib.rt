@@ -40,10 +40,7 @@ pub fn decided(sure: &[u64], never: &[u64], node: u16) -> bool
     ensures { λ r. ⌜ r ≡ inEither (now (sure .entry)) (now (never .entry)) node ⌝ }
 {
     let n = node as usize;
-    if bit(sure, n) {
-        return true;
-    }
-    bit(never, n)
+    bit(sure, n) | bit(never, n)
 }
 
 // Node n is put into the mask; nothing new if it is there already, a contradiction if the opposite mask has it.
