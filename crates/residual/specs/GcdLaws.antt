@@ -11,6 +11,7 @@ use native.Mathlib.Nat.{
   dvd-mod-iff,
   dvd-trans,
   dvd-antisymm,
+  one-dvd,
   dvd-add,
 }
 use native.Mathlib.Omega.{arith}
@@ -59,6 +60,13 @@ gcd-left a b = divides b a b (le-refl b) .0
 pub gcd-right : (a b : ℕ) → gcd a b ∣ b
 unfolding gcd
 gcd-right a b = divides b a b (le-refl b) .1
+
+-- Nothing but 1 divides 1.
+pub gcd-one : (a : ℕ) → gcd a 1 ≡ 1
+gcd-one a = dvd-antisymm (gcd-right a 1) (one-dvd (gcd a 1))
+
+pub one-gcd : (b : ℕ) → gcd 1 b ≡ 1
+one-gcd b = dvd-antisymm (gcd-left 1 b) (one-dvd (gcd 1 b))
 
 -- What divides both divides it.
 greatest : (n a b d : ℕ) → d ∣ a → d ∣ b → d ∣ gcdIn n a b

@@ -62,6 +62,13 @@ pub fn gcd(left: u64, right: u64) -> u64
     if left == right {
         return right;
     }
+    // Many rows come down to 1 soon, and then there is nothing to divide.
+    if left == 1 {
+        return 1;
+    }
+    if right == 1 {
+        return 1;
+    }
     let mut a = left;
     let mut b = right;
     while b != 0 {

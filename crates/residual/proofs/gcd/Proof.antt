@@ -4,7 +4,7 @@ use native.Mathlib.Omega.{arith}
 use native.Mathlib.Nat.{mod-lt}
 use mathlib.Core.Path.{_≡_, refl, sym, ap, _∙_}
 use Rattle.residual.specs.Gcd.{gcd}
-use Rattle.residual.specs.GcdLaws.{gcd-none, gcd-same, gcd-zero, gcd-step}
+use Rattle.residual.specs.GcdLaws.{gcd-none, gcd-same, gcd-zero, gcd-step, gcd-one, one-gcd}
 use Rattle.residual.proofs.gcd.Statement.{statement}
 use Rattle.residual.proofs.gcd.Tie as tie
 
@@ -24,6 +24,22 @@ returns-2 c =
     let g = c .before .before .args in
     sym (ap (λ (x : ℕ). gcd x (g .right)) (c .if2 .taken) ∙ gcd-same (g .right))
 
+returns-3 : tie.Need-returns-3 Inv-loop μ-loop
+returns-3 c =
+    let g = c .before .before .before .args in
+    sym (ap (λ (x : ℕ). gcd x (g .right)) (c .if3 .taken) ∙ one-gcd (g .right))
+
+returns-4 : tie.Need-returns-4 Inv-loop μ-loop
+returns-4 c =
+    let g = c .before .before .before .before .args in
+    sym (ap (gcd (g .left)) (c .if4 .taken) ∙ gcd-one (g .left))
+
+loop-holds : tie.Need-loop-holds Inv-loop μ-loop
+loop-holds c = refl
+
+rem-remainder : tie.Need-rem-remainder Inv-loop μ-loop
+rem-remainder c = omega arith
+
 loop-less : tie.Need-loop-less Inv-loop μ-loop
 loop-less c = mod-lt (c .before .loop .a) (omega arith)
 
@@ -32,8 +48,8 @@ loop-again c =
     let w = c .before .loop in
     sym (gcd-step (w .a) (w .b) (omega arith)) ∙ w .inv
 
-returns-3 : tie.Need-returns-3 Inv-loop μ-loop
-returns-3 c =
+returns-5 : tie.Need-returns-5 Inv-loop μ-loop
+returns-5 c =
     let w = c .before .loop in
     sym (gcd-zero (w .a)) ∙ ap (gcd (w .a)) (sym (c .loop-test .left)) ∙ w .inv
 
@@ -45,7 +61,10 @@ gcd-spec =
     μ-loop
     returns
     returns-2
-    (λ c. refl) (λ c. omega arith)
+    returns-3
+    returns-4
+    loop-holds
+    rem-remainder
     loop-less
     loop-again
-    returns-3)
+    returns-5)
