@@ -34,10 +34,11 @@ use state::State;
 use state::Step;
 use state::Upper;
 
-// A row's answer, and where the queues stand after it.
+// Where the queues stand after a row's run, and its answer. The answer stands last: before the queues it would part the words that they are
+// copied by.
 pub struct Did {
-    pub step: Step,
     pub rings: Rings,
+    pub step: Step,
 }
 
 // A row state from its figures and cursors.
