@@ -22,7 +22,7 @@ use Rattle.records.specs.declared.Standing.{Standing}
 use Rattle.records.specs.declared.Record.{Record}
 use Rattle.records.specs.declared.Record.the-variants.{Header, Opens, Adds, Areas, Seal, Unknown}
 use Rattle.records.specs.Record.{kindOf, bodyLength}
-use Rattle.records.specs.Next.{recordIn, closing, nextAt}
+use Rattle.records.specs.Next.{recordIn, closing, nextAt, termCondition, termWeight, TermNext}
 use Rattle.records.specs.Facts.{serving, action, facts}
 use Rattle.records.specs.declared.Next.the-variants.{Refused, Taken}
 use Rattle.records.specs.Checks.{wrongTurn, refusedBy, refusedAt}
@@ -39,7 +39,7 @@ use Rattle.files.specs.File.{File, contradicted, standing, noJob, begun,
 use Rattle.files.specs.FileLaws.{zero-or}
 use Rattle.files.specs.JobPart.{JobPart, jobPart, readJob, jobPartOf}
 use Rattle.files.specs.JobPartLaws.{true-or, job-refused, job-sealing, job-next}
-use Rattle.files.specs.Held.{headed, Room, Held, Takes, HeldPart, Going}
+use Rattle.files.specs.Held.{headed, Room, Held, Takes, HeldPart, Reads, Going}
 
 not-false : (b : Bool) → not b ≡ false → b ≡ true
 not-false true e = refl
@@ -318,6 +318,24 @@ module _ (bytes : List ℕ) (o : ℕ) (inside : o < length bytes) where
           (sym (one-next f (by-file 0 (was-taken s bytes o x e .0)) (sym (ap (λ (y : Record). closing (action y)) same-record) ∙ c)))
           (record { refusal = refl; at = ap (λ (k : ℕ). o + 1 + k) en; sealing = refl; held = subst (λ (y : Record). Held (apply f y) w s′ cs′ ws′ ts′ bs′) same-record a })
 
+-- A term that comes next, by the numbers that were read of it.
+module _ (bytes : List ℕ) (o : ℕ) (s : Standing) (t : TermNext s bytes o) (c v : ℕ) (ec : c ≡ termCondition bytes o) (ev : v ≡ termWeight bytes o) where
+  term-comes : Taken (Adds c v) ≡ nextAt s bytes o
+  term-comes = (λ i. Taken (Adds (ec i) (ev i))) ∙ t .next
+
+  pub term-passes : refusedBy s (Adds c v) ≡ 0
+  term-passes = next-passes s bytes o (Adds c v) term-comes
+
+  pub read-term : (cs ws : List ℕ) (ts : List (List ℕ)) (r : Standing) (cs′ ws′ : List ℕ) (ts′ : List (List ℕ)) → Added s c v cs ws ts r cs′ ws′ ts′ → (bs : List ℤ)
+      → Reads bytes o s cs ws ts bs (record { at = o + 1 + 6; refusal = 0; sealing = false; standing = r }) cs′ ws′ ts′ bs
+  read-term cs ws ts r cs′ ws′ ts′ a bs = record {
+    part = λ f w room h.
+        let k = takes-adds (Adds c v) s cs ws ts bs term-passes c v refl r cs′ ws′ ts′ a in
+        let n = sym (ap (λ (b : ℕ). bodyLength (kindOf b)) (t .kind)) in
+        let inside : o < length bytes = omega (arith, t .whole) in
+        read-next bytes o inside f w s cs ws ts bs h (Adds c v) term-comes refl 6 n r cs′ ws′ ts′ bs (k .done f w room h);
+  }
+
 -- ---- THE NEXT ONES: one record stops the reading, or it goes on behind it
 
 pub record Stops (one whole : JobPart) : Type 0 where
@@ -385,6 +403,9 @@ none-left (suc n) o f taken = refl
 -- Whether what was given back ends the reading.
 abbrev pub stopping : JobRead → Bool
 stopping r = not (eqb (r .refusal) 0) || r .sealing
+
+pub goes : (r : JobRead) → r .refusal ≡ 0 → r .sealing ≡ false → stopping r ≡ false
+goes r e q = ap₂ (λ (n : ℕ) (b : Bool). not (eqb n 0) || b) e q
 
 module _ (bytes : List ℕ) (w : Raw) (r : JobRead) (cs ws : List ℕ) (ts : List (List ℕ)) (bs : List ℤ) (g : Going bytes w r cs ws ts bs) where
   pub going-unsealed : r .standing .sealed ≡ false

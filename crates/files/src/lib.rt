@@ -2,12 +2,14 @@
 ghost use mathlib.Core.Path.{_≡_};
 ghost use mathlib.Core.Bool.{false};
 ghost use Prim.Native.Nat.{_<_};
+ghost use mathlib.Core.List.{List};
 ghost use lib.ListN.{length};
+ghost use lib.IntN.{ℤ};
 ghost use Rattle.memory.specs.Buffers.{rawLists, raw};
 ghost use Rattle.records.specs.Facts.{action};
-ghost use Rattle.records.specs.Next.{closing};
+ghost use Rattle.records.specs.Next.{closing, TermNext};
 ghost use Rattle.records.specs.Checks.{refusedBy};
-ghost use Rattle.job.specs.Gathered.{Gathered};
+ghost use Rattle.job.specs.Gathered.{Listed, Termed, Gathered};
 ghost use Rattle.files.specs.JobPart.{jobPartOf};
 ghost use Rattle.files.specs.Held.{headed, Room, Takes, HeldPart, Reads};
 use records::Next;
@@ -152,6 +154,37 @@ fn read_record(
     }
 }
 
+// A term that comes next.
+fn read_term(
+    input: &[u8],
+    at: usize,
+    standing: Standing,
+    raw_conditions: &mut [u16],
+    raw_weights: &mut [u64],
+    thresholds: &mut [[u16; 2]],
+) -> JobRead
+    requires { ⌜ TermNext standing (now input) at × Listed standing (now thresholds) × Termed standing (now «raw_conditions») (now «raw_weights») ⌝ }
+    ensures { λ r. ⌜ ((bs : List ℤ) → Reads (now (input .entry)) at standing (now («raw_conditions» .entry)) (now («raw_weights» .entry)) (now (thresholds .entry)) bs
+        r (now («raw_conditions» .exit)) (now («raw_weights» .exit)) (now (thresholds .exit)) bs) × (r .refusal ≡ 0) × (r .sealing ≡ false) ⌝ }
+{
+    let condition = records::u16_at(input, at + 1);
+    let weight = records::u32_at(input, at + 3) as u64;
+    let after = job::add_term(
+        standing,
+        condition,
+        weight,
+        raw_conditions,
+        raw_weights,
+        thresholds,
+    );
+    JobRead {
+        at: at + 1 + 6,
+        refusal: 0,
+        sealing: false,
+        standing: after,
+    }
+}
+
 // The records of an input up to its seal, into buffers for the job that they give.
 pub fn read_job(
     input: &[u8],
@@ -183,6 +216,13 @@ pub fn read_job(
         standing: standing,
     };
     while read.at < input.len() {
+        let from = read.at;
+        let stands = read.standing;
+        // Most records are terms, and these need nothing of the others' checks.
+        if records::term_comes(input, from, stands) {
+            read = read_term(input, from, stands, raw_conditions, raw_weights, thresholds);
+            continue;
+        }
         let so_far = read.standing;
         let next = read_record(
             input,

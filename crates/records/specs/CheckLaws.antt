@@ -4,7 +4,7 @@ use lib.ListN.{length, getD, drop, length-take, length-drop}
 use lib.Dec.{leb, ltb}
 use lib.IntN.{ℤ}
 use native.Mathlib.Omega.{arith}
-use mathlib.Core.Path.{_≡_, refl, sym, ap, _∙_}
+use mathlib.Core.Path.{_≡_, refl, sym, ap, subst, _∙_}
 use mathlib.Core.Bool.{Bool, true, false, cond}
 use mathlib.Core.List.{List, [], _∷_}
 use borrow.Author.Tests.{ltb-false, lt-ltb, le-ltb, eq-eqb, ne-eqb}
@@ -14,7 +14,8 @@ use Rattle.records.specs.declared.Record.the-variants.{Opens, Adds, Seal
 use Rattle.records.specs.declared.Next.the-variants.{Refused, Taken}
 use Rattle.records.specs.declared.Standing.{Standing}
 use Rattle.records.specs.Record.{kindOf, bodyLength, bodyOf}
-use Rattle.records.specs.Next.{recordIn, taking, nextAt}
+use Rattle.records.specs.Next.{recordIn, taking, nextAt, termCondition, termWeight, TermNext}
+use Rattle.records.specs.RecordLaws.{two-fields}
 use Rattle.records.specs.Facts.{Facts, building, within, ofTerms, action, facts}
 use Rattle.records.specs.Checks.{wrongTurn, anyOf, notRising, badBound, tooMany, Check, check, first, checks, refusedBy, unknownKind, cutBody, refusedAt}
 
@@ -122,6 +123,19 @@ module _ (s : Standing) (bytes : List ℕ) (at : ℕ) where
 
       pub next-taken : (r : Record) → r ≡ recordIn bytes at → x ≡ 0 → Taken r ≡ nextAt s bytes at
       next-taken r e z = ap Taken e ∙ sym (checked ∙ ap (λ (t : Bool). cond t (Taken (recordIn bytes at)) (Refused x)) (eq-eqb x 0 z))
+
+-- A term of its kind, whole, with no number that refuses it.
+pub term-next : (s : Standing) (bytes : List ℕ) (at : ℕ) → getD bytes at 0 ≡ 3 → at < length bytes → 6 < length bytes - at → (c n : ℕ) → c ≡ termCondition bytes at
+    → n ≡ refusedBy s (Adds c 0) → n ≡ 0 → TermNext s bytes at
+term-next s bytes at k inside long c n e number z =
+    let made : (x : ℕ) → x ≡ termCondition bytes at → Adds x (termWeight bytes at) ≡ recordIn bytes at
+    = λ x h. two-fields bytes at 3 4 Adds x (termWeight bytes at) refl k h refl in
+    record {
+      kind = k;
+      whole = omega (arith, inside, long);
+      next = next-taken s bytes at (ap unknownKind k) inside (subst (λ (b : ℕ). bodyLength (kindOf b) < length bytes - at) (sym k) long) n (number ∙ ap (refusedBy s) (made c e))
+          (Adds (termCondition bytes at) (termWeight bytes at)) (made (termCondition bytes at) refl) z;
+    }
 
 -- What the next record says of the checks.
 

@@ -1,11 +1,13 @@
 -- The record at an offset of the input, as the code takes it.
-use Prim.Native.Nat.{ℕ, _+_}
+use Prim.Native.Nat.{ℕ, _+_, _≤_}
+use mathlib.Core.Path.{_≡_}
 use mathlib.Core.List.{List}
-use lib.ListN.{getD, drop}
+use lib.ListN.{length, getD, take, drop}
 use mathlib.Core.Bool.{Bool, true, false, cond}
 use lib.Dec.{eqb}
 use Rattle.records.specs.declared.Record.{Record}
-use Rattle.records.specs.Record.{Kind, kindOf, recordAt}
+use Rattle.records.specs.declared.Record.the-variants.{Adds}
+use Rattle.records.specs.Record.{littleEndian, Kind, kindOf, recordAt}
 use Rattle.records.specs.Facts.{Action, begins, changes, closes, decides, settles, sifts, idles}
 use Rattle.records.specs.declared.Next.{Next}
 use Rattle.records.specs.declared.Next.the-variants.{Refused, Taken}
@@ -35,3 +37,15 @@ taking n r = cond (eqb n 0) (Taken r) (Refused n)
 
 abbrev pub nextAt : Standing → List ℕ → ℕ → Next
 nextAt s bytes at = taking (refusedAt s (getD bytes at 0) (drop (at + 1) bytes)) (recordIn bytes at)
+
+-- A term comes next, whole, and no check refuses it.
+abbrev pub termCondition : List ℕ → ℕ → ℕ
+termCondition bytes at = littleEndian (take 2 (drop (at + 1) bytes))
+
+abbrev pub termWeight : List ℕ → ℕ → ℕ
+termWeight bytes at = littleEndian (take 4 (drop (at + 3) bytes))
+
+pub record TermNext (s : Standing) (bytes : List ℕ) (at : ℕ) : Type 0 where
+  pub kind : getD bytes at 0 ≡ 3
+  pub whole : at + 7 ≤ length bytes
+  pub next : Taken (Adds (termCondition bytes at) (termWeight bytes at)) ≡ nextAt s bytes at

@@ -2,13 +2,13 @@
 ghost use mathlib.Core.Path.{_≡_};
 ghost use Prim.Native.Nat.{_+_, _<_, _≤_};
 ghost use lib.ListN.{length, getD, take, drop};
-ghost use mathlib.Core.Bool.{_||_, _&&_, not};
+ghost use mathlib.Core.Bool.{true, _||_, _&&_, not};
 ghost use mathlib.Core.List.{[], _∷_};
 ghost use Rattle.records.specs.declared.Record.the-variants.{Adds};
 ghost use Rattle.records.specs.Facts.{building, within, ofTerms, action};
 ghost use Rattle.records.specs.Checks.{wrongTurn, notRising, badBound, tooMany, check, first, refusedBy};
 ghost use Rattle.records.specs.Record.{kindOf, bodyLength, littleEndian, signed};
-ghost use Rattle.records.specs.Next.{kindAt, recordIn, closing, nextAt};
+ghost use Rattle.records.specs.Next.{kindAt, recordIn, closing, nextAt, TermNext};
 
 // A record with its fields: nodes; node and bound; condition and weight; condition and area; node and value.
 pub enum Record {
@@ -67,7 +67,7 @@ fn byte_at(input: &[u8], at: usize) -> u64
     input[at] as u64
 }
 
-fn u16_at(input: &[u8], at: usize) -> u16
+pub fn u16_at(input: &[u8], at: usize) -> u16
     requires { ⌜ at + 2 ≤ length (now input) ⌝ }
     ensures { λ r. ⌜ r ≡ littleEndian (take 2 (drop at (now (input .entry)))) ⌝ }
 {
@@ -76,7 +76,7 @@ fn u16_at(input: &[u8], at: usize) -> u16
     (low + 256 * high) as u16
 }
 
-fn u32_at(input: &[u8], at: usize) -> u32
+pub fn u32_at(input: &[u8], at: usize) -> u32
     requires { ⌜ at + 4 ≤ length (now input) ⌝ }
     ensures { λ r. ⌜ r ≡ littleEndian (take 4 (drop at (now (input .entry)))) ⌝ }
 {
@@ -205,6 +205,21 @@ fn term_refusal(standing: Standing, condition: u16) -> u8
         false,
         too_many_terms(standing),
     )
+}
+
+// Whether a term comes next, whole, that no check refuses.
+pub fn term_comes(input: &[u8], at: usize, standing: Standing) -> bool
+    requires { ⌜ at < length (now input) ⌝ }
+    ensures { λ r. ⌜ (r ≡ true → TermNext standing (now (input .entry)) at) ⌝ }
+{
+    if input[at] != 3 {
+        return false;
+    }
+    if input.len() - at <= 6 {
+        return false;
+    }
+    let condition = u16_at(input, at + 1);
+    term_refusal(standing, condition) == 0
 }
 
 // A record with no node, bound or value.

@@ -5,7 +5,7 @@ use native.Mathlib.Omega.{arith}
 use lib.ListN.{length}
 use Rattle.memory.specs.Buffers.{rawLists, raw}
 use Rattle.files.specs.Held.{Going}
-use Rattle.files.specs.HeldLaws.{going-begun, going-unsealed, going-ends, going-stops, going-farther, going-on}
+use Rattle.files.specs.HeldLaws.{going-begun, going-unsealed, going-ends, going-stops, going-farther, going-on, goes}
 use borrow.Author.Needs.{needs}
 use Rattle.files.proofs.read_job.Statement.{statement}
 use Rattle.files.proofs.read_job.Tie as tie
@@ -18,22 +18,56 @@ Inv-loop input raw-conditions₀ raw-weights₀ thresholds₀ bounds₀ read₀ 
 abbrev μ-loop : tie.MeasureT-loop
 μ-loop input raw-conditions₀ raw-weights₀ thresholds₀ bounds₀ read₀ raw-conditions raw-weights thresholds bounds read = length input - read .at
 
--- Ways back to earlier places.
-
-abbrev read-record-of : tie.Else2 Inv-loop μ-loop → tie.After-read-record Inv-loop μ-loop
-read-record-of p = p .before .before .before .before .before .before .before .before .before
-
-abbrev read-record-of-then2 : tie.Then2 Inv-loop μ-loop → tie.After-read-record Inv-loop μ-loop
-read-record-of-then2 p = p .before .before .before .before .before .before .before .before .before
-
 loop-holds : tie.Need-loop-holds Inv-loop μ-loop
 loop-holds c =
     let g = c .before .before .before .args in
     (going-begun (g .input .now) (g .raw-conditions .now) (g .raw-weights .now) (g .thresholds .now) (g .bounds .now) (c .before .before .before .pre), refl, refl, refl, refl)
 
+term-comes-requires : tie.Need-term-comes-requires Inv-loop μ-loop
+term-comes-requires c κs = c .before .if1 .taken
+
+read-term-requires : tie.Need-read-term-requires Inv-loop μ-loop
+read-term-requires c κs =
+    let at-if = c .before .before .before in
+    let v = at-if .before .before .before .before .before .loop in
+    (at-if .before .term-comes .ensures (at-if .if2 .taken), v .inv .0 .held .gathered .listed, v .inv .0 .held .gathered .termed)
+
+loop-less : tie.Need-loop-less Inv-loop μ-loop
+loop-less c =
+    let at-read = c .before .before .before .before .before in
+    let at-test = at-read .before .before .before .before .before .before .before in
+    let at-loop = at-test .before .before in
+    let s = at-loop .before .before .before .before in
+    let g = s .args in
+    let v = at-loop .loop in
+    let w = raw (rawLists (g .raw-conditions .now) (g .raw-weights .now) (g .thresholds .now)) (g .bounds .now) in
+    let n = at-read .read-term in
+    let p = n .ensures .0 (v .bounds) .part (v .inv .0 .file) w (s .pre) (v .inv .0 .held) in
+    let e = goes (n .result) (n .ensures .1) (n .ensures .2) in
+    omega (arith, at-test .if1 .taken, going-farther (g .input .now) w (v .read) (v .raw-conditions) (v .raw-weights) (v .thresholds) (v .bounds) (v .inv .0) (at-test .if1 .taken) (n .result) _ _ _ _ p e)
+
+loop-again : tie.Need-loop-again Inv-loop μ-loop
+loop-again c =
+    let at-read = c .before .before .before .before .before in
+    let at-test = at-read .before .before .before .before .before .before .before in
+    let at-loop = at-test .before .before in
+    let s = at-loop .before .before .before .before in
+    let g = s .args in
+    let v = at-loop .loop in
+    let w = raw (rawLists (g .raw-conditions .now) (g .raw-weights .now) (g .thresholds .now)) (g .bounds .now) in
+    let n = at-read .read-term in
+    let p = n .ensures .0 (v .bounds) .part (v .inv .0 .file) w (s .pre) (v .inv .0 .held) in
+    let e = goes (n .result) (n .ensures .1) (n .ensures .2) in (
+      going-on (g .input .now) w (v .read) (v .raw-conditions) (v .raw-weights) (v .thresholds) (v .bounds) (v .inv .0) (at-test .if1 .taken) (n .result) _ _ _ _ p e,
+      n .kept .1 .1 .1 .0 ∙ v .inv .1,
+      n .kept .1 .1 .1 .1 .0 ∙ v .inv .2,
+      n .kept .1 .1 .1 .1 .1 .0 ∙ v .inv .3,
+      v .inv .4,
+    )
+
 read-record-requires : tie.Need-read-record-requires Inv-loop μ-loop
 read-record-requires c κs =
-    let at-test = c .before .before .before .before .before in
+    let at-test = c .before .before .before .before .before .before .before .before in
     let at-loop = at-test .before .before in
     let s = at-loop .before .before .before .before in
     let g = s .args in
@@ -41,10 +75,22 @@ read-record-requires c κs =
     let w = raw (rawLists (g .raw-conditions .now) (g .raw-weights .now) (g .thresholds .now)) (g .bounds .now) in
     (at-test .if1 .taken, going-unsealed (g .input .now) w (v .read) (v .raw-conditions) (v .raw-weights) (v .thresholds) (v .bounds) (v .inv .0), v .inv .0 .held .gathered)
 
+same-length : tie.Need-same-length Inv-loop μ-loop
+same-length c = let at-read = c .before .before .before .before .before .before .before .before .before in at-read .read-record .kept .1 .1 .1 .0 ∙ at-read .before .before .before .before .before .before .before .before .before .before .before .loop .inv .1
+
+same-length-2 : tie.Need-same-length-2 Inv-loop μ-loop
+same-length-2 c = let at-read = c .before .before .before .before .before .before .before .before .before in at-read .read-record .kept .1 .1 .1 .1 .0 ∙ at-read .before .before .before .before .before .before .before .before .before .before .before .loop .inv .2
+
+same-length-3 : tie.Need-same-length-3 Inv-loop μ-loop
+same-length-3 c = let at-read = c .before .before .before .before .before .before .before .before .before in at-read .read-record .kept .1 .1 .1 .1 .1 .0 ∙ at-read .before .before .before .before .before .before .before .before .before .before .before .loop .inv .3
+
+same-length-4 : tie.Need-same-length-4 Inv-loop μ-loop
+same-length-4 c = let at-read = c .before .before .before .before .before .before .before .before .before in at-read .read-record .kept .1 .1 .1 .1 .1 .1 .0 ∙ at-read .before .before .before .before .before .before .before .before .before .before .before .loop .inv .4
+
 returns : tie.Need-returns Inv-loop μ-loop
 returns c =
-    let at-read = read-record-of-then2 c in
-    let at-test = at-read .before .before .before .before .before .before in
+    let at-read = c .before .before .before .before .before .before .before .before .before in
+    let at-test = at-read .before .before .before .before .before .before .before .before .before in
     let at-loop = at-test .before .before in
     let s = at-loop .before .before .before .before in
     let g = s .args in
@@ -52,12 +98,12 @@ returns c =
     let w = raw (rawLists (g .raw-conditions .now) (g .raw-weights .now) (g .thresholds .now)) (g .bounds .now) in
     let n = at-read .read-record in
     let p = n .ensures .part (v .inv .0 .file) w (s .pre) (v .inv .0 .held) in
-    going-stops (g .input .now) w (v .read) (v .raw-conditions) (v .raw-weights) (v .thresholds) (v .bounds) (v .inv .0) (at-test .if1 .taken) (n .result) _ _ _ _ p (c .if2 .taken)
+    going-stops (g .input .now) w (v .read) (v .raw-conditions) (v .raw-weights) (v .thresholds) (v .bounds) (v .inv .0) (at-test .if1 .taken) (n .result) _ _ _ _ p (c .if3 .taken)
 
-loop-less : tie.Need-loop-less Inv-loop μ-loop
-loop-less c =
-    let at-read = read-record-of c in
-    let at-test = at-read .before .before .before .before .before .before in
+loop-less-2 : tie.Need-loop-less-2 Inv-loop μ-loop
+loop-less-2 c =
+    let at-read = c .before .before .before .before .before .before .before .before .before in
+    let at-test = at-read .before .before .before .before .before .before .before .before .before in
     let at-loop = at-test .before .before in
     let s = at-loop .before .before .before .before in
     let g = s .args in
@@ -65,13 +111,12 @@ loop-less c =
     let w = raw (rawLists (g .raw-conditions .now) (g .raw-weights .now) (g .thresholds .now)) (g .bounds .now) in
     let n = at-read .read-record in
     let p = n .ensures .part (v .inv .0 .file) w (s .pre) (v .inv .0 .held) in
-    let q = going-farther (g .input .now) w (v .read) (v .raw-conditions) (v .raw-weights) (v .thresholds) (v .bounds) (v .inv .0) (at-test .if1 .taken) (n .result) _ _ _ _ p (c .if2 .left) in
-    omega (arith, at-test .if1 .taken, q)
+    omega (arith, at-test .if1 .taken, going-farther (g .input .now) w (v .read) (v .raw-conditions) (v .raw-weights) (v .thresholds) (v .bounds) (v .inv .0) (at-test .if1 .taken) (n .result) _ _ _ _ p (c .if3 .left))
 
-loop-again : tie.Need-loop-again Inv-loop μ-loop
-loop-again c =
-    let at-read = read-record-of c in
-    let at-test = at-read .before .before .before .before .before .before in
+loop-again-2 : tie.Need-loop-again-2 Inv-loop μ-loop
+loop-again-2 c =
+    let at-read = c .before .before .before .before .before .before .before .before .before in
+    let at-test = at-read .before .before .before .before .before .before .before .before .before in
     let at-loop = at-test .before .before in
     let s = at-loop .before .before .before .before in
     let g = s .args in
@@ -79,17 +124,28 @@ loop-again c =
     let w = raw (rawLists (g .raw-conditions .now) (g .raw-weights .now) (g .thresholds .now)) (g .bounds .now) in
     let n = at-read .read-record in
     let p = n .ensures .part (v .inv .0 .file) w (s .pre) (v .inv .0 .held) in (
-      going-on (g .input .now) w (v .read) (v .raw-conditions) (v .raw-weights) (v .thresholds) (v .bounds) (v .inv .0) (at-test .if1 .taken) (n .result) _ _ _ _ p (c .if2 .left),
+      going-on (g .input .now) w (v .read) (v .raw-conditions) (v .raw-weights) (v .thresholds) (v .bounds) (v .inv .0) (at-test .if1 .taken) (n .result) _ _ _ _ p (c .if3 .left),
       n .kept .1 .1 .1 .0 ∙ v .inv .1,
       n .kept .1 .1 .1 .1 .0 ∙ v .inv .2,
       n .kept .1 .1 .1 .1 .1 .0 ∙ v .inv .3,
       n .kept .1 .1 .1 .1 .1 .1 .0 ∙ v .inv .4,
     )
 
+same-length-5 : tie.Need-same-length-5 Inv-loop μ-loop
+same-length-5 c = search needs
+
+same-length-6 : tie.Need-same-length-6 Inv-loop μ-loop
+same-length-6 c = search needs
+
+same-length-7 : tie.Need-same-length-7 Inv-loop μ-loop
+same-length-7 c = search needs
+
+same-length-8 : tie.Need-same-length-8 Inv-loop μ-loop
+same-length-8 c = search needs
+
 returns-2 : tie.Need-returns-2 Inv-loop μ-loop
 returns-2 c =
-    let at-test = c in
-    let at-loop = at-test .before .before in
+    let at-loop = c .before .before in
     let s = at-loop .before .before .before .before in
     let g = s .args in
     let v = at-loop .loop in
@@ -103,10 +159,20 @@ read-job-spec =
     Inv-loop
     μ-loop
     loop-holds
-    read-record-requires
-    (λ c. search needs) (λ c. search needs) (λ c. search needs) (λ c. search needs)
-    returns
+    term-comes-requires
+    read-term-requires
     loop-less
     loop-again
-    (λ c. search needs) (λ c. search needs) (λ c. search needs) (λ c. search needs)
+    read-record-requires
+    same-length
+    same-length-2
+    same-length-3
+    same-length-4
+    returns
+    loop-less-2
+    loop-again-2
+    same-length-5
+    same-length-6
+    same-length-7
+    same-length-8
     returns-2)

@@ -1,0 +1,52 @@
+-- `records::term_comes` meets its contract: kind, body, then the number that would refuse it.
+use mathlib.Core.Path.{_≡_}
+use Prim.Native.Nat.{ℕ}
+use native.Mathlib.Omega.{arith}
+use borrow.Author.Tests.{eqb-true}
+use Rattle.records.specs.CheckLaws.{term-next}
+use borrow.Author.Needs.{needs}
+use Rattle.records.proofs.term_comes.Statement.{statement}
+use Rattle.records.proofs.term_comes.Tie as tie
+
+shared-slice-read-if1 : tie.Need-shared-slice-read-if1
+shared-slice-read-if1 c = search needs
+
+returns : tie.Need-returns
+returns c e = absurd (let z : _≡_ {A = ℕ} 0 1 = cc in omega arith)
+
+sub-if2 : tie.Need-sub-if2
+sub-if2 c = search needs
+
+returns-2 : tie.Need-returns-2
+returns-2 c e = absurd (let z : _≡_ {A = ℕ} 0 1 = cc in omega arith)
+
+add-u16-at : tie.Need-add-u16-at
+add-u16-at c = search needs
+
+u16-at-requires : tie.Need-u16-at-requires
+u16-at-requires c κs = search needs
+
+term-refusal-requires : tie.Need-term-refusal-requires
+term-refusal-requires c κs = search needs
+
+returns-3 : tie.Need-returns-3
+returns-3 c e =
+    let s = c .before .before .before .before .before .before in
+    let a = s .args in
+    let u = c .before .u16-at in
+    let n = c .term-refusal in
+    term-next (a .standing) (a .input .now) (a .at) (c .before .before .before .if1 .left) (s .pre) (c .before .before .if2 .left) (u .result) (n .result) (u .ensures) (n .ensures)
+    (eqb-true (n .result) 0 e)
+
+pub term-comes-spec : {M : Type 1} → statement M
+term-comes-spec =
+    tie.close
+    (tie.spec
+    shared-slice-read-if1
+    returns
+    sub-if2
+    returns-2
+    add-u16-at
+    u16-at-requires
+    term-refusal-requires
+    returns-3)
