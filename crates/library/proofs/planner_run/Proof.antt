@@ -99,7 +99,7 @@ returns : tie.Need-returns
 returns c =
     let r = run-of c .run in
     let s = start-of (run-of c) in
-    let n = c .before .number in
+    let n = number-of c .number in
     exports (r .result) (n .result) (c .flag .result) (after (run-of c)) (whole (s .args .input .now) (entry s)) (n .ensures) (c .flag .ensures) (r .ensures)
 
 pub planner-run-spec : {M : Type 1} → statement M
