@@ -1,10 +1,11 @@
--- At exit of a walk, of every parameter just what the contract says of its last value. It says nothing of the crate, and can be copied as it stands.
+-- At exit of a walk, of every parameter just what the contract says of its last value. Assumes `Given`.
+
+-- What is here:
 --     said-slot        a `Stay`: what is had at exit is what the contract says (`left`). A callee's `lasts` is that, so a parameter that was passed on is had with no step
 --     saids, goes-saids    the same for each of a list of slots, and its law
 --     gives-up         a `&mut [T]` that is still owned, given up: its last list is the one that it holds
 --     gives-up-at      the same where the length is n by an equation
 --     two-go           for both parts of what is owned
--- Assumes `Given`.
 use mathlib.Core.Path.{_≡_}
 use Prim.Native.Nat.{ℕ}
 use mathlib.Core.List.{List, [], _∷_}
