@@ -213,7 +213,7 @@ def listing(text):
 def run(program, data):
     """The listing that a program prints of a file."""
     try:
-        done = subprocess.run([program], input=data, stdout=subprocess.PIPE)
+        done = subprocess.run([program], input=data, stdout=subprocess.PIPE, stderr=subprocess.DEVNULL)
     except OSError as error:
         sys.exit(f"{program}: {error.strerror}. Another program is named by --program, as oracle/target/release/oracle.")
     if done.returncode:
