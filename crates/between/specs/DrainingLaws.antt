@@ -21,7 +21,7 @@ use Rattle.between.specs.Held.{startBy, endBy, heldRow, edgeIn, edgesIn,
 use Rattle.between.specs.HeldLaws.{stretch-cons, stretch-none, run-held, edges-back}
 use Rattle.between.specs.Ready.{ReadyLive}
 use Rattle.between.specs.ReadyLaws.{ready-more, ready-set, ready-run, ready-by, fit-drained}
-use Rattle.between.specs.LoopLaws.{turn, condition-next, condition-stop, condition-end}
+use Rattle.between.specs.LoopLaws.{edgeRun, condition-next, condition-stop, condition-end}
 
 -- The edges from one place to another: each names a row, and is light.
 pub record Edges (h : HeldRows) (edges : List (List ℕ)) (from end : ℕ) : Type 0 where
@@ -76,7 +76,7 @@ module _ (h : HeldRows) (edges : List (List ℕ)) (value : Bool) (from end : ℕ
       is = l .own .rows at r (l .above) here row
 
       -- The turn, as the definition takes it.
-      turned : (x : Index) → Holds x h → did v′ j ≡ turn x value (edgeIn (getD edges at [])) (edgesIn (stretch (at + 1) end edges)) v
+      turned : (x : Index) → Holds x h → did v′ j ≡ edgeRun x value (edgeIn (getD edges at [])) v
       turned x z =
           made ∙ run-held x h z (withState v r (drained value w (stateAt v r))) r is
           ∙ ap (λ (i : ℕ). runRow x (withState v r (drained value i (stateAt v r))) r) weight

@@ -64,12 +64,16 @@ module _ (x : Index) (h : HeldRows) (links : List ℕ) (y : LinksShaped h links)
   pub counts-links : length (neighbours r (x .links)) ≡ endBy 2 (h .rows) r - startBy 2 (h .rows) r
   counts-links = ap (λ (l : List ℕ). length l) (z r k) ∙ stretch-length (startBy 2 (h .rows) r) (endBy 2 (h .rows) r) links (y .inside .ends r k)
 
-  pub kept-links : Holds x h → Shaped h → (m : ℕ) (v : Live) → Runnable h m v → Runnable h m (thresholdPrefixes x v r .live)
-  kept-links o s m v a =
+  -- Each is a row.
+  pub links-inside : All (λ (i : ℕ). i < length (h .rows)) (neighbours r (x .links))
+  links-inside =
       let p = startBy 2 (h .rows) r in
       let e = endBy 2 (h .rows) r in
       let w = all-stretch (λ (i : ℕ). i < length (h .rows)) 0 links e (y .inside .ends r k) (e - p) p refl (λ i f g. y .rows r i k f g) in
-      kept-row-prefixes x h o s m v r k (subst (All (λ (i : ℕ). i < length (h .rows))) (sym (z r k)) w) a
+      subst (All (λ (i : ℕ). i < length (h .rows))) (sym (z r k)) w
+
+  pub kept-links : Holds x h → Shaped h → (m : ℕ) (v : Live) → Runnable h m v → Runnable h m (thresholdPrefixes x v r .live)
+  kept-links o s m v a = kept-row-prefixes x h o s m v r k links-inside a
 
 -- The guard of a node.
 pub kept-guard-of : (x : Index) (h : HeldRows) (nodes : List (List ℕ)) (bounds : List ℤ) → GuardsShaped h nodes bounds → HoldsGuards x nodes bounds → (n : ℕ) → n < length nodes

@@ -8,6 +8,9 @@ pub mod BetweenLaws
 pub mod Ready
 pub mod ReadyLaws
 pub mod LoopLaws
+pub mod WalkLaws
+pub mod RunsLaws
+pub mod KeepsLaws
 pub mod DrainingLaws
 pub mod HandingLaws
 pub mod SeedingLaws

@@ -4,34 +4,30 @@ use native.Mathlib.Omega.{arith}
 use mathlib.Core.Path.{_≡_, refl, sym, ap, _∙_, subst}
 use mathlib.Core.Bool.{Bool, true, false, _||_}
 use mathlib.Core.List.{List, [], _∷_, _++_, map, List·Memᴰ, List·Memᴰ·head, List·Memᴰ·tail, List·Memᴰ·cases-cons, List·Memᴰ·not-nil}
-use mathlib.Core.Logic.{_⊎_, inl, inr, ⊎-elim, _≢_}
-use lib.ListN.{length, getD, replicate}
+use mathlib.Core.Logic.{⊎-elim, _≢_}
+use lib.ListN.{length, replicate}
 use lib.IntN.{pos}
-use Rattle.numeric.specs.Threshold.{Term}
 use Rattle.state.specs.declared.Step.{Step}
 use Rattle.state.specs.declared.Step.the-variants.{Unchanged, Changed, Contradiction}
-use Rattle.state.specs.Step.{joined, contradicts, isUnchanged}
+use Rattle.state.specs.Step.{joined, contradicts}
 use Rattle.words.specs.Mask.{bit}
-use Rattle.queues.specs.Queue.{isEmpty, oldest, nextRow}
-use Rattle.queues.specs.Marks.{isDecided}
+use Rattle.queues.specs.Queue.{isEmpty}
 use Rattle.row.specs.TermsLaws.{All as Every}
-use Rattle.thresholds.specs.Rows.{noRow}
-use Rattle.residual.specs.Residual.{Residual, thresholdResidual}
 use Rattle.possible_sums.specs.declared.Search.{Search}
 use Rattle.possible_sums.specs.declared.Search.the-variants.{Skipped, Fits, Nothing, Cut}
-use Rattle.possible_sums.specs.Search.{search, searchStep, searchVisits}
-use Rattle.between.specs.Between.{Index, Live, live, Did, stateAt}
+use Rattle.possible_sums.specs.Search.{searchVisits}
+use Rattle.between.specs.Between.{Index, Live, live, Did}
 use Rattle.regions.specs.Drain.{indexOf}
 use Rattle.regions.specs.Drain as Drain
 use Rattle.regions.specs.Sift.{Sifted, tryRow, siftFrom}
 use Rattle.regions.specs.Sift as Sift
+use Rattle.regions.specs.SiftLaws.{trySearch, try-ends, tries, sift-tries, sift-none}
 use Rattle.records.specs.declared.Record.{Record}
 use Rattle.records.specs.declared.Record.the-variants.{Header, Opens, Adds, Seal, Mark, Settle, Sift}
 use Rattle.records.specs.Facts.{Action, decides, action}
 use Rattle.files.specs.File.{File, Answer, settled, sifted, contradicted, begun, siftedFile, act, apply, after, planned}
 use Rattle.memory.specs.Buffers.{Work, rawLists, raw, heldRows, built, kept, work, enough, fitsBy, fits}
 use Rattle.files.specs.Contents.{Out, whole}
-use Rattle.ends.specs.SettlesLaws.{tries}
 use Rattle.ends.specs.FilesLaws.{both}
 use Rattle.demands.specs.Reading.{Marked, marks, orBefore, triedSearch, lastFrom, lastSearch}
 use Rattle.demands.specs.RefusalLaws.{taken, files}
@@ -41,35 +37,25 @@ use Rattle.demands.specs.Cases.{Right, takes, forces, drains, two-wait, 
 
 module _ (x : Index) where
   tried : (v : Live) (gcds : List ℕ) (b : Search) → tryRow x v gcds (searchVisits 0 b) .visits ≡ searchVisits 0 (triedSearch x v gcds b)
-  unfolding tryRow
-  tried v gcds b = by (isUnchanged (a .step)) (search ts (stateAt v r) (isDecided (a .marks)))
+  tried v gcds b =
+      try-ends x v gcds (searchVisits 0 b) (λ (t : Sifted). t .visits ≡ searchVisits 0 (triedSearch x v gcds b)) (λ e. found (trySearch x v gcds) ∙ ap (λ (c : Bool). searchVisits 0 (last c)) (sym e))
+      (λ e. ap (λ (c : Bool). searchVisits 0 (last c)) (sym e))
     where
-      r : ℕ
-      r = oldest (v .residuals .queue)
+      last : Bool → Search
+      last c = elim c [ true ↦ orBefore b (trySearch x v gcds) | false ↦ b ]
 
-      ts : List Term
-      ts = getD (x .rows) r noRow .terms
-
-      a : Residual
-      a = thresholdResidual ts (stateAt v r) (v .marks) gcds
-
-      w : Live
-      w = live (v .states) (a .marks) (v .dirty) (nextRow (v .residuals))
-
-      by : (c : Bool) (k : Search)
-          → let d : Sifted = elim c [ true ↦ Sift.sifted w (a .gcds) (searchStep k) (searchVisits (searchVisits 0 b) k) | false ↦ Sift.sifted w (a .gcds) (a .step) (searchVisits 0 b) ] in
-          d .visits ≡ searchVisits 0 (elim c [ true ↦ orBefore b k | false ↦ b ])
-      by true Skipped = refl
-      by true (Fits n) = refl
-      by true (Nothing n) = refl
-      by true (Cut n) = refl
-      by false k = refl
+      found : (k : Search) → searchVisits (searchVisits 0 b) k ≡ searchVisits 0 (orBefore b k)
+      found Skipped = refl
+      found (Fits n) = refl
+      found (Nothing n) = refl
+      found (Cut n) = refl
 
   sifting : (n : ℕ) (v : Live) (gcds : List ℕ) (k : Step) (b : Search) → siftFrom n x v gcds k (searchVisits 0 b) .visits ≡ searchVisits 0 (lastFrom n x v gcds b)
-  unfolding siftFrom lastFrom
-  sifting zero v gcds k b = refl
+  unfolding lastFrom
+  sifting zero v gcds k b = ap (λ (s : Sifted). s .visits) (sift-none x v gcds k (searchVisits 0 b))
   sifting (suc n) v gcds k b =
-      by (λ u g i c. sifting n u g i c) (contradicts (d .step)) (isEmpty (d .live .residuals .queue)) (contradicts (t .step))
+      ap (λ (s : Sifted). s .visits) (sift-tries x n v gcds k (searchVisits 0 b))
+      ∙ by (λ u g i c. sifting n u g i c) (contradicts (d .step)) (isEmpty (d .live .residuals .queue)) (contradicts (t .step))
     where
       d : Did
       d = Drain.settle x v
@@ -81,7 +67,7 @@ module _ (x : Index) where
       c = triedSearch x (d .live) gcds b
 
       by : ((u : Live) (g : List ℕ) (i : Step) (e : Search) → siftFrom n x u g i (searchVisits 0 e) .visits ≡ searchVisits 0 (lastFrom n x u g e)) → (p q o : Bool)
-          → tries x n v gcds k (searchVisits 0 b) p q o .visits
+          → tries (siftFrom n x) d t gcds (searchVisits 0 b) k p q o .visits
           ≡ searchVisits 0 (elim (p || q) [ true ↦ b | false ↦ elim o [ true ↦ c | false ↦ lastFrom n x (t .live) (t .gcds) c ] ])
       by ih true q o = refl
       by ih false true o = refl

@@ -11,10 +11,7 @@ use lib.IntN.{ℤ}
 use lib.Dec.{eqb}
 use Rattle.memory.specs.Limits.{maxNodes, maxTerms, maxThresholds, listTerms}
 use Rattle.numeric.specs.Threshold.{Term, Threshold, Job}
-use Rattle.state.specs.declared.Step.{Step}
-use Rattle.state.specs.declared.Step.the-variants.{Unchanged, Contradiction}
 use Rattle.state.specs.declared.State.{State}
-use Rattle.state.specs.Step.{joined, contradicts}
 use Rattle.row.specs.Terms.{rowTerms, merged, sameTerms, total}
 use Rattle.row.specs.TermsLaws.{All as Every, all-map, conditions-merged, all-sorted}
 use Rattle.thresholds.specs.Guards.{Bound}
@@ -24,8 +21,9 @@ use Rattle.prefixes.specs.Links.{Link, links, neighbours}
 use Rattle.prefixes.specs.LinksLaws.{links-range, Joined, downward, upward, neighbours-joined}
 use Rattle.propagate.specs.ScanLaws.{All}
 use Rattle.propagate.specs.Guards.{Node, Condition}
-use Rattle.between.specs.Between.{Index, Live, live, Did, did, runRow, firstStates, seedFrom}
+use Rattle.between.specs.Between.{Index, Live, live, firstStates}
 use Rattle.regions.specs.Drain.{indexOf, seal}
+use Rattle.regions.specs.DrainLaws.{seal-keeps}
 use Rattle.job.specs.Job.{lastTerms, allTerms, addTerm}
 use Rattle.job.specs.Taken.{withThreshold, withTerm}
 use Rattle.ends.specs.RoomsLaws.{AllBounded, set-bounded, first-bounded}
@@ -330,25 +328,10 @@ unfolding firstStates
 first-long r [] ss = refl
 first-long r (x ∷ xs) ss = first-long (r + 1) xs (set ss r (stateOfRow x)) ∙ length-set ss r (stateOfRow x)
 
-seed-sound : (x : Index) → Indexed x → (r : ℕ) (rs : List Row) (v : Live) (k : Step) → r + length rs ≤ maxThresholds → Sound v → Sound (seedFrom x r rs v k .live)
-unfolding seedFrom
-seed-sound x ix r [] v k h s = s
-seed-sound x ix r (y ∷ rs) v k h s =
-    by (seed-sound x ix (r + 1) rs (runRow x v r .live) (joined k (runRow x v r .step)) (omega arith) after) (contradicts (runRow x v r .step))
-  where
-    after : Sound (runRow x v r .live)
-    after = run-row x ix v r s (omega arith) .go .sound
-
-    by : Sound (seedFrom x (r + 1) rs (runRow x v r .live) (joined k (runRow x v r .step)) .live) → (b : Bool)
-        → let d : Did = elim b [ true ↦ did (runRow x v r .live) Contradiction | false ↦ seedFrom x (r + 1) rs (runRow x v r .live) (joined k (runRow x v r .step)) ] in Sound (d .live)
-    by ih true = after
-    by ih false = ih
-
 -- A SEAL LEAVES SOUND VALUES
 pub seal-stays : (x : Index) → Indexed x → length (x .rows) ≤ maxThresholds → (v : Live) → Sound v → Sound (seal x v .live)
-unfolding seal
 seal-stays x ix few v s =
-    seed-sound x ix 0 (x .rows) (live (firstStates 0 (x .rows) (v .states)) (v .marks) (v .dirty) (v .residuals)) Unchanged (omega arith)
+    seal-keeps x Sound (λ u r l p. run-row x ix u r p (omega arith) .go .sound) v
     (record {
       long = first-long 0 (x .rows) (v .states) ∙ s .long;
       states = first-states 0 (x .rows) (v .states) (s .states);

@@ -33,7 +33,7 @@ use Rattle.files.specs.File.{File, contradicted, begun, standing, refusal, seal
 use Rattle.files.specs.FileLaws.{checked, after-snoc}
 use Rattle.ends.specs.RoomsLaws.{Bounded, none-bounded}
 use Rattle.ends.specs.TurnsLaws.{Sound}
-use Rattle.ends.specs.SettlesLaws.{settle-stays, settle-ends, sift-keeps, sift-ends as sift-rests}
+use Rattle.ends.specs.SettlesLaws.{settle-stays, settle-ends, sift-sound, sift-ends as sift-rests}
 use Rattle.ends.specs.BuiltLaws.{Fits, fits-none, fits-threshold, fits-term, indexed, seal-sound}
 use Rattle.ends.specs.BlankLaws.{same-at}
 
@@ -171,7 +171,7 @@ module _ (f : File) (g : Good f) where
       (settle-stays (Drain.indexOf (f .closed)) (indexed (f .closed) (g .closed)) (f .live) (g .live) .0)
   kept sifts t =
       closed-good (act f sifts) (serving-turn f (t .turn)) refl refl refl refl
-      (sift-keeps (Drain.indexOf (f .closed)) (indexed (f .closed) (g .closed)) (f .live) (f .gcds) (g .live))
+      (sift-sound (Drain.indexOf (f .closed)) (indexed (f .closed) (g .closed)) (f .live) (f .gcds) (g .live))
   kept (idles x) t = g
 
   pub good-apply : (r : Record) → refusal f r ≡ 0 → Good (apply f r)

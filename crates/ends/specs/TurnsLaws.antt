@@ -4,16 +4,15 @@ use Prim.Native.Nat.{ℕ, _+_, _*_, _^_, _≤_, _<_}
 use native.Mathlib.Nat.{le-refl}
 use native.Mathlib.Decide.{ℕ-discrete}
 use native.Mathlib.Omega.{arith}
-use mathlib.Core.Path.{_≡_, refl, _∙_}
+use mathlib.Core.Path.{_≡_, refl, sym, subst, _∙_}
 use mathlib.Core.Bool.{Bool, true, false, cond}
-use mathlib.Core.List.{List, [], _∷_}
+use mathlib.Core.List.{List, [], _∷_, List·Memᴰ, List·Memᴰ·cases-cons, List·Memᴰ·not-nil}
+use mathlib.Core.Logic.{⊎-elim}
 use lib.ListN.{length, getD, set, length-set}
 use lib.Dec.{eqb}
 use Rattle.memory.specs.Limits.{maxNodes, maxThresholds}
 use Rattle.numeric.specs.Threshold.{Threshold}
-use Rattle.state.specs.declared.Step.the-variants.{Unchanged, Changed, Contradiction}
 use Rattle.state.specs.declared.State.{State}
-use Rattle.state.specs.Step.{joined, contradicts}
 use Rattle.state.specs.State.{noState, drained, withKnown, withPossible}
 use Rattle.words.specs.Mask.{bit}
 use Rattle.queues.specs.Queue.{Rows, push, queueRow}
@@ -27,14 +26,14 @@ use Rattle.thresholds.specs.Rows.{Row, noRow, Edge, edgesOf, rowNumber}
 use Rattle.prefixes.specs.Links.{neighbours}
 use Rattle.propagate.specs.ScanLaws.{All}
 use Rattle.propagate.specs.Guards.{Node, Condition}
-use Rattle.propagate.specs.declared.Tightened.{Tightened}
-use Rattle.propagate.specs.Told.{guardState, movedState}
 use Rattle.propagate.specs.Row.{Ran, thresholdRow, wantsResidual}
 use Rattle.propagate.specs.RowLaws.{Kept, kept-row}
-use Rattle.between.specs.Between.{Index, Live, live, Did, did, stateAt, withState, withDirty, residualQueued, runWith, runRow, linkedQueued, bounded, thresholdGuard, guardOf, conditionFrom, thresholdCondition, termCount, prefixesFrom}
+use Rattle.between.specs.Between.{Index, Live, live, Did, stateAt, withState, residualQueued, runWith, runRow, linkedQueued, bounded, thresholdGuard, guardOf, thresholdCondition, termCount, thresholdPrefixes}
+use Rattle.between.specs.LoopLaws.{edgeRun, moved, movedRun}
+use Rattle.between.specs.WalkLaws.{guardRow, guardTold, guard-ends, guard-of-ends, condition-keeps, prefix-keeps}
+use Rattle.between.specs.KeepsLaws.{names-all, row-named}
 use Rattle.ends.specs.LeftLaws.{load, load-decide, load-most}
-use Rattle.ends.specs.RoomsLaws.{Bounded, room, rooms, rooms-set, rooms-most, AllBounded, set-bounded, bounded-same, room-same, Tells, tells-guard, tells-moved}
-use Rattle.ends.specs.KeepsLaws.{keeps-row}
+use Rattle.ends.specs.RoomsLaws.{Bounded, room, rooms, rooms-set, rooms-most, AllBounded, set-bounded, bounded-same, room-same, tells-guard, tells-moved}
 
 -- What is asked of the rows: all that a row or a threshold names has its place, and bounds are in the range.
 pub record Indexed (x : Index) : Type 0 where
@@ -74,6 +73,10 @@ same v s = record { sound = s; core = le-refl (core v) }
 
 pub then : (u v w : Live) → Then u v → Then v w → Then u w
 then u v w a b = record { sound = b .sound; core = omega (arith, a .core, b .core) }
+
+every-member : {X : Type 0} (P : X → Type 0) (xs : List X) → Every P xs → (a : X) → List·Memᴰ a xs → P a
+every-member P [] h a m = absurd (List·Memᴰ·not-nil m)
+every-member P (y ∷ ys) h a m = ⊎-elim (λ (e : a ≡ y). subst P (sym e) (h .0)) (every-member P ys (h .1) a) (List·Memᴰ·cases-cons m)
 
 -- ---- queues
 
@@ -158,8 +161,8 @@ module _ (x : Index) (ix : Indexed x) where
 
       marked : Less (v .marks) (a .marks)
       marked =
-          keeps-row (Less (v .marks)) (λ k value n l p. less-decide (v .marks) k value n l p) row (stateAt v r) (v .marks) (ix .nodes r) (ix .conditions r)
-          (s .waits, le-refl (load (v .marks)))
+          row-named (Less (v .marks)) (λ (n : ℕ). n < maxNodes) (λ value k n l p. less-decide (v .marks) k value n l p) row
+          (names-all (λ (n : ℕ). n < maxNodes) row (ix .nodes r) (ix .conditions r)) (stateAt v r) (v .marks) (s .waits, le-refl (load (v .marks)))
 
       queue : Queued (v .residuals) (residualQueued row (stateAt v r) (v .residuals) r)
       queue = queued-residual row (stateAt v r) (v .residuals) r (s .residuals) h
@@ -190,34 +193,18 @@ module _ (x : Index) (ix : Indexed x) where
 
   -- ---- a drained guard
 
-  run-guard : (v : Live) (t : Threshold) → Sound v → Bound (t .bound) → rowNumber (x .rows) (t .terms) < maxThresholds → Then v (thresholdGuard x v t .live)
-  unfolding thresholdGuard bounded
-  run-guard v t s b h = by (g .changed) refl
-    where
-      r : ℕ
-      r = rowNumber (x .rows) (t .terms)
+  run-guard : (v : Live) (t : Threshold) → Sound v → Bound (t .bound) × (rowNumber (x .rows) (t .terms) < maxThresholds) → Then v (thresholdGuard x v t .live)
+  run-guard v t s b =
+      let r = guardRow x t in
+      let n = length (neighbours r (x .links)) in
+      let tells = tells-guard (stateAt v r) (bit (v .marks .sure) (t .node)) (t .bound) (s .states r) (b .0) in
+      guard-ends x v t (λ (d : Did). Then v (d .live)) (λ e. same v s)
+      (λ e. told-run v r (guardTold x v t .state) (linkedQueued n (v .dirty) r) s (b .1) (tells .bounded) (tells .less e) (queued-linked n (v .dirty) r (s .dirty) (b .1)) .0)
 
-      g : Tightened
-      g = guardState (stateAt v r) (bit (v .marks .sure) (t .node)) (t .bound)
-
-      tells : Tells (stateAt v r) g
-      tells = tells-guard (stateAt v r) (bit (v .marks .sure) (t .node)) (t .bound) (s .states r) b
-
-      by : (c : Bool) → g .changed ≡ c → let d : Did = elim c [ true ↦ bounded x v r (g .state) | false ↦ did v Unchanged ] in Then v (d .live)
-      by true e =
-          told-run v r (g .state) (linkedQueued (length (neighbours r (x .links))) (v .dirty) r) s h (tells .bounded) (tells .less e)
-          (queued-linked (length (neighbours r (x .links))) (v .dirty) r (s .dirty) h) .0
-      by false e = same v s
-
-  pub run-guards : (v : Live) (ts : List Threshold) (n : ℕ) → Sound v
-      → Every (λ (t : Threshold). Bound (t .bound) × (rowNumber (x .rows) (t .terms) < maxThresholds)) ts → Then v (guardOf x v ts n .live)
-  unfolding guardOf
-  run-guards v [] n s h = same v s
-  run-guards v (t ∷ ts) n s h = by (run-guards v ts n s (h .1)) (eqb (t .node) n)
-    where
-      by : Then v (guardOf x v ts n .live) → (c : Bool) → let d : Did = elim c [ true ↦ thresholdGuard x v t | false ↦ guardOf x v ts n ] in Then v (d .live)
-      by ih true = run-guard v t s (h .0 .0) (h .0 .1)
-      by ih false = ih
+  pub run-guards : (v : Live) (n : ℕ) → Sound v → Then v (guardOf x v (x .thresholds) n .live)
+  run-guards v n s =
+      guard-of-ends x v n (λ (d : Did). Then v (d .live)) (x .thresholds)
+      (λ t m e. run-guard v t s (every-member (λ (u : Threshold). Bound (u .bound) × (rowNumber (x .rows) (u .terms) < maxThresholds)) (x .thresholds) (ix .thresholds) t m)) (λ f. same v s)
 
   -- ---- a drained condition
 
@@ -247,63 +234,32 @@ module _ (x : Index) (ix : Indexed x) where
         core = omega (arith, put-same (v .states) (e .row) t (s .long) h a b);
       }
 
-  pub run-edges : (value : Bool) (es : List Edge) (v : Live) → Sound v → Every (λ (e : Edge). e .row < maxThresholds) es → Then v (conditionFrom x value es v .live)
-  unfolding conditionFrom
-  run-edges value [] v s h = same v s
-  run-edges value (e ∷ es) v s h = by (run-edges value es (d .live) (after .sound) (h .1)) (contradicts (d .step))
-    where
-      w : Live
-      w = withState v (e .row) (drained value (e .weight) (stateAt v (e .row)))
-
-      d : Did
-      d = runRow x w (e .row)
-
-      first : Then v w
-      first = drain-term v value e s (h .0)
-
-      after : Then v (d .live)
-      after = then v w (d .live) first (run-row w (e .row) (first .sound) (h .0) .go)
-
-      by : Then (d .live) (conditionFrom x value es (d .live) .live) → (c : Bool)
-          → let k : Did = elim c [ true ↦ did (d .live) Contradiction | false ↦ did (conditionFrom x value es (d .live) .live) (joined (d .step) (conditionFrom x value es (d .live) .step)) ] in
-          Then v (k .live)
-      by ih true = after
-      by ih false = then v (d .live) (conditionFrom x value es (d .live) .live) after ih
+  run-edge : (v : Live) (value : Bool) (e : Edge) → Sound v → e .row < maxThresholds → Then v (edgeRun x value e v .live)
+  run-edge v value e s h =
+      let w = withState v (e .row) (drained value (e .weight) (stateAt v (e .row))) in
+      let first = drain-term v value e s h in
+      then v w (edgeRun x value e v .live) first (run-row w (e .row) (first .sound) h .go)
 
   pub run-condition : (v : Live) (node : ℕ) → Sound v → Then v (thresholdCondition x v node .live)
   unfolding thresholdCondition
-  run-condition v node s = run-edges (bit (v .marks .sure) node) (edgesOf (x .rows) node) v s (ix .edges node)
+  run-condition v node s =
+      let value = bit (v .marks .sure) node in
+      condition-keeps x (Then v) value (edgesOf (x .rows) node)
+      (λ e u m p. then v u (edgeRun x value e u .live) p (run-edge u value e (p .sound) (every-member (λ (f : Edge). f .row < maxThresholds) (edgesOf (x .rows) node) (ix .edges node) e m))) v (same v s)
 
   -- ---- bounds that a row hands on
 
-  pub run-prefixes : (row : ℕ) (source : State) (rs : List ℕ) (v : Live) → Bounded source → Sound v → Every (λ (q : ℕ). q < maxThresholds) rs
-      → Sound (prefixesFrom x row source rs v .live) × (left (prefixesFrom x row source rs v .live) ≤ left v)
-  unfolding prefixesFrom
-  run-prefixes row source [] v o s h = (s, le-refl (left v))
-  run-prefixes row source (r ∷ rs) v o s h =
-      by (run-prefixes row source rs v o s (h .1)) (λ e. run-prefixes row source rs (d .live) o (after e .0 .sound) (h .1)) (t .changed) refl (contradicts (d .step))
+  pub run-prefixes : (v : Live) (row : ℕ) → Sound v → Sound (thresholdPrefixes x v row .live) × (left (thresholdPrefixes x v row .live) ≤ left v)
+  unfolding thresholdPrefixes
+  run-prefixes v row s = prefix-keeps x (λ (w : Live). Sound w × (left w ≤ left v)) row source (neighbours row (x .links)) one v (s, le-refl (left v))
     where
-      t : Tightened
-      t = movedState source (stateAt v r) (termCount x row) (termCount x r)
+      source : State
+      source = stateAt v row
 
-      tells : Tells (stateAt v r) t
-      tells = tells-moved source (stateAt v r) (termCount x row) (termCount x r) o (s .states r)
-
-      d : Did
-      d = runRow x (withDirty (withState v r (t .state)) r) r
-
-      after : t .changed ≡ true → Then v (d .live) × (left (d .live) ≤ left v)
-      after e = told-run v r (t .state) (queueRow (v .dirty) r) s (h .0) (tells .bounded) (tells .less e) (queued (v .dirty) r (s .dirty) (h .0))
-
-      Goal : Live → Live → Type 0
-      Goal u w = Sound w × (left w ≤ left u)
-
-      by : Goal v (prefixesFrom x row source rs v .live) → (t .changed ≡ true → Goal (d .live) (prefixesFrom x row source rs (d .live) .live))
-          → (b : Bool) → t .changed ≡ b → (c : Bool)
-          → let k : Did = elim b [
-            | false ↦ prefixesFrom x row source rs v
-            | true ↦ elim c [ true ↦ did (d .live) Contradiction | false ↦ did (prefixesFrom x row source rs (d .live) .live) (joined Changed (prefixesFrom x row source rs (d .live) .step)) ]
-          ] in Goal v (k .live)
-      by ih more false e c = ih
-      by ih more true e true = (after e .0 .sound, after e .1)
-      by ih more true e false = (more e .0, omega (arith, more e .1, after e .1))
+      one : (r : ℕ) (u : Live) → List·Memᴰ r (neighbours row (x .links)) → moved x row source r u .changed ≡ true → Sound u × (left u ≤ left v)
+          → let w = movedRun x row source r u .live in Sound w × (left w ≤ left v)
+      one r u m e p =
+          let h = every-member (λ (q : ℕ). q < maxThresholds) (neighbours row (x .links)) (ix .linked row) r m in
+          let tells = tells-moved source (stateAt u r) (termCount x row) (termCount x r) (s .states row) (p .0 .states r) in
+          let a = told-run u r (moved x row source r u .state) (queueRow (u .dirty) r) (p .0) h (tells .bounded) (tells .less e) (queued (u .dirty) r (p .0 .dirty) h) in
+          (a .0 .sound, omega (arith, a .1, p .1))

@@ -16,7 +16,7 @@ use Rattle.thresholds.specs.Rows.{Row}
 use Rattle.propagate.specs.Scan.{Scanned}
 use Rattle.propagate.specs.Row.{Ran, ran, sureGuards, neverGuards, thresholdGuards, forced, trueTerms, falseTerms, thresholdRow}
 use Rattle.propagate.specs.RowLaws.{Moved, sure-within, forced-within}
-use Rattle.follows.specs.RunsLaws.{guardsRun, trueRun, falseRun, run-ends}
+use Rattle.between.specs.RunsLaws.{guardsRun, trueRun, falseRun, run-ends}
 
 -- Every cursor stands in its list.
 pub record Cursors (row : Row) (st : State) : Type 0 where

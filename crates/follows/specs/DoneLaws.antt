@@ -5,7 +5,7 @@ use native.Mathlib.Omega.{arith}
 use mathlib.Core.Path.{_≡_, refl, sym, ap, ap₂, _∙_, subst}
 use mathlib.Core.Bool as B
 use mathlib.Core.Bool.{Bool, true, false, not, cond, _&&_, _||_}
-use mathlib.Core.List.{List, [], _∷_, List·Memᴰ, List·Memᴰ·head, List·Memᴰ·tail}
+use mathlib.Core.List.{List, List·Memᴰ}
 use mathlib.Core.Logic.{⊎-elim, _≢_}
 use lib.ListN.{length, getD, set, take, drop, length-set}
 use lib.Dec.{eqb, leb}
@@ -13,11 +13,11 @@ use lib.IntN.{ℤ, pos, _-ℤ_}
 use lib.Signed.{leZ, ltZ}
 use borrow.Author.Tests.{eq-eqb}
 use Rattle.numeric.specs.Threshold.{Threshold}
-use Rattle.state.specs.declared.Step.the-variants.{Unchanged, Changed, Contradiction}
+use Rattle.state.specs.declared.Step.the-variants.{Contradiction}
 use Rattle.state.specs.declared.State.{State}
 use Rattle.state.specs.declared.Upper.{Upper}
 use Rattle.state.specs.declared.Upper.the-variants.{Under}
-use Rattle.state.specs.Step.{joined, contradicts}
+use Rattle.state.specs.Step.{contradicts}
 use Rattle.state.specs.State.{maxZ, reached, upperAtMost, conflict, withLower, withUpper, drained, withKnown, withPossible}
 use Rattle.words.specs.Mask.{bit}
 use Rattle.queues.specs.Marks.{Marks, isDecided}
@@ -27,9 +27,10 @@ use Rattle.prefixes.specs.Links.{neighbours}
 use Rattle.propagate.specs.declared.Tightened.{Tightened}
 use Rattle.propagate.specs.Row.{Ran, ran, scans, thresholdRow}
 use Rattle.propagate.specs.Told.{tight, guardState, movedLower, movedState, under}
-use Rattle.between.specs.Between.{Index, Live, live, stateAt, withState, withDirty, Did, did, runRow, runWith, bounded, thresholdGuard, conditionFrom, thresholdCondition, termCount, prefixesFrom, thresholdPrefixes}
+use Rattle.between.specs.Between.{Index, Live, live, stateAt, Did, runRow, runWith, thresholdGuard, thresholdCondition, termCount, thresholdPrefixes}
+use Rattle.between.specs.WalkLaws.{walk-fine, condition-walk, prefix-fine, guardRow, guard-ends}
 use Rattle.table.specs.Table.{IsRow}
-use Rattle.follows.specs.AnswersLaws.{clash, and-right, or-true, joined-right}
+use Rattle.follows.specs.AnswersLaws.{clash, and-right, or-true}
 use Rattle.follows.specs.CompleteLaws.{Wide, Has, wide-decide, has-stays}
 use Rattle.follows.specs.RowCompleteLaws.{Ordered, Passed, Complete, SameFigures, row-complete}
 use Rattle.follows.specs.StandsLaws.{also, also-before, also-other, put-state}
@@ -232,76 +233,20 @@ module _ (x : Index) (ordered : (r : ℕ) → IsRow (x .rows) r → Ordered (get
 
   -- A DRAINED GUARD
   pub guard-done : (ran : ℕ → Bool) (v : Live) (t : Threshold) → IsRow (x .rows) (rowNumber (x .rows) (t .terms)) → Done (x .rows) ran v → StillDone ran (thresholdGuard x v t)
-  unfolding thresholdGuard bounded
-  guard-done ran v t i h = by (guardState (stateAt v r) (bit (v .marks .sure) (t .node)) (t .bound)) (guard-cursors (stateAt v r) (bit (v .marks .sure) (t .node)) (t .bound))
-    where
-      r : ℕ
-      r = rowNumber (x .rows) (t .terms)
-
-      whole : Tightened → Bool → Did
-      whole y c = elim c [ true ↦ bounded x v r (y .state) | false ↦ did v Unchanged ]
-
-      at-change : (y : Tightened) → SameCursors (y .state) (stateAt v r) → (c : Bool) → StillDone ran (whole y c)
-      at-change y e true = one-done ran v r (y .state) _ _ i e h
-      at-change y e false = λ _. h
-
-      by : (y : Tightened) → SameCursors (y .state) (stateAt v r) → StillDone ran (whole y (y .changed))
-      by y e = at-change y e (y .changed)
+  guard-done ran v t i h =
+      guard-ends x v t (StillDone ran) (λ e _. h)
+      (λ e. one-done ran v (guardRow x t) _ _ _ i (guard-cursors (stateAt v (guardRow x t)) (bit (v .marks .sure) (t .node)) (t .bound)) h)
 
   -- A DRAINED CONDITION
-  conditions-done : (ran : ℕ → Bool) (value : Bool) (es : List Edge) → ((e : Edge) → List·Memᴰ e es → IsRow (x .rows) (e .row)) → (v : Live) → Done (x .rows) ran v
-      → StillDone ran (conditionFrom x value es v)
-  unfolding conditionFrom
-  conditions-done ran value [] are v h = λ _. h
-  conditions-done ran value (e ∷ es) are v h = by (λ w k. conditions-done ran value es (λ f m. are f (List·Memᴰ·tail m)) w k) (contradicts (d .step)) refl
-    where
-      d : Did
-      d = runRow x (withState v (e .row) (drained value (e .weight) (stateAt v (e .row)))) (e .row)
-
-      first : StillDone ran d
-      first = one-done ran v (e .row) (drained value (e .weight) (stateAt v (e .row))) _ _ (are e (List·Memᴰ·head refl)) (drained-cursors value (e .weight) (stateAt v (e .row))) h
-
-      ends : Bool → Did
-      ends b = elim b [ true ↦ did (d .live) Contradiction | false ↦ did (conditionFrom x value es (d .live) .live) (joined (d .step) (conditionFrom x value es (d .live) .step)) ]
-
-      by : ((w : Live) → Done (x .rows) ran w → StillDone ran (conditionFrom x value es w)) → (b : Bool) → contradicts (d .step) ≡ b → StillDone ran (ends b)
-      by later true f = λ c. absurd (clash true refl c)
-      by later false f = λ c. later (d .live) (first f) (joined-right (d .step) (conditionFrom x value es (d .live) .step) c)
-
   pub condition-done : (ran : ℕ → Bool) (v : Live) (n : ℕ) → Done (x .rows) ran v → StillDone ran (thresholdCondition x v n)
   unfolding thresholdCondition
-  condition-done ran v n h = conditions-done ran (bit (v .marks .sure) n) (edgesOf (x .rows) n) (λ e m. edge-term (x .rows) n e m .0) v h
+  condition-done ran v n h =
+      walk-fine (condition-walk x (bit (v .marks .sure) n)) (edgesOf (x .rows) n) (λ (_ : List Edge). Done (x .rows) ran)
+      (λ e es u m k c. one-done ran u (e .row) _ _ _ (edge-term (x .rows) n e m .0) (drained-cursors (bit (v .marks .sure) n) (e .weight) (stateAt u (e .row))) k c) v h
 
   -- BOUNDS HANDED ON
-  prefixes-from-done : (ran : ℕ → Bool) (row : ℕ) (source : State) (rs : List ℕ) → ((r : ℕ) → List·Memᴰ r rs → IsRow (x .rows) r) → (v : Live) → Done (x .rows) ran v
-      → StillDone ran (prefixesFrom x row source rs v)
-  unfolding prefixesFrom
-  prefixes-from-done ran row source [] are v h = λ _. h
-  prefixes-from-done ran row source (r ∷ rs) are v h = by (λ w k. prefixes-from-done ran row source rs (λ f m. are f (List·Memᴰ·tail m)) w k) (t .changed)
-    where
-      t : Tightened
-      t = movedState source (stateAt v r) (termCount x row) (termCount x r)
-
-      d : Did
-      d = runRow x (withDirty (withState v r (t .state)) r) r
-
-      first : StillDone ran d
-      first = one-done ran v r (t .state) _ _ (are r (List·Memᴰ·head refl)) (moved-cursors source (stateAt v r) (termCount x row) (termCount x r)) h
-
-      Later : Type 0
-      Later = (w : Live) → Done (x .rows) ran w → StillDone ran (prefixesFrom x row source rs w)
-
-      after : Bool → Did
-      after c = elim c [ true ↦ did (d .live) Contradiction | false ↦ did (prefixesFrom x row source rs (d .live) .live) (joined Changed (prefixesFrom x row source rs (d .live) .step)) ]
-
-      at-run : Later → (b : Bool) → contradicts (d .step) ≡ b → StillDone ran (after b)
-      at-run later true f = λ c. absurd (clash true refl c)
-      at-run later false f = λ c. later (d .live) (first f) (joined-right Changed (prefixesFrom x row source rs (d .live) .step) c)
-
-      by : Later → (b : Bool) → StillDone ran (elim b [ false ↦ prefixesFrom x row source rs v | true ↦ after (contradicts (d .step)) ])
-      by later true = at-run later (contradicts (d .step)) refl
-      by later false = later v h
-
   pub prefixes-done : (ran : ℕ → Bool) (v : Live) (row : ℕ) → ((r : ℕ) → List·Memᴰ r (neighbours row (x .links)) → IsRow (x .rows) r) → Done (x .rows) ran v → StillDone ran (thresholdPrefixes x v row)
   unfolding thresholdPrefixes
-  prefixes-done ran v row are h = prefixes-from-done ran row (stateAt v row) (neighbours row (x .links)) are v h
+  prefixes-done ran v row are h =
+      prefix-fine x row (stateAt v row) (neighbours row (x .links)) (λ (_ : List ℕ). Done (x .rows) ran) (λ r rs u m k e. k)
+      (λ r rs u m k c. one-done ran u r _ _ _ (are r m) (moved-cursors (stateAt v row) (stateAt u r) (termCount x row) (termCount x r)) k c) v h

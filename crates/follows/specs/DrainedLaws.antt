@@ -6,7 +6,7 @@ use native.Mathlib.Omega.{arith}
 use mathlib.Core.Path.{_≡_, refl, sym, ap, ap₂, _∙_, subst}
 use mathlib.Core.Bool as B
 use mathlib.Core.Bool.{Bool, true, false, not, cond, _&&_, _||_}
-use mathlib.Core.List.{List, [], _∷_, List·Memᴰ, List·Memᴰ·head, List·Memᴰ·tail, List·Memᴰ·cases-cons, List·Memᴰ·not-nil}
+use mathlib.Core.List.{List, [], _∷_, List·Memᴰ, List·Memᴰ·cases-cons, List·Memᴰ·not-nil}
 use mathlib.Core.Logic.{_⊎_, inl, inr, ⊎-elim, _≢_}
 use lib.ListN.{length, length-set}
 use lib.Dec.{eqb}
@@ -15,20 +15,21 @@ use lib.Signed.{_≤ℤ_, ≤ℤ-refl}
 use borrow.Author.Tests.{eq-eqb, ne-eqb}
 use Rattle.signed.specs.SignedLaws.{pos-minus}
 use Rattle.numeric.specs.Threshold.{Term, term}
-use Rattle.state.specs.declared.Step.the-variants.{Contradiction}
 use Rattle.state.specs.declared.State.{State}
 use Rattle.state.specs.declared.Upper.{Upper}
-use Rattle.state.specs.Step.{joined, contradicts}
+use Rattle.state.specs.Step.{contradicts}
 use Rattle.state.specs.State.{drained, withKnown, withPossible}
 use Rattle.words.specs.Mask.{bit}
 use Rattle.queues.specs.Marks.{isDecided}
 use Rattle.row.specs.TermsLaws.{All, Distinct}
 use Rattle.thresholds.specs.Rows.{Row, Edge, edgesOf}
-use Rattle.between.specs.Between.{Index, Live, live, stateAt, withState, Did, did, runRow, conditionFrom, thresholdCondition}
+use Rattle.between.specs.Between.{Index, Live, live, stateAt, withState, Did, runRow, conditionFrom, thresholdCondition}
+use Rattle.between.specs.LoopLaws.{edgeRun}
+use Rattle.between.specs.WalkLaws.{walks, condition-walk}
 use Rattle.table.specs.Table.{Table, IsRow, termsOf, known, possible}
 use Rattle.table.specs.OrderLaws.{UpLe, up-refl}
 use Rattle.table.specs.TableLaws.{le-then}
-use Rattle.follows.specs.AnswersLaws.{true-false, clash, joined-which, joined-right}
+use Rattle.follows.specs.AnswersLaws.{true-false, clash}
 use Rattle.follows.specs.DecideLaws.{Broken}
 use Rattle.follows.specs.StandsLaws.{tableAt, among, also, Stands, known-same, possible-same, put-state, restart}
 use Rattle.follows.specs.MovesLaws.{Kept, run-stands}
@@ -244,47 +245,35 @@ module _ (x : Index) (s : Table) where
                 ap (λ (b : Bool). bit (ran .live .marks .sure) c || b) g ∙ B.or-true (bit (ran .live .marks .sure) c),
               )
 
-    conditions-from : (value : Bool) (es : List Edge) → ((e : Edge) → List·Memᴰ e es → IsRow (x .rows) (e .row) × List·Memᴰ (term c (e .weight)) (termsOf (x .rows) (e .row)))
-        → OnceEach es → (v : Live) → bit (v .marks .sure) c ≡ value → isDecided (v .marks) c ≡ true → Stands (x .rows) s (drainedBut c es into) v
-        → Drains (drainedBut c [] into) (conditionFrom x value es v)
-    unfolding conditionFrom
-    conditions-from value [] are once v has done h = record { stands = (drainedBut c [] into, h); everywhere = λ _. h; broken = λ k. absurd (clash true refl (sym k)) }
-    conditions-from value (e ∷ es) are once v has done h =
-        by (λ w a b k. conditions-from value es (λ f m. are f (List·Memᴰ·tail m)) (once .1) w a b k) (contradicts (d .step)) refl
+    -- before each edge: the node has its value, and is drained into every row but those to which an edge is left
+    pub record Drain (value : Bool) (es : List Edge) (v : Live) : Type 0 where
+      pub once : OnceEach es
+      pub has : bit (v .marks .sure) c ≡ value
+      pub done : isDecided (v .marks) c ≡ true
+      pub stands : Stands (x .rows) s (drainedBut c es into) v
+
+    conditions-from : (value : Bool) (all : List Edge) → ((e : Edge) → List·Memᴰ e all → IsRow (x .rows) (e .row) × List·Memᴰ (term c (e .weight)) (termsOf (x .rows) (e .row)))
+        → (v : Live) → Drain value all v → Drains (drainedBut c [] into) (conditionFrom x value all v)
+    conditions-from value all are v h =
+        walks (condition-walk x value) all (Drain value) (Drains (drainedBut c [] into))
+        (λ u k f p. record { stands = (drainedBut c [] into, p .stands); everywhere = λ _. p .stands; broken = λ q. absurd (clash (contradicts k) q f) })
+        (λ e es u m p q. let o = kept e es u m p in record { stands = (drainedBut c es into, o .0); everywhere = λ k. absurd (clash _ q k); broken = λ _. o .1 q })
+        (λ e es u m p q. let y = value-stays value e es (are e m) (p .once .0) u (p .has) (p .done) s (p .stands) in record { once = p .once .1; has = y .0; done = y .1; stands = kept e es u m p .0 }) v h
       where
-        is : IsRow (x .rows) (e .row) × List·Memᴰ (term c (e .weight)) (termsOf (x .rows) (e .row))
-        is = are e (List·Memᴰ·head refl)
-
-        d : Did
-        d = ran value e es is (once .0) v has done
-
-        o : Kept x (drainedBut c es into) s d
-        o = one value e es is (once .0) v has done s h
-
-        Later : Type 0
-        Later = (w : Live) → bit (w .marks .sure) c ≡ value → isDecided (w .marks) c ≡ true → Stands (x .rows) s (drainedBut c es into) w
-            → Drains (drainedBut c [] into) (conditionFrom x value es w)
-
-        ends : Bool → Did
-        ends b = elim b [ true ↦ did (d .live) Contradiction | false ↦ did (conditionFrom x value es (d .live) .live) (joined (d .step) (conditionFrom x value es (d .live) .step)) ]
-
-        by : Later → (b : Bool) → contradicts (d .step) ≡ b → Drains (drainedBut c [] into) (ends b)
-        by later true q = record { stands = (drainedBut c es into, o .0); everywhere = λ k. absurd (clash true refl k); broken = λ _. o .1 q }
-        by later false q =
-            let y = value-stays value e es is (once .0) v has done s h in
-            let m = later (d .live) (y .0) (y .1) (o .0) in
-            record {
-              stands = m .stands;
-              everywhere = λ k. m .everywhere (joined-right (d .step) (conditionFrom x value es (d .live) .step) k);
-              broken = λ k. m .broken (joined-which (d .step) (conditionFrom x value es (d .live) .step) q k);
-            }
+        kept : (e : Edge) (es : List Edge) (u : Live) → List·Memᴰ e all → Drain value (e ∷ es) u → Kept x (drainedBut c es into) s (edgeRun x value e u)
+        kept e es u m p = one value e es (are e m) (p .once .0) u (p .has) (p .done) s (p .stands)
 
     -- A DRAINED CONDITION: a decided node that was not drained before
     pub condition-stands : (v : Live) → isDecided (v .marks) c ≡ true → ((r : ℕ) → into r c ≡ false) → Stands (x .rows) s into v → Drains (drainedAll c into) (thresholdCondition x v c)
     unfolding thresholdCondition leadsTo
     condition-stands v done fresh h =
-        conditions-from (bit (v .marks .sure) c) (edgesOf (x .rows) c) (edge-term (x .rows) c) (edges-once (x .rows) c distinct) v refl done
-        (stands-by (x .rows) s into (drainedBut c (edgesOf (x .rows) c) into) v h (λ r n e. was r n e (ℕ-discrete n c)) (λ r t i m. same r t i m (ℕ-discrete (t .condition) c)))
+        conditions-from (bit (v .marks .sure) c) (edgesOf (x .rows) c) (edge-term (x .rows) c) v
+        (record {
+          once = edges-once (x .rows) c distinct;
+          has = refl;
+          done = done;
+          stands = stands-by (x .rows) s into (drainedBut c (edgesOf (x .rows) c) into) v h (λ r n e. was r n e (ℕ-discrete n c)) (λ r t i m. same r t i m (ℕ-discrete (t .condition) c));
+        })
       where
         was : (r n : ℕ) → drainedBut c (edgesOf (x .rows) c) into r n ≡ true → Dec (n ≡ c) → isDecided (v .marks) n ≡ true
         was r n e (yes q) = subst (λ (i : ℕ). isDecided (v .marks) i ≡ true) (sym q) done

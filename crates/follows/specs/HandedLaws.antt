@@ -5,7 +5,7 @@ use native.Mathlib.Decide.{ℕ-discrete}
 use native.Mathlib.Omega.{arith}
 use mathlib.Core.Path.{_≡_, refl, sym, ap, _∙_, subst}
 use mathlib.Core.Bool.{Bool, true, false, not, cond, _&&_}
-use mathlib.Core.List.{List, [], _∷_, List·Memᴰ, List·Memᴰ·head, List·Memᴰ·tail, List·Memᴰ·cases-cons, List·Memᴰ·not-nil}
+use mathlib.Core.List.{List, [], _∷_, List·Memᴰ, List·Memᴰ·cases-cons, List·Memᴰ·not-nil}
 use mathlib.Core.Logic.{_⊎_, inl, inr, ⊎-elim, _≢_}
 use lib.ListN.{length, getD, set, length-set, length-append}
 use lib.Seq.{getD-set-same, getD-set-other}
@@ -13,14 +13,13 @@ use lib.Dec.{eqb, leb}
 use lib.IntN.{ℤ}
 use lib.Signed.{leZ, ltZ, _≤ℤ_, ≤ℤ-refl}
 use borrow.Author.Tests.{eq-eqb, ne-eqb, eqb-true, le-leb}
-use Rattle.signed.specs.SignedLaws.{nlt-leZ, nle-ltZ}
+use Rattle.signed.specs.SignedLaws.{nlt-leZ}
 use Rattle.numeric.specs.Threshold.{Threshold}
-use Rattle.state.specs.declared.Step.the-variants.{Unchanged, Changed, Contradiction}
 use Rattle.state.specs.declared.State.{State}
 use Rattle.state.specs.declared.Upper.{Upper}
 use Rattle.state.specs.declared.Upper.the-variants.{Open, Under}
-use Rattle.state.specs.Step.{joined, contradicts}
-use Rattle.state.specs.State.{upperAtMost, withLower, withUpper, drained, withKnown, withPossible}
+use Rattle.state.specs.Step.{contradicts}
+use Rattle.state.specs.State.{withLower, withUpper, drained, withKnown, withPossible}
 use Rattle.words.specs.Mask.{bit}
 use Rattle.queues.specs.Queue.{Rows, oldest, queueRow, nextRow}
 use Rattle.queues.specs.QueueLaws.{row-waits, row-new}
@@ -28,14 +27,16 @@ use Rattle.thresholds.specs.Rows.{Edge, edgesOf, rowNumber}
 use Rattle.prefixes.specs.Links.{Link, links, neighbours}
 use Rattle.prefixes.specs.LinksLaws.{link, link-starts, Climbs, stay, up, across, onward, climbs-exactly, downward, upward, joined-neighbours}
 use Rattle.propagate.specs.declared.Tightened.{Tightened}
-use Rattle.propagate.specs.Told.{tight, guardState, movedLower, movedState, under}
-use Rattle.between.specs.Between.{Index, Live, live, stateAt, withState, withDirty, Did, did, runRow, runWith, bounded, thresholdGuard, conditionFrom, thresholdCondition, termCount, prefixesFrom, thresholdPrefixes}
+use Rattle.propagate.specs.Told.{tight, movedLower, movedState, under}
+use Rattle.between.specs.Between.{Index, Live, live, stateAt, Did, runRow, runWith, thresholdGuard, thresholdCondition, termCount, prefixesFrom, thresholdPrefixes}
+use Rattle.between.specs.LoopLaws.{edgeRun, moved, movedRun}
+use Rattle.between.specs.WalkLaws.{prefix-fine, guardRow, guardTold, guard-ends, condition-keeps}
 use Rattle.table.specs.Table.{Table, IsRow, termsOf, IsPrefix}
-use Rattle.table.specs.OrderLaws.{le, lt, ≤ℤ-trans, <ℤ-≤ℤ, UpLe, up-refl, up-trans}
-use Rattle.follows.specs.AnswersLaws.{clash, and-one, joined-right}
+use Rattle.table.specs.OrderLaws.{le, ≤ℤ-trans, UpLe, up-refl, up-trans}
+use Rattle.follows.specs.AnswersLaws.{clash, and-one}
 use Rattle.follows.specs.StandsLaws.{Stands}
 use Rattle.follows.specs.BoundsLaws.{SameBounds, same-bounds, run-bounds, put-here, put-there}
-use Rattle.follows.specs.MovesLaws.{not-above, neighbour-stands, moved-tighter}
+use Rattle.follows.specs.MovesLaws.{guard-tightens, neighbour-stands, moved-tighter}
 use Rattle.follows.specs.EdgesLaws.{edge-term}
 
 -- The row waits to hand on its bounds.
@@ -154,44 +155,28 @@ module _ (x : Index) where
 
   -- A DRAINED GUARD
   pub guard-handed : (but : ℕ → Bool) (v : Live) (t : Threshold) → IsRow (x .rows) (rowNumber (x .rows) (t .terms)) → Handed x but v → Handed x but (thresholdGuard x v t .live)
-  unfolding thresholdGuard bounded withLower withUpper
-  guard-handed but v t is h = by (bit (v .marks .sure) (t .node))
+  guard-handed but v t is h = guard-ends x v t (λ (d : Did). Handed x but (d .live)) (λ e. h) (λ e. at-links (eqb (length (neighbours r (x .links))) 0) refl)
     where
       r : ℕ
-      r = rowNumber (x .rows) (t .terms)
+      r = guardRow x t
 
       st : State
-      st = stateAt v r
+      st = guardTold x v t .state
 
-      whole : Tightened → Did
-      whole y = elim (y .changed) [ true ↦ bounded x v r (y .state) | false ↦ did v Unchanged ]
+      tighter : (stateAt v r .lower ≤ℤ st .lower) × UpLe (st .upper) (stateAt v r .upper)
+      tighter = guard-tightens (stateAt v r) (t .bound) (bit (v .marks .sure) (t .node))
 
       nothing : (l : List ℕ) → length l ≡ 0 → (k : ℕ) → List·Memᴰ k l → ⊥
       nothing [] e k m = List·Memᴰ·not-nil m
       nothing (y ∷ ys) e k m = let z : length (y ∷ ys) ≡ 0 = e in omega arith
 
-      moved : (st′ : State) → stateAt v r .lower ≤ℤ st′ .lower → UpLe (st′ .upper) (stateAt v r .upper) → Handed x but (bounded x v r st′ .live)
-      moved st′ low high = at-links (eqb (length (neighbours r (x .links))) 0) refl
-        where
-          at-links : (b : Bool) → eqb (length (neighbours r (x .links))) 0 ≡ b
-              → Handed x but (runRow x (live (set (v .states) r st′) (v .marks) (cond b (v .dirty) (queueRow (v .dirty) r)) (v .residuals)) r .live)
-          at-links true e =
-              put-run-handed but v r st′ (v .dirty) (v .residuals) is h low high refl (λ k n. refl) (inl (nothing (neighbours r (x .links)) (eqb-true (length (neighbours r (x .links))) 0 e)))
-          at-links false e =
-              put-run-handed but v r st′ (queueRow (v .dirty) r) (v .residuals) is h low high (sym (queued-length (v .dirty) r)) (queued-other (v .dirty) r)
-              (inr (inl (queued-waits (v .dirty) r (let z = h .flags in let y : r < length (x .rows) = is in omega arith))))
-
-      raised : (b : Bool) → leZ (t .bound) (st .lower) ≡ b → Handed x but (whole (elim b [ true ↦ tight st false | false ↦ tight (withLower st (t .bound)) true ]) .live)
-      raised true f = h
-      raised false f = moved (withLower st (t .bound)) (<ℤ-≤ℤ (lt (nle-ltZ (st .lower) (t .bound) f))) (up-refl (st .upper))
-
-      lowered : (b : Bool) → upperAtMost (st .upper) (t .bound) ≡ b → Handed x but (whole (elim b [ true ↦ tight st false | false ↦ tight (withUpper st (Under (t .bound))) true ]) .live)
-      lowered true f = h
-      lowered false f = moved (withUpper st (Under (t .bound))) (≤ℤ-refl (st .lower)) (not-above (t .bound) (st .upper) f)
-
-      by : (b : Bool) → Handed x but (whole (guardState st b (t .bound)) .live)
-      by true = raised (leZ (t .bound) (st .lower)) refl
-      by false = lowered (upperAtMost (st .upper) (t .bound)) refl
+      at-links : (b : Bool) → eqb (length (neighbours r (x .links))) 0 ≡ b
+          → Handed x but (runRow x (live (set (v .states) r st) (v .marks) (cond b (v .dirty) (queueRow (v .dirty) r)) (v .residuals)) r .live)
+      at-links true e =
+          put-run-handed but v r st (v .dirty) (v .residuals) is h (tighter .0) (tighter .1) refl (λ k n. refl) (inl (nothing (neighbours r (x .links)) (eqb-true (length (neighbours r (x .links))) 0 e)))
+      at-links false e =
+          put-run-handed but v r st (queueRow (v .dirty) r) (v .residuals) is h (tighter .0) (tighter .1) (sym (queued-length (v .dirty) r)) (queued-other (v .dirty) r)
+          (inr (inl (queued-waits (v .dirty) r (let z = h .flags in let y : r < length (x .rows) = is in omega arith))))
 
   -- A DRAINED CONDITION moves no bound
   drained-bounds : (value : Bool) (w : ℕ) (st : State) → SameBounds (drained value w st) st
@@ -199,34 +184,21 @@ module _ (x : Index) where
   drained-bounds true w st = record { lower = refl; upper = refl }
   drained-bounds false w st = record { lower = refl; upper = refl }
 
-  conditions-handed : (but : ℕ → Bool) (value : Bool) (es : List Edge) → ((e : Edge) → List·Memᴰ e es → IsRow (x .rows) (e .row)) → (v : Live) → Handed x but v
-      → Handed x but (conditionFrom x value es v .live)
-  unfolding conditionFrom
-  conditions-handed but value [] are v h = h
-  conditions-handed but value (e ∷ es) are v h = by (λ w k. conditions-handed but value es (λ f m. are f (List·Memᴰ·tail m)) w k) (contradicts (d .step))
-    where
-      st : State
-      st = drained value (e .weight) (stateAt v (e .row))
-
-      d : Did
-      d = runRow x (withState v (e .row) st) (e .row)
-
-      s : SameBounds st (stateAt v (e .row))
-      s = drained-bounds value (e .weight) (stateAt v (e .row))
-
-      first : Handed x but (d .live)
-      first = put-run-handed but v (e .row) st (v .dirty) (v .residuals) (are e (List·Memᴰ·head refl)) h
-          (subst (λ (z : ℤ). stateAt v (e .row) .lower ≤ℤ z) (sym (s .lower)) (≤ℤ-refl (stateAt v (e .row) .lower)))
-          (subst (λ (z : Upper). UpLe z (stateAt v (e .row) .upper)) (sym (s .upper)) (up-refl (stateAt v (e .row) .upper))) refl (λ k n. refl) (inr (inr (s, refl)))
-
-      by : ((w : Live) → Handed x but w → Handed x but (conditionFrom x value es w .live)) → (b : Bool)
-          → let o : Did = elim b [ true ↦ did (d .live) Contradiction | false ↦ did (conditionFrom x value es (d .live) .live) (joined (d .step) (conditionFrom x value es (d .live) .step)) ] in Handed x but (o .live)
-      by later true = first
-      by later false = later (d .live) first
-
   pub condition-handed : (but : ℕ → Bool) (v : Live) (n : ℕ) → Handed x but v → Handed x but (thresholdCondition x v n .live)
   unfolding thresholdCondition
-  condition-handed but v n h = conditions-handed but (bit (v .marks .sure) n) (edgesOf (x .rows) n) (λ e m. edge-term (x .rows) n e m .0) v h
+  condition-handed but v n h = condition-keeps x (Handed x but) value (edgesOf (x .rows) n) one v h
+    where
+      value : Bool
+      value = bit (v .marks .sure) n
+
+      one : (e : Edge) (u : Live) → List·Memᴰ e (edgesOf (x .rows) n) → Handed x but u → Handed x but (edgeRun x value e u .live)
+      one e u m k =
+          let r = e .row in
+          let st = drained value (e .weight) (stateAt u r) in
+          let s = drained-bounds value (e .weight) (stateAt u r) in
+          put-run-handed but u r st (u .dirty) (u .residuals) (edge-term (x .rows) n e m .0) k
+          (subst (λ (z : ℤ). stateAt u r .lower ≤ℤ z) (sym (s .lower)) (≤ℤ-refl (stateAt u r .lower)))
+          (subst (λ (z : Upper). UpLe z (stateAt u r .upper)) (sym (s .upper)) (up-refl (stateAt u r .upper))) refl (λ k n. refl) (inr (inr (s, refl)))
 
   -- BOUNDS HANDED ON
 
@@ -295,87 +267,72 @@ module _ (x : Index) where
     λ k. subst (λ (z : Upper). UpLe (stateAt v r .upper) z) (sym (a .upper)) (subst (λ (z : Upper). UpLe z (source .upper)) (sym (b .upper)) (upper-told source st (termCount x row) (termCount x r) k)),
   )
 
-  -- What the neighbours leave: all but the row itself as before, the row's own bounds, the neighbours told, and what was told stays so.
-  module _ (drained : ℕ → ℕ → Bool) (s : Table) (row : ℕ) (source : State) where
-    abbrev only : ℕ → Bool
-    only r = eqb r row
+  -- While a row hands on: all but the row itself as before, the row's own bounds, and each neighbour told that is passed.
+  module _ (drained : ℕ → ℕ → Bool) (s : Table) (row : ℕ) (source : State) (all : List ℕ)
+      (are : (r : ℕ) → List·Memᴰ r all → (r ≢ row) × (IsPrefix (x .rows) row r ⊎ IsPrefix (x .rows) r row)) where
+    pub record Hands (rs : List ℕ) (v : Live) : Type 0 where
+      pub stands : Stands (x .rows) s drained v
+      pub own : SameBounds (stateAt v row) source
+      pub others : Handed x (λ (r : ℕ). eqb r row) v
+      pub told : (q : ℕ) → List·Memᴰ q all → List·Memᴰ q rs ⊎ HandedOn x v row q
 
-    abbrev Hands : List ℕ → Live → Did → Type 0
-    Hands rs v d =
-        contradicts (d .step) ≡ false
-        → Handed x only (d .live) × SameBounds (stateAt (d .live) row) source × ((q : ℕ) → List·Memᴰ q rs → HandedOn x (d .live) row q) × ((q : ℕ) → HandedOn x v row q → HandedOn x (d .live) row q)
+    -- one neighbour more is passed, and told
+    passed : (r : ℕ) (rs : List ℕ) (v w : Live) → ((q : ℕ) → HandedOn x v row q → HandedOn x w row q) → HandedOn x w row r → (q : ℕ) → List·Memᴰ q (r ∷ rs) ⊎ HandedOn x v row q
+        → List·Memᴰ q rs ⊎ HandedOn x w row q
+    passed r rs v w grown new q (inl m) = ⊎-elim (λ (e : q ≡ r). inr (subst (HandedOn x w row) (sym e) new)) (λ k. inl k) (List·Memᴰ·cases-cons m)
+    passed r rs v w grown new q (inr y) = inr (grown q y)
 
-    prefixes-from : (rs : List ℕ) → ((r : ℕ) → List·Memᴰ r rs → (r ≢ row) × (IsPrefix (x .rows) row r ⊎ IsPrefix (x .rows) r row))
-        → (v : Live) → Stands (x .rows) s drained v → SameBounds (stateAt v row) source → Handed x only v → Hands rs v (prefixesFrom x row source rs v)
-    unfolding prefixesFrom
-    prefixes-from [] are v k same h = λ c. (h, same, (λ q m. absurd (List·Memᴰ·not-nil m)), λ q y. y)
-    prefixes-from (r ∷ rs) are v k same h = by (λ w a b e. prefixes-from rs (λ q m. are q (List·Memᴰ·tail m)) w a b e) (t .changed) refl
-      where
-        t : Tightened
-        t = movedState source (stateAt v r) (termCount x row) (termCount x r)
+    -- it takes nothing new
+    hands-skip : (r : ℕ) (rs : List ℕ) (v : Live) → List·Memᴰ r all → Hands (r ∷ rs) v → moved x row source r v .changed ≡ false → Hands rs v
+    hands-skip r rs v m h f =
+        let e = unchanged source (stateAt v r) (termCount x row) (termCount x r) f in
+        let new = told-on v row r source (stateAt v r) (h .own) (record { lower = ap (λ (y : State). y .lower) (sym e); upper = ap (λ (y : State). y .upper) (sym e) }) in
+        record { stands = h .stands; own = h .own; others = h .others; told = λ q i. passed r rs v v (λ k y. y) new q (h .told q i) }
 
-        d : Did
-        d = runRow x (withDirty (withState v r (t .state)) r) r
+    -- it takes something, and is run
+    module _ (r : ℕ) (rs : List ℕ) (v : Live) (m : List·Memᴰ r all) (h : Hands (r ∷ rs) v) where
+      abbrev st : State
+      st = moved x row source r v .state
 
-        apart : r ≢ row
-        apart = are r (List·Memᴰ·head refl) .0
+      abbrev w : Live
+      w = movedRun x row source r v .live
 
-        link : IsPrefix (x .rows) row r ⊎ IsPrefix (x .rows) r row
-        link = are r (List·Memᴰ·head refl) .1
+      prefix : IsPrefix (x .rows) row r ⊎ IsPrefix (x .rows) r row
+      prefix = are r m .1
 
-        is : IsRow (x .rows) r
-        is = ⊎-elim (λ (i : IsPrefix (x .rows) row r). i .1) (λ (i : IsPrefix (x .rows) r row). i .0) link
+      is : IsRow (x .rows) r
+      is = ⊎-elim (λ (i : IsPrefix (x .rows) row r). i .1) (λ (i : IsPrefix (x .rows) r row). i .0) prefix
 
-        Later : Type 0
-        Later = (w : Live) → Stands (x .rows) s drained w → SameBounds (stateAt w row) source → Handed x only w → Hands rs w (prefixesFrom x row source rs w)
+      low : source .lower ≤ℤ stateAt v row .lower
+      low = subst (λ (z : ℤ). source .lower ≤ℤ z) (sym (h .own .lower)) (≤ℤ-refl (source .lower))
 
-        low : source .lower ≤ℤ stateAt v row .lower
-        low = subst (λ (z : ℤ). source .lower ≤ℤ z) (sym (same .lower)) (≤ℤ-refl (source .lower))
+      high : UpLe (stateAt v row .upper) (source .upper)
+      high = subst (λ (z : Upper). UpLe z (source .upper)) (sym (h .own .upper)) (up-refl (source .upper))
 
-        high : UpLe (stateAt v row .upper) (source .upper)
-        high = subst (λ (z : Upper). UpLe z (source .upper)) (sym (same .upper)) (up-refl (source .upper))
+      tighter : (stateAt v r .lower ≤ℤ st .lower) × UpLe (st .upper) (stateAt v r .upper)
+      tighter = let k = moved-tighter x drained s v row r source prefix low high (h .stands) in (k .2, k .3)
 
-        stands : Stands (x .rows) s drained (d .live)
-        stands = neighbour-stands x drained s v row r source link low high k .0
+      here : r < length (v .states)
+      here = let z = h .others .sized in let y : r < length (x .rows) = is in omega arith
 
-        tighter : (stateAt v r .lower ≤ℤ t .state .lower) × UpLe (t .state .upper) (stateAt v r .upper)
-        tighter = let m = moved-tighter x drained s v row r source link low high k in (m .2, m .3)
+      stays : SameBounds (stateAt w row) (stateAt v row)
+      stays = put-there x v r here st (queueRow (v .dirty) r) (v .residuals) row (λ e. are r m .0 (sym e))
 
-        room′ : r < length (v .states)
-        room′ = let z = h .sized in let y : r < length (x .rows) = is in omega arith
-
-        told : Handed x only (d .live)
-        told = put-run-handed only v r (t .state) (queueRow (v .dirty) r) (v .residuals) is h (tighter .0) (tighter .1) (sym (queued-length (v .dirty) r)) (queued-other (v .dirty) r)
-            (inr (inl (queued-waits (v .dirty) r (let z = h .flags in let y : r < length (x .rows) = is in omega arith))))
-
-        own : SameBounds (stateAt (d .live) row) (stateAt v row)
-        own = put-there x v r room′ (t .state) (queueRow (v .dirty) r) (v .residuals) row (λ e. apart (sym e))
-
-        own-source : SameBounds (stateAt (d .live) row) source
-        own-source = record { lower = own .lower ∙ same .lower; upper = own .upper ∙ same .upper }
-
-        grown : (q : ℕ) → HandedOn x v row q → HandedOn x (d .live) row q
-        grown q y =
-            let g = put-grown only v r (t .state) (queueRow (v .dirty) r) (v .residuals) is h (tighter .0) (tighter .1) (sym (queued-length (v .dirty) r)) (queued-other (v .dirty) r) q in
-            handed-on v (d .live) row q own (g .0) (g .1) y
-
-        after : Bool → Did
-        after c = elim c [ true ↦ did (d .live) Contradiction | false ↦ did (prefixesFrom x row source rs (d .live) .live) (joined Changed (prefixesFrom x row source rs (d .live) .step)) ]
-
-        at-run : Later → (b : Bool) → contradicts (d .step) ≡ b → Hands (r ∷ rs) v (after b)
-        at-run later true f c = absurd (clash true refl c)
-        at-run later false f c =
-            let o = later (d .live) stands own-source told (joined-right Changed (prefixesFrom x row source rs (d .live) .step) c) in
-            let new = told-on (d .live) row r source (stateAt v r) own-source (put-here x v r room′ (t .state) (queueRow (v .dirty) r) (v .residuals)) in
-            (o .0, o .1, (λ q m. ⊎-elim (λ (e : q ≡ r). subst (λ (i : ℕ). HandedOn x (prefixesFrom x row source rs (d .live) .live) row i) (sym e) (o .3 r new)) (o .2 q) (List·Memᴰ·cases-cons m)), λ q y. o .3 q (grown q y))
-
-        by : Later → (b : Bool) → t .changed ≡ b → Hands (r ∷ rs) v (elim b [ false ↦ prefixesFrom x row source rs v | true ↦ after (contradicts (d .step)) ])
-        by later true f c = at-run later (contradicts (d .step)) refl c
-        by later false f c =
-            let o = later v k same h c in
-            let e = unchanged source (stateAt v r) (termCount x row) (termCount x r) f in
-            let new = told-on v row r source (stateAt v r) same (record { lower = ap (λ (y : State). y .lower) (sym e); upper = ap (λ (y : State). y .upper) (sym e) }) in
-            (o .0, o .1, (λ q m. ⊎-elim (λ (z : q ≡ r). subst (λ (i : ℕ). HandedOn x (prefixesFrom x row source rs v .live) row i) (sym z) (o .3 r new)) (o .2 q) (List·Memᴰ·cases-cons m)), o .3)
+      hands-next : Hands rs w
+      hands-next =
+          let long = sym (queued-length (v .dirty) r) in
+          let other = queued-other (v .dirty) r in
+          let own : SameBounds (stateAt w row) source = record { lower = stays .lower ∙ h .own .lower; upper = stays .upper ∙ h .own .upper } in
+          let new = told-on w row r source (stateAt v r) own (put-here x v r here st (queueRow (v .dirty) r) (v .residuals)) in
+          record {
+            stands = neighbour-stands x drained s v row r source prefix low high (h .stands) .0;
+            own = own;
+            others = put-run-handed (λ (q : ℕ). eqb q row) v r st (queueRow (v .dirty) r) (v .residuals) is (h .others) (tighter .0) (tighter .1) long other
+                (inr (inl (queued-waits (v .dirty) r (let z = h .others .flags in let y : r < length (x .rows) = is in omega arith))));
+            told = λ q i. passed r rs v w
+                (λ k y. let g = put-grown (λ (n : ℕ). eqb n row) v r st (queueRow (v .dirty) r) (v .residuals) is (h .others) (tighter .0) (tighter .1) long other k in handed-on v w row k stays (g .0) (g .1) y)
+                new q (h .told q i);
+          }
 
   -- A ROW THAT HANDED ON ITS BOUNDS is excepted no more
   pub prefixes-handed : (drained : ℕ → ℕ → Bool) (s : Table) (v : Live) (row : ℕ)
@@ -383,16 +340,24 @@ module _ (x : Index) where
       → Stands (x .rows) s drained v → Handed x (λ (r : ℕ). eqb r row) v → contradicts (thresholdPrefixes x v row .step) ≡ false → Handed x (λ (r : ℕ). false) (thresholdPrefixes x v row .live)
   unfolding thresholdPrefixes
   prefixes-handed drained s v row are k h c =
-      let o = prefixes-from drained s row (stateAt v row) (neighbours row (x .links)) are v k (same-bounds (stateAt v row)) h c in
-      record { sized = o .0 .sized; flags = o .0 .flags; handed = λ r q m e f. by o r q m f (ℕ-discrete r row) }
+      record { sized = o .others .sized; flags = o .others .flags; handed = λ r q m e f. by r q m f (ℕ-discrete r row) }
     where
-      w : Live
-      w = prefixesFrom x row (stateAt v row) (neighbours row (x .links)) v .live
+      all : List ℕ
+      all = neighbours row (x .links)
 
-      by : Handed x (λ (r : ℕ). eqb r row) w × SameBounds (stateAt w row) (stateAt v row) × ((q : ℕ) → List·Memᴰ q (neighbours row (x .links)) → HandedOn x w row q) × ((q : ℕ) → HandedOn x v row q → HandedOn x w row q)
-          → (r q : ℕ) → List·Memᴰ q (neighbours r (x .links)) → waiting w r ≡ false → Dec (r ≡ row) → HandedOn x w r q
-      by o r q m f (yes e) = subst (λ (i : ℕ). HandedOn x w i q) (sym e) (o .2 q (subst (λ (i : ℕ). List·Memᴰ q (neighbours i (x .links))) e m))
-      by o r q m f (no e) = o .0 .handed r q m (ne-eqb r row e) f
+      source : State
+      source = stateAt v row
+
+      w : Live
+      w = prefixesFrom x row source all v .live
+
+      o : Hands drained s row source all are [] w
+      o = prefix-fine x row source all (Hands drained s row source all are) (hands-skip drained s row source all are) (λ r rs u m y e. hands-next drained s row source all are r rs u m y) v
+          (record { stands = k; own = same-bounds source; others = h; told = λ q m. inl m }) c
+
+      by : (r q : ℕ) → List·Memᴰ q (neighbours r (x .links)) → waiting w r ≡ false → Dec (r ≡ row) → HandedOn x w r q
+      by r q m f (yes e) = subst (λ (i : ℕ). HandedOn x w i q) (sym e) (⊎-elim (λ i. absurd (List·Memᴰ·not-nil i)) (λ y. y) (o .told q (subst (λ (i : ℕ). List·Memᴰ q (neighbours i (x .links))) e m)))
+      by r q m f (no e) = o .others .handed r q m (ne-eqb r row e) f
 
   -- THE OLDEST ROW IS TAKEN: it waits no more, and is excepted until it has handed on its bounds
   pub taken-handed : (v : Live) → Handed x (λ (r : ℕ). false) v → Handed x (λ (r : ℕ). eqb r (oldest (v .dirty .queue))) (live (v .states) (v .marks) (nextRow (v .dirty)) (v .residuals))

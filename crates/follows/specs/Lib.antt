@@ -1,6 +1,5 @@
 pub mod AnswersLaws
 pub mod DecideLaws
-pub mod RunsLaws
 pub mod RowLaws
 pub mod CompleteLaws
 pub mod RowCompleteLaws

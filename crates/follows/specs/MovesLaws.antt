@@ -4,7 +4,7 @@ use Prim.Native.Nat.{ℕ, _≤_, _<_}
 use native.Mathlib.Omega.{arith}
 use mathlib.Core.Path.{_≡_, refl, sym, ap, _∙_, subst}
 use mathlib.Core.Bool.{Bool, true, false, not, cond, _&&_, _||_}
-use mathlib.Core.List.{List, [], _∷_, _++_, append-nil, List·Memᴰ, List·Memᴰ·head, List·Memᴰ·tail}
+use mathlib.Core.List.{List, [], _∷_, _++_, append-nil, List·Memᴰ}
 use mathlib.Core.Logic.{_⊎_, inl, inr, ⊎-elim}
 use lib.ListN.{length, getD, set, length-append}
 use lib.Dec.{leb}
@@ -13,11 +13,11 @@ use lib.Signed.{leZ, ltZ, _≤ℤ_, _<ℤ_, ≤ℤ-refl}
 use borrow.Author.Tests.{leb-true}
 use Rattle.signed.specs.SignedLaws.{nle-ltZ}
 use Rattle.numeric.specs.Threshold.{Term, Threshold}
-use Rattle.state.specs.declared.Step.the-variants.{Unchanged, Changed, Contradiction}
+use Rattle.state.specs.declared.Step.the-variants.{Unchanged}
 use Rattle.state.specs.declared.State.{State}
 use Rattle.state.specs.declared.Upper.{Upper}
 use Rattle.state.specs.declared.Upper.the-variants.{Open, Under}
-use Rattle.state.specs.Step.{joined, contradicts}
+use Rattle.state.specs.Step.{contradicts}
 use Rattle.state.specs.State.{upperAtMost, withLower, withUpper}
 use Rattle.words.specs.Mask.{bit}
 use Rattle.queues.specs.Marks.{Marks, isDecided, decide}
@@ -27,11 +27,13 @@ use Rattle.prefixes.specs.Links.{neighbours}
 use Rattle.propagate.specs.declared.Tightened.{Tightened}
 use Rattle.propagate.specs.Row.{Ran, thresholdRow}
 use Rattle.propagate.specs.Told.{tight, guardState, movedLower, movedUpper, movedState, under}
-use Rattle.between.specs.Between.{Index, Live, live, stateAt, withState, withDirty, Did, did, runRow, runWith, bounded, thresholdGuard, termCount, prefixesFrom, thresholdPrefixes}
+use Rattle.between.specs.Between.{Index, Live, live, stateAt, withState, withDirty, Did, runRow, runWith, thresholdGuard, termCount, thresholdPrefixes}
+use Rattle.between.specs.LoopLaws.{movedRun}
+use Rattle.between.specs.WalkLaws.{guardRow, guard-ends, prefix-walks}
 use Rattle.table.specs.Table.{Table, IsRow, termsOf, Guards, IsPrefix, raiseLower, lowerUpper, AtRest, sure-guard, never-guard, longer-lower, shorter-upper}
 use Rattle.table.specs.OrderLaws.{lt, ≤ℤ-trans, <ℤ-≤ℤ, ≤ℤ-or-<ℤ, UpLe, up-refl, up-trans, le-or-below}
 use Rattle.table.specs.TableLaws.{Le}
-use Rattle.follows.specs.AnswersLaws.{clash, and-left, and-right, joined-which}
+use Rattle.follows.specs.AnswersLaws.{clash, and-left, and-right}
 use Rattle.follows.specs.DecideLaws.{tableOf, Broken, follows-below}
 use Rattle.follows.specs.RowLaws.{Fine, row-fine}
 use Rattle.follows.specs.CursorsLaws.{row-goes}
@@ -41,6 +43,21 @@ use Rattle.follows.specs.StandsLaws.{tableAt, Apart, Stands, Stay, stay-
 pub not-above : (z : ℤ) (y : Upper) → upperAtMost y z ≡ false → UpLe (Under z) y
 not-above z Open f = tt
 not-above z (Under b) f = <ℤ-≤ℤ (lt (nle-ltZ z b f))
+
+-- A GUARD'S BOUND makes a row's bounds no wider; the row has it then, and where that is nothing new its state stays.
+module _ (st : State) (b : ℤ) where
+  pub guard-tightens : (value : Bool) → (st .lower ≤ℤ guardState st value b .state .lower) × UpLe (guardState st value b .state .upper) (st .upper)
+  unfolding withLower withUpper
+  guard-tightens true = by (leZ b (st .lower)) refl
+    where
+      by : (c : Bool) → leZ b (st .lower) ≡ c → let o : Tightened = elim c [ true ↦ tight st false | false ↦ tight (withLower st b) true ] in (st .lower ≤ℤ o .state .lower) × UpLe (o .state .upper) (st .upper)
+      by true e = (≤ℤ-refl (st .lower), up-refl (st .upper))
+      by false e = (<ℤ-≤ℤ (lt (nle-ltZ (st .lower) b e)), up-refl (st .upper))
+  guard-tightens false = by (upperAtMost (st .upper) b) refl
+    where
+      by : (c : Bool) → upperAtMost (st .upper) b ≡ c → let o : Tightened = elim c [ true ↦ tight st false | false ↦ tight (withUpper st (Under b)) true ] in (st .lower ≤ℤ o .state .lower) × UpLe (o .state .upper) (st .upper)
+      by true e = (≤ℤ-refl (st .lower), up-refl (st .upper))
+      by false e = (≤ℤ-refl (st .lower), not-above b (st .upper) e)
 
 -- WHAT EVERY REST HAS by rules 1 and 6
 module _ (rows : List Row) (u : Table) (rest : AtRest rows u) where
@@ -165,50 +182,39 @@ module _ (x : Index) (drained : ℕ → ℕ → Bool) where
       room : r < length (v .states)
       room = let z = h .sized in omega arith
 
+  -- the bounds that a row has are as every rest has them
+  tighter-same : (s : Table) (v : Live) (r : ℕ) → Stands (x .rows) s drained v → Tighter s r (stateAt v r) (stateAt v r)
+  tighter-same s v r h = (refl, refl, ≤ℤ-refl (stateAt v r .lower), up-refl (stateAt v r .upper), λ u a rest. (h .follows u a rest .lower r, h .follows u a rest .upper r))
+
   -- A DRAINED GUARD: rule 1, and the row is run
   pub guard-stands : (s : Table) (v : Live) (t : Threshold) → Guards (x .rows) (rowNumber (x .rows) (t .terms)) (guard (t .bound) (t .node))
       → isDecided (v .marks) (t .node) ≡ true → Stands (x .rows) s drained v → Kept s (thresholdGuard x v t)
-  unfolding thresholdGuard bounded withLower withUpper
-  guard-stands s v t i d h = by (bit (v .marks .sure) (t .node)) refl
+  unfolding withLower withUpper
+  guard-stands s v t i d h =
+      guard-ends x v t (Kept s) (λ e. (h, λ c. no-contradiction c)) (λ e. run-stands s _ r (i .0) (bound-stands s v r _ _ _ (i .0) h (better (bit (v .marks .sure) (t .node)) refl)))
     where
       r : ℕ
-      r = rowNumber (x .rows) (t .terms)
+      r = guardRow x t
 
       st : State
       st = stateAt v r
 
-      whole : Tightened → Did
-      whole y = elim (y .changed) [ true ↦ bounded x v r (y .state) | false ↦ did v Unchanged ]
+      better : (b : Bool) → bit (v .marks .sure) (t .node) ≡ b → Tighter s r st (guardState st b (t .bound) .state)
+      better true e = by (leZ (t .bound) (st .lower)) (guard-tightens st (t .bound) true)
+        where
+          by : (c : Bool) → let o : Tightened = elim c [ true ↦ tight st false | false ↦ tight (withLower st (t .bound)) true ] in
+              (st .lower ≤ℤ o .state .lower) × UpLe (o .state .upper) (st .upper) → Tighter s r st (o .state)
+          by true k = tighter-same s v r h
+          by false k = (refl, refl, k .0, k .1, λ u a rest. (rest-sure (x .rows) u rest r (guard (t .bound) (t .node)) i (h .follows u a rest .sure (t .node) e), h .follows u a rest .upper r))
+      better false e = by (upperAtMost (st .upper) (t .bound)) (guard-tightens st (t .bound) false)
+        where
+          is-never : bit (v .marks .never) (t .node) ≡ true
+          is-never = ap (λ (b : Bool). b || bit (v .marks .never) (t .node)) (sym e) ∙ d
 
-      kept-by : (st′ : State) → Tighter s r st st′ → Kept s (bounded x v r st′)
-      kept-by st′ better = run-stands s _ r (i .0) (bound-stands s v r st′ _ _ (i .0) h better)
-
-      raised : bit (v .marks .sure) (t .node) ≡ true → (b : Bool) → leZ (t .bound) (st .lower) ≡ b → Kept s (whole (elim b [ true ↦ tight st false | false ↦ tight (withLower st (t .bound)) true ]))
-      raised e true f = (h, λ c. no-contradiction c)
-      raised e false f = kept-by (withLower st (t .bound)) (
-        refl,
-        refl,
-        <ℤ-≤ℤ (lt (nle-ltZ (st .lower) (t .bound) f)),
-        up-refl (st .upper),
-        λ u a rest. (rest-sure (x .rows) u rest r (guard (t .bound) (t .node)) i (h .follows u a rest .sure (t .node) e), h .follows u a rest .upper r),
-      )
-
-      is-never : bit (v .marks .sure) (t .node) ≡ false → bit (v .marks .never) (t .node) ≡ true
-      is-never e = ap (λ (b : Bool). b || bit (v .marks .never) (t .node)) (sym e) ∙ d
-
-      lowered : bit (v .marks .sure) (t .node) ≡ false → (b : Bool) → upperAtMost (st .upper) (t .bound) ≡ b → Kept s (whole (elim b [ true ↦ tight st false | false ↦ tight (withUpper st (Under (t .bound))) true ]))
-      lowered e true f = (h, λ c. no-contradiction c)
-      lowered e false f = kept-by (withUpper st (Under (t .bound))) (
-        refl,
-        refl,
-        ≤ℤ-refl (st .lower),
-        not-above (t .bound) (st .upper) f,
-        λ u a rest. (h .follows u a rest .lower r, rest-never (x .rows) u rest r (guard (t .bound) (t .node)) i (h .follows u a rest .never (t .node) (is-never e))),
-      )
-
-      by : (b : Bool) → bit (v .marks .sure) (t .node) ≡ b → Kept s (whole (guardState st b (t .bound)))
-      by true e = raised e (leZ (t .bound) (st .lower)) refl
-      by false e = lowered e (upperAtMost (st .upper) (t .bound)) refl
+          by : (c : Bool) → let o : Tightened = elim c [ true ↦ tight st false | false ↦ tight (withUpper st (Under (t .bound))) true ] in
+              (st .lower ≤ℤ o .state .lower) × UpLe (o .state .upper) (st .upper) → Tighter s r st (o .state)
+          by true k = tighter-same s v r h
+          by false k = (refl, refl, k .0, k .1, λ u a rest. (h .follows u a rest .lower r, rest-never (x .rows) u rest r (guard (t .bound) (t .node)) i (h .follows u a rest .never (t .node) is-never)))
 
   -- BOUNDS HANDED ON: rule 6, first the lower, then the upper
   module _ (s : Table) (v : Live) (row r : ℕ) (source : State) (link : IsPrefix (x .rows) row r ⊎ IsPrefix (x .rows) r row)
@@ -230,7 +236,7 @@ module _ (x : Index) (drained : ℕ → ℕ → Bool) where
             h .follows u a rest .upper r,
           ),
         )
-        by false e = (refl, refl, ≤ℤ-refl (stateAt v r .lower), up-refl (stateAt v r .upper), λ u a rest. (h .follows u a rest .lower r, h .follows u a rest .upper r))
+        by false e = tighter-same s v r h
 
     under-le : (a b : Upper) → under a b ≡ true → UpLe a b
     under-le Open b e = absurd (clash false e refl)
@@ -275,51 +281,28 @@ module _ (x : Index) (drained : ℕ → ℕ → Bool) where
     pub neighbour-stands : Kept s (runRow x (withDirty (withState v r (movedState source (stateAt v r) (termCount x row) (termCount x r) .state)) r) r)
     neighbour-stands = run-stands s _ r isRow (bound-stands s v r _ _ _ isRow h moved-tighter)
 
-  -- the neighbours one after the other: the row that hands on keeps its bounds or betters them
-  prefixes-from : (s : Table) (row : ℕ) (source : State) (rs : List ℕ) → ((r : ℕ) → List·Memᴰ r rs → IsPrefix (x .rows) row r ⊎ IsPrefix (x .rows) r row)
-      → (v : Live) → source .lower ≤ℤ stateAt v row .lower → UpLe (stateAt v row .upper) (source .upper) → Stands (x .rows) s drained v → Kept s (prefixesFrom x row source rs v)
-  unfolding prefixesFrom
-  prefixes-from s row source [] links v low high h = (h, λ c. no-contradiction c)
-  prefixes-from s row source (r ∷ rs) links v low high h =
-      by (λ w a b k. prefixes-from s row source rs (λ q j. links q (List·Memᴰ·tail j)) w a b k) (t .changed)
-    where
-      Later : Type 0
-      Later = (w : Live) → source .lower ≤ℤ stateAt w row .lower → UpLe (stateAt w row .upper) (source .upper) → Stands (x .rows) s drained w → Kept s (prefixesFrom x row source rs w)
-
-      t : Tightened
-      t = movedState source (stateAt v r) (termCount x row) (termCount x r)
-
-      d : Did
-      d = runRow x (withDirty (withState v r (t .state)) r) r
-
-      link : IsPrefix (x .rows) row r ⊎ IsPrefix (x .rows) r row
-      link = links r (List·Memᴰ·head refl)
-
-      one : Kept s d
-      one = neighbour-stands s v row r source link low high h
-
-      -- the same from the live state itself: what stood there stands still
-      grown : Le (tableAt v) (tableAt (d .live))
-      grown = neighbour-stands (tableAt v) v row r source link low high (restart (x .rows) s drained v h) .0 .above
-
-      more : Later → Kept s (prefixesFrom x row source rs (d .live))
-      more later = later (d .live)
-          (≤ℤ-trans low (grown .lower row)) (up-trans (stateAt (d .live) row .upper) (stateAt v row .upper) (source .upper) (grown .upper row) high) (one .0)
-
-      ran : Bool → Did
-      ran c = elim c [ true ↦ did (d .live) Contradiction | false ↦ did (prefixesFrom x row source rs (d .live) .live) (joined Changed (prefixesFrom x row source rs (d .live) .step)) ]
-
-      at-run : Later → (c : Bool) → contradicts (d .step) ≡ c → Kept s (ran c)
-      at-run later true e = (one .0, λ _. one .1 e)
-      at-run later false e = (more later .0, λ c. more later .1 (joined-which Changed (prefixesFrom x row source rs (d .live) .step) refl c))
-
-      by : Later → (c : Bool) → Kept s (elim c [ false ↦ prefixesFrom x row source rs v | true ↦ ran (contradicts (d .step)) ])
-      by later true = at-run later (contradicts (d .step)) refl
-      by later false = later v low high h
-
-  -- A ROW HANDS ON ITS BOUNDS to rows that it starts or that start it
+  -- A ROW HANDS ON ITS BOUNDS to rows that it starts or that start it, and keeps them or betters them
   pub prefixes-stand : (s : Table) (v : Live) (row : ℕ) → ((r : ℕ) → List·Memᴰ r (neighbours row (x .links)) → IsPrefix (x .rows) row r ⊎ IsPrefix (x .rows) r row)
       → Stands (x .rows) s drained v → Kept s (thresholdPrefixes x v row)
   unfolding thresholdPrefixes
   prefixes-stand s v row links h =
-      prefixes-from s row (stateAt v row) (neighbours row (x .links)) links v (≤ℤ-refl (stateAt v row .lower)) (up-refl (stateAt v row .upper)) h
+      prefix-walks x row source (neighbours row (x .links)) (λ (_ : List ℕ). Gives) (Kept s) (λ u k c p. (p .2, λ q. absurd (clash (contradicts k) q c))) (λ r rs u m p e. p)
+      (λ r rs u m p e c. let o = one r m u p in (o .0, λ _. o .1 c)) (λ r rs u m p e c. (
+        ≤ℤ-trans (p .0) (grown r m u p .lower row),
+        up-trans (stateAt (movedRun x row source r u .live) row .upper) (stateAt u row .upper) (source .upper) (grown r m u p .upper row) (p .1),
+        one r m u p .0,
+      )) v
+      (≤ℤ-refl (source .lower), up-refl (source .upper), h)
+    where
+      source : State
+      source = stateAt v row
+
+      Gives : Live → Type 0
+      Gives u = (source .lower ≤ℤ stateAt u row .lower) × UpLe (stateAt u row .upper) (source .upper) × Stands (x .rows) s drained u
+
+      one : (r : ℕ) → List·Memᴰ r (neighbours row (x .links)) → (u : Live) → Gives u → Kept s (movedRun x row source r u)
+      one r m u p = neighbour-stands s u row r source (links r m) (p .0) (p .1) (p .2)
+
+      -- the same from the live state itself: what stood there stands still
+      grown : (r : ℕ) → List·Memᴰ r (neighbours row (x .links)) → (u : Live) → Gives u → Le (tableAt u) (tableAt (movedRun x row source r u .live))
+      grown r m u p = neighbour-stands (tableAt u) u row r source (links r m) (p .0) (p .1) (restart (x .rows) s drained u (p .2)) .0 .above

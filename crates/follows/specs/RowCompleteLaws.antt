@@ -23,7 +23,7 @@ use Rattle.thresholds.specs.Rows.{Row, Guard}
 use Rattle.propagate.specs.Scan.{Scanned, scan}
 use Rattle.propagate.specs.Row.{Ran, ran, decides, sureWaits, sureGuards, reachable, neverWaits, neverGuards, thresholdGuards, termWaits, forces, forced, trueTerms, falseTerms, thresholdRow}
 use Rattle.follows.specs.AnswersLaws.{clash, joined-right}
-use Rattle.follows.specs.RunsLaws.{guardsRun, trueRun, falseRun, wholeRun, run-ends}
+use Rattle.between.specs.RunsLaws.{guardsRun, trueRun, falseRun, wholeRun, run-ends}
 use Rattle.follows.specs.DecideLaws.{scan-keeps}
 use Rattle.follows.specs.CompleteLaws.{All, Wide, Has, wide-decide, wide-force, has-stays, decided-stays, force-stays, force-has, Rising, Falling, sure-complete, never-complete, forced-complete}
 

@@ -29,7 +29,7 @@ use Rattle.table.specs.Table.{Table, IsRow, termsOf, knownOf, possibleOf, reach
 use Rattle.table.specs.OrderLaws.{le, lt, ≤ℤ-trans, ≤ℤ-<ℤ-trans, pos-≤ℤ, max-up, sub-up, up-refl, at-most-up}
 use Rattle.table.specs.TableLaws.{Le, known-up, possible-down}
 use Rattle.follows.specs.AnswersLaws.{and-false, not-false, or-true, or-false, joined-which, joined-fine}
-use Rattle.follows.specs.RunsLaws.{guardsRun, trueRun, falseRun, run-ends}
+use Rattle.between.specs.RunsLaws.{guardsRun, trueRun, falseRun, run-ends}
 use Rattle.follows.specs.DecideLaws.{tableOf, Broken, Kept, decide-follows, scan-keeps}
 
 -- LISTS

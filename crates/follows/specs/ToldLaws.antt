@@ -23,7 +23,8 @@ use Rattle.thresholds.specs.Rows.{Row, rowOf, noRow, Guard, guard, insertGuard,
 use Rattle.thresholds.specs.RawLaws.{same-refl}
 use Rattle.propagate.specs.declared.Tightened.{Tightened}
 use Rattle.propagate.specs.Told.{tight, guardState}
-use Rattle.between.specs.Between.{Index, Live, live, stateAt, Did, did, bounded, thresholdGuard}
+use Rattle.between.specs.Between.{Index, Live, live, stateAt, Did, did, thresholdGuard}
+use Rattle.between.specs.WalkLaws.{guardTold, guardRun, guard-ends}
 use Rattle.table.specs.Table.{Table, Guards}
 use Rattle.table.specs.OrderLaws.{le, ≤ℤ-trans, UpLe, up-refl, up-trans}
 use Rattle.table.specs.TableLaws.{Le}
@@ -79,6 +80,37 @@ told-none rows told v n d none t = record {
 abbrev pub Single : List Row → Type 0
 Single rows = (r q : ℕ) (g h : Guard) → Guards rows r g → Guards rows q h → g .node ≡ h .node → (r ≡ q) × (g ≡ h)
 
+-- What a guard tells is nothing new, or the row has it then.
+module _ (st : State) (b : ℤ) where
+  guard-same : (value : Bool) → guardState st value b .changed ≡ false → guardState st value b .state ≡ st
+  guard-same true = by (leZ b (st .lower))
+    where
+      by : (c : Bool) → let o : Tightened = elim c [ true ↦ tight st false | false ↦ tight (withLower st b) true ] in o .changed ≡ false → o .state ≡ st
+      by true e = refl
+      by false e = absurd (clash true refl e)
+  guard-same false = by (upperAtMost (st .upper) b)
+    where
+      by : (c : Bool) → let o : Tightened = elim c [ true ↦ tight st false | false ↦ tight (withUpper st (Under b)) true ] in o .changed ≡ false → o .state ≡ st
+      by true e = refl
+      by false e = absurd (clash true refl e)
+
+  guard-has : (value : Bool) → (value ≡ true → b ≤ℤ guardState st value b .state .lower) × (value ≡ false → UpLe (guardState st value b .state .upper) (Under b))
+  unfolding withLower withUpper
+  guard-has true = ((λ _. by (leZ b (st .lower)) refl), λ k. absurd (clash true refl k))
+    where
+      by : (c : Bool) → leZ b (st .lower) ≡ c → let o : Tightened = elim c [ true ↦ tight st false | false ↦ tight (withLower st b) true ] in b ≤ℤ o .state .lower
+      by true e = le e
+      by false e = ≤ℤ-refl b
+  guard-has false = ((λ k. absurd (clash false k refl)), λ _. by (upperAtMost (st .upper) b) refl)
+    where
+      at-most : (y : Upper) → upperAtMost y b ≡ true → UpLe y (Under b)
+      at-most Open e = absurd (clash false e refl)
+      at-most (Under z) e = le e
+
+      by : (c : Bool) → upperAtMost (st .upper) b ≡ c → let o : Tightened = elim c [ true ↦ tight st false | false ↦ tight (withUpper st (Under b)) true ] in UpLe (o .state .upper) (Under b)
+      by true e = at-most (st .upper) e
+      by false e = up-refl (Under b)
+
 module _ (x : Index) (drained : ℕ → ℕ → Bool) (s : Table) (v : Live) (t : Threshold) (is : Guards (x .rows) (rowNumber (x .rows) (t .terms)) (guard (t .bound) (t .node)))
     (d : isDecided (v .marks) (t .node) ≡ true) (h : Stands (x .rows) s drained v) where
   abbrev number : ℕ
@@ -92,40 +124,22 @@ module _ (x : Index) (drained : ℕ → ℕ → Bool) (s : Table) (v : Live) (t 
 
   -- the bound is in the row
   guard-tells : (bit (v .marks .sure) (t .node) ≡ true → t .bound ≤ℤ stateAt after number .lower) × (bit (v .marks .sure) (t .node) ≡ false → UpLe (stateAt after number .upper) (Under (t .bound)))
-  unfolding thresholdGuard bounded withLower withUpper
-  guard-tells = by (bit (v .marks .sure) (t .node)) refl
+  guard-tells = guard-ends x v t Tells (λ e. from (did v Unchanged) (same-as (stateAt v number) (guard-same (stateAt v number) (t .bound) (bit (v .marks .sure) (t .node)) e)))
+      (λ e. from (guardRun x v t) (put-here x v number room (guardTold x v t .state) _ _))
     where
-      st : State
-      st = stateAt v number
-
-      whole : Tightened → Did
-      whole y = elim (y .changed) [ true ↦ bounded x v number (y .state) | false ↦ did v Unchanged ]
-
       room : number < length (v .states)
       room = let z = h .sized in let k = is .0 in omega arith
 
-      -- a run keeps the bounds that were put
-      bounds : (st′ : State) → SameBounds (stateAt (bounded x v number st′ .live) number) st′
-      bounds st′ = put-here x v number room st′ _ _
+      Tells : Did → Type 0
+      Tells d = (bit (v .marks .sure) (t .node) ≡ true → t .bound ≤ℤ stateAt (d .live) number .lower) × (bit (v .marks .sure) (t .node) ≡ false → UpLe (stateAt (d .live) number .upper) (Under (t .bound)))
 
-      raised : (b : Bool) → leZ (t .bound) (st .lower) ≡ b
-          → let o : Tightened = elim b [ true ↦ tight st false | false ↦ tight (withLower st (t .bound)) true ] in t .bound ≤ℤ stateAt (whole o .live) number .lower
-      raised true f = le f
-      raised false f = subst (λ (z : ℤ). t .bound ≤ℤ z) (sym (bounds (withLower st (t .bound)) .lower)) (≤ℤ-refl (t .bound))
+      same-as : (st : State) → guardTold x v t .state ≡ st → SameBounds st (guardTold x v t .state)
+      same-as st e = record { lower = ap (λ (y : State). y .lower) (sym e); upper = ap (λ (y : State). y .upper) (sym e) }
 
-      at-most : (y : Upper) → upperAtMost y (t .bound) ≡ true → UpLe y (Under (t .bound))
-      at-most Open e = absurd (clash false e refl)
-      at-most (Under b) e = le e
-
-      lowered : (b : Bool) → upperAtMost (st .upper) (t .bound) ≡ b
-          → let o : Tightened = elim b [ true ↦ tight st false | false ↦ tight (withUpper st (Under (t .bound))) true ] in UpLe (stateAt (whole o .live) number .upper) (Under (t .bound))
-      lowered true f = at-most (st .upper) f
-      lowered false f = subst (λ (z : Upper). UpLe z (Under (t .bound))) (sym (bounds (withUpper st (Under (t .bound))) .upper)) (up-refl (Under (t .bound)))
-
-      by : (b : Bool) → bit (v .marks .sure) (t .node) ≡ b
-          → (b ≡ true → t .bound ≤ℤ stateAt (whole (guardState st b (t .bound)) .live) number .lower) × (b ≡ false → UpLe (stateAt (whole (guardState st b (t .bound)) .live) number .upper) (Under (t .bound)))
-      by true e = ((λ _. raised (leZ (t .bound) (st .lower)) refl), λ k. absurd (clash true refl k))
-      by false e = ((λ k. absurd (clash false k refl)), λ _. lowered (upperAtMost (st .upper) (t .bound)) refl)
+      from : (d : Did) → SameBounds (stateAt (d .live) number) (guardTold x v t .state) → Tells d
+      from d k =
+          let o = guard-has (stateAt v number) (t .bound) (bit (v .marks .sure) (t .node)) in
+          ((λ e. subst (λ (z : ℤ). t .bound ≤ℤ z) (sym (k .lower)) (o .0 e)), λ e. subst (λ (z : Upper). UpLe z (Under (t .bound))) (sym (k .upper)) (o .1 e))
 
   -- A DRAINED GUARD IS TOLD
   pub guard-told : (told : ℕ → Bool) → Single (x .rows) → Told (x .rows) told v → Told (x .rows) (also (t .node) told) after

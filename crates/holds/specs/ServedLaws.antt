@@ -35,7 +35,7 @@ use Rattle.regions.specs.Drain.{indexOf}
 use Rattle.ends.specs.BuiltLaws.{Fit, Fits, Light, every-append, every-each, every-at, rows-every, rows-few, There, all-there, edges-from, linked-rows, indexed, fits-node, fits-condition}
 use Rattle.ends.specs.SizeLaws.{row-terms-few}
 use Rattle.follows.specs.BuiltLaws.{built, guard-threshold, rows-ordered}
-use Rattle.follows.specs.KeepsLaws.{Names}
+use Rattle.between.specs.KeepsLaws.{Names}
 use Rattle.settle.specs.Serves.{Serves}
 use Rattle.sift.specs.Tries.{Short}
 use Rattle.holds.specs.HoldsLaws.{LaidRows, inside-laid, front, holds-rows, shaped-rows, holds-edges, holds-links, holds-guards}

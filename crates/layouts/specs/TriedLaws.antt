@@ -39,10 +39,11 @@ use Rattle.residual.specs.CheckLaws.{check-unit}
 use Rattle.residual.specs.ForceLaws.{force-cases, from-skip, from-stop, from-more, residual-none, residual-rest, residual-forced}
 use Rattle.residual.specs.SumsLaws.{openWeights, openSum, sum, open-skip, open-more}
 use Rattle.residual.specs.SoundLaws.{Fresh, Distinct, residual-sound}
-use Rattle.possible_sums.specs.Search.{plan, search, searchStep, searchVisits, chosen}
+use Rattle.possible_sums.specs.Search.{plan, search, searchStep, chosen}
 use Rattle.possible_sums.specs.SearchLaws.{search-refutes}
 use Rattle.between.specs.Between.{Index, Live, live, stateAt}
-use Rattle.regions.specs.Sift.{Sifted, sifted, tryRow}
+use Rattle.regions.specs.Sift.{Sifted, tryRow}
+use Rattle.regions.specs.SiftLaws.{tryTerms, tryResidual, tryLive, try-ends}
 use Rattle.table.specs.Table.{IsRow, termsOf, known, possible}
 use Rattle.table.specs.OrderLaws.{UpLe, le, lt, of-le, ≤ℤ-trans}
 use Rattle.table.specs.LayoutLaws.{row-made}
@@ -296,35 +297,24 @@ module _ (j : Job) (x : Index) (b : Built j x) (conditions : (r : ℕ) → ScanL
 
   -- A ROW IS TRIED
   pub try-fine : (gcds : List ℕ) (visits : ℕ) → (contradicts (tryRow x v gcds visits .step) ≡ false) × Holds x w taken taken (tryRow x v gcds visits .live)
-  unfolding tryRow
-  try-fine gcds visits = by (isUnchanged (a .step)) refl
+  try-fine gcds visits =
+      try-ends x v gcds visits (λ (t : Sifted). (contradicts (t .step) ≡ false) × Holds x w taken taken (t .live)) (λ e. (found .2 (unchanged-is (a .step) e), holds)) (λ e. (found .1, holds))
     where
       r : ℕ
       r = oldest (v .residuals .queue)
 
       ts : List Term
-      ts = termsOf (x .rows) r
+      ts = tryTerms x v
 
       a : Residual
-      a = thresholdResidual ts (stateAt v r) m gcds
-
-      after : Live
-      after = live (v .states) (a .marks) (v .dirty) (nextRow (v .residuals))
+      a = tryResidual x v gcds
 
       found : Fits w (a .marks) × (contradicts (a .step) ≡ false) × (a .step ≡ Unchanged → contradicts (searchStep (search ts (stateAt v r) (isDecided (a .marks)))) ≡ false)
       found = right r gcds
 
-      holds : Holds x w taken taken after
+      holds : Holds x w taken taken (tryLive x v gcds)
       holds =
           marked x w taken taken taken v (a .marks) (v .dirty) (nextRow (v .residuals)) h
           (keeps-residual (Stay m) (λ k value n s p. stay-decide m value k n p) ts (stateAt v r) m gcds (conditions r) (stay-same m))
           (keeps-residual Apart (λ k value n s p. apart-decide value k n p) ts (stateAt v r) m gcds (conditions r) (h .stands .apart)) (found .0)
           (keeps-residual (Queued taken) (λ k value n s p. queued-decide taken value k n s p) ts (stateAt v r) m gcds (conditions r) (h .queued))
-
-      by : (c : Bool) → isUnchanged (a .step) ≡ c
-          → let t : Sifted = elim c [
-            | true ↦ sifted after (a .gcds) (searchStep (search ts (stateAt v r) (isDecided (a .marks)))) (searchVisits visits (search ts (stateAt v r) (isDecided (a .marks))))
-            | false ↦ sifted after (a .gcds) (a .step) visits
-          ] in (contradicts (t .step) ≡ false) × Holds x w taken taken (t .live)
-      by true e = (found .2 (unchanged-is (a .step) e), holds)
-      by false e = (found .1, holds)

@@ -1,30 +1,26 @@
 -- NO TURN LOSES A LAYOUT: what a layout agrees with before a drained node, a row that hands on its bounds or a whole settling, it
 -- agrees with after, and none of these contradicts where there is such a layout.
-use Prim.Native.Nat.{ℕ, zero, suc, _<_}
-use native.Mathlib.Omega.{arith}
+use Prim.Native.Nat.{ℕ, _<_}
 use mathlib.Core.Path.{_≡_, refl, ap, _∙_}
 use mathlib.Core.Bool.{Bool, true, false}
-use mathlib.Core.List.{List, [], _∷_, List·Memᴰ, List·Memᴰ·head, List·Memᴰ·tail}
+use mathlib.Core.List.{List·Memᴰ}
 use lib.ListN.{getD}
-use lib.Dec.{eqb}
-use borrow.Author.Tests.{eqb-true, eqb-false}
-use Rattle.memory.specs.Limits.{maxNodes}
 use Rattle.numeric.specs.Threshold.{Threshold, Job}
 use Rattle.numeric.specs.Layout.{Layout, IsLayout}
-use Rattle.state.specs.declared.Step.{Step}
-use Rattle.state.specs.declared.Step.the-variants.{Unchanged}
-use Rattle.state.specs.Step.{joined, contradicts}
+use Rattle.state.specs.Step.{contradicts}
 use Rattle.words.specs.Mask.{bit}
-use Rattle.queues.specs.Queue.{Rows, isEmpty, oldest, popped, nextRow}
+use Rattle.queues.specs.Queue.{Rows, oldest, nextRow}
 use Rattle.queues.specs.Marks.{Marks, marks, isDecided}
 use Rattle.queues.specs.MarksLaws.{mask}
 use Rattle.thresholds.specs.Rows.{noRow}
-use Rattle.between.specs.Between.{Index, Live, live, Did, did, runRow, guardOf, thresholdGuard, thresholdCondition, thresholdPrefixes}
-use Rattle.regions.specs.Drain.{withMarks, takeNode, takeRow, turn, atRest, drain, turns, settle}
+use Rattle.between.specs.Between.{Index, Live, live, Did, runRow, thresholdGuard, thresholdCondition, thresholdPrefixes}
+use Rattle.between.specs.LoopLaws.{joined-fine}
+use Rattle.between.specs.WalkLaws.{guard-of-ends}
+use Rattle.regions.specs.Drain.{takeNode, takeRow, turn, atRest, settle}
+use Rattle.regions.specs.DrainLaws.{untaken, unrowed, nodeTold, nodeDrained, node-ends, row-ends, turn-ends, settle-walks}
 use Rattle.table.specs.Table.{IsRow}
 use Rattle.table.specs.TableLaws.{le-same, follows-start}
-use Rattle.ends.specs.SettlesLaws.{goes}
-use Rattle.follows.specs.AnswersLaws.{clash, never-true, joined-fine}
+use Rattle.follows.specs.AnswersLaws.{clash, never-true}
 use Rattle.follows.specs.RowCompleteLaws.{Ordered}
 use Rattle.follows.specs.StandsLaws.{tableAt, also, also-this, Apart, Stands, Stay, restart}
 use Rattle.follows.specs.MovesLaws.{run-stands, guard-stands, prefixes-stand}
@@ -97,18 +93,6 @@ module _ (j : Job) (x : Index) (b : Built j x) (ordered : (r : ℕ) → IsRow (x
         },
       )
 
-  guards-fine : (drained taken : ℕ → Bool) (v : Live) → Holds x w drained taken v → (n : ℕ) → isDecided (v .marks) n ≡ true
-      → (ts : List Threshold) → ((t : Threshold) → List·Memᴰ t ts → List·Memᴰ t (x .thresholds)) → Fine x w drained taken (guardOf x v ts n)
-  unfolding guardOf
-  guards-fine drained taken v h n d [] are = (refl, h)
-  guards-fine drained taken v h n d (t ∷ ts) are =
-      by (guards-fine drained taken v h n d ts (λ u m. are u (List·Memᴰ·tail m))) (eqb (t .node) n) refl
-    where
-      by : Fine x w drained taken (guardOf x v ts n) → (c : Bool) → eqb (t .node) n ≡ c
-          → let o : Did = elim c [ true ↦ thresholdGuard x v t | false ↦ guardOf x v ts n ] in Fine x w drained taken o
-      by later true e = guard-fine drained taken v h t (are t (List·Memᴰ·head refl)) (ap (isDecided (v .marks)) (eqb-true (t .node) n e) ∙ d)
-      by later false e = later
-
   -- A CONDITION
   condition-fine : (drained taken : ℕ → Bool) (v : Live) → Holds x w drained taken v → (n : ℕ) → isDecided (v .marks) n ≡ true → drained n ≡ false
       → Fine x w (also n drained) taken (thresholdCondition x v n)
@@ -125,51 +109,39 @@ module _ (j : Job) (x : Index) (b : Built j x) (ordered : (r : ℕ) → IsRow (x
       )
 
   -- A NODE IS TAKEN
-  node-fine : (v : Live) → Between x w v → isEmpty (v .marks .nodes) ≡ false → FineBetween x w (takeNode x v)
-  unfolding takeNode
-  node-fine v (taken, h) e = by (contradicts (g .step)) refl
+  node-fine : (v : Live) → Between x w v → 0 < v .marks .nodes .ring .count → FineBetween x w (takeNode x v)
+  node-fine v (taken, h) some =
+      node-ends x v (FineBetween x w) (λ e. absurd (clash (contradicts (g .step)) e (first .0)))
+      (λ e. (joined-fine (g .step) (nodeDrained x v .step) (first .0) (second .0), (also n taken, second .1)))
     where
-      some : 0 < v .marks .nodes .ring .count
-      some = omega (arith, eqb-false (v .marks .nodes .ring .count) 0 e)
-
       n : ℕ
       n = oldest (v .marks .nodes)
 
-      m : Marks
-      m = marks (v .marks .sure) (v .marks .never) (popped maxNodes (v .marks .nodes))
-
-      same : Stay (v .marks) m
+      same : Stay (v .marks) (untaken v .marks)
       same k d true = refl
       same k d false = refl
 
-      fits : Fits w m
+      fits : Fits w (untaken v .marks)
       fits true k e = h .agrees .sure k e
       fits false k e = h .agrees .never k e
 
-      popped-holds : Holds x w taken (also n taken) (withMarks v m)
-      popped-holds = marked x w taken taken (also n taken) v m (v .dirty) (v .residuals) h same (h .stands .apart) fits (queued-taken taken (v .marks) (h .queued) some)
+      popped-holds : Holds x w taken (also n taken) (untaken v)
+      popped-holds = marked x w taken taken (also n taken) v (untaken v .marks) (v .dirty) (v .residuals) h same (h .stands .apart) fits (queued-taken taken (v .marks) (h .queued) some)
 
       g : Did
-      g = guardOf x (withMarks v m) (x .thresholds) n
+      g = nodeTold x v
 
       first : Fine x w taken (also n taken) g
-      first = guards-fine taken (also n taken) (withMarks v m) popped-holds n (first-decided taken (v .marks) (h .queued) some) (x .thresholds) (λ t k. k)
+      first = guard-of-ends x (untaken v) n (Fine x w taken (also n taken)) (x .thresholds)
+          (λ t m e. guard-fine taken (also n taken) (untaken v) popped-holds t m (ap (isDecided (v .marks)) e ∙ first-decided taken (v .marks) (h .queued) some)) (λ f. (refl, popped-holds))
 
-      c : Did
-      c = thresholdCondition x (g .live) n
-
-      second : Fine x w (also n taken) (also n taken) c
+      second : Fine x w (also n taken) (also n taken) (nodeDrained x v)
       second =
           condition-fine taken (also n taken) (g .live) (first .1) n (first .1 .queued .decided n (also-this n taken n refl)) (first-fresh taken (v .marks) (h .queued) some)
 
-      by : (t : Bool) → contradicts (g .step) ≡ t → let d : Did = elim t [ true ↦ g | false ↦ did (c .live) (joined (g .step) (c .step)) ] in FineBetween x w d
-      by true q = absurd (clash (contradicts (g .step)) q (first .0))
-      by false q = (joined-fine (g .step) (c .step) (first .0) (second .0), (also n taken, second .1))
-
   -- A ROW IS TAKEN
   row-fine : (v : Live) → Between x w v → FineBetween x w (takeRow x v)
-  unfolding takeRow
-  row-fine v (taken, h) = (
+  row-fine v (taken, h) = row-ends x v (FineBetween x w) (
     never-true _ (a .1),
     (
       taken,
@@ -182,7 +154,7 @@ module _ (j : Job) (x : Index) (b : Built j x) (ordered : (r : ℕ) → IsRow (x
   )
     where
       u : Live
-      u = live (v .states) (v .marks) (nextRow (v .dirty)) (v .residuals)
+      u = unrowed v
 
       r : ℕ
       r = oldest (v .dirty .queue)
@@ -194,28 +166,10 @@ module _ (j : Job) (x : Index) (b : Built j x) (ordered : (r : ℕ) → IsRow (x
       a = prefixes-layouts j x b w is (λ (q : ℕ). taken) (tableAt u) u (k .stands) (k .agrees) r
 
   -- A TURN
-  turn-fine : (v : Live) → Between x w v → FineBetween x w (turn x v)
-  turn-fine v h = by (isEmpty (v .marks .nodes)) refl
-    where
-      by : (c : Bool) → isEmpty (v .marks .nodes) ≡ c → let d : Did = elim c [ true ↦ takeRow x v | false ↦ takeNode x v ] in FineBetween x w d
-      by true e = row-fine v h
-      by false e = node-fine v h e
-
-  -- DRAINING
-  drain-fine : (n : ℕ) (v : Live) (k : Step) → contradicts k ≡ false → Between x w v → FineBetween x w (drain n x v k)
-  unfolding drain
-  drain-fine zero v k c h = (c, h)
-  drain-fine (suc n) v k c h = by (λ u l d q. drain-fine n u l d q) (atRest v) (contradicts (turn x v .step)) refl
-    where
-      t : FineBetween x w (turn x v)
-      t = turn-fine v h
-
-      by : ((u : Live) (l : Step) → contradicts l ≡ false → Between x w u → FineBetween x w (drain n x u l)) → (rest d : Bool) → contradicts (turn x v .step) ≡ d
-          → FineBetween x w (goes x n v k rest d)
-      by ih true d e = (c, h)
-      by ih false true e = absurd (clash (contradicts (turn x v .step)) e (t .0))
-      by ih false false e = ih (turn x v .live) (joined k (turn x v .step)) (joined-fine k (turn x v .step) c (t .0)) (t .1)
+  turn-fine : (v : Live) → atRest v ≡ false → Between x w v → FineBetween x w (turn x v)
+  turn-fine v e h = turn-ends x v (FineBetween x w) e (node-fine v h) (λ some. row-fine v h)
 
   -- SETTLING
   pub settle-fine : (v : Live) → Between x w v → FineBetween x w (settle x v)
-  settle-fine v h = drain-fine turns v Unchanged refl h
+  settle-fine v h =
+      settle-walks x (λ (_ : ℕ). Between x w) (FineBetween x w) (λ u k c p. (c, p)) (λ n u k c p e. (c, p)) (λ n u p e f. turn-fine u e p) (λ n u p e f. turn-fine u e p .1) v h

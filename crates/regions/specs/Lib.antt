@@ -1,2 +1,4 @@
 pub mod Drain
 pub mod Sift
+pub mod DrainLaws
+pub mod SiftLaws

@@ -1,10 +1,9 @@
 -- A record behind the seal: what the code makes of it is the definition's, and the buffers are those of the file behind it.
 -- Assumes nothing.
-use Prim.Native.Nat.{ℕ, zero, suc, _+_, _-_, _<_, _≤_}
+use Prim.Native.Nat.{ℕ, suc, _+_, _-_, _<_, _≤_}
 use native.Mathlib.Nat.{not-suc-le-zero, le-of-suc-le-suc}
 use native.Mathlib.Omega.{arith}
 use mathlib.Core.Path.{_≡_, refl, sym, ap, ap₂, subst, _∙_}
-use mathlib.Core.Bool.{Bool, true, false}
 use mathlib.Core.List.{List, [], _∷_, _++_, append-nil}
 use lib.ListN.{length, getD, set, drop, length-append, length-drop}
 use lib.Dec.{eqb}
@@ -14,25 +13,23 @@ use Rattle.memory.specs.Limits.{maxNodes}
 use Rattle.memory.specs.Buffers.{Built, Kept}
 use Rattle.lists.specs.Laid.{over, pairs}
 use Rattle.numeric.specs.Area.{weightOfArea}
-use Rattle.numeric.specs.Threshold.{Term, term, Job}
+use Rattle.numeric.specs.Threshold.{term, Job}
 use Rattle.state.specs.declared.Step.{Step}
-use Rattle.state.specs.declared.Step.the-variants.{Unchanged}
-use Rattle.state.specs.Step.{contradicts, isUnchanged}
 use Rattle.queues.specs.declared.Rings.{Rings}
-use Rattle.queues.specs.Queue.{oldest, isEmpty, nextRow}
+use Rattle.queues.specs.Queue.{oldest}
 use Rattle.queues.specs.Marks.{isDecided}
 use Rattle.thresholds.specs.Rows.{noRow}
-use Rattle.residual.specs.Residual.{Residual, thresholdResidual}
 use Rattle.possible_sums.specs.declared.Search.{Search}
 use Rattle.possible_sums.specs.declared.Search.the-variants.{Skipped, Fits, Nothing, Cut}
-use Rattle.possible_sums.specs.Search.{search, searchStep, searchVisits}
+use Rattle.possible_sums.specs.Search.{search, searchVisits}
 use Rattle.possible_sums.specs.SearchLaws.{search-visits}
 use Rattle.between.specs.Between.{Index, Live, live, Did, stateAt}
 use Rattle.between.specs.Numbers.{Tidy}
 use Rattle.regions.specs.Drain as Drain
 use Rattle.regions.specs.Drain.{indexOf}
 use Rattle.regions.specs.Sift as Sift
-use Rattle.regions.specs.Sift.{Sifted, tryRow, siftFrom}
+use Rattle.regions.specs.Sift.{Sifted, tryRow}
+use Rattle.regions.specs.SiftLaws.{tryTerms, tryResidual, trySearch, try-ends, sift-keeps}
 use Rattle.records.specs.declared.Record.{Record}
 use Rattle.records.specs.declared.Record.the-variants.{Header, Opens, Adds, Areas, Seal, Mark, Settle, Sift, Unknown}
 use Rattle.records.specs.declared.Standing.{Standing}
@@ -43,7 +40,6 @@ use Rattle.records.specs.Next.{kindAt, nextAt}
 use Rattle.records.specs.Facts.{adds}
 use Rattle.files.specs.File.{File, Answer, sifted, standing, refusal, told, markedFile, settledFile, siftedFile, act, apply, Outcome, outcome}
 use Rattle.files.specs.Contents.{answerNumber, answerVisits}
-use Rattle.ends.specs.SettlesLaws.{tries}
 use Rattle.ends.specs.FilesLaws.{both, taken, building-turn, change-turn}
 use Rattle.ends.specs.SizeLaws.{row-terms-few}
 use Rattle.settle.specs.Serves.{Serves, Going}
@@ -149,42 +145,13 @@ module _ (x : Index) (short : (r : ℕ) → length (getD (x .rows) r noRow .term
   few (Cut i) n m h k = k
 
   try-visits : (v : Live) (gcds : List ℕ) (n : ℕ) → n ≤ 4096 → tryRow x v gcds n .visits ≤ 4096
-  unfolding tryRow
-  try-visits v gcds n h = by (isUnchanged (a .step))
-    where
-      r : ℕ
-      r = oldest (v .residuals .queue)
+  try-visits v gcds n h =
+      let r = oldest (v .residuals .queue) in
+      try-ends x v gcds n (λ (t : Sifted). t .visits ≤ 4096)
+      (λ e. few (trySearch x v gcds) n 4096 h (omega (arith, search-visits (tryTerms x v) (stateAt v r) (isDecided (tryResidual x v gcds .marks)), short r))) (λ e. h)
 
-      ts : List Term
-      ts = getD (x .rows) r noRow .terms
-
-      a : Residual
-      a = thresholdResidual ts (stateAt v r) (v .marks) gcds
-
-      s : Search
-      s = search ts (stateAt v r) (isDecided (a .marks))
-
-      after : Live
-      after = live (v .states) (a .marks) (v .dirty) (nextRow (v .residuals))
-
-      by : (b : Bool) → let o : Sifted = elim b [ true ↦ Sift.sifted after (a .gcds) (searchStep s) (searchVisits n s) | false ↦ Sift.sifted after (a .gcds) (a .step) n ] in o .visits ≤ 4096
-      by true = few s n 4096 h (omega (arith, search-visits ts (stateAt v r) (isDecided (a .marks)), short r))
-      by false = h
-
-  sift-visits : (n : ℕ) (v : Live) (gcds : List ℕ) (k : Step) (m : ℕ) → m ≤ 4096 → siftFrom n x v gcds k m .visits ≤ 4096
-  unfolding siftFrom
-  sift-visits zero v gcds k m h = h
-  sift-visits (suc n) v gcds k m h =
-      by (λ u c i j q. sift-visits n u c i j q) (contradicts (d .step)) (isEmpty (d .live .residuals .queue)) (contradicts (tryRow x (d .live) gcds m .step))
-    where
-      d : Did
-      d = Drain.settle x v
-
-      by : ((u : Live) (c : List ℕ) (i : Step) (j : ℕ) → j ≤ 4096 → siftFrom n x u c i j .visits ≤ 4096) → (a b c : Bool) → tries x n v gcds k m a b c .visits ≤ 4096
-      by ih true b c = h
-      by ih false true c = h
-      by ih false false true = try-visits (d .live) gcds m h
-      by ih false false false = ih _ _ _ _ (try-visits (d .live) gcds m h)
+  sift-visits : (v : Live) (gcds : List ℕ) → Sift.sift x v gcds .visits ≤ 4096
+  sift-visits v gcds = sift-keeps x (λ (u : Live) (g : List ℕ) (m : ℕ). m ≤ 4096) (λ u g m h. h) (λ u g m e h. try-visits u g m h) v gcds (omega arith)
 
 pub came-visits : (bs : List ℤ) (b : Built) (f : File) → Lent bs b f → (r : Record) → came f r .visits ≤ 4096
 unfolding came
@@ -195,7 +162,7 @@ came-visits bs b f l (Areas c a) = omega arith
 came-visits bs b f l Seal = omega arith
 came-visits bs b f l (Mark n v) = omega arith
 came-visits bs b f l Settle = omega arith
-came-visits bs b f l Sift = sift-visits (indexOf (f .closed)) (row-terms-few (f .closed) (l .serving .good .closed)) Drain.turns (f .live) (f .gcds) Unchanged 0 (omega arith)
+came-visits bs b f l Sift = sift-visits (indexOf (f .closed)) (row-terms-few (f .closed) (l .serving .good .closed)) (f .live) (f .gcds)
 came-visits bs b f l Unknown = omega arith
 
 -- ---- answers in their places

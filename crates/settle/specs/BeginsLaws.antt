@@ -1,35 +1,32 @@
 -- A mark and a seal: what the code puts together is the definition's, and with them all is such that draining can begin. Assumes nothing.
-use Prim.Native.Nat.{ℕ, zero, suc, _+_, _-_, _<_, _≤_}
+use Prim.Native.Nat.{ℕ, zero, suc, _-_, _<_, _≤_}
 use native.Mathlib.Omega.{arith}
 use mathlib.Core.Path.{_≡_, ap, _∙_}
 use mathlib.Core.Bool.{Bool, true, false, cond}
-use mathlib.Core.List.{List, [], _∷_}
-use lib.ListN.{length, getD}
+use mathlib.Core.List.{List}
+use lib.ListN.{length}
 use lib.IntN.{ℤ}
 use Rattle.memory.specs.Limits.{maxNodes, maxTerms}
 use Rattle.memory.specs.Ranges.{totalLimit, figureLimit}
 use Rattle.memory.specs.Buffers.{HeldRows, Built}
 use Rattle.state.specs.declared.State.{State}
 use Rattle.state.specs.declared.Step.{Step}
-use Rattle.state.specs.declared.Step.the-variants.{Unchanged, Contradiction}
-use Rattle.state.specs.Step.{joined, contradicts}
+use Rattle.state.specs.declared.Step.the-variants.{Unchanged}
 use Rattle.queues.specs.Queue.{Rows}
 use Rattle.queues.specs.RowsLaws.{Flags}
 use Rattle.queues.specs.Marks.{Marks, Decided, decided, decide}
 use Rattle.queues.specs.MarksLaws.{Waits, waits-decide}
-use Rattle.thresholds.specs.Rows.{Row, noRow}
-use Rattle.between.specs.Between.{Index, Live, live, Did, did, runRow, firstStates, seedFrom}
+use Rattle.between.specs.Between.{Index, Live, live, Did, did, firstStates, seedFrom}
 use Rattle.between.specs.Held.{startBy, endBy, EdgesShaped, Shaped, Holds}
-use Rattle.between.specs.Ready.{Ready}
+use Rattle.between.specs.Ready.{Ready, Runnable}
 use Rattle.between.specs.ReadyLaws.{ready-states}
 use Rattle.between.specs.FirstLaws.{Totals, ready-first}
-use Rattle.between.specs.KeptLaws.{kept-seed}
+use Rattle.between.specs.KeptLaws.{kept-run}
 use Rattle.regions.specs.Drain.{withMarks, mark, seal}
+use Rattle.regions.specs.DrainLaws.{seal-keeps}
 use Rattle.ends.specs.TurnsLaws.{Sound}
 use Rattle.ends.specs.BuiltLaws.{seal-stays}
-use Rattle.follows.specs.RowCompleteLaws.{Ordered}
 use Rattle.follows.specs.WaitingLaws.{queued-decide}
-use Rattle.follows.specs.KeepsLaws.{Names}
 use Rattle.settle.specs.Serves.{Serves, owed, Tracked, Going}
 use Rattle.settle.specs.KeepingLaws.{low-decide, tracked-run}
 
@@ -92,20 +89,6 @@ module _ (h : HeldRows) (nodes edges : List (List ℕ)) (y : EdgesShaped h nodes
   pub owed-most : owed nodes taken (length nodes) ≤ maxTerms
   owed-most = omega (arith, owed-start (length nodes) (omega arith), start-most (length nodes) (omega arith))
 
-tracked-seed : (x : Index) (count n : ℕ) (taken : ℕ → Bool) → ((r : ℕ) → r < length (x .rows) → Ordered (getD (x .rows) r noRow)) → ((r : ℕ) → r < length (x .rows) → Names (λ (i : ℕ). i < count) (getD (x .rows) r noRow))
-    → (r : ℕ) (rs : List Row) (v : Live) (k : Step) → r + length rs ≤ n → Tracked count n taken v → Tracked count n taken (seedFrom x r rs v k .live)
-unfolding seedFrom
-tracked-seed x count n taken o a r [] v k l t = t
-tracked-seed x count n taken o a r (_ ∷ rs) v k l t = by (λ u j p. tracked-seed x count n taken o a (r + 1) rs u j (omega arith) p) (contradicts (runRow x v r .step))
-  where
-    first : Tracked count n taken (runRow x v r .live)
-    first = tracked-run x count n taken o a v r (omega arith) t
-
-    by : ((u : Live) (j : Step) → Tracked count n taken u → Tracked count n taken (seedFrom x (r + 1) rs u j .live)) → (c : Bool)
-        → let d : Did = elim c [ true ↦ did (runRow x v r .live) Contradiction | false ↦ seedFrom x (r + 1) rs (runRow x v r .live) (joined k (runRow x v r .step)) ] in Tracked count n taken (d .live)
-    by more true = first
-    by more false = more (runRow x v r .live) (joined k (runRow x v r .step)) first
-
 -- Memory that can be sealed: every decided node waits once, and none was drained.
 pub record Fresh (b : Built) (v : Live) : Type 0 where
   pub sound : Sound v
@@ -114,15 +97,15 @@ pub record Fresh (b : Built) (v : Live) : Type 0 where
 -- SEALING FRESH MEMORY, all is such that draining can begin.
 pub going-seal : (x : Index) (bounds : List ℤ) (b : Built) → Serves x bounds b → Totals totalLimit (b .held .row-conditions) (b .held .row-weights) (b .held .rows) → (v : Live) → Fresh b v
     → Going (b .held) (b .nodes) (seal x v .live)
-unfolding seal
 going-seal x bounds b s t v f = record {
   sound = seal-stays x (s .indexed) (omega (arith, s .holds .many, s .shaped .few)) v (f .sound);
   within = record {
     taken = none;
-    tracked = tracked-seed x (length (b .nodes)) (length (b .held .rows)) none (s .ordered) (s .names) 0 (x .rows) first Unchanged (omega (arith, s .holds .many))
+    tracked = seal-keeps x (Tracked (length (b .nodes)) (length (b .held .rows)) none)
+        (λ u r l p. tracked-run x (length (b .nodes)) (length (b .held .rows)) none (s .ordered) (s .names) u r (omega (arith, s .holds .many)) p) v
         (record { queued = f .tracked .queued; low = f .tracked .low; dirty = f .tracked .dirty; residuals = f .tracked .residuals });
     range = totalLimit;
-    runnable = kept-seed x (b .held) (s .holds) (s .shaped) totalLimit 0 (x .rows) first Unchanged (omega (arith, s .holds .many))
+    runnable = seal-keeps x (Runnable (b .held) totalLimit) (λ u r l p. kept-run x (b .held) (s .holds) (s .shaped) totalLimit u r (omega (arith, s .holds .many)) p) v
         (record {
           ready = ready-first x (b .held) (s .holds) (s .shaped) totalLimit t (v .states) (omega (arith, s .shaped .few, f .sound .long)) (v .marks) (f .sound .waits)
               (v .residuals) (f .sound .residuals);
@@ -134,6 +117,3 @@ going-seal x bounds b s t v f = record {
   where
     none : ℕ → Bool
     none n = false
-
-    first : Live
-    first = live (firstStates 0 (x .rows) (v .states)) (v .marks) (v .dirty) (v .residuals)

@@ -15,7 +15,7 @@ use Rattle.between.specs.Ready.{Runnable}
 use Rattle.ends.specs.TurnsLaws.{Indexed, Sound}
 use Rattle.queues.specs.Marks.{Marks, isDecided}
 use Rattle.follows.specs.RowCompleteLaws.{Ordered}
-use Rattle.follows.specs.KeepsLaws.{Names}
+use Rattle.between.specs.KeepsLaws.{Names}
 use Rattle.follows.specs.WaitingLaws.{Queued}
 
 -- What the seal built, with the bounds of the thresholds, holds the index, whose rows are such as a job gives. Each buffer is lent cut to what is filled of it: `nodes` has an entry for

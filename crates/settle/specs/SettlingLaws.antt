@@ -15,6 +15,7 @@ use Rattle.state.specs.declared.Step.the-variants.{Unchanged}
 use Rattle.state.specs.Step.{joined, contradicts}
 use Rattle.between.specs.Between.{Index, Live, Did, did}
 use Rattle.regions.specs.Drain.{turn, atRest, drain, turns, settle}
+use Rattle.regions.specs.DrainLaws.{drain-goes, settle-keeps}
 use Rattle.ends.specs.TurnsLaws.{left, left-most}
 use Rattle.ends.specs.SettlesLaws.{fall-turn}
 use Rattle.settle.specs.Serves.{Serves, Going}
@@ -27,13 +28,6 @@ Rest x v₀ k v = (n : ℕ) × (left v < n) × (drain n x v k ≡ settle x v₀)
 pub record Settling (bounds : List ℤ) (b : Built) (v₀ : Live) (k : Step) (v : Live) : Type 0 where
   pub going : Going (b .held) (b .nodes) v
   pub whole : (x : Index) → Serves x bounds b → Rest x v₀ k v
-
-abbrev goes : Index → ℕ → Live → Step → Did → Bool → Bool → Did
-goes x n v k t rest contradiction = elim rest [ true ↦ did v k | false ↦ elim contradiction [ true ↦ t | false ↦ drain n x (t .live) (joined k (t .step)) ] ]
-
-drain-goes : (x : Index) (n : ℕ) (v : Live) (k : Step) (a c : Bool) → atRest v ≡ a → contradicts (turn x v .step) ≡ c → drain (suc n) x v k ≡ goes x n v k (turn x v) a c
-unfolding drain
-drain-goes x n v k a c e f = ap (λ (i : Bool). goes x n v k (turn x v) i (contradicts (turn x v .step))) e ∙ ap (goes x n v k (turn x v) a) f
 
 pub settling-first : (bounds : List ℤ) (b : Built) (v₀ : Live) → Going (b .held) (b .nodes) v₀ → Settling bounds b v₀ Unchanged v₀
 settling-first bounds b v₀ g = record { going = g; whole = λ x s. (turns, left-most v₀ (g .sound), refl) }
@@ -76,22 +70,8 @@ module _ (bounds : List ℤ) (b : Built) (v₀ : Live) (k : Step) (v : Live) (l 
 
 -- ---- what can be drained stays such
 
-module _ (x : Index) (bounds : List ℤ) (b : Built) (s : Serves x bounds b) where
-  abbrev drains : ℕ → Live → Step → Bool → Bool → Did
-  drains n v k rest contradiction = elim rest [ true ↦ did v k | false ↦ elim contradiction [ true ↦ turn x v | false ↦ drain n x (turn x v .live) (joined k (turn x v .step)) ] ]
-
-  going-drain : (n : ℕ) (v : Live) (k : Step) → Going (b .held) (b .nodes) v → Going (b .held) (b .nodes) (drain n x v k .live)
-  unfolding drain
-  going-drain zero v k g = g
-  going-drain (suc n) v k g = by (λ u j h. going-drain n u j h) (atRest v) refl (contradicts (turn x v .step))
-    where
-      by : ((u : Live) (j : Step) → Going (b .held) (b .nodes) u → Going (b .held) (b .nodes) (drain n x u j .live)) → (a : Bool) → atRest v ≡ a → (c : Bool) → Going (b .held) (b .nodes) (drains n v k a c .live)
-      by more true e c = g
-      by more false e true = going-turn x bounds b s v g e
-      by more false e false = more (turn x v .live) (joined k (turn x v .step)) (going-turn x bounds b s v g e)
-
-  pub going-settle : (v : Live) → Going (b .held) (b .nodes) v → Going (b .held) (b .nodes) (settle x v .live)
-  going-settle v g = going-drain turns v Unchanged g
+pub going-settle : (x : Index) (bounds : List ℤ) (b : Built) → Serves x bounds b → (v : Live) → Going (b .held) (b .nodes) v → Going (b .held) (b .nodes) (settle x v .live)
+going-settle x bounds b s v g = settle-keeps x (Going (b .held) (b .nodes)) (λ u e p. going-turn x bounds b s u p e) v g
 
 -- Where something waits but no node does, a row does.
 pub row-waits : (a c : ℕ) → (eqb a 0 && eqb c 0) ≡ false → a ≡ 0 → 0 < c

@@ -4,12 +4,11 @@ use native.Mathlib.Nat.{not-suc-le-zero}
 use native.Mathlib.Decide.{ℕ-discrete, decLt}
 use native.Mathlib.Omega.{arith}
 use mathlib.Core.Path.{_≡_, refl, sym, ap, subst, _∙_}
-use mathlib.Core.Bool.{Bool, true, false, cond, _||_, _&&_}
+use mathlib.Core.Bool.{Bool, true, false, cond, _||_}
 use mathlib.Core.List.{List}
 use lib.Dec.{eqb}
 use lib.ListN.{length, getD, List·getD-eq-default}
 use lib.Pow.{pow-pos}
-use borrow.Author.Tests.{eqb-false}
 use lib.IntN.{ℤ}
 use Rattle.memory.specs.Limits.{maxNodes}
 use Rattle.memory.specs.Ranges.{drainLimit, roomLimit, figureLimit}
@@ -27,17 +26,20 @@ use Rattle.queues.specs.RowsLaws.{Flags, flags-next, oldest-row}
 use Rattle.queues.specs.Marks.{Marks, marks, isDecided}
 use Rattle.queues.specs.MarksLaws.{Waits, waits-popped}
 use Rattle.between.specs.Between.{Index, Live, live, Did, did, guardOf, thresholdCondition, thresholdPrefixes}
+use Rattle.between.specs.Handing.{after}
 use Rattle.between.specs.Held.{startBy, endBy}
+use Rattle.between.specs.WalkLaws.{Moves}
 use Rattle.between.specs.Ready.{Ready, Runnable}
 use Rattle.between.specs.KeptLaws.{runnable-more, runnable-by}
 use Rattle.between.specs.KeptHeldLaws.{edges-light, edges-many, kept-node, kept-links, kept-guard-of}
-use Rattle.regions.specs.Drain.{withMarks, takeNode, takeRow, turn, atRest}
+use Rattle.regions.specs.Drain.{takeNode, takeRow, turn, atRest}
+use Rattle.regions.specs.DrainLaws.{untaken, unrowed, nodeTold, nodeDrained, node-ends, row-ends, turn-ends}
 use Rattle.ends.specs.SettlesLaws.{fall-turn}
 use Rattle.follows.specs.AnswersLaws.{clash}
 use Rattle.follows.specs.StandsLaws.{also, also-other, also-this}
 use Rattle.follows.specs.WaitingLaws.{first-decided, first-fresh, queued-taken}
 use Rattle.settle.specs.Serves.{Serves, Among, owed, Tracked, Within, Going}
-use Rattle.settle.specs.KeepingLaws.{keep-guard-of, keep-condition, keep-links, among-next, oldest-among, tracked-run, tracked-put, tracked-wait}
+use Rattle.settle.specs.KeepingLaws.{Inside, keep-guard-of, keep-edges, keep-links, among-next, oldest-among, tracked-moves}
 
 -- ---- edges that are not drained yet
 
@@ -92,10 +94,6 @@ pub record NodeTaken (h : HeldRows) (count n : ℕ) (v : Live) : Type 0 where
   pub small : n < maxNodes
   pub run : Runnable h figureLimit v
 
--- The live state without its oldest node.
-abbrev pub untaken : Live → Live
-untaken v = withMarks v (marks (v .marks .sure) (v .marks .never) (popped maxNodes (v .marks .nodes)))
-
 module _ (x : Index) (bounds : List ℤ) (b : Built) (s : Serves x bounds b) (v : Live) (g : Going (b .held) (b .nodes) v) (some : 0 < v .marks .nodes .ring .count) where
   abbrev n : ℕ
   n = oldest (v .marks .nodes)
@@ -129,18 +127,20 @@ module _ (x : Index) (bounds : List ℤ) (b : Built) (s : Serves x bounds b) (v 
   }
 
   abbrev told : Did
-  told = guardOf x (untaken v) (x .thresholds) n
+  told = nodeTold x v
 
   told-run : Runnable (b .held) (w .range) (told .live)
   told-run = kept-guard-of x (b .held) (b .nodes) bounds (s .guarded) (s .holds-guards) n there (s .holds) (s .shaped) (w .range) (untaken v) first-run
 
+  moves : Moves x (Inside (b .held)) (Tracked (length (b .nodes)) (length (b .held .rows)) now)
+  moves = tracked-moves x (length (b .nodes)) (length (b .held .rows)) now (s .ordered) (s .names)
+
   told-tracked : Tracked (length (b .nodes)) (length (b .held .rows)) now (told .live)
   told-tracked =
-      keep-guard-of x (b .held) (Tracked (length (b .nodes)) (length (b .held .rows)) now) (tracked-run x (length (b .nodes)) (length (b .held .rows)) now (s .ordered) (s .names)) (tracked-put x (length (b .nodes)) (length (b .held .rows)) now (s .ordered) (s .names))
-      (tracked-wait x (length (b .nodes)) (length (b .held .rows)) now (s .ordered) (s .names)) (b .nodes) bounds (s .guarded) (s .holds-guards) n there (untaken v) first-tracked
+      keep-guard-of x (b .held) (Tracked (length (b .nodes)) (length (b .held .rows)) now) moves (b .nodes) bounds (s .guarded) (s .holds-guards) n there (untaken v) first-tracked
 
   abbrev then : Did
-  then = thresholdCondition x (told .live) n
+  then = nodeDrained x v
 
   then-run : Runnable (b .held) (w .range + (endBy 2 (b .nodes) n - startBy 2 (b .nodes) n) * drainLimit) (then .live)
   then-run =
@@ -149,25 +149,23 @@ module _ (x : Index) (bounds : List ℤ) (b : Built) (s : Serves x bounds b) (v 
 
   then-tracked : Tracked (length (b .nodes)) (length (b .held .rows)) now (then .live)
   then-tracked =
-      keep-condition x (b .held) (Tracked (length (b .nodes)) (length (b .held .rows)) now) (tracked-run x (length (b .nodes)) (length (b .held .rows)) now (s .ordered) (s .names)) (tracked-put x (length (b .nodes)) (length (b .held .rows)) now (s .ordered) (s .names))
-      (tracked-wait x (length (b .nodes)) (length (b .held .rows)) now (s .ordered) (s .names)) (told .live) n (edges-light x (b .held) (b .nodes) (b .edges) (s .edged) (s .holds-edges) n there) told-tracked
+      keep-edges x (b .held) (Tracked (length (b .nodes)) (length (b .held .rows)) now) moves (told .live) n
+      (edges-light x (b .held) (b .nodes) (b .edges) (s .edged) (s .holds-edges) n there) told-tracked
 
   less : owed (b .nodes) (w .taken) (length (b .nodes)) ≡ (endBy 2 (b .nodes) n - startBy 2 (b .nodes) n) + owed (b .nodes) now (length (b .nodes))
   less = owed-also (b .nodes) (w .taken) n (first-fresh (w .taken) (v .marks) (w .tracked .queued) some) (length (b .nodes)) there
 
   within-node : Within (b .held) (b .nodes) (takeNode x v .live)
-  unfolding takeNode
-  within-node = by (contradicts (told .step))
-    where
-      by : (c : Bool) → let d : Did = elim c [ true ↦ told | false ↦ did (then .live) (joined (told .step) (then .step)) ] in Within (b .held) (b .nodes) (d .live)
-      by true = record { taken = now; tracked = told-tracked; range = w .range; runnable = told-run; room = omega (arith, w .room, less) }
-      by false = record {
+  within-node =
+      node-ends x v (λ (d : Did). Within (b .held) (b .nodes) (d .live))
+      (λ e. record { taken = now; tracked = told-tracked; range = w .range; runnable = told-run; room = omega (arith, w .room, less) })
+      (λ e. record {
         taken = now;
         tracked = then-tracked;
         range = w .range + (endBy 2 (b .nodes) n - startBy 2 (b .nodes) n) * drainLimit;
         runnable = then-run;
         room = omega (arith, w .room, less);
-      }
+      })
 
   -- The node and the ring as the code has them.
   module _ (i : ℕ) (e : i ≡ n) (next : Ring) (f : next ≡ poppedRing maxNodes (v .marks .nodes .ring)) where
@@ -192,24 +190,15 @@ module _ (x : Index) (bounds : List ℤ) (b : Built) (s : Serves x bounds b) (v 
       pub node-next-run : Runnable (b .held) roomLimit (o .live)
       node-next-run = runnable-by (b .held) roomLimit o told guard-is (runnable-more (b .held) (w .range) roomLimit (told .live) (omega (arith, w .room)) told-run)
 
-      abbrev goes : Did → Bool → Did
-      goes t c = elim c [ true ↦ t | false ↦ did (thresholdCondition x (t .live) n .live) (joined (t .step) (thresholdCondition x (t .live) n .step)) ]
-
-      goes-is : (c : Bool) → contradicts (o .step) ≡ c → goes o c ≡ takeNode x v
-      unfolding takeNode
-      goes-is c h = ap (goes o) (sym h) ∙ ap (λ (t : Did). goes t (contradicts (t .step))) guard-is
-
       pub node-stop : contradicts (o .step) ≡ true → o ≡ takeNode x v
-      node-stop h = goes-is true h
+      node-stop h = node-ends x v (λ (d : Did). o ≡ d) (λ e. guard-is) (λ e. absurd (clash (contradicts (o .step)) h (ap (λ (t : Did). contradicts (t .step)) guard-is ∙ e)))
 
       pub node-next : contradicts (o .step) ≡ false → (c : Did) → c ≡ thresholdCondition x (o .live) i → (k : Step) → k ≡ joined (o .step) (c .step) → did (c .live) k ≡ takeNode x v
       node-next h c q k j =
-          ap (did (c .live)) j ∙ ap (λ (t : Did). did (t .live) (joined (o .step) (t .step))) (q ∙ ap (thresholdCondition x (o .live)) e) ∙ goes-is false h
+          node-ends x v (λ (d : Did). did (c .live) k ≡ d) (λ f. absurd (clash (contradicts (o .step)) (ap (λ (t : Did). contradicts (t .step)) guard-is ∙ f) h))
+          (λ f. ap (did (c .live)) j ∙ ap (after (o .step)) (q ∙ ap (thresholdCondition x (o .live)) e) ∙ ap (λ (t : Did). after (t .step) (thresholdCondition x (t .live) n)) guard-is)
 
 -- ---- a row is taken
-
-abbrev pub unrowed : Live → Live
-unrowed v = live (v .states) (v .marks) (nextRow (v .dirty)) (v .residuals)
 
 module _ (x : Index) (bounds : List ℤ) (b : Built) (s : Serves x bounds b) (v : Live) (g : Going (b .held) (b .nodes) v) (some : 0 < v .dirty .queue .ring .count) where
   abbrev r : ℕ
@@ -232,17 +221,17 @@ module _ (x : Index) (bounds : List ℤ) (b : Built) (s : Serves x bounds b) (v 
     residuals = y .tracked .residuals;
   }
 
+  row-moves : Moves x (Inside (b .held)) (Tracked (length (b .nodes)) (length (b .held .rows)) (y .taken))
+  row-moves = tracked-moves x (length (b .nodes)) (length (b .held .rows)) (y .taken) (s .ordered) (s .names)
+
   within-row : Within (b .held) (b .nodes) (takeRow x v .live)
-  unfolding takeRow
-  within-row = record {
+  within-row = row-ends x v (λ (d : Did). Within (b .held) (b .nodes) (d .live)) (record {
     taken = y .taken;
-    tracked = keep-links x (b .held) (Tracked (length (b .nodes)) (length (b .held .rows)) (y .taken)) (tracked-run x (length (b .nodes)) (length (b .held .rows)) (y .taken) (s .ordered) (s .names))
-        (tracked-put x (length (b .nodes)) (length (b .held .rows)) (y .taken) (s .ordered) (s .names)) (tracked-wait x (length (b .nodes)) (length (b .held .rows)) (y .taken) (s .ordered) (s .names)) (b .links) (s .linked) (s .holds-links) r is-row
-        (unrowed v) left-tracked;
+    tracked = keep-links x (b .held) (Tracked (length (b .nodes)) (length (b .held .rows)) (y .taken)) row-moves (b .links) (s .linked) (s .holds-links) r is-row (unrowed v) left-tracked;
     range = y .range;
     runnable = kept-links x (b .held) (b .links) (s .linked) (s .holds-links) r is-row (s .holds) (s .shaped) (y .range) (unrowed v) left-run;
     room = y .room;
-  }
+  })
 
 -- As slots hold them.
 module _ (k : ℕ) (slots : List (List ℕ)) (r : Ring) (f : Flags (rowsIn k slots r)) where
@@ -261,22 +250,18 @@ module _ (v : Live) (some : 0 < v .dirty .queue .ring .count) (rows residuals : 
   row-run h n a = record { ready = subst (Ready h n (v .states) (v .marks)) (sym f) (a .ready); dirty = subst Flags (sym e) (flags-next (v .dirty) (a .dirty) some) }
 
   pub row-is : (x : Index) (i : ℕ) → i ≡ oldest (v .dirty .queue) → (o : Did) → o ≡ thresholdPrefixes x (live (v .states) (v .marks) rows residuals) i → o ≡ takeRow x v
-  unfolding takeRow
   row-is x i g o made =
-      made
+      row-ends x v (λ (d : Did). o ≡ d)
+      (made
       ∙ ap (λ (q : Rows). thresholdPrefixes x (live (v .states) (v .marks) q residuals) i) e
       ∙ ap (λ (q : Rows). thresholdPrefixes x (live (v .states) (v .marks) (nextRow (v .dirty)) q) i) f
-      ∙ ap (thresholdPrefixes x (unrowed v)) g
+      ∙ ap (thresholdPrefixes x (unrowed v)) g)
 
 -- ---- a turn
 
 -- Every row can be run as it is.
 pub going-run : (h : HeldRows) (nodes : List (List ℕ)) (v : Live) → Going h nodes v → Runnable h figureLimit v
 going-run h nodes v g = let w = g .within in runnable-more h (w .range) figureLimit v (omega (arith, w .room)) (w .runnable)
-
-rest-of : (a b : Bool) → a ≡ true → (a && b) ≡ false → b ≡ false
-rest-of true b e h = h
-rest-of false b e h = absurd (clash false e refl)
 
 -- A row's turn, or a node's.
 abbrev turnOf : Index → Live → Bool → Did
@@ -286,8 +271,7 @@ pub turn-is : (x : Index) (v : Live) (o : Did) (row : Bool) → isEmpty (v .mark
 turn-is x v o row e h = h ∙ ap (turnOf x v) (sym e)
 
 pub going-turn : (x : Index) (bounds : List ℤ) (b : Built) → Serves x bounds b → (v : Live) → Going (b .held) (b .nodes) v → atRest v ≡ false → Going (b .held) (b .nodes) (turn x v .live)
-going-turn x bounds b s v g h = record { sound = fall-turn x (s .indexed) v (g .sound) h .0; within = by (isEmpty (v .marks .nodes)) refl }
-  where
-    by : (c : Bool) → isEmpty (v .marks .nodes) ≡ c → Within (b .held) (b .nodes) (turnOf x v c .live)
-    by true e = within-row x bounds b s v g (omega (arith, eqb-false (v .dirty .queue .ring .count) 0 (rest-of (isEmpty (v .marks .nodes)) (isEmpty (v .dirty .queue)) e h)))
-    by false e = within-node x bounds b s v g (omega (arith, eqb-false (v .marks .nodes .ring .count) 0 e))
+going-turn x bounds b s v g h = record {
+  sound = fall-turn x (s .indexed) v (g .sound) h .0;
+  within = turn-ends x v (λ (d : Did). Within (b .held) (b .nodes) (d .live)) h (within-node x bounds b s v g) (within-row x bounds b s v g);
+}

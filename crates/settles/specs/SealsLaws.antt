@@ -6,23 +6,22 @@ use Rattle.memory.specs.Limits.{maxThresholds}
 use Rattle.numeric.specs.Threshold.{Job}
 use Rattle.words.specs.Mask.{bit}
 use Rattle.thresholds.specs.Rows.{rowsOf}
-use Rattle.between.specs.Between.{Live, live, firstStates}
+use Rattle.between.specs.Between.{Live}
 use Rattle.regions.specs.Drain.{indexOf, seal}
 use Rattle.ends.specs.TurnsLaws as Turns
 use Rattle.ends.specs.BuiltLaws.{Fits, rows-few, first-long}
 use Rattle.table.specs.Table.{Table, start}
 use Rattle.follows.specs.FirstLaws.{Undrained, first-undrained}
 use Rattle.settles.specs.JobsLaws.{Rises, job-built, job-ordered, job-single}
-use Rattle.settles.specs.TurnedLaws.{Goes, seeds-go}
+use Rattle.settles.specs.TurnedLaws.{Goes, seals-go}
 
 -- The nodes that are decided, as a start of the table.
 abbrev pub ownStart : Live → Table
 ownStart v = start (bit (v .marks .sure)) (bit (v .marks .never))
 
 pub seal-goes : (j : Job) → Fits j → Rises (j .thresholds) → (v : Live) → Turns.Sound v → Undrained (length (rowsOf j)) v → Goes (indexOf j) (ownStart v) (seal (indexOf j) v)
-unfolding seal
 seal-goes j f rises v s u =
-    seeds-go j (indexOf j) (job-built j) (job-ordered j f) (job-single j rises) (ownStart v) (live (firstStates 0 (rowsOf j) (v .states)) (v .marks) (v .dirty) (v .residuals))
+    seals-go j (indexOf j) (job-built j) (job-ordered j f) (job-single j rises) (ownStart v) v
     (first-undrained (indexOf j) v (omega (arith, few, s .long)) (omega (arith, few, s .dirty .long)) (first-long 0 (rowsOf j) (v .states)) u)
   where
     few : length (rowsOf j) ≤ maxThresholds

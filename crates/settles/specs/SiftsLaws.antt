@@ -1,29 +1,23 @@
 -- A MARK keeps the invariant with one node more in its start, and A SIFTING keeps it from the nodes that are decided after it: what
 -- it decides beyond the rules is a start like any other.
-use Prim.Native.Nat.{ℕ, zero, suc, _<_}
+use Prim.Native.Nat.{ℕ, _<_}
 use mathlib.Core.Path.{_≡_, refl, sym, ap, subst}
 use mathlib.Core.Bool.{Bool, true, false, not}
 use mathlib.Core.List.{List}
 use mathlib.Core.Logic.{⊎-elim}
-use lib.ListN.{getD}
 use Rattle.memory.specs.Limits.{maxNodes}
-use Rattle.numeric.specs.Threshold.{Term, Job}
-use Rattle.state.specs.declared.Step.{Step}
-use Rattle.state.specs.declared.Step.the-variants.{Unchanged}
-use Rattle.state.specs.Step.{contradicts, isUnchanged}
+use Rattle.numeric.specs.Threshold.{Job}
+use Rattle.state.specs.Step.{contradicts}
 use Rattle.words.specs.Mask.{bit}
-use Rattle.queues.specs.Queue.{Rows, isEmpty, oldest, nextRow}
+use Rattle.queues.specs.Queue.{Rows, oldest, nextRow}
 use Rattle.queues.specs.Marks.{Marks, isDecided, Decided, decide}
 use Rattle.queues.specs.MarksLaws.{decide-new}
-use Rattle.thresholds.specs.Rows.{noRow}
-use Rattle.residual.specs.Residual.{Residual, thresholdResidual}
-use Rattle.possible_sums.specs.Search.{search, searchStep, searchVisits}
 use Rattle.between.specs.Between.{Index, Live, live, stateAt}
-use Rattle.regions.specs.Drain.{indexOf, mark, turns, settle}
-use Rattle.regions.specs.Sift.{Sifted, sifted, tryRow, siftFrom, sift}
+use Rattle.regions.specs.Drain.{indexOf, mark, settle}
+use Rattle.regions.specs.Sift.{Sifted, tryRow, sift}
+use Rattle.regions.specs.SiftLaws.{tryTerms, tryResidual, tryLive, try-leaves, sift-walks}
 use Rattle.ends.specs.KeepsLaws.{keeps-residual}
 use Rattle.ends.specs.TurnsLaws.{Indexed}
-use Rattle.ends.specs.SettlesLaws.{tries}
 use Rattle.ends.specs.BuiltLaws.{Fits, indexed}
 use Rattle.table.specs.Table.{Table, start}
 use Rattle.follows.specs.AnswersLaws.{true-false, clash}
@@ -88,34 +82,12 @@ own-decide x v m value n small h =
 -- A ROW IS TRIED
 try-keeps : (x : Index) → Indexed x → (v : Live) (gcds : List ℕ) (visits : ℕ) → Steady x (ownStart v) v
     → let w = tryRow x v gcds visits .live in Steady x (ownStart w) w
-unfolding tryRow
-try-keeps x ix v gcds visits h = by (isUnchanged (a .step))
-  where
-    r : ℕ
-    r = oldest (v .residuals .queue)
-
-    ts : List Term
-    ts = getD (x .rows) r noRow .terms
-
-    a : Residual
-    a = thresholdResidual ts (stateAt v r) (v .marks) gcds
-
-    w : Live
-    w = live (v .states) (a .marks) (v .dirty) (nextRow (v .residuals))
-
-    own : Own x v (a .marks)
-    own = keeps-residual (Own x v) (λ m value n small p. own-decide x v m value n small p) ts (stateAt v r) (v .marks) gcds (ix .conditions r) h
-
-    kept : Steady x (ownStart w) w
-    kept = other-residuals x (ownStart w) (live (v .states) (a .marks) (v .dirty) (v .residuals)) (nextRow (v .residuals)) own
-
-    by : (b : Bool)
-        → let d : Sifted = elim b [
-          | true ↦ sifted w (a .gcds) (searchStep (search ts (stateAt v r) (isDecided (a .marks)))) (searchVisits visits (search ts (stateAt v r) (isDecided (a .marks))))
-          | false ↦ sifted w (a .gcds) (a .step) visits
-        ] in Steady x (ownStart (d .live)) (d .live)
-    by true = kept
-    by false = kept
+try-keeps x ix v gcds visits h =
+    let r = oldest (v .residuals .queue) in
+    let m = tryResidual x v gcds .marks in
+    let own = keeps-residual (Own x v) (λ m value n small p. own-decide x v m value n small p) (tryTerms x v) (stateAt v r) (v .marks) gcds (ix .conditions r) h in
+    try-leaves x v gcds visits (λ (w : Live) (g : List ℕ). Steady x (ownStart w) w)
+    (other-residuals x (ownStart (tryLive x v gcds)) (live (v .states) m (v .dirty) (v .residuals)) (nextRow (v .residuals)) own)
 
 -- A SIFTING
 module _ (j : Job) (f : Fits j) (rises : Rises (j .thresholds)) where
@@ -125,23 +97,12 @@ module _ (j : Job) (f : Fits j) (rises : Rises (j .thresholds)) where
   settle-keeps : (v : Live) → Steady x (ownStart v) v → contradicts (settle x v .step) ≡ false → let w = settle x v .live in Steady x (ownStart w) w
   settle-keeps v h c = steady-own x _ _ (settle x v .live) (settle-goes j x (job-built j) (job-ordered j f) (job-single j rises) (ownStart v) v h .0 c)
 
-  abbrev Fine : Sifted → Type 0
-  Fine d = contradicts (d .step) ≡ false → Steady x (ownStart (d .live)) (d .live)
+  -- the nodes decided so far as a start
+  abbrev Rests : Live → Type 0
+  Rests v = Steady x (ownStart v) v
 
-  sift-from : (n : ℕ) (v : Live) (gcds : List ℕ) (k : Step) (visits : ℕ) → Steady x (ownStart v) v → Fine (siftFrom n x v gcds k visits)
-  unfolding siftFrom
-  sift-from zero v gcds k visits h = λ c. h
-  sift-from (suc n) v gcds k visits h =
-      by (λ u g i m t. sift-from n u g i m t) (contradicts (settle x v .step)) refl (isEmpty (settle x v .live .residuals .queue))
-      (contradicts (tryRow x (settle x v .live) gcds visits .step)) refl
-    where
-      by : ((u : Live) (g : List ℕ) (i : Step) (m : ℕ) → Steady x (ownStart u) u → Fine (siftFrom n x u g i m))
-          → (a : Bool) → contradicts (settle x v .step) ≡ a → (b c : Bool) → contradicts (tryRow x (settle x v .live) gcds visits .step) ≡ c → Fine (tries x n v gcds k visits a b c)
-      by ih true p b c q o = absurd (clash true refl o)
-      by ih false p true c q o = settle-keeps v h p
-      by ih false p false true q o = absurd (clash (contradicts (tryRow x (settle x v .live) gcds visits .step)) q o)
-      by ih false p false false q o = ih _ _ _ _ (try-keeps x (indexed j f) (settle x v .live) gcds visits (settle-keeps v h p)) o
-
-  pub sift-keeps : (v : Live) (gcds : List ℕ) → Steady x (ownStart v) v → contradicts (sift x v gcds .step) ≡ false
-      → let w = sift x v gcds .live in Steady x (ownStart w) w
-  sift-keeps v gcds h c = sift-from turns v gcds Unchanged 0 h c
+  pub sift-keeps : (v : Live) (gcds : List ℕ) → Rests v → contradicts (sift x v gcds .step) ≡ false → Rests (sift x v gcds .live)
+  sift-keeps v gcds h =
+      sift-walks x (λ (n : ℕ) (u : Live) (g : List ℕ) (m : ℕ). Rests u) (λ (t : Sifted). contradicts (t .step) ≡ false → Rests (t .live)) (λ u g m k c p o. p)
+      (λ n u g m p e o. absurd (clash true refl o)) (λ n u g m k c p e i o. settle-keeps u p e) (λ n u g m p e i q o. absurd (clash _ q o))
+      (λ n u g m p e i q. try-keeps x (indexed j f) (settle x u .live) g m (settle-keeps u p e)) v gcds h

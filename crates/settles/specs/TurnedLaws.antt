@@ -1,31 +1,30 @@
 -- EACH TURN KEEPS THE INVARIANT OF DRAINING or contradicts, and so do a seal and a settling. Between turns every node that was
 -- taken is drained into every row and told, every row was run, and none is handing on; so where nothing waits, the table rests.
-use Prim.Native.Nat.{ℕ, zero, suc, _+_, _<_}
+use Prim.Native.Nat.{ℕ, _+_, _<_}
 use native.Mathlib.Omega.{arith}
 use native.Mathlib.Decide.{ℕ-discrete}
 use mathlib.Core.Path.{_≡_, refl, sym, ap, _∙_, subst}
 use mathlib.Core.Bool.{Bool, true, false}
-use mathlib.Core.List.{List, [], _∷_, List·Memᴰ, List·Memᴰ·head, List·Memᴰ·tail, List·Memᴰ·cases-cons, List·Memᴰ·not-nil}
-use mathlib.Core.Logic.{⊎-elim, _≢_}
+use mathlib.Core.List.{List}
 use lib.ListN.{length, getD}
 use lib.Dec.{eqb}
-use borrow.Author.Tests.{eqb-true, eqb-false, ne-eqb}
-use Rattle.memory.specs.Limits.{maxNodes, maxThresholds}
-use Rattle.numeric.specs.Threshold.{Threshold, Job}
+use borrow.Author.Tests.{ne-eqb}
+use Rattle.memory.specs.Limits.{maxThresholds}
+use Rattle.numeric.specs.Threshold.{Job}
 use Rattle.state.specs.declared.Step.{Step}
-use Rattle.state.specs.declared.Step.the-variants.{Unchanged, Contradiction}
-use Rattle.state.specs.Step.{joined, contradicts}
-use Rattle.queues.specs.Queue.{isEmpty, oldest, popped, nextRow}
+use Rattle.state.specs.Step.{contradicts}
+use Rattle.queues.specs.Queue.{isEmpty, oldest}
 use Rattle.queues.specs.QueueLaws.{empty-none}
 use Rattle.queues.specs.OnceLaws.{times, times-none}
 use Rattle.queues.specs.RowsLaws.{Flags}
 use Rattle.queues.specs.Marks.{marks, isDecided}
 use Rattle.thresholds.specs.Rows.{Row, noRow}
-use Rattle.between.specs.Between.{Index, Live, live, Did, did, stateAt, runRow, thresholdGuard, guardOf, thresholdCondition, seedFrom}
-use Rattle.regions.specs.Drain.{withMarks, takeNode, takeRow, turn, atRest, drain, turns, settle}
-use Rattle.ends.specs.SettlesLaws.{goes}
+use Rattle.between.specs.Between.{Index, Live, live, Did, did, stateAt, runRow, thresholdGuard, guardOf}
+use Rattle.between.specs.WalkLaws.{guard-of-ends}
+use Rattle.regions.specs.Drain.{seal, takeNode, takeRow, turn, atRest, settle}
+use Rattle.regions.specs.DrainLaws.{begun, untaken, unrowed, nodeTold, nodeDrained, node-ends, row-ends, turn-ends, seal-walks, settle-walks}
 use Rattle.table.specs.Table.{Table, IsRow, knownOf, possibleOf, AtRest}
-use Rattle.follows.specs.AnswersLaws.{clash, and-left, and-right, joined-fine, joined-which, joined-right}
+use Rattle.follows.specs.AnswersLaws.{clash, and-left, and-right, joined-which, joined-right}
 use Rattle.follows.specs.DecideLaws.{Broken}
 use Rattle.follows.specs.RowCompleteLaws.{Ordered}
 use Rattle.follows.specs.StandsLaws.{tableAt, also, also-this, also-other, also-before}
@@ -76,48 +75,29 @@ seeded ran = record { drained = λ (r n : ℕ). false; told = λ (n : ℕ). fals
 
 module _ (j : Job) (x : Index) (b : Built j x) (ordered : (r : ℕ) → IsRow (x .rows) r → Ordered (getD (x .rows) r noRow)) (single : Single (x .rows)) (s : Table) where
   -- THE GUARD OF A NODE is told, or there is none
-  guard-of : (l : Ledger) (v : Live) (n : ℕ) → Sound x s l v → isDecided (v .marks) n ≡ true → (ts : List Threshold)
-      → ((t : Threshold) → List·Memᴰ t ts → List·Memᴰ t (x .thresholds)) → ((t : Threshold) → List·Memᴰ t (x .thresholds) → t .node ≡ n → List·Memᴰ t ts)
-      → Leads x s (tells n l) (guardOf x v ts n)
-  unfolding guardOf
-  guard-of l v n h d [] sub rest =
-      (λ c. plain-told j x b ordered single s l v h n d (λ t m e. List·Memᴰ·not-nil (rest t m e)), λ c. absurd (clash false c refl))
-  guard-of l v n h d (t ∷ ts) sub rest =
-      by (λ q. guard-of l v n h d ts (λ u m. sub u (List·Memᴰ·tail m)) (later q)) (eqb (t .node) n) refl
-    where
-      later : t .node ≢ n → (u : Threshold) → List·Memᴰ u (x .thresholds) → u .node ≡ n → List·Memᴰ u ts
-      later q u m e = ⊎-elim (λ (k : u ≡ t). absurd (q (ap (λ (y : Threshold). y .node) (sym k) ∙ e))) (λ k. k) (List·Memᴰ·cases-cons (rest u m e))
-
-      by : (t .node ≢ n → Leads x s (tells n l) (guardOf x v ts n)) → (c : Bool) → eqb (t .node) n ≡ c
-          → let k : Did = elim c [ true ↦ thresholdGuard x v t | false ↦ guardOf x v ts n ] in Leads x s (tells n l) k
-      by ih true e =
-          let q = eqb-true (t .node) n e in
-          subst (λ (i : ℕ). Leads x s (tells i l) (thresholdGuard x v t)) q
-          (guard-leads j x b ordered single s l v h t (sub t (List·Memᴰ·head refl)) (subst (λ (i : ℕ). isDecided (v .marks) i ≡ true) (sym q) d))
-      by ih false e = ih (eqb-false (t .node) n e)
+  guard-of : (l : Ledger) (v : Live) (n : ℕ) → Sound x s l v → isDecided (v .marks) n ≡ true → Leads x s (tells n l) (guardOf x v (x .thresholds) n)
+  guard-of l v n h d =
+      guard-of-ends x v n (Leads x s (tells n l)) (x .thresholds)
+      (λ t m q. subst (λ (i : ℕ). Leads x s (tells i l) (thresholdGuard x v t)) q (guard-leads j x b ordered single s l v h t m (subst (λ (i : ℕ). isDecided (v .marks) i ≡ true) (sym q) d)))
+      (λ none. (λ c. plain-told j x b ordered single s l v h n d none, λ c. absurd (clash false c refl)))
 
   -- A NODE IS TAKEN
-  node-goes : (v : Live) → Steady x s v → isEmpty (v .marks .nodes) ≡ false → Goes x s (takeNode x v)
-  unfolding takeNode
-  node-goes v (l, e, h) f = by (contradicts (g .step)) refl
+  node-goes : (v : Live) → Steady x s v → 0 < v .marks .nodes .ring .count → Goes x s (takeNode x v)
+  node-goes v (l, e, h) some =
+      node-ends x v (Goes x s) (λ q. (λ o. absurd (clash (contradicts (g .step)) q o), told .1))
+      (λ q. (λ o. (all, even, drains-all q .0 (joined-right (g .step) (c .step) o)), λ o. drains-all q .1 (joined-which (g .step) (c .step) q o)))
     where
-      some : 0 < v .marks .nodes .ring .count
-      some = omega (arith, eqb-false (v .marks .nodes .ring .count) 0 f)
-
       n : ℕ
       n = oldest (v .marks .nodes)
 
-      w : Live
-      w = withMarks v (marks (v .marks .sure) (v .marks .never) (popped maxNodes (v .marks .nodes)))
-
       g : Did
-      g = guardOf x w (x .thresholds) n
-
-      told : Leads x s (tells n (takes n l)) g
-      told = guard-of (takes n l) w n (node-taken x s l v h some) (taken-decided x s l v h some) (x .thresholds) (λ t m. m) (λ t m q. m)
+      g = nodeTold x v
 
       c : Did
-      c = thresholdCondition x (g .live) n
+      c = nodeDrained x v
+
+      told : Leads x s (tells n (takes n l)) g
+      told = guard-of (takes n l) (untaken v) n (node-taken x s l v h some) (taken-decided x s l v h some)
 
       all : Ledger
       all = drains n (tells n (takes n l))
@@ -131,24 +111,18 @@ module _ (j : Job) (x : Index) (b : Built j x) (ordered : (r : ℕ) → IsRow (x
         none = e .none;
       }
 
-      by : (z : Bool) → contradicts (g .step) ≡ z → let d : Did = elim z [ true ↦ g | false ↦ did (c .live) (joined (g .step) (c .step)) ] in Goes x s d
-      by true q = (λ o. absurd (clash (contradicts (g .step)) q o), told .1)
-      by false q =
+      drains-all : contradicts (g .step) ≡ false → Leads x s all c
+      drains-all q =
           let k = told .0 q in
-          let a = condition-leads j x b ordered single s (tells n (takes n l)) (g .live) k n
-          (k .told .decided n (also-this n (l .told) n refl)) (λ r. e .fresh r n (taken-fresh x s l v h some)) in (
-            λ o. (all, even, a .0 (joined-right (g .step) (c .step) o)),
-            λ o. a .1 (joined-which (g .step) (c .step) q o),
-          )
+          condition-leads j x b ordered single s (tells n (takes n l)) (g .live) k n (k .told .decided n (also-this n (l .told) n refl)) (λ r. e .fresh r n (taken-fresh x s l v h some))
 
   -- A ROW IS TAKEN
   row-goes : (v : Live) → Steady x s v → Goes x s (takeRow x v)
-  unfolding takeRow
   row-goes v (l, e, h) =
       let r = oldest (v .dirty .queue) in
       let k : Ledger = record { drained = l .drained; told = l .told; taken = l .taken; ran = l .ran; handing = λ (q : ℕ). eqb q r } in
-      let w = live (v .states) (v .marks) (nextRow (v .dirty)) (v .residuals) in
-      let a = prefixes-leads j x b ordered single s k w (row-taken x s l v h (e .none)) r refl in (
+      let a = prefixes-leads j x b ordered single s k (unrowed v) (row-taken x s l v h (e .none)) r refl in
+      row-ends x v (Goes x s) (
         λ c. (
           record { drained = l .drained; told = l .told; taken = l .taken; ran = l .ran; handing = λ (q : ℕ). false },
           record { drained = e .drained; fresh = e .fresh; told = e .told; ran = e .ran; none = refl },
@@ -157,69 +131,43 @@ module _ (j : Job) (x : Index) (b : Built j x) (ordered : (r : ℕ) → IsRow (x
         a .1,
       )
 
-  pub turn-goes : (v : Live) → Steady x s v → Goes x s (turn x v)
-  turn-goes v h = by (isEmpty (v .marks .nodes)) refl
-    where
-      by : (c : Bool) → isEmpty (v .marks .nodes) ≡ c → let d : Did = elim c [ true ↦ takeRow x v | false ↦ takeNode x v ] in Goes x s d
-      by true e = row-goes v h
-      by false e = node-goes v h e
+  turn-goes : (v : Live) → atRest v ≡ false → Steady x s v → Goes x s (turn x v)
+  turn-goes v e h = turn-ends x v (Goes x s) e (node-goes v h) (λ some. row-goes v h)
 
-  -- DRAINING
-  pub drain-goes : (n : ℕ) (v : Live) (k : Step) → contradicts k ≡ false → Steady x s v → Goes x s (drain n x v k)
-  unfolding drain
-  drain-goes zero v k c h = (λ o. h, λ o. absurd (clash (contradicts k) o c))
-  drain-goes (suc n) v k c h = by (λ u i f t. drain-goes n u i f t) (atRest v) (contradicts (turn x v .step)) refl
-    where
-      a : Goes x s (turn x v)
-      a = turn-goes v h
-
-      by : ((u : Live) (i : Step) → contradicts i ≡ false → Steady x s u → Goes x s (drain n x u i)) → (z y : Bool) → contradicts (turn x v .step) ≡ y → Goes x s (goes x n v k z y)
-      by ih true y q = (λ o. h, λ o. absurd (clash (contradicts k) o c))
-      by ih false true q = (λ o. absurd (clash (contradicts (turn x v .step)) q o), a .1)
-      by ih false false q = ih (turn x v .live) (joined k (turn x v .step)) (joined-fine k (turn x v .step) c q) (a .0 q)
+  -- nothing is done any more, and nothing contradicted
+  ended : (v : Live) (k : Step) → contradicts k ≡ false → Steady x s v → Goes x s (did v k)
+  ended v k c h = (λ o. h, λ o. absurd (clash (contradicts k) o c))
 
   -- A SETTLING
   pub settle-goes : (v : Live) → Steady x s v → Goes x s (settle x v)
-  settle-goes v h = drain-goes turns v Unchanged refl h
+  settle-goes v h =
+      settle-walks x (λ (_ : ℕ). Steady x s) (Goes x s) ended (λ n u k c p e. ended u k c p) (λ n u p e f. turn-goes u e p) (λ n u p e f. turn-goes u e p .0 f) v h
 
   -- A SEAL: each row is run once
-  seed-goes : (r : ℕ) (rs : List Row) (v : Live) (k : Step) (ran : ℕ → Bool) → r + length rs ≡ length (x .rows) → ((q : ℕ) → q < r → ran q ≡ true)
-      → contradicts k ≡ false → Sound x s (seeded ran) v → Goes x s (seedFrom x r rs v k)
-  unfolding seedFrom
-  seed-goes r [] v k ran e past c h = (
-    λ o. (
-      seeded ran,
-      record {
-        drained = λ q n f. absurd (clash false f refl);
-        fresh = λ q n f. refl;
-        told = λ n f. absurd (clash false f refl);
-        ran = λ q i. past q (omega arith);
-        none = refl;
-      },
-      h,
-    ),
-    λ o. absurd (clash (contradicts k) o c),
+
+  -- the rows before one were run, and nothing else was done
+  abbrev Ran : ℕ → Live → Type 0
+  Ran r v = (ran : ℕ → Bool) × ((q : ℕ) → q < r → ran q ≡ true) × Sound x s (seeded ran) v
+
+  ran-all : (v : Live) → Ran (length (x .rows)) v → Steady x s v
+  ran-all v (ran, past, h) = (
+    seeded ran,
+    record { drained = λ q n f. absurd (clash false f refl); fresh = λ q n f. refl; told = λ n f. absurd (clash false f refl); ran = past; none = refl },
+    h,
   )
-  seed-goes r (y ∷ rs) v k ran e past c h = by (λ i t f a. seed-goes (r + 1) rs (runRow x v r .live) i t (omega arith) f a) (contradicts (runRow x v r .step)) refl
+
+  ran-next : (r : ℕ) (v : Live) → r < length (x .rows) → Ran r v → contradicts (runRow x v r .step) ≡ false → Ran (r + 1) (runRow x v r .live)
+  ran-next r v l (ran, past, h) c = (also r ran, (λ q i. at q i (ℕ-discrete q r)), run-leads j x b ordered single s (seeded ran) v h r l .0 c)
     where
-      first : Leads x s (seeded (also r ran)) (runRow x v r)
-      first = run-leads j x b ordered single s (seeded ran) v h r (omega arith)
+      at : (q : ℕ) → q < r + 1 → Dec (q ≡ r) → also r ran q ≡ true
+      at q i (yes o) = also-this r ran q o
+      at q i (no o) = also-before r ran q (past q (omega arith))
 
-      before : (q : ℕ) → q < r + 1 → also r ran q ≡ true
-      before q i = at (ℕ-discrete q r)
-        where
-          at : Dec (q ≡ r) → also r ran q ≡ true
-          at (yes o) = also-this r ran q o
-          at (no o) = also-before r ran q (past q (omega arith))
-
-      by : ((i : Step) (t : ℕ → Bool) → ((q : ℕ) → q < r + 1 → t q ≡ true) → contradicts i ≡ false → Sound x s (seeded t) (runRow x v r .live) → Goes x s (seedFrom x (r + 1) rs (runRow x v r .live) i))
-          → (z : Bool) → contradicts (runRow x v r .step) ≡ z
-          → let d : Did = elim z [ true ↦ did (runRow x v r .live) Contradiction | false ↦ seedFrom x (r + 1) rs (runRow x v r .live) (joined k (runRow x v r .step)) ] in Goes x s d
-      by ih true q = (λ o. absurd (clash true refl o), λ o. first .1 q)
-      by ih false q = ih (joined k (runRow x v r .step)) (also r ran) before (joined-fine k (runRow x v r .step) c q) (first .0 q)
-
-  pub seeds-go : (v : Live) → Sound x s (seeded (λ (r : ℕ). false)) v → Goes x s (seedFrom x 0 (x .rows) v Unchanged)
-  seeds-go v h = seed-goes 0 (x .rows) v Unchanged (λ (r : ℕ). false) (omega arith) (λ q i. absurd (omega arith)) refl h
+  pub seals-go : (v : Live) → Sound x s (seeded (λ (r : ℕ). false)) (begun x v) → Goes x s (seal x v)
+  seals-go v h =
+      seal-walks x Ran (Goes x s) (λ u k c p. ended u k c (ran-all u p))
+      (λ r u l p c. (λ o. absurd (clash (contradicts (runRow x u r .step)) c o), λ o. run-leads j x b ordered single s (seeded (p .0)) u (p .2) r l .1 c)) ran-next
+      v ((λ (r : ℕ). false), (λ q i. absurd (omega arith)), h)
 
   -- NOTHING WAITS: the nodes and figures are a rest of the table
   module _ (v : Live) (h : Steady x s v) (rest : atRest v ≡ true) (flags : Flags (v .dirty)) where

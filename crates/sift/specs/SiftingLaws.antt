@@ -19,6 +19,7 @@ use Rattle.between.specs.LoopLaws.{joined-assoc}
 use Rattle.between.specs.KeptLaws.{runnable-more}
 use Rattle.regions.specs.Drain.{turns, settle}
 use Rattle.regions.specs.Sift.{Sifted, sifted, tryRow, siftFrom, sift}
+use Rattle.regions.specs.SiftLaws.{tries, sift-tries, sift-keeps}
 use Rattle.ends.specs.TurnsLaws.{left, left-most}
 use Rattle.ends.specs.SettlesLaws.{settle-stays, fall-try}
 use Rattle.follows.specs.AnswersLaws.{clash}
@@ -61,17 +62,8 @@ module _ (d : Did) (t : Sifted) (gcds : List ℕ) (visits : ℕ) where
     ]
   ]
 
-  abbrev tries : (Live → List ℕ → Step → ℕ → Sifted) → Step → Bool → Bool → Bool → Sifted
-  tries next k settled none failed = elim settled [
-    | true ↦ sifted (d .live) gcds Contradiction visits
-    | false ↦ elim none [
-      | true ↦ sifted (d .live) gcds (joined k (d .step)) visits
-      | false ↦ elim failed [ true ↦ t | false ↦ next (t .live) (t .gcds) (joined (joined k (d .step)) (t .step)) (t .visits) ]
-    ]
-  ]
-
   round-tries : (next : Live → List ℕ → Step → ℕ → Sifted) (k : Step) (a b c : Bool) → contradicts (d .step) ≡ a → contradicts (t .step) ≡ c
-      → goesOn k (picks a b) next ≡ tries next k a b c
+      → goesOn k (picks a b) next ≡ tries next d t gcds visits k a b c
   round-tries next k true b c e f = refl
   round-tries next k false true c e f =
       ap (λ (i : Bool). cond i (sifted (d .live) gcds (d .step) visits) (sifted (d .live) gcds (joined k (d .step)) visits)) e
@@ -85,11 +77,11 @@ module _ (d : Did) (t : Sifted) (gcds : List ℕ) (visits : ℕ) where
       ∙ ap (λ (i : Step). next (t .live) (t .gcds) i (t .visits)) (sym (joined-assoc k (d .step) (t .step)))
 
 pub sift-round : (x : Index) (n : ℕ) (v : Live) (gcds : List ℕ) (k : Step) (visits : ℕ) → goesOn k (once x v gcds visits) (siftFrom n x) ≡ siftFrom (suc n) x v gcds k visits
-unfolding once siftFrom
+unfolding once
 sift-round x n v gcds k visits =
     let d = settle x v in
     let t = tryRow x (d .live) gcds visits in
-    round-tries d t gcds visits (siftFrom n x) k (contradicts (d .step)) (isEmpty (d .live .residuals .queue)) (contradicts (t .step)) refl refl
+    round-tries d t gcds visits (siftFrom n x) k (contradicts (d .step)) (isEmpty (d .live .residuals .queue)) (contradicts (t .step)) refl refl ∙ sym (sift-tries x n v gcds k visits)
 
 -- The round as the code makes it: what was settled, and what was tried.
 module _ (x : Index) (v : Live) (gcds : List ℕ) (visits : ℕ) (d : Did) (made : d ≡ settle x v) where
@@ -155,26 +147,9 @@ module _ (x : Index) (bounds : List ℤ) (b : Built) (s : Serves x bounds b) whe
       )
 
 -- Behind all rounds too, whatever they answer.
-module _ (x : Index) (bounds : List ℤ) (b : Built) (s : Serves x bounds b) where
-  going-from : (n : ℕ) (v : Live) (gcds : List ℕ) (k : Step) (visits : ℕ) → Going (b .held) (b .nodes) v → Going (b .held) (b .nodes) (siftFrom n x v gcds k visits .live)
-  unfolding siftFrom
-  going-from zero v gcds k visits g = g
-  going-from (suc n) v gcds k visits g =
-      subst (λ (t : Sifted). Going (b .held) (b .nodes) (t .live)) (sift-round x n v gcds k visits)
-      (by (λ u c i m h. going-from n u c i m h) (once x v gcds visits) (going-once x bounds b s v gcds visits g .0))
-    where
-      by : ((u : Live) (c : List ℕ) (i : Step) (m : ℕ) → Going (b .held) (b .nodes) u → Going (b .held) (b .nodes) (siftFrom n x u c i m .live))
-          → (o : Round) → Going (b .held) (b .nodes) (o .sifted .live) → Going (b .held) (b .nodes) (goesOn k o (siftFrom n x) .live)
-      by more o h = goes (contradicts (o .sifted .step)) (o .more)
-        where
-          goes : (c m : Bool) → let t = o .sifted in
-              Going (b .held) (b .nodes) (cond c t (cond m (siftFrom n x (t .live) (t .gcds) (joined k (t .step)) (t .visits)) (sifted (t .live) (t .gcds) (joined k (t .step)) (t .visits))) .live)
-          goes true m = h
-          goes false true = more (o .sifted .live) (o .sifted .gcds) (joined k (o .sifted .step)) (o .sifted .visits) h
-          goes false false = h
-
-  pub going-sift : (v : Live) (gcds : List ℕ) → Going (b .held) (b .nodes) v → Going (b .held) (b .nodes) (sift x v gcds .live)
-  going-sift v gcds g = going-from turns v gcds Unchanged 0 g
+pub going-sift : (x : Index) (bounds : List ℤ) (b : Built) → Serves x bounds b → (v : Live) (gcds : List ℕ) → Going (b .held) (b .nodes) v → Going (b .held) (b .nodes) (sift x v gcds .live)
+going-sift x bounds b s v gcds g =
+    sift-keeps x (λ (u : Live) (c : List ℕ) (m : ℕ). Going (b .held) (b .nodes) u) (λ u c m h. going-settle x bounds b s u h) (λ u c m e h. going-try x bounds b s u h c m e) v gcds g
 
 -- ---- the loop
 

@@ -31,6 +31,7 @@ use Rattle.between.specs.Between.{Index, Live, live, stateAt}
 use Rattle.between.specs.Held.{startBy, endBy, heldTerms}
 use Rattle.regions.specs.Drain.{withMarks}
 use Rattle.regions.specs.Sift.{Sifted, sifted, tryRow}
+use Rattle.regions.specs.SiftLaws.{tryResidual, tryLive, try-row, try-leaves}
 use Rattle.ends.specs.KeepsLaws.{keeps-residual}
 use Rattle.ends.specs.SettlesLaws.{fall-try}
 use Rattle.follows.specs.WaitingLaws.{Queued, queued-decide}
@@ -107,7 +108,6 @@ module _ (h : HeldRows) (v : Live) (gcds words : List ℕ) (t : Tries h v gcds w
     pub try-is : (s : State) → s ≡ stateAt v r → (rows : Rows) → rows ≡ v .dirty → (residuals : Rows) → residuals ≡ nextRow (v .residuals) → (x : Index) (visits : ℕ)
         → getD (x .rows) r noRow .terms ≡ heldTerms h r → (o : Sifted)
         → o ≡ tried (terms (stretch a b (h .row-conditions)) (stretch a b (h .row-weights))) s (live (v .states) (v .marks) rows residuals) gcds visits → o ≡ tryRow x v gcds visits
-    unfolding tryRow
     try-is s f rows k residuals g x visits z o made =
         made
         ∙ ap (λ (j : ℕ). tried (terms (stretch j b (h .row-conditions)) (stretch j b (h .row-weights))) s (live (v .states) (v .marks) rows residuals) gcds visits) p
@@ -116,7 +116,7 @@ module _ (h : HeldRows) (v : Live) (gcds words : List ℕ) (t : Tries h v gcds w
         ∙ ap (λ (u : State). tried (getD (x .rows) r noRow .terms) u (live (v .states) (v .marks) rows residuals) gcds visits) f
         ∙ ap (λ (q : Rows). tried (getD (x .rows) r noRow .terms) (stateAt v r) (live (v .states) (v .marks) q residuals) gcds visits) k
         ∙ ap (λ (q : Rows). tried (getD (x .rows) r noRow .terms) (stateAt v r) (live (v .states) (v .marks) (v .dirty) q) gcds visits) g
-        ∙ ap (λ (j : ℕ). tried (getD (x .rows) j noRow .terms) (stateAt v j) (live (v .states) (v .marks) (v .dirty) (nextRow (v .residuals))) gcds visits) e
+        ∙ ap (λ (j : ℕ). tried (getD (x .rows) j noRow .terms) (stateAt v j) (live (v .states) (v .marks) (v .dirty) (nextRow (v .residuals))) gcds visits) e ∙ sym (try-row x v gcds visits)
 
 -- ---- what can be drained stays such
 
@@ -129,10 +129,7 @@ module _ (x : Index) (bounds : List ℤ) (b : Built) (s : Serves x bounds b) (v 
   r = oldest (v .residuals .queue)
 
   abbrev a : Residual
-  a = thresholdResidual (getD (x .rows) r noRow .terms) (stateAt v r) (v .marks) gcds
-
-  abbrev after : Live
-  after = live (v .states) (a .marks) (v .dirty) (nextRow (v .residuals))
+  a = tryResidual x v gcds
 
   abbrev w : Within (b .held) (b .nodes) v
   w = g .within
@@ -153,7 +150,7 @@ module _ (x : Index) (bounds : List ℤ) (b : Built) (s : Serves x bounds b) (v 
       (s .names r (omega (arith, s .holds .many, oldest-among (length (b .held .rows)) (v .residuals) (g .sound .residuals) some (w .tracked .residuals))) .terms))
       (w .tracked .low)
 
-  within-after : Within (b .held) (b .nodes) after
+  within-after : Within (b .held) (b .nodes) (tryLive x v gcds)
   within-after = record {
     taken = w .taken;
     tracked = record {
@@ -171,15 +168,7 @@ module _ (x : Index) (bounds : List ℤ) (b : Built) (s : Serves x bounds b) (v 
   }
 
   within-try : Within (b .held) (b .nodes) (tryRow x v gcds visits .live)
-  unfolding tryRow
-  within-try = by (isUnchanged (a .step))
-    where
-      by : (c : Bool) → let o : Sifted = elim c [
-        | true ↦ sifted after (a .gcds) (searchStep (search (getD (x .rows) r noRow .terms) (stateAt v r) (isDecided (a .marks)))) (searchVisits visits (search (getD (x .rows) r noRow .terms) (stateAt v r) (isDecided (a .marks))))
-        | false ↦ sifted after (a .gcds) (a .step) visits
-      ] in Within (b .held) (b .nodes) (o .live)
-      by true = within-after
-      by false = within-after
+  within-try = try-leaves x v gcds visits (λ (u : Live) (c : List ℕ). Within (b .held) (b .nodes) u) within-after
 
 pub going-try : (x : Index) (bounds : List ℤ) (b : Built) → Serves x bounds b → (v : Live) → Going (b .held) (b .nodes) v → (gcds : List ℕ) (visits : ℕ) → isEmpty (v .residuals .queue) ≡ false
     → Going (b .held) (b .nodes) (tryRow x v gcds visits .live)
