@@ -1,6 +1,6 @@
 -- What moves between rows, case by case as the code tells them apart. Assumes nothing.
 use Prim.Native.Nat.{ℕ, _<_}
-use mathlib.Core.Path.{_≡_, sym, ap, ap₂, _∙_}
+use mathlib.Core.Path.{_≡_, refl, sym, ap, ap₂, _∙_}
 use mathlib.Core.Logic.{_≢_}
 use mathlib.Core.Bool.{Bool, true, false}
 use mathlib.Core.List.{List}
@@ -20,6 +20,8 @@ use Rattle.propagate.specs.declared.Tightened.{Tightened}
 use Rattle.between.specs.Between.{Index, Live, live, stateAt, withState, withBound, Did, did, residualQueued, linkedQueued, runWith, bounded, thresholdGuard}
 use Rattle.between.specs.Held.{Holds, heldRow}
 use Rattle.between.specs.HeldLaws.{run-held}
+use Rattle.between.specs.WalkLaws.{guardRow, guard-ends}
+use Rattle.propagate.specs.ScanLaws.{clash}
 use Rattle.propagate.specs.Told.{guardState}
 use Rattle.propagate.specs.Row.{Ran, ran, thresholdRow, wantsResidual}
 
@@ -73,17 +75,11 @@ module _ (x : Index) (v : Live) (t : Threshold) (r : ℕ) (row : rowNumber (x .r
       ∙ ap (λ (k : ℕ). guardState s (bit (v .marks .sure) k) (t .bound)) node
       ∙ ap (λ (y : Bool). guardState s y (t .bound)) has ∙ ap (guardState s value) bound ∙ sym told
 
-  whole : Tightened → ℕ → Did
-  whole y k = elim (y .changed) [ true ↦ bounded x v k (y .state) | false ↦ did v Unchanged ]
-
-  as-whole : thresholdGuard x v t ≡ whole g r
-  unfolding thresholdGuard whole
-  as-whole = ap (λ (y : Tightened). whole y (rowNumber (x .rows) (t .terms))) same ∙ ap (whole g) row
-
   pub guard-moves : g .changed ≡ true → (o : Did) → o ≡ bounded x v r (g .state) → o ≡ thresholdGuard x v t
-  unfolding whole
-  guard-moves h o e = e ∙ sym (as-whole ∙ rw (whole, h))
+  unfolding bounded
+  guard-moves h o e =
+      guard-ends x v t (λ (d : Did). o ≡ d) (λ f. clash (sym (ap (λ (y : Tightened). y .changed) same ∙ h) ∙ f))
+      (λ f. e ∙ ap (λ (k : ℕ). bounded x v k (g .state)) (sym row) ∙ ap (λ (y : Tightened). bounded x v (guardRow x t) (y .state)) (sym same))
 
   pub guard-tells-nothing : g .changed ≡ false → did v Unchanged ≡ thresholdGuard x v t
-  unfolding whole
-  guard-tells-nothing h = sym (as-whole ∙ rw (whole, h))
+  guard-tells-nothing h = guard-ends x v t (λ (d : Did). did v Unchanged ≡ d) (λ f. refl) (λ f. clash (sym f ∙ (ap (λ (y : Tightened). y .changed) same ∙ h)))

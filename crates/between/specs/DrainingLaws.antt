@@ -21,7 +21,7 @@ use Rattle.between.specs.Held.{startBy, endBy, heldRow, edgeIn, edgesIn,
 use Rattle.between.specs.HeldLaws.{stretch-cons, stretch-none, run-held, edges-back}
 use Rattle.between.specs.Ready.{ReadyLive}
 use Rattle.between.specs.ReadyLaws.{ready-more, ready-set, ready-run, ready-by, fit-drained}
-use Rattle.between.specs.LoopLaws.{edgeRun, condition-next, condition-stop, condition-end}
+use Rattle.between.specs.LoopLaws.{edgeRun, walk-next, walk-stop, walk-end, condition-walk}
 
 -- The edges from one place to another: each names a row, and is light.
 pub record Edges (h : HeldRows) (edges : List (List ℕ)) (from end : ℕ) : Type 0 where
@@ -67,7 +67,7 @@ module _ (h : HeldRows) (edges : List (List ℕ)) (value : Bool) (from end : ℕ
 
     pub draining-end : end ≤ at → (x : Index) → Holds x h → did v k ≡ conditionFrom x value (edgesIn (stretch from end edges)) v₀
     draining-end t x z =
-        condition-end x value v k
+        walk-end (condition-walk x value) v k
         ∙ ap (λ (es : List (List ℕ)). after k (conditionFrom x value (edgesIn es) v)) (sym (stretch-none edges at end t)) ∙ l .whole x z
 
     module _ (y : Shaped h) (here : at < end) (r w : ℕ) (row : r ≡ edgeIn (getD edges at []) .row) (weight : w ≡ edgeIn (getD edges at []) .weight) (v′ : Live) (j : Step)
@@ -100,12 +100,12 @@ module _ (h : HeldRows) (edges : List (List ℕ)) (value : Bool) (from end : ℕ
                 (ready-by h (n + drainLimit) (did v′ j) (runWith (heldRow h r) (withState v r s) r) made run);
             whole = λ x z.
                 ap (λ (i : Step). after i (conditionFrom x value (edgesIn (stretch (at + 1) end edges)) v′)) e
-                ∙ condition-next x value (edgeIn (getD edges at [])) (edgesIn (stretch (at + 1) end edges)) v k (did v′ j) (turned x z) c ∙ next x k ∙ l .whole x z;
+                ∙ walk-next (condition-walk x value) (edgeIn (getD edges at [])) (edgesIn (stretch (at + 1) end edges)) v k (did v′ j) (turned x z) c ∙ next x k ∙ l .whole x z;
           }
 
       pub draining-stop : contradicts j ≡ true → (x : Index) → Holds x h → did v′ j ≡ conditionFrom x value (edgesIn (stretch from end edges)) v₀
       draining-stop c x z =
-          condition-stop x value (edgeIn (getD edges at [])) (edgesIn (stretch (at + 1) end edges)) v k (did v′ j) (turned x z) c ∙ next x k ∙ l .whole x z
+          walk-stop (condition-walk x value) (edgeIn (getD edges at [])) (edgesIn (stretch (at + 1) end edges)) v k (did v′ j) (turned x z) c ∙ next x k ∙ l .whole x z
 
 -- The edges of the buffers are those of the index.
 pub condition-held : (x : Index) (nodes edges : List (List ℕ)) → HoldsEdges x nodes edges → (n : ℕ) → n < length nodes → (a e : ℕ) → a ≡ startBy 2 nodes n → e ≡ endBy 2 nodes n

@@ -1,18 +1,23 @@
 -- The guard of a node, found by the number of its threshold. Assumes nothing.
 use Prim.Native.Nat.{ℕ, zero, suc, _+_, _-_, _<_}
+use native.Mathlib.Decide.{ℕ-discrete}
 use native.Mathlib.Omega.{arith}
-use mathlib.Core.Path.{_≡_, refl, sym, ap, _∙_}
+use mathlib.Core.Path.{_≡_, refl, sym, ap, subst, _∙_}
 use mathlib.Core.Bool.{Bool, true, false}
 use mathlib.Core.List.{List, [], _∷_}
 use borrow.Author.Tests.{eqb-true}
 use lib.Dec.{eqb}
 use lib.IntN.{ℤ, pos}
 use lib.ListN.{length, getD, List·getD-map}
+use lib.Signed.{mag}
+use Rattle.memory.specs.Ranges.{figureLimit}
+use Rattle.memory.specs.Buffers.{HeldRows}
 use Rattle.numeric.specs.Threshold.{Threshold}
 use Rattle.state.specs.declared.Step.the-variants.{Unchanged}
+use Rattle.thresholds.specs.Rows.{rowNumber}
 use Rattle.thresholds.specs.Laid.{thresholdOf}
-use Rattle.between.specs.Between.{Index, Live, did, thresholdGuard, guardOf}
-use Rattle.between.specs.Held.{endBy, noThreshold, rowAt, HoldsGuards}
+use Rattle.between.specs.Between.{Index, Live, Did, did, thresholdGuard, guardOf}
+use Rattle.between.specs.Held.{endBy, noThreshold, rowAt, GuardsShaped, HoldsGuards}
 
 above : (k : ℕ) (ts : List Threshold) (n : ℕ) → 0 < thresholdOf k ts n → k < thresholdOf k ts n
 unfolding thresholdOf
@@ -66,3 +71,20 @@ module _ (x : Index) (nodes : List (List ℕ)) (bounds : List ℤ) (y : HoldsGua
 
   pub guard-row : 0 < t → (r : ℕ) → r ≡ endBy 1 nodes n → rowAt x (t - 1) ≡ r
   guard-row h r e = sym (e ∙ y .row n (t - 1) k (sym p ∙ omega arith))
+
+-- Where the buffers hold the guards, that of a node tells nothing, or is that of a threshold with a row and a bound in range.
+pub guard-held : (x : Index) (h : HeldRows) (nodes : List (List ℕ)) (bounds : List ℤ) → GuardsShaped h nodes bounds → HoldsGuards x nodes bounds → (n : ℕ) → n < length nodes → (v : Live) (G : Did → Type 0)
+    → G (did v Unchanged) → ((t : Threshold) → rowNumber (x .rows) (t .terms) < length (h .rows) → mag (t .bound) < figureLimit → G (thresholdGuard x v t)) → G (guardOf x v (x .thresholds) n)
+guard-held x h nodes bounds y z n k v G none some = by (ℕ-discrete t 0)
+  where
+    t : ℕ
+    t = endBy 0 nodes n
+
+    by : Dec (t ≡ 0) → G (guardOf x v (x .thresholds) n)
+    by (yes e) = subst G (guard-not x nodes bounds z n k v t refl e) none
+    by (no e) =
+        let p : 0 < t = omega arith in
+        let b = guard-bound x nodes bounds z n k v t refl in
+        let r : rowAt x (t - 1) < length (h .rows) = rw (guard-row x nodes bounds z n k v t refl p (endBy 1 nodes n) refl) (y .rows n k p) in
+        let c : mag (getD (x .thresholds) (t - 1) noThreshold .bound) < figureLimit = rw b (y .small (t - 1) (omega (arith, y .inside n k))) in
+        subst G (guard-is x nodes bounds z n k v t refl p .guard) (some (getD (x .thresholds) (t - 1) noThreshold) r c)

@@ -28,7 +28,7 @@ use Rattle.between.specs.Held.{startBy, endBy, heldRow, Shaped, LinksSha
 use Rattle.between.specs.HeldLaws.{stretch-cons, stretch-none, run-held}
 use Rattle.between.specs.Ready.{Fit, ReadyLive, Runnable}
 use Rattle.between.specs.ReadyLaws.{ready-set, ready-run, ready-by, fit-prefix}
-use Rattle.between.specs.LoopLaws.{prefix-next, prefix-stop, prefix-end}
+use Rattle.between.specs.LoopLaws.{walk-next, walk-stop, walk-end, prefix-walk}
 
 -- ---- one neighbour
 
@@ -120,7 +120,7 @@ module _ (h : HeldRows) (links : List ℕ) (row : ℕ) (source : State) (from en
   module _ (at : ℕ) (k : Step) (v : Live) (l : Handing h links row source from end v₀ at k v) where
     pub handing-end : end ≤ at → (x : Index) → Holds x h → did v k ≡ prefixesFrom x row source (stretch from end links) v₀
     handing-end t x z =
-        prefix-end x row source v k
+        walk-end (prefix-walk x row source) v k
         ∙ ap (λ (rs : List ℕ). after k (prefixesFrom x row source rs v)) (sym (stretch-none links at end t)) ∙ l .whole x z
 
     module _ (y : Shaped h) (here : at < end) (own : row < length (h .rows)) (many : ℕ) (mine : many ≡ endBy 0 (h .rows) row - startBy 0 (h .rows) row)
@@ -156,13 +156,13 @@ module _ (h : HeldRows) (links : List ℕ) (row : ℕ) (source : State) (from en
             };
             whole = λ x z.
                 ap (λ (i : Step). after i (prefixesFrom x row source (stretch (at + 1) end links) v′)) e
-                ∙ prefix-next x row source (getD links at 0) (stretch (at + 1) end links) v k (did v′ j) (turned x z) c
+                ∙ walk-next (prefix-walk x row source) (getD links at 0) (stretch (at + 1) end links) v k (did v′ j) (turned x z) c
                 ∙ next x k ∙ l .whole x z;
           }
 
       pub handing-stop : contradicts j ≡ true → (x : Index) → Holds x h → did v′ j ≡ prefixesFrom x row source (stretch from end links) v₀
       handing-stop c x z =
-          prefix-stop x row source (getD links at 0) (stretch (at + 1) end links) v k (did v′ j) (turned x z) c ∙ next x k ∙ l .whole x z
+          walk-stop (prefix-walk x row source) (getD links at 0) (stretch (at + 1) end links) v k (did v′ j) (turned x z) c ∙ next x k ∙ l .whole x z
 
 -- The neighbours of the buffers are those of the index.
 pub prefixes-held : (x : Index) (h : HeldRows) (links : List ℕ) → HoldsLinks x h links → (r : ℕ) → r < length (h .rows) → (a e : ℕ) → a ≡ startBy 2 (h .rows) r → e ≡ endBy 2 (h .rows) r

@@ -1,12 +1,10 @@
 -- For callers: edges, neighbours and guards that the buffers hold are such as keep all ready. Assumes nothing.
 use Prim.Native.Nat.{ℕ, zero, suc, _+_, _-_, _*_, _<_, _≤_}
-use native.Mathlib.Decide.{ℕ-discrete}
 use native.Mathlib.Omega.{arith}
 use mathlib.Core.Path.{_≡_, refl, sym, ap, subst, _∙_}
 use mathlib.Core.List.{List, [], _∷_, map}
 use lib.ListN.{length, getD}
 use lib.IntN.{ℤ}
-use lib.Signed.{mag}
 use Rattle.memory.specs.Buffers.{HeldRows}
 use Rattle.words.specs.Mask.{bit}
 use Rattle.thresholds.specs.Rows.{Edge, edgesOf}
@@ -15,13 +13,13 @@ use Rattle.thresholds.specs.RawLaws.{stretch-length}
 use Rattle.thresholds.specs.Laid.{edgeRow}
 use Rattle.prefixes.specs.Links.{neighbours}
 use Rattle.propagate.specs.ScanLaws.{All}
-use Rattle.memory.specs.Ranges.{figureLimit, drainLimit}
-use Rattle.between.specs.Between.{Index, Live, guardOf, thresholdCondition, thresholdPrefixes}
-use Rattle.between.specs.Held.{startBy, endBy, edgeIn, edgesIn, noThreshold, rowAt, Shaped, EdgesShaped, LinksShaped, GuardsShaped, Holds, HoldsEdges, HoldsLinks, HoldsGuards}
+use Rattle.memory.specs.Ranges.{drainLimit}
+use Rattle.between.specs.Between.{Index, Live, Did, guardOf, thresholdCondition, thresholdPrefixes}
+use Rattle.between.specs.Held.{startBy, endBy, edgeIn, edgesIn, Shaped, EdgesShaped, LinksShaped, GuardsShaped, Holds, HoldsEdges, HoldsLinks, HoldsGuards}
 use Rattle.between.specs.HeldLaws.{stretch-cons, stretch-none, edges-back}
-use Rattle.between.specs.GuardLaws.{guard-not, guard-is, guard-bound, guard-row}
+use Rattle.between.specs.GuardLaws.{guard-held}
 use Rattle.between.specs.Ready.{Runnable}
-use Rattle.between.specs.KeptLaws.{runnable-by, Light, kept-condition, kept-guard, kept-row-prefixes}
+use Rattle.between.specs.KeptLaws.{Light, kept-condition, kept-guard, kept-row-prefixes}
 
 -- What holds at every place of a stretch holds of all in it.
 all-stretch : {X : Type 0} (P : X → Type 0) (d : X) (l : List X) (e : ℕ) → e ≤ length l → (m a : ℕ) → e - a ≡ m → ((i : ℕ) → a ≤ i → i < e → P (getD l i d)) → All P (stretch a e l)
@@ -78,18 +76,4 @@ module _ (x : Index) (h : HeldRows) (links : List ℕ) (y : LinksShaped h links)
 -- The guard of a node.
 pub kept-guard-of : (x : Index) (h : HeldRows) (nodes : List (List ℕ)) (bounds : List ℤ) → GuardsShaped h nodes bounds → HoldsGuards x nodes bounds → (n : ℕ) → n < length nodes
     → Holds x h → Shaped h → (m : ℕ) (v : Live) → Runnable h m v → Runnable h m (guardOf x v (x .thresholds) n .live)
-kept-guard-of x h nodes bounds y z n k o s m v a = by (ℕ-discrete t 0)
-  where
-    t : ℕ
-    t = endBy 0 nodes n
-
-    by : Dec (t ≡ 0) → Runnable h m (guardOf x v (x .thresholds) n .live)
-    by (yes e) = runnable-by h m _ _ (sym (guard-not x nodes bounds z n k v t refl e)) a
-    by (no e) =
-        let p : 0 < t = omega arith in
-        let f = guard-is x nodes bounds z n k v t refl p in
-        let g = getD (x .thresholds) (t - 1) noThreshold in
-        let b = guard-bound x nodes bounds z n k v t refl in
-        let r : rowAt x (t - 1) < length (h .rows) = rw (guard-row x nodes bounds z n k v t refl p (endBy 1 nodes n) refl) (y .rows n k p) in
-        let c : mag (g .bound) < figureLimit = rw b (y .small (t - 1) (omega (arith, y .inside n k))) in
-        runnable-by h m _ _ (sym (f .guard)) (kept-guard x h o s m v g r c a)
+kept-guard-of x h nodes bounds y z n k o s m v a = guard-held x h nodes bounds y z n k v (λ (d : Did). Runnable h m (d .live)) a (λ t r c. kept-guard x h o s m v t r c a)

@@ -24,8 +24,8 @@ use Rattle.between.specs.Held.{Shaped, Holds}
 use Rattle.between.specs.HeldLaws.{run-held}
 use Rattle.between.specs.Ready.{Fit, Runnable}
 use Rattle.between.specs.ReadyLaws.{ready-more, ready-set, ready-run, ready-by, fit-drained, fit-guard, fit-prefix}
-use Rattle.between.specs.LoopLaws.{edgeRun}
-use Rattle.between.specs.WalkLaws.{walks, condition-walk, guardRow, guardTold, guard-ends, all-member, prefix-keeps}
+use Rattle.between.specs.LoopLaws.{edgeRun, condition-walk}
+use Rattle.between.specs.WalkLaws.{walks, guardRow, guardTold, guard-ends, all-member, prefix-keeps}
 
 pub runnable-by : (h : HeldRows) (n : ℕ) (c d : Did) → c ≡ d → Runnable h n (d .live) → Runnable h n (c .live)
 runnable-by h n c d e a = rw e a

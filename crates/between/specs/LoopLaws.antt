@@ -9,12 +9,12 @@ use Rattle.state.specs.declared.Step.{Step}
 use Rattle.state.specs.declared.Step.the-variants.{Unchanged, Changed, Contradiction}
 use Rattle.state.specs.declared.State.{State}
 use Rattle.state.specs.Step.{joined, contradicts}
-use Rattle.state.specs.State.{drained}
+use Rattle.state.specs.State.{drained, withKnown, withPossible}
 use Rattle.thresholds.specs.Rows.{Row, noRow, Edge}
 use Rattle.propagate.specs.declared.Tightened.{Tightened}
 use Rattle.propagate.specs.ScanLaws.{clash, joined-last}
 use Rattle.propagate.specs.Told.{movedState}
-use Rattle.between.specs.Between.{Index, Live, Did, did, stateAt, withState, withDirty, runWith, runRow, conditionFrom, termCount, prefixesFrom, seedFrom}
+use Rattle.between.specs.Between.{Index, Live, Did, did, stateAt, withState, withDirty, runRow, conditionFrom, termCount, prefixesFrom, seedFrom}
 use Rattle.between.specs.Handing.{after, toldStep, handedOn}
 
 -- ---- answers
@@ -64,41 +64,49 @@ module _ (rest : Live → Did) where
       ap (did (d .live)) (e ∙ sym (joined-contradiction k) ∙ ap (joined k) (sym e))
       ∙ ap (λ (b : Bool). after k (cond b d (after (d .step) (rest (d .live))))) (sym h)
 
+-- A walk makes its moves one after the other, up to the first that contradicts.
+pub record Walk {A : Type 0} (walk : List A → Live → Did) (move : A → Live → Did) : Type 0 where
+  pub none : (v : Live) → walk [] v ≡ did v Unchanged
+  pub some : (a : A) (as′ : List A) (v : Live) → walk (a ∷ as′) v ≡ both (walk as′) (move a v)
+
+module _ {A : Type 0} {walk : List A → Live → Did} {move : A → Live → Did} (w : Walk walk move) where
+  pub walk-end : (v : Live) (k : Step) → did v k ≡ after k (walk [] v)
+  walk-end v k = after-none v k ∙ ap (after k) (sym (w .none v))
+
+  module _ (a : A) (as′ : List A) (v : Live) (k : Step) (d : Did) (made : d ≡ move a v) where
+    whole : after k (both (walk as′) d) ≡ after k (walk (a ∷ as′) v)
+    whole = ap (λ (y : Did). after k (both (walk as′) y)) made ∙ ap (after k) (sym (w .some a as′ v))
+
+    pub walk-next : contradicts (d .step) ≡ false → after (joined k (d .step)) (walk as′ (d .live)) ≡ after k (walk (a ∷ as′) v)
+    walk-next h = both-next (walk as′) k d h ∙ whole
+
+    pub walk-stop : contradicts (d .step) ≡ true → d ≡ after k (walk (a ∷ as′) v)
+    walk-stop h = both-stop (walk as′) k d h ∙ whole
+
 -- ---- the rows of a drained condition
+
+-- Draining leaves the bounds.
+pub drained-lower : (value : Bool) (w : ℕ) (s : State) → drained value w s .lower ≡ s .lower
+unfolding drained withKnown withPossible
+drained-lower true w s = refl
+drained-lower false w s = refl
+
+pub drained-upper : (value : Bool) (w : ℕ) (s : State) → drained value w s .upper ≡ s .upper
+unfolding drained withKnown withPossible
+drained-upper true w s = refl
+drained-upper false w s = refl
 
 -- An edge is drained, and its row run.
 abbrev pub edgeRun : Index → Bool → Edge → Live → Did
 edgeRun x value e v = runRow x (withState v (e .row) (drained value (e .weight) (stateAt v (e .row)))) (e .row)
 
-pub condition-none : (x : Index) (value : Bool) (v : Live) → conditionFrom x value [] v ≡ did v Unchanged
+pub condition-walk : (x : Index) (value : Bool) → Walk (conditionFrom x value) (edgeRun x value)
 unfolding conditionFrom
-condition-none x value v = refl
-
-module _ (x : Index) (value : Bool) (e : Edge) (es : List Edge) (v : Live) where
-  abbrev turn : Did
-  turn = edgeRun x value e v
-
-  pub condition-both : conditionFrom x value (e ∷ es) v ≡ both (conditionFrom x value es) (edgeRun x value e v)
-  unfolding conditionFrom
-  condition-both = by (contradicts (turn .step)) refl
-    where
-      by : (b : Bool) → contradicts (turn .step) ≡ b → conditionFrom x value (e ∷ es) v ≡ both (conditionFrom x value es) turn
-      by true h = rw (conditionFrom, h) (ap (did (turn .live)) (sym (contradiction-is (turn .step) h)))
-      by false h = rw (conditionFrom, h)
-
-  module _ (k : Step) (d : Did) (made : d ≡ edgeRun x value e v) where
-    pub condition-next : contradicts (d .step) ≡ false → after (joined k (d .step)) (conditionFrom x value es (d .live)) ≡ after k (conditionFrom x value (e ∷ es) v)
-    condition-next h =
-        both-next (conditionFrom x value es) k d h
-        ∙ ap (λ (y : Did). after k (both (conditionFrom x value es) y)) made ∙ ap (after k) (sym condition-both)
-
-    pub condition-stop : contradicts (d .step) ≡ true → d ≡ after k (conditionFrom x value (e ∷ es) v)
-    condition-stop h =
-        both-stop (conditionFrom x value es) k d h
-        ∙ ap (λ (y : Did). after k (both (conditionFrom x value es) y)) made ∙ ap (after k) (sym condition-both)
-
-pub condition-end : (x : Index) (value : Bool) (v : Live) (k : Step) → did v k ≡ after k (conditionFrom x value [] v)
-condition-end x value v k = after-none v k ∙ ap (after k) (sym (condition-none x value v))
+condition-walk x value = record { none = λ v. refl; some = λ e es v. by e es v (contradicts (edgeRun x value e v .step)) refl }
+  where
+    by : (e : Edge) (es : List Edge) (v : Live) (b : Bool) → contradicts (edgeRun x value e v .step) ≡ b → conditionFrom x value (e ∷ es) v ≡ both (conditionFrom x value es) (edgeRun x value e v)
+    by e es v true h = rw (conditionFrom, h) (ap (did (edgeRun x value e v .live)) (sym (contradiction-is (edgeRun x value e v .step) h)))
+    by e es v false h = rw (conditionFrom, h)
 
 -- ---- the neighbours of a row
 
@@ -117,49 +125,25 @@ movedRun x row source r v = runRow x (withDirty (withState v r (moved x row sour
 abbrev pub handRun : Index → ℕ → State → ℕ → Live → Did
 handRun x row source r v = handedOn (getD (x .rows) r noRow) v r (moved x row source r v)
 
-pub prefix-none : (x : Index) (row : ℕ) (source : State) (v : Live) → prefixesFrom x row source [] v ≡ did v Unchanged
-unfolding prefixesFrom
-prefix-none x row source v = refl
+-- It takes nothing, or it takes something and is run.
+pub hand-ends : (x : Index) (row : ℕ) (source : State) (r : ℕ) (v : Live) (G : Did → Type 0) → (moved x row source r v .changed ≡ false → G (did v Unchanged))
+    → (moved x row source r v .changed ≡ true → G (after-told (movedRun x row source r v))) → G (handRun x row source r v)
+unfolding handedOn runRow
+hand-ends x row source r v G none some = by (moved x row source r v .changed) refl
+  where
+    by : (b : Bool) → moved x row source r v .changed ≡ b → G (cond b (after-told (movedRun x row source r v)) (did v Unchanged))
+    by true h = some h
+    by false h = none h
 
-module _ (x : Index) (row : ℕ) (source : State) (r : ℕ) (rs : List ℕ) (v : Live) where
-  abbrev takes : Tightened
-  takes = moved x row source r v
-
-  pub prefix-both : prefixesFrom x row source (r ∷ rs) v ≡ both (prefixesFrom x row source rs) (handRun x row source r v)
-  unfolding prefixesFrom handedOn runRow
-  prefix-both = by (takes .changed) refl (contradicts (ran .step)) refl
-    where
-      ran : Did
-      ran = runWith (getD (x .rows) r noRow) (withDirty (withState v r (takes .state)) r) r
-
-      by : (b : Bool) → takes .changed ≡ b → (c : Bool) → contradicts (ran .step) ≡ c
-          → prefixesFrom x row source (r ∷ rs) v ≡ both (prefixesFrom x row source rs) (handRun x row source r v)
-      by false h c g = rw (prefixesFrom, h)
-      by true h true g = rw (prefixesFrom, h) (rw g)
-      by true h false g = rw (prefixesFrom, h) (rw g)
-
-  -- It takes nothing, or it takes something and is run.
-  pub hand-ends : (G : Did → Type 0) → (takes .changed ≡ false → G (did v Unchanged)) → (takes .changed ≡ true → G (after-told (movedRun x row source r v))) → G (handRun x row source r v)
-  unfolding handedOn runRow
-  hand-ends G none some = by (takes .changed) refl
-    where
-      by : (b : Bool) → takes .changed ≡ b → G (cond b (after-told (movedRun x row source r v)) (did v Unchanged))
-      by true h = some h
-      by false h = none h
-
-  module _ (k : Step) (d : Did) (made : d ≡ handRun x row source r v) where
-    pub prefix-next : contradicts (d .step) ≡ false → after (joined k (d .step)) (prefixesFrom x row source rs (d .live)) ≡ after k (prefixesFrom x row source (r ∷ rs) v)
-    prefix-next h =
-        both-next (prefixesFrom x row source rs) k d h
-        ∙ ap (λ (y : Did). after k (both (prefixesFrom x row source rs) y)) made ∙ ap (after k) (sym prefix-both)
-
-    pub prefix-stop : contradicts (d .step) ≡ true → d ≡ after k (prefixesFrom x row source (r ∷ rs) v)
-    prefix-stop h =
-        both-stop (prefixesFrom x row source rs) k d h
-        ∙ ap (λ (y : Did). after k (both (prefixesFrom x row source rs) y)) made ∙ ap (after k) (sym prefix-both)
-
-pub prefix-end : (x : Index) (row : ℕ) (source : State) (v : Live) (k : Step) → did v k ≡ after k (prefixesFrom x row source [] v)
-prefix-end x row source v k = after-none v k ∙ ap (after k) (sym (prefix-none x row source v))
+pub prefix-walk : (x : Index) (row : ℕ) (source : State) → Walk (prefixesFrom x row source) (handRun x row source)
+unfolding prefixesFrom handedOn runRow
+prefix-walk x row source = record { none = λ v. refl; some = λ r rs v. by r rs v (moved x row source r v .changed) refl (contradicts (movedRun x row source r v .step)) refl }
+  where
+    by : (r : ℕ) (rs : List ℕ) (v : Live) (b : Bool) → moved x row source r v .changed ≡ b → (c : Bool) → contradicts (movedRun x row source r v .step) ≡ c
+        → prefixesFrom x row source (r ∷ rs) v ≡ both (prefixesFrom x row source rs) (handRun x row source r v)
+    by r rs v false h c g = rw (prefixesFrom, h)
+    by r rs v true h true g = rw (prefixesFrom, h) (rw g)
+    by r rs v true h false g = rw (prefixesFrom, h) (rw g)
 
 -- ---- all rows, once each
 

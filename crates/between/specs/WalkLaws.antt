@@ -2,7 +2,7 @@
 -- before each move gets what holds of the whole, with its answer; for a guard, a condition, handed-on bounds and a seeding. Assumes nothing.
 use Prim.Native.Nat.{ℕ, _+_, _<_}
 use native.Mathlib.Omega.{arith}
-use mathlib.Core.Path.{_≡_, refl, sym, ap, subst, _∙_}
+use mathlib.Core.Path.{_≡_, refl, sym, subst, _∙_}
 use mathlib.Core.Bool.{Bool, true, false, cond}
 use mathlib.Core.List.{List, [], _∷_, List·Memᴰ, List·Memᴰ·head, List·Memᴰ·tail, List·Memᴰ·cases-cons, List·Memᴰ·not-nil}
 use mathlib.Core.Logic.{⊎-elim, _≢_}
@@ -16,6 +16,7 @@ use Rattle.state.specs.declared.State.{State}
 use Rattle.state.specs.Step.{joined, contradicts}
 use Rattle.words.specs.Mask.{bit}
 use Rattle.queues.specs.Queue.{queueRow}
+use Rattle.row.specs.TermsLaws.{All as Every}
 use Rattle.thresholds.specs.Rows.{Row, Edge, edgesOf, rowNumber}
 use Rattle.prefixes.specs.Links.{neighbours}
 use Rattle.propagate.specs.declared.Tightened.{Tightened}
@@ -23,14 +24,9 @@ use Rattle.propagate.specs.ScanLaws.{All, clash}
 use Rattle.propagate.specs.Told.{guardState}
 use Rattle.between.specs.Between.{Index, Live, live, stateAt, withState, withDirty, Did, did, runRow, withBound, bounded, thresholdGuard, guardOf, conditionFrom, thresholdCondition, prefixesFrom, thresholdPrefixes, seedFrom}
 use Rattle.between.specs.Handing.{after, toldStep}
-use Rattle.between.specs.LoopLaws.{joined-fine, contradiction-is, after-none, both, both-next, both-stop, after-told, edgeRun, condition-none, condition-both, moved, movedRun, handRun, hand-ends, prefix-none, prefix-both, seed-next, seed-stop, seed-end}
+use Rattle.between.specs.LoopLaws.{joined-fine, contradiction-is, Walk, walk-end, walk-next, walk-stop, after-told, edgeRun, condition-walk, moved, movedRun, handRun, hand-ends, prefix-walk, seed-next, seed-stop, seed-end}
 
 -- ---- THE PRINCIPLE
-
--- A walk makes its moves one after the other, up to the first that contradicts.
-pub record Walk {A : Type 0} (walk : List A → Live → Did) (move : A → Live → Did) : Type 0 where
-  pub none : (v : Live) → walk [] v ≡ did v Unchanged
-  pub some : (a : A) (as′ : List A) (v : Live) → walk (a ∷ as′) v ≡ both (walk as′) (move a v)
 
 -- `P` holds before each move, with what is left to walk; `G` is what comes of it.
 module _ {A : Type 0} {walk : List A → Live → Did} {move : A → Live → Did} (w : Walk walk move) (all : List A) (P : List A → Live → Type 0) (G : Did → Type 0)
@@ -38,19 +34,16 @@ module _ {A : Type 0} {walk : List A → Live → Did} {move : A → Live → Di
     (stop : (a : A) (as′ : List A) (v : Live) → List·Memᴰ a all → P (a ∷ as′) v → contradicts (move a v .step) ≡ true → G (move a v))
     (next : (a : A) (as′ : List A) (v : Live) → List·Memᴰ a all → P (a ∷ as′) v → contradicts (move a v .step) ≡ false → P as′ (move a v .live)) where
   walk-from : (as′ : List A) → ((a : A) → List·Memᴰ a as′ → List·Memᴰ a all) → (v : Live) (k : Step) → contradicts k ≡ false → P as′ v → G (after k (walk as′ v))
-  walk-from [] sub v k c p = subst G (after-none v k ∙ ap (after k) (sym (w .none v))) (end v k c p)
+  walk-from [] sub v k c p = subst G (walk-end w v k) (end v k c p)
   walk-from (a ∷ as′) sub v k c p = by (λ u j d q. walk-from as′ (λ b m. sub b (List·Memᴰ·tail m)) u j d q) (contradicts (move a v .step)) refl
     where
       m : List·Memᴰ a all
       m = sub a (List·Memᴰ·head refl)
 
-      whole : (d : Did) → d ≡ after k (both (walk as′) (move a v)) → G d → G (after k (walk (a ∷ as′) v))
-      whole d e g = subst G (e ∙ ap (after k) (sym (w .some a as′ v))) g
-
       by : ((u : Live) (j : Step) → contradicts j ≡ false → P as′ u → G (after j (walk as′ u))) → (t : Bool) → contradicts (move a v .step) ≡ t → G (after k (walk (a ∷ as′) v))
-      by later true h = whole (move a v) (both-stop (walk as′) k (move a v) h) (stop a as′ v m p h)
+      by later true h = subst G (walk-stop w a as′ v k (move a v) refl h) (stop a as′ v m p h)
       by later false h =
-          whole (after (joined k (move a v .step)) (walk as′ (move a v .live))) (both-next (walk as′) k (move a v) h)
+          subst G (walk-next w a as′ v k (move a v) refl h)
           (later (move a v .live) (joined k (move a v .step)) (joined-fine k (move a v .step) c h) (next a as′ v m p h))
 
   pub walks : (v : Live) → P all v → G (walk all v)
@@ -63,15 +56,7 @@ pub walk-fine : {A : Type 0} {walk : List A → Live → Did} {move : A → Live
 walk-fine w all P next v p =
     walks w all P (λ (d : Did). contradicts (d .step) ≡ false → P [] (d .live)) (λ u k c q e. q) (λ a as′ u m q c e. clash (sym c ∙ e)) next v p
 
--- ---- A DRAINED CONDITION
-
-pub condition-walk : (x : Index) (value : Bool) → Walk (conditionFrom x value) (edgeRun x value)
-condition-walk x value = record { none = condition-none x value; some = condition-both x value }
-
 -- ---- BOUNDS HANDED ON: a neighbour takes nothing, or takes something and is run
-
-prefix-walk : (x : Index) (row : ℕ) (source : State) → Walk (prefixesFrom x row source) (handRun x row source)
-prefix-walk x row source = record { none = prefix-none x row source; some = prefix-both x row source }
 
 told-true : (k : Step) → contradicts (toldStep k) ≡ contradicts k
 told-true k = by (contradicts k) refl
@@ -88,7 +73,7 @@ module _ (x : Index) (row : ℕ) (source : State) (all : List ℕ) (P : List ℕ
     (next : (r : ℕ) (rs : List ℕ) (v : Live) → List·Memᴰ r all → P (r ∷ rs) v → moved x row source r v .changed ≡ true → contradicts (movedRun x row source r v .step) ≡ false
     → P rs (movedRun x row source r v .live)) where
   hand-stop : (r : ℕ) (rs : List ℕ) (v : Live) → List·Memᴰ r all → P (r ∷ rs) v → contradicts (handRun x row source r v .step) ≡ true → G (handRun x row source r v)
-  hand-stop r rs v m p = hand-ends x row source r rs v (λ (d : Did). contradicts (d .step) ≡ true → G d) (λ e h. clash (sym h)) taken
+  hand-stop r rs v m p = hand-ends x row source r v (λ (d : Did). contradicts (d .step) ≡ true → G d) (λ e h. clash (sym h)) taken
     where
       d : Did
       d = movedRun x row source r v
@@ -98,7 +83,7 @@ module _ (x : Index) (row : ℕ) (source : State) (all : List ℕ) (P : List ℕ
 
   hand-next : (r : ℕ) (rs : List ℕ) (v : Live) → List·Memᴰ r all → P (r ∷ rs) v → contradicts (handRun x row source r v .step) ≡ false → P rs (handRun x row source r v .live)
   hand-next r rs v m p =
-      hand-ends x row source r rs v (λ (d : Did). contradicts (d .step) ≡ false → P rs (d .live)) (λ e h. skip r rs v m p e)
+      hand-ends x row source r v (λ (d : Did). contradicts (d .step) ≡ false → P rs (d .live)) (λ e h. skip r rs v m p e)
       (λ e h. next r rs v m p e (sym (told-true (movedRun x row source r v .step)) ∙ h))
 
   pub prefix-walks : (v : Live) → P all v → G (prefixesFrom x row source all v)
@@ -169,6 +154,10 @@ pub all-member : {X : Type 0} (P : X → Type 0) (xs : List X) → All P xs → 
 unfolding All
 all-member P [] h a m = absurd (List·Memᴰ·not-nil m)
 all-member P (y ∷ ys) h a m = ⊎-elim (λ (e : a ≡ y). subst P (sym e) (h .0)) (all-member P ys (h .1) a) (List·Memᴰ·cases-cons m)
+
+pub every-member : {X : Type 0} (P : X → Type 0) (xs : List X) → Every P xs → (a : X) → List·Memᴰ a xs → P a
+every-member P [] h a m = absurd (List·Memᴰ·not-nil m)
+every-member P (y ∷ ys) h a m = ⊎-elim (λ (e : a ≡ y). subst P (sym e) (h .0)) (every-member P ys (h .1) a) (List·Memᴰ·cases-cons m)
 
 module _ (x : Index) (Q : Live → Type 0) where
   pub condition-keeps : (value : Bool) (es : List Edge) → ((e : Edge) (v : Live) → List·Memᴰ e es → Q v → Q (edgeRun x value e v .live)) → (v : Live) → Q v → Q (conditionFrom x value es v .live)

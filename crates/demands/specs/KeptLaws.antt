@@ -20,7 +20,7 @@ use Rattle.residual.specs.ForceLaws.{gcds-length}
 use Rattle.between.specs.Between.{Index, Live, live, stateAt, residualQueued, runWith, runRow}
 use Rattle.regions.specs.Drain.{indexOf}
 use Rattle.between.specs.WalkLaws.{Moves}
-use Rattle.between.specs.KeepsLaws.{run-named}
+use Rattle.between.specs.KeepsLaws.{Small, run-named}
 use Rattle.regions.specs.Drain as Drain
 use Rattle.regions.specs.DrainLaws.{seal-keeps, keep-turn, settle-keeps}
 use Rattle.regions.specs.Sift.{tryRow}
@@ -31,7 +31,7 @@ use Rattle.records.specs.Facts.{Action, begins, changes, closes, decides, settl
 use Rattle.records.specs.Checks.{tooMany}
 use Rattle.files.specs.File.{File, Answer, settled, sifted, begun, standing, refusal, sealedFile, markedFile, settledFile, siftedFile, act, apply, after, readFrom, fileOf, Passed}
 use Rattle.files.specs.FileLaws.{read-taken}
-use Rattle.ends.specs.KeepsLaws.{keeps-residual}
+use Rattle.ends.specs.KeepsLaws.{residual-named}
 use Rattle.ends.specs.TurnsLaws.{Indexed}
 use Rattle.ends.specs.BuiltLaws.{indexed}
 use Rattle.ends.specs.SizeLaws.{row-terms-few}
@@ -106,7 +106,7 @@ module _ (x : Index) where
         let ts = tryTerms x v in
         try-leaves x v gcds visits (λ (w : Live) (g : List ℕ). Long w × (length g ≡ maxGcds)) (
           record {
-            nodes = keeps-residual (λ (m : Marks). length (m .nodes .items) ≡ maxNodes) (λ m value n h p. decide-long value m n ∙ p) ts (stateAt v r) (v .marks) gcds (ix .conditions r) (l .0 .nodes);
+            nodes = residual-named (λ (m : Marks). length (m .nodes .items) ≡ maxNodes) Small (λ value m n h p. decide-long value m n ∙ p) ts (ix .conditions r) (stateAt v r) (v .marks) gcds (l .0 .nodes);
             dirty = l .0 .dirty;
             residuals = l .0 .residuals;
           },

@@ -14,12 +14,13 @@ use Rattle.queues.specs.Marks.{Marks, marks}
 use Rattle.queues.specs.MarksLaws.{Waits, waits-popped}
 use Rattle.propagate.specs.ScanLaws.{clash}
 use Rattle.between.specs.Between.{Index, Live, live, Did, stateAt}
+use Rattle.between.specs.KeepsLaws.{Small}
 use Rattle.regions.specs.Drain.{takeNode, takeRow, turn, atRest, settle}
 use Rattle.regions.specs.DrainLaws.{untaken, unrowed, nodeTold, nodeDrained, node-ends, row-ends, turn-ends, settle-walks, settle-keeps}
 use Rattle.regions.specs.Sift.{Sifted, tryRow, sift}
 use Rattle.regions.specs.SiftLaws.{tryTerms, try-leaves, sift-walks, sift-keeps}
 use Rattle.ends.specs.LeftLaws.{load, load-popped}
-use Rattle.ends.specs.KeepsLaws.{keeps-residual}
+use Rattle.ends.specs.KeepsLaws.{residual-named}
 use Rattle.ends.specs.TurnsLaws.{Indexed, Sound, core, left, left-most, Then, then, less-decide, run-guards, run-condition, run-prefixes}
 
 -- One came of the other, and has less left to do; or no more.
@@ -77,8 +78,8 @@ module _ (x : Index) (ix : Indexed x) where
   fall-try v gcds visits s e =
       let some : 0 < v .residuals .queue .ring .count = omega (arith, eqb-false (v .residuals .queue .ring .count) 0 e) in
       let r = oldest (v .residuals .queue) in
-      let marked = keeps-residual (λ (k : Marks). Waits k × (load k ≤ load (v .marks))) (λ k value n l p. less-decide (v .marks) k value n l p) (tryTerms x v) (stateAt v r) (v .marks) gcds
-      (ix .conditions r) (s .waits, le-refl (load (v .marks))) in
+      let marked = residual-named (λ (k : Marks). Waits k × (load k ≤ load (v .marks))) Small (less-decide (v .marks)) (tryTerms x v) (ix .conditions r) (stateAt v r) (v .marks) gcds
+      (s .waits, le-refl (load (v .marks))) in
       try-leaves x v gcds visits (λ (w : Live) (g : List ℕ). Falls v w) (
         record { long = s .long; states = s .states; waits = marked .0; dirty = s .dirty; residuals = flags-next (v .residuals) (s .residuals) some },
         omega (arith, marked .1, some),

@@ -4,16 +4,15 @@ use Prim.Native.Nat.{ℕ, _+_, _*_, _^_, _≤_, _<_}
 use native.Mathlib.Nat.{le-refl}
 use native.Mathlib.Decide.{ℕ-discrete}
 use native.Mathlib.Omega.{arith}
-use mathlib.Core.Path.{_≡_, refl, sym, subst, _∙_}
+use mathlib.Core.Path.{_≡_, _∙_}
 use mathlib.Core.Bool.{Bool, true, false, cond}
-use mathlib.Core.List.{List, [], _∷_, List·Memᴰ, List·Memᴰ·cases-cons, List·Memᴰ·not-nil}
-use mathlib.Core.Logic.{⊎-elim}
+use mathlib.Core.List.{List, List·Memᴰ}
 use lib.ListN.{length, getD, set, length-set}
 use lib.Dec.{eqb}
 use Rattle.memory.specs.Limits.{maxNodes, maxThresholds}
 use Rattle.numeric.specs.Threshold.{Threshold}
 use Rattle.state.specs.declared.State.{State}
-use Rattle.state.specs.State.{noState, drained, withKnown, withPossible}
+use Rattle.state.specs.State.{noState, drained}
 use Rattle.words.specs.Mask.{bit}
 use Rattle.queues.specs.Queue.{Rows, push, queueRow}
 use Rattle.queues.specs.QueueLaws.{row-waits, row-new}
@@ -29,9 +28,9 @@ use Rattle.propagate.specs.Guards.{Node, Condition}
 use Rattle.propagate.specs.Row.{Ran, thresholdRow, wantsResidual}
 use Rattle.propagate.specs.RowLaws.{Kept, kept-row}
 use Rattle.between.specs.Between.{Index, Live, live, Did, stateAt, withState, residualQueued, runWith, runRow, linkedQueued, bounded, thresholdGuard, guardOf, thresholdCondition, termCount, thresholdPrefixes}
-use Rattle.between.specs.LoopLaws.{edgeRun, moved, movedRun}
-use Rattle.between.specs.WalkLaws.{guardRow, guardTold, guard-ends, guard-of-ends, condition-keeps, prefix-keeps}
-use Rattle.between.specs.KeepsLaws.{names-all, row-named}
+use Rattle.between.specs.LoopLaws.{drained-lower, drained-upper, edgeRun, moved, movedRun}
+use Rattle.between.specs.WalkLaws.{guardRow, guardTold, guard-ends, guard-of-ends, every-member, condition-keeps, prefix-keeps}
+use Rattle.between.specs.KeepsLaws.{Small, names-all, row-named}
 use Rattle.ends.specs.LeftLaws.{load, load-decide, load-most}
 use Rattle.ends.specs.RoomsLaws.{Bounded, room, rooms, rooms-set, rooms-most, AllBounded, set-bounded, bounded-same, room-same, tells-guard, tells-moved}
 
@@ -74,10 +73,6 @@ same v s = record { sound = s; core = le-refl (core v) }
 pub then : (u v w : Live) → Then u v → Then v w → Then u w
 then u v w a b = record { sound = b .sound; core = omega (arith, a .core, b .core) }
 
-every-member : {X : Type 0} (P : X → Type 0) (xs : List X) → Every P xs → (a : X) → List·Memᴰ a xs → P a
-every-member P [] h a m = absurd (List·Memᴰ·not-nil m)
-every-member P (y ∷ ys) h a m = ⊎-elim (λ (e : a ≡ y). subst P (sym e) (h .0)) (every-member P ys (h .1) a) (List·Memᴰ·cases-cons m)
-
 -- ---- queues
 
 pub count-queue : (q : Rows) (r : ℕ) → queueRow q r .queue .ring .count ≤ q .queue .ring .count + 1
@@ -119,8 +114,8 @@ queued-linked n q r f h = by (eqb n 0)
 abbrev Less : Marks → Marks → Type 0
 Less m k = Waits k × (load k ≤ load m)
 
-pub less-decide : (m k : Marks) (value : Bool) (n : ℕ) → n < maxNodes → Less m k → Less m (decide value k n .marks)
-less-decide m k value n h p = (waits-decide k (p .0) value n h, omega (arith, load-decide k (p .0) value n h, p .1))
+pub less-decide : (m : Marks) (value : Bool) (k : Marks) (n : ℕ) → n < maxNodes → Less m k → Less m (decide value k n .marks)
+less-decide m value k n h p = (waits-decide k (p .0) value n h, omega (arith, load-decide k (p .0) value n h, p .1))
 
 -- A state that is put anew with the bounds that it had.
 put-same : (ss : List State) (r : ℕ) (s : State) → length ss ≡ maxThresholds → r < maxThresholds → s .lower ≡ getD ss r noState .lower → s .upper ≡ getD ss r noState .upper
@@ -161,8 +156,8 @@ module _ (x : Index) (ix : Indexed x) where
 
       marked : Less (v .marks) (a .marks)
       marked =
-          row-named (Less (v .marks)) (λ (n : ℕ). n < maxNodes) (λ value k n l p. less-decide (v .marks) k value n l p) row
-          (names-all (λ (n : ℕ). n < maxNodes) row (ix .nodes r) (ix .conditions r)) (stateAt v r) (v .marks) (s .waits, le-refl (load (v .marks)))
+          row-named (Less (v .marks)) Small (less-decide (v .marks)) row
+          (names-all Small row (ix .nodes r) (ix .conditions r)) (stateAt v r) (v .marks) (s .waits, le-refl (load (v .marks)))
 
       queue : Queued (v .residuals) (residualQueued row (stateAt v r) (v .residuals) r)
       queue = queued-residual row (stateAt v r) (v .residuals) r (s .residuals) h
@@ -207,16 +202,6 @@ module _ (x : Index) (ix : Indexed x) where
       (λ t m e. run-guard v t s (every-member (λ (u : Threshold). Bound (u .bound) × (rowNumber (x .rows) (u .terms) < maxThresholds)) (x .thresholds) (ix .thresholds) t m)) (λ f. same v s)
 
   -- ---- a drained condition
-
-  drained-lower : (value : Bool) (w : ℕ) (s : State) → drained value w s .lower ≡ s .lower
-  unfolding drained withKnown withPossible
-  drained-lower true w s = refl
-  drained-lower false w s = refl
-
-  drained-upper : (value : Bool) (w : ℕ) (s : State) → drained value w s .upper ≡ s .upper
-  unfolding drained withKnown withPossible
-  drained-upper true w s = refl
-  drained-upper false w s = refl
 
   drain-term : (v : Live) (value : Bool) (e : Edge) → Sound v → e .row < maxThresholds → Then v (withState v (e .row) (drained value (e .weight) (stateAt v (e .row))))
   drain-term v value e s h =

@@ -55,13 +55,6 @@ not-false true h = refl
 not-false false h = sym h
 
 -- Two answers joined contradict if one of them does.
-pub joined-fine : (a b : Step) → contradicts a ≡ false → contradicts b ≡ false → contradicts (joined a b) ≡ false
-joined-fine Unchanged b e f = f
-joined-fine Changed Unchanged e f = refl
-joined-fine Changed Changed e f = refl
-joined-fine Changed Contradiction e f = f
-joined-fine Contradiction b e f = e
-
 pub joined-which : (a b : Step) → contradicts a ≡ false → contradicts (joined a b) ≡ true → contradicts b ≡ true
 joined-which Unchanged b e h = h
 joined-which Changed Unchanged e h = h

@@ -26,7 +26,8 @@ use Rattle.state.specs.declared.Upper.the-variants.{Open, Under}
 use Rattle.thresholds.specs.Rows.{Guard}
 use Rattle.propagate.specs.Scan.{scan, Scanned, scanned, force}
 use Rattle.propagate.specs.Row.{sureWaits, decides, sureGuards, reachable, neverWaits, neverGuards, termWaits, forces, forced}
-use Rattle.follows.specs.AnswersLaws.{and-left, and-right, or-true, joined-fine}
+use Rattle.between.specs.LoopLaws.{joined-fine}
+use Rattle.follows.specs.AnswersLaws.{and-left, and-right, or-true}
 use Rattle.follows.specs.DecideLaws.{scan-keeps}
 use Rattle.follows.specs.RowLaws.{decide-grows, mem-drop, mem-take, mem-reverse}
 

@@ -23,7 +23,8 @@ use Rattle.table.specs.Table as T
 use Rattle.table.specs.Table.{Table, decideSure, decideNever, Conflict, both}
 use Rattle.table.specs.OrderLaws.{up-refl}
 use Rattle.table.specs.TableLaws.{Le, le-then, Follows, follows-step}
-use Rattle.follows.specs.AnswersLaws.{true-false, joined-fine}
+use Rattle.between.specs.LoopLaws.{joined-fine}
+use Rattle.follows.specs.AnswersLaws.{true-false}
 
 -- The nodes of the masks, with lowers and uppers of rows, as a state of the table.
 abbrev pub tableOf : Marks → (ℕ → ℤ) → (ℕ → Upper) → Table

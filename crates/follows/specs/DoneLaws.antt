@@ -28,7 +28,8 @@ use Rattle.propagate.specs.declared.Tightened.{Tightened}
 use Rattle.propagate.specs.Row.{Ran, ran, scans, thresholdRow}
 use Rattle.propagate.specs.Told.{tight, guardState, movedLower, movedState, under}
 use Rattle.between.specs.Between.{Index, Live, live, stateAt, Did, runRow, runWith, thresholdGuard, thresholdCondition, termCount, thresholdPrefixes}
-use Rattle.between.specs.WalkLaws.{walk-fine, condition-walk, prefix-fine, guardRow, guard-ends}
+use Rattle.between.specs.LoopLaws.{condition-walk}
+use Rattle.between.specs.WalkLaws.{walk-fine, prefix-fine, guardRow, guard-ends}
 use Rattle.table.specs.Table.{IsRow}
 use Rattle.follows.specs.AnswersLaws.{clash, and-right, or-true}
 use Rattle.follows.specs.CompleteLaws.{Wide, Has, wide-decide, has-stays}

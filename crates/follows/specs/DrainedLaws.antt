@@ -21,11 +21,11 @@ use Rattle.state.specs.Step.{contradicts}
 use Rattle.state.specs.State.{drained, withKnown, withPossible}
 use Rattle.words.specs.Mask.{bit}
 use Rattle.queues.specs.Marks.{isDecided}
-use Rattle.row.specs.TermsLaws.{All, Distinct}
+use Rattle.row.specs.TermsLaws.{Distinct}
 use Rattle.thresholds.specs.Rows.{Row, Edge, edgesOf}
 use Rattle.between.specs.Between.{Index, Live, live, stateAt, withState, Did, runRow, conditionFrom, thresholdCondition}
-use Rattle.between.specs.LoopLaws.{edgeRun}
-use Rattle.between.specs.WalkLaws.{walks, condition-walk}
+use Rattle.between.specs.LoopLaws.{drained-lower, drained-upper, edgeRun, condition-walk}
+use Rattle.between.specs.WalkLaws.{walks, every-member}
 use Rattle.table.specs.Table.{Table, IsRow, termsOf, known, possible}
 use Rattle.table.specs.OrderLaws.{UpLe, up-refl}
 use Rattle.table.specs.TableLaws.{le-then}
@@ -36,10 +36,6 @@ use Rattle.follows.specs.MovesLaws.{Kept, run-stands}
 use Rattle.follows.specs.EdgesLaws.{leadsTo, OnceEach, leads-not, leads-here, leads-other, edge-term, term-edge, edges-once}
 
 -- ONE TERM of a row whose conditions are distinct, counted now and not before
-all-at : (P : Term → Type 0) (ts : List Term) (t : Term) → All P ts → List·Memᴰ t ts → P t
-all-at P [] t a m = absurd (List·Memᴰ·not-nil m)
-all-at P (x ∷ xs) t a m = ⊎-elim (λ (e : t ≡ x). subst P (sym e) (a .0)) (λ k. all-at P xs t (a .1) k) (List·Memᴰ·cases-cons m)
-
 module _ (f g : ℕ → Bool) (t : Term) (off : f (t .condition) ≡ false) (on : g (t .condition) ≡ true) (same : (n : ℕ) → n ≢ t .condition → g n ≡ f n) where
   known-one : (ts : List Term) → Distinct ts → List·Memᴰ t ts → known g ts ≡ known f ts + t .weight
   unfolding known
@@ -52,11 +48,11 @@ module _ (f g : ℕ → Bool) (t : Term) (off : f (t .condition) ≡ false) (on 
           let a : cond (g (x .condition)) (x .weight) 0 ≡ x .weight = ap (λ (b : Bool). cond b (x .weight) 0) (ap (λ (y : Term). g (y .condition)) (sym e) ∙ on) in
           let b : cond (f (x .condition)) (x .weight) 0 ≡ 0 = ap (λ (b : Bool). cond b (x .weight) 0) (ap (λ (y : Term). f (y .condition)) (sym e) ∙ off) in
           let w : t .weight ≡ x .weight = ap (λ (y : Term). y .weight) e in
-          let r : known g xs ≡ known f xs = known-same g f xs (λ u k. same (u .condition) (λ q. all-at (λ (y : Term). y .condition ≢ x .condition) xs u (d .0) k (q ∙ ap (λ (y : Term). y .condition) e))) in
+          let r : known g xs ≡ known f xs = known-same g f xs (λ u k. same (u .condition) (λ q. every-member (λ (y : Term). y .condition ≢ x .condition) xs (d .0) u k (q ∙ ap (λ (y : Term). y .condition) e))) in
           omega arith
       by ih (inr k) =
           let a : cond (g (x .condition)) (x .weight) 0 ≡ cond (f (x .condition)) (x .weight) 0 =
-          ap (λ (b : Bool). cond b (x .weight) 0) (same (x .condition) (λ q. all-at (λ (y : Term). y .condition ≢ x .condition) xs t (d .0) k (sym q))) in
+          ap (λ (b : Bool). cond b (x .weight) 0) (same (x .condition) (λ q. every-member (λ (y : Term). y .condition ≢ x .condition) xs (d .0) t k (sym q))) in
           let r = ih k in
           omega arith
 
@@ -71,24 +67,13 @@ module _ (f g : ℕ → Bool) (t : Term) (off : f (t .condition) ≡ false) (on 
           let a : cond (g (x .condition)) 0 (x .weight) ≡ 0 = ap (λ (b : Bool). cond b 0 (x .weight)) (ap (λ (y : Term). g (y .condition)) (sym e) ∙ on) in
           let b : cond (f (x .condition)) 0 (x .weight) ≡ x .weight = ap (λ (b : Bool). cond b 0 (x .weight)) (ap (λ (y : Term). f (y .condition)) (sym e) ∙ off) in
           let w : t .weight ≡ x .weight = ap (λ (y : Term). y .weight) e in
-          let r : possible g xs ≡ possible f xs = possible-same g f xs (λ u k. same (u .condition) (λ q. all-at (λ (y : Term). y .condition ≢ x .condition) xs u (d .0) k (q ∙ ap (λ (y : Term). y .condition) e))) in
+          let r : possible g xs ≡ possible f xs = possible-same g f xs (λ u k. same (u .condition) (λ q. every-member (λ (y : Term). y .condition ≢ x .condition) xs (d .0) u k (q ∙ ap (λ (y : Term). y .condition) e))) in
           omega arith
       by ih (inr k) =
           let a : cond (g (x .condition)) 0 (x .weight) ≡ cond (f (x .condition)) 0 (x .weight) =
-          ap (λ (b : Bool). cond b 0 (x .weight)) (same (x .condition) (λ q. all-at (λ (y : Term). y .condition ≢ x .condition) xs t (d .0) k (sym q))) in
+          ap (λ (b : Bool). cond b 0 (x .weight)) (same (x .condition) (λ q. every-member (λ (y : Term). y .condition ≢ x .condition) xs (d .0) t k (sym q))) in
           let r = ih k in
           omega arith
-
--- Draining leaves the bounds.
-drained-lower : (b : Bool) (w : ℕ) (st : State) → drained b w st .lower ≡ st .lower
-unfolding drained withKnown withPossible
-drained-lower true w st = refl
-drained-lower false w st = refl
-
-drained-upper : (b : Bool) (w : ℕ) (st : State) → drained b w st .upper ≡ st .upper
-unfolding drained withKnown withPossible
-drained-upper true w st = refl
-drained-upper false w st = refl
 
 -- ONE ROW, ONE NODE: decided, not drained into the row before, and drained into it now
 module _ (rows : List Row) (s : Table) (before now : ℕ → ℕ → Bool) (v : Live) (h : Stands rows s before v) (r c w : ℕ) (is : IsRow rows r)

@@ -19,7 +19,7 @@ use Rattle.state.specs.declared.State.{State}
 use Rattle.state.specs.declared.Upper.{Upper}
 use Rattle.state.specs.declared.Upper.the-variants.{Open, Under}
 use Rattle.state.specs.Step.{contradicts}
-use Rattle.state.specs.State.{withLower, withUpper, drained, withKnown, withPossible}
+use Rattle.state.specs.State.{withLower, withUpper, drained}
 use Rattle.words.specs.Mask.{bit}
 use Rattle.queues.specs.Queue.{Rows, oldest, queueRow, nextRow}
 use Rattle.queues.specs.QueueLaws.{row-waits, row-new}
@@ -29,7 +29,7 @@ use Rattle.prefixes.specs.LinksLaws.{link, link-starts, Climbs, stay, up, acros
 use Rattle.propagate.specs.declared.Tightened.{Tightened}
 use Rattle.propagate.specs.Told.{tight, movedLower, movedState, under}
 use Rattle.between.specs.Between.{Index, Live, live, stateAt, Did, runRow, runWith, thresholdGuard, thresholdCondition, termCount, prefixesFrom, thresholdPrefixes}
-use Rattle.between.specs.LoopLaws.{edgeRun, moved, movedRun}
+use Rattle.between.specs.LoopLaws.{drained-lower, drained-upper, edgeRun, moved, movedRun}
 use Rattle.between.specs.WalkLaws.{prefix-fine, guardRow, guardTold, guard-ends, condition-keeps}
 use Rattle.table.specs.Table.{Table, IsRow, termsOf, IsPrefix}
 use Rattle.table.specs.OrderLaws.{le, ≤ℤ-trans, UpLe, up-refl, up-trans}
@@ -179,11 +179,6 @@ module _ (x : Index) where
           (inr (inl (queued-waits (v .dirty) r (let z = h .flags in let y : r < length (x .rows) = is in omega arith))))
 
   -- A DRAINED CONDITION moves no bound
-  drained-bounds : (value : Bool) (w : ℕ) (st : State) → SameBounds (drained value w st) st
-  unfolding drained withKnown withPossible
-  drained-bounds true w st = record { lower = refl; upper = refl }
-  drained-bounds false w st = record { lower = refl; upper = refl }
-
   pub condition-handed : (but : ℕ → Bool) (v : Live) (n : ℕ) → Handed x but v → Handed x but (thresholdCondition x v n .live)
   unfolding thresholdCondition
   condition-handed but v n h = condition-keeps x (Handed x but) value (edgesOf (x .rows) n) one v h
@@ -195,7 +190,7 @@ module _ (x : Index) where
       one e u m k =
           let r = e .row in
           let st = drained value (e .weight) (stateAt u r) in
-          let s = drained-bounds value (e .weight) (stateAt u r) in
+          let s : SameBounds st (stateAt u r) = record { lower = drained-lower value (e .weight) (stateAt u r); upper = drained-upper value (e .weight) (stateAt u r) } in
           put-run-handed but u r st (u .dirty) (u .residuals) (edge-term (x .rows) n e m .0) k
           (subst (λ (z : ℤ). stateAt u r .lower ≤ℤ z) (sym (s .lower)) (≤ℤ-refl (stateAt u r .lower)))
           (subst (λ (z : Upper). UpLe z (stateAt u r .upper)) (sym (s .upper)) (up-refl (stateAt u r .upper))) refl (λ k n. refl) (inr (inr (s, refl)))

@@ -7,14 +7,11 @@ use Rattle.numeric.specs.Threshold.{Threshold}
 use Rattle.queues.specs.Marks.{Marks, decide}
 use Rattle.thresholds.specs.Rows.{noRow}
 use Rattle.between.specs.Between.{Index, Live, runRow, thresholdGuard, thresholdCondition, thresholdPrefixes}
-use Rattle.between.specs.KeepsLaws.{Names, run-named, guard-named, condition-named, prefixes-named}
+use Rattle.between.specs.KeepsLaws.{Small, Names, run-named, guard-named, condition-named, prefixes-named}
 use Rattle.follows.specs.RowCompleteLaws.{Ordered}
 
 module _ (P : Marks → Type 0) (each : (value : Bool) (m : Marks) (n : ℕ) → n < maxNodes → P m → P (decide value m n .marks))
     (x : Index) (ordered : (r : ℕ) → r < length (x .rows) → Ordered (getD (x .rows) r noRow)) where
-  abbrev Small : ℕ → Type 0
-  Small n = n < maxNodes
-
   names : (r : ℕ) → r < length (x .rows) → Names Small (getD (x .rows) r noRow)
   names r h = record { guards = ordered r h .guards; terms = ordered r h .terms }
 

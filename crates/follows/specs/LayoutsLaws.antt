@@ -4,27 +4,25 @@ use Prim.Native.Nat.{ℕ, suc}
 use native.Mathlib.Omega.{arith}
 use mathlib.Core.Path.{_≡_, sym, ap, subst}
 use mathlib.Core.Bool.{Bool, true, false, not}
-use mathlib.Core.List.{List, List·Memᴰ}
+use mathlib.Core.List.{List}
 use lib.IntN.{pos}
 use lib.Signed.{_≤ℤ_}
-use Rattle.numeric.specs.Threshold.{Threshold, Job}
+use Rattle.numeric.specs.Threshold.{Job}
 use Rattle.numeric.specs.Layout.{Layout, IsLayout}
 use Rattle.state.specs.declared.Upper.the-variants.{Under}
 use Rattle.state.specs.Step.{contradicts}
 use Rattle.words.specs.Mask.{bit}
-use Rattle.queues.specs.Marks.{isDecided}
 use Rattle.row.specs.SumLaws.{sumOf}
 use Rattle.thresholds.specs.Rows.{Row}
-use Rattle.between.specs.Between.{Index, Live, stateAt, Did, runRow, thresholdGuard, thresholdCondition, thresholdPrefixes}
-use Rattle.table.specs.Table.{Table, start, IsRow, termsOf}
+use Rattle.between.specs.Between.{Index, Live, stateAt, Did}
+use Rattle.table.specs.Table.{Table, start, termsOf}
 use Rattle.table.specs.OrderLaws.{UpLe, pos-≤ℤ}
 use Rattle.table.specs.TableLaws.{Le, Follows}
 use Rattle.table.specs.LayoutLaws.{ofLayout, layout-agrees, no-layout}
 use Rattle.follows.specs.AnswersLaws.{not-true}
 use Rattle.follows.specs.DecideLaws.{Broken}
-use Rattle.follows.specs.StandsLaws.{tableAt, Stands, restart}
-use Rattle.follows.specs.MovesLaws.{Kept, run-stands, guard-stands, prefixes-stand}
-use Rattle.follows.specs.DrainedLaws.{condition-stands}
+use Rattle.follows.specs.StandsLaws.{tableAt, Stands}
+use Rattle.follows.specs.MovesLaws.{Kept}
 use Rattle.follows.specs.BuiltLaws.{Built}
 
 -- A layout agrees with a live state: with every decided node, and each row's sum is at least its lower and below its upper.
@@ -60,20 +58,5 @@ module _ (j : Job) (x : Index) (b : Built j x) (w : Layout) (is : IsLayout j w) 
   abbrev pub Stays : Did → Type 0
   Stays d = Agrees (x .rows) w (d .live) × (contradicts (d .step) ≡ true → ⊥)
 
-  module _ (drained : ℕ → ℕ → Bool) (s : Table) (v : Live) (h : Stands (x .rows) s drained v) (a : Agrees (x .rows) w v) where
-    kept-stays : (d : Did) → Kept x drained (tableAt v) d → Stays d
-    kept-stays d k = (stands-agrees (tableAt v) drained (d .live) (agrees-le (x .rows) w v a) (k .0), λ c. broken-none (tableAt v) (agrees-le (x .rows) w v a) (k .1 c))
-
-    pub run-layouts : (r : ℕ) → IsRow (x .rows) r → Stays (runRow x v r)
-    run-layouts r i = kept-stays (runRow x v r) (run-stands x drained (tableAt v) v r i (restart (x .rows) s drained v h))
-
-    pub guard-layouts : (t : Threshold) → List·Memᴰ t (x .thresholds) → isDecided (v .marks) (t .node) ≡ true → Stays (thresholdGuard x v t)
-    guard-layouts t m d = kept-stays (thresholdGuard x v t) (guard-stands x drained (tableAt v) v t (b .guards t m) d (restart (x .rows) s drained v h))
-
-    pub prefixes-layouts : (row : ℕ) → Stays (thresholdPrefixes x v row)
-    prefixes-layouts row = kept-stays (thresholdPrefixes x v row) (prefixes-stand x drained (tableAt v) v row (b .linked row) (restart (x .rows) s drained v h))
-
-    pub condition-layouts : (n : ℕ) → isDecided (v .marks) n ≡ true → ((r : ℕ) → drained r n ≡ false) → Stays (thresholdCondition x v n)
-    condition-layouts n d fresh =
-        let k = condition-stands x (tableAt v) drained n (b .distinct) v d fresh (restart (x .rows) s drained v h) in
-        (stands-agrees (tableAt v) (k .stands .0) _ (agrees-le (x .rows) w v a) (k .stands .1), λ c. broken-none (tableAt v) (agrees-le (x .rows) w v a) (k .broken c))
+  pub kept-stays : (drained : ℕ → ℕ → Bool) (v : Live) → Agrees (x .rows) w v → (d : Did) → Kept x drained (tableAt v) d → Stays d
+  kept-stays drained v a d k = (stands-agrees (tableAt v) drained (d .live) (agrees-le (x .rows) w v a) (k .0), λ c. broken-none (tableAt v) (agrees-le (x .rows) w v a) (k .1 c))

@@ -28,7 +28,8 @@ use Rattle.propagate.specs.Row.{Ran, ran, sureGuards, neverGuards, thresholdGua
 use Rattle.table.specs.Table.{Table, IsRow, termsOf, knownOf, possibleOf, reachedOf, AtMost, Conflict, lower-above, upper-reached, bound-reached, bound-out-of-reach, term-needed, term-too-heavy}
 use Rattle.table.specs.OrderLaws.{le, lt, ≤ℤ-trans, ≤ℤ-<ℤ-trans, pos-≤ℤ, max-up, sub-up, up-refl, at-most-up}
 use Rattle.table.specs.TableLaws.{Le, known-up, possible-down}
-use Rattle.follows.specs.AnswersLaws.{and-false, not-false, or-true, or-false, joined-which, joined-fine}
+use Rattle.between.specs.LoopLaws.{joined-fine}
+use Rattle.follows.specs.AnswersLaws.{and-false, not-false, or-true, or-false, joined-which}
 use Rattle.between.specs.RunsLaws.{guardsRun, trueRun, falseRun, run-ends}
 use Rattle.follows.specs.DecideLaws.{tableOf, Broken, Kept, decide-follows, scan-keeps}
 

@@ -42,12 +42,13 @@ use Rattle.residual.specs.SoundLaws.{Fresh, Distinct, residual-sound}
 use Rattle.possible_sums.specs.Search.{plan, search, searchStep, chosen}
 use Rattle.possible_sums.specs.SearchLaws.{search-refutes}
 use Rattle.between.specs.Between.{Index, Live, live, stateAt}
+use Rattle.between.specs.KeepsLaws.{Small}
 use Rattle.regions.specs.Sift.{Sifted, tryRow}
 use Rattle.regions.specs.SiftLaws.{tryTerms, tryResidual, tryLive, try-ends}
 use Rattle.table.specs.Table.{IsRow, termsOf, known, possible}
 use Rattle.table.specs.OrderLaws.{UpLe, le, lt, of-le, ≤ℤ-trans}
 use Rattle.table.specs.LayoutLaws.{row-made}
-use Rattle.ends.specs.KeepsLaws.{keeps-residual}
+use Rattle.ends.specs.KeepsLaws.{residual-named}
 use Rattle.follows.specs.AnswersLaws.{true-false, clash}
 use Rattle.follows.specs.StandsLaws.{tableAt, Apart, Stay, stay-same, stay-decide, apart-decide, known-exact, possible-exact}
 use Rattle.follows.specs.BuiltLaws.{Built}
@@ -315,6 +316,6 @@ module _ (j : Job) (x : Index) (b : Built j x) (conditions : (r : ℕ) → ScanL
       holds : Holds x w taken taken (tryLive x v gcds)
       holds =
           marked x w taken taken taken v (a .marks) (v .dirty) (nextRow (v .residuals)) h
-          (keeps-residual (Stay m) (λ k value n s p. stay-decide m value k n p) ts (stateAt v r) m gcds (conditions r) (stay-same m))
-          (keeps-residual Apart (λ k value n s p. apart-decide value k n p) ts (stateAt v r) m gcds (conditions r) (h .stands .apart)) (found .0)
-          (keeps-residual (Queued taken) (λ k value n s p. queued-decide taken value k n s p) ts (stateAt v r) m gcds (conditions r) (h .queued))
+          (residual-named (Stay m) Small (λ value k n s p. stay-decide m value k n p) ts (conditions r) (stateAt v r) m gcds (stay-same m))
+          (residual-named Apart Small (λ value k n s p. apart-decide value k n p) ts (conditions r) (stateAt v r) m gcds (h .stands .apart)) (found .0)
+          (residual-named (Queued taken) Small (queued-decide taken) ts (conditions r) (stateAt v r) m gcds (h .queued))

@@ -23,13 +23,13 @@ use Rattle.table.specs.TableLaws.{le-same, follows-start}
 use Rattle.follows.specs.AnswersLaws.{clash, never-true}
 use Rattle.follows.specs.RowCompleteLaws.{Ordered}
 use Rattle.follows.specs.StandsLaws.{tableAt, also, also-this, Apart, Stands, Stay, restart}
-use Rattle.follows.specs.MovesLaws.{run-stands, guard-stands, prefixes-stand}
+use Rattle.follows.specs.MovesLaws.{Kept, run-stands, guard-stands, prefixes-stand}
 use Rattle.follows.specs.DrainedLaws.{condition-stands}
 use Rattle.follows.specs.BuiltLaws.{Built}
 use Rattle.follows.specs.KeepsLaws.{run-keeps, guard-keeps, condition-keeps, prefixes-keeps}
 use Rattle.follows.specs.WaitingLaws.{Queued, queued-decide, first-decided, first-fresh, queued-taken}
 use Rattle.follows.specs.StartLaws.{marked-stands, wide-of}
-use Rattle.follows.specs.LayoutsLaws.{Agrees, Stays, run-layouts, guard-layouts, condition-layouts, prefixes-layouts}
+use Rattle.follows.specs.LayoutsLaws.{Agrees, agrees-le, broken-none, kept-stays}
 
 -- A layout gives each node of the masks its value.
 abbrev pub Fits : Layout → Marks → Type 0
@@ -68,45 +68,31 @@ marked x w drained taken now v m d q h stay apart fits queued = record {
 }
 
 module _ (j : Job) (x : Index) (b : Built j x) (ordered : (r : ℕ) → IsRow (x .rows) r → Ordered (getD (x .rows) r noRow)) (w : Layout) (is : IsLayout j w) where
+  -- WHAT STANDS loses no layout, where a contradiction means that a conflict follows
+  kept-fine : (drained taken : ℕ → Bool) (v : Live) → Agrees (x .rows) w v → (d : Did) → Kept x (λ (q : ℕ). drained) (tableAt v) d → Queued taken (d .live .marks) → Fine x w drained taken d
+  kept-fine drained taken v a d k queued =
+      let o = kept-stays j x b w is (λ (q : ℕ). drained) v a d k in
+      (never-true _ (o .1), record { stands = restart (x .rows) (tableAt v) (λ (q : ℕ). drained) (d .live) (k .0); agrees = o .0; queued = queued })
+
   -- A ROW RUN
   pub run-fine : (drained taken : ℕ → Bool) (v : Live) → Holds x w drained taken v → (r : ℕ) → IsRow (x .rows) r → Fine x w drained taken (runRow x v r)
   run-fine drained taken v h r i =
-      let a = run-layouts j x b w is (λ (q : ℕ). drained) (tableAt v) v (h .stands) (h .agrees) r i in (
-        never-true _ (a .1),
-        record {
-          stands = restart (x .rows) (tableAt v) (λ (q : ℕ). drained) (runRow x v r .live) (run-stands x (λ (q : ℕ). drained) (tableAt v) v r i (h .stands) .0);
-          agrees = a .0;
-          queued = run-keeps (Queued taken) (queued-decide taken) x ordered v r (h .queued);
-        },
-      )
+      kept-fine drained taken v (h .agrees) (runRow x v r) (run-stands x (λ (q : ℕ). drained) (tableAt v) v r i (h .stands)) (run-keeps (Queued taken) (queued-decide taken) x ordered v r (h .queued))
 
   -- A GUARD
   guard-fine : (drained taken : ℕ → Bool) (v : Live) → Holds x w drained taken v → (t : Threshold) → List·Memᴰ t (x .thresholds) → isDecided (v .marks) (t .node) ≡ true
       → Fine x w drained taken (thresholdGuard x v t)
   guard-fine drained taken v h t m d =
-      let a = guard-layouts j x b w is (λ (q : ℕ). drained) (tableAt v) v (h .stands) (h .agrees) t m d in (
-        never-true _ (a .1),
-        record {
-          stands = restart (x .rows) (tableAt v) (λ (q : ℕ). drained) (thresholdGuard x v t .live) (guard-stands x (λ (q : ℕ). drained) (tableAt v) v t (b .guards t m) d (h .stands) .0);
-          agrees = a .0;
-          queued = guard-keeps (Queued taken) (queued-decide taken) x ordered v t (h .queued);
-        },
-      )
+      kept-fine drained taken v (h .agrees) (thresholdGuard x v t) (guard-stands x (λ (q : ℕ). drained) (tableAt v) v t (b .guards t m) d (h .stands))
+      (guard-keeps (Queued taken) (queued-decide taken) x ordered v t (h .queued))
 
   -- A CONDITION
   condition-fine : (drained taken : ℕ → Bool) (v : Live) → Holds x w drained taken v → (n : ℕ) → isDecided (v .marks) n ≡ true → drained n ≡ false
       → Fine x w (also n drained) taken (thresholdCondition x v n)
   condition-fine drained taken v h n d fresh =
-      let a = condition-layouts j x b w is (λ (q : ℕ). drained) (tableAt v) v (h .stands) (h .agrees) n d (λ r. fresh) in
-      let c = never-true _ (a .1) in
-      let k = condition-stands x (tableAt v) (λ (q : ℕ). drained) n (b .distinct) v d (λ r. fresh) (h .stands) in (
-        c,
-        record {
-          stands = restart (x .rows) (tableAt v) (λ (q : ℕ). also n drained) (thresholdCondition x v n .live) (k .everywhere c);
-          agrees = a .0;
-          queued = condition-keeps (Queued taken) (queued-decide taken) x ordered v n (h .queued);
-        },
-      )
+      let k = condition-stands x (tableAt v) (λ (q : ℕ). drained) n (b .distinct) v d (λ r. fresh) (h .stands) in
+      let c = never-true _ (λ e. broken-none j x b w is (tableAt v) (agrees-le (x .rows) w v (h .agrees)) (k .broken e)) in
+      kept-fine (also n drained) taken v (h .agrees) (thresholdCondition x v n) (k .everywhere c, k .broken) (condition-keeps (Queued taken) (queued-decide taken) x ordered v n (h .queued))
 
   -- A NODE IS TAKEN
   node-fine : (v : Live) → Between x w v → 0 < v .marks .nodes .ring .count → FineBetween x w (takeNode x v)
@@ -141,29 +127,13 @@ module _ (j : Job) (x : Index) (b : Built j x) (ordered : (r : ℕ) → IsRow (x
 
   -- A ROW IS TAKEN
   row-fine : (v : Live) → Between x w v → FineBetween x w (takeRow x v)
-  row-fine v (taken, h) = row-ends x v (FineBetween x w) (
-    never-true _ (a .1),
-    (
-      taken,
-      record {
-        stands = restart (x .rows) (tableAt u) (λ (q : ℕ). taken) (thresholdPrefixes x u r .live) (prefixes-stand x (λ (q : ℕ). taken) (tableAt u) u r (b .linked r) (k .stands) .0);
-        agrees = a .0;
-        queued = prefixes-keeps (Queued taken) (queued-decide taken) x ordered u r (k .queued);
-      },
-    ),
-  )
-    where
-      u : Live
-      u = unrowed v
-
-      r : ℕ
-      r = oldest (v .dirty .queue)
-
-      k : Holds x w taken taken u
-      k = marked x w taken taken taken v (v .marks) (nextRow (v .dirty)) (v .residuals) h (λ n d value. refl) (h .stands .apart) (agrees-fits x w v (h .agrees)) (h .queued)
-
-      a : Stays j x b w is (thresholdPrefixes x u r)
-      a = prefixes-layouts j x b w is (λ (q : ℕ). taken) (tableAt u) u (k .stands) (k .agrees) r
+  row-fine v (taken, h) =
+      let u = unrowed v in
+      let r = oldest (v .dirty .queue) in
+      let k = marked x w taken taken taken v (v .marks) (nextRow (v .dirty)) (v .residuals) h (λ n d value. refl) (h .stands .apart) (agrees-fits x w v (h .agrees)) (h .queued) in
+      let o = kept-fine taken taken u (k .agrees) (thresholdPrefixes x u r) (prefixes-stand x (λ (q : ℕ). taken) (tableAt u) u r (b .linked r) (k .stands))
+      (prefixes-keeps (Queued taken) (queued-decide taken) x ordered u r (k .queued)) in
+      row-ends x v (FineBetween x w) (o .0, (taken, o .1))
 
   -- A TURN
   turn-fine : (v : Live) → atRest v ≡ false → Between x w v → FineBetween x w (turn x v)

@@ -1,9 +1,9 @@
 -- What a row that is run, a state that is stored and a row that is queued keep, a guard, a condition and a row's prefixes keep too.
 -- Assumes nothing.
-use Prim.Native.Nat.{ℕ, _-_, _<_}
+use Prim.Native.Nat.{ℕ, _<_}
 use native.Mathlib.Decide.{ℕ-discrete}
 use native.Mathlib.Omega.{arith}
-use mathlib.Core.Path.{_≡_, refl, sym, ap, ap₂, subst, _∙_}
+use mathlib.Core.Path.{_≡_, sym, ap, ap₂, _∙_}
 use mathlib.Core.Bool.{Bool, true, false, cond, _||_}
 use mathlib.Core.List.{List}
 use lib.ListN.{length, getD, set}
@@ -21,8 +21,8 @@ use Rattle.prefixes.specs.Links.{neighbours}
 use Rattle.propagate.specs.Row.{wantsResidual}
 use Rattle.propagate.specs.ScanLaws.{All}
 use Rattle.between.specs.Between.{Index, Live, live, Did, stateAt, residualQueued, runWith, runRow, guardOf, thresholdCondition, thresholdPrefixes}
-use Rattle.between.specs.Held.{endBy, noThreshold, rowAt, GuardsShaped, LinksShaped, HoldsGuards, HoldsLinks}
-use Rattle.between.specs.GuardLaws.{guard-not, guard-is, guard-row}
+use Rattle.between.specs.Held.{GuardsShaped, LinksShaped, HoldsGuards, HoldsLinks}
+use Rattle.between.specs.GuardLaws.{guard-held}
 use Rattle.between.specs.WalkLaws.{Moves, all-member, keep-guard, keep-condition, keep-prefixes}
 use Rattle.between.specs.KeptLaws.{Light}
 use Rattle.between.specs.KeptHeldLaws.{links-inside}
@@ -39,16 +39,7 @@ Inside h r = r < length (h .rows)
 module _ (x : Index) (h : HeldRows) (Q : Live → Type 0) (m : Moves x (Inside h) Q) where
   pub keep-guard-of : (nodes : List (List ℕ)) (bounds : List ℤ) → GuardsShaped h nodes bounds → HoldsGuards x nodes bounds → (n : ℕ) → n < length nodes
       → (v : Live) → Q v → Q (guardOf x v (x .thresholds) n .live)
-  keep-guard-of nodes bounds y z n k v q = by (ℕ-discrete (endBy 0 nodes n) 0)
-    where
-      by : Dec (endBy 0 nodes n ≡ 0) → Q (guardOf x v (x .thresholds) n .live)
-      by (yes e) = subst (λ (d : Did). Q (d .live)) (guard-not x nodes bounds z n k v (endBy 0 nodes n) refl e) q
-      by (no e) =
-          let p : 0 < endBy 0 nodes n = omega arith in
-          let f = guard-is x nodes bounds z n k v (endBy 0 nodes n) refl p in
-          let g = getD (x .thresholds) (endBy 0 nodes n - 1) noThreshold in
-          let r : rowAt x (endBy 0 nodes n - 1) < length (h .rows) = rw (guard-row x nodes bounds z n k v (endBy 0 nodes n) refl p (endBy 1 nodes n) refl) (y .rows n k p) in
-          subst (λ (d : Did). Q (d .live)) (f .guard) (keep-guard x (Inside h) Q m v g r q)
+  keep-guard-of nodes bounds y z n k v q = guard-held x h nodes bounds y z n k v (λ (d : Did). Q (d .live)) q (λ t r c. keep-guard x (Inside h) Q m v t r q)
 
   pub keep-edges : (v : Live) (n : ℕ) → All (Light h) (edgesOf (x .rows) n) → Q v → Q (thresholdCondition x v n .live)
   keep-edges v n l q = keep-condition x (Inside h) Q m v n (λ e i. all-member (Light h) (edgesOf (x .rows) n) l e i .row) q

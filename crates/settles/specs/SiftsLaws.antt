@@ -13,10 +13,11 @@ use Rattle.queues.specs.Queue.{Rows, oldest, nextRow}
 use Rattle.queues.specs.Marks.{Marks, isDecided, Decided, decide}
 use Rattle.queues.specs.MarksLaws.{decide-new}
 use Rattle.between.specs.Between.{Index, Live, live, stateAt}
+use Rattle.between.specs.KeepsLaws.{Small}
 use Rattle.regions.specs.Drain.{indexOf, mark, settle}
 use Rattle.regions.specs.Sift.{Sifted, tryRow, sift}
 use Rattle.regions.specs.SiftLaws.{tryTerms, tryResidual, tryLive, try-leaves, sift-walks}
-use Rattle.ends.specs.KeepsLaws.{keeps-residual}
+use Rattle.ends.specs.KeepsLaws.{residual-named}
 use Rattle.ends.specs.TurnsLaws.{Indexed}
 use Rattle.ends.specs.BuiltLaws.{Fits, indexed}
 use Rattle.table.specs.Table.{Table, start}
@@ -64,9 +65,9 @@ abbrev Own : Index → Live → Marks → Type 0
 Own x v m = Steady x (start (bit (m .sure)) (bit (m .never))) (live (v .states) m (v .dirty) (v .residuals))
 
 -- one more node decided, by whatever reason
-own-decide : (x : Index) (v : Live) (m : Marks) (value : Bool) (n : ℕ) → n < maxNodes → Own x v m → Own x v (decide value m n .marks)
+own-decide : (x : Index) (v : Live) (value : Bool) (m : Marks) (n : ℕ) → n < maxNodes → Own x v m → Own x v (decide value m n .marks)
 unfolding mark
-own-decide x v m value n small h =
+own-decide x v value m n small h =
     ⊎-elim (λ (d : isDecided m n ≡ true). subst (Own x v) (sym (decide-nothing value m n d)) h) (λ (d : isDecided m n ≡ false). by value d) (true-false (isDecided m n))
   where
     w : Live
@@ -85,7 +86,7 @@ try-keeps : (x : Index) → Indexed x → (v : Live) (gcds : List ℕ) (visits :
 try-keeps x ix v gcds visits h =
     let r = oldest (v .residuals .queue) in
     let m = tryResidual x v gcds .marks in
-    let own = keeps-residual (Own x v) (λ m value n small p. own-decide x v m value n small p) (tryTerms x v) (stateAt v r) (v .marks) gcds (ix .conditions r) h in
+    let own = residual-named (Own x v) Small (own-decide x v) (tryTerms x v) (ix .conditions r) (stateAt v r) (v .marks) gcds h in
     try-leaves x v gcds visits (λ (w : Live) (g : List ℕ). Steady x (ownStart w) w)
     (other-residuals x (ownStart (tryLive x v gcds)) (live (v .states) m (v .dirty) (v .residuals)) (nextRow (v .residuals)) own)
 

@@ -3,7 +3,7 @@ use Prim.Native.Nat.{ℕ, _<_, _≤_}
 use native.Mathlib.Omega.{arith}
 use mathlib.Core.Path.{_≡_, refl, sym, ap, subst, _∙_}
 use mathlib.Core.Bool.{Bool, true, false}
-use mathlib.Core.List.{List, [], _∷_, List·Memᴰ, List·Memᴰ·head, List·Memᴰ·tail}
+use mathlib.Core.List.{List}
 use lib.ListN.{length, getD}
 use borrow.Author.Tests.{eqb-false}
 use lib.IntN.{ℤ}
@@ -18,21 +18,20 @@ use Rattle.state.specs.Step.{stepNumber, isUnchanged}
 use Rattle.state.specs.Shape.{Figures}
 use Rattle.queues.specs.Queue.{Rows, isEmpty, oldest, nextRow}
 use Rattle.queues.specs.RowsLaws.{flags-next}
-use Rattle.queues.specs.Marks.{Marks, isDecided, Decided}
+use Rattle.queues.specs.Marks.{isDecided}
 use Rattle.thresholds.specs.Rows.{noRow}
 use Rattle.thresholds.specs.Raw.{stretch}
 use Rattle.thresholds.specs.RawLaws.{stretch-length}
 use Rattle.residual.specs.Residual.{Residual, thresholdResidual}
-use Rattle.residual.specs.declared.Interval.{Interval}
-use Rattle.residual.specs.ForceLaws.{Each, force-cases, residual-keeping}
 use Rattle.possible_sums.specs.declared.Search.{Search}
 use Rattle.possible_sums.specs.Search.{search, searchStep, searchVisits}
 use Rattle.between.specs.Between.{Index, Live, live, stateAt}
 use Rattle.between.specs.Held.{startBy, endBy, heldTerms}
+use Rattle.between.specs.KeepsLaws.{Small, member-all}
 use Rattle.regions.specs.Drain.{withMarks}
 use Rattle.regions.specs.Sift.{Sifted, sifted, tryRow}
-use Rattle.regions.specs.SiftLaws.{tryResidual, tryLive, try-row, try-leaves}
-use Rattle.ends.specs.KeepsLaws.{keeps-residual}
+use Rattle.regions.specs.SiftLaws.{tryTerms, tryResidual, tryLive, try-row, try-leaves}
+use Rattle.ends.specs.KeepsLaws.{residual-named}
 use Rattle.ends.specs.SettlesLaws.{fall-try}
 use Rattle.follows.specs.WaitingLaws.{Queued, queued-decide}
 use Rattle.settle.specs.Serves.{Serves, Low, Within, Going}
@@ -120,10 +119,6 @@ module _ (h : HeldRows) (v : Live) (gcds words : List ℕ) (t : Tries h v gcds w
 
 -- ---- what can be drained stays such
 
-each-of : (Q : Term → Type 0) (ts : List Term) → ((t : Term) → List·Memᴰ t ts → Q t) → Each Q ts
-each-of Q [] f = tt
-each-of Q (t ∷ ts) f = (f t (List·Memᴰ·head refl), each-of Q ts (λ u i. f u (List·Memᴰ·tail i)))
-
 module _ (x : Index) (bounds : List ℤ) (b : Built) (s : Serves x bounds b) (v : Live) (g : Going (b .held) (b .nodes) v) (some : 0 < v .residuals .queue .ring .count) (gcds : List ℕ) (visits : ℕ) where
   abbrev r : ℕ
   r = oldest (v .residuals .queue)
@@ -135,20 +130,13 @@ module _ (x : Index) (bounds : List ℤ) (b : Built) (s : Serves x bounds b) (v 
   w = g .within
 
   queued : Queued (w .taken) (a .marks)
-  queued =
-      keeps-residual (Queued (w .taken)) (λ m value n k p. queued-decide (w .taken) value m n k p) (getD (x .rows) r noRow .terms) (stateAt v r) (v .marks) gcds (s .indexed .conditions r)
-      (w .tracked .queued)
+  queued = residual-named (Queued (w .taken)) Small (queued-decide (w .taken)) (tryTerms x v) (s .indexed .conditions r) (stateAt v r) (v .marks) gcds (w .tracked .queued)
 
   low : Low (length (b .nodes)) (a .marks)
   low =
-      residual-keeping (λ (t : Term). t .condition < length (b .nodes)) (Low (length (b .nodes)))
-      (λ (i : Interval) (m : Marks) (t : Term) (divisor : ℕ) k p.
-      force-cases (λ (d : Decided). Low (length (b .nodes)) (d .marks)) i m t divisor p (λ e f. p) (λ e. low-decide (length (b .nodes)) true m (t .condition) k p)
-      (λ e. low-decide (length (b .nodes)) false m (t .condition) k p))
-      (getD (x .rows) r noRow .terms) (stateAt v r) (v .marks) gcds
-      (each-of (λ (t : Term). t .condition < length (b .nodes)) (getD (x .rows) r noRow .terms)
-      (s .names r (omega (arith, s .holds .many, oldest-among (length (b .held .rows)) (v .residuals) (g .sound .residuals) some (w .tracked .residuals))) .terms))
-      (w .tracked .low)
+      let are = s .names r (omega (arith, s .holds .many, oldest-among (length (b .held .rows)) (v .residuals) (g .sound .residuals) some (w .tracked .residuals))) .terms in
+      residual-named (Low (length (b .nodes))) (λ (n : ℕ). n < length (b .nodes)) (low-decide (length (b .nodes))) (tryTerms x v)
+      (member-all (λ (t : Term). t .condition < length (b .nodes)) (tryTerms x v) are) (stateAt v r) (v .marks) gcds (w .tracked .low)
 
   within-after : Within (b .held) (b .nodes) (tryLive x v gcds)
   within-after = record {
