@@ -1,6 +1,6 @@
 -- What moves between rows, case by case as the code tells them apart. Assumes nothing.
 use Prim.Native.Nat.{ℕ, _<_}
-use mathlib.Core.Path.{_≡_, refl, sym, ap, ap₂, _∙_}
+use mathlib.Core.Path.{_≡_, sym, ap, ap₂, _∙_}
 use mathlib.Core.Logic.{_≢_}
 use mathlib.Core.Bool.{Bool, true, false}
 use mathlib.Core.List.{List}
@@ -82,4 +82,4 @@ module _ (x : Index) (v : Live) (t : Threshold) (r : ℕ) (row : rowNumber (x .r
       (λ f. e ∙ ap (λ (k : ℕ). bounded x v k (g .state)) (sym row) ∙ ap (λ (y : Tightened). bounded x v (guardRow x t) (y .state)) (sym same))
 
   pub guard-tells-nothing : g .changed ≡ false → did v Unchanged ≡ thresholdGuard x v t
-  guard-tells-nothing h = guard-ends x v t (λ (d : Did). did v Unchanged ≡ d) (λ f. refl) (λ f. clash (sym f ∙ (ap (λ (y : Tightened). y .changed) same ∙ h)))
+  guard-tells-nothing h = guard-ends x v t (λ (d : Did). did v Unchanged ≡ d) (λ f i. did v Unchanged) (λ f. clash (sym f ∙ (ap (λ (y : Tightened). y .changed) same ∙ h)))

@@ -3,19 +3,18 @@ use Prim.Native.Nat.{ℕ, _+_, _<_, _≤_}
 use native.Mathlib.Decide.{ℕ-discrete}
 use native.Mathlib.Omega.{arith}
 use mathlib.Core.Path.{_≡_, refl, ap, _∙_}
-use mathlib.Core.Bool.{Bool, true, false, cond, _&&_}
+use mathlib.Core.Bool.{Bool, true, false, cond}
 use mathlib.Core.List.{List}
-use lib.Dec.{leb}
 use lib.ListN.{length, getD, set, length-set}
 use lib.Seq.{getD-set-same, getD-set-other}
 use lib.IntN.{ℤ, pos}
-use lib.Signed.{mag, leZ, ltZ}
+use lib.Signed.{mag}
 use Rattle.memory.specs.Buffers.{HeldRows}
 use Rattle.signed.specs.SignedLaws.{mag-add, mag-minus}
 use Rattle.state.specs.declared.State.{State}
 use Rattle.state.specs.declared.Upper.{Upper}
 use Rattle.state.specs.declared.Upper.the-variants.{Under}
-use Rattle.state.specs.State.{noState, limit, upperAtMost, withLower, withUpper, drained, withKnown, withPossible}
+use Rattle.state.specs.State.{noState, limit, withLower, withUpper, drained, withKnown, withPossible}
 use Rattle.state.specs.Shape.{Drains}
 use Rattle.queues.specs.Queue.{Rows, queueRow}
 use Rattle.queues.specs.RowsLaws.{Flags, flags-queue}
@@ -27,7 +26,8 @@ use Rattle.propagate.specs.GuardsLaws.{all-guards, all-terms}
 use Rattle.propagate.specs.Row.{wantsResidual, thresholdRow}
 use Rattle.propagate.specs.RowLaws.{Moved, kept-row}
 use Rattle.propagate.specs.declared.Tightened.{Tightened}
-use Rattle.propagate.specs.Told.{guardState, movedLower, movedState, under}
+use Rattle.propagate.specs.Told.{guardState, movedLower, movedState}
+use Rattle.propagate.specs.ToldLaws.{guard-cases, lower-cases, upper-cases}
 use Rattle.memory.specs.Limits.{maxThresholds}
 use Rattle.memory.specs.Ranges.{figureLimit, weightLimit, drainLimit}
 use Rattle.between.specs.Between.{Live, withState, Did, residualQueued, runWith}
@@ -138,30 +138,15 @@ module _ (h : HeldRows) (n r : ℕ) where
 
   -- A guard's bound is told.
   pub fit-guard : (s : State) (value : Bool) (b : ℤ) → mag b < figureLimit → Fit h n r s → Fit h n r (guardState s value b .state)
-  fit-guard s true b l f = by (leZ b (s .lower)) refl
-    where
-      by : (c : Bool) → leZ b (s .lower) ≡ c → Fit h n r (guardState s true b .state)
-      by true e = rw (guardState, e) f
-      by false e = rw (guardState, e) (fit-lower s b l f)
-  fit-guard s false b l f = by (upperAtMost (s .upper) b) refl
-    where
-      by : (c : Bool) → upperAtMost (s .upper) b ≡ c → Fit h n r (guardState s false b .state)
-      by true e = rw (guardState, e) f
-      by false e = rw (guardState, e) (fit-upper s (Under b) l f)
+  fit-guard s value b l f = guard-cases s value b (λ (t : Tightened). Fit h n r (t .state)) (λ e. f) (λ e g. fit-lower s b l f) (λ e g. fit-upper s (Under b) l f)
 
   -- Another row's bounds are told.
-  fit-pick : (c : Bool) (t u : Tightened) → Fit h n r (t .state) → Fit h n r (u .state) → Fit h n r (cond c t u .state)
-  fit-pick true t u f g = f
-  fit-pick false t u f g = g
-
   pub fit-prefix : (source s : State) (i k : ℕ) → mag (source .lower) < figureLimit → mag (limit (source .upper)) < figureLimit → Fit h n r s
       → Fit h n r (movedState source s i k .state)
   fit-prefix source s i k a b f =
       let l = movedLower source s i k in
-      let g = fit-pick (leb i k && ltZ (s .lower) (source .lower)) (record { state = withLower s (source .lower); changed = true }) (record { state = s; changed = false })
-      (fit-lower s (source .lower) a f) f in
-      fit-pick (leb k i && under (source .upper) (l .state .upper)) (record { state = withUpper (l .state) (source .upper); changed = true }) l
-      (fit-upper (l .state) (source .upper) b g) g
+      let g = lower-cases source i k (λ (t : Tightened). Fit h n r (t .state)) s (λ e. fit-lower s (source .lower) a f) (λ e. f) in
+      upper-cases source i k (λ (t : Tightened). Fit h n r (t .state)) l (λ e. fit-upper (l .state) (source .upper) b g) (λ e. g)
 
 -- ---- what follows an equation
 

@@ -4,7 +4,7 @@ use Prim.Native.Nat.{ℕ, zero, suc, _+_, _-_, _*_, _≤_, _<_}
 use native.Mathlib.Nat.{le-refl, not-suc-le-zero, le-of-suc-le-suc}
 use native.Mathlib.Omega.{arith}
 use mathlib.Core.Path.{_≡_, refl, sym, ap₂, _∙_}
-use mathlib.Core.Bool.{Bool, true, false, cond, _&&_}
+use mathlib.Core.Bool.{Bool, true, false, _&&_}
 use mathlib.Core.List.{List, [], _∷_}
 use lib.ListN.{length, getD, set}
 use lib.Dec.{leb}
@@ -21,6 +21,7 @@ use Rattle.thresholds.specs.GuardsLaws.{raised-pos, raised-small}
 use Rattle.propagate.specs.ScanLaws.{clash}
 use Rattle.propagate.specs.declared.Tightened.{Tightened}
 use Rattle.propagate.specs.Told.{tight, guardState, movedLower, under, movedUpper, movedState}
+use Rattle.propagate.specs.ToldLaws.{guard-cases, lower-cases, upper-cases}
 
 -- Both bounds of a row are in the range.
 pub record Bounded (s : State) : Type 0 where
@@ -87,45 +88,30 @@ tells-less : (s t : State) → Bounded t → room t < room s → Tells s (tight 
 tells-less s t h k = record { bounded = h; most = omega arith; less = λ e. k }
 
 pub tells-guard : (s : State) (value : Bool) (b : ℤ) → Bounded s → Bound b → Tells s (guardState s value b)
-tells-guard s true b h k = by (leZ b (s .lower)) refl
-  where
-    by : (c : Bool) → leZ b (s .lower) ≡ c → Tells s (elim c [ true ↦ tight s false | false ↦ tight (withLower s b) true ])
-    by true e = tells-not s h
-    by false e = tells-less s (withLower s b) (bounded-lower s b h k) (room-lower s b h k e)
-tells-guard s false b h k = by (upperAtMost (s .upper) b) refl
-  where
-    by : (c : Bool) → upperAtMost (s .upper) b ≡ c → Tells s (elim c [ true ↦ tight s false | false ↦ tight (withUpper s (Under b)) true ])
-    by true e = tells-not s h
-    by false e = tells-less s (withUpper s (Under b)) (bounded-upper s (Under b) h k) (room-upper s b h k e)
+tells-guard s value b h k =
+    guard-cases s value b (Tells s) (λ e. tells-not s h) (λ e f. tells-less s (withLower s b) (bounded-lower s b h k) (room-lower s b h k f))
+    (λ e f. tells-less s (withUpper s (Under b)) (bounded-upper s (Under b) h k) (room-upper s b h k f))
 
 and-right : (a b : Bool) → (a && b) ≡ true → b ≡ true
 and-right true b h = h
 and-right false b h = clash (sym h)
 
 tells-lower : (source s : State) (n k : ℕ) → Bounded source → Bounded s → Tells s (movedLower source s n k)
-tells-lower source s n k o h = by (leb n k && ltZ (s .lower) (source .lower)) refl
-  where
-    by : (c : Bool) → (leb n k && ltZ (s .lower) (source .lower)) ≡ c → Tells s (cond c (tight (withLower s (source .lower)) true) (tight s false))
-    by true e =
-        tells-less s (withLower s (source .lower)) (bounded-lower s (source .lower) h (o .lower))
-        (room-lower s (source .lower) h (o .lower) (ltZ-nle (s .lower) (source .lower) (and-right (leb n k) (ltZ (s .lower) (source .lower)) e)))
-    by false e = tells-not s h
+tells-lower source s n k o h =
+    lower-cases source n k (Tells s) s (λ e. tells-less s (withLower s (source .lower)) (bounded-lower s (source .lower) h (o .lower))
+    (room-lower s (source .lower) h (o .lower) (ltZ-nle (s .lower) (source .lower) (and-right (leb n k) (ltZ (s .lower) (source .lower)) e)))) (λ e. tells-not s h)
 
 tells-then : (s : State) (t : Tightened) (u : State) → Tells s t → Bounded u → room u < room (t .state) → Tells s (tight u true)
 tells-then s t u h k l = tells-less s u k (omega (arith, h .most))
 
 tells-upper : (source s : State) (t : Tightened) (n k : ℕ) → Bounded source → Tells s t → Tells s (movedUpper source t n k)
-tells-upper source s t n k o h = by (leb k n && under (source .upper) (t .state .upper)) refl
+tells-upper source s t n k o h = upper-cases source n k (Tells s) t (λ e. one (source .upper) (o .upper) (and-right (leb k n) (under (source .upper) (t .state .upper)) e)) (λ e. h)
   where
     one : (u : Upper) → Bound (limit u) → under u (t .state .upper) ≡ true → Tells s (tight (withUpper (t .state) u) true)
     one Open b e = clash (sym e)
     one (Under a) b e =
         tells-then s t (withUpper (t .state) (Under a)) h (bounded-upper (t .state) (Under a) (h .bounded) b)
         (room-upper (t .state) a (h .bounded) b (not-true (upperAtMost (t .state .upper) a) e))
-
-    by : (c : Bool) → (leb k n && under (source .upper) (t .state .upper)) ≡ c → Tells s (cond c (tight (withUpper (t .state) (source .upper)) true) t)
-    by true e = one (source .upper) (o .upper) (and-right (leb k n) (under (source .upper) (t .state .upper)) e)
-    by false e = h
 
 pub tells-moved : (source s : State) (n k : ℕ) → Bounded source → Bounded s → Tells s (movedState source s n k)
 tells-moved source s n k o h = tells-upper source s (movedLower source s n k) n k o (tells-lower source s n k o h)

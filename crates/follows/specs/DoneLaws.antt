@@ -8,7 +8,7 @@ use mathlib.Core.Bool.{Bool, true, false, not, cond, _&&_, _||_}
 use mathlib.Core.List.{List, List·Memᴰ}
 use mathlib.Core.Logic.{⊎-elim, _≢_}
 use lib.ListN.{length, getD, set, take, drop, length-set}
-use lib.Dec.{eqb, leb}
+use lib.Dec.{eqb}
 use lib.IntN.{ℤ, pos, _-ℤ_}
 use lib.Signed.{leZ, ltZ}
 use borrow.Author.Tests.{eq-eqb}
@@ -16,7 +16,6 @@ use Rattle.numeric.specs.Threshold.{Threshold}
 use Rattle.state.specs.declared.Step.the-variants.{Contradiction}
 use Rattle.state.specs.declared.State.{State}
 use Rattle.state.specs.declared.Upper.{Upper}
-use Rattle.state.specs.declared.Upper.the-variants.{Under}
 use Rattle.state.specs.Step.{contradicts}
 use Rattle.state.specs.State.{maxZ, reached, upperAtMost, conflict, withLower, withUpper, drained, withKnown, withPossible}
 use Rattle.words.specs.Mask.{bit}
@@ -26,7 +25,8 @@ use Rattle.thresholds.specs.Rows.{Row, noRow, Edge, edgesOf, rowNumber}
 use Rattle.prefixes.specs.Links.{neighbours}
 use Rattle.propagate.specs.declared.Tightened.{Tightened}
 use Rattle.propagate.specs.Row.{Ran, ran, scans, thresholdRow}
-use Rattle.propagate.specs.Told.{tight, guardState, movedLower, movedState, under}
+use Rattle.propagate.specs.Told.{guardState, movedLower, movedState}
+use Rattle.propagate.specs.ToldLaws.{guard-cases, lower-cases, upper-cases}
 use Rattle.between.specs.Between.{Index, Live, live, stateAt, Did, runRow, runWith, thresholdGuard, thresholdCondition, termCount, thresholdPrefixes}
 use Rattle.between.specs.LoopLaws.{condition-walk}
 use Rattle.between.specs.WalkLaws.{walk-fine, prefix-fine, guardRow, guard-ends}
@@ -124,16 +124,8 @@ passed-cursors row a b m e p = record {
 
 guard-cursors : (st : State) (value : Bool) (b : ℤ) → SameCursors (guardState st value b .state) st
 unfolding withLower withUpper
-guard-cursors st true b = by (leZ b (st .lower))
-  where
-    by : (c : Bool) → let o : Tightened = elim c [ true ↦ tight st false | false ↦ tight (withLower st b) true ] in SameCursors (o .state) st
-    by true = same st
-    by false = record { sure = refl; never = refl; true-term = refl; false-term = refl }
-guard-cursors st false b = by (upperAtMost (st .upper) b)
-  where
-    by : (c : Bool) → let o : Tightened = elim c [ true ↦ tight st false | false ↦ tight (withUpper st (Under b)) true ] in SameCursors (o .state) st
-    by true = same st
-    by false = record { sure = refl; never = refl; true-term = refl; false-term = refl }
+guard-cursors st value b = guard-cases st value b (λ (o : Tightened). SameCursors (o .state) st) (λ e. same st)
+    (λ e f. record { sure = refl; never = refl; true-term = refl; false-term = refl }) (λ e f. record { sure = refl; never = refl; true-term = refl; false-term = refl })
 
 drained-cursors : (value : Bool) (w : ℕ) (st : State) → SameCursors (drained value w st) st
 unfolding drained withKnown withPossible
@@ -142,15 +134,10 @@ drained-cursors false w st = record { sure = refl; never = refl; true-term = ref
 
 moved-cursors : (source st : State) (n k : ℕ) → SameCursors (movedState source st n k .state) st
 unfolding withLower withUpper
-moved-cursors source st n k = upper (leb k n && under (source .upper) (movedLower source st n k .state .upper)) (movedLower source st n k) (lower (leb n k && ltZ (st .lower) (source .lower)))
-  where
-    lower : (c : Bool) → SameCursors (cond c (tight (withLower st (source .lower)) true) (tight st false) .state) st
-    lower true = record { sure = refl; never = refl; true-term = refl; false-term = refl }
-    lower false = same st
-
-    upper : (c : Bool) (t : Tightened) → SameCursors (t .state) st → SameCursors (cond c (tight (withUpper (t .state) (source .upper)) true) t .state) st
-    upper true t e = record { sure = e .sure; never = e .never; true-term = e .true-term; false-term = e .false-term }
-    upper false t e = e
+moved-cursors source st n k =
+    let first = lower-cases source n k (λ (o : Tightened). SameCursors (o .state) st) st (λ e. record { sure = refl; never = refl; true-term = refl; false-term = refl }) (λ e. same st) in
+    upper-cases source n k (λ (o : Tightened). SameCursors (o .state) st) (movedLower source st n k)
+    (λ e. record { sure = first .sure; never = first .never; true-term = first .true-term; false-term = first .false-term }) (λ e. first)
 
 module _ (x : Index) (ordered : (r : ℕ) → IsRow (x .rows) r → Ordered (getD (x .rows) r noRow)) where
   -- what a run does to the marks: they grow

@@ -4,7 +4,7 @@ use Prim.Native.Nat.{ℕ, _≤_, _<_}
 use native.Mathlib.Decide.{ℕ-discrete}
 use native.Mathlib.Omega.{arith}
 use mathlib.Core.Path.{_≡_, refl, sym, ap, _∙_, subst}
-use mathlib.Core.Bool.{Bool, true, false, not, cond, _&&_}
+use mathlib.Core.Bool.{Bool, true, false, not, cond}
 use mathlib.Core.List.{List, [], _∷_, List·Memᴰ, List·Memᴰ·cases-cons, List·Memᴰ·not-nil}
 use mathlib.Core.Logic.{_⊎_, inl, inr, ⊎-elim, _≢_}
 use lib.ListN.{length, getD, set, length-set, length-append}
@@ -27,7 +27,8 @@ use Rattle.thresholds.specs.Rows.{Edge, edgesOf, rowNumber}
 use Rattle.prefixes.specs.Links.{Link, links, neighbours}
 use Rattle.prefixes.specs.LinksLaws.{link, link-starts, Climbs, stay, up, across, onward, climbs-exactly, downward, upward, joined-neighbours}
 use Rattle.propagate.specs.declared.Tightened.{Tightened}
-use Rattle.propagate.specs.Told.{tight, movedLower, movedState, under}
+use Rattle.propagate.specs.Told.{movedLower, movedState, under}
+use Rattle.propagate.specs.ToldLaws.{lower-cases, upper-cases}
 use Rattle.between.specs.Between.{Index, Live, live, stateAt, Did, runRow, runWith, thresholdGuard, thresholdCondition, termCount, prefixesFrom, thresholdPrefixes}
 use Rattle.between.specs.LoopLaws.{drained-lower, drained-upper, edgeRun, moved, movedRun}
 use Rattle.between.specs.WalkLaws.{prefix-fine, guardRow, guardTold, guard-ends, condition-keeps}
@@ -205,22 +206,12 @@ module _ (x : Index) where
     abbrev last : Tightened
     last = movedState source st n k
 
-    -- the upper's part leaves the lower
-    lower-last : last .state .lower ≡ first .state .lower
-    unfolding withUpper
-    lower-last = by (leb k n && under (source .upper) (first .state .upper)) first
-      where
-        by : (b : Bool) (t : Tightened) → cond b (tight (withUpper (t .state) (source .upper)) true) t .state .lower ≡ t .state .lower
-        by true t = refl
-        by false t = refl
-
     lower-told : n ≤ k → source .lower ≤ℤ last .state .lower
-    unfolding withLower
-    lower-told h = subst (λ (z : ℤ). source .lower ≤ℤ z) (sym lower-last) (by (leb n k && ltZ (st .lower) (source .lower)) refl)
-      where
-        by : (b : Bool) → (leb n k && ltZ (st .lower) (source .lower)) ≡ b → source .lower ≤ℤ cond b (tight (withLower st (source .lower)) true) (tight st false) .state .lower
-        by true e = ≤ℤ-refl (source .lower)
-        by false e = le (nlt-leZ (st .lower) (source .lower) (and-one (leb n k) (ltZ (st .lower) (source .lower)) (le-leb n k h) e))
+    unfolding withLower withUpper
+    lower-told h =
+        let low = lower-cases source n k (λ (t : Tightened). source .lower ≤ℤ t .state .lower) st (λ e. ≤ℤ-refl (source .lower))
+        (λ e. le (nlt-leZ (st .lower) (source .lower) (and-one (leb n k) (ltZ (st .lower) (source .lower)) (le-leb n k h) e))) in
+        upper-cases source n k (λ (t : Tightened). source .lower ≤ℤ t .state .lower) first (λ e. low) (λ e. low)
 
     not-under : (a b : Upper) → under a b ≡ false → UpLe b a
     not-under Open b e = tt
@@ -233,27 +224,14 @@ module _ (x : Index) where
 
     upper-told : k ≤ n → UpLe (last .state .upper) (source .upper)
     unfolding withUpper
-    upper-told h = by (leb k n && under (source .upper) (first .state .upper)) refl
-      where
-        by : (b : Bool) → (leb k n && under (source .upper) (first .state .upper)) ≡ b → UpLe (cond b (tight (withUpper (first .state) (source .upper)) true) first .state .upper) (source .upper)
-        by true e = up-refl (source .upper)
-        by false e = not-under (source .upper) (first .state .upper) (and-one (leb k n) (under (source .upper) (first .state .upper)) (le-leb k n h) e)
+    upper-told h = upper-cases source n k (λ (t : Tightened). UpLe (t .state .upper) (source .upper)) first (λ e. up-refl (source .upper))
+        (λ e. not-under (source .upper) (first .state .upper) (and-one (leb k n) (under (source .upper) (first .state .upper)) (le-leb k n h) e))
 
     -- and where nothing changed it is the state that was
     unchanged : last .changed ≡ false → last .state ≡ st
-    unchanged h = two (leb k n && under (source .upper) (first .state .upper)) first one h
-      where
-        one : first .changed ≡ false → first .state ≡ st
-        one = at-test (leb n k && ltZ (st .lower) (source .lower))
-          where
-            at-test : (b : Bool) → cond b (tight (withLower st (source .lower)) true) (tight st false) .changed ≡ false → cond b (tight (withLower st (source .lower)) true) (tight st false) .state ≡ st
-            at-test true e = absurd (clash true refl e)
-            at-test false e = refl
-
-        two : (b : Bool) (t : Tightened) → (t .changed ≡ false → t .state ≡ st) → cond b (tight (withUpper (t .state) (source .upper)) true) t .changed ≡ false
-            → cond b (tight (withUpper (t .state) (source .upper)) true) t .state ≡ st
-        two true t f e = absurd (clash true refl e)
-        two false t f e = f e
+    unchanged =
+        let same : Tightened → Type 0 = λ (t : Tightened). t .changed ≡ false → t .state ≡ st in
+        upper-cases source n k same first (λ e f. absurd (clash true refl f)) (λ e. lower-cases source n k same st (λ g f. absurd (clash true refl f)) (λ g f. refl))
 
   -- a row is told what the source has, whose bounds the row that hands on still has
   told-on : (v : Live) (row r : ℕ) (source st : State) → SameBounds (stateAt v row) source → SameBounds (stateAt v r) (movedState source st (termCount x row) (termCount x r) .state) → HandedOn x v row r

@@ -3,13 +3,13 @@
 use Prim.Native.Nat.{ℕ, _≤_, _<_}
 use native.Mathlib.Omega.{arith}
 use mathlib.Core.Path.{_≡_, refl, sym, ap, _∙_, subst}
-use mathlib.Core.Bool.{Bool, true, false, not, cond, _&&_, _||_}
+use mathlib.Core.Bool.{Bool, true, false, not, _||_}
 use mathlib.Core.List.{List, [], _∷_, _++_, append-nil, List·Memᴰ}
 use mathlib.Core.Logic.{_⊎_, inl, inr, ⊎-elim}
 use lib.ListN.{length, getD, set, length-append}
 use lib.Dec.{leb}
 use lib.IntN.{ℤ}
-use lib.Signed.{leZ, ltZ, _≤ℤ_, _<ℤ_, ≤ℤ-refl}
+use lib.Signed.{leZ, _≤ℤ_, _<ℤ_, ≤ℤ-refl}
 use borrow.Author.Tests.{leb-true}
 use Rattle.signed.specs.SignedLaws.{nle-ltZ}
 use Rattle.numeric.specs.Threshold.{Term, Threshold}
@@ -26,10 +26,11 @@ use Rattle.thresholds.specs.Rows.{Row, noRow, Guard, guard, rowNumber}
 use Rattle.prefixes.specs.Links.{neighbours}
 use Rattle.propagate.specs.declared.Tightened.{Tightened}
 use Rattle.propagate.specs.Row.{Ran, thresholdRow}
-use Rattle.propagate.specs.Told.{tight, guardState, movedLower, movedUpper, movedState, under}
+use Rattle.propagate.specs.Told.{guardState, movedLower, movedUpper, movedState, under}
+use Rattle.propagate.specs.ToldLaws.{guard-cases, lower-cases, upper-cases}
 use Rattle.between.specs.Between.{Index, Live, live, stateAt, withState, withDirty, Did, runRow, runWith, thresholdGuard, termCount, thresholdPrefixes}
 use Rattle.between.specs.LoopLaws.{movedRun}
-use Rattle.between.specs.WalkLaws.{guardRow, guard-ends, prefix-walks}
+use Rattle.between.specs.WalkLaws.{guardRow, guardTold, guard-ends, prefix-walks}
 use Rattle.table.specs.Table.{Table, IsRow, termsOf, Guards, IsPrefix, raiseLower, lowerUpper, AtRest, sure-guard, never-guard, longer-lower, shorter-upper}
 use Rattle.table.specs.OrderLaws.{lt, ≤ℤ-trans, <ℤ-≤ℤ, ≤ℤ-or-<ℤ, UpLe, up-refl, up-trans, le-or-below}
 use Rattle.table.specs.TableLaws.{Le}
@@ -44,20 +45,12 @@ pub not-above : (z : ℤ) (y : Upper) → upperAtMost y z ≡ false → UpLe (Un
 not-above z Open f = tt
 not-above z (Under b) f = <ℤ-≤ℤ (lt (nle-ltZ z b f))
 
--- A GUARD'S BOUND makes a row's bounds no wider; the row has it then, and where that is nothing new its state stays.
-module _ (st : State) (b : ℤ) where
-  pub guard-tightens : (value : Bool) → (st .lower ≤ℤ guardState st value b .state .lower) × UpLe (guardState st value b .state .upper) (st .upper)
-  unfolding withLower withUpper
-  guard-tightens true = by (leZ b (st .lower)) refl
-    where
-      by : (c : Bool) → leZ b (st .lower) ≡ c → let o : Tightened = elim c [ true ↦ tight st false | false ↦ tight (withLower st b) true ] in (st .lower ≤ℤ o .state .lower) × UpLe (o .state .upper) (st .upper)
-      by true e = (≤ℤ-refl (st .lower), up-refl (st .upper))
-      by false e = (<ℤ-≤ℤ (lt (nle-ltZ (st .lower) b e)), up-refl (st .upper))
-  guard-tightens false = by (upperAtMost (st .upper) b) refl
-    where
-      by : (c : Bool) → upperAtMost (st .upper) b ≡ c → let o : Tightened = elim c [ true ↦ tight st false | false ↦ tight (withUpper st (Under b)) true ] in (st .lower ≤ℤ o .state .lower) × UpLe (o .state .upper) (st .upper)
-      by true e = (≤ℤ-refl (st .lower), up-refl (st .upper))
-      by false e = (≤ℤ-refl (st .lower), not-above b (st .upper) e)
+-- A GUARD'S BOUND makes a row's bounds no wider.
+pub guard-tightens : (st : State) (b : ℤ) (value : Bool) → (st .lower ≤ℤ guardState st value b .state .lower) × UpLe (guardState st value b .state .upper) (st .upper)
+unfolding withLower withUpper
+guard-tightens st b value =
+    guard-cases st value b (λ (o : Tightened). (st .lower ≤ℤ o .state .lower) × UpLe (o .state .upper) (st .upper)) (λ e. (≤ℤ-refl (st .lower), up-refl (st .upper)))
+    (λ e f. (<ℤ-≤ℤ (lt (nle-ltZ (st .lower) b f)), up-refl (st .upper))) (λ e f. (≤ℤ-refl (st .lower), not-above b (st .upper) f))
 
 -- WHAT EVERY REST HAS by rules 1 and 6
 module _ (rows : List Row) (u : Table) (rest : AtRest rows u) where
@@ -191,41 +184,41 @@ module _ (x : Index) (drained : ℕ → ℕ → Bool) where
       → isDecided (v .marks) (t .node) ≡ true → Stands (x .rows) s drained v → Kept s (thresholdGuard x v t)
   unfolding withLower withUpper
   guard-stands s v t i d h =
-      guard-ends x v t (Kept s) (λ e. (h, λ c. no-contradiction c)) (λ e. run-stands s _ r (i .0) (bound-stands s v r _ _ _ (i .0) h (better (bit (v .marks .sure) (t .node)) refl)))
+      guard-ends x v t (Kept s) (λ e. (h, λ c. no-contradiction c)) (λ e. run-stands s _ r (i .0) (bound-stands s v r _ _ _ (i .0) h better))
     where
       r : ℕ
       r = guardRow x t
 
-      st : State
-      st = stateAt v r
+      g : Guard
+      g = guard (t .bound) (t .node)
 
-      better : (b : Bool) → bit (v .marks .sure) (t .node) ≡ b → Tighter s r st (guardState st b (t .bound) .state)
-      better true e = by (leZ (t .bound) (st .lower)) (guard-tightens st (t .bound) true)
-        where
-          by : (c : Bool) → let o : Tightened = elim c [ true ↦ tight st false | false ↦ tight (withLower st (t .bound)) true ] in
-              (st .lower ≤ℤ o .state .lower) × UpLe (o .state .upper) (st .upper) → Tighter s r st (o .state)
-          by true k = tighter-same s v r h
-          by false k = (refl, refl, k .0, k .1, λ u a rest. (rest-sure (x .rows) u rest r (guard (t .bound) (t .node)) i (h .follows u a rest .sure (t .node) e), h .follows u a rest .upper r))
-      better false e = by (upperAtMost (st .upper) (t .bound)) (guard-tightens st (t .bound) false)
-        where
-          is-never : bit (v .marks .never) (t .node) ≡ true
-          is-never = ap (λ (b : Bool). b || bit (v .marks .never) (t .node)) (sym e) ∙ d
+      is-never : bit (v .marks .sure) (t .node) ≡ false → bit (v .marks .never) (t .node) ≡ true
+      is-never e = ap (λ (b : Bool). b || bit (v .marks .never) (t .node)) (sym e) ∙ d
 
-          by : (c : Bool) → let o : Tightened = elim c [ true ↦ tight st false | false ↦ tight (withUpper st (Under (t .bound))) true ] in
-              (st .lower ≤ℤ o .state .lower) × UpLe (o .state .upper) (st .upper) → Tighter s r st (o .state)
-          by true k = tighter-same s v r h
-          by false k = (refl, refl, k .0, k .1, λ u a rest. (h .follows u a rest .lower r, rest-never (x .rows) u rest r (guard (t .bound) (t .node)) i (h .follows u a rest .never (t .node) is-never)))
+      better : Tighter s r (stateAt v r) (guardTold x v t .state)
+      better = guard-cases (stateAt v r) (bit (v .marks .sure) (t .node)) (t .bound) (λ (o : Tightened). Tighter s r (stateAt v r) (o .state)) (λ e. tighter-same s v r h)
+          (λ e f. (
+            refl,
+            refl,
+            <ℤ-≤ℤ (lt (nle-ltZ (stateAt v r .lower) (t .bound) f)),
+            up-refl (stateAt v r .upper),
+            λ u a rest. (rest-sure (x .rows) u rest r g i (h .follows u a rest .sure (t .node) e), h .follows u a rest .upper r),
+          ))
+          (λ e f. (
+            refl,
+            refl,
+            ≤ℤ-refl (stateAt v r .lower),
+            not-above (t .bound) (stateAt v r .upper) f,
+            λ u a rest. (h .follows u a rest .lower r, rest-never (x .rows) u rest r g i (h .follows u a rest .never (t .node) (is-never e))),
+          ))
 
   -- BOUNDS HANDED ON: rule 6, first the lower, then the upper
   module _ (s : Table) (v : Live) (row r : ℕ) (source : State) (link : IsPrefix (x .rows) row r ⊎ IsPrefix (x .rows) r row)
       (low : source .lower ≤ℤ stateAt v row .lower) (high : UpLe (stateAt v row .upper) (source .upper)) (h : Stands (x .rows) s drained v) where
     moved-lower : Tighter s r (stateAt v r) (movedLower source (stateAt v r) (termCount x row) (termCount x r) .state)
     unfolding withLower
-    moved-lower = by (leb (termCount x row) (termCount x r) && ltZ (stateAt v r .lower) (source .lower)) refl
-      where
-        by : (b : Bool) → (leb (termCount x row) (termCount x r) && ltZ (stateAt v r .lower) (source .lower)) ≡ b
-            → Tighter s r (stateAt v r) (cond b (tight (withLower (stateAt v r) (source .lower)) true) (tight (stateAt v r) false) .state)
-        by true e = (
+    moved-lower = lower-cases source (termCount x row) (termCount x r) (λ (o : Tightened). Tighter s r (stateAt v r) (o .state)) (stateAt v r)
+        (λ e. (
           refl,
           refl,
           <ℤ-≤ℤ (lt (and-right (leb (termCount x row) (termCount x r)) _ e)),
@@ -235,8 +228,7 @@ module _ (x : Index) (drained : ℕ → ℕ → Bool) where
                 (rest-longer (x .rows) u rest row r (prefix-by (x .rows) row r link (leb-true (termCount x row) (termCount x r) (and-left (leb (termCount x row) (termCount x r)) _ e))))),
             h .follows u a rest .upper r,
           ),
-        )
-        by false e = tighter-same s v r h
+        )) (λ e. tighter-same s v r h)
 
     under-le : (a b : Upper) → under a b ≡ true → UpLe a b
     under-le Open b e = absurd (clash false e refl)
@@ -253,11 +245,8 @@ module _ (x : Index) (drained : ℕ → ℕ → Bool) where
 
     moved-upper : (t : Tightened) → Tighter s r (stateAt v r) (t .state) → Tighter s r (stateAt v r) (movedUpper source t (termCount x row) (termCount x r) .state)
     unfolding withUpper
-    moved-upper t k = by (leb (termCount x r) (termCount x row) && under (source .upper) (t .state .upper)) refl
-      where
-        by : (b : Bool) → (leb (termCount x r) (termCount x row) && under (source .upper) (t .state .upper)) ≡ b
-            → Tighter s r (stateAt v r) (cond b (tight (withUpper (t .state) (source .upper)) true) t .state)
-        by true e = (
+    moved-upper t k = upper-cases source (termCount x row) (termCount x r) (λ (o : Tightened). Tighter s r (stateAt v r) (o .state)) t
+        (λ e. (
           k .0,
           k .1,
           k .2,
@@ -268,8 +257,7 @@ module _ (x : Index) (drained : ℕ → ℕ → Bool) where
                 (rest-shorter (x .rows) u rest r row (prefix-by (x .rows) r row (turned link) (leb-true (termCount x r) (termCount x row) (and-left (leb (termCount x r) (termCount x row)) _ e))))
                 (up-trans (u .upper row) (stateAt v row .upper) (source .upper) (h .follows u a rest .upper row) high),
           ),
-        )
-        by false e = k
+        )) (λ e. k)
 
     pub moved-tighter : Tighter s r (stateAt v r) (movedState source (stateAt v r) (termCount x row) (termCount x r) .state)
     moved-tighter = moved-upper (movedLower source (stateAt v r) (termCount x row) (termCount x r)) moved-lower

@@ -9,7 +9,7 @@ use mathlib.Core.List.{List, [], _∷_, List·Memᴰ}
 use mathlib.Core.Logic.{_⊎_, inl, inr, ⊎-elim, _≢_}
 use lib.ListN.{length, getD}
 use lib.IntN.{ℤ}
-use lib.Signed.{leZ, _≤ℤ_, ≤ℤ-refl}
+use lib.Signed.{_≤ℤ_, ≤ℤ-refl}
 use Rattle.numeric.specs.Threshold.{Term, Threshold, Job}
 use Rattle.row.specs.Terms.{sameTerms}
 use Rattle.state.specs.declared.Step.the-variants.{Unchanged}
@@ -22,7 +22,8 @@ use Rattle.queues.specs.Marks.{isDecided}
 use Rattle.thresholds.specs.Rows.{Row, rowOf, noRow, Guard, guard, insertGuard, place, placeAll, rowsOf, rowNumber}
 use Rattle.thresholds.specs.RawLaws.{same-refl}
 use Rattle.propagate.specs.declared.Tightened.{Tightened}
-use Rattle.propagate.specs.Told.{tight, guardState}
+use Rattle.propagate.specs.Told.{guardState}
+use Rattle.propagate.specs.ToldLaws.{guard-cases}
 use Rattle.between.specs.Between.{Index, Live, live, stateAt, Did, did, thresholdGuard}
 use Rattle.between.specs.WalkLaws.{guardTold, guardRun, guard-ends}
 use Rattle.table.specs.Table.{Table, Guards}
@@ -81,35 +82,18 @@ abbrev pub Single : List Row → Type 0
 Single rows = (r q : ℕ) (g h : Guard) → Guards rows r g → Guards rows q h → g .node ≡ h .node → (r ≡ q) × (g ≡ h)
 
 -- What a guard tells is nothing new, or the row has it then.
-module _ (st : State) (b : ℤ) where
-  guard-same : (value : Bool) → guardState st value b .changed ≡ false → guardState st value b .state ≡ st
-  guard-same true = by (leZ b (st .lower))
-    where
-      by : (c : Bool) → let o : Tightened = elim c [ true ↦ tight st false | false ↦ tight (withLower st b) true ] in o .changed ≡ false → o .state ≡ st
-      by true e = refl
-      by false e = absurd (clash true refl e)
-  guard-same false = by (upperAtMost (st .upper) b)
-    where
-      by : (c : Bool) → let o : Tightened = elim c [ true ↦ tight st false | false ↦ tight (withUpper st (Under b)) true ] in o .changed ≡ false → o .state ≡ st
-      by true e = refl
-      by false e = absurd (clash true refl e)
+at-most : (b : ℤ) (y : Upper) → upperAtMost y b ≡ true → UpLe y (Under b)
+at-most b Open e = absurd (clash false e refl)
+at-most b (Under z) e = le e
 
-  guard-has : (value : Bool) → (value ≡ true → b ≤ℤ guardState st value b .state .lower) × (value ≡ false → UpLe (guardState st value b .state .upper) (Under b))
+module _ (st : State) (b : ℤ) (value : Bool) where
+  guard-same : guardState st value b .changed ≡ false → guardState st value b .state ≡ st
+  guard-same = guard-cases st value b (λ (o : Tightened). o .changed ≡ false → o .state ≡ st) (λ e c. refl) (λ e f c. absurd (clash true refl c)) (λ e f c. absurd (clash true refl c))
+
+  guard-has : (value ≡ true → b ≤ℤ guardState st value b .state .lower) × (value ≡ false → UpLe (guardState st value b .state .upper) (Under b))
   unfolding withLower withUpper
-  guard-has true = ((λ _. by (leZ b (st .lower)) refl), λ k. absurd (clash true refl k))
-    where
-      by : (c : Bool) → leZ b (st .lower) ≡ c → let o : Tightened = elim c [ true ↦ tight st false | false ↦ tight (withLower st b) true ] in b ≤ℤ o .state .lower
-      by true e = le e
-      by false e = ≤ℤ-refl b
-  guard-has false = ((λ k. absurd (clash false k refl)), λ _. by (upperAtMost (st .upper) b) refl)
-    where
-      at-most : (y : Upper) → upperAtMost y b ≡ true → UpLe y (Under b)
-      at-most Open e = absurd (clash false e refl)
-      at-most (Under z) e = le e
-
-      by : (c : Bool) → upperAtMost (st .upper) b ≡ c → let o : Tightened = elim c [ true ↦ tight st false | false ↦ tight (withUpper st (Under b)) true ] in UpLe (o .state .upper) (Under b)
-      by true e = at-most (st .upper) e
-      by false e = up-refl (Under b)
+  guard-has = guard-cases st value b (λ (o : Tightened). (value ≡ true → b ≤ℤ o .state .lower) × (value ≡ false → UpLe (o .state .upper) (Under b)))
+      (λ e. ((λ f. le (e .0 f)), λ f. at-most b (st .upper) (e .1 f))) (λ e f. ((λ _. ≤ℤ-refl b), λ k. absurd (clash value e k))) (λ e f. ((λ k. absurd (clash value k e)), λ _. up-refl (Under b)))
 
 module _ (x : Index) (drained : ℕ → ℕ → Bool) (s : Table) (v : Live) (t : Threshold) (is : Guards (x .rows) (rowNumber (x .rows) (t .terms)) (guard (t .bound) (t .node)))
     (d : isDecided (v .marks) (t .node) ≡ true) (h : Stands (x .rows) s drained v) where

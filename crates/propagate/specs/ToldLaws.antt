@@ -1,16 +1,18 @@
 -- What a state takes from a guard or another row, case by case as the code tells them apart. Assumes nothing.
 use Prim.Native.Nat.{ℕ, _≤_, _<_}
-use mathlib.Core.Path.{_≡_, ap}
-use mathlib.Core.Bool.{Bool, true, false, not}
+use mathlib.Core.Path.{_≡_, refl, sym, ap}
+use mathlib.Core.Bool.{Bool, true, false, not, cond, _&&_}
 use lib.IntN.{ℤ}
-use lib.Signed.{leZ}
+use lib.Dec.{leb}
+use lib.Signed.{leZ, ltZ}
 use borrow.Author.Tests.{le-leb, lt-leb, not-true, not-false}
 use Rattle.signed.specs.SignedLaws.{nle-ltZ, leZ-nlt}
 use Rattle.state.specs.declared.State.{State}
 use Rattle.state.specs.declared.Upper.the-variants.{Open, Under}
 use Rattle.state.specs.State.{upperAtMost, withLower, withUpper}
 use Rattle.propagate.specs.declared.Tightened.{Tightened}
-use Rattle.propagate.specs.Told.{tight, guardState, movedLower, movedUpper}
+use Rattle.propagate.specs.Told.{tight, guardState, movedLower, under, movedUpper}
+use Rattle.propagate.specs.ScanLaws.{clash}
 
 -- A guard's bound: new, or not.
 module _ (s : State) (value : Bool) (b : ℤ) where
@@ -52,3 +54,37 @@ module _ (source : State) (t : Tightened) (n k : ℕ) where
     pub upper-moves : (b : ℤ) → source .upper ≡ Under b → upperAtMost (t .state .upper) b ≡ false
         → (u : State) → u ≡ withUpper (t .state) (Under b) → tight u true ≡ movedUpper source t n k
     upper-moves b e g u f = rw (le-leb k n h, e, g) (ap (λ (x : State). tight x true) f)
+
+-- ---- for laws of what was told: what holds in each case holds
+
+-- A guard tells nothing new, raises the lower or lowers the upper.
+pub guard-cases : (s : State) (value : Bool) (b : ℤ) (G : Tightened → Type 0) → ((value ≡ true → leZ b (s .lower) ≡ true) × (value ≡ false → upperAtMost (s .upper) b ≡ true) → G (tight s false))
+    → (value ≡ true → leZ b (s .lower) ≡ false → G (tight (withLower s b) true)) → (value ≡ false → upperAtMost (s .upper) b ≡ false → G (tight (withUpper s (Under b)) true)) → G (guardState s value b)
+guard-cases s true b G none raised lowered = by (leZ b (s .lower)) refl
+  where
+    by : (c : Bool) → leZ b (s .lower) ≡ c → G (elim c [ true ↦ tight s false | false ↦ tight (withLower s b) true ])
+    by true e = none ((λ f. e), λ f. clash f)
+    by false e = raised refl e
+guard-cases s false b G none raised lowered = by (upperAtMost (s .upper) b) refl
+  where
+    by : (c : Bool) → upperAtMost (s .upper) b ≡ c → G (elim c [ true ↦ tight s false | false ↦ tight (withUpper s (Under b)) true ])
+    by true e = none ((λ f. clash (sym f)), λ f. e)
+    by false e = lowered refl e
+
+-- Another row's lower is taken, or not; then its upper.
+module _ (source : State) (n k : ℕ) (G : Tightened → Type 0) where
+  pub lower-cases : (s : State) → let test = leb n k && ltZ (s .lower) (source .lower) in
+      (test ≡ true → G (tight (withLower s (source .lower)) true)) → (test ≡ false → G (tight s false)) → G (movedLower source s n k)
+  lower-cases s taken not-taken = by (leb n k && ltZ (s .lower) (source .lower)) refl
+    where
+      by : (c : Bool) → (leb n k && ltZ (s .lower) (source .lower)) ≡ c → G (cond c (tight (withLower s (source .lower)) true) (tight s false))
+      by true e = taken e
+      by false e = not-taken e
+
+  pub upper-cases : (t : Tightened) → let test = leb k n && under (source .upper) (t .state .upper) in
+      (test ≡ true → G (tight (withUpper (t .state) (source .upper)) true)) → (test ≡ false → G t) → G (movedUpper source t n k)
+  upper-cases t taken not-taken = by (leb k n && under (source .upper) (t .state .upper)) refl
+    where
+      by : (c : Bool) → (leb k n && under (source .upper) (t .state .upper)) ≡ c → G (cond c (tight (withUpper (t .state) (source .upper)) true) t)
+      by true e = taken e
+      by false e = not-taken e

@@ -25,6 +25,11 @@ use Rattle.settle.specs.TurnLaws.{going-turn}
 abbrev Rest : Index → Live → Step → Live → Type 0
 Rest x v₀ k v = (n : ℕ) × (left v < n) × (drain n x v k ≡ settle x v₀)
 
+-- One is left at least.
+one-left : (x : Index) (v₀ : Live) (k : Step) (v : Live) (n : ℕ) → left v < n → drain n x v k ≡ settle x v₀ → (m : ℕ) × (left v < suc m) × (drain (suc m) x v k ≡ settle x v₀)
+one-left x v₀ k v zero h q = absurd (not-suc-le-zero h)
+one-left x v₀ k v (suc n) h q = (n, h, q)
+
 pub record Settling (bounds : List ℤ) (b : Built) (v₀ : Live) (k : Step) (v : Live) : Type 0 where
   pub going : Going (b .held) (b .nodes) v
   pub whole : (x : Index) → Serves x bounds b → Rest x v₀ k v
@@ -33,22 +38,20 @@ pub settling-first : (bounds : List ℤ) (b : Built) (v₀ : Live) → Going (b 
 settling-first bounds b v₀ g = record { going = g; whole = λ x s. (turns, left-most v₀ (g .sound), refl) }
 
 module _ (bounds : List ℤ) (b : Built) (v₀ : Live) (k : Step) (v : Live) (l : Settling bounds b v₀ k v) where
+  there : (x : Index) → Serves x bounds b → (n : ℕ) × (left v < suc n) × (drain (suc n) x v k ≡ settle x v₀)
+  there x s = let a = l .whole x s in one-left x v₀ k v (a .0) (a .1) (a .2)
+
   -- Nothing waits.
   pub settling-end : atRest v ≡ true → (x : Index) → Serves x bounds b → did v k ≡ settle x v₀
-  settling-end e x s = let a = l .whole x s in by (a .0) (a .1) (a .2)
-    where
-      by : (n : ℕ) → left v < n → drain n x v k ≡ settle x v₀ → did v k ≡ settle x v₀
-      by zero h q = absurd (not-suc-le-zero h)
-      by (suc n) h q = sym (drain-goes x n v k true (contradicts (turn x v .step)) e refl) ∙ q
+  settling-end e x s = let a = there x s in sym (drain-goes x (a .0) v k true (contradicts (turn x v .step)) e refl) ∙ a .2
 
   -- A turn was taken.
   module _ (e : atRest v ≡ false) (o : Did) (made : (x : Index) → Serves x bounds b → o ≡ turn x v) where
+    same : (x : Index) → Serves x bounds b → (c : Bool) → contradicts (o .step) ≡ c → contradicts (turn x v .step) ≡ c
+    same x s c h = ap (λ (t : Did). contradicts (t .step)) (sym (made x s)) ∙ h
+
     pub settling-stop : contradicts (o .step) ≡ true → (x : Index) → Serves x bounds b → o ≡ settle x v₀
-    settling-stop c x s = let a = l .whole x s in by (a .0) (a .1) (a .2)
-      where
-        by : (n : ℕ) → left v < n → drain n x v k ≡ settle x v₀ → o ≡ settle x v₀
-        by zero h q = absurd (not-suc-le-zero h)
-        by (suc n) h q = made x s ∙ sym (drain-goes x n v k false true e (ap (λ (t : Did). contradicts (t .step)) (sym (made x s)) ∙ c)) ∙ q
+    settling-stop c x s = let a = there x s in made x s ∙ sym (drain-goes x (a .0) v k false true e (same x s true c)) ∙ a .2
 
     pub settling-less : (x : Index) → Serves x bounds b → left (o .live) < left v
     settling-less x s = subst (λ (t : Did). left (t .live) < left v) (sym (made x s)) (fall-turn x (s .indexed) v (l .going .sound) e .1)
@@ -56,17 +59,13 @@ module _ (bounds : List ℤ) (b : Built) (v₀ : Live) (k : Step) (v : Live) (l 
     pub settling-next : (x : Index) → Serves x bounds b → contradicts (o .step) ≡ false → (j : Step) → j ≡ joined k (o .step) → Settling bounds b v₀ j (o .live)
     settling-next z t c j i = record {
       going = subst (λ (d : Did). Going (b .held) (b .nodes) (d .live)) (sym (made z t)) (going-turn z bounds b t v (l .going) e);
-      whole = λ x s. let a = l .whole x s in by x s (a .0) (a .1) (a .2);
+      whole = λ x s. let a = there x s in (
+        a .0,
+        omega (arith, settling-less x s, a .1),
+        ap (λ (m : Step). drain (a .0) x (o .live) m) i ∙ ap (λ (d : Did). drain (a .0) x (d .live) (joined k (d .step))) (made x s)
+            ∙ sym (drain-goes x (a .0) v k false false e (same x s false c)) ∙ a .2,
+      );
     }
-      where
-        by : (x : Index) → Serves x bounds b → (n : ℕ) → left v < n → drain n x v k ≡ settle x v₀ → Rest x v₀ j (o .live)
-        by x s zero h q = absurd (not-suc-le-zero h)
-        by x s (suc n) h q = (
-          n,
-          omega (arith, settling-less x s),
-          ap (λ (m : Step). drain n x (o .live) m) i ∙ ap (λ (d : Did). drain n x (d .live) (joined k (d .step))) (made x s)
-              ∙ sym (drain-goes x n v k false false e (ap (λ (d : Did). contradicts (d .step)) (sym (made x s)) ∙ c)) ∙ q,
-        )
 
 -- ---- what can be drained stays such
 
