@@ -18,9 +18,8 @@ use Rattle.thresholds.specs.Rows.{Row, rowOf, noRow, Guard, guard, below, inser
 use Rattle.thresholds.specs.Laid.{termLists, guardLists, edgeLists, edgeRow}
 use Rattle.thresholds.specs.Incidents.{incidentsFrom}
 use Rattle.thresholds.specs.IncidentsLaws.{grouped-joined, keys-from}
-use Rattle.prefixes.specs.Links.{links, neighbours, neighbourLists}
-use Rattle.prefixes.specs.LinksLaws.{links-few}
-use Rattle.prefixes.specs.PrepareLaws.{degreesTo, degrees-few, join-length}
+use Rattle.prefixes.specs.Links.{neighbourLists}
+use Rattle.prefixes.specs.NeighboursLaws.{neighbours-few}
 use Rattle.prepare.specs.RowsGivenTermsLaws.{row-short}
 use Rattle.job.specs.Job.{allTerms}
 use Rattle.ends.specs.BuiltLaws.{Fit, Fits, rows-every, rows-few}
@@ -122,16 +121,6 @@ edges-few nodes rs =
       ap length (keys-from 0 (termLists rs)),
       length-map (joinAll (termLists rs)) (λ (t : Term). t .condition),
     )
-
--- ---- NEIGHBOURS: each link has two ends, and there is less than one link for each row
-
-pub neighbours-few : (rs : List Row) → length (joinAll (neighbourLists rs)) ≤ 2 * length rs
-unfolding degreesTo
-neighbours-few rs =
-    let ls = links rs in
-    let sums : (r : ℕ) → r < length rs → degreesTo ls (r + 1) ≡ degreesTo ls r + length (neighbours r ls) = λ r h. ap (degreesTo ls) (add-one r) in
-    let a = join-length (λ (r : ℕ). neighbours r ls) (degreesTo ls) (length rs) sums 0 (length rs) (omega arith) in
-    omega (arith, a, degrees-few ls (0 + length rs), links-few rs)
 
 -- ---- WITHIN THE LIMITS the buffers of edges and of links have room
 

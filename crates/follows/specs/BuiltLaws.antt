@@ -18,8 +18,7 @@ use Rattle.row.specs.TermsLaws.{Distinct, distinct, sorted-falling, conditions-
 use Rattle.thresholds.specs.Rows.{Row, rowOf, noRow, Guard, guard, below, insertGuard, place, placeAll, rowsOf, rowNumber}
 use Rattle.thresholds.specs.RawLaws.{same-refl}
 use Rattle.prefixes.specs.Links.{Link, links, neighbours}
-use Rattle.prefixes.specs.LinksLaws.{link, link-starts, links-range, Joined, downward, upward, neighbours-joined}
-use Rattle.prefixes.specs.PrepareLaws.{links-apart}
+use Rattle.prefixes.specs.LinksLaws.{link, link-starts, links-range, links-apart, Joined, downward, upward, neighbours-joined}
 use Rattle.between.specs.Between.{Index}
 use Rattle.table.specs.Table.{IsRow, termsOf, Guards, IsPrefix}
 use Rattle.table.specs.LayoutLaws.{row-made}

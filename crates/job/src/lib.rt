@@ -171,13 +171,6 @@ pub fn build(
         edges,
         &mut scratch,
     );
-    prefixes::prepare(
-        rows,
-        links,
-        &mut scratch,
-        row_conditions,
-        row_weights,
-        count,
-    );
+    prefixes::prepare(&mut rows[..count], links, row_conditions, row_weights);
     count
 }

@@ -6,11 +6,9 @@ pub mod Held
 pub mod HeldLaws
 pub mod Merge
 pub mod MergeLaws
-pub mod LaidLaws
 pub mod SortLaws
 pub mod Pass
 pub mod PassLaws
 pub mod Neighbours
 pub mod NeighboursLaws
-pub mod PrepareLaws
 pub mod ChainLaws

@@ -3,7 +3,7 @@
 use Prim.Native.Nat.{ℕ, suc, _+_, _-_, _<_, _≤_}
 use native.Mathlib.Omega.{arith}
 use native.Mathlib.Decide.{ℕ-discrete}
-use mathlib.Core.Path.{_≡_, refl, sym, ap, ap₂, _∙_}
+use mathlib.Core.Path.{_≡_, refl, sym, ap, ap₂, _∙_, subst}
 use mathlib.Core.Logic.{_⊎_, _↔_, inl, inr, ⊎-elim}
 use mathlib.Core.Bool.{Bool, true, false}
 use mathlib.Core.List.{List, [], _∷_, _++_, map, List·Memᴰ, List·Memᴰ·head, List·Memᴰ·tail, List·Memᴰ·cases-cons, List·Memᴰ·not-nil, List·Memᴰ·append-cases, List·Memᴰ·eq-of-singleton, Memᴰ·append-left, Memᴰ·append-right}
@@ -490,6 +490,39 @@ module _ (rs : List Row) where
   pub links-once : Distinct (extensions (links rs))
   unfolding links
   links-once = from-distinct (orderFrom rs 0 rs) [] [] (order-distinct rs 0 rs)
+
+  -- ---- no row is its own prefix
+
+  linked-ends : (r : ℕ) (kept : List ℕ) (p e : ℕ) → List·Memᴰ (link p e) (linked r kept) → List·Memᴰ p kept × (e ≡ r)
+  unfolding linked
+  linked-ends r [] p e i = absurd (List·Memᴰ·not-nil i)
+  linked-ends r (a ∷ more) p e i = let q = List·Memᴰ·eq-of-singleton i in (List·Memᴰ·head (ap (λ (l : Link). l .prefix) q), ap (λ (l : Link). l .extension) q)
+
+  from-apart : (order : List ℕ) (q : List Term) (st : List ℕ) → Distinct order → ((a : ℕ) → List·Memᴰ a st → List·Memᴰ a order → ⊥)
+      → (p e : ℕ) → List·Memᴰ (link p e) (linksFrom rs order q st) → p ≡ e → ⊥
+  unfolding linksFrom
+  from-apart [] q st d f p e i s = List·Memᴰ·not-nil i
+  from-apart (r ∷ more) q st d f p e i s = by (List·Memᴰ·append-cases (linked r kept) i)
+      (λ j. from-apart more (termsAt rs r) (stacked rs r kept) (d .1) (λ a k l. new a l (stacked-from r a kept k)) p e j s)
+    where
+      kept : List ℕ
+      kept = ancestors rs (common q (termsAt rs r)) st
+
+      old : (a : ℕ) → List·Memᴰ a kept → List·Memᴰ a st
+      old a k = kept-from rs [] (common q (termsAt rs r)) a st k
+
+      new : (a : ℕ) → List·Memᴰ a more → (a ≡ r) ⊎ List·Memᴰ a kept → ⊥
+      new a l (inl z) = d .0 (subst (λ (y : ℕ). List·Memᴰ y more) z l)
+      new a l (inr k) = f a (old a k) (List·Memᴰ·tail l)
+
+      by : List·Memᴰ (link p e) (linked r kept) ⊎ List·Memᴰ (link p e) (linksFrom rs more (termsAt rs r) (stacked rs r kept))
+          → (List·Memᴰ (link p e) (linksFrom rs more (termsAt rs r) (stacked rs r kept)) → ⊥) → ⊥
+      by (inl j) ih = let w = linked-ends r kept p e j in f p (old p (w .0)) (List·Memᴰ·head (s ∙ w .1))
+      by (inr j) ih = ih j
+
+  pub links-apart : (p e : ℕ) → List·Memᴰ (link p e) (links rs) → p ≡ e → ⊥
+  unfolding links
+  links-apart p e i = from-apart (orderFrom rs 0 rs) [] [] (order-distinct rs 0 rs) (λ a k l. List·Memᴰ·not-nil k) p e i
 
 -- ---- neighbours
 
