@@ -1,5 +1,5 @@
 -- Rows, edges, links and thresholds as the buffers hold them, and what it is that an index and buffers agree.
-use Prim.Native.Nat.{ℕ, zero, suc, _+_, _-_, _<_, _≤_, _^_}
+use Prim.Native.Nat.{ℕ, _+_, _-_, _<_, _≤_, _^_}
 use mathlib.Core.Path.{_≡_}
 use mathlib.Core.List.{List, [], map}
 use lib.ListN.{length, getD}
@@ -8,7 +8,8 @@ use lib.Signed.{mag}
 use Rattle.memory.specs.Buffers.{HeldRows}
 use Rattle.numeric.specs.Threshold.{Term, Threshold}
 use Rattle.thresholds.specs.Rows.{Row, rowOf, noRow, Guard, Edge, edge, edgesOf, rowNumber}
-use Rattle.thresholds.specs.Raw.{stretch}
+unfoldable pub use Rattle.lists.specs.Parts.{startBy}
+pub use Rattle.lists.specs.Parts.{endBy, stretchBy, Inside}
 use Rattle.thresholds.specs.Laid.{edgeRow, thresholdOf}
 use Rattle.prefixes.specs.Links.{neighbours}
 use Rattle.numeric.specs.Slices.{Below, terms}
@@ -16,17 +17,6 @@ use Rattle.propagate.specs.Guards.{guards}
 use Rattle.memory.specs.Limits.{maxNodes, maxTerms, maxThresholds}
 use Rattle.memory.specs.Ranges.{figureLimit, weightLimit}
 use Rattle.between.specs.Between.{Index}
-
--- By column j, where the stretch of entry n ends; it begins where the one before ends.
-abbrev pub endBy : ℕ → List (List ℕ) → ℕ → ℕ
-endBy j table n = getD (getD table n []) j 0
-
-unfoldable pub startBy : ℕ → List (List ℕ) → ℕ → ℕ
-startBy j table zero = 0
-startBy j table (suc n) = endBy j table n
-
-abbrev pub stretchBy : {X : Type 0} → ℕ → List (List ℕ) → ℕ → List X → List X
-stretchBy j table n l = stretch (startBy j table n) (endBy j table n) l
 
 -- Row r as the buffers hold it. The raw list that it was made of is not in them.
 abbrev pub heldTerms : HeldRows → ℕ → List Term
@@ -47,11 +37,7 @@ edgesIn ls = map edgeIn ls
 
 -- ---- what buffers must be like, whatever job they hold
 
--- Stretches by column j stand one behind the other in a list of so many places.
-pub record Inside (j : ℕ) (table : List (List ℕ)) (many : ℕ) : Type 0 where
-  pub rising : (n : ℕ) → n < length table → startBy j table n ≤ endBy j table n
-  pub ends : (n : ℕ) → n < length table → endBy j table n ≤ many
-
+-- Stretches by column j rise.
 abbrev pub Rising : ℕ → List (List ℕ) → Type 0
 Rising j table = (n : ℕ) → n < length table → startBy j table n ≤ endBy j table n
 

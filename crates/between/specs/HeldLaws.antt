@@ -1,6 +1,5 @@
 -- Rows in buffers: stretches place by place, and a row run as the buffers hold it. Assumes nothing.
-use Prim.Native.Nat.{ℕ, zero, suc, _+_, _-_, _<_, _≤_, _^_}
-use native.Mathlib.Nat.{not-suc-le-zero}
+use Prim.Native.Nat.{ℕ, suc, _+_, _-_, _<_, _≤_, _^_}
 use native.Mathlib.Numerals.{add-one}
 use native.Mathlib.Omega.{arith}
 use mathlib.Core.Path.{_≡_, refl, sym, ap, ap₂, _∙_}
@@ -21,15 +20,6 @@ use Rattle.propagate.specs.Row.{Ran, wantsResidual}
 use Rattle.propagate.specs.RowLaws.{row-raw}
 use Rattle.between.specs.Between.{Index, Live, live, Did, did, stateAt, residualQueued, runWith, runRow}
 use Rattle.between.specs.Held.{endBy, startBy, heldRow, edgesIn, Shaped, Holds}
-
-pub start-zero : (j : ℕ) (table : List (List ℕ)) (n : ℕ) → n ≡ 0 → 0 ≡ startBy j table n
-unfolding startBy
-start-zero j table n e = rw e
-
-pub start-before : (j : ℕ) (table : List (List ℕ)) (n : ℕ) → 0 < n → endBy j table (n - 1) ≡ startBy j table n
-unfolding startBy
-start-before j table zero h = absurd (not-suc-le-zero h)
-start-before j table (suc n) h = let e : suc n - 1 ≡ n = omega arith in ap (λ (k : ℕ). endBy j table k) e
 
 -- ---- stretches
 

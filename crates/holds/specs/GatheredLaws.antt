@@ -9,11 +9,12 @@ use lib.Seq.{getD-drop, getD-take}
 use lib.IntN.{ℤ}
 use Rattle.memory.specs.Ranges.{rawLimit}
 use Rattle.memory.specs.Buffers.{Built, rawLists}
+use Rattle.lists.specs.Parts.{endBy, startBy}
 use Rattle.lists.specs.Laid.{numbers}
 use Rattle.numeric.specs.Threshold.{Term, Threshold}
 use Rattle.numeric.specs.Slices.{terms}
 use Rattle.row.specs.TermsLaws.{All as Every}
-use Rattle.thresholds.specs.Raw.{startOf, endOf, stretch, listAt}
+use Rattle.thresholds.specs.Raw.{stretch, listAt}
 use Rattle.thresholds.specs.RawLaws.{stretch-length}
 use Rattle.prepare.specs.Given.{thresholdAt}
 use Rattle.prepare.specs.JobBuffers.{builtOf}
@@ -63,15 +64,15 @@ module _ (k : Standing) (cs ws : List ℕ) (ts : List (List ℕ)) (bs : List ℤ
   conditions : (t : ℕ) → t < k .thresholds → Every (λ (u : Term). u .condition < k .nodes) (at t .terms)
   unfolding listAt
   conditions t h =
-      every-condition (λ (c : ℕ). c < k .nodes) (stretch (startOf ts t) (endOf ts t) cs) (stretch (startOf ts t) (endOf ts t) ws)
-      (every-stretch (λ (c : ℕ). c < k .nodes) (startOf ts t) (endOf ts t) cs (omega (arith, g .listed .within t h, g .listed .terms, g .termed .conditions))
+      every-condition (λ (c : ℕ). c < k .nodes) (stretch (startBy 1 ts t) (endBy 1 ts t) cs) (stretch (startBy 1 ts t) (endBy 1 ts t) ws)
+      (every-stretch (λ (c : ℕ). c < k .nodes) (startBy 1 ts t) (endBy 1 ts t) cs (omega (arith, g .listed .within t h, g .listed .terms, g .termed .conditions))
       (λ i q. g .termed .below i (omega (arith, g .listed .within t h))))
 
   weights : (t : ℕ) → t < k .thresholds → Every (λ (u : Term). u .weight < rawLimit) (at t .terms)
   unfolding listAt
   weights t h =
-      every-weight (λ (w : ℕ). w < rawLimit) (stretch (startOf ts t) (endOf ts t) cs) (stretch (startOf ts t) (endOf ts t) ws)
-      (every-stretch (λ (w : ℕ). w < rawLimit) (startOf ts t) (endOf ts t) ws (omega (arith, g .listed .within t h, g .listed .terms, g .termed .weights))
+      every-weight (λ (w : ℕ). w < rawLimit) (stretch (startBy 1 ts t) (endBy 1 ts t) cs) (stretch (startBy 1 ts t) (endBy 1 ts t) ws)
+      (every-stretch (λ (w : ℕ). w < rawLimit) (startBy 1 ts t) (endBy 1 ts t) ws (omega (arith, g .listed .within t h, g .listed .terms, g .termed .weights))
       (λ i q. g .termed .light i (omega (arith, g .listed .within t h))))
 
   pub gathered-fits : Fits (jobIn k cs ws ts bs)

@@ -17,19 +17,13 @@ use Rattle.lists.specs.ColumnsLaws.{column-at}
 use Rattle.numeric.specs.Threshold.{Term, Threshold}
 use Rattle.numeric.specs.Slices.{Below, terms}
 use Rattle.thresholds.specs.Rows.{Row, noRow, Guard, edgesOf, rowNumber}
-use Rattle.thresholds.specs.Raw.{stretch}
 use Rattle.thresholds.specs.Laid.{conditions, weights, termLists, guardLists, guardBounds, guardNodes, edgeLists, edgeRow, thresholdOf, rowOfNode}
 use Rattle.prefixes.specs.Links.{links, neighbours, neighbourLists}
 use Rattle.propagate.specs.Guards.{guards}
-use Rattle.prepare.specs.RowsGivenLaidLaws.{startIn, laid-long, laid-rising, laid-inside, over-part, over-figures}
+use Rattle.prepare.specs.RowsGivenLaidLaws.{laid-long, laid-rising, laid-inside, over-part, over-figures}
 use Rattle.prepare.specs.RowsGivenHeldLaws.{terms-back}
 use Rattle.between.specs.Between.{Index}
-use Rattle.between.specs.Held.{startBy, endBy, stretchBy, heldTerms, heldGuards, Inside, Shaped, Holds, HoldsEdges, HoldsLinks, noThreshold, HoldsGuards}
-
-start-same : (j : ℕ) (table : List (List ℕ)) (n : ℕ) → startBy j table n ≡ startIn j table n
-unfolding startBy startIn
-start-same j table zero = refl
-start-same j table (suc n) = refl
+use Rattle.between.specs.Held.{endBy, stretchBy, heldTerms, heldGuards, Inside, Shaped, Holds, HoldsEdges, HoldsLinks, noThreshold, HoldsGuards}
 
 guards-back : (gs : List Guard) → guards (map (λ (g : Guard). g .bound) gs) (map (λ (g : Guard). g .node) gs) ≡ gs
 unfolding guards
@@ -54,18 +48,14 @@ module _ {X : Type 0} (j : ℕ) (table : List (List ℕ)) (ls : List (List X)) (
 
   -- The stretch of entry n is list n, or one of its figures.
   stretch-is : {Y : Type 0} (f : X → Y) (rest : List Y) (n : ℕ) → n < length table → stretchBy j table n (map f (joinAll ls) ++ rest) ≡ map f (getD ls n [])
-  stretch-is f rest n k =
-      ap (λ (a : ℕ). stretch a (endBy j table n) (map f (joinAll ls) ++ rest)) (start-same j table n)
-      ∙ over-figures j table ls [] open-ends n (omega (arith, long)) f rest
+  stretch-is f rest n k = over-figures j table ls [] open-ends n (omega (arith, long)) f rest
 
   list-is : (rest : List X) (n : ℕ) → n < length table → stretchBy j table n (joinAll ls ++ rest) ≡ getD ls n []
-  list-is rest n k =
-      ap (λ (a : ℕ). stretch a (endBy j table n) (joinAll ls ++ rest)) (start-same j table n)
-      ∙ over-part j table ls [] open-ends n (omega (arith, long)) rest
+  list-is rest n k = over-part j table ls [] open-ends n (omega (arith, long)) rest
 
   pub inside-laid : (many : ℕ) → length (joinAll ls) ≤ many → Inside j table many
   inside-laid many h = record {
-    rising = λ n k. omega (arith, start-same j table n, laid-rising j table ls e n (omega (arith, long)));
+    rising = λ n k. omega (arith, laid-rising j table ls e n (omega (arith, long)));
     ends = λ n k. omega (arith, laid-inside j table ls e n (omega (arith, long)));
   }
 

@@ -4,11 +4,11 @@ use mathlib.Core.Path.{_≡_}
 use mathlib.Core.List.{List, [], _∷_}
 use lib.ListN.{length, getD, take, set}
 use lib.IntN.{ℤ, pos}
+use Rattle.lists.specs.Parts.{endBy, startBy}
 use Rattle.numeric.specs.Threshold.{Job, term}
 use Rattle.memory.specs.Limits.{maxNodes, maxTerms, maxThresholds, listTerms}
 use Rattle.memory.specs.Ranges.{rawLimit}
 use Rattle.memory.specs.Buffers.{RawLists, rawLists}
-use Rattle.thresholds.specs.Raw.{startOf, endOf}
 use Rattle.thresholds.specs.Guards.{Bound, nodeAt}
 use Rattle.prepare.specs.Given.{givenJob}
 use Rattle.records.specs.declared.Standing.{Standing}
@@ -28,14 +28,14 @@ pub record Listed (k : Standing) (ts : List (List ℕ)) : Type 0 where
   pub many : k .thresholds ≤ maxThresholds
   pub room : maxThresholds ≤ length ts
   pub wide : (t : ℕ) → t < k .thresholds → length (getD ts t []) ≡ 2
-  pub rising : (t : ℕ) → t < k .thresholds → startOf ts t ≤ endOf ts t
-  pub short : (t : ℕ) → t < k .thresholds → endOf ts t ≤ startOf ts t + listTerms
-  pub within : (t : ℕ) → t < k .thresholds → endOf ts t ≤ k .terms
-  pub ended : startOf ts (k .thresholds) ≡ k .terms
+  pub rising : (t : ℕ) → t < k .thresholds → startBy 1 ts t ≤ endBy 1 ts t
+  pub short : (t : ℕ) → t < k .thresholds → endBy 1 ts t ≤ startBy 1 ts t + listTerms
+  pub within : (t : ℕ) → t < k .thresholds → endBy 1 ts t ≤ k .terms
+  pub ended : startBy 1 ts (k .thresholds) ≡ k .terms
   pub inside : (t : ℕ) → t < k .thresholds → nodeAt ts t < k .nodes
   pub ordered : (t : ℕ) → t + 1 < k .thresholds → nodeAt ts t < nodeAt ts (t + 1)
   pub last : (t : ℕ) → t + 1 ≡ k .thresholds → nodeAt ts t ≡ k .«last_node»
-  pub filled : (t : ℕ) → t + 1 ≡ k .thresholds → startOf ts t + k .«last_terms» ≡ k .terms
+  pub filled : (t : ℕ) → t + 1 ≡ k .thresholds → startBy 1 ts t + k .«last_terms» ≡ k .terms
 
 pub record Bounded (k : Standing) (bs : List ℤ) : Type 0 where
   pub room : maxThresholds ≤ length bs

@@ -7,11 +7,12 @@ use mathlib.Core.List.{List, [], _∷_, _++_, map}
 use lib.ListN.{length, getD, take, length-map}
 use lib.Seq.{getD-take, length-take-le}
 use lib.IntN.{ℤ, pos}
+use Rattle.lists.specs.Parts.{endBy, startBy}
 use Rattle.lists.specs.Laid.{numbers}
 use Rattle.numeric.specs.Threshold.{Term, Threshold}
 use Rattle.numeric.specs.Slices.{terms}
 use Rattle.memory.specs.Buffers.{RawLists, rawLists}
-use Rattle.thresholds.specs.Raw.{startOf, endOf, stretch, listAt}
+use Rattle.thresholds.specs.Raw.{stretch, listAt}
 use Rattle.thresholds.specs.RawLaws.{length-terms, stretch-length}
 use Rattle.prefixes.specs.HeldLaws.{length-numbers}
 use Rattle.prepare.specs.Given.{thresholdAt, given}
@@ -32,14 +33,14 @@ by-last P n m e h p t q = by (decLt t n)
     by (yes d) = h t d
     by (no d) = subst P (let z : n ≡ t = omega arith in z) p
 
-pub start-cut : (n t : ℕ) (ts : List (List ℕ)) → t ≤ n → startOf (take n ts) t ≡ startOf ts t
-unfolding startOf
+pub start-cut : (n t : ℕ) (ts : List (List ℕ)) → t ≤ n → startBy 1 (take n ts) t ≡ startBy 1 ts t
+unfolding startBy
 start-cut n zero ts h = refl
 start-cut n (suc t) ts h = ap (λ (p : List ℕ). getD p 1 0) (getD-take n ts t [] h)
 
-pub list-by : (r s : RawLists) (t : ℕ) → startOf (r .thresholds) t ≡ startOf (s .thresholds) t → endOf (r .thresholds) t ≡ endOf (s .thresholds) t
-    → stretch (startOf (s .thresholds) t) (endOf (s .thresholds) t) (r .raw-conditions) ≡ stretch (startOf (s .thresholds) t) (endOf (s .thresholds) t) (s .raw-conditions)
-    → stretch (startOf (s .thresholds) t) (endOf (s .thresholds) t) (r .raw-weights) ≡ stretch (startOf (s .thresholds) t) (endOf (s .thresholds) t) (s .raw-weights)
+pub list-by : (r s : RawLists) (t : ℕ) → startBy 1 (r .thresholds) t ≡ startBy 1 (s .thresholds) t → endBy 1 (r .thresholds) t ≡ endBy 1 (s .thresholds) t
+    → stretch (startBy 1 (s .thresholds) t) (endBy 1 (s .thresholds) t) (r .raw-conditions) ≡ stretch (startBy 1 (s .thresholds) t) (endBy 1 (s .thresholds) t) (s .raw-conditions)
+    → stretch (startBy 1 (s .thresholds) t) (endBy 1 (s .thresholds) t) (r .raw-weights) ≡ stretch (startBy 1 (s .thresholds) t) (endBy 1 (s .thresholds) t) (s .raw-weights)
     → listAt r t ≡ listAt s t
 unfolding listAt
 list-by r s t a e c w = ap₂ (λ (x y : ℕ). terms (stretch x y (r .raw-conditions)) (stretch x y (r .raw-weights))) a e ∙ ap₂ terms c w
@@ -52,8 +53,8 @@ module _ (k : Standing) (cs ws : List ℕ) (ts : List (List ℕ)) (bs : List ℤ
   at-cut t h =
       threshold-by (ap (λ (p : List ℕ). getD p 0 0) (getD-take (k .thresholds) ts t [] h)) (getD-take (k .thresholds) bs t (pos 0) h)
       (list-by (cut k cs ws ts) (rawLists cs ws ts) t (start-cut (k .thresholds) t ts (omega arith)) (ap (λ (p : List ℕ). getD p 1 0) (getD-take (k .thresholds) ts t [] h))
-      (stretch-cut (startOf ts t) (endOf ts t) (k .terms) cs (g .rising t h) (g .within t h))
-      (stretch-cut (startOf ts t) (endOf ts t) (k .terms) ws (g .rising t h) (g .within t h)))
+      (stretch-cut (startBy 1 ts t) (endBy 1 ts t) (k .terms) cs (g .rising t h) (g .within t h))
+      (stretch-cut (startBy 1 ts t) (endBy 1 ts t) (k .terms) ws (g .rising t h) (g .within t h)))
 
   -- THE THRESHOLDS ONE BY ONE, of whole buffers.
   pub gathered : given (cut k cs ws ts) (take (k .thresholds) bs) ≡ map at (numbers 0 (k .thresholds))
@@ -70,15 +71,15 @@ module _ (k : Standing) (cs ws : List ℕ) (ts : List (List ℕ)) (bs : List ℤ
 
   -- The terms of the first thresholds end where the next begins.
   module _ (h : Termed k cs ws) where
-    pub length-at : (t : ℕ) → t < k .thresholds → length (listAt (rawLists cs ws ts) t) ≡ endOf ts t - startOf ts t
+    pub length-at : (t : ℕ) → t < k .thresholds → length (listAt (rawLists cs ws ts) t) ≡ endBy 1 ts t - startBy 1 ts t
     unfolding listAt
     length-at t q =
-        let c = stretch-length (startOf ts t) (endOf ts t) cs (let a = g .within t q in let b = g .terms in let d = h .conditions in omega arith) in
-        let w = stretch-length (startOf ts t) (endOf ts t) ws (let a = g .within t q in let b = g .terms in let d = h .weights in omega arith) in
-        length-terms (stretch (startOf ts t) (endOf ts t) cs) (stretch (startOf ts t) (endOf ts t) ws) (w ∙ sym c) ∙ c
+        let c = stretch-length (startBy 1 ts t) (endBy 1 ts t) cs (let a = g .within t q in let b = g .terms in let d = h .conditions in omega arith) in
+        let w = stretch-length (startBy 1 ts t) (endBy 1 ts t) ws (let a = g .within t q in let b = g .terms in let d = h .weights in omega arith) in
+        length-terms (stretch (startBy 1 ts t) (endBy 1 ts t) cs) (stretch (startBy 1 ts t) (endBy 1 ts t) ws) (w ∙ sym c) ∙ c
 
-    all-to : (n : ℕ) → n ≤ k .thresholds → allTerms (map at (numbers 0 n)) ≡ startOf ts n
-    unfolding startOf allTerms numbers
+    all-to : (n : ℕ) → n ≤ k .thresholds → allTerms (map at (numbers 0 n)) ≡ startBy 1 ts n
+    unfolding startBy allTerms numbers
     all-to zero q = refl
     all-to (suc n) q =
         ap allTerms (map-more at n) ∙ all-more (at n) (map at (numbers 0 n))

@@ -8,10 +8,11 @@ use mathlib.Core.List.{List, [], _∷_}
 use lib.ListN.{length, getD, take, replicate, List·getD-eq-default}
 use lib.Seq.{getD-take, length-take-le}
 use lib.IntN.{ℤ, pos}
+use Rattle.lists.specs.Parts.{endBy, startBy}
 use Rattle.memory.specs.Limits.{maxNodes, maxTerms, maxThresholds}
 use Rattle.memory.specs.Ranges.{rawLimit}
 use Rattle.memory.specs.Buffers.{Built, built}
-use Rattle.thresholds.specs.Raw.{startOf, endOf, Lists}
+use Rattle.thresholds.specs.Raw.{Lists}
 use Rattle.thresholds.specs.Guards.{Bound, nodeAt}
 use Rattle.prepare.specs.Prepare.{Sound, Ample}
 use Rattle.records.specs.declared.Standing.{Standing}
@@ -22,7 +23,7 @@ use Rattle.job.specs.Built.{Roomy, Spare}
 -- NO THRESHOLDS YET
 pub gathered-none : (k : Standing) (cs ws : List ℕ) (ts : List (List ℕ)) (bs : List ℤ) → k .nodes ≤ maxNodes → k .thresholds ≡ 0 → k .terms ≡ 0
     → maxTerms ≤ length cs → maxTerms ≤ length ws → maxThresholds ≤ length ts → maxThresholds ≤ length bs → Gathered k cs ws ts bs
-unfolding startOf
+unfolding startBy
 gathered-none k cs ws ts bs h e z c w t b = record {
   listed = record {
     nodes = h;
@@ -33,7 +34,7 @@ gathered-none k cs ws ts bs h e z c w t b = record {
     rising = λ t q. absurd (omega (arith, e, q));
     short = λ t q. absurd (omega (arith, e, q));
     within = λ t q. absurd (omega (arith, e, q));
-    ended = ap (startOf ts) e ∙ sym z;
+    ended = ap (startBy 1 ts) e ∙ sym z;
     inside = λ t q. absurd (omega (arith, e, q));
     ordered = λ t q. absurd (omega (arith, e, q));
     last = λ t q. absurd (omega (arith, e, q));
@@ -59,10 +60,10 @@ module _ (k : Standing) (cs ws : List ℕ) (ts : List (List ℕ)) (bs : List ℤ
   same : (t : ℕ) → t < k .thresholds → getD (take (k .thresholds) ts) t [] ≡ getD ts t []
   same t q = getD-take (k .thresholds) ts t [] q
 
-  starts : (t : ℕ) → t < k .thresholds → startOf (take (k .thresholds) ts) t ≡ startOf ts t
+  starts : (t : ℕ) → t < k .thresholds → startBy 1 (take (k .thresholds) ts) t ≡ startBy 1 ts t
   starts t q = start-cut (k .thresholds) t ts (omega arith)
 
-  end-same : (t : ℕ) → t < k .thresholds → endOf (take (k .thresholds) ts) t ≡ endOf ts t
+  end-same : (t : ℕ) → t < k .thresholds → endBy 1 (take (k .thresholds) ts) t ≡ endBy 1 ts t
   end-same t q = ap (λ (p : List ℕ). getD p 1 0) (same t q)
 
   node-same : (t : ℕ) → t < k .thresholds → nodeAt (take (k .thresholds) ts) t ≡ nodeAt ts t

@@ -12,14 +12,16 @@ use lib.IntN.{ℤ, pos, negsuc}
 use lib.Signed.{ltZ}
 use borrow.Author.Tests.{eqb-false, leb-false, ne-eqb}
 use Rattle.signed.specs.SignedLaws.{nlt-leZ}
+use Rattle.lists.specs.PartsLaws.{start-after}
+use Rattle.lists.specs.Parts.{endBy, startBy}
 use Rattle.lists.specs.Laid.{numbers}
 use Rattle.numeric.specs.Threshold.{term, Threshold}
 use Rattle.numeric.specs.Slices.{terms}
 use Rattle.memory.specs.Limits.{listTerms, maxTerms, maxThresholds}
 use Rattle.memory.specs.Ranges.{rawLimit}
 use Rattle.memory.specs.Buffers.{rawLists}
-use Rattle.thresholds.specs.Raw.{startOf, endOf, stretch, listAt}
-use Rattle.thresholds.specs.RawLaws.{start-suc, stretch-length}
+use Rattle.thresholds.specs.Raw.{stretch, listAt}
+use Rattle.thresholds.specs.RawLaws.{stretch-length}
 use Rattle.thresholds.specs.Guards.{Bound, nodeAt}
 use Rattle.prepare.specs.Given.{thresholdAt, given}
 use Rattle.records.specs.declared.Record.the-variants.{Opens, Adds}
@@ -77,15 +79,15 @@ module _ (k : Standing) (n : ℕ) (b : ℤ) (ts : List (List ℕ)) (bs : List �
   new : getD ts′ (k .thresholds) [] ≡ entry
   new = getD-set-same ts (k .thresholds) entry [] (let r = open-room in let l = g .room in omega arith)
 
-  old-start : (t : ℕ) → t ≤ k .thresholds → startOf ts′ t ≡ startOf ts t
-  unfolding startOf
+  old-start : (t : ℕ) → t ≤ k .thresholds → startBy 1 ts′ t ≡ startBy 1 ts t
+  unfolding startBy
   old-start zero q = refl
   old-start (suc t) q = ap end-of (old t q)
 
-  starts : startOf ts′ (k .thresholds) ≡ k .terms
+  starts : startBy 1 ts′ (k .thresholds) ≡ k .terms
   starts = old-start (k .thresholds) (le-refl (k .thresholds)) ∙ g .ended
 
-  ends : endOf ts′ (k .thresholds) ≡ k .terms
+  ends : endBy 1 ts′ (k .thresholds) ≡ k .terms
   ends = ap end-of new
 
   listed-open : Listed next ts′
@@ -96,17 +98,17 @@ module _ (k : Standing) (n : ℕ) (b : ℤ) (ts : List (List ℕ)) (bs : List �
     room = subst (λ (x : ℕ). maxThresholds ≤ x) (sym (length-set ts (k .thresholds) entry)) (g .room);
     wide = by-last (λ (t : ℕ). length (getD ts′ t []) ≡ 2) (k .thresholds) (k .thresholds + 1) refl (λ t q. ap length (old t q) ∙ g .wide t q) (ap length new);
     rising =
-        by-last (λ (t : ℕ). startOf ts′ t ≤ endOf ts′ t) (k .thresholds) (k .thresholds + 1) refl
-        (λ t q. let a = old-start t (omega arith) in let e : endOf ts′ t ≡ endOf ts t = ap end-of (old t q) in let r = g .rising t q in omega (arith, a, e, r))
+        by-last (λ (t : ℕ). startBy 1 ts′ t ≤ endBy 1 ts′ t) (k .thresholds) (k .thresholds + 1) refl
+        (λ t q. let a = old-start t (omega arith) in let e : endBy 1 ts′ t ≡ endBy 1 ts t = ap end-of (old t q) in let r = g .rising t q in omega (arith, a, e, r))
         (let a = starts in let e = ends in omega (arith, a, e));
     short =
-        by-last (λ (t : ℕ). endOf ts′ t ≤ startOf ts′ t + listTerms) (k .thresholds) (k .thresholds + 1) refl
-        (λ t q. let a = old-start t (omega arith) in let e : endOf ts′ t ≡ endOf ts t = ap end-of (old t q) in let r = g .short t q in omega (arith, a, e, r))
+        by-last (λ (t : ℕ). endBy 1 ts′ t ≤ startBy 1 ts′ t + listTerms) (k .thresholds) (k .thresholds + 1) refl
+        (λ t q. let a = old-start t (omega arith) in let e : endBy 1 ts′ t ≡ endBy 1 ts t = ap end-of (old t q) in let r = g .short t q in omega (arith, a, e, r))
         (let a = starts in let e = ends in omega (arith, a, e));
     within =
-        by-last (λ (t : ℕ). endOf ts′ t ≤ k .terms) (k .thresholds) (k .thresholds + 1) refl
-        (λ t q. let e : endOf ts′ t ≡ endOf ts t = ap end-of (old t q) in let r = g .within t q in omega (arith, e, r)) (let e = ends in omega (arith, e));
-    ended = start-suc ts′ (k .thresholds) ∙ ends;
+        by-last (λ (t : ℕ). endBy 1 ts′ t ≤ k .terms) (k .thresholds) (k .thresholds + 1) refl
+        (λ t q. let e : endBy 1 ts′ t ≡ endBy 1 ts t = ap end-of (old t q) in let r = g .within t q in omega (arith, e, r)) (let e = ends in omega (arith, e));
+    ended = start-after 1 ts′ (k .thresholds) ∙ ends;
     inside =
         by-last (λ (t : ℕ). nodeAt ts′ t < k .nodes) (k .thresholds) (k .thresholds + 1) refl
         (λ t q. let e : nodeAt ts′ t ≡ nodeAt ts t = ap node-of (old t q) in let r = g .inside t q in omega (arith, e, r))
@@ -114,7 +116,7 @@ module _ (k : Standing) (n : ℕ) (b : ℤ) (ts : List (List ℕ)) (bs : List �
     ordered = λ t q.
         subst (λ (x : ℕ). x < nodeAt ts′ (t + 1)) (sym (ap node-of (old t (omega arith)))) (behind (t + 1) q t refl);
     last = λ t e. let q : t ≡ k .thresholds = omega arith in ap (nodeAt ts′) q ∙ ap node-of new;
-    filled = λ t e. let q : t ≡ k .thresholds = omega arith in let r = ap (startOf ts′) q ∙ starts in omega (arith, r);
+    filled = λ t e. let q : t ≡ k .thresholds = omega arith in let r = ap (startBy 1 ts′) q ∙ starts in omega (arith, r);
   }
     where
       behind : (s : ℕ) → s < k .thresholds + 1 → (r : ℕ) → r + 1 ≡ s → nodeAt ts r < nodeAt ts′ s
@@ -214,18 +216,18 @@ module _ (k : Standing) (c w : ℕ) (cs ws : List ℕ) (ts : List (List ℕ)) (g
   there : getD ts″ last [] ≡ longer
   there = getD-set-same ts last longer [] (let a = g .room in let b = g .many in let e = term-open in omega (arith, a, b, e))
 
-  before-start : (t : ℕ) → t ≤ last → startOf ts″ t ≡ startOf ts t
-  unfolding startOf
+  before-start : (t : ℕ) → t ≤ last → startBy 1 ts″ t ≡ startBy 1 ts t
+  unfolding startBy
   before-start zero q = refl
   before-start (suc t) q = ap end-of (before t q)
 
-  last-start : startOf ts″ last ≡ startOf ts last
+  last-start : startBy 1 ts″ last ≡ startBy 1 ts last
   last-start = before-start last (le-refl last)
 
-  last-end : endOf ts last ≡ k .terms
-  last-end = sym (start-suc ts last) ∙ ap (startOf ts) (sym term-open) ∙ g .ended
+  last-end : endBy 1 ts last ≡ k .terms
+  last-end = sym (start-after 1 ts last) ∙ ap (startBy 1 ts) (sym term-open) ∙ g .ended
 
-  new-end : endOf ts″ last ≡ k .terms + 1
+  new-end : endBy 1 ts″ last ≡ k .terms + 1
   new-end = ap end-of there
 
   same-node : (t : ℕ) → t < k .thresholds → nodeAt ts″ t ≡ nodeAt ts t
@@ -245,17 +247,17 @@ module _ (k : Standing) (c w : ℕ) (cs ws : List ℕ) (ts : List (List ℕ)) (g
     room = subst (λ (x : ℕ). maxThresholds ≤ x) (sym (length-set ts last longer)) (g .room);
     wide = by-last (λ (t : ℕ). length (getD ts″ t []) ≡ 2) last (k .thresholds) term-open (λ t q. ap length (before t q) ∙ g .wide t (earlier t q)) (ap length there);
     rising =
-        by-last (λ (t : ℕ). startOf ts″ t ≤ endOf ts″ t) last (k .thresholds) term-open
-        (λ t q. let a = before-start t (omega arith) in let e : endOf ts″ t ≡ endOf ts t = ap end-of (before t q) in let r = g .rising t (earlier t q) in omega (arith, a, e, r))
+        by-last (λ (t : ℕ). startBy 1 ts″ t ≤ endBy 1 ts″ t) last (k .thresholds) term-open
+        (λ t q. let a = before-start t (omega arith) in let e : endBy 1 ts″ t ≡ endBy 1 ts t = ap end-of (before t q) in let r = g .rising t (earlier t q) in omega (arith, a, e, r))
         (let a = last-start in let e = new-end in let f = last-end in let r = g .rising last in-last in omega (arith, a, e, f, r));
     short =
-        by-last (λ (t : ℕ). endOf ts″ t ≤ startOf ts″ t + listTerms) last (k .thresholds) term-open
-        (λ t q. let a = before-start t (omega arith) in let e : endOf ts″ t ≡ endOf ts t = ap end-of (before t q) in let r = g .short t (earlier t q) in omega (arith, a, e, r))
+        by-last (λ (t : ℕ). endBy 1 ts″ t ≤ startBy 1 ts″ t + listTerms) last (k .thresholds) term-open
+        (λ t q. let a = before-start t (omega arith) in let e : endBy 1 ts″ t ≡ endBy 1 ts t = ap end-of (before t q) in let r = g .short t (earlier t q) in omega (arith, a, e, r))
         (let a = last-start in let e = new-end in let r = counts-left .0 in let o = g .filled last (sym term-open) in omega (arith, a, e, r, o));
     within =
-        by-last (λ (t : ℕ). endOf ts″ t ≤ k .terms + 1) last (k .thresholds) term-open
-        (λ t q. let e : endOf ts″ t ≡ endOf ts t = ap end-of (before t q) in let r = g .within t (earlier t q) in omega (arith, e, r)) (let e = new-end in omega (arith, e));
-    ended = ap (startOf ts″) term-open ∙ start-suc ts″ last ∙ new-end;
+        by-last (λ (t : ℕ). endBy 1 ts″ t ≤ k .terms + 1) last (k .thresholds) term-open
+        (λ t q. let e : endBy 1 ts″ t ≡ endBy 1 ts t = ap end-of (before t q) in let r = g .within t (earlier t q) in omega (arith, e, r)) (let e = new-end in omega (arith, e));
+    ended = ap (startBy 1 ts″) term-open ∙ start-after 1 ts″ last ∙ new-end;
     inside = λ t q. subst (λ (x : ℕ). x < k .nodes) (sym (same-node t q)) (g .inside t q);
     ordered = λ t q.
         subst (λ (x : ℕ). x < nodeAt ts″ (t + 1)) (sym (same-node t (omega arith))) (subst (λ (x : ℕ). nodeAt ts t < x) (sym (same-node (t + 1) q)) (g .ordered t q));
@@ -281,7 +283,7 @@ module _ (k : Standing) (c w : ℕ) (cs ws : List ℕ) (ts : List (List ℕ)) (g
 
   module _ (bs : List ℤ) where
     abbrev start : ℕ
-    start = startOf ts last
+    start = startBy 1 ts last
 
     up-to : start ≤ k .terms
     up-to = let r = g .rising last in-last in let e = last-end in omega (arith, r, e)
@@ -290,8 +292,8 @@ module _ (k : Standing) (c w : ℕ) (cs ws : List ℕ) (ts : List (List ℕ)) (g
     before-at t q =
         threshold-by (ap node-of (before t q)) refl
         (list-by (rawLists (set cs (k .terms) c) (set ws (k .terms) w) ts″) (rawLists cs ws ts) t (before-start t (omega arith)) (ap end-of (before t q))
-        (stretch-set (startOf ts t) (endOf ts t) (k .terms) c cs (g .rising t (earlier t q)) (g .within t (earlier t q)))
-        (stretch-set (startOf ts t) (endOf ts t) (k .terms) w ws (g .rising t (earlier t q)) (g .within t (earlier t q))))
+        (stretch-set (startBy 1 ts t) (endBy 1 ts t) (k .terms) c cs (g .rising t (earlier t q)) (g .within t (earlier t q)))
+        (stretch-set (startBy 1 ts t) (endBy 1 ts t) (k .terms) w ws (g .rising t (earlier t q)) (g .within t (earlier t q))))
 
     one-more : listAt (rawLists (set cs (k .terms) c) (set ws (k .terms) w) ts″) last ≡ listAt (rawLists cs ws ts) last ++ (term c w ∷ [])
     unfolding listAt

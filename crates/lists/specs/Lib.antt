@@ -1,4 +1,6 @@
 pub mod Laid
+pub mod Parts
+pub mod PartsLaws
 pub mod Deal
 pub mod DealLaws
 pub mod Columns

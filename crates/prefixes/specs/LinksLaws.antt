@@ -14,7 +14,7 @@ use Rattle.lists.specs.Laid.{numbers}
 use Rattle.numeric.specs.Threshold.{Term}
 use Rattle.thresholds.specs.Rows.{Row}
 use Rattle.prefixes.specs.Links.{termsAt, notAfter, orderFrom, common, Link, ancestors, stacked, linked, linksFrom, links, neighbours, neighbourLists}
-use Rattle.prefixes.specs.WordsLaws.{Starts, starts-common, common-starts, common-sym, common-left, common-right, common-through, common-between, common-back, common-self, notAfter-refl, notAfter-trans}
+use Rattle.prefixes.specs.WordsLaws.{Starts, starts-common, common-starts, common-sym, common-right, common-through, common-between, common-back, common-self, notAfter-refl, notAfter-trans}
 use Rattle.prefixes.specs.OrderLaws.{Rising, Distinct, order-rising, order-has, order-range, order-length, order-distinct, order-same}
 
 abbrev pub link : ℕ → ℕ → Link

@@ -1,13 +1,13 @@
 -- The one pass over the order: the ancestors as a chain through words. Below row a on the stack stands the row that word a names, its number and 1; 0 ends the chain.
 use Prim.Native.Nat.{ℕ, zero, suc, _+_, _-_, _%_, _<_, _≤_}
 use mathlib.Core.Path.{_≡_}
-use mathlib.Core.Bool.{Bool, true, false}
+use mathlib.Core.Bool.{true, false}
 use mathlib.Core.List.{List, [], _∷_, map}
 use lib.Dec.{eqb, ltb}
 use lib.ListN.{length, getD}
+use Rattle.lists.specs.Parts.{endBy, startBy}
 use Rattle.memory.specs.Limits.{maxThresholds}
 use Rattle.numeric.specs.Threshold.{Term}
-use Rattle.thresholds.specs.Incidents.{rowStart, rowEnd}
 
 -- The stack that begins at word t.
 abbrev pub Chain : List ℕ → ℕ → List ℕ → Type 0
@@ -16,7 +16,7 @@ Chain s t (a ∷ more) = (t ≡ a + 1) × Chain s (getD s a 0) more
 
 -- How many terms a row has, and so the ancestors that are kept, and what stands below a new row.
 abbrev pub lengthAt : List (List ℕ) → ℕ → ℕ
-lengthAt rows r = rowEnd rows r - rowStart rows r
+lengthAt rows r = endBy 0 rows r - startBy 0 rows r
 
 unfoldable pub keptBy : (ℕ → ℕ) → ℕ → List ℕ → List ℕ
 keptBy L shared [] = []
@@ -35,7 +35,7 @@ abbrev pub Falling : List (List ℕ) → List ℕ → Type 0
 Falling rows s = (a : ℕ) → a < length rows → (getD s a 0 ≤ length rows) × (depth rows (getD s a 0) < depth rows (a + 1))
 
 abbrev pub Rises : List (List ℕ) → Type 0
-Rises rows = (r : ℕ) → r < length rows → rowStart rows r ≤ rowEnd rows r
+Rises rows = (r : ℕ) → r < length rows → startBy 0 rows r ≤ endBy 0 rows r
 
 -- The terms of the row that a word names.
 unfoldable pub named : (ℕ → List Term) → ℕ → List Term

@@ -11,18 +11,18 @@ use borrow.Author.Tests.{lt-ltb, le-ltb, eq-eqb, ne-eqb}
 use lib.Dec.{eqb, ltb}
 use lib.ListN.{length, getD, set, take, drop, length-set, length-map, drop-of-length-le, List·getD-map}
 use lib.Seq.{drop-cons, take-all, take-suc-set, getD-set-same, getD-set-other}
+use Rattle.lists.specs.Parts.{endBy, startBy}
 use Rattle.memory.specs.Limits.{maxThresholds}
 use Rattle.numeric.specs.Threshold.{Term}
 use Rattle.thresholds.specs.Rows.{Row}
 use Rattle.prefixes.specs.Links.{Link, termsAt, common, orderFrom, ancestors, stacked, linked, linksFrom, links}
 use Rattle.prefixes.specs.WordsLaws.{common-right}
 use Rattle.prefixes.specs.OrderLaws.{Distinct, order-distinct, order-length, order-range}
-use Rattle.prefixes.specs.Held.{heldTerms, rowsHeld, HeldRow, Held}
-use Rattle.thresholds.specs.Incidents.{rowStart, rowEnd}
+use Rattle.prefixes.specs.Held.{heldTerms, rowsHeld, Held}
 use Rattle.prefixes.specs.HeldLaws.{held-terms, held-length, stretch-length}
 use Rattle.prefixes.specs.Neighbours.{wordLink, linksIn}
 use Rattle.prefixes.specs.NeighboursLaws.{links-append}
-use Rattle.prefixes.specs.Pass.{Chain, lengthAt, keptBy, underBy, depth, Falling, Rises, named, headWord, Popped, Under, Fresh, rowsIn}
+use Rattle.prefixes.specs.Pass.{Chain, lengthAt, keptBy, underBy, depth, Falling, named, headWord, Popped, Under, Fresh, rowsIn}
 
 -- ---- popping
 
@@ -312,7 +312,7 @@ module _ (rows : List (List ℕ)) (cs ws : List ℕ) where
     pub row-length-is : (a : ℕ) → a < length rows → L a ≡ length (T a)
     row-length-is a h =
         let r = held a h in
-        sym (ap length (held-terms rows cs ws (length rows) a h) ∙ stretch-length cs ws (rowStart rows a) (rowEnd rows a) (r .conditions) (r .weights))
+        sym (ap length (held-terms rows cs ws (length rows) a h) ∙ stretch-length cs ws (startBy 0 rows a) (endBy 0 rows a) (r .conditions) (r .weights))
 
     module _ (words stack : List ℕ) (i top : ℕ) (p : Passing words stack i top) (more : i < length rows) where
       -- the next row

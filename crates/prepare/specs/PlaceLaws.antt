@@ -10,13 +10,14 @@ use lib.Seq.{length-take-le, drop-cons, set-at, drop-drop, drop-set-lt, take-suc
 use lib.Dec.{ltb}
 use borrow.Author.Tests.{ltb-true, ltb-false, lt-ltb, le-ltb}
 use Rattle.memory.specs.Limits.{maxThresholds}
+use Rattle.lists.specs.Parts.{endBy, startBy}
 use Rattle.lists.specs.Laid.{over, joinAll, ends}
 use Rattle.numeric.specs.Threshold.{Term}
 use Rattle.row.specs.Terms.{rowTerms}
 use Rattle.row.specs.Keys.{laid, conditionsOf, weightsOf}
 use Rattle.thresholds.specs.declared.Found.the-variants.{At, Nothing}
 use Rattle.memory.specs.Buffers.{RawLists}
-use Rattle.thresholds.specs.Raw.{startOf, endOf, listAt, fingerprint, numberIn, foundOf, Lists}
+use Rattle.thresholds.specs.Raw.{listAt, fingerprint, numberIn, foundOf, Lists}
 use Rattle.thresholds.specs.RawLaws.{number-most, found-is, found-none}
 use Rattle.thresholds.specs.Chain.{nextIn, printIn, markedList, classOf, Marked, Headed, classCount}
 use Rattle.thresholds.specs.ChainLaws.{class-small, marked-one, headed-one, headed-none, length-marked}
@@ -156,7 +157,7 @@ module _ (r : RawLists) (t : ℕ) (so : Extent) (cs ws scratch heads : List ℕ)
       }
 
   -- A new row: x is its raw list, laid from a to e.
-  module _ (a e : ℕ) (x : List Term) (ea : a ≡ startOf (r .thresholds) t) (ee : e ≡ endOf (r .thresholds) t) (ex : x ≡ listAt r t)
+  module _ (a e : ℕ) (x : List Term) (ea : a ≡ startBy 1 (r .thresholds) t) (ee : e ≡ endBy 1 (r .thresholds) t) (ex : x ≡ listAt r t)
       (short : length (rowTerms x) ≤ e - a) (n : rowTo r t ≡ so .rows) where
     new : rowTo r t ≡ length (rawsTo r t)
     new = n ∙ p .marks .many

@@ -8,6 +8,7 @@ use Rattle.thresholds.specs.Chain.{classCount}
 use Rattle.memory.specs.Limits.{maxThresholds}
 use Rattle.lists.specs.Laid.{over, joinAll, ends}
 use Rattle.lists.specs.Deal.{Keyed, grouped}
+use Rattle.lists.specs.Parts.{Inside}
 use Rattle.lists.specs.Columns.{column, withColumn, Wide}
 use Rattle.row.specs.Keys.{conditionsOf, weightsOf}
 use Rattle.memory.specs.Buffers.{RawLists, Built}
@@ -15,7 +16,7 @@ use Rattle.numeric.specs.Threshold.{Job}
 use Rattle.thresholds.specs.Raw.{Lists}
 use Rattle.thresholds.specs.Guards.{Bounds, nodeAt, rowAt, NodesIn, boundItems, nodeItems}
 use Rattle.thresholds.specs.Placed.{rawsTo, termsTo, nodesTo}
-use Rattle.thresholds.specs.Incidents.{heldItems, Ends}
+use Rattle.thresholds.specs.Incidents.{heldItems}
 use Rattle.thresholds.specs.Laid.{termLists}
 use Rattle.thresholds.specs.Rows.{rowsOf}
 use Rattle.prepare.specs.declared.Extent.{Extent}
@@ -107,7 +108,7 @@ pub record Guarded (ths : List (List ℕ)) (bounds : List ℤ) (nodes : List (Li
 
 -- Edges can be listed by condition.
 pub record Indexable (cs ws : List ℕ) (rows nodes edges : List (List ℕ)) : Type 0 where
-  pub inside : Ends rows (length cs)
+  pub inside : Inside 0 rows (length cs)
   pub even : length ws ≡ length cs
   pub keys : cs ≡ map (λ (x : Keyed (List ℕ)). x .key) (heldItems cs ws rows)
   pub short : length cs < 65536

@@ -7,22 +7,16 @@ use mathlib.Core.Path.{_≡_, refl, sym, ap, ap₂, _∙_, subst}
 use mathlib.Core.List.{List, [], _∷_, _++_, map, append-nil}
 use lib.ListN.{length, drop, getD, length-map, drop-of-length-le}
 use lib.Seq.{drop-cons}
+use Rattle.lists.specs.Parts.{endBy, startBy, stretch, Inside}
 use Rattle.lists.specs.Laid.{joinAll, ends}
 use Rattle.lists.specs.Deal.{Keyed}
 use Rattle.lists.specs.Columns.{column}
 use Rattle.numeric.specs.Threshold.{Term}
 use Rattle.numeric.specs.Slices.{terms}
-use Rattle.thresholds.specs.Raw.{stretch}
 use Rattle.thresholds.specs.Laid.{conditions, weights}
-use Rattle.thresholds.specs.Incidents.{incidentsFrom, rowStart, rowEnd, heldTerms, heldLists, heldItems, Ends}
+use Rattle.thresholds.specs.Incidents.{incidentsFrom, heldTerms, heldLists, heldItems}
 use Rattle.thresholds.specs.IncidentsLaws.{keys-from}
-use Rattle.prepare.specs.RowsGivenLaidLaws.{startIn, over-figures, laid-long, laid-rising, laid-inside}
-
--- A row begins where its first column says.
-pub row-start : (rows : List (List ℕ)) (k : ℕ) → rowStart rows k ≡ startIn 0 rows k
-unfolding rowStart startIn
-row-start rows zero = refl
-row-start rows (suc k) = refl
+use Rattle.prepare.specs.RowsGivenLaidLaws.{over-figures, laid-long, laid-rising, laid-inside}
 
 -- Terms are told by their conditions and weights.
 pub terms-back : (ts : List Term) → terms (conditions ts) (weights ts) ≡ ts
@@ -35,10 +29,9 @@ pub held-over : (cs ws : List ℕ) (rows : List (List ℕ)) (ls : List (List Ter
     → cs ≡ conditions (joinAll ls) ++ cmore → ws ≡ weights (joinAll ls) ++ wmore → column 0 rows ≡ ends 0 ls ++ more
     → (k : ℕ) → k < length ls → heldTerms cs ws rows k ≡ getD ls k []
 held-over cs ws rows ls cmore wmore more c w e k h =
-    let a = startIn 0 rows k in
-    let b = rowEnd rows k in
-    ap (λ (s : ℕ). terms (stretch s b cs) (stretch s b ws)) (row-start rows k)
-    ∙ ap₂ (λ (x y : List ℕ). terms (stretch a b x) (stretch a b y)) c w
+    let a = startBy 0 rows k in
+    let b = endBy 0 rows k in
+    ap₂ (λ (x y : List ℕ). terms (stretch a b x) (stretch a b y)) c w
     ∙ ap₂ terms (over-figures 0 rows ls more e k h (λ (t : Term). t .condition) cmore) (over-figures 0 rows ls more e k h (λ (t : Term). t .weight) wmore)
     ∙ terms-back (getD ls k [])
 
@@ -68,10 +61,10 @@ module _ (cs ws : List ℕ) (rows : List (List ℕ)) (ls : List (List Term))
   length-conditions = ap length c ∙ length-map (joinAll ls) (λ (t : Term). t .condition)
 
   -- What an index of all terms asks: rows end one behind the other inside the terms,
-  pub held-ends : Ends rows (length cs)
+  pub held-ends : Inside 0 rows (length cs)
   held-ends = record {
-    rising = λ k h. subst (λ (a : ℕ). a ≤ rowEnd rows k) (sym (row-start rows k)) (laid-rising 0 rows ls e k (listed k h));
-    inside = λ k h. subst (λ (n : ℕ). rowEnd rows k ≤ n) (sym length-conditions) (laid-inside 0 rows ls e k (listed k h));
+    rising = λ k h. laid-rising 0 rows ls e k (listed k h);
+    ends = λ k h. subst (λ (n : ℕ). endBy 0 rows k ≤ n) (sym length-conditions) (laid-inside 0 rows ls e k (listed k h));
   }
     where
       listed : (k : ℕ) → k < length rows → k < length ls

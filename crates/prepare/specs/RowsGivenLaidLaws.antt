@@ -6,19 +6,11 @@ use mathlib.Core.Path.{_≡_, refl, sym, ap, ap₂, _∙_, subst}
 use mathlib.Core.List.{List, [], _∷_, _++_, map, append-assoc, append-nil}
 use lib.ListN.{length, take, drop, getD, replicate, length-append, length-drop, length-map, List·getD-append}
 use lib.Seq.{drop-at, take-append-seam, take-append-le, drop-append-le}
+use Rattle.lists.specs.Parts.{endBy, startBy, stretch}
 use Rattle.lists.specs.Laid.{joinAll, ends}
 use Rattle.lists.specs.Columns.{column, Wide}
 use Rattle.lists.specs.ColumnsLaws.{length-column, column-at}
-use Rattle.thresholds.specs.Raw.{stretch}
 use Rattle.thresholds.specs.Placed.{rowEntry}
-
--- Where list k ends, as column j says, and where it begins: there the one before ends.
-abbrev pub endIn : ℕ → List (List ℕ) → ℕ → ℕ
-endIn j rows k = getD (getD rows k []) j 0
-
-unfoldable pub startIn : ℕ → List (List ℕ) → ℕ → ℕ
-startIn j rows zero = 0
-startIn j rows (suc k) = endIn j rows k
 
 -- ---- by the list of ends; the first list begins at s
 
@@ -85,38 +77,38 @@ stretch-front a b l rest h k =
 
 -- In whole buffers, where other rows and other elements may stand behind.
 module _ {X : Type 0} (j : ℕ) (rows : List (List ℕ)) (ls : List (List X)) (more : List ℕ) (e : column j rows ≡ ends 0 ls ++ more) where
-  end-is : (k : ℕ) → k < length ls → endIn j rows k ≡ getD (ends 0 ls) k 0
+  end-is : (k : ℕ) → k < length ls → endBy j rows k ≡ getD (ends 0 ls) k 0
   end-is k h =
       sym (column-at j rows k) ∙ ap (λ (l : List ℕ). getD l k 0) e
       ∙ List·getD-append (ends 0 ls) more 0 k (subst (λ (n : ℕ). k < n) (sym (length-ends 0 ls)) h)
 
-  start-is : (k : ℕ) → k < length ls → startIn j rows k ≡ startFrom 0 (ends 0 ls) k
-  unfolding startIn
+  start-is : (k : ℕ) → k < length ls → startBy j rows k ≡ startFrom 0 (ends 0 ls) k
+  unfolding startBy
   start-is zero h = refl
   start-is (suc k) h = end-is k (omega arith)
 
   module _ (k : ℕ) (h : k < length ls) where
-    pub over-rising : startIn j rows k ≤ endIn j rows k
+    pub over-rising : startBy j rows k ≤ endBy j rows k
     over-rising =
-        subst (λ (a : ℕ). a ≤ endIn j rows k) (sym (start-is k h))
+        subst (λ (a : ℕ). a ≤ endBy j rows k) (sym (start-is k h))
         (subst (λ (b : ℕ). startFrom 0 (ends 0 ls) k ≤ b) (sym (end-is k h)) (rising-from 0 ls k h))
 
-    pub over-inside : endIn j rows k ≤ length (joinAll ls)
+    pub over-inside : endBy j rows k ≤ length (joinAll ls)
     over-inside = let p = end-is k h in let q = inside-from 0 ls k h in omega arith
 
-    part : stretch (startIn j rows k) (endIn j rows k) (joinAll ls) ≡ getD ls k []
+    part : stretch (startBy j rows k) (endBy j rows k) (joinAll ls) ≡ getD ls k []
     part = ap₂ (λ (a b : ℕ). stretch a b (joinAll ls)) (start-is k h) (end-is k h) ∙ part-from [] ls 0 k refl h
 
     -- THE PART OF LIST k IS LIST k,
-    pub over-part : (rest : List X) → stretch (startIn j rows k) (endIn j rows k) (joinAll ls ++ rest) ≡ getD ls k []
-    over-part rest = stretch-front (startIn j rows k) (endIn j rows k) (joinAll ls) rest over-rising over-inside ∙ part
+    pub over-part : (rest : List X) → stretch (startBy j rows k) (endBy j rows k) (joinAll ls ++ rest) ≡ getD ls k []
+    over-part rest = stretch-front (startBy j rows k) (endBy j rows k) (joinAll ls) rest over-rising over-inside ∙ part
 
     -- also where one of its figures is laid: the conditions or weights of terms, the bounds or nodes of guards.
     pub over-figures : {Y : Type 0} (f : X → Y) (rest : List Y)
-        → stretch (startIn j rows k) (endIn j rows k) (map f (joinAll ls) ++ rest) ≡ map f (getD ls k [])
+        → stretch (startBy j rows k) (endBy j rows k) (map f (joinAll ls) ++ rest) ≡ map f (getD ls k [])
     over-figures f rest =
-        let a = startIn j rows k in
-        let b = endIn j rows k in
+        let a = startBy j rows k in
+        let b = endBy j rows k in
         stretch-front a b (map f (joinAll ls)) rest over-rising (subst (λ (n : ℕ). b ≤ n) (sym (length-map (joinAll ls) f)) over-inside)
         ∙ ap (take (b - a)) (map-drop f a (joinAll ls)) ∙ map-take f (b - a) (drop a (joinAll ls)) ∙ ap (map f) part
 
@@ -130,18 +122,18 @@ module _ {X : Type 0} (j : ℕ) (rows : List (List ℕ)) (ls : List (List X)) (e
   uncut = e ∙ sym (append-nil (ends 0 ls))
 
   module _ (k : ℕ) (h : k < length ls) where
-    pub laid-rising : startIn j rows k ≤ endIn j rows k
+    pub laid-rising : startBy j rows k ≤ endBy j rows k
     laid-rising = over-rising j rows ls [] uncut k h
 
-    pub laid-inside : endIn j rows k ≤ length (joinAll ls)
+    pub laid-inside : endBy j rows k ≤ length (joinAll ls)
     laid-inside = over-inside j rows ls [] uncut k h
 
-    pub laid-part : stretch (startIn j rows k) (endIn j rows k) (joinAll ls) ≡ getD ls k []
+    pub laid-part : stretch (startBy j rows k) (endBy j rows k) (joinAll ls) ≡ getD ls k []
     laid-part = part j rows ls [] uncut k h
 
-    pub laid-figures : {Y : Type 0} (f : X → Y) → stretch (startIn j rows k) (endIn j rows k) (map f (joinAll ls)) ≡ map f (getD ls k [])
+    pub laid-figures : {Y : Type 0} (f : X → Y) → stretch (startBy j rows k) (endBy j rows k) (map f (joinAll ls)) ≡ map f (getD ls k [])
     laid-figures f =
-        ap (stretch (startIn j rows k) (endIn j rows k)) (sym (append-nil (map f (joinAll ls)))) ∙ over-figures j rows ls [] uncut k h f []
+        ap (stretch (startBy j rows k) (endBy j rows k)) (sym (append-nil (map f (joinAll ls)))) ∙ over-figures j rows ls [] uncut k h f []
 
 -- ---- rows that have only the ends of their terms yet
 

@@ -1,5 +1,5 @@
 -- The rows that the buffers hold are linked as the job's rows are: links look at terms only. In whole buffers, whatever stands behind.
-use Prim.Native.Nat.{ℕ, zero, suc, _<_, _≤_}
+use Prim.Native.Nat.{ℕ, _<_, _≤_}
 use native.Mathlib.Decide.{decLt}
 use native.Mathlib.Omega.{arith}
 use mathlib.Core.Path.{_≡_, refl, sym, ap, _∙_, subst}
@@ -11,16 +11,16 @@ use Rattle.lists.specs.ColumnsLaws.{length-column}
 use Rattle.numeric.specs.Threshold.{Term}
 use Rattle.thresholds.specs.Rows.{Row, noRow}
 use Rattle.thresholds.specs.Laid.{conditions, weights, termLists}
-use Rattle.thresholds.specs.Incidents.{rowEnd, heldTerms as rowTermsHeld}
+use Rattle.thresholds.specs.Incidents.{heldTerms as rowTermsHeld}
 use Rattle.prefixes.specs.Links.{termsAt, neighbourLists}
 use Rattle.prefixes.specs.LinksLaws.{neighbourLists-same}
-use Rattle.prefixes.specs.Held.{stretch, heldTerms, rowsHeld, Held}
+use Rattle.prefixes.specs.Held.{termsIn, heldTerms, rowsHeld, Held}
 use Rattle.prefixes.specs.HeldLaws.{held-terms, held-length}
 use Rattle.prepare.specs.RowsGivenLaidLaws.{length-ends, over-rising, over-inside}
-use Rattle.prepare.specs.RowsGivenHeldLaws.{row-start, held-over}
+use Rattle.prepare.specs.RowsGivenHeldLaws.{held-over}
 
 same-terms : (rows : List (List ℕ)) (cs ws : List ℕ) (k : ℕ) → heldTerms rows cs ws k ≡ rowTermsHeld cs ws rows k
-unfolding stretch
+unfolding termsIn
 same-terms rows cs ws k = refl
 
 module _ (cs ws : List ℕ) (rows : List (List ℕ)) (ls : List (List Term)) (cmore wmore more : List ℕ)
@@ -29,7 +29,7 @@ module _ (cs ws : List ℕ) (rows : List (List ℕ)) (ls : List (List Term)) (cm
   pub held-given : Held rows cs ws (length ls)
   held-given k h = record {
     listed = let p = ap length e ∙ length-append (ends 0 ls) more in let q = length-column 0 rows in let u = length-ends 0 ls in omega arith;
-    rising = subst (λ (a : ℕ). a ≤ rowEnd rows k) (sym (row-start rows k)) (over-rising 0 rows ls more e k h);
+    rising = over-rising 0 rows ls more e k h;
     conditions =
         let p = ap length c ∙ length-append (conditions (joinAll ls)) cmore in
         let q = length-map (joinAll ls) (λ (t : Term). t .condition) in

@@ -8,6 +8,7 @@ use mathlib.Core.List.{List, [], _∷_, _++_, map}
 use lib.ListN.{length, take, drop, getD, length-append, length-take}
 use lib.IntN.{ℤ}
 use lib.Dec.{eqb, ltb}
+use Rattle.lists.specs.Parts.{endBy, startBy}
 use Rattle.lists.specs.Laid.{joinAll}
 use Rattle.numeric.specs.Threshold.{Term}
 use Rattle.numeric.specs.Slices.{terms}
@@ -15,7 +16,7 @@ use Rattle.numeric.specs.TermsLaws.{length-terms}
 use Rattle.row.specs.Terms.{before, merge, merged, insert, sorted, rowTerms}
 use Rattle.row.specs.TermsLaws.{All, either, all-sorted, conditions-merged}
 use Rattle.memory.specs.Buffers.{RawLists}
-use Rattle.thresholds.specs.Raw.{endOf, startOf, stretch, listAt, numberIn, Lists}
+use Rattle.thresholds.specs.Raw.{stretch, listAt, numberIn, Lists}
 use Rattle.thresholds.specs.Laid.{conditions, termLists}
 use Rattle.thresholds.specs.Placed.{joined, rawsTo, termsTo}
 use Rattle.prepare.specs.Given.{givenRows}
@@ -72,8 +73,8 @@ module _ (P : ℕ → Type 0) where
   list-of : (r : RawLists) (t : ℕ) → All P (r .raw-conditions) → All Of (listAt r t)
   unfolding listAt
   list-of r t h =
-      let a = startOf (r .thresholds) t in
-      let e = endOf (r .thresholds) t in
+      let a = startBy 1 (r .thresholds) t in
+      let e = endBy 1 (r .thresholds) t in
       terms-of (stretch a e (r .raw-conditions)) (stretch a e (r .raw-weights)) (all-take P (e - a) (drop a (r .raw-conditions)) (all-drop P a (r .raw-conditions) h))
 
   raws-of : (r : RawLists) (t : ℕ) → All P (r .raw-conditions) → All (λ (l : List Term). All Of l) (rawsTo r t)
@@ -133,11 +134,11 @@ length-sorted (t ∷ ts) = length-insert t (sorted ts) ∙ ap suc (length-sorted
 pub row-short : (raw : List Term) → length (rowTerms raw) ≤ length raw
 row-short raw = let p = length-sorted (merged raw) in let q = length-merged raw in omega arith
 
-list-short : (r : RawLists) (t : ℕ) → length (listAt r t) ≤ endOf (r .thresholds) t - startOf (r .thresholds) t
+list-short : (r : RawLists) (t : ℕ) → length (listAt r t) ≤ endBy 1 (r .thresholds) t - startBy 1 (r .thresholds) t
 unfolding listAt
 list-short r t =
-    let a = startOf (r .thresholds) t in
-    let e = endOf (r .thresholds) t in
+    let a = startBy 1 (r .thresholds) t in
+    let e = endBy 1 (r .thresholds) t in
     let p = length-terms (stretch a e (r .raw-conditions)) (stretch a e (r .raw-weights)) in
     let q = length-take (e - a) (drop a (r .raw-conditions)) in
     omega arith
@@ -160,8 +161,8 @@ module _ (f : List Term → List Term) where
       by false = let q = join-last ls x in omega arith
 
 -- The terms of the rows so far are no more than the raw terms so far.
-pub terms-few : (r : RawLists) (n t : ℕ) → Lists r n → t ≤ n → length (joinAll (termsTo r t)) ≤ startOf (r .thresholds) t
-unfolding rawsTo startOf joinAll
+pub terms-few : (r : RawLists) (n t : ℕ) → Lists r n → t ≤ n → length (joinAll (termsTo r t)) ≤ startBy 1 (r .thresholds) t
+unfolding rawsTo startBy joinAll
 terms-few r n zero l h = omega arith
 terms-few r n (suc t) l h =
     let i = terms-few r n t l (omega arith) in
@@ -173,7 +174,7 @@ terms-few r n (suc t) l h =
 
 -- So the next raw list has room behind them,
 pub terms-room : (r : RawLists) (n t : ℕ) → Lists r n → t < n
-    → length (joinAll (termsTo r t)) + (endOf (r .thresholds) t - startOf (r .thresholds) t) ≤ length (r .raw-conditions)
+    → length (joinAll (termsTo r t)) + (endBy 1 (r .thresholds) t - startBy 1 (r .thresholds) t) ≤ length (r .raw-conditions)
 terms-room r n t l h =
     let i = terms-few r n t l (omega arith) in
     let u = l .rising t h in
@@ -182,7 +183,7 @@ terms-room r n t l h =
 
 -- and at the end they are no more than all raw terms.
 pub terms-fit : (r : RawLists) (n : ℕ) → Lists r n → length (joinAll (termsTo r n)) ≤ length (r .raw-conditions)
-unfolding rawsTo startOf joinAll
+unfolding rawsTo startBy joinAll
 terms-fit r zero l = omega arith
 terms-fit r (suc n) l =
     let i = terms-few r (suc n) (suc n) l (omega arith) in

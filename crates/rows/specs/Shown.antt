@@ -3,21 +3,21 @@ use Prim.Native.Nat.{ℕ, _<_, _≤_, _^_}
 use mathlib.Core.List.{List}
 use lib.ListN.{length}
 use lib.IntN.{ℤ}
+use Rattle.lists.specs.Parts.{endBy, startBy}
 use Rattle.numeric.specs.Slices.{terms}
 use Rattle.row.specs.Terms.{total}
 use Rattle.thresholds.specs.Raw.{stretch}
-use Rattle.prepare.specs.RowsGivenLaidLaws.{startIn, endIn}
 
 -- List k of those that lie one behind the other, by the ends in column j: inside so many places.
 pub record Part (j : ℕ) (lists : List (List ℕ)) (size k : ℕ) : Type 0 where
   pub listed : k < length lists
-  pub rising : startIn j lists k ≤ endIn j lists k
-  pub inside : endIn j lists k ≤ size
+  pub rising : startBy j lists k ≤ endBy j lists k
+  pub inside : endBy j lists k ≤ size
 
 -- The sum of a row's weights fits.
 abbrev pub Fits : List (List ℕ) → List ℕ → List ℕ → ℕ → Type 0
 Fits rows cs ws k =
-    total (terms (stretch (startIn 0 rows k) (endIn 0 rows k) cs) (stretch (startIn 0 rows k) (endIn 0 rows k) ws)) < 2 ^ 64
+    total (terms (stretch (startBy 0 rows k) (endBy 0 rows k) cs) (stretch (startBy 0 rows k) (endBy 0 rows k) ws)) < 2 ^ 64
 
 -- Row k can be printed.
 pub record Shown (rows : List (List ℕ)) (cs ws : List ℕ) (gb : List ℤ) (gn links : List ℕ) (k : ℕ) : Type 0 where

@@ -13,6 +13,7 @@ use mir.Val.{SFits}
 use borrow.Author.Tests.{le-ltb, ltb-true}
 use Rattle.memory.specs.Ranges.{rawLimit, weightLimit}
 use Rattle.memory.specs.Buffers.{Built, heldRows, built}
+use Rattle.lists.specs.Parts.{endBy, startBy}
 use Rattle.lists.specs.Laid.{over, joinAll, ends, numbers}
 use Rattle.lists.specs.Columns.{column}
 use Rattle.lists.specs.ColumnsLaws.{length-column}
@@ -21,7 +22,7 @@ use Rattle.numeric.specs.Slices.{terms}
 use Rattle.row.specs.Terms.{total, rowTerms, sameTerms}
 use Rattle.row.specs.TermsLaws.{All}
 use Rattle.row.specs.SumLaws.{row-total-fits}
-use Rattle.thresholds.specs.Raw.{stretch, listAt, startOf, endOf}
+use Rattle.thresholds.specs.Raw.{stretch, listAt}
 use Rattle.thresholds.specs.RawLaws.{length-terms, stretch-length}
 use Rattle.thresholds.specs.PlacedLaws.{stretch-small}
 use Rattle.thresholds.specs.Rows.{Row, Guard, rowOf, noRow, guard, insertGuard, place, placeAll, rowsOf, edgesOf}
@@ -30,7 +31,7 @@ use Rattle.prefixes.specs.HeldLaws.{length-numbers}
 use Rattle.prefixes.specs.Links.{neighbourLists}
 use Rattle.prepare.specs.Given.{thresholdAt, given}
 use Rattle.prepare.specs.Place.{Blank}
-use Rattle.prepare.specs.RowsGivenLaidLaws.{startIn, endIn, length-ends, over-rising, over-inside, over-figures}
+use Rattle.prepare.specs.RowsGivenLaidLaws.{length-ends, over-rising, over-inside, over-figures}
 use Rattle.prepare.specs.RowsGivenHeldLaws.{terms-back}
 use Rattle.prepare.specs.JobBuffers.{rowEntries, nodeEntries, builtWith, builtOf}
 use Rattle.prepare.specs.JobBuffersLaws.{entries-columns, neighbours-long, nodes-column}
@@ -97,8 +98,8 @@ module _ (k : Standing) (cs ws : List ℕ) (ts : List (List ℕ)) (bs : List ℤ
   unfolding listAt
   light-list t h =
       let s = gathered-sound k cs ws ts bs g (k .nodes) refl .lists in
-      let a = startOf (take (k .thresholds) ts) t in
-      let e = endOf (take (k .thresholds) ts) t in
+      let a = startBy 1 (take (k .thresholds) ts) t in
+      let e = endBy 1 (take (k .thresholds) ts) t in
       let i = s .inside t h in
       let c = stretch-length a e (take (k .terms) cs) i in
       let w = stretch-length a e (take (k .terms) ws) (let v = s .weighed in omega (arith, i, v)) in
@@ -184,8 +185,8 @@ module _ (k : Standing) (cs ws : List ℕ) (ts : List (List ℕ)) (bs : List ℤ
     fits : (r : ℕ) → r < count → Fits (a .held .rows) (a .held .row-conditions) (a .held .row-weights) r
     fits r h =
         let i : r < length (termLists rs) = subst (λ (n : ℕ). r < n) many-terms h in
-        let s = startIn 0 (a .held .rows) r in
-        let e = endIn 0 (a .held .rows) r in
+        let s = startBy 0 (a .held .rows) r in
+        let e = endBy 0 (a .held .rows) r in
         let c = ap (stretch s e) conditions-left
         ∙ over-figures 0 (a .held .rows) (termLists rs) (column 0 behind) (columns .0) r i (λ (t : Term). t .condition) (drop (length (conditions (joinAll (termLists rs)))) (b .held .row-conditions)) in
         let w = ap (stretch s e) weights-left
@@ -263,20 +264,8 @@ pub below-zero : (z : ℤ) → ltZ z (pos 0) ≡ true → SFits w64 z → (m : �
 below-zero (pos n) h f = absurd (let q = ltb-true n 0 h in omega (arith, q))
 below-zero (negsuc n) h f = (n, (minus-one n, let q = f .sfits in omega (arith, q)))
 
--- ---- where a list begins
-
-pub start-zero : (j : ℕ) (lists : List (List ℕ)) (k : ℕ) → k ≡ 0 → 0 ≡ startIn j lists k
-unfolding startIn
-start-zero j lists zero e = refl
-start-zero j lists (suc k) e = absurd (let z : _≡_ {A = ℕ} (suc k) 0 = e in omega arith)
-
-pub start-next : (j : ℕ) (lists : List (List ℕ)) (k : ℕ) → 0 < k → endIn j lists (k - 1) ≡ startIn j lists k
-unfolding startIn
-start-next j lists zero h = absurd (not-suc-le-zero h)
-start-next j lists (suc k) h = ap (endIn j lists) {x = suc k - 1} {y = k} (omega arith)
-
-pub fits-by : (rows : List (List ℕ)) (cs ws : List ℕ) (k a e : ℕ) → a ≡ startIn 0 rows k → e ≡ endIn 0 rows k → Fits rows cs ws k
+pub fits-by : (rows : List (List ℕ)) (cs ws : List ℕ) (k a e : ℕ) → a ≡ startBy 0 rows k → e ≡ endBy 0 rows k → Fits rows cs ws k
     → total (terms (stretch a e cs) (stretch a e ws)) < 2 ^ 64
 fits-by rows cs ws k a e p q f =
     subst (λ (x : ℕ). total (terms (stretch x e cs) (stretch x e ws)) < 2 ^ 64) (sym p)
-    (subst (λ (y : ℕ). total (terms (stretch (startIn 0 rows k) y cs) (stretch (startIn 0 rows k) y ws)) < 2 ^ 64) (sym q) f)
+    (subst (λ (y : ℕ). total (terms (stretch (startBy 0 rows k) y cs) (stretch (startBy 0 rows k) y ws)) < 2 ^ 64) (sym q) f)

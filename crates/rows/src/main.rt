@@ -3,10 +3,10 @@
 ghost use mathlib.Core.Path.{_≡_};
 ghost use Prim.Native.Nat.{_<_, _≤_, _^_};
 ghost use lib.ListN.{length};
+ghost use Rattle.lists.specs.Parts.{endBy, startBy};
 ghost use Rattle.numeric.specs.Slices.{terms};
 ghost use Rattle.row.specs.Terms.{total};
 ghost use Rattle.memory.specs.Buffers.{rawLists, raw, heldRows, built};
-ghost use Rattle.prepare.specs.RowsGivenLaidLaws.{startIn, endIn};
 ghost use Rattle.job.specs.Gathered.{Gathered};
 ghost use Rattle.job.specs.Built.{Roomy};
 ghost use Rattle.files.specs.Held.{Room};
@@ -61,7 +61,7 @@ fn write_link(row: u16) {
 
 fn end_in(lists: &[[u16; 3]], at: usize, column: usize) -> usize
     requires { ⌜ (at < length (now lists)) × (column < 3) ⌝ }
-    ensures { λ r. ⌜ r ≡ endIn column (now (lists .entry)) at ⌝ }
+    ensures { λ r. ⌜ r ≡ endBy column (now (lists .entry)) at ⌝ }
 {
     let entry = lists[at];
     thresholds::place(entry[column])
@@ -69,7 +69,7 @@ fn end_in(lists: &[[u16; 3]], at: usize, column: usize) -> usize
 
 fn start_in(lists: &[[u16; 3]], at: usize, column: usize) -> usize
     requires { ⌜ (at ≤ length (now lists)) × (column < 3) ⌝ }
-    ensures { λ r. ⌜ r ≡ startIn column (now (lists .entry)) at ⌝ }
+    ensures { λ r. ⌜ r ≡ startBy column (now (lists .entry)) at ⌝ }
 {
     if at == 0 {
         return 0;

@@ -10,12 +10,13 @@ use lib.ListN.{length, getD, set, replicate, length-append, length-set, getD-rep
 use lib.Seq.{getD-append-seam, getD-set-same, getD-set-other}
 use lib.Dec.{eqb, ltb}
 use borrow.Author.Tests.{eqb-true, eqb-false, ltb-false}
+use Rattle.lists.specs.Parts.{endBy, startBy}
 use Rattle.memory.specs.Limits.{maxThresholds}
 use Rattle.numeric.specs.Threshold.{Term}
 use Rattle.row.specs.Terms.{sameTerms}
 use Rattle.thresholds.specs.declared.Found.the-variants.{At, Nothing}
 use Rattle.memory.specs.Buffers.{RawLists}
-use Rattle.thresholds.specs.Raw.{prints, startOf, endOf, stretch, listAt, mixed, fingerprint, numberIn, foundOf, Lists}
+use Rattle.thresholds.specs.Raw.{prints, stretch, listAt, mixed, fingerprint, numberIn, foundOf, Lists}
 use Rattle.thresholds.specs.RawLaws.{same-is, same-refl, length-terms, stretch-length, number-most, found-at, found-nothing}
 use Rattle.thresholds.specs.Chain.{mark, nextIn, printIn, markedList, classOf, classAt, newest, Marked, Headed, Own, Searching, classCount}
 use Rattle.thresholds.specs.Placed.{rawsTo, rowTo}
@@ -31,8 +32,8 @@ mixed-small h (t ∷ ts) q = mixed-small ((h * 65599 + t .condition * 257 + t .w
 list-short : (r : RawLists) (t : ℕ) → Lists r (length (r .thresholds)) → t < length (r .thresholds) → length (listAt r t) < prints
 unfolding listAt
 list-short r t l h =
-    let a = startOf (r .thresholds) t in
-    let e = endOf (r .thresholds) t in
+    let a = startBy 1 (r .thresholds) t in
+    let e = endBy 1 (r .thresholds) t in
     let i = l .inside t h in
     let s = l .short t h in
     let w = l .weighed in

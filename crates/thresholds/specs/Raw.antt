@@ -1,37 +1,26 @@
 -- The raw lists of a job as the lent buffers hold them: all terms one behind the other, and for each threshold its node and where its terms end.
-use Prim.Native.Nat.{ℕ, zero, suc, _+_, _-_, _*_, _^_, _%_, _<_, _≤_}
+use Prim.Native.Nat.{ℕ, _+_, _-_, _*_, _^_, _%_, _<_, _≤_}
 use mathlib.Core.Path.{_≡_}
-use mathlib.Core.Bool.{Bool, true, false, cond}
+use mathlib.Core.Bool.{true, false, cond}
 use mathlib.Core.List.{List, [], _∷_}
-use lib.ListN.{length, take, drop, getD}
+use lib.ListN.{length, getD}
 use lib.Dec.{ltb}
-use lib.IntN.{ℤ, pos}
+use Rattle.lists.specs.Parts.{endBy, startBy}
+pub use Rattle.lists.specs.Parts.{stretch}
 use Rattle.memory.specs.Limits.{maxThresholds, listTerms}
 use Rattle.memory.specs.Ranges.{rawLimit}
 use Rattle.memory.specs.Buffers.{RawLists}
-use Rattle.numeric.specs.Threshold.{Term, Threshold}
+use Rattle.numeric.specs.Threshold.{Term}
 use Rattle.numeric.specs.Slices.{terms}
 use Rattle.row.specs.Terms.{sameTerms}
 use Rattle.thresholds.specs.declared.Found.{Found}
 use Rattle.thresholds.specs.declared.Found.the-variants.{At, Nothing}
 
--- Where the terms of threshold t end; where they begin: there the ones before end.
-abbrev pub endOf : List (List ℕ) → ℕ → ℕ
-endOf ts t = getD (getD ts t []) 1 0
-
-unfoldable pub startOf : List (List ℕ) → ℕ → ℕ
-startOf ts zero = 0
-startOf ts (suc t) = endOf ts t
-
--- A stretch of a list.
-abbrev pub stretch : {X : Type 0} → ℕ → ℕ → List X → List X
-stretch a e l = take (e - a) (drop a l)
-
 -- The raw list of threshold t.
 unfoldable pub listAt : RawLists → ℕ → List Term
 listAt r t =
-    terms (stretch (startOf (r .thresholds) t) (endOf (r .thresholds) t) (r .raw-conditions))
-    (stretch (startOf (r .thresholds) t) (endOf (r .thresholds) t) (r .raw-weights))
+    terms (stretch (startBy 1 (r .thresholds) t) (endBy 1 (r .thresholds) t) (r .raw-conditions))
+    (stretch (startBy 1 (r .thresholds) t) (endBy 1 (r .thresholds) t) (r .raw-weights))
 
 -- A number made of a raw list: lists with different numbers differ. There are so many.
 abbrev pub prints : ℕ
@@ -57,8 +46,8 @@ pub record Lists (r : RawLists) (count : ℕ) : Type 0 where
   pub many : count ≤ maxThresholds
   pub held : count ≤ length (r .thresholds)
   pub wide : (t : ℕ) → t < count → length (getD (r .thresholds) t []) ≡ 2
-  pub rising : (t : ℕ) → t < count → startOf (r .thresholds) t ≤ endOf (r .thresholds) t
-  pub short : (t : ℕ) → t < count → endOf (r .thresholds) t ≤ startOf (r .thresholds) t + listTerms
-  pub inside : (t : ℕ) → t < count → endOf (r .thresholds) t ≤ length (r .raw-conditions)
+  pub rising : (t : ℕ) → t < count → startBy 1 (r .thresholds) t ≤ endBy 1 (r .thresholds) t
+  pub short : (t : ℕ) → t < count → endBy 1 (r .thresholds) t ≤ startBy 1 (r .thresholds) t + listTerms
+  pub inside : (t : ℕ) → t < count → endBy 1 (r .thresholds) t ≤ length (r .raw-conditions)
   pub weighed : length (r .raw-weights) ≡ length (r .raw-conditions)
   pub light : (i : ℕ) → getD (r .raw-weights) i 0 < rawLimit

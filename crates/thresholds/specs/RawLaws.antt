@@ -1,6 +1,6 @@
 -- Laws of raw lists in two parallel slices, read place by place, and of the search among lists.
-use Prim.Native.Nat.{ℕ, zero, suc, _+_, _-_, _*_, _%_, _<_, _≤_}
-use native.Mathlib.Nat.{not-suc-le-zero, add-assoc, le-refl}
+use Prim.Native.Nat.{ℕ, suc, _+_, _-_, _*_, _%_, _<_, _≤_}
+use native.Mathlib.Nat.{add-assoc, le-refl}
 use native.Mathlib.Numerals.{add-one}
 use native.Mathlib.Omega.{arith}
 use mathlib.Core.Path.{_≡_, refl, sym, ap, ap₂, _∙_}
@@ -10,27 +10,14 @@ use lib.ListN.{length, drop, getD, drop-of-length-le, length-take, length-drop}
 use lib.Seq.{drop-cons}
 use lib.Dec.{eqb, ltb}
 use borrow.Author.Tests.{eqb-true, eq-eqb, ne-eqb, lt-ltb, le-ltb, ltb-false}
+use Rattle.lists.specs.Parts.{endBy, startBy}
 use Rattle.numeric.specs.Threshold.{Term, term}
 use Rattle.numeric.specs.Slices.{terms}
 use Rattle.row.specs.Terms.{sameTerms, total}
 use Rattle.thresholds.specs.Rows.{hasNonunit}
-use Rattle.thresholds.specs.declared.Found.{Found}
 use Rattle.thresholds.specs.declared.Found.the-variants.{At, Nothing}
 use Rattle.memory.specs.Buffers.{RawLists}
-use Rattle.thresholds.specs.Raw.{prints, endOf, startOf, stretch, listAt, mixed, fingerprint, numberIn, foundOf}
-
-pub start-next : (ts : List (List ℕ)) (t : ℕ) → 0 < t → endOf ts (t - 1) ≡ startOf ts t
-unfolding startOf
-start-next ts zero h = absurd (not-suc-le-zero h)
-start-next ts (suc t) h = ap (endOf ts) (omega arith)
-
-pub start-zero : (ts : List (List ℕ)) (t : ℕ) → t ≡ 0 → 0 ≡ startOf ts t
-unfolding startOf
-start-zero ts t e = rw (e, startOf)
-
-pub start-suc : (ts : List (List ℕ)) (t : ℕ) → startOf ts (t + 1) ≡ endOf ts t
-unfolding startOf
-start-suc ts t = rw (add-one, startOf)
+use Rattle.thresholds.specs.Raw.{prints, stretch, listAt, mixed, fingerprint, numberIn, foundOf}
 
 module _ (cs ws : List ℕ) where
   pub terms-next : (i : ℕ) → i < length cs → i < length ws
@@ -169,7 +156,7 @@ pub total-done : (cs ws : List ℕ) (s i : ℕ) → length cs ≤ i → s ≡ s 
 unfolding total
 total-done cs ws s i a = rw (terms-done cs ws i a, total) (omega arith)
 
-pub list-is : (r : RawLists) (t a e : ℕ) → a ≡ startOf (r .thresholds) t → e ≡ endOf (r .thresholds) t
+pub list-is : (r : RawLists) (t a e : ℕ) → a ≡ startBy 1 (r .thresholds) t → e ≡ endBy 1 (r .thresholds) t
     → terms (stretch a e (r .raw-conditions)) (stretch a e (r .raw-weights)) ≡ listAt r t
 unfolding listAt
 list-is r t a e p q = rw (p, q, listAt)

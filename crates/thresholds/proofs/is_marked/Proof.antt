@@ -1,8 +1,9 @@
 -- `thresholds::is_marked` meets its contract. Assumes nothing.
+use Rattle.lists.specs.Parts.{endBy, startBy}
 use Rattle.thresholds.specs.RawLaws.{list-is}
 use Rattle.thresholds.specs.ChainLaws.{prints-differ}
 use Rattle.memory.specs.Buffers.{rawLists}
-use Rattle.thresholds.specs.Raw.{startOf, endOf, listAt}
+use Rattle.thresholds.specs.Raw.{listAt}
 use Rattle.row.specs.Terms.{sameTerms}
 use mathlib.Core.Path.{_≡_, sym, ap₂, _∙_}
 use Prim.Native.Nat.{_%_}
@@ -27,10 +28,10 @@ same-stretch-requires c κs = let g = to-start c .args in
     let p = to-start c .pre in
     let f = g .mark % 1024 in
     let ts = g .thresholds .now in
-    let a : c .before .before .before .start-of .result ≡ startOf ts f = c .before .before .before .start-of .ensures in
-    let e : c .before .before .end-of .result ≡ endOf ts f = c .before .before .end-of .ensures in
-    let b : c .before .start-of2 .result ≡ startOf ts (g .t) = c .before .start-of2 .ensures in
-    let d : c .end-of2 .result ≡ endOf ts (g .t) = c .end-of2 .ensures in
+    let a : c .before .before .before .start-of .result ≡ startBy 1 ts f = c .before .before .before .start-of .ensures in
+    let e : c .before .before .end-of .result ≡ endBy 1 ts f = c .before .before .end-of .ensures in
+    let b : c .before .start-of2 .result ≡ startBy 1 ts (g .t) = c .before .start-of2 .ensures in
+    let d : c .end-of2 .result ≡ endBy 1 ts (g .t) = c .end-of2 .ensures in
     let l = p .0 in
     (omega (arith, l .rising f (p .2)), omega (arith, l .rising (g .t) (p .1)), omega (arith, l .inside f (p .2)), omega (arith, l .inside (g .t) (p .1)), l .weighed)
 

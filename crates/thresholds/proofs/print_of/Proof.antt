@@ -1,7 +1,8 @@
 -- `thresholds::print_of` meets its contract. Assumes nothing.
+use Rattle.lists.specs.Parts.{endBy, startBy}
 use Rattle.thresholds.specs.RawLaws.{list-is}
 use Rattle.memory.specs.Buffers.{rawLists}
-use Rattle.thresholds.specs.Raw.{startOf, endOf, fingerprint}
+use Rattle.thresholds.specs.Raw.{fingerprint}
 use mathlib.Core.Path.{_≡_, ap, _∙_}
 use native.Mathlib.Omega.{arith}
 use borrow.Author.Needs.{needs}
@@ -13,8 +14,8 @@ print-stretch-requires c κs =
     let g = c .before .before .before .before .args in
     let p = c .before .before .before .before .pre in
     let ts = g .thresholds .now in
-    let a : c .before .start-of .result ≡ startOf ts (g .t) = c .before .start-of .ensures in
-    let e : c .end-of .result ≡ endOf ts (g .t) = c .end-of .ensures in
+    let a : c .before .start-of .result ≡ startBy 1 ts (g .t) = c .before .start-of .ensures in
+    let e : c .end-of .result ≡ endBy 1 ts (g .t) = c .end-of .ensures in
     (omega (arith, p .0 .rising (g .t) (p .1)), omega (arith, p .0 .inside (g .t) (p .1)), omega (arith, p .0 .short (g .t) (p .1)), p .0 .weighed, p .0 .light)
 
 returns : tie.Need-returns

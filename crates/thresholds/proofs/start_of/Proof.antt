@@ -1,5 +1,5 @@
 -- `thresholds::start_of` meets its contract. Assumes nothing.
-use Rattle.thresholds.specs.RawLaws.{start-zero, start-next}
+use Rattle.lists.specs.PartsLaws.{start-zero, start-before}
 use mathlib.Core.Path.{_∙_}
 use native.Mathlib.Omega.{arith}
 use borrow.Author.Needs.{needs}
@@ -7,10 +7,10 @@ use Rattle.thresholds.proofs.start_of.Statement.{statement}
 use Rattle.thresholds.proofs.start_of.Tie as tie
 
 returns : tie.Need-returns
-returns c = start-zero _ _ (c .if1 .taken)
+returns c = start-zero _ _ _ (c .if1 .taken)
 
 returns-2 : tie.Need-returns-2
-returns-2 c = c .end-of .ensures ∙ start-next _ _ (omega arith)
+returns-2 c = c .end-of .ensures ∙ start-before _ _ _ (omega arith)
 
 pub start-of-spec : {M : Type 1} → statement M
 start-of-spec = tie.close (tie.spec returns (λ c. search needs) (λ c κs. search needs) returns-2)
