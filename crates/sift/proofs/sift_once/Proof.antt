@@ -3,7 +3,7 @@ use native.Mathlib.Omega.{arith}
 use borrow.Author.Tests.{eq-eqb, ne-eqb}
 use Rattle.memory.specs.Buffers.{heldRows, Built, built}
 use Rattle.between.specs.Between.{Live, Did, did}
-use Rattle.between.specs.Numbers.{liveOf}
+use Rattle.between.specs.Numbers.{liveOf, Same}
 use Rattle.regions.specs.Sift.{Sifted, sifted}
 use Rattle.sift.specs.SiftingLaws.{once-stop, once-none, once-try, settled-tries}
 use mathlib.Core.Path.{_∙_, refl, sym}
@@ -51,40 +51,31 @@ tried p q = let s = p .settle .last .1 .1 .1 .1 .1 .1 .1 .1 .1 in
     let o = q .try-row .result in
     sifted (liveOf (s .0) (s .1 .0) (l .0) (l .1 .0) (l .1 .1 .0) (l .1 .1 .1 .0) (o .rings)) (l .1 .1 .1 .1 .0) (o .step) (o .visits)
 
+-- What is settled is as long as what was lent.
+settled-lengths : (p : tie.After-settle) →
+    let a = start-of (p .before) .args in
+    let l = p .settle .last .1 .1 .1 .1 .1 .1 .1 .1 .1 in
+    Same (a .figures .now) (a .cursors .now) (a .sure .now) (a .never .now) (a .node-queue .now) (a .row-queues .now) (l .0) (l .1 .0) (l .1 .1 .0) (l .1 .1 .1 .0) (l .1 .1 .1 .1 .0) (l .1 .1 .1 .1 .1 .0)
+settled-lengths p =
+    let k = p .settle .kept .1 .1 .1 .1 .1 .1 .1 .1 .1 in
+    record { figures = k .0; cursors = k .1 .0; sure = k .1 .1 .0; never = k .1 .1 .1 .0; node-queue = k .1 .1 .1 .1 .0; row-queues = k .1 .1 .1 .1 .1 .0 }
+
+-- And so is what a tried row leaves; it leaves the states as they were settled.
+tried-lengths : (q : tie.After-try-row) →
+    let p = settle-of (contradicts-of q) in
+    let a = start-of (p .before) .args in
+    let s = p .settle .last .1 .1 .1 .1 .1 .1 .1 .1 .1 in
+    let l = q .try-row .last .1 .1 .1 .1 .1 in
+    Same (a .figures .now) (a .cursors .now) (a .sure .now) (a .never .now) (a .node-queue .now) (a .row-queues .now) (s .0) (s .1 .0) (l .0) (l .1 .0) (l .1 .1 .0) (l .1 .1 .1 .0)
+tried-lengths q =
+    let s = settled-lengths (settle-of (contradicts-of q)) in
+    let k = q .try-row .kept .1 .1 .1 .1 .1 in
+    record { figures = s .figures; cursors = s .cursors; sure = k .0 ∙ s .sure; never = k .1 .0 ∙ s .never; node-queue = k .1 .1 .0 ∙ s .node-queue; row-queues = k .1 .1 .1 .0 ∙ s .row-queues }
+
 settle-requires : tie.Need-settle-requires
 settle-requires c κs =
     let start = start-of c in
     (start .pre .0 .0, start .pre .1)
-
-same-length : tie.Need-same-length
-same-length c =
-    let after-settle = settle-of (c .before) in
-    after-settle .settle .kept .1 .1 .1 .1 .1 .1 .1 .1 .1 .0
-
-same-length-2 : tie.Need-same-length-2
-same-length-2 c =
-    let after-settle = settle-of (c .before) in
-    after-settle .settle .kept .1 .1 .1 .1 .1 .1 .1 .1 .1 .1 .0
-
-same-length-3 : tie.Need-same-length-3
-same-length-3 c =
-    let after-settle = settle-of (c .before) in
-    after-settle .settle .kept .1 .1 .1 .1 .1 .1 .1 .1 .1 .1 .1 .0
-
-same-length-4 : tie.Need-same-length-4
-same-length-4 c =
-    let after-settle = settle-of (c .before) in
-    after-settle .settle .kept .1 .1 .1 .1 .1 .1 .1 .1 .1 .1 .1 .1 .0
-
-same-length-5 : tie.Need-same-length-5
-same-length-5 c =
-    let after-settle = settle-of (c .before) in
-    after-settle .settle .kept .1 .1 .1 .1 .1 .1 .1 .1 .1 .1 .1 .1 .1 .0
-
-same-length-6 : tie.Need-same-length-6
-same-length-6 c =
-    let after-settle = settle-of (c .before) in
-    after-settle .settle .kept .1 .1 .1 .1 .1 .1 .1 .1 .1 .1 .1 .1 .1 .1 .0
 
 returns : tie.Need-returns
 returns c =
@@ -93,36 +84,6 @@ returns c =
     let start = start-of (after-settle .before) in
     let t = after-settle .settle in
     (λ x s. once-stop x (entry start) (start .args .gcds .now) (start .args .visits) (settled after-settle) (t .ensures .0 x s) (sym (after-contradicts .contradicts .ensures) ∙ c .if1 .taken), t .ensures .1, refl)
-
-same-length-7 : tie.Need-same-length-7
-same-length-7 c =
-    let after-settle = settle-of (c .before .before .before) in
-    after-settle .settle .kept .1 .1 .1 .1 .1 .1 .1 .1 .1 .0
-
-same-length-8 : tie.Need-same-length-8
-same-length-8 c =
-    let after-settle = settle-of (c .before .before .before) in
-    after-settle .settle .kept .1 .1 .1 .1 .1 .1 .1 .1 .1 .1 .0
-
-same-length-9 : tie.Need-same-length-9
-same-length-9 c =
-    let after-settle = settle-of (c .before .before .before) in
-    after-settle .settle .kept .1 .1 .1 .1 .1 .1 .1 .1 .1 .1 .1 .0
-
-same-length-10 : tie.Need-same-length-10
-same-length-10 c =
-    let after-settle = settle-of (c .before .before .before) in
-    after-settle .settle .kept .1 .1 .1 .1 .1 .1 .1 .1 .1 .1 .1 .1 .0
-
-same-length-11 : tie.Need-same-length-11
-same-length-11 c =
-    let after-settle = settle-of (c .before .before .before) in
-    after-settle .settle .kept .1 .1 .1 .1 .1 .1 .1 .1 .1 .1 .1 .1 .1 .0
-
-same-length-12 : tie.Need-same-length-12
-same-length-12 c =
-    let after-settle = settle-of (c .before .before .before) in
-    after-settle .settle .kept .1 .1 .1 .1 .1 .1 .1 .1 .1 .1 .1 .1 .1 .1 .0
 
 returns-2 : tie.Need-returns-2
 returns-2 c =
@@ -144,52 +105,6 @@ try-row-requires c κs =
     let s = w .0 .0 .1 in
     let v = settled-tries x (start .args .bounds .now) (buffers start) s (entry start) (w .1) (settled after-settle) (after-settle .settle .ensures .0 x s) (omega (arith, else2 .if2 .left)) in
     (start .args .guard-bounds .now, start .args .guard-nodes .now, v (start .args .gcds .now) (start .args .search .now) (w .0 .1) (w .0 .2))
-
-same-length-13 : tie.Need-same-length-13
-same-length-13 c =
-    let after-contradicts = contradicts-of (try-row-of c) in
-    let after-settle = settle-of after-contradicts in
-    after-settle .settle .kept .1 .1 .1 .1 .1 .1 .1 .1 .1 .0
-
-same-length-14 : tie.Need-same-length-14
-same-length-14 c =
-    let after-contradicts = contradicts-of (try-row-of c) in
-    let after-settle = settle-of after-contradicts in
-    after-settle .settle .kept .1 .1 .1 .1 .1 .1 .1 .1 .1 .1 .0
-
-same-length-15 : tie.Need-same-length-15
-same-length-15 c =
-    let after-try-row = try-row-of c in
-    let after-settle = settle-of (contradicts-of after-try-row) in
-    after-try-row .try-row .kept .1 .1 .1 .1 .1 .0 ∙ after-settle .settle .kept .1 .1 .1 .1 .1 .1 .1 .1 .1 .1 .1 .0
-
-same-length-16 : tie.Need-same-length-16
-same-length-16 c =
-    let after-try-row = try-row-of c in
-    let after-settle = settle-of (contradicts-of after-try-row) in
-    after-try-row .try-row .kept .1 .1 .1 .1 .1 .1 .0 ∙ after-settle .settle .kept .1 .1 .1 .1 .1 .1 .1 .1 .1 .1 .1 .1 .0
-
-same-length-17 : tie.Need-same-length-17
-same-length-17 c =
-    let after-try-row = try-row-of c in
-    let after-settle = settle-of (contradicts-of after-try-row) in
-    after-try-row .try-row .kept .1 .1 .1 .1 .1 .1 .1 .0 ∙ after-settle .settle .kept .1 .1 .1 .1 .1 .1 .1 .1 .1 .1 .1 .1 .1 .0
-
-same-length-18 : tie.Need-same-length-18
-same-length-18 c =
-    let after-try-row = try-row-of c in
-    let after-settle = settle-of (contradicts-of after-try-row) in
-    after-try-row .try-row .kept .1 .1 .1 .1 .1 .1 .1 .1 .0 ∙ after-settle .settle .kept .1 .1 .1 .1 .1 .1 .1 .1 .1 .1 .1 .1 .1 .1 .0
-
-same-length-19 : tie.Need-same-length-19
-same-length-19 c =
-    let after-try-row = try-row-of c in
-    after-try-row .try-row .kept .1 .1 .1 .1 .1 .1 .1 .1 .1 .0
-
-same-length-20 : tie.Need-same-length-20
-same-length-20 c =
-    let after-try-row = try-row-of c in
-    after-try-row .try-row .kept .1 .1 .1 .1 .1 .1 .1 .1 .1 .1 .0
 
 returns-3 : tie.Need-returns-3
 returns-3 c =
@@ -216,28 +131,28 @@ sift-once-spec =
     (tie.spec
     settle-requires
     (λ c κs. search needs)
-    same-length
-    same-length-2
-    same-length-3
-    same-length-4
-    same-length-5
-    same-length-6
+    (λ c. settled-lengths (settle-of (c .before)) .figures)
+    (λ c. settled-lengths (settle-of (c .before)) .cursors)
+    (λ c. settled-lengths (settle-of (c .before)) .sure)
+    (λ c. settled-lengths (settle-of (c .before)) .never)
+    (λ c. settled-lengths (settle-of (c .before)) .node-queue)
+    (λ c. settled-lengths (settle-of (c .before)) .row-queues)
     returns
-    same-length-7
-    same-length-8
-    same-length-9
-    same-length-10
-    same-length-11
-    same-length-12
+    (λ c. settled-lengths (settle-of (c .before .before .before)) .figures)
+    (λ c. settled-lengths (settle-of (c .before .before .before)) .cursors)
+    (λ c. settled-lengths (settle-of (c .before .before .before)) .sure)
+    (λ c. settled-lengths (settle-of (c .before .before .before)) .never)
+    (λ c. settled-lengths (settle-of (c .before .before .before)) .node-queue)
+    (λ c. settled-lengths (settle-of (c .before .before .before)) .row-queues)
     returns-2
     try-row-requires
     (λ c κs. search needs)
-    same-length-13
-    same-length-14
-    same-length-15
-    same-length-16
-    same-length-17
-    same-length-18
-    same-length-19
-    same-length-20
+    (λ c. tried-lengths (try-row-of c) .figures)
+    (λ c. tried-lengths (try-row-of c) .cursors)
+    (λ c. tried-lengths (try-row-of c) .sure)
+    (λ c. tried-lengths (try-row-of c) .never)
+    (λ c. tried-lengths (try-row-of c) .node-queue)
+    (λ c. tried-lengths (try-row-of c) .row-queues)
+    (λ c. try-row-of c .try-row .kept .1 .1 .1 .1 .1 .1 .1 .1 .1 .0)
+    (λ c. try-row-of c .try-row .kept .1 .1 .1 .1 .1 .1 .1 .1 .1 .1 .0)
     returns-3)
