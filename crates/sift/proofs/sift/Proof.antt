@@ -68,6 +68,28 @@ turned p = let l = p .sift-once .last .1 .1 .1 .1 .1 .1 .1 .1 .1 in
     let r = p .sift-once .result in
     round (sifted (liveOf (l .0) (l .1 .0) (l .1 .1 .0) (l .1 .1 .1 .0) (l .1 .1 .1 .1 .0) (l .1 .1 .1 .1 .1 .0) (r .rings)) (l .1 .1 .1 .1 .1 .1 .0) (r .step) (r .visits)) (r .more)
 
+-- Behind a round each buffer is as long as it was lent.
+kept-lengths : (p : tie.After-sift-once Inv-loop μ-loop) →
+    let a = start-of (loop-of p .before) .args in
+    let l = p .sift-once .last .1 .1 .1 .1 .1 .1 .1 .1 .1 in
+    Same (a .figures .now) (a .cursors .now) (a .sure .now) (a .never .now) (a .node-queue .now) (a .row-queues .now) (l .0) (l .1 .0) (l .1 .1 .0) (l .1 .1 .1 .0) (l .1 .1 .1 .1 .0) (l .1 .1 .1 .1 .1 .0)
+    × (length (l .1 .1 .1 .1 .1 .1 .0) ≡ length (a .gcds .now)) × (length (l .1 .1 .1 .1 .1 .1 .1 .0) ≡ length (a .search .now))
+kept-lengths p =
+    let k = p .sift-once .kept .1 .1 .1 .1 .1 .1 .1 .1 .1 in
+    let i = loop-of p .loop .inv in
+    let s = i .3 in (
+      record {
+        figures = k .0 ∙ s .figures;
+        cursors = k .1 .0 ∙ s .cursors;
+        sure = k .1 .1 .0 ∙ s .sure;
+        never = k .1 .1 .1 .0 ∙ s .never;
+        node-queue = k .1 .1 .1 .1 .0 ∙ s .node-queue;
+        row-queues = k .1 .1 .1 .1 .1 .0 ∙ s .row-queues;
+      },
+      k .1 .1 .1 .1 .1 .1 .0 ∙ i .4,
+      k .1 .1 .1 .1 .1 .1 .1 .0 ∙ ap (λ (l : List ℕ). length l) (i .2),
+    )
+
 loop-holds : tie.Need-loop-holds Inv-loop μ-loop
 loop-holds c =
     let start = start-of c in (
@@ -84,54 +106,6 @@ sift-once-requires c κs =
     let at-loop = in-loop-of c .before in
     let start = start-of (at-loop .before) in
     ((start .pre .0 .0, start .pre .0 .1, at-loop .loop .inv .1), at-loop .loop .inv .0 .going)
-
-same-length : tie.Need-same-length Inv-loop μ-loop
-same-length c =
-    let after-sift-once = sift-once-of (c .before) in
-    let at-loop = loop-of after-sift-once in
-    after-sift-once .sift-once .kept .1 .1 .1 .1 .1 .1 .1 .1 .1 .0 ∙ at-loop .loop .inv .3 .figures
-
-same-length-2 : tie.Need-same-length-2 Inv-loop μ-loop
-same-length-2 c =
-    let after-sift-once = sift-once-of (c .before) in
-    let at-loop = loop-of after-sift-once in
-    after-sift-once .sift-once .kept .1 .1 .1 .1 .1 .1 .1 .1 .1 .1 .0 ∙ at-loop .loop .inv .3 .cursors
-
-same-length-3 : tie.Need-same-length-3 Inv-loop μ-loop
-same-length-3 c =
-    let after-sift-once = sift-once-of (c .before) in
-    let at-loop = loop-of after-sift-once in
-    after-sift-once .sift-once .kept .1 .1 .1 .1 .1 .1 .1 .1 .1 .1 .1 .0 ∙ at-loop .loop .inv .3 .sure
-
-same-length-4 : tie.Need-same-length-4 Inv-loop μ-loop
-same-length-4 c =
-    let after-sift-once = sift-once-of (c .before) in
-    let at-loop = loop-of after-sift-once in
-    after-sift-once .sift-once .kept .1 .1 .1 .1 .1 .1 .1 .1 .1 .1 .1 .1 .0 ∙ at-loop .loop .inv .3 .never
-
-same-length-5 : tie.Need-same-length-5 Inv-loop μ-loop
-same-length-5 c =
-    let after-sift-once = sift-once-of (c .before) in
-    let at-loop = loop-of after-sift-once in
-    after-sift-once .sift-once .kept .1 .1 .1 .1 .1 .1 .1 .1 .1 .1 .1 .1 .1 .0 ∙ at-loop .loop .inv .3 .node-queue
-
-same-length-6 : tie.Need-same-length-6 Inv-loop μ-loop
-same-length-6 c =
-    let after-sift-once = sift-once-of (c .before) in
-    let at-loop = loop-of after-sift-once in
-    after-sift-once .sift-once .kept .1 .1 .1 .1 .1 .1 .1 .1 .1 .1 .1 .1 .1 .1 .0 ∙ at-loop .loop .inv .3 .row-queues
-
-same-length-7 : tie.Need-same-length-7 Inv-loop μ-loop
-same-length-7 c =
-    let after-sift-once = sift-once-of (c .before) in
-    let at-loop = loop-of after-sift-once in
-    after-sift-once .sift-once .kept .1 .1 .1 .1 .1 .1 .1 .1 .1 .1 .1 .1 .1 .1 .1 .0 ∙ at-loop .loop .inv .4
-
-same-length-8 : tie.Need-same-length-8 Inv-loop μ-loop
-same-length-8 c =
-    let after-sift-once = sift-once-of (c .before) in
-    let at-loop = loop-of after-sift-once in
-    after-sift-once .sift-once .kept .1 .1 .1 .1 .1 .1 .1 .1 .1 .1 .1 .1 .1 .1 .1 .1 .0 ∙ ap (λ (l : List ℕ). length l) (at-loop .loop .inv .2)
 
 returns : tie.Need-returns Inv-loop μ-loop
 returns c =
@@ -173,64 +147,15 @@ loop-again c =
     let l = at-loop .loop in
     let w = start .pre .0 .0 in
     let t = after-sift-once .sift-once in
-    let k = t .kept .1 .1 .1 .1 .1 .1 .1 .1 .1 in
-    let s = l .inv .3 in
-    let g = k .1 .1 .1 .1 .1 .1 .0 in (
+    let z = t .last .1 .1 .1 .1 .1 .1 .1 .1 .1 .1 .1 .1 .1 .1 .1 in (
       sifting-next (a .bounds .now) (buffers start) (entry start) (a .gcds .now) (l .so-far .step) (l .so-far .visits) (l .more) (here at-loop) (l .gcds) (l .inv .0) (in-loop .loop-test .taken)
           (turned after-sift-once) (t .ensures .0) (w .0) (w .1) (sym (after-contradicts .contradicts .ensures) ∙ else1 .if1 .left) (c .join .result) (c .join .ensures),
-      scratch-next (l .gcds) (after-sift-once .sift-once .last .1 .1 .1 .1 .1 .1 .1 .1 .1 .1 .1 .1 .1 .1 .1 .0) (l .search) (after-sift-once .sift-once .last .1 .1 .1 .1 .1 .1 .1 .1 .1 .1 .1 .1 .1 .1 .1 .1 .0) g (t .ensures .2) (l .inv .1),
+      scratch-next (l .gcds) (z .0) (l .search) (z .1 .0) (t .kept .1 .1 .1 .1 .1 .1 .1 .1 .1 .1 .1 .1 .1 .1 .1 .0) (t .ensures .2) (l .inv .1),
       t .ensures .2 ∙ l .inv .2,
-      record {
-        figures = k .0 ∙ s .figures;
-        cursors = k .1 .0 ∙ s .cursors;
-        sure = k .1 .1 .0 ∙ s .sure;
-        never = k .1 .1 .1 .0 ∙ s .never;
-        node-queue = k .1 .1 .1 .1 .0 ∙ s .node-queue;
-        row-queues = k .1 .1 .1 .1 .1 .0 ∙ s .row-queues;
-      },
-      g ∙ l .inv .4,
+      kept-lengths after-sift-once .0,
+      kept-lengths after-sift-once .1,
       λ i. t .ensures .1 (l .inv .5 i),
     )
-
-same-length-9 : tie.Need-same-length-9 Inv-loop μ-loop
-same-length-9 c =
-    let at-loop = c .before in
-    at-loop .loop .inv .3 .figures
-
-same-length-10 : tie.Need-same-length-10 Inv-loop μ-loop
-same-length-10 c =
-    let at-loop = c .before in
-    at-loop .loop .inv .3 .cursors
-
-same-length-11 : tie.Need-same-length-11 Inv-loop μ-loop
-same-length-11 c =
-    let at-loop = c .before in
-    at-loop .loop .inv .3 .sure
-
-same-length-12 : tie.Need-same-length-12 Inv-loop μ-loop
-same-length-12 c =
-    let at-loop = c .before in
-    at-loop .loop .inv .3 .never
-
-same-length-13 : tie.Need-same-length-13 Inv-loop μ-loop
-same-length-13 c =
-    let at-loop = c .before in
-    at-loop .loop .inv .3 .node-queue
-
-same-length-14 : tie.Need-same-length-14 Inv-loop μ-loop
-same-length-14 c =
-    let at-loop = c .before in
-    at-loop .loop .inv .3 .row-queues
-
-same-length-15 : tie.Need-same-length-15 Inv-loop μ-loop
-same-length-15 c =
-    let at-loop = c .before in
-    at-loop .loop .inv .4
-
-same-length-16 : tie.Need-same-length-16 Inv-loop μ-loop
-same-length-16 c =
-    let at-loop = c .before in
-    ap (λ (l : List ℕ). length l) (at-loop .loop .inv .2)
 
 returns-2 : tie.Need-returns-2 Inv-loop μ-loop
 returns-2 c =
@@ -252,24 +177,24 @@ sift-spec =
     loop-holds
     sift-once-requires
     (λ c κs. search needs)
-    same-length
-    same-length-2
-    same-length-3
-    same-length-4
-    same-length-5
-    same-length-6
-    same-length-7
-    same-length-8
+    (λ c. kept-lengths (sift-once-of (c .before)) .0 .figures)
+    (λ c. kept-lengths (sift-once-of (c .before)) .0 .cursors)
+    (λ c. kept-lengths (sift-once-of (c .before)) .0 .sure)
+    (λ c. kept-lengths (sift-once-of (c .before)) .0 .never)
+    (λ c. kept-lengths (sift-once-of (c .before)) .0 .node-queue)
+    (λ c. kept-lengths (sift-once-of (c .before)) .0 .row-queues)
+    (λ c. kept-lengths (sift-once-of (c .before)) .1)
+    (λ c. kept-lengths (sift-once-of (c .before)) .2)
     returns
     (λ c κs. search needs)
     loop-less
     loop-again
-    same-length-9
-    same-length-10
-    same-length-11
-    same-length-12
-    same-length-13
-    same-length-14
-    same-length-15
-    same-length-16
+    (λ c. c .before .loop .inv .3 .figures)
+    (λ c. c .before .loop .inv .3 .cursors)
+    (λ c. c .before .loop .inv .3 .sure)
+    (λ c. c .before .loop .inv .3 .never)
+    (λ c. c .before .loop .inv .3 .node-queue)
+    (λ c. c .before .loop .inv .3 .row-queues)
+    (λ c. c .before .loop .inv .4)
+    (λ c. ap (λ (l : List ℕ). length l) (c .before .loop .inv .2))
     returns-2)
