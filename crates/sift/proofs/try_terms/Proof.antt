@@ -48,26 +48,6 @@ threshold-residual-requires c κs =
       (omega (arith, w .1, w .4 .room), t .light, m),
     )
 
-same-length : tie.Need-same-length
-same-length c =
-    let after-threshold-residual = threshold-residual-of (c .before) in
-    after-threshold-residual .threshold-residual .kept .1 .1 .1 .0
-
-same-length-2 : tie.Need-same-length-2
-same-length-2 c =
-    let after-threshold-residual = threshold-residual-of (c .before) in
-    after-threshold-residual .threshold-residual .kept .1 .1 .1 .1 .0
-
-same-length-3 : tie.Need-same-length-3
-same-length-3 c =
-    let after-threshold-residual = threshold-residual-of (c .before) in
-    after-threshold-residual .threshold-residual .kept .1 .1 .1 .1 .1 .0
-
-same-length-4 : tie.Need-same-length-4
-same-length-4 c =
-    let after-threshold-residual = threshold-residual-of (c .before) in
-    after-threshold-residual .threshold-residual .kept .1 .1 .1 .1 .1 .1 .1 .0
-
 returns : tie.Need-returns
 returns c =
     let after-number = c .before in
@@ -90,31 +70,6 @@ threshold-possible-sums-requires c κs =
       (w .4 .long, w .4 .zero),
     )
 
-same-length-5 : tie.Need-same-length-5
-same-length-5 c =
-    let after-threshold-residual = threshold-residual-of (number-of c) in
-    after-threshold-residual .threshold-residual .kept .1 .1 .1 .0
-
-same-length-6 : tie.Need-same-length-6
-same-length-6 c =
-    let after-threshold-residual = threshold-residual-of (number-of c) in
-    after-threshold-residual .threshold-residual .kept .1 .1 .1 .1 .0
-
-same-length-7 : tie.Need-same-length-7
-same-length-7 c =
-    let after-threshold-residual = threshold-residual-of (number-of c) in
-    after-threshold-residual .threshold-residual .kept .1 .1 .1 .1 .1 .0
-
-same-length-8 : tie.Need-same-length-8
-same-length-8 c =
-    let after-threshold-residual = threshold-residual-of (number-of c) in
-    after-threshold-residual .threshold-residual .kept .1 .1 .1 .1 .1 .1 .1 .0
-
-same-length-9 : tie.Need-same-length-9
-same-length-9 c =
-    let after-threshold-possible-sums = c .before .before .before .before in
-    after-threshold-possible-sums .threshold-possible-sums .kept .1 .1 .1 .1 .1 .0
-
 returns-2 : tie.Need-returns-2
 returns-2 c =
     let after-visits = c .before in
@@ -136,16 +91,16 @@ try-terms-spec =
     (tie.spec
     threshold-residual-requires
     (λ c κs. search needs)
-    same-length
-    same-length-2
-    same-length-3
-    same-length-4
+    (λ c. threshold-residual-of (c .before) .threshold-residual .kept .1 .1 .1 .0)
+    (λ c. threshold-residual-of (c .before) .threshold-residual .kept .1 .1 .1 .1 .0)
+    (λ c. threshold-residual-of (c .before) .threshold-residual .kept .1 .1 .1 .1 .1 .0)
+    (λ c. threshold-residual-of (c .before) .threshold-residual .kept .1 .1 .1 .1 .1 .1 .1 .0)
     returns
     threshold-possible-sums-requires
     (λ c κs. search needs) (λ c κs. search needs)
-    same-length-5
-    same-length-6
-    same-length-7
-    same-length-8
-    same-length-9
+    (λ c. threshold-residual-of (number-of c) .threshold-residual .kept .1 .1 .1 .0)
+    (λ c. threshold-residual-of (number-of c) .threshold-residual .kept .1 .1 .1 .1 .0)
+    (λ c. threshold-residual-of (number-of c) .threshold-residual .kept .1 .1 .1 .1 .1 .0)
+    (λ c. threshold-residual-of (number-of c) .threshold-residual .kept .1 .1 .1 .1 .1 .1 .1 .0)
+    (λ c. c .before .before .before .before .threshold-possible-sums .kept .1 .1 .1 .1 .1 .0)
     returns-2)
