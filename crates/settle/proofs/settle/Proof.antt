@@ -66,6 +66,23 @@ then p = let l = p .turn .last .1 .1 .1 .1 .1 .1 .1 .1 .1 in
 abbrev busy : (p : tie.At-loop Inv-loop μ-loop) → p .loop .busy ≡ true → (eqb (p .loop .so-far .rings .nodes .count) 0 && eqb (p .loop .so-far .rings .rows .count) 0) ≡ false
 busy p e = not-true (eqb (p .loop .so-far .rings .nodes .count) 0 && eqb (p .loop .so-far .rings .rows .count) 0) (sym (p .loop .inv .1) ∙ e)
 
+-- Behind a turn each buffer is as long as it was lent.
+kept-lengths : (p : tie.After-turn Inv-loop μ-loop) →
+    let a = start-of (loop-of p .before) .args in
+    let l = p .turn .last .1 .1 .1 .1 .1 .1 .1 .1 .1 in
+    Same (a .figures .now) (a .cursors .now) (a .sure .now) (a .never .now) (a .node-queue .now) (a .row-queues .now) (l .0) (l .1 .0) (l .1 .1 .0) (l .1 .1 .1 .0) (l .1 .1 .1 .1 .0) (l .1 .1 .1 .1 .1 .0)
+kept-lengths p =
+    let k = p .turn .kept .1 .1 .1 .1 .1 .1 .1 .1 .1 in
+    let s = loop-of p .loop .inv .2 in
+    record {
+      figures = k .0 ∙ s .figures;
+      cursors = k .1 .0 ∙ s .cursors;
+      sure = k .1 .1 .0 ∙ s .sure;
+      never = k .1 .1 .1 .0 ∙ s .never;
+      node-queue = k .1 .1 .1 .1 .0 ∙ s .node-queue;
+      row-queues = k .1 .1 .1 .1 .1 .0 ∙ s .row-queues;
+    }
+
 loop-holds : tie.Need-loop-holds Inv-loop μ-loop
 loop-holds c =
     let start = start-of c in (
@@ -83,42 +100,6 @@ turn-requires c κs =
     let l = at-loop .loop in
     let e = busy at-loop (in-loop .loop-test .taken) in
     ((start .pre .0, row-waits (l .so-far .rings .nodes .count) (l .so-far .rings .rows .count) e), l .inv .0 .going)
-
-same-length : tie.Need-same-length Inv-loop μ-loop
-same-length c =
-    let after-turn = turn-of (c .before) in
-    let at-loop = loop-of after-turn in
-    after-turn .turn .kept .1 .1 .1 .1 .1 .1 .1 .1 .1 .0 ∙ at-loop .loop .inv .2 .figures
-
-same-length-2 : tie.Need-same-length-2 Inv-loop μ-loop
-same-length-2 c =
-    let after-turn = turn-of (c .before) in
-    let at-loop = loop-of after-turn in
-    after-turn .turn .kept .1 .1 .1 .1 .1 .1 .1 .1 .1 .1 .0 ∙ at-loop .loop .inv .2 .cursors
-
-same-length-3 : tie.Need-same-length-3 Inv-loop μ-loop
-same-length-3 c =
-    let after-turn = turn-of (c .before) in
-    let at-loop = loop-of after-turn in
-    after-turn .turn .kept .1 .1 .1 .1 .1 .1 .1 .1 .1 .1 .1 .0 ∙ at-loop .loop .inv .2 .sure
-
-same-length-4 : tie.Need-same-length-4 Inv-loop μ-loop
-same-length-4 c =
-    let after-turn = turn-of (c .before) in
-    let at-loop = loop-of after-turn in
-    after-turn .turn .kept .1 .1 .1 .1 .1 .1 .1 .1 .1 .1 .1 .1 .0 ∙ at-loop .loop .inv .2 .never
-
-same-length-5 : tie.Need-same-length-5 Inv-loop μ-loop
-same-length-5 c =
-    let after-turn = turn-of (c .before) in
-    let at-loop = loop-of after-turn in
-    after-turn .turn .kept .1 .1 .1 .1 .1 .1 .1 .1 .1 .1 .1 .1 .1 .0 ∙ at-loop .loop .inv .2 .node-queue
-
-same-length-6 : tie.Need-same-length-6 Inv-loop μ-loop
-same-length-6 c =
-    let after-turn = turn-of (c .before) in
-    let at-loop = loop-of after-turn in
-    after-turn .turn .kept .1 .1 .1 .1 .1 .1 .1 .1 .1 .1 .1 .1 .1 .1 .0 ∙ at-loop .loop .inv .2 .row-queues
 
 returns : tie.Need-returns Inv-loop μ-loop
 returns c =
@@ -159,52 +140,13 @@ loop-again c =
     let l = at-loop .loop in
     let t = after-turn .turn in
     let w = start .pre .0 in
-    let k = t .kept .1 .1 .1 .1 .1 .1 .1 .1 .1 in
-    let s = l .inv .2 in
     let e = busy at-loop (in-loop .loop-test .taken) in (
       settling-next (start .args .bounds .now) (buffers start) (entry start) (l .so-far .step) (here at-loop) (l .inv .0) e (did (then after-turn) (t .result .step)) (t .ensures .0) (w .0) (w .1)
           (sym (after-contradicts .contradicts .ensures) ∙ else1 .if1 .left) (after-join .join .result) (after-join .join .ensures),
       c .waits2 .ensures,
-      record {
-        figures = k .0 ∙ s .figures;
-        cursors = k .1 .0 ∙ s .cursors;
-        sure = k .1 .1 .0 ∙ s .sure;
-        never = k .1 .1 .1 .0 ∙ s .never;
-        node-queue = k .1 .1 .1 .1 .0 ∙ s .node-queue;
-        row-queues = k .1 .1 .1 .1 .1 .0 ∙ s .row-queues;
-      },
+      kept-lengths after-turn,
       λ i. t .ensures .1 (l .inv .3 i),
     )
-
-same-length-7 : tie.Need-same-length-7 Inv-loop μ-loop
-same-length-7 c =
-    let at-loop = c .before in
-    at-loop .loop .inv .2 .figures
-
-same-length-8 : tie.Need-same-length-8 Inv-loop μ-loop
-same-length-8 c =
-    let at-loop = c .before in
-    at-loop .loop .inv .2 .cursors
-
-same-length-9 : tie.Need-same-length-9 Inv-loop μ-loop
-same-length-9 c =
-    let at-loop = c .before in
-    at-loop .loop .inv .2 .sure
-
-same-length-10 : tie.Need-same-length-10 Inv-loop μ-loop
-same-length-10 c =
-    let at-loop = c .before in
-    at-loop .loop .inv .2 .never
-
-same-length-11 : tie.Need-same-length-11 Inv-loop μ-loop
-same-length-11 c =
-    let at-loop = c .before in
-    at-loop .loop .inv .2 .node-queue
-
-same-length-12 : tie.Need-same-length-12 Inv-loop μ-loop
-same-length-12 c =
-    let at-loop = c .before in
-    at-loop .loop .inv .2 .row-queues
 
 returns-2 : tie.Need-returns-2 Inv-loop μ-loop
 returns-2 c =
@@ -224,20 +166,20 @@ settle-spec =
     loop-holds
     turn-requires
     (λ c κs. search needs)
-    same-length
-    same-length-2
-    same-length-3
-    same-length-4
-    same-length-5
-    same-length-6
+    (λ c. kept-lengths (turn-of (c .before)) .figures)
+    (λ c. kept-lengths (turn-of (c .before)) .cursors)
+    (λ c. kept-lengths (turn-of (c .before)) .sure)
+    (λ c. kept-lengths (turn-of (c .before)) .never)
+    (λ c. kept-lengths (turn-of (c .before)) .node-queue)
+    (λ c. kept-lengths (turn-of (c .before)) .row-queues)
     returns
     (λ c κs. search needs) (λ c κs. tt)
     loop-less
     loop-again
-    same-length-7
-    same-length-8
-    same-length-9
-    same-length-10
-    same-length-11
-    same-length-12
+    (λ c. c .before .loop .inv .2 .figures)
+    (λ c. c .before .loop .inv .2 .cursors)
+    (λ c. c .before .loop .inv .2 .sure)
+    (λ c. c .before .loop .inv .2 .never)
+    (λ c. c .before .loop .inv .2 .node-queue)
+    (λ c. c .before .loop .inv .2 .row-queues)
     returns-2)
