@@ -57,36 +57,6 @@ take-row-requires c κs =
     let s = w .0 .0 .1 in
     ((s .shaped, s .linked, w .0 .1 (then1 .if1 .taken), w .1 .within .tracked .dirty), going-run (held start) (start .args .nodes .now) (entry start) (w .1))
 
-same-length : tie.Need-same-length
-same-length c =
-    let after-take-row = take-row-of c in
-    after-take-row .take-row .kept .1 .1 .1 .1 .1 .1 .0
-
-same-length-2 : tie.Need-same-length-2
-same-length-2 c =
-    let after-take-row = take-row-of c in
-    after-take-row .take-row .kept .1 .1 .1 .1 .1 .1 .1 .0
-
-same-length-3 : tie.Need-same-length-3
-same-length-3 c =
-    let after-take-row = take-row-of c in
-    after-take-row .take-row .kept .1 .1 .1 .1 .1 .1 .1 .1 .0
-
-same-length-4 : tie.Need-same-length-4
-same-length-4 c =
-    let after-take-row = take-row-of c in
-    after-take-row .take-row .kept .1 .1 .1 .1 .1 .1 .1 .1 .1 .0
-
-same-length-5 : tie.Need-same-length-5
-same-length-5 c =
-    let after-take-row = take-row-of c in
-    after-take-row .take-row .kept .1 .1 .1 .1 .1 .1 .1 .1 .1 .1 .0
-
-same-length-6 : tie.Need-same-length-6
-same-length-6 c =
-    let after-take-row = take-row-of c in
-    after-take-row .take-row .kept .1 .1 .1 .1 .1 .1 .1 .1 .1 .1 .1 .0
-
 returns : tie.Need-returns
 returns c =
     let after-take-row = take-row-of c in
@@ -103,36 +73,6 @@ take-node-requires c κs =
     let w = start .pre in
     (((w .0 .0 .0, start .args .links .now, w .0 .0 .1), omega (arith, else1 .if1 .left)), w .1)
 
-same-length-7 : tie.Need-same-length-7
-same-length-7 c =
-    let after-take-node = take-node-of c in
-    after-take-node .take-node .kept .1 .1 .1 .1 .1 .1 .1 .1 .0
-
-same-length-8 : tie.Need-same-length-8
-same-length-8 c =
-    let after-take-node = take-node-of c in
-    after-take-node .take-node .kept .1 .1 .1 .1 .1 .1 .1 .1 .1 .0
-
-same-length-9 : tie.Need-same-length-9
-same-length-9 c =
-    let after-take-node = take-node-of c in
-    after-take-node .take-node .kept .1 .1 .1 .1 .1 .1 .1 .1 .1 .1 .0
-
-same-length-10 : tie.Need-same-length-10
-same-length-10 c =
-    let after-take-node = take-node-of c in
-    after-take-node .take-node .kept .1 .1 .1 .1 .1 .1 .1 .1 .1 .1 .1 .0
-
-same-length-11 : tie.Need-same-length-11
-same-length-11 c =
-    let after-take-node = take-node-of c in
-    after-take-node .take-node .kept .1 .1 .1 .1 .1 .1 .1 .1 .1 .1 .1 .1 .0
-
-same-length-12 : tie.Need-same-length-12
-same-length-12 c =
-    let after-take-node = take-node-of c in
-    after-take-node .take-node .kept .1 .1 .1 .1 .1 .1 .1 .1 .1 .1 .1 .1 .1 .0
-
 returns-2 : tie.Need-returns-2
 returns-2 c =
     let after-take-node = take-node-of c in
@@ -147,18 +87,18 @@ turn-spec =
     tie.close
     (tie.spec
     take-row-requires
-    same-length
-    same-length-2
-    same-length-3
-    same-length-4
-    same-length-5
-    same-length-6
+    (λ c. take-row-of c .take-row .kept .1 .1 .1 .1 .1 .1 .0)
+    (λ c. take-row-of c .take-row .kept .1 .1 .1 .1 .1 .1 .1 .0)
+    (λ c. take-row-of c .take-row .kept .1 .1 .1 .1 .1 .1 .1 .1 .0)
+    (λ c. take-row-of c .take-row .kept .1 .1 .1 .1 .1 .1 .1 .1 .1 .0)
+    (λ c. take-row-of c .take-row .kept .1 .1 .1 .1 .1 .1 .1 .1 .1 .1 .0)
+    (λ c. take-row-of c .take-row .kept .1 .1 .1 .1 .1 .1 .1 .1 .1 .1 .1 .0)
     returns
     take-node-requires
-    same-length-7
-    same-length-8
-    same-length-9
-    same-length-10
-    same-length-11
-    same-length-12
+    (λ c. take-node-of c .take-node .kept .1 .1 .1 .1 .1 .1 .1 .1 .0)
+    (λ c. take-node-of c .take-node .kept .1 .1 .1 .1 .1 .1 .1 .1 .1 .0)
+    (λ c. take-node-of c .take-node .kept .1 .1 .1 .1 .1 .1 .1 .1 .1 .1 .0)
+    (λ c. take-node-of c .take-node .kept .1 .1 .1 .1 .1 .1 .1 .1 .1 .1 .1 .0)
+    (λ c. take-node-of c .take-node .kept .1 .1 .1 .1 .1 .1 .1 .1 .1 .1 .1 .1 .0)
+    (λ c. take-node-of c .take-node .kept .1 .1 .1 .1 .1 .1 .1 .1 .1 .1 .1 .1 .1 .0)
     returns-2)
