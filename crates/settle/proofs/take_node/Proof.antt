@@ -4,7 +4,7 @@ use mathlib.Core.List.{List}
 use Prim.Native.Nat.{ℕ}
 use Rattle.memory.specs.Buffers.{HeldRows, heldRows, Built, built}
 use Rattle.between.specs.Between.{Live, did}
-use Rattle.between.specs.Numbers.{liveOf}
+use Rattle.between.specs.Numbers.{liveOf, Same}
 use Rattle.between.specs.KeptHeldLaws.{counts-links}
 use Rattle.settle.specs.TurnLaws.{node-taken, node-next-run, node-stop, node-next}
 use mathlib.Core.Path.{_∙_, sym}
@@ -56,6 +56,23 @@ abbrev last : tie.After-threshold-condition → Live
 last p = let l = p .threshold-condition .last .1 .1 .1 .1 .1 .1 .1 in
     liveOf (l .0) (l .1 .0) (l .1 .1 .0) (l .1 .1 .1 .0) (l .1 .1 .1 .1 .0) (l .1 .1 .1 .1 .1 .0) (p .threshold-condition .result .rings)
 
+-- Behind both calls each buffer is as long as it was lent.
+kept-lengths : (p : tie.After-threshold-condition) →
+    let a = start-of (popped-of (guard-at-of (contradicts-of p) .before) .before .before) .args in
+    let l = p .threshold-condition .last .1 .1 .1 .1 .1 .1 .1 in
+    Same (a .figures .now) (a .cursors .now) (a .sure .now) (a .never .now) (a .node-queue .now) (a .row-queues .now) (l .0) (l .1 .0) (l .1 .1 .0) (l .1 .1 .1 .0) (l .1 .1 .1 .1 .0) (l .1 .1 .1 .1 .1 .0)
+kept-lengths p =
+    let k = p .threshold-condition .kept .1 .1 .1 .1 .1 .1 .1 in
+    let g = guard-at-of (contradicts-of p) .guard-at .kept .1 .1 .1 .1 .1 .1 .1 in
+    record {
+      figures = k .0 ∙ g .0;
+      cursors = k .1 .0 ∙ g .1 .0;
+      sure = k .1 .1 .0 ∙ g .1 .1 .0;
+      never = k .1 .1 .1 .0 ∙ g .1 .1 .1 .0;
+      node-queue = k .1 .1 .1 .1 .0 ∙ g .1 .1 .1 .1 .0;
+      row-queues = k .1 .1 .1 .1 .1 .0 ∙ g .1 .1 .1 .1 .1 .0;
+    }
+
 oldest-node-requires : tie.Need-oldest-node-requires
 oldest-node-requires c κs =
     let start = start-of c in
@@ -70,58 +87,22 @@ popped-requires c κs =
 guard-at-requires : tie.Need-guard-at-requires
 guard-at-requires c κs =
     let after-popped = popped-of c in
-    let after-oldest-node = after-popped .before in
-    let start = start-of (after-oldest-node .before) in
+    let start = start-of (after-popped .before .before) in
     let w = start .pre in
-    let x = w .0 .0 .0 in
-    let b = buffers start (w .0 .0 .1) in
     let s = w .0 .0 .2 in
-    let v = entry start in
-    let bounds = start .args .bounds .now in
-    let o = after-oldest-node .oldest-node in
+    let o = after-popped .before .oldest-node in
     let p = after-popped .popped in
-    let t = node-taken x bounds b s v (w .1) (w .0 .1) (o .result) (o .ensures) (p .result) (p .ensures) in
+    let t = node-taken (w .0 .0 .0) (start .args .bounds .now) (buffers start (w .0 .0 .1)) s (entry start) (w .1) (w .0 .1) (o .result) (o .ensures) (p .result) (p .ensures) in
     ((s .shaped, s .guarded, t .there, t .small, s .linked .inside .rising), t .run)
-
-same-length : tie.Need-same-length
-same-length c =
-    let after-guard-at = guard-at-of (c .before) in
-    after-guard-at .guard-at .kept .1 .1 .1 .1 .1 .1 .1 .0
-
-same-length-2 : tie.Need-same-length-2
-same-length-2 c =
-    let after-guard-at = guard-at-of (c .before) in
-    after-guard-at .guard-at .kept .1 .1 .1 .1 .1 .1 .1 .1 .0
-
-same-length-3 : tie.Need-same-length-3
-same-length-3 c =
-    let after-guard-at = guard-at-of (c .before) in
-    after-guard-at .guard-at .kept .1 .1 .1 .1 .1 .1 .1 .1 .1 .0
-
-same-length-4 : tie.Need-same-length-4
-same-length-4 c =
-    let after-guard-at = guard-at-of (c .before) in
-    after-guard-at .guard-at .kept .1 .1 .1 .1 .1 .1 .1 .1 .1 .1 .0
-
-same-length-5 : tie.Need-same-length-5
-same-length-5 c =
-    let after-guard-at = guard-at-of (c .before) in
-    after-guard-at .guard-at .kept .1 .1 .1 .1 .1 .1 .1 .1 .1 .1 .1 .0
-
-same-length-6 : tie.Need-same-length-6
-same-length-6 c =
-    let after-guard-at = guard-at-of (c .before) in
-    after-guard-at .guard-at .kept .1 .1 .1 .1 .1 .1 .1 .1 .1 .1 .1 .1 .0
 
 returns : tie.Need-returns
 returns c =
     let after-contradicts = c .before in
     let after-guard-at = guard-at-of after-contradicts in
     let after-popped = popped-of (after-guard-at .before) in
-    let after-oldest-node = after-popped .before in
-    let start = start-of (after-oldest-node .before) in
+    let start = start-of (after-popped .before .before) in
     let w = start .pre in
-    let o = after-oldest-node .oldest-node in
+    let o = after-popped .before .oldest-node in
     let p = after-popped .popped in
     let g = after-guard-at .guard-at in (
       λ x l s.
@@ -134,8 +115,7 @@ threshold-condition-requires : tie.Need-threshold-condition-requires
 threshold-condition-requires c κs =
     let after-guard-at = guard-at-of (else1-of c .before) in
     let after-popped = popped-of (after-guard-at .before) in
-    let after-oldest-node = after-popped .before in
-    let start = start-of (after-oldest-node .before) in
+    let start = start-of (after-popped .before .before) in
     let w = start .pre in
     let x = w .0 .0 .0 in
     let l = w .0 .0 .1 in
@@ -143,49 +123,13 @@ threshold-condition-requires c κs =
     let s = w .0 .0 .2 in
     let v = entry start in
     let bounds = start .args .bounds .now in
-    let o = after-oldest-node .oldest-node in
+    let o = after-popped .before .oldest-node in
     let p = after-popped .popped in
     let g = after-guard-at .guard-at in
     let made = g .ensures .0 x (s .holds) (s .holds-guards) (counts-links x (held start) l (s .linked) (s .holds-links)) in
     let t = node-taken x bounds b s v (w .1) (w .0 .1) (o .result) (o .ensures) (p .result) (p .ensures) in
     let run = node-next-run x bounds b s v (w .1) (w .0 .1) (o .result) (o .ensures) (p .result) (p .ensures) (did (told after-guard-at) (g .result .step)) made in
     ((s .shaped, s .edged, t .there, t .small), run .ready)
-
-same-length-7 : tie.Need-same-length-7
-same-length-7 c =
-    let after-threshold-condition = threshold-condition-of c in
-    let after-guard-at = guard-at-of (contradicts-of after-threshold-condition) in
-    after-threshold-condition .threshold-condition .kept .1 .1 .1 .1 .1 .1 .1 .0 ∙ after-guard-at .guard-at .kept .1 .1 .1 .1 .1 .1 .1 .0
-
-same-length-8 : tie.Need-same-length-8
-same-length-8 c =
-    let after-threshold-condition = threshold-condition-of c in
-    let after-guard-at = guard-at-of (contradicts-of after-threshold-condition) in
-    after-threshold-condition .threshold-condition .kept .1 .1 .1 .1 .1 .1 .1 .1 .0 ∙ after-guard-at .guard-at .kept .1 .1 .1 .1 .1 .1 .1 .1 .0
-
-same-length-9 : tie.Need-same-length-9
-same-length-9 c =
-    let after-threshold-condition = threshold-condition-of c in
-    let after-guard-at = guard-at-of (contradicts-of after-threshold-condition) in
-    after-threshold-condition .threshold-condition .kept .1 .1 .1 .1 .1 .1 .1 .1 .1 .0 ∙ after-guard-at .guard-at .kept .1 .1 .1 .1 .1 .1 .1 .1 .1 .0
-
-same-length-10 : tie.Need-same-length-10
-same-length-10 c =
-    let after-threshold-condition = threshold-condition-of c in
-    let after-guard-at = guard-at-of (contradicts-of after-threshold-condition) in
-    after-threshold-condition .threshold-condition .kept .1 .1 .1 .1 .1 .1 .1 .1 .1 .1 .0 ∙ after-guard-at .guard-at .kept .1 .1 .1 .1 .1 .1 .1 .1 .1 .1 .0
-
-same-length-11 : tie.Need-same-length-11
-same-length-11 c =
-    let after-threshold-condition = threshold-condition-of c in
-    let after-guard-at = guard-at-of (contradicts-of after-threshold-condition) in
-    after-threshold-condition .threshold-condition .kept .1 .1 .1 .1 .1 .1 .1 .1 .1 .1 .1 .0 ∙ after-guard-at .guard-at .kept .1 .1 .1 .1 .1 .1 .1 .1 .1 .1 .1 .0
-
-same-length-12 : tie.Need-same-length-12
-same-length-12 c =
-    let after-threshold-condition = threshold-condition-of c in
-    let after-guard-at = guard-at-of (contradicts-of after-threshold-condition) in
-    after-threshold-condition .threshold-condition .kept .1 .1 .1 .1 .1 .1 .1 .1 .1 .1 .1 .1 .0 ∙ after-guard-at .guard-at .kept .1 .1 .1 .1 .1 .1 .1 .1 .1 .1 .1 .1 .0
 
 returns-2 : tie.Need-returns-2
 returns-2 c =
@@ -194,10 +138,9 @@ returns-2 c =
     let after-contradicts = else1 .before in
     let after-guard-at = guard-at-of after-contradicts in
     let after-popped = popped-of (after-guard-at .before) in
-    let after-oldest-node = after-popped .before in
-    let start = start-of (after-oldest-node .before) in
+    let start = start-of (after-popped .before .before) in
     let w = start .pre in
-    let o = after-oldest-node .oldest-node in
+    let o = after-popped .before .oldest-node in
     let p = after-popped .popped in
     let g = after-guard-at .guard-at in
     let t = after-threshold-condition .threshold-condition in (
@@ -216,19 +159,19 @@ take-node-spec =
     popped-requires
     guard-at-requires
     (λ c κs. search needs)
-    same-length
-    same-length-2
-    same-length-3
-    same-length-4
-    same-length-5
-    same-length-6
+    (λ c. guard-at-of (c .before) .guard-at .kept .1 .1 .1 .1 .1 .1 .1 .0)
+    (λ c. guard-at-of (c .before) .guard-at .kept .1 .1 .1 .1 .1 .1 .1 .1 .0)
+    (λ c. guard-at-of (c .before) .guard-at .kept .1 .1 .1 .1 .1 .1 .1 .1 .1 .0)
+    (λ c. guard-at-of (c .before) .guard-at .kept .1 .1 .1 .1 .1 .1 .1 .1 .1 .1 .0)
+    (λ c. guard-at-of (c .before) .guard-at .kept .1 .1 .1 .1 .1 .1 .1 .1 .1 .1 .1 .0)
+    (λ c. guard-at-of (c .before) .guard-at .kept .1 .1 .1 .1 .1 .1 .1 .1 .1 .1 .1 .1 .0)
     returns
     threshold-condition-requires
     (λ c κs. search needs)
-    same-length-7
-    same-length-8
-    same-length-9
-    same-length-10
-    same-length-11
-    same-length-12
+    (λ c. kept-lengths (threshold-condition-of c) .figures)
+    (λ c. kept-lengths (threshold-condition-of c) .cursors)
+    (λ c. kept-lengths (threshold-condition-of c) .sure)
+    (λ c. kept-lengths (threshold-condition-of c) .never)
+    (λ c. kept-lengths (threshold-condition-of c) .node-queue)
+    (λ c. kept-lengths (threshold-condition-of c) .row-queues)
     returns-2)
