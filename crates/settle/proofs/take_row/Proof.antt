@@ -62,37 +62,6 @@ threshold-prefixes-requires c κs =
     let i = row-there (length (start .args .rows .now)) (v .dirty) (start .pre .1 .dirty) (w .2) (w .3) (after-oldest-row .oldest-row .result) (after-oldest-row .oldest-row .ensures) in
     ((w .0, w .1, i), row-run v (w .2) (rowsIn 0 q (n .result)) (rowsIn 2 q (r .residuals)) (n .ensures .0) (n .ensures .1 (r .residuals)) (held start) figureLimit (start .pre .1))
 
-same-length : tie.Need-same-length
-same-length c =
-    let after-threshold-prefixes = threshold-prefixes-of c in
-    after-threshold-prefixes .threshold-prefixes .kept .1 .1 .1 .1 .1 .1 .0
-
-same-length-2 : tie.Need-same-length-2
-same-length-2 c =
-    let after-threshold-prefixes = threshold-prefixes-of c in
-    after-threshold-prefixes .threshold-prefixes .kept .1 .1 .1 .1 .1 .1 .1 .0
-
-same-length-3 : tie.Need-same-length-3
-same-length-3 c =
-    let after-threshold-prefixes = threshold-prefixes-of c in
-    after-threshold-prefixes .threshold-prefixes .kept .1 .1 .1 .1 .1 .1 .1 .1 .0
-
-same-length-4 : tie.Need-same-length-4
-same-length-4 c =
-    let after-threshold-prefixes = threshold-prefixes-of c in
-    after-threshold-prefixes .threshold-prefixes .kept .1 .1 .1 .1 .1 .1 .1 .1 .1 .0
-
-same-length-5 : tie.Need-same-length-5
-same-length-5 c =
-    let after-threshold-prefixes = threshold-prefixes-of c in
-    after-threshold-prefixes .threshold-prefixes .kept .1 .1 .1 .1 .1 .1 .1 .1 .1 .1 .0
-
-same-length-6 : tie.Need-same-length-6
-same-length-6 c =
-    let after-threshold-prefixes = threshold-prefixes-of c in
-    let after-next-row = next-row-of (after-threshold-prefixes .before) in
-    after-threshold-prefixes .threshold-prefixes .kept .1 .1 .1 .1 .1 .1 .1 .1 .1 .1 .1 .0 ∙ after-next-row .next-row .kept .0
-
 returns : tie.Need-returns
 returns c =
     let after-threshold-prefixes = threshold-prefixes-of c in
@@ -117,10 +86,10 @@ take-row-spec =
     oldest-row-requires
     next-row-requires
     threshold-prefixes-requires
-    same-length
-    same-length-2
-    same-length-3
-    same-length-4
-    same-length-5
-    same-length-6
+    (λ c. threshold-prefixes-of c .threshold-prefixes .kept .1 .1 .1 .1 .1 .1 .0)
+    (λ c. threshold-prefixes-of c .threshold-prefixes .kept .1 .1 .1 .1 .1 .1 .1 .0)
+    (λ c. threshold-prefixes-of c .threshold-prefixes .kept .1 .1 .1 .1 .1 .1 .1 .1 .0)
+    (λ c. threshold-prefixes-of c .threshold-prefixes .kept .1 .1 .1 .1 .1 .1 .1 .1 .1 .0)
+    (λ c. threshold-prefixes-of c .threshold-prefixes .kept .1 .1 .1 .1 .1 .1 .1 .1 .1 .1 .0)
+    (λ c. threshold-prefixes-of c .threshold-prefixes .kept .1 .1 .1 .1 .1 .1 .1 .1 .1 .1 .1 .0 ∙ next-row-of (threshold-prefixes-of c .before) .next-row .kept .0)
     returns)
