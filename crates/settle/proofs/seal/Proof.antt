@@ -61,38 +61,6 @@ seed-thresholds-requires c κs =
     let e = after-first-states .first-states .ensures .0 x (h .guard-bounds) (h .guard-nodes) (w .0 .1) z in
     (w .0 .1, seal-ready x h z (w .0 .1) (w .0 .2) (v .states) (first after-first-states) (w .0 .3) e (v .marks) (w .1 .0) (v .residuals) (w .1 .1))
 
-same-length : tie.Need-same-length
-same-length c =
-    let after-seed-thresholds = seed-thresholds-of c in
-    let after-first-states = first-states-of (after-seed-thresholds .before) in
-    after-seed-thresholds .seed-thresholds .kept .1 .1 .1 .1 .1 .0 ∙ after-first-states .first-states .kept .1 .1 .1 .0
-
-same-length-2 : tie.Need-same-length-2
-same-length-2 c =
-    let after-seed-thresholds = seed-thresholds-of c in
-    let after-first-states = first-states-of (after-seed-thresholds .before) in
-    after-seed-thresholds .seed-thresholds .kept .1 .1 .1 .1 .1 .1 .0 ∙ after-first-states .first-states .kept .1 .1 .1 .1 .0
-
-same-length-3 : tie.Need-same-length-3
-same-length-3 c =
-    let after-seed-thresholds = seed-thresholds-of c in
-    after-seed-thresholds .seed-thresholds .kept .1 .1 .1 .1 .1 .1 .1 .0
-
-same-length-4 : tie.Need-same-length-4
-same-length-4 c =
-    let after-seed-thresholds = seed-thresholds-of c in
-    after-seed-thresholds .seed-thresholds .kept .1 .1 .1 .1 .1 .1 .1 .1 .0
-
-same-length-5 : tie.Need-same-length-5
-same-length-5 c =
-    let after-seed-thresholds = seed-thresholds-of c in
-    after-seed-thresholds .seed-thresholds .kept .1 .1 .1 .1 .1 .1 .1 .1 .1 .0
-
-same-length-6 : tie.Need-same-length-6
-same-length-6 c =
-    let after-seed-thresholds = seed-thresholds-of c in
-    after-seed-thresholds .seed-thresholds .kept .1 .1 .1 .1 .1 .1 .1 .1 .1 .1 .0
-
 returns : tie.Need-returns
 returns c =
     let after-seed-thresholds = seed-thresholds-of c in
@@ -112,10 +80,10 @@ seal-spec =
     (tie.spec
     first-states-requires
     seed-thresholds-requires
-    same-length
-    same-length-2
-    same-length-3
-    same-length-4
-    same-length-5
-    same-length-6
+    (λ c. seed-thresholds-of c .seed-thresholds .kept .1 .1 .1 .1 .1 .0 ∙ first-states-of (seed-thresholds-of c .before) .first-states .kept .1 .1 .1 .0)
+    (λ c. seed-thresholds-of c .seed-thresholds .kept .1 .1 .1 .1 .1 .1 .0 ∙ first-states-of (seed-thresholds-of c .before) .first-states .kept .1 .1 .1 .1 .0)
+    (λ c. seed-thresholds-of c .seed-thresholds .kept .1 .1 .1 .1 .1 .1 .1 .0)
+    (λ c. seed-thresholds-of c .seed-thresholds .kept .1 .1 .1 .1 .1 .1 .1 .1 .0)
+    (λ c. seed-thresholds-of c .seed-thresholds .kept .1 .1 .1 .1 .1 .1 .1 .1 .1 .0)
+    (λ c. seed-thresholds-of c .seed-thresholds .kept .1 .1 .1 .1 .1 .1 .1 .1 .1 .1 .0)
     returns)
