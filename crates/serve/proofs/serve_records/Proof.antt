@@ -55,6 +55,23 @@ after p =
     let l = p .serve-record .last .1 .1 .1 .1 .1 .1 .1 .1 .1 .1 in
     kept (l .0) (l .1 .0) (l .1 .1 .0) (l .1 .1 .1 .0) (l .1 .1 .1 .1 .1 .1 .1 .0) (l .1 .1 .1 .1 .1 .1 .0) (l .1 .1 .1 .1 .0) (l .1 .1 .1 .1 .1 .0) (l .1 .1 .1 .1 .1 .1 .1 .1 .0)
 
+-- Behind a record each buffer is as long as it was lent.
+kept-lengths : (p : tie.After-serve-record Inv-loop μ-loop) → Same (entry (start-of (loop-of p .before))) (after p)
+kept-lengths p =
+    let k = p .serve-record .kept .1 .1 .1 .1 .1 .1 .1 .1 .1 .1 in
+    let o = loop-of p .loop .inv .1 in
+    record {
+      figures = k .0 ∙ o .figures;
+      cursors = k .1 .0 ∙ o .cursors;
+      sure = k .1 .1 .0 ∙ o .sure;
+      never = k .1 .1 .1 .0 ∙ o .never;
+      node-queue = k .1 .1 .1 .1 .0 ∙ o .node-queue;
+      row-queues = k .1 .1 .1 .1 .1 .0 ∙ o .row-queues;
+      gcds = k .1 .1 .1 .1 .1 .1 .0 ∙ o .gcds;
+      search = k .1 .1 .1 .1 .1 .1 .1 .0 ∙ o .search;
+      answers = k .1 .1 .1 .1 .1 .1 .1 .1 .0 ∙ o .answers;
+    }
+
 loop-holds : tie.Need-loop-holds Inv-loop μ-loop
 loop-holds c =
     let start = start-of c in
@@ -71,60 +88,6 @@ serve-record-requires c κs =
     let p = start .pre in
     let w = at-loop .loop .inv .0 .so-far (p .0 .0) (p .0 .1) (p .0 .2) in
     ((w .0, p .0 .1, w .1), then1 .if1 .taken, p .1)
-
-same-length : tie.Need-same-length Inv-loop μ-loop
-same-length c =
-    let after-serve-record = serve-record-of-then2 c in
-    let at-loop = loop-of after-serve-record in
-    after-serve-record .serve-record .kept .1 .1 .1 .1 .1 .1 .1 .1 .1 .1 .0 ∙ at-loop .loop .inv .1 .figures
-
-same-length-2 : tie.Need-same-length-2 Inv-loop μ-loop
-same-length-2 c =
-    let after-serve-record = serve-record-of-then2 c in
-    let at-loop = loop-of after-serve-record in
-    after-serve-record .serve-record .kept .1 .1 .1 .1 .1 .1 .1 .1 .1 .1 .1 .0 ∙ at-loop .loop .inv .1 .cursors
-
-same-length-3 : tie.Need-same-length-3 Inv-loop μ-loop
-same-length-3 c =
-    let after-serve-record = serve-record-of-then2 c in
-    let at-loop = loop-of after-serve-record in
-    after-serve-record .serve-record .kept .1 .1 .1 .1 .1 .1 .1 .1 .1 .1 .1 .1 .0 ∙ at-loop .loop .inv .1 .sure
-
-same-length-4 : tie.Need-same-length-4 Inv-loop μ-loop
-same-length-4 c =
-    let after-serve-record = serve-record-of-then2 c in
-    let at-loop = loop-of after-serve-record in
-    after-serve-record .serve-record .kept .1 .1 .1 .1 .1 .1 .1 .1 .1 .1 .1 .1 .1 .0 ∙ at-loop .loop .inv .1 .never
-
-same-length-5 : tie.Need-same-length-5 Inv-loop μ-loop
-same-length-5 c =
-    let after-serve-record = serve-record-of-then2 c in
-    let at-loop = loop-of after-serve-record in
-    after-serve-record .serve-record .kept .1 .1 .1 .1 .1 .1 .1 .1 .1 .1 .1 .1 .1 .1 .0 ∙ at-loop .loop .inv .1 .node-queue
-
-same-length-6 : tie.Need-same-length-6 Inv-loop μ-loop
-same-length-6 c =
-    let after-serve-record = serve-record-of-then2 c in
-    let at-loop = loop-of after-serve-record in
-    after-serve-record .serve-record .kept .1 .1 .1 .1 .1 .1 .1 .1 .1 .1 .1 .1 .1 .1 .1 .0 ∙ at-loop .loop .inv .1 .row-queues
-
-same-length-7 : tie.Need-same-length-7 Inv-loop μ-loop
-same-length-7 c =
-    let after-serve-record = serve-record-of-then2 c in
-    let at-loop = loop-of after-serve-record in
-    after-serve-record .serve-record .kept .1 .1 .1 .1 .1 .1 .1 .1 .1 .1 .1 .1 .1 .1 .1 .1 .0 ∙ at-loop .loop .inv .1 .gcds
-
-same-length-8 : tie.Need-same-length-8 Inv-loop μ-loop
-same-length-8 c =
-    let after-serve-record = serve-record-of-then2 c in
-    let at-loop = loop-of after-serve-record in
-    after-serve-record .serve-record .kept .1 .1 .1 .1 .1 .1 .1 .1 .1 .1 .1 .1 .1 .1 .1 .1 .1 .0 ∙ at-loop .loop .inv .1 .search
-
-same-length-9 : tie.Need-same-length-9 Inv-loop μ-loop
-same-length-9 c =
-    let after-serve-record = serve-record-of-then2 c in
-    let at-loop = loop-of after-serve-record in
-    after-serve-record .serve-record .kept .1 .1 .1 .1 .1 .1 .1 .1 .1 .1 .1 .1 .1 .1 .1 .1 .1 .1 .0 ∙ at-loop .loop .inv .1 .answers
 
 returns : tie.Need-returns Inv-loop μ-loop
 returns c =
@@ -157,67 +120,10 @@ loop-again c =
     let start = start-of (at-loop .before) in
     let a = start .args in
     let l = at-loop .loop in
-    let s = after-serve-record .serve-record in
-    let k = s .kept .1 .1 .1 .1 .1 .1 .1 .1 .1 .1 in
-    let o = l .inv .1 in (
+    let s = after-serve-record .serve-record in (
       loops-next (a .input .now) (a .bounds .now) (buffers start) (entry start) (a .first) (here at-loop) (l .reached) (l .inv .0) (then1 .if1 .taken) (after after-serve-record) (s .result) (s .ensures) (c .if2 .left),
-      record {
-        figures = k .0 ∙ o .figures;
-        cursors = k .1 .0 ∙ o .cursors;
-        sure = k .1 .1 .0 ∙ o .sure;
-        never = k .1 .1 .1 .0 ∙ o .never;
-        node-queue = k .1 .1 .1 .1 .0 ∙ o .node-queue;
-        row-queues = k .1 .1 .1 .1 .1 .0 ∙ o .row-queues;
-        gcds = k .1 .1 .1 .1 .1 .1 .0 ∙ o .gcds;
-        search = k .1 .1 .1 .1 .1 .1 .1 .0 ∙ o .search;
-        answers = k .1 .1 .1 .1 .1 .1 .1 .1 .0 ∙ o .answers;
-      },
+      kept-lengths after-serve-record,
     )
-
-same-length-10 : tie.Need-same-length-10 Inv-loop μ-loop
-same-length-10 c =
-    let at-loop = c .before .before in
-    at-loop .loop .inv .1 .figures
-
-same-length-11 : tie.Need-same-length-11 Inv-loop μ-loop
-same-length-11 c =
-    let at-loop = c .before .before in
-    at-loop .loop .inv .1 .cursors
-
-same-length-12 : tie.Need-same-length-12 Inv-loop μ-loop
-same-length-12 c =
-    let at-loop = c .before .before in
-    at-loop .loop .inv .1 .sure
-
-same-length-13 : tie.Need-same-length-13 Inv-loop μ-loop
-same-length-13 c =
-    let at-loop = c .before .before in
-    at-loop .loop .inv .1 .never
-
-same-length-14 : tie.Need-same-length-14 Inv-loop μ-loop
-same-length-14 c =
-    let at-loop = c .before .before in
-    at-loop .loop .inv .1 .node-queue
-
-same-length-15 : tie.Need-same-length-15 Inv-loop μ-loop
-same-length-15 c =
-    let at-loop = c .before .before in
-    at-loop .loop .inv .1 .row-queues
-
-same-length-16 : tie.Need-same-length-16 Inv-loop μ-loop
-same-length-16 c =
-    let at-loop = c .before .before in
-    at-loop .loop .inv .1 .gcds
-
-same-length-17 : tie.Need-same-length-17 Inv-loop μ-loop
-same-length-17 c =
-    let at-loop = c .before .before in
-    at-loop .loop .inv .1 .search
-
-same-length-18 : tie.Need-same-length-18 Inv-loop μ-loop
-same-length-18 c =
-    let at-loop = c .before .before in
-    at-loop .loop .inv .1 .answers
 
 returns-2 : tie.Need-returns-2 Inv-loop μ-loop
 returns-2 c =
@@ -235,25 +141,25 @@ serve-records-spec =
     μ-loop
     loop-holds
     serve-record-requires
-    same-length
-    same-length-2
-    same-length-3
-    same-length-4
-    same-length-5
-    same-length-6
-    same-length-7
-    same-length-8
-    same-length-9
+    (λ c. kept-lengths (serve-record-of-then2 c) .figures)
+    (λ c. kept-lengths (serve-record-of-then2 c) .cursors)
+    (λ c. kept-lengths (serve-record-of-then2 c) .sure)
+    (λ c. kept-lengths (serve-record-of-then2 c) .never)
+    (λ c. kept-lengths (serve-record-of-then2 c) .node-queue)
+    (λ c. kept-lengths (serve-record-of-then2 c) .row-queues)
+    (λ c. kept-lengths (serve-record-of-then2 c) .gcds)
+    (λ c. kept-lengths (serve-record-of-then2 c) .search)
+    (λ c. kept-lengths (serve-record-of-then2 c) .answers)
     returns
     loop-less
     loop-again
-    same-length-10
-    same-length-11
-    same-length-12
-    same-length-13
-    same-length-14
-    same-length-15
-    same-length-16
-    same-length-17
-    same-length-18
+    (λ c. c .before .before .loop .inv .1 .figures)
+    (λ c. c .before .before .loop .inv .1 .cursors)
+    (λ c. c .before .before .loop .inv .1 .sure)
+    (λ c. c .before .before .loop .inv .1 .never)
+    (λ c. c .before .before .loop .inv .1 .node-queue)
+    (λ c. c .before .before .loop .inv .1 .row-queues)
+    (λ c. c .before .before .loop .inv .1 .gcds)
+    (λ c. c .before .before .loop .inv .1 .search)
+    (λ c. c .before .before .loop .inv .1 .answers)
     returns-2)
