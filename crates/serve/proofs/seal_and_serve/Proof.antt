@@ -6,6 +6,7 @@ use Rattle.memory.specs.Buffers.{heldRows, Built, built, Kept, kept}
 use Rattle.records.specs.declared.Record.the-variants.{Seal}
 use Rattle.files.specs.File.{apply}
 use Rattle.serve.specs.declared.Reached.{Reached}
+use Rattle.serve.specs.Serve.{Same}
 use Rattle.serve.specs.SealLaws.{seals-holds, seals-shaped, seals-totals, seals-room, seals-waits, seals-flags, seals-reaches, seals-passed, seals-whole}
 use borrow.Author.Needs.{needs}
 use Rattle.serve.proofs.seal_and_serve.Statement.{statement}
@@ -51,6 +52,23 @@ abbrev first : tie.After-stood → tie.After-seal → tie.Start → Reached
 first p q s =
     record { at = s .args .at + 1; refused = 0; standing = p .stood .result; last = q .seal .result .step; rings = q .seal .result .rings }
 
+-- Behind the records each buffer is as long as it was lent.
+kept-lengths : (p : tie.After-serve-records) → Same (entry (start-of (seal-of (stood-of (p .before)) .before))) (after p)
+kept-lengths p =
+    let k = p .serve-records .kept .1 .1 .1 .1 .1 .1 .1 .1 .1 .1 in
+    let s = seal-of (stood-of (p .before)) .seal .kept .1 .1 .1 .1 .1 in
+    record {
+      figures = k .0 ∙ s .0;
+      cursors = k .1 .0 ∙ s .1 .0;
+      sure = k .1 .1 .0 ∙ s .1 .1 .0;
+      never = k .1 .1 .1 .0 ∙ s .1 .1 .1 .0;
+      node-queue = k .1 .1 .1 .1 .0 ∙ s .1 .1 .1 .1 .0;
+      row-queues = k .1 .1 .1 .1 .1 .0 ∙ s .1 .1 .1 .1 .1 .0;
+      gcds = k .1 .1 .1 .1 .1 .1 .0;
+      search = k .1 .1 .1 .1 .1 .1 .1 .0;
+      answers = k .1 .1 .1 .1 .1 .1 .1 .1 .0;
+    }
+
 seal-requires : tie.Need-seal-requires
 seal-requires c κs =
     let start = start-of c in
@@ -92,57 +110,6 @@ serve-records-requires c κs =
       w .3,
     )
 
-same-length : tie.Need-same-length
-same-length c =
-    let after-serve-records = serve-records-of c in
-    let after-seal = seal-of (stood-of (after-serve-records .before)) in
-    after-serve-records .serve-records .kept .1 .1 .1 .1 .1 .1 .1 .1 .1 .1 .0 ∙ after-seal .seal .kept .1 .1 .1 .1 .1 .0
-
-same-length-2 : tie.Need-same-length-2
-same-length-2 c =
-    let after-serve-records = serve-records-of c in
-    let after-seal = seal-of (stood-of (after-serve-records .before)) in
-    after-serve-records .serve-records .kept .1 .1 .1 .1 .1 .1 .1 .1 .1 .1 .1 .0 ∙ after-seal .seal .kept .1 .1 .1 .1 .1 .1 .0
-
-same-length-3 : tie.Need-same-length-3
-same-length-3 c =
-    let after-serve-records = serve-records-of c in
-    let after-seal = seal-of (stood-of (after-serve-records .before)) in
-    after-serve-records .serve-records .kept .1 .1 .1 .1 .1 .1 .1 .1 .1 .1 .1 .1 .0 ∙ after-seal .seal .kept .1 .1 .1 .1 .1 .1 .1 .0
-
-same-length-4 : tie.Need-same-length-4
-same-length-4 c =
-    let after-serve-records = serve-records-of c in
-    let after-seal = seal-of (stood-of (after-serve-records .before)) in
-    after-serve-records .serve-records .kept .1 .1 .1 .1 .1 .1 .1 .1 .1 .1 .1 .1 .1 .0 ∙ after-seal .seal .kept .1 .1 .1 .1 .1 .1 .1 .1 .0
-
-same-length-5 : tie.Need-same-length-5
-same-length-5 c =
-    let after-serve-records = serve-records-of c in
-    let after-seal = seal-of (stood-of (after-serve-records .before)) in
-    after-serve-records .serve-records .kept .1 .1 .1 .1 .1 .1 .1 .1 .1 .1 .1 .1 .1 .1 .0 ∙ after-seal .seal .kept .1 .1 .1 .1 .1 .1 .1 .1 .1 .0
-
-same-length-6 : tie.Need-same-length-6
-same-length-6 c =
-    let after-serve-records = serve-records-of c in
-    let after-seal = seal-of (stood-of (after-serve-records .before)) in
-    after-serve-records .serve-records .kept .1 .1 .1 .1 .1 .1 .1 .1 .1 .1 .1 .1 .1 .1 .1 .0 ∙ after-seal .seal .kept .1 .1 .1 .1 .1 .1 .1 .1 .1 .1 .0
-
-same-length-7 : tie.Need-same-length-7
-same-length-7 c =
-    let after-serve-records = serve-records-of c in
-    after-serve-records .serve-records .kept .1 .1 .1 .1 .1 .1 .1 .1 .1 .1 .1 .1 .1 .1 .1 .1 .0
-
-same-length-8 : tie.Need-same-length-8
-same-length-8 c =
-    let after-serve-records = serve-records-of c in
-    after-serve-records .serve-records .kept .1 .1 .1 .1 .1 .1 .1 .1 .1 .1 .1 .1 .1 .1 .1 .1 .1 .0
-
-same-length-9 : tie.Need-same-length-9
-same-length-9 c =
-    let after-serve-records = serve-records-of c in
-    after-serve-records .serve-records .kept .1 .1 .1 .1 .1 .1 .1 .1 .1 .1 .1 .1 .1 .1 .1 .1 .1 .1 .0
-
 returns : tie.Need-returns
 returns c =
     let after-serve-records = serve-records-of c in
@@ -170,13 +137,13 @@ seal-and-serve-spec =
     add-behind
     serve-records-requires
     (λ c κs. search needs)
-    same-length
-    same-length-2
-    same-length-3
-    same-length-4
-    same-length-5
-    same-length-6
-    same-length-7
-    same-length-8
-    same-length-9
+    (λ c. kept-lengths (serve-records-of c) .figures)
+    (λ c. kept-lengths (serve-records-of c) .cursors)
+    (λ c. kept-lengths (serve-records-of c) .sure)
+    (λ c. kept-lengths (serve-records-of c) .never)
+    (λ c. kept-lengths (serve-records-of c) .node-queue)
+    (λ c. kept-lengths (serve-records-of c) .row-queues)
+    (λ c. kept-lengths (serve-records-of c) .gcds)
+    (λ c. kept-lengths (serve-records-of c) .search)
+    (λ c. kept-lengths (serve-records-of c) .answers)
     returns)
