@@ -1,6 +1,7 @@
 -- `phases::serve` meets its contract: memory is cleared, and a job that stopped at its seal is sealed and served.
 use mathlib.Core.Path.{refl, sym, subst, _∙_}
-use Rattle.memory.specs.Buffers.{heldRows, Built, built, Kept, kept}
+use Rattle.memory.specs.Buffers.{Kept, kept}
+use Rattle.serve.specs.Serve.{Same}
 use Rattle.phases.specs.Phase.{Leaves}
 use Rattle.phases.specs.PhaseLaws.{ending-seals, ending-none, leaves-none}
 use borrow.Author.Needs.{needs}
@@ -24,11 +25,6 @@ then1-of p = p .before .before .before .before .before .before .before .before .
 abbrev lend-of : tie.After-answers2 → tie.After-lend
 lend-of p = p .before .before .before .before .before .before .before .before .before .before .before .before .before .before
 
-abbrev buffers : tie.Start → Built
-buffers p =
-    let a = p .args in
-    built (heldRows (a .row-conditions .now) (a .row-weights .now) (a .rows .now) (a .guard-bounds .now) (a .guard-nodes .now)) (a .nodes .now) (a .edges .now) (a .links .now)
-
 abbrev entry : tie.Start → Kept
 entry p =
     let a = p .args in
@@ -44,6 +40,39 @@ after p =
     let l = p .lend .last .1 .1 .1 .1 .1 .1 .1 .1 .1 .1 in
     kept (l .0) (l .1 .0) (l .1 .1 .0) (l .1 .1 .1 .0) (l .1 .1 .1 .1 .1 .1 .1 .0) (l .1 .1 .1 .1 .1 .1 .0) (l .1 .1 .1 .1 .0) (l .1 .1 .1 .1 .1 .0) (l .1 .1 .1 .1 .1 .1 .1 .1 .0)
 
+-- Buffers that are cleared are as long as they were lent.
+cleared-lengths : (p : tie.After-clear-kept) → Same (entry (start-of p)) (cleared p)
+cleared-lengths p =
+    let k = p .clear-kept .kept in
+    record {
+      figures = k .0;
+      cursors = k .1 .0;
+      sure = k .1 .1 .0;
+      never = k .1 .1 .1 .0;
+      search = k .1 .1 .1 .1 .0;
+      gcds = k .1 .1 .1 .1 .1 .0;
+      node-queue = k .1 .1 .1 .1 .1 .1 .0;
+      row-queues = k .1 .1 .1 .1 .1 .1 .1 .0;
+      answers = k .1 .1 .1 .1 .1 .1 .1 .1 .0;
+    }
+
+-- And so are those that were served.
+kept-lengths : (p : tie.After-lend) → Same (entry (start-of (clear-kept-of-then1 (then1-of (p .before))))) (after p)
+kept-lengths p =
+    let k = p .lend .kept .1 .1 .1 .1 .1 .1 .1 .1 .1 .1 in
+    let s = cleared-lengths (clear-kept-of-then1 (then1-of (p .before))) in
+    record {
+      figures = k .0 ∙ s .figures;
+      cursors = k .1 .0 ∙ s .cursors;
+      sure = k .1 .1 .0 ∙ s .sure;
+      never = k .1 .1 .1 .0 ∙ s .never;
+      node-queue = k .1 .1 .1 .1 .0 ∙ s .node-queue;
+      row-queues = k .1 .1 .1 .1 .1 .0 ∙ s .row-queues;
+      gcds = k .1 .1 .1 .1 .1 .1 .0 ∙ s .gcds;
+      search = k .1 .1 .1 .1 .1 .1 .1 .0 ∙ s .search;
+      answers = k .1 .1 .1 .1 .1 .1 .1 .1 .0 ∙ s .answers;
+    }
+
 lend-requires : tie.Need-lend-requires
 lend-requires c κs =
     let then1 = then1-of c in
@@ -52,60 +81,6 @@ lend-requires c κs =
     let p = start .pre in
     let w = p .2 (then1 .if1 .taken) in
     ((w .0 .0, entry start, w .0 .1, w .0 .2, p .0, after-clear-kept .clear-kept .ensures, w .0 .3), w .1, w .2, p .1)
-
-same-length : tie.Need-same-length
-same-length c =
-    let after-lend = lend-of c in
-    let after-clear-kept = clear-kept-of-then1 (then1-of (after-lend .before)) in
-    after-lend .lend .kept .1 .1 .1 .1 .1 .1 .1 .1 .1 .1 .0 ∙ after-clear-kept .clear-kept .kept .0
-
-same-length-2 : tie.Need-same-length-2
-same-length-2 c =
-    let after-lend = lend-of c in
-    let after-clear-kept = clear-kept-of-then1 (then1-of (after-lend .before)) in
-    after-lend .lend .kept .1 .1 .1 .1 .1 .1 .1 .1 .1 .1 .1 .0 ∙ after-clear-kept .clear-kept .kept .1 .0
-
-same-length-3 : tie.Need-same-length-3
-same-length-3 c =
-    let after-lend = lend-of c in
-    let after-clear-kept = clear-kept-of-then1 (then1-of (after-lend .before)) in
-    after-lend .lend .kept .1 .1 .1 .1 .1 .1 .1 .1 .1 .1 .1 .1 .0 ∙ after-clear-kept .clear-kept .kept .1 .1 .0
-
-same-length-4 : tie.Need-same-length-4
-same-length-4 c =
-    let after-lend = lend-of c in
-    let after-clear-kept = clear-kept-of-then1 (then1-of (after-lend .before)) in
-    after-lend .lend .kept .1 .1 .1 .1 .1 .1 .1 .1 .1 .1 .1 .1 .1 .0 ∙ after-clear-kept .clear-kept .kept .1 .1 .1 .0
-
-same-length-5 : tie.Need-same-length-5
-same-length-5 c =
-    let after-lend = lend-of c in
-    let after-clear-kept = clear-kept-of-then1 (then1-of (after-lend .before)) in
-    after-lend .lend .kept .1 .1 .1 .1 .1 .1 .1 .1 .1 .1 .1 .1 .1 .1 .0 ∙ after-clear-kept .clear-kept .kept .1 .1 .1 .1 .1 .1 .0
-
-same-length-6 : tie.Need-same-length-6
-same-length-6 c =
-    let after-lend = lend-of c in
-    let after-clear-kept = clear-kept-of-then1 (then1-of (after-lend .before)) in
-    after-lend .lend .kept .1 .1 .1 .1 .1 .1 .1 .1 .1 .1 .1 .1 .1 .1 .1 .0 ∙ after-clear-kept .clear-kept .kept .1 .1 .1 .1 .1 .1 .1 .0
-
-same-length-7 : tie.Need-same-length-7
-same-length-7 c =
-    let after-lend = lend-of c in
-    let after-clear-kept = clear-kept-of-then1 (then1-of (after-lend .before)) in
-    after-lend .lend .kept .1 .1 .1 .1 .1 .1 .1 .1 .1 .1 .1 .1 .1 .1 .1 .1 .0 ∙ after-clear-kept .clear-kept .kept .1 .1 .1 .1 .1 .0
-
-same-length-8 : tie.Need-same-length-8
-same-length-8 c =
-    let after-lend = lend-of c in
-    let after-clear-kept = clear-kept-of-then1 (then1-of (after-lend .before)) in
-    after-lend .lend .kept .1 .1 .1 .1 .1 .1 .1 .1 .1 .1 .1 .1 .1 .1 .1 .1 .1 .0 ∙ after-clear-kept .clear-kept .kept .1 .1 .1 .1 .0
-
-same-length-9 : tie.Need-same-length-9
-same-length-9 c =
-    let after-lend = lend-of c in
-    let after-clear-kept = clear-kept-of-then1 (then1-of (after-lend .before)) in
-    after-lend .lend .kept .1 .1 .1 .1 .1 .1 .1 .1 .1 .1 .1 .1 .1 .1 .1 .1 .1 .1 .0 ∙ after-clear-kept .clear-kept .kept .1 .1 .1 .1 .1 .1 .1 .1 .0
 
 returns : tie.Need-returns
 returns c =
@@ -119,51 +94,6 @@ returns c =
     λ f z d s.
     subst (Leaves (entry start) (after after-lend) (t .result)) (sym (ending-seals (a .input .now) f (a .read) yes-seal))
     (t .ensures f (entry start) (s yes-seal) z (start .pre .0) (after-clear-kept .clear-kept .ensures) d)
-
-same-length-10 : tie.Need-same-length-10
-same-length-10 c =
-    let after-clear-kept = clear-kept-of c in
-    after-clear-kept .clear-kept .kept .0
-
-same-length-11 : tie.Need-same-length-11
-same-length-11 c =
-    let after-clear-kept = clear-kept-of c in
-    after-clear-kept .clear-kept .kept .1 .0
-
-same-length-12 : tie.Need-same-length-12
-same-length-12 c =
-    let after-clear-kept = clear-kept-of c in
-    after-clear-kept .clear-kept .kept .1 .1 .0
-
-same-length-13 : tie.Need-same-length-13
-same-length-13 c =
-    let after-clear-kept = clear-kept-of c in
-    after-clear-kept .clear-kept .kept .1 .1 .1 .0
-
-same-length-14 : tie.Need-same-length-14
-same-length-14 c =
-    let after-clear-kept = clear-kept-of c in
-    after-clear-kept .clear-kept .kept .1 .1 .1 .1 .1 .1 .0
-
-same-length-15 : tie.Need-same-length-15
-same-length-15 c =
-    let after-clear-kept = clear-kept-of c in
-    after-clear-kept .clear-kept .kept .1 .1 .1 .1 .1 .1 .1 .0
-
-same-length-16 : tie.Need-same-length-16
-same-length-16 c =
-    let after-clear-kept = clear-kept-of c in
-    after-clear-kept .clear-kept .kept .1 .1 .1 .1 .1 .0
-
-same-length-17 : tie.Need-same-length-17
-same-length-17 c =
-    let after-clear-kept = clear-kept-of c in
-    after-clear-kept .clear-kept .kept .1 .1 .1 .1 .0
-
-same-length-18 : tie.Need-same-length-18
-same-length-18 c =
-    let after-clear-kept = clear-kept-of c in
-    after-clear-kept .clear-kept .kept .1 .1 .1 .1 .1 .1 .1 .1 .0
 
 returns-2 : tie.Need-returns-2
 returns-2 c =
@@ -181,23 +111,23 @@ serve-spec =
     (tie.spec
     (λ c κs. search needs)
     lend-requires
-    same-length
-    same-length-2
-    same-length-3
-    same-length-4
-    same-length-5
-    same-length-6
-    same-length-7
-    same-length-8
-    same-length-9
+    (λ c. kept-lengths (lend-of c) .figures)
+    (λ c. kept-lengths (lend-of c) .cursors)
+    (λ c. kept-lengths (lend-of c) .sure)
+    (λ c. kept-lengths (lend-of c) .never)
+    (λ c. kept-lengths (lend-of c) .node-queue)
+    (λ c. kept-lengths (lend-of c) .row-queues)
+    (λ c. kept-lengths (lend-of c) .gcds)
+    (λ c. kept-lengths (lend-of c) .search)
+    (λ c. kept-lengths (lend-of c) .answers)
     returns
-    same-length-10
-    same-length-11
-    same-length-12
-    same-length-13
-    same-length-14
-    same-length-15
-    same-length-16
-    same-length-17
-    same-length-18
+    (λ c. cleared-lengths (clear-kept-of c) .figures)
+    (λ c. cleared-lengths (clear-kept-of c) .cursors)
+    (λ c. cleared-lengths (clear-kept-of c) .sure)
+    (λ c. cleared-lengths (clear-kept-of c) .never)
+    (λ c. cleared-lengths (clear-kept-of c) .node-queue)
+    (λ c. cleared-lengths (clear-kept-of c) .row-queues)
+    (λ c. cleared-lengths (clear-kept-of c) .gcds)
+    (λ c. cleared-lengths (clear-kept-of c) .search)
+    (λ c. cleared-lengths (clear-kept-of c) .answers)
     returns-2)
