@@ -6,7 +6,7 @@ use lib.ListN.{length, drop}
 use Rattle.numeric.specs.Slices.{terms}
 use Rattle.state.specs.declared.Step.the-variants.{Unchanged}
 use Rattle.queues.specs.Queue.{queue}
-use Rattle.queues.specs.Marks.{marks}
+use Rattle.queues.specs.Marks.{Marks, marks}
 use Rattle.queues.specs.MarksLaws.{Waits}
 use Rattle.residual.specs.Residual.{forceFrom}
 use Rattle.residual.specs.ForceLaws.{force-skip, turn-waits, turn-stops, turn-goes-on, force-end}
@@ -43,6 +43,20 @@ gcd-of p = p .before .before .before .before .before .before .before .before .be
 abbrev force-term-of : tie.After-contradicts Inv-loop μ-loop → tie.After-force-term Inv-loop μ-loop
 force-term-of p = p .before .before .before .before .before .before .before .before
 
+-- The marks at the loop's test.
+abbrev here : tie.At-loop Inv-loop μ-loop → Marks
+here p = let w = p .loop in marks (w .sure) (w .never) (queue (w .node-queue) (w .so-far .ring))
+
+-- Behind a term each buffer is as long as it was lent.
+kept-lengths : (b : tie.After-contradicts Inv-loop μ-loop) →
+    let a = start-of (loop-of (gcd-of b)) .args in
+    let l = force-term-of b .force-term .last .1 .1 .1 .1 in
+    (length (l .0) ≡ length (a .sure .now)) × (length (l .1 .0) ≡ length (a .never .now)) × (length (l .1 .1 .0) ≡ length (a .node-queue .now))
+kept-lengths b =
+    let k = force-term-of b .force-term .kept .1 .1 .1 .1 in
+    let i = loop-of (gcd-of b) .loop .inv in
+    (k .0 ∙ i .1, k .1 .0 ∙ i .2, k .1 .1 .0 ∙ i .3)
+
 loop-holds : tie.Need-loop-holds Inv-loop μ-loop
 loop-holds c =
     let g = c .before .before .before .before .before .before .args in
@@ -57,17 +71,17 @@ decided-requires c κs =
 
 loop-again : tie.Need-loop-again Inv-loop μ-loop
 loop-again c =
-    let g = start-of (c .before .before .before .before .before .before) .args in
-    let p = start-of (c .before .before .before .before .before .before) .pre .0 in
-    let w = c .before .before .before .before .before .before .loop in (
+    let at-loop = c .before .before .before .before .before .before in
+    let g = start-of at-loop .args in
+    let p = start-of at-loop .pre .0 in
+    let w = at-loop .loop in (
       omega arith,
       w .inv .1,
       w .inv .2,
       w .inv .3,
       w .inv .4,
       sym
-          (force-skip (g .i) (g .gcds .now) (g .conditions .now) (g .weights .now) (w .position) (w .prefix)
-          (marks (w .sure) (w .never) (queue (w .node-queue) (w .so-far .ring))) (w .so-far .step) (omega arith) (omega arith)
+          (force-skip (g .i) (g .gcds .now) (g .conditions .now) (g .weights .now) (w .position) (w .prefix) (here at-loop) (w .so-far .step) (omega arith) (omega arith)
           (sym (c .before .decided .ensures) ∙ c .if1 .taken))
           ∙ w .inv .5,
     )
@@ -83,86 +97,52 @@ force-term-requires c κs =
       (w .inv .4 .held, p .below (w .position) (omega (arith, t, p .same)), omega (arith, w .inv .1, p .inSure), omega (arith, w .inv .2, p .inNever)),
     )
 
-same-length : tie.Need-same-length Inv-loop μ-loop
-same-length c =
-    let b = c .before in
-    force-term-of b .force-term .kept .1 .1 .1 .1 .0 ∙ loop-of (gcd-of b) .loop .inv .1
-
-same-length-2 : tie.Need-same-length-2 Inv-loop μ-loop
-same-length-2 c =
-    let b = c .before in
-    force-term-of b .force-term .kept .1 .1 .1 .1 .1 .0 ∙ loop-of (gcd-of b) .loop .inv .2
-
-same-length-3 : tie.Need-same-length-3 Inv-loop μ-loop
-same-length-3 c =
-    let b = c .before in
-    force-term-of b .force-term .kept .1 .1 .1 .1 .1 .1 .0 ∙ loop-of (gcd-of b) .loop .inv .3
-
 returns : tie.Need-returns Inv-loop μ-loop
 returns c =
     let b = c .before in
-    let g = start-of (loop-of (gcd-of b)) .args in
-    let p = start-of (loop-of (gcd-of b)) .pre .0 in
-    let w = loop-of (gcd-of b) .loop in
+    let at-loop = loop-of (gcd-of b) in
+    let g = start-of at-loop .args in
+    let p = start-of at-loop .pre .0 in
+    let w = at-loop .loop in
     let t = in-loop-of (gcd-of b) .loop-test .taken in
     let j = b .before .joined-decision in
     let f = force-term-of b .force-term in
-    (turn-stops (g .i) (g .gcds .now) (g .conditions .now) (g .weights .now) (w .position) (w .prefix)
-    (marks (w .sure) (w .never) (queue (w .node-queue) (w .so-far .ring))) (w .so-far .step) (omega (arith, t, p .same)) (omega (arith, t)) (p .same)
+    (turn-stops (g .i) (g .gcds .now) (g .conditions .now) (g .weights .now) (w .position) (w .prefix) (here at-loop) (w .so-far .step) (omega (arith, t, p .same)) (omega (arith, t)) (p .same)
     (sym (else1-of b .before .decided .ensures) ∙ else1-of b .if1 .left) (gcd-of b .gcd .result) (gcd-of b .gcd .ensures)
     (f .last .1 .1 .1 .1 .0) (f .last .1 .1 .1 .1 .1 .0) (f .last .1 .1 .1 .1 .1 .1 .0) (f .result .ring) (j .result .ring) (f .result .step) (j .result .step)
     (f .ensures) (j .ensures .1) (j .ensures .0) (sym (b .contradicts .ensures) ∙ c .if2 .taken))
     ∙ w .inv .5
 
-add-position-2 : tie.Need-add-position-2 Inv-loop μ-loop
-add-position-2 c = omega (arith, in-loop-of (gcd-of (c .before .before)) .loop-test .taken, start-of (loop-of (gcd-of (c .before .before))) .good .1 .0 .0)
-
-loop-less-2 : tie.Need-loop-less-2 Inv-loop μ-loop
-loop-less-2 c = omega (arith, in-loop-of (gcd-of (c .before .before)) .loop-test .taken)
-
 loop-again-2 : tie.Need-loop-again-2 Inv-loop μ-loop
 loop-again-2 c =
     let b = c .before .before in
-    let g = start-of (loop-of (gcd-of b)) .args in
-    let p = start-of (loop-of (gcd-of b)) .pre .0 in
-    let w = loop-of (gcd-of b) .loop in
+    let at-loop = loop-of (gcd-of b) in
+    let g = start-of at-loop .args in
+    let p = start-of at-loop .pre .0 in
+    let w = at-loop .loop in
     let t = in-loop-of (gcd-of b) .loop-test .taken in
     let j = b .before .joined-decision in
     let f = force-term-of b .force-term in (
       omega (arith, t),
-      f .kept .1 .1 .1 .1 .0 ∙ w .inv .1,
-      f .kept .1 .1 .1 .1 .1 .0 ∙ w .inv .2,
-      f .kept .1 .1 .1 .1 .1 .1 .0 ∙ w .inv .3,
-      turn-waits (g .i) (g .gcds .now) (g .conditions .now) (g .weights .now) (w .position) (w .prefix)
-          (marks (w .sure) (w .never) (queue (w .node-queue) (w .so-far .ring))) (w .so-far .step) (omega (arith, t, p .same)) (omega (arith, t)) (p .same)
+      kept-lengths b .0,
+      kept-lengths b .1,
+      kept-lengths b .2,
+      turn-waits (g .i) (g .gcds .now) (g .conditions .now) (g .weights .now) (w .position) (w .prefix) (here at-loop) (w .so-far .step) (omega (arith, t, p .same)) (omega (arith, t)) (p .same)
           (sym (else1-of b .before .decided .ensures) ∙ else1-of b .if1 .left) (gcd-of b .gcd .result) (gcd-of b .gcd .ensures)
           (f .last .1 .1 .1 .1 .0) (f .last .1 .1 .1 .1 .1 .0) (f .last .1 .1 .1 .1 .1 .1 .0) (f .result .ring) (j .result .ring) (f .result .step) (j .result .step)
           (f .ensures) (j .ensures .1) (j .ensures .0) (p .below (w .position) (omega (arith, t, p .same))) (w .inv .4),
-      (turn-goes-on (g .i) (g .gcds .now) (g .conditions .now) (g .weights .now) (w .position) (w .prefix)
-          (marks (w .sure) (w .never) (queue (w .node-queue) (w .so-far .ring))) (w .so-far .step) (omega (arith, t, p .same)) (omega (arith, t)) (p .same)
+      (turn-goes-on (g .i) (g .gcds .now) (g .conditions .now) (g .weights .now) (w .position) (w .prefix) (here at-loop) (w .so-far .step) (omega (arith, t, p .same)) (omega (arith, t)) (p .same)
           (sym (else1-of b .before .decided .ensures) ∙ else1-of b .if1 .left) (gcd-of b .gcd .result) (gcd-of b .gcd .ensures)
           (f .last .1 .1 .1 .1 .0) (f .last .1 .1 .1 .1 .1 .0) (f .last .1 .1 .1 .1 .1 .1 .0) (f .result .ring) (j .result .ring) (f .result .step) (j .result .step)
           (f .ensures) (j .ensures .1) (j .ensures .0) (c .gcd2 .result) (c .gcd2 .ensures) (sym (b .contradicts .ensures) ∙ c .before .if2 .left))
           ∙ w .inv .5,
     )
 
-same-length-4 : tie.Need-same-length-4 Inv-loop μ-loop
-same-length-4 c = c .before .loop .inv .1
-
-same-length-5 : tie.Need-same-length-5 Inv-loop μ-loop
-same-length-5 c = c .before .loop .inv .2
-
-same-length-6 : tie.Need-same-length-6 Inv-loop μ-loop
-same-length-6 c = c .before .loop .inv .3
-
 returns-2 : tie.Need-returns-2 Inv-loop μ-loop
 returns-2 c =
     let g = start-of (c .before) .args in
     let w = c .before .loop in
-    sym
-    (force-end (g .i) (g .gcds .now) (g .conditions .now) (g .weights .now) (w .position) (w .prefix)
-    (marks (w .sure) (w .never) (queue (w .node-queue) (w .so-far .ring))) (w .so-far .step) (c .loop-test .left))
-    ∙ w .inv .5
+    sym (force-end (g .i) (g .gcds .now) (g .conditions .now) (g .weights .now) (w .position) (w .prefix) (here (c .before)) (w .so-far .step) (c .loop-test .left)) ∙ w .inv .5
 
 pub force-from-spec : {M : Type 1} → statement M
 force-from-spec =
@@ -178,15 +158,15 @@ force-from-spec =
     (λ c. omega arith) (λ c. omega arith) (λ c. omega arith) (λ c. omega arith) (λ c. omega arith) (λ c. omega arith) (λ c κs. tt)
     force-term-requires
     (λ c κs. tt) (λ c κs. tt)
-    same-length
-    same-length-2
-    same-length-3
+    (λ c. kept-lengths (c .before) .0)
+    (λ c. kept-lengths (c .before) .1)
+    (λ c. kept-lengths (c .before) .2)
     returns
     (λ c κs. tt)
-    add-position-2
-    loop-less-2
+    (λ c. omega (arith, in-loop-of (gcd-of (c .before .before)) .loop-test .taken, start-of (loop-of (gcd-of (c .before .before))) .good .1 .0 .0))
+    (λ c. omega (arith, in-loop-of (gcd-of (c .before .before)) .loop-test .taken))
     loop-again-2
-    same-length-4
-    same-length-5
-    same-length-6
+    (λ c. c .before .loop .inv .1)
+    (λ c. c .before .loop .inv .2)
+    (λ c. c .before .loop .inv .3)
     returns-2)
