@@ -1,7 +1,7 @@
 -- `prepare::prepare` meets its contract. Assumes nothing.
 use native.Mathlib.Omega.{arith}
 use mathlib.Core.List.{[]}
-use Rattle.memory.specs.Buffers.{rawLists, heldRows, built}
+use Rattle.memory.specs.Buffers.{RawLists, rawLists, heldRows, Built, built}
 use Rattle.prepare.specs.PrepareLaws.{opened, guards-ready, edges-ready, prepared}
 use mathlib.Core.Path.{_∙_}
 use Rattle.prepare.proofs.prepare.Statement.{statement}
@@ -21,6 +21,21 @@ place-in-of p = p .before .before .before .before .before .before .before .befor
 abbrev guards-in-of : tie.After-edges-in-arg5 → tie.After-guards-in
 guards-in-of p = p .before .before .before .before .before .before .before .before .before .before .before
 
+abbrev place-in-at : tie.After-edges-in → tie.After-place-in
+place-in-at p = place-in-of (guards-in-of (p .before) .before)
+
+abbrev order-keys-at : tie.After-edges-in → tie.After-order-keys
+order-keys-at p = order-keys-of (place-in-at p .before)
+
+-- The raw lists.
+abbrev raws : tie.Start → RawLists
+raws p = rawLists (p .args .raw-conditions .now) (p .args .raw-weights .now) (p .args .thresholds .now)
+
+-- What is built over, with no links yet.
+abbrev buffers : tie.Start → Built
+buffers p = let g = p .args in
+    built (heldRows (g .row-conditions .now) (g .row-weights .now) (g .rows .now) (g .guard-bounds .now) (g .guard-nodes .now)) (g .nodes .now) (g .edges .now) []
+
 order-keys-requires : tie.Need-order-keys-requires
 order-keys-requires c κs = let p = start-of c .pre in
     let e = p .0 .even in
@@ -30,25 +45,19 @@ order-keys-requires c κs = let p = start-of c .pre in
     (omega arith, p .0 .bounded, omega arith, omega arith, p .1 .weights-clear)
 
 place-in-requires : tie.Need-place-in-requires
-place-in-requires c κs = let g = start-of (order-keys-of c .before) .args in
-    let p = start-of (order-keys-of c .before) .pre in
-    let r = rawLists (g .raw-conditions .now) (g .raw-weights .now) (g .thresholds .now) in
-    let b = built (heldRows (g .row-conditions .now) (g .row-weights .now) (g .rows .now) (g .guard-bounds .now) (g .guard-nodes .now)) (g .nodes .now) (g .edges .now) [] in
+place-in-requires c κs =
+    let s = start-of (order-keys-of c .before) in
     let o = order-keys-of c .order-keys .ensures in
-    opened r (g .bounds .now) b (g .scratch .now) (p .0) (p .1) _ _ (o .0) (o .1)
+    opened (raws s) (s .args .bounds .now) (buffers s) (s .args .scratch .now) (s .pre .0) (s .pre .1) _ _ (o .0) (o .1)
 
 guards-in-requires : tie.Need-guards-in-requires
 guards-in-requires c κs =
     let place-in = place-in-of c in
     let order-keys = order-keys-of (place-in .before) in
     let s = start-of (order-keys .before) in
-    let g = s .args in
-    let p = s .pre in
-    let r = rawLists (g .raw-conditions .now) (g .raw-weights .now) (g .thresholds .now) in
-    let b = built (heldRows (g .row-conditions .now) (g .row-weights .now) (g .rows .now) (g .guard-bounds .now) (g .guard-nodes .now)) (g .nodes .now) (g .edges .now) [] in
     let o = order-keys .order-keys .ensures in
     let q = place-in .place-in .ensures in
-    guards-ready r (g .bounds .now) b (g .scratch .now) (p .0) (p .1) _ _ (o .0) (o .1) (place-in .place-in .result) _ _ _ _ _ _ (q .0) (q .1) (q .2)
+    guards-ready (raws s) (s .args .bounds .now) (buffers s) (s .args .scratch .now) (s .pre .0) (s .pre .1) _ _ (o .0) (o .1) (place-in .place-in .result) _ _ _ _ _ _ (q .0) (q .1) (q .2)
 
 edges-in-requires : tie.Need-edges-in-requires
 edges-in-requires c κs =
@@ -56,56 +65,10 @@ edges-in-requires c κs =
     let place-in = place-in-of (guards-in .before) in
     let order-keys = order-keys-of (place-in .before) in
     let s = start-of (order-keys .before) in
-    let g = s .args in
-    let p = s .pre in
-    let r = rawLists (g .raw-conditions .now) (g .raw-weights .now) (g .thresholds .now) in
-    let b = built (heldRows (g .row-conditions .now) (g .row-weights .now) (g .rows .now) (g .guard-bounds .now) (g .guard-nodes .now)) (g .nodes .now) (g .edges .now) [] in
     let o = order-keys .order-keys .ensures in
     let q = place-in .place-in .ensures in
     let h = guards-in .guards-in .ensures in
-    edges-ready r (g .bounds .now) b (g .scratch .now) (p .0) (p .1) _ _ (o .0) (o .1) (place-in .place-in .result) _ _ _ _ _ _ (q .0) (q .1) (q .2) _ _ _ _ (h .0) (h .1) (guards-in .guards-in .kept .1 .1 .1 .1 .0)
-
-same-length : tie.Need-same-length
-same-length c =
-    let place-in = place-in-of (guards-in-of (c .before .before .before) .before) in
-    place-in .place-in .kept .1 .1 .1 .0
-
-same-length-2 : tie.Need-same-length-2
-same-length-2 c =
-    let place-in = place-in-of (guards-in-of (c .before .before .before) .before) in
-    let order-keys = order-keys-of (place-in .before) in
-    place-in .place-in .kept .1 .1 .1 .1 .0 ∙ order-keys .order-keys .kept .1 .0
-
-same-length-3 : tie.Need-same-length-3
-same-length-3 c =
-    let guards-in = guards-in-of (c .before .before .before) in
-    let place-in = place-in-of (guards-in .before) in
-    guards-in .guards-in .kept .1 .1 .1 .1 .0 ∙ place-in .place-in .kept .1 .1 .1 .1 .1 .0
-
-same-length-4 : tie.Need-same-length-4
-same-length-4 c = guards-in-of (c .before .before .before) .guards-in .kept .1 .1 .1 .1 .1 .0
-
-same-length-5 : tie.Need-same-length-5
-same-length-5 c =
-    let guards-in = guards-in-of (c .before .before .before) in
-    let place-in = place-in-of (guards-in .before) in
-    guards-in .guards-in .kept .1 .1 .1 .1 .1 .1 .0 ∙ place-in .place-in .kept .1 .1 .1 .1 .1 .1 .1 .1 .0
-
-same-length-6 : tie.Need-same-length-6
-same-length-6 c =
-    let edges-in = c .before .before in
-    let place-in = place-in-of (guards-in-of (edges-in .before) .before) in
-    edges-in .edges-in .kept .1 .1 .1 .1 .1 .0 ∙ place-in .place-in .kept .1 .1 .1 .1 .1 .1 .0
-
-same-length-7 : tie.Need-same-length-7
-same-length-7 c = c .before .before .edges-in .kept .1 .1 .1 .1 .1 .1 .0
-
-same-length-8 : tie.Need-same-length-8
-same-length-8 c =
-    let guards-in = guards-in-of (c .before .before .before) in
-    let place-in = place-in-of (guards-in .before) in
-    let order-keys = order-keys-of (place-in .before) in
-    guards-in .guards-in .kept .1 .1 .1 .1 .1 .1 .1 .0 ∙ place-in .place-in .kept .1 .1 .1 .1 .1 .1 .1 .0 ∙ order-keys .order-keys .kept .1 .1 .0
+    edges-ready (raws s) (s .args .bounds .now) (buffers s) (s .args .scratch .now) (s .pre .0) (s .pre .1) _ _ (o .0) (o .1) (place-in .place-in .result) _ _ _ _ _ _ (q .0) (q .1) (q .2) _ _ _ _ (h .0) (h .1) (guards-in .guards-in .kept .1 .1 .1 .1 .0)
 
 returns : tie.Need-returns
 returns c =
@@ -114,15 +77,10 @@ returns c =
     let place-in = place-in-of (guards-in .before) in
     let order-keys = order-keys-of (place-in .before) in
     let s = start-of (order-keys .before) in
-    let g = s .args in
-    let p = s .pre in
-    let r = rawLists (g .raw-conditions .now) (g .raw-weights .now) (g .thresholds .now) in
-    let b = built (heldRows (g .row-conditions .now) (g .row-weights .now) (g .rows .now) (g .guard-bounds .now) (g .guard-nodes .now)) (g .nodes .now) (g .edges .now) [] in
     let o = order-keys .order-keys .ensures in
     let q = place-in .place-in .ensures in
     let h = guards-in .guards-in .ensures in
-    let z = prepared r (g .bounds .now) b (g .scratch .now) (p .0) (p .1) _ _ (o .0) (o .1) (place-in .place-in .result) _ _ _ _ _ _ (q .0) (q .1) (q .2) _ _ _ _ (h .0) (h .1) _ _ (edges-in .edges-in .ensures) in
-    z
+    prepared (raws s) (s .args .bounds .now) (buffers s) (s .args .scratch .now) (s .pre .0) (s .pre .1) _ _ (o .0) (o .1) (place-in .place-in .result) _ _ _ _ _ _ (q .0) (q .1) (q .2) _ _ _ _ (h .0) (h .1) _ _ (edges-in .edges-in .ensures)
 
 pub prepare-spec : {M : Type 1} → statement M
 prepare-spec =
@@ -132,12 +90,12 @@ prepare-spec =
     place-in-requires
     guards-in-requires
     edges-in-requires
-    same-length
-    same-length-2
-    same-length-3
-    same-length-4
-    same-length-5
-    same-length-6
-    same-length-7
-    same-length-8
+    (λ c. place-in-at (c .before .before) .place-in .kept .1 .1 .1 .0)
+    (λ c. place-in-at (c .before .before) .place-in .kept .1 .1 .1 .1 .0 ∙ order-keys-at (c .before .before) .order-keys .kept .1 .0)
+    (λ c. guards-in-of (c .before .before .before) .guards-in .kept .1 .1 .1 .1 .0 ∙ place-in-at (c .before .before) .place-in .kept .1 .1 .1 .1 .1 .0)
+    (λ c. guards-in-of (c .before .before .before) .guards-in .kept .1 .1 .1 .1 .1 .0)
+    (λ c. guards-in-of (c .before .before .before) .guards-in .kept .1 .1 .1 .1 .1 .1 .0 ∙ place-in-at (c .before .before) .place-in .kept .1 .1 .1 .1 .1 .1 .1 .1 .0)
+    (λ c. c .before .before .edges-in .kept .1 .1 .1 .1 .1 .0 ∙ place-in-at (c .before .before) .place-in .kept .1 .1 .1 .1 .1 .1 .0)
+    (λ c. c .before .before .edges-in .kept .1 .1 .1 .1 .1 .1 .0)
+    (λ c. guards-in-of (c .before .before .before) .guards-in .kept .1 .1 .1 .1 .1 .1 .1 .0 ∙ place-in-at (c .before .before) .place-in .kept .1 .1 .1 .1 .1 .1 .1 .0 ∙ order-keys-at (c .before .before) .order-keys .kept .1 .1 .0)
     returns)
