@@ -3,7 +3,7 @@ use Prim.Native.Nat.{_-_, _≤_}
 use native.Mathlib.Omega.{arith}
 use lib.ListN.{length}
 use Rattle.lists.specs.Laid.{over}
-use Rattle.memory.specs.Buffers.{rawLists}
+use Rattle.memory.specs.Buffers.{RawLists, rawLists}
 use Rattle.thresholds.specs.Placed.{nodesTo}
 use Rattle.prepare.specs.Place.{Placing, rowEnds}
 use Rattle.prepare.specs.PlaceLaws.{Same, ready-by, placing-start, rows-start, nodes-start, raws-few, rows-next, nodes-next, placed-end}
@@ -32,26 +32,32 @@ in-loop-of p = p .before .before .before .before .before .before
 abbrev place-one-of : tie.After-slice-known8 Inv-loop μ-loop → tie.After-place-one Inv-loop μ-loop
 place-one-of p = p .before .before .before .before .before .before .before .before .before .before
 
+-- The raw lists.
+abbrev raws : tie.Start Inv-loop μ-loop → RawLists
+raws p = rawLists (p .args .raw-conditions .now) (p .args .raw-weights .now) (p .args .thresholds .now)
+
 loop-holds : tie.Need-loop-holds Inv-loop μ-loop
-loop-holds c = let g = c .before .before .before .before .before .before .args in
-    let p = c .before .before .before .before .before .before .pre in
-    let r = rawLists (g .raw-conditions .now) (g .raw-weights .now) (g .thresholds .now) in (
+loop-holds c =
+    let s = c .before .before .before .before .before .before in
+    let g = s .args in
+    let p = s .pre in (
       omega arith,
       record { row-conditions = refl; row-weights = refl; rows = refl; nodes = refl; scratch = refl; heads = refl },
-      placing-start r (g .row-conditions .now) (g .row-weights .now) (g .scratch .now) (g .heads .now) (p .2) (p .3) (p .4) (p .5) (p .6),
-      rows-start r (g .rows .now),
-      nodes-start r (g .nodes .now),
+      placing-start (raws s) (g .row-conditions .now) (g .row-weights .now) (g .scratch .now) (g .heads .now) (p .2) (p .3) (p .4) (p .5) (p .6),
+      rows-start (raws s) (g .rows .now),
+      nodes-start (raws s) (g .nodes .now),
     )
 
 place-one-requires : tie.Need-place-one-requires Inv-loop μ-loop
-place-one-requires c κs = let g = start-of (in-loop-of c .before) .args in
-    let p = start-of (in-loop-of c .before) .pre in
+place-one-requires c κs =
+    let s = start-of (in-loop-of c .before) in
+    let g = s .args in
+    let p = s .pre in
     let w = in-loop-of c .before .loop in
-    let r = rawLists (g .raw-conditions .now) (g .raw-weights .now) (g .thresholds .now) in
     let k = w .inv .1 in
     let n = k .nodes in
     let h = p .1 (w .t) (in-loop-of c .loop-test .taken) in (
-      ready-by r (g .row-conditions .now) (g .row-weights .now) (g .rows .now) (g .scratch .now) (w .row-conditions) (w .row-weights) (w .rows) (w .scratch)
+      ready-by (raws s) (g .row-conditions .now) (g .row-weights .now) (g .rows .now) (g .scratch .now) (w .row-conditions) (w .row-weights) (w .rows) (w .scratch)
           (k .row-conditions) (k .row-weights) (k .rows) (k .scratch) (p .0),
       in-loop-of c .loop-test .taken,
       omega arith,
@@ -75,54 +81,36 @@ loop-again c =
     let g = s′ .args in
     let p = s′ .pre in
     let w = loop .loop in
-    let r = rawLists (g .raw-conditions .now) (g .raw-weights .now) (g .thresholds .now) in
+    let r = raws s′ in
     let k = w .inv .1 in
+    let l = place-one .place-one .kept .1 .1 .1 .1 .1 in
     let s = place-one .place-one .ensures in
     let h = loop-test .loop-test .taken in
     let few = raws-few r (w .t) in
     let many = p .0 .many in (
       omega arith,
       record {
-        row-conditions = place-one .place-one .kept .1 .1 .1 .1 .1 .0 ∙ k .row-conditions;
-        row-weights = place-one .place-one .kept .1 .1 .1 .1 .1 .1 .0 ∙ k .row-weights;
-        rows = place-one .place-one .kept .1 .1 .1 .1 .1 .1 .1 .0 ∙ k .rows;
-        nodes = place-one .place-one .kept .1 .1 .1 .1 .1 .1 .1 .1 .0 ∙ k .nodes;
-        scratch = place-one .place-one .kept .1 .1 .1 .1 .1 .1 .1 .1 .1 .0 ∙ k .scratch;
-        heads = place-one .place-one .kept .1 .1 .1 .1 .1 .1 .1 .1 .1 .1 .0 ∙ k .heads;
+        row-conditions = l .0 ∙ k .row-conditions;
+        row-weights = l .1 .0 ∙ k .row-weights;
+        rows = l .1 .1 .0 ∙ k .rows;
+        nodes = l .1 .1 .1 .0 ∙ k .nodes;
+        scratch = l .1 .1 .1 .1 .0 ∙ k .scratch;
+        heads = l .1 .1 .1 .1 .1 .0 ∙ k .heads;
       },
       s .0,
       rows-next r (w .t) (g .rows .now) (w .rows) _ (omega arith) (w .inv .3) (s .1),
       nodes-next r (w .t) (g .nodes .now) (w .nodes) _ (w .inv .4) (s .2),
     )
 
-same-length : tie.Need-same-length Inv-loop μ-loop
-same-length c = c .before .loop .inv .1 .row-conditions
-
-same-length-2 : tie.Need-same-length-2 Inv-loop μ-loop
-same-length-2 c = c .before .loop .inv .1 .row-weights
-
-same-length-3 : tie.Need-same-length-3 Inv-loop μ-loop
-same-length-3 c = c .before .loop .inv .1 .rows
-
-same-length-4 : tie.Need-same-length-4 Inv-loop μ-loop
-same-length-4 c = c .before .loop .inv .1 .nodes
-
-same-length-5 : tie.Need-same-length-5 Inv-loop μ-loop
-same-length-5 c = c .before .loop .inv .1 .scratch
-
-same-length-6 : tie.Need-same-length-6 Inv-loop μ-loop
-same-length-6 c = c .before .loop .inv .1 .heads
-
 returns : tie.Need-returns Inv-loop μ-loop
 returns c =
     let s = start-of (c .before) in
     let g = s .args in
     let w = c .before .loop in
-    let r = rawLists (g .raw-conditions .now) (g .raw-weights .now) (g .thresholds .now) in
     let h = c .loop-test .left in
     let a = w .inv .0 in
     let e : w .t ≡ length (g .thresholds .now) = omega arith in
-    placed-end r (w .t) (length (g .thresholds .now)) (w .so) (w .row-conditions) (w .row-weights) (w .scratch) (w .heads) (g .rows .now) (w .rows) (g .nodes .now) (w .nodes) e (w .inv .2) (w .inv .3) (w .inv .4)
+    placed-end (raws s) (w .t) (length (g .thresholds .now)) (w .so) (w .row-conditions) (w .row-weights) (w .scratch) (w .heads) (g .rows .now) (w .rows) (g .nodes .now) (w .nodes) e (w .inv .2) (w .inv .3) (w .inv .4)
 
 pub place-rows-spec : {M : Type 1} → statement M
 place-rows-spec =
@@ -135,10 +123,10 @@ place-rows-spec =
     add-t
     (λ c. search needs)
     loop-again
-    same-length
-    same-length-2
-    same-length-3
-    same-length-4
-    same-length-5
-    same-length-6
+    (λ c. c .before .loop .inv .1 .row-conditions)
+    (λ c. c .before .loop .inv .1 .row-weights)
+    (λ c. c .before .loop .inv .1 .rows)
+    (λ c. c .before .loop .inv .1 .nodes)
+    (λ c. c .before .loop .inv .1 .scratch)
+    (λ c. c .before .loop .inv .1 .heads)
     returns)
