@@ -14,6 +14,7 @@ use borrow.Author.Tests.{eq-eqb, ne-eqb}
 use Rattle.state.specs.declared.State.{State}
 use Rattle.state.specs.declared.Step.{Step}
 use Rattle.state.specs.declared.Step.the-variants.{Unchanged}
+use Rattle.queues.specs.declared.Rings.{Rings}
 use Rattle.queues.specs.Queue.{Rows, queueRow}
 use Rattle.thresholds.specs.Rows.{Row, rowNumber}
 use Rattle.propagate.specs.declared.Tightened.{Tightened}
@@ -42,6 +43,10 @@ run-made row v r s f v′ t k g states dirty residuals =
     let ss = states ∙ ap (λ (y : Ran). set (v .states) r (y .state)) run in
     let q = residuals ∙ ap (λ (y : State). residualQueued row y (v .residuals) r) (sym f) in
     (λ i. did (live (ss i) (run i .marks) (dirty i) (q i)) (run i .step))
+
+-- What is given back stands for what it equals.
+pub stood-as : (f : Rings → Live) (r r′ : Rings) (k k′ : Step) → r ≡ r′ → k ≡ k′ → (o : Did) → did (f r′) k′ ≡ o → did (f r) k ≡ o
+stood-as f r r′ k k′ e g o made = ap₂ (λ (y : Rings) (z : Step). did (f y) z) e g ∙ made
 
 -- A row with links waits.
 pub linked-waits : (n : ℕ) (q : Rows) (r : ℕ) → n ≢ 0 → queueRow q r ≡ linkedQueued n q r

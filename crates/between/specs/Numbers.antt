@@ -11,6 +11,7 @@ use Rattle.state.specs.declared.Upper.{Upper}
 use Rattle.state.specs.declared.Upper.the-variants.{Open, Under}
 use Rattle.state.specs.State.{stateOf, figuresOf, cursorsOf}
 use Rattle.state.specs.Shape.{Figures}
+use Rattle.queues.specs.declared.Ring.{Ring}
 use Rattle.queues.specs.declared.Rings.{Rings}
 use Rattle.queues.specs.Queue.{queue}
 use Rattle.queues.specs.Slot.{rowsIn}
@@ -44,6 +45,10 @@ pub record Tidy (fs : List (List ℤ)) (cs : List (List ℕ)) : Type 0 where
 abbrev pub liveOf : List (List ℤ) → List (List ℕ) → List ℕ → List ℕ → List ℕ → List (List ℕ) → Rings → Live
 liveOf figures cursors sure never node-queue row-queues rings =
     live (statesOf figures cursors) (marks sure never (queue node-queue (rings .nodes))) (rowsIn 0 row-queues (rings .rows)) (rowsIn 2 row-queues (rings .residuals))
+
+-- Where the queues of nodes, of rows and of residuals stand.
+abbrev pub standing : Ring → Ring → Ring → Rings
+standing nodes rows residuals = record { nodes = nodes; rows = rows; residuals = residuals }
 
 -- Its buffers are as long as they were.
 pub record Same (fs₀ : List (List ℤ)) (cs₀ : List (List ℕ)) (s₀ n₀ l₀ : List ℕ) (q₀ : List (List ℕ)) (fs : List (List ℤ)) (cs : List (List ℕ)) (s n l : List ℕ)

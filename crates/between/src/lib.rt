@@ -21,10 +21,10 @@ ghost use Rattle.queues.specs.Marks.{marks};
 ghost use Rattle.queues.specs.MarksLaws.{Waits};
 ghost use Rattle.thresholds.specs.Rows.{Guard, rowOf};
 ghost use Rattle.between.specs.Between.{Index, did, withState, firstStates, residualQueued, runWith, thresholdCondition, seedFrom};
-ghost use Rattle.between.specs.Numbers.{rowState, statesOf, liveOf, Runs, Tidy};
+ghost use Rattle.between.specs.Numbers.{rowState, statesOf, liveOf, standing, Runs, Tidy};
 ghost use Rattle.memory.specs.Ranges.{figureLimit, roomLimit, weightLimit, drainLimit};
 ghost use Rattle.between.specs.Held.{startBy, endBy, stretchBy, heldRow, edgeIn, Inside, Rising, Shaped, EdgesShaped, Holds, HoldsEdges};
-ghost use Rattle.between.specs.Ready.{Fit, ReadyLive};
+ghost use Rattle.between.specs.Ready.{Fit, Ready, ReadyLive};
 ghost use Rattle.between.specs.FirstLaws.{firstAt, Totals};
 ghost use Rattle.propagate.specs.Shape.{TermSlices, GuardSlices};
 ghost use Rattle.propagate.specs.Guards.{guards};
@@ -147,8 +147,16 @@ fn queue_residual(
     ring
 }
 
-// One row, read from the buffers, run once and written back. The terms and the guards are the row's own.
-pub fn run_row(
+// What a row's run comes to: the two queues that it moves, and its answer.
+pub struct Outcome {
+    pub nodes: Ring,
+    pub residuals: Ring,
+    pub step: Step,
+}
+
+// One row, read from the buffers, run once and written back. The terms and the guards are the row's own. The queue of rows that wait to
+// hand on their bounds is not looked at, wherever it stands.
+fn run_row(
     row_conditions: &[u16],
     row_weights: &[u64],
     guard_bounds: &[i64],
@@ -159,20 +167,18 @@ pub fn run_row(
     never: &mut [u64],
     node_queue: &mut [u16],
     row_queues: &mut [[u16; 4]],
-    rings: Rings,
+    nodes: Ring,
+    residuals: Ring,
     row: usize,
-) -> Did
+) -> Outcome
     requires { ⌜ (row < length (statesOf (now figures) (now cursors))) × TermSlices (now «row_conditions») (now «row_weights») × GuardSlices (now «guard_bounds») (now «guard_nodes») ⌝ }
-    requires { ⌜ Runs (getD (statesOf (now figures) (now cursors)) row noState) (now «guard_bounds») × Waits (marks (now sure) (now never) (queue (now «node_queue») (rings .nodes))) ⌝ }
-    requires { ⌜ Held 1024 (queue (column 2 (now «row_queues»)) (rings .residuals)) × (row < 1024) ⌝ }
-    ensures { λ r. ⌜ (did (liveOf (now (figures .exit)) (now (cursors .exit)) (now (sure .exit)) (now (never .exit)) (now («node_queue» .exit)) (now («row_queues» .exit)) (r .rings)) (r .step)
+    requires { ⌜ Runs (getD (statesOf (now figures) (now cursors)) row noState) (now «guard_bounds») × Waits (marks (now sure) (now never) (queue (now «node_queue») nodes)) ⌝ }
+    requires { ⌜ Held 1024 (queue (column 2 (now «row_queues»)) residuals) × (row < 1024) ⌝ }
+    ensures { λ r. ⌜ ((w : Ring) → did (liveOf (now (figures .exit)) (now (cursors .exit)) (now (sure .exit)) (now (never .exit)) (now («node_queue» .exit)) (now («row_queues» .exit)) (standing (r .nodes) w (r .residuals))) (r .step)
         ≡ runWith (rowOf [] (terms (now («row_conditions» .entry)) (now («row_weights» .entry))) (guards (now («guard_bounds» .entry)) (now («guard_nodes» .entry))))
-        (liveOf (now (figures .entry)) (now (cursors .entry)) (now (sure .entry)) (now (never .entry)) (now («node_queue» .entry)) (now («row_queues» .entry)) rings) row)
+        (liveOf (now (figures .entry)) (now (cursors .entry)) (now (sure .entry)) (now (never .entry)) (now («node_queue» .entry)) (now («row_queues» .entry)) (standing nodes w residuals)) row)
         × (Tidy (now (figures .entry)) (now (cursors .entry)) → Tidy (now (figures .exit)) (now (cursors .exit))) ⌝ }
 {
-    let ring = rings.nodes;
-    let waiting = rings.rows;
-    let residuals = rings.residuals;
     let state = load(figures, cursors, row);
     let left = queue_residual(
         row_conditions,
@@ -191,20 +197,16 @@ pub fn run_row(
         sure,
         never,
         node_queue,
-        ring,
+        nodes,
     );
     let after = ran.state;
     let step = ran.step;
     let next = ran.ring;
     store(figures, cursors, row, after);
-    let stand = Rings {
+    Outcome {
         nodes: next,
-        rows: waiting,
         residuals: left,
-    };
-    Did {
         step: step,
-        rings: stand,
     }
 }
 
@@ -227,7 +229,71 @@ pub fn end_by(table: &[[u16; 3]], j: usize, n: usize) -> usize
     thresholds::place(entry[j])
 }
 
+// A run's outcome, with the queue of rows as it stands.
+pub fn stood(made: Outcome, rows: Ring) -> Did
+    ensures { λ r. ⌜ (r .rings ≡ standing (made .nodes) rows (made .residuals)) × (r .step ≡ made .step) ⌝ }
+{
+    let nodes = made.nodes;
+    let residuals = made.residuals;
+    let step = made.step;
+    let stand = Rings {
+        nodes: queues::taken(nodes),
+        rows: queues::taken(rows),
+        residuals: queues::taken(residuals),
+    };
+    Did {
+        step: step,
+        rings: stand,
+    }
+}
+
 // A row run with its own stretches of the terms and the guards.
+pub fn run_cut(
+    row_conditions: &[u16],
+    row_weights: &[u64],
+    rows: &[[u16; 3]],
+    guard_bounds: &[i64],
+    guard_nodes: &[u16],
+    figures: &mut [[i64; 4]],
+    cursors: &mut [[usize; 5]],
+    sure: &mut [u64],
+    never: &mut [u64],
+    node_queue: &mut [u16],
+    row_queues: &mut [[u16; 4]],
+    nodes: Ring,
+    residuals: Ring,
+    row: usize,
+) -> Outcome
+    requires { ⌜ Shaped (heldRows (now «row_conditions») (now «row_weights») (now rows) (now «guard_bounds») (now «guard_nodes»)) × (row < length (now rows)) ⌝ }
+    requires { ⌜ Ready (heldRows (now «row_conditions») (now «row_weights») (now rows) (now «guard_bounds») (now «guard_nodes»)) figureLimit
+        (statesOf (now figures) (now cursors)) (marks (now sure) (now never) (queue (now «node_queue») nodes)) (rowsIn 2 (now «row_queues») residuals) ⌝ }
+    ensures { λ r. ⌜ ((w : Ring) → did (liveOf (now (figures .exit)) (now (cursors .exit)) (now (sure .exit)) (now (never .exit)) (now («node_queue» .exit)) (now («row_queues» .exit)) (standing (r .nodes) w (r .residuals))) (r .step)
+        ≡ runWith (heldRow (heldRows (now («row_conditions» .entry)) (now («row_weights» .entry)) (now (rows .entry)) (now («guard_bounds» .entry)) (now («guard_nodes» .entry))) row)
+        (liveOf (now (figures .entry)) (now (cursors .entry)) (now (sure .entry)) (now (never .entry)) (now («node_queue» .entry)) (now («row_queues» .entry)) (standing nodes w residuals)) row)
+        × (Tidy (now (figures .entry)) (now (cursors .entry)) → Tidy (now (figures .exit)) (now (cursors .exit))) ⌝ }
+{
+    let a = start_by(rows, 0, row);
+    let e = end_by(rows, 0, row);
+    let b = start_by(rows, 1, row);
+    let f = end_by(rows, 1, row);
+    run_row(
+        &row_conditions[a..e],
+        &row_weights[a..e],
+        &guard_bounds[b..f],
+        &guard_nodes[b..f],
+        figures,
+        cursors,
+        sure,
+        never,
+        node_queue,
+        row_queues,
+        nodes,
+        residuals,
+        row,
+    )
+}
+
+// A row run, all queues taken and given back.
 pub fn run_at(
     row_conditions: &[u16],
     row_weights: &[u64],
@@ -251,24 +317,26 @@ pub fn run_at(
         (liveOf (now (figures .entry)) (now (cursors .entry)) (now (sure .entry)) (now (never .entry)) (now («node_queue» .entry)) (now («row_queues» .entry)) rings) row)
         × (Tidy (now (figures .entry)) (now (cursors .entry)) → Tidy (now (figures .exit)) (now (cursors .exit))) ⌝ }
 {
-    let a = start_by(rows, 0, row);
-    let e = end_by(rows, 0, row);
-    let b = start_by(rows, 1, row);
-    let f = end_by(rows, 1, row);
-    run_row(
-        &row_conditions[a..e],
-        &row_weights[a..e],
-        &guard_bounds[b..f],
-        &guard_nodes[b..f],
+    let nodes = rings.nodes;
+    let waiting = rings.rows;
+    let residuals = rings.residuals;
+    let made = run_cut(
+        row_conditions,
+        row_weights,
+        rows,
+        guard_bounds,
+        guard_nodes,
         figures,
         cursors,
         sure,
         never,
         node_queue,
         row_queues,
-        rings,
+        nodes,
+        residuals,
         row,
-    )
+    );
+    stood(made, waiting)
 }
 
 // A state is stored, and its row run.
@@ -297,7 +365,10 @@ pub fn run_from(
         × (Tidy (now (figures .entry)) (now (cursors .entry)) → Tidy (now (figures .exit)) (now (cursors .exit))) ⌝ }
 {
     store(figures, cursors, row, state);
-    run_at(
+    let nodes = rings.nodes;
+    let waiting = rings.rows;
+    let residuals = rings.residuals;
+    let made = run_cut(
         row_conditions,
         row_weights,
         rows,
@@ -309,9 +380,11 @@ pub fn run_from(
         never,
         node_queue,
         row_queues,
-        rings,
+        nodes,
+        residuals,
         row,
-    )
+    );
+    stood(made, waiting)
 }
 
 // One row of a drained condition: the weight is drained, and the row run.

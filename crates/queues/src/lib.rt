@@ -23,6 +23,19 @@ pub struct Rings {
     pub residuals: Ring,
 }
 
+// A queue that a call gave back, its two numbers taken one by one: they were written so, and read at once as one value they would
+// have to wait for both.
+pub fn taken(ring: Ring) -> Ring
+    ensures { λ r. ⌜ r ≡ ring ⌝ }
+{
+    let head = ring.head;
+    let count = ring.count;
+    Ring {
+        head: head,
+        count: count,
+    }
+}
+
 // What deciding a node did, and the queue of nodes after it.
 pub struct Decision {
     pub step: Step,

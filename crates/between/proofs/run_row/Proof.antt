@@ -2,12 +2,12 @@
 use mathlib.Core.Path.{sym}
 use mathlib.Core.List.{[]}
 use Rattle.numeric.specs.Slices.{terms}
-use Rattle.queues.specs.declared.Rings.{Rings}
+use Rattle.queues.specs.declared.Ring.{Ring}
 use Rattle.thresholds.specs.Rows.{rowOf}
 use Rattle.propagate.specs.Guards.{guards}
-use Rattle.between.specs.Between.{stateAt}
+use Rattle.between.specs.Between.{Live, stateAt}
 use Rattle.between.specs.NumbersLaws.{runs-by, states-set, tidy-store}
-use Rattle.between.specs.Numbers.{liveOf}
+use Rattle.between.specs.Numbers.{liveOf, standing}
 use Rattle.between.specs.BetweenLaws.{run-made}
 use Rattle.between.proofs.run_row.Statement.{statement}
 use Rattle.between.proofs.run_row.Tie as tie
@@ -15,7 +15,7 @@ use Rattle.between.proofs.run_row.Tie as tie
 -- Ways back to earlier places.
 
 abbrev start-of : tie.After-load-arg2 → tie.Start
-start-of p = p .before .before .before .before .before .before .before .before .before .before .before
+start-of p = p .before .before .before .before .before .before .before .before
 
 abbrev queue-residual-of : tie.After-store-arg2 → tie.After-queue-residual
 queue-residual-of p = p .before .before .before .before .before .before .before .before .before .before .before .before .before .before .before
@@ -39,7 +39,7 @@ threshold-row-requires c κs =
     let s = start-of (at-load .before) in
     let a = s .args in
     let p = s .pre in
-    let v = liveOf (a .figures .now) (a .cursors .now) (a .sure .now) (a .never .now) (a .node-queue .now) (a .row-queues .now) (a .rings) in
+    let v = liveOf (a .figures .now) (a .cursors .now) (a .sure .now) (a .never .now) (a .node-queue .now) (a .row-queues .now) (standing (a .nodes) (a .nodes) (a .residuals)) in
     let r = runs-by (load .result) (stateAt v (a .row)) (a .guard-bounds .now) (load .ensures) (p .1 .0 .0) in
     (p .0 .1, p .0 .2, r .figures, r .inside, p .1 .0 .1)
 
@@ -75,17 +75,16 @@ returns c =
     let s = start-of (at-queue-residual .before .before .before) in
     let a = s .args in
     let p = s .pre in
-    let v = liveOf (a .figures .now) (a .cursors .now) (a .sure .now) (a .never .now) (a .node-queue .now) (a .row-queues .now) (a .rings) in
+    let v : Ring → Live = λ w. liveOf (a .figures .now) (a .cursors .now) (a .sure .now) (a .never .now) (a .node-queue .now) (a .row-queues .now) (standing (a .nodes) w (a .residuals)) in
     let f = store .last in
     let g = threshold-row .last .1 .1 .1 .1 .1 in
     let t = threshold-row .result in
     let gs = guards (a .guard-bounds .now) (a .guard-nodes .now) in
     let row = rowOf [] (terms (a .row-conditions .now) (a .row-weights .now)) gs in
-    let stand : Rings = record { nodes = t .ring; rows = a .rings .rows; residuals = queue-residual .result } in
-    let after = liveOf (f .0) (f .1 .0) (g .0) (g .1 .0) (g .1 .1 .0) (queue-residual .last .1 .1 .0) stand in
+    let after : Ring → Live = λ w. liveOf (f .0) (f .1 .0) (g .0) (g .1 .0) (g .1 .1 .0) (queue-residual .last .1 .1 .0) (standing (t .ring) w (queue-residual .result)) in
     let set = states-set (a .figures .now) (f .0) (a .cursors .now) (f .1 .0) (a .row) (t .state) (p .0 .0) (store .ensures .0) (store .ensures .1) in (
-      run-made row v (a .row) (load .result) (sym (load .ensures)) after (t .state) (t .step)
-          (threshold-row .ensures []) set (queue-residual .ensures .1 (a .rings .rows)) (queue-residual .ensures .0 [] gs),
+      λ w. run-made row (v w) (a .row) (load .result) (sym (load .ensures)) (after w) (t .state) (t .step)
+          (threshold-row .ensures []) set (queue-residual .ensures .1 w) (queue-residual .ensures .0 [] gs),
       tidy-store (a .figures .now) (f .0) (a .cursors .now) (f .1 .0) (a .row) (t .state) (p .0 .0) (store .ensures .0) (store .ensures .1),
     )
 
