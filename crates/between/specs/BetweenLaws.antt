@@ -1,10 +1,11 @@
 -- What moves between rows, case by case as the code tells them apart. Assumes nothing.
 use Prim.Native.Nat.{ℕ, _<_}
-use mathlib.Core.Path.{_≡_, sym, ap, ap₂, _∙_}
+use mathlib.Core.Path.{_≡_, sym, ap, ap₂, subst, _∙_}
 use mathlib.Core.Logic.{_≢_}
 use mathlib.Core.Bool.{Bool, true, false}
 use mathlib.Core.List.{List}
 use lib.ListN.{length, set}
+use lib.Seq.{set-getD, getD-set-same}
 use Rattle.memory.specs.Buffers.{HeldRows}
 use Rattle.prefixes.specs.Links.{neighbours}
 use lib.IntN.{ℤ}
@@ -12,19 +13,21 @@ use Rattle.numeric.specs.Threshold.{Threshold}
 use Rattle.words.specs.Mask.{bit}
 use borrow.Author.Tests.{eq-eqb, ne-eqb}
 use Rattle.state.specs.declared.State.{State}
+use Rattle.state.specs.State.{noState}
 use Rattle.state.specs.declared.Step.{Step}
 use Rattle.state.specs.declared.Step.the-variants.{Unchanged}
 use Rattle.queues.specs.declared.Rings.{Rings}
 use Rattle.queues.specs.Queue.{Rows, queueRow}
 use Rattle.thresholds.specs.Rows.{Row, rowNumber}
 use Rattle.propagate.specs.declared.Tightened.{Tightened}
-use Rattle.between.specs.Between.{Index, Live, live, stateAt, withState, withBound, Did, did, residualQueued, linkedQueued, runWith, bounded, thresholdGuard}
+use Rattle.between.specs.Between.{Index, Live, live, stateAt, withState, withDirty, withBound, Did, did, residualQueued, linkedQueued, runWith, bounded, thresholdGuard}
 use Rattle.between.specs.Held.{Holds, heldRow}
 use Rattle.between.specs.HeldLaws.{run-held}
 use Rattle.between.specs.WalkLaws.{guardRow, guard-ends}
 use Rattle.propagate.specs.ScanLaws.{clash}
 use Rattle.propagate.specs.Told.{guardState}
 use Rattle.propagate.specs.Row.{Ran, ran, thresholdRow, wantsResidual}
+use Rattle.propagate.specs.Rest.{Rests}
 
 -- A residual is queued, or not.
 pub residual-waits : (row : Row) (s : State) (q : Rows) (r : ℕ) → wantsResidual row s ≡ true → queueRow q r ≡ residualQueued row s q r
@@ -43,6 +46,21 @@ run-made row v r s f v′ t k g states dirty residuals =
     let ss = states ∙ ap (λ (y : Ran). set (v .states) r (y .state)) run in
     let q = residuals ∙ ap (λ (y : State). residualQueued row y (v .residuals) r) (sym f) in
     (λ i. did (live (ss i) (run i .marks) (dirty i) (q i)) (run i .step))
+
+-- A row that rests is run with nothing changed, where its state stands already and where it was told.
+rest-run : (row : Row) (v : Live) (r : ℕ) → Rests row (stateAt v r) (v .marks) → did v Unchanged ≡ runWith row v r
+unfolding runWith
+rest-run row v r y =
+    let s = stateAt v r in
+    sym (ap (λ (a : Ran). did (live (set (v .states) r (a .state)) (a .marks) (v .dirty) (residualQueued row s (v .residuals) r)) (a .step)) (y .run)
+    ∙ ap₂ (λ (ss : List State) (q : Rows). did (live ss (v .marks) (v .dirty) q) Unchanged) (set-getD (v .states) r noState) (sym (residual-not row s (v .residuals) r (y .residual))))
+
+pub rest-told : (row : Row) (v : Live) (r : ℕ) (s : State) → r < length (v .states) → Rests row s (v .marks) → (v′ : Live) → v′ .states ≡ set (v .states) r s → v′ .marks ≡ v .marks
+    → v′ .dirty ≡ queueRow (v .dirty) r → v′ .residuals ≡ v .residuals → did v′ Unchanged ≡ runWith row (withDirty (withState v r s) r) r
+rest-told row v r s k y v′ states marks dirty residuals =
+    let w = withDirty (withState v r s) r in
+    let there = subst (λ (x : State). Rests row x (v .marks)) (sym (getD-set-same (v .states) r s noState k)) y in
+    (λ i. did (live (states i) (marks i) (dirty i) (residuals i)) Unchanged) ∙ rest-run row w r there
 
 -- What is given back stands for what it equals.
 pub stood-as : (f : Rings → Live) (r r′ : Rings) (k k′ : Step) → r ≡ r′ → k ≡ k′ → (o : Did) → did (f r′) k′ ≡ o → did (f r) k ≡ o

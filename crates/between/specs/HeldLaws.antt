@@ -2,14 +2,16 @@
 use Prim.Native.Nat.{ℕ, suc, _+_, _-_, _<_, _≤_, _^_}
 use native.Mathlib.Numerals.{add-one}
 use native.Mathlib.Omega.{arith}
-use mathlib.Core.Path.{_≡_, refl, sym, ap, ap₂, _∙_}
+use mathlib.Core.Path.{_≡_, refl, sym, ap, ap₂, subst, _∙_}
 use mathlib.Core.List.{List, [], _∷_, map}
 use lib.ListN.{length, getD, set, drop, length-take, length-drop}
 use lib.Seq.{drop-cons, getD-drop, getD-take}
 use Rattle.memory.specs.Limits.{maxNodes}
 use Rattle.memory.specs.Buffers.{HeldRows}
 use Rattle.numeric.specs.Threshold.{Term}
-use Rattle.thresholds.specs.Rows.{rowOf, noRow, Guard, Edge}
+use Rattle.state.specs.declared.State.{State}
+use Rattle.queues.specs.Marks.{Marks}
+use Rattle.thresholds.specs.Rows.{Row, rowOf, noRow, Guard, Edge}
 use Rattle.thresholds.specs.Raw.{stretch}
 use Rattle.thresholds.specs.RawLaws.{stretch-length}
 use Rattle.thresholds.specs.Laid.{edgeRow}
@@ -18,6 +20,7 @@ use Rattle.propagate.specs.Shape.{TermSlices, GuardSlices}
 use Rattle.propagate.specs.Guards.{guards}
 use Rattle.propagate.specs.Row.{Ran, wantsResidual}
 use Rattle.propagate.specs.RowLaws.{row-raw}
+use Rattle.propagate.specs.Rest.{Rests}
 use Rattle.between.specs.Between.{Index, Live, live, Did, did, stateAt, residualQueued, runWith, runRow}
 use Rattle.between.specs.Held.{endBy, startBy, heldRow, edgesIn, Shaped, Holds}
 
@@ -85,3 +88,11 @@ pub run-cut : (h : HeldRows) (r a e b f : ℕ) → a ≡ startBy 0 (h .rows) r �
     → o ≡ runWith (rowOf [] (terms (stretch a e (h .row-conditions)) (stretch a e (h .row-weights))) (guards (stretch b f (h .guard-bounds)) (stretch b f (h .guard-nodes)))) v r
     → o ≡ runWith (heldRow h r) v r
 run-cut h r a e b f p q s t v o made = made ∙ rw (p, q, s, t)
+
+pub rests-cut : (h : HeldRows) (r a e b f : ℕ) → a ≡ startBy 0 (h .rows) r → e ≡ endBy 0 (h .rows) r → b ≡ startBy 1 (h .rows) r → f ≡ endBy 1 (h .rows) r → (s : State) (m : Marks)
+    → Rests (rowOf [] (terms (stretch a e (h .row-conditions)) (stretch a e (h .row-weights))) (guards (stretch b f (h .guard-bounds)) (stretch b f (h .guard-nodes)))) s m
+    → Rests (heldRow h r) s m
+rests-cut h r a e b f p q i j s m y =
+    let cut = rowOf [] (terms (stretch a e (h .row-conditions)) (stretch a e (h .row-weights))) (guards (stretch b f (h .guard-bounds)) (stretch b f (h .guard-nodes))) in
+    let same : cut ≡ heldRow h r = rw (p, q, i, j) in
+    subst (λ (x : Row). Rests x s m) same y

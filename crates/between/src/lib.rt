@@ -2,7 +2,7 @@
 // propagate.rs. Guards and prefix links are in `handing`. Every function over the live state takes the buffers that it reads,
 // then the six that draining changes, then where their queues stand; it answers what it did and where the queues stand then.
 ghost use mathlib.Core.Path.{_≡_};
-ghost use mathlib.Core.Bool.{cond};
+ghost use mathlib.Core.Bool.{cond, true};
 ghost use Prim.Native.Nat.{ℕ, _-_, _<_, _≤_};
 ghost use lib.ListN.{length, getD, set};
 ghost use mathlib.Core.List.{List, []};
@@ -14,7 +14,7 @@ ghost use Rattle.numeric.specs.Slices.{terms};
 ghost use Rattle.row.specs.Terms.{total};
 ghost use Rattle.state.specs.State.{limit, limited, noState, drained, figuresOf, cursorsOf};
 ghost use Rattle.queues.specs.declared.Ring.{Ring};
-ghost use Rattle.queues.specs.Queue.{queue};
+ghost use Rattle.queues.specs.Queue.{Queue, queue};
 ghost use Rattle.queues.specs.Slot.{rowsIn};
 ghost use Rattle.queues.specs.Shape.{Held};
 ghost use Rattle.queues.specs.Marks.{marks};
@@ -28,6 +28,7 @@ ghost use Rattle.between.specs.Ready.{Fit, Ready, ReadyLive};
 ghost use Rattle.between.specs.FirstLaws.{firstAt, Totals};
 ghost use Rattle.propagate.specs.Shape.{TermSlices, GuardSlices};
 ghost use Rattle.propagate.specs.Guards.{guards};
+ghost use Rattle.propagate.specs.Rest.{Rests};
 use queues::Ring;
 use queues::Rings;
 use state::State;
@@ -290,6 +291,36 @@ pub fn run_cut(
         nodes,
         residuals,
         row,
+    )
+}
+
+// Whether one look at a row with this state tells that its run would change nothing.
+pub fn rests_at(
+    row_conditions: &[u16],
+    row_weights: &[u64],
+    rows: &[[u16; 3]],
+    guard_bounds: &[i64],
+    sure: &[u64],
+    never: &[u64],
+    row: usize,
+    state: State,
+) -> bool
+    requires { ⌜ ((ns : List ℕ) × Shaped (heldRows (now «row_conditions») (now «row_weights») (now rows) (now «guard_bounds») ns) × Fit (heldRows (now «row_conditions») (now «row_weights») (now rows) (now «guard_bounds») ns) figureLimit row state)
+        × (row < length (now rows)) × (64 ≤ length (now sure)) × (64 ≤ length (now never)) ⌝ }
+    ensures { λ r. ⌜ (r ≡ true → (ns : List ℕ) (q : Queue) → Shaped (heldRows (now («row_conditions» .entry)) (now («row_weights» .entry)) (now (rows .entry)) (now («guard_bounds» .entry)) ns)
+        → Rests (heldRow (heldRows (now («row_conditions» .entry)) (now («row_weights» .entry)) (now (rows .entry)) (now («guard_bounds» .entry)) ns) row) state (marks (now (sure .entry)) (now (never .entry)) q)) ⌝ }
+{
+    let a = start_by(rows, 0, row);
+    let e = end_by(rows, 0, row);
+    let b = start_by(rows, 1, row);
+    let f = end_by(rows, 1, row);
+    propagate::rests(
+        &row_conditions[a..e],
+        &row_weights[a..e],
+        &guard_bounds[b..f],
+        state,
+        sure,
+        never,
     )
 }
 

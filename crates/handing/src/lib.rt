@@ -2,7 +2,7 @@
 // The definitions and their laws are those of `between`.
 ghost use mathlib.Core.Path.{_≡_};
 ghost use Prim.Native.Nat.{_-_, _<_, _≤_};
-ghost use lib.ListN.{length, getD};
+ghost use lib.ListN.{length, getD, set};
 ghost use lib.IntN.{pos};
 ghost use lib.Signed.{mag};
 ghost use Rattle.memory.specs.Buffers.{heldRows};
@@ -10,7 +10,7 @@ ghost use Rattle.lists.specs.Columns.{column};
 ghost use Rattle.numeric.specs.Threshold.{Threshold};
 ghost use Rattle.state.specs.State.{limit, noState};
 ghost use Rattle.queues.specs.declared.Ring.{Ring};
-ghost use Rattle.queues.specs.Queue.{queue};
+ghost use Rattle.queues.specs.Queue.{queue, queueRow};
 ghost use Rattle.queues.specs.Slot.{rowsIn};
 ghost use Rattle.queues.specs.Shape.{Held};
 ghost use Rattle.thresholds.specs.Rows.{rowNumber};
@@ -234,6 +234,33 @@ fn link_at(links: &[u16], at: usize) -> usize
     thresholds::place(links[at])
 }
 
+// A row that rests with its new bounds: they are stored, and it waits to hand them on.
+fn noted(
+    figures: &mut [[i64; 4]],
+    cursors: &mut [[usize; 5]],
+    row_queues: &mut [[u16; 4]],
+    rings: Rings,
+    row: usize,
+    state: State,
+) -> Rings
+    requires { ⌜ (row < length (statesOf (now figures) (now cursors))) × Held 1024 (queue (column 0 (now «row_queues»)) (rings .rows)) × (row < 1024) ⌝ }
+    ensures { λ r. ⌜ (statesOf (now (figures .exit)) (now (cursors .exit)) ≡ set (statesOf (now (figures .entry)) (now (cursors .entry))) row state)
+        × (Tidy (now (figures .entry)) (now (cursors .entry)) → Tidy (now (figures .exit)) (now (cursors .exit)))
+        × (rowsIn 0 (now («row_queues» .exit)) (r .rows) ≡ queueRow (rowsIn 0 (now («row_queues» .entry)) (rings .rows)) row)
+        × (rowsIn 2 (now («row_queues» .exit)) (r .residuals) ≡ rowsIn 2 (now («row_queues» .entry)) (rings .residuals)) × (r .nodes ≡ rings .nodes) ⌝ }
+{
+    let nodes = rings.nodes;
+    let waiting = rings.rows;
+    let residuals = rings.residuals;
+    between::store(figures, cursors, row, state);
+    let left = queues::queue_row(row_queues, 0, waiting, row);
+    Rings {
+        nodes: queues::taken(nodes),
+        rows: queues::taken(left),
+        residuals: queues::taken(residuals),
+    }
+}
+
 // One neighbour of a row: a bound that is new to it is stored, it waits to hand it on, and is run. The numbers are those of the
 // terms of the two rows.
 fn hand_on(
@@ -267,6 +294,22 @@ fn hand_on(
     let moved = propagate::moved_state(source, state, many, own);
     let next = moved.state;
     if moved.changed {
+        if between::rests_at(
+            row_conditions,
+            row_weights,
+            rows,
+            guard_bounds,
+            sure,
+            never,
+            row,
+            next,
+        ) {
+            let stand = noted(figures, cursors, row_queues, rings, row, next);
+            return Did {
+                step: Step::Changed,
+                rings: stand,
+            };
+        }
         let ran = bounded(
             row_conditions,
             row_weights,

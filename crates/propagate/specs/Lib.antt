@@ -8,3 +8,5 @@ pub mod Row
 pub mod RowLaws
 pub mod Told
 pub mod ToldLaws
+pub mod Rest
+pub mod RestLaws

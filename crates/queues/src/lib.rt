@@ -28,11 +28,11 @@ pub struct Rings {
 pub fn taken(ring: Ring) -> Ring
     ensures { λ r. ⌜ r ≡ ring ⌝ }
 {
-    let head = ring.head;
-    let count = ring.count;
+    let first = ring.head;
+    let many = ring.count;
     Ring {
-        head: head,
-        count: count,
+        head: first,
+        count: many,
     }
 }
 

@@ -1,15 +1,21 @@
--- `handing::hand_on` meets its contract: the bounds are nothing new, or they move the row.
-use mathlib.Core.Path.{_≡_, _∙_, ap}
+-- `handing::hand_on` meets its contract: the bounds are nothing new, the row rests with them, or they move it.
+use mathlib.Core.Path.{_≡_, refl, _∙_, ap}
 use native.Mathlib.Omega.{arith}
-use Rattle.memory.specs.Buffers.{heldRows}
+use Rattle.memory.specs.Buffers.{HeldRows, heldRows}
 use Rattle.state.specs.declared.State.{State}
+use Rattle.state.specs.declared.Step.the-variants.{Unchanged, Changed}
+use Rattle.queues.specs.declared.Ring.{Ring}
+use Rattle.queues.specs.Queue.{queue}
+use Rattle.queues.specs.Marks.{marks}
 use Rattle.propagate.specs.declared.Tightened.{Tightened}
 use Rattle.propagate.specs.Told.{movedState}
 use Rattle.memory.specs.Ranges.{figureLimit}
-use Rattle.between.specs.Between.{did, stateAt}
+use Rattle.between.specs.Between.{Live, did, stateAt}
 use Rattle.between.specs.Numbers.{liveOf}
 use Rattle.between.specs.Held.{heldRow}
+use Rattle.between.specs.BetweenLaws.{rest-told}
 use Rattle.between.specs.HandingLaws.{handed-new, handed-none}
+use Rattle.between.specs.Ready.{Fit}
 use Rattle.between.specs.ReadyLaws.{fit-by, fit-prefix}
 use borrow.Author.Needs.{needs}
 use Rattle.handing.proofs.hand_on.Statement.{statement}
@@ -20,11 +26,50 @@ use Rattle.handing.proofs.hand_on.Tie as tie
 abbrev start-of : tie.After-load-arg2 → tie.Start
 start-of p = p .before .before .before .before .before .before .before .before
 
-abbrev then1-of : tie.After-bounded-arg6 → tie.Then1
-then1-of p = p .before .before .before .before .before .before
+abbrev start : tie.After-moved-state → tie.Start
+start p = start-of (p .before .before)
+
+abbrev moved-of : tie.After-rests-at-arg2 → tie.After-moved-state
+moved-of p = p .before .before .before .before
+
+abbrev then2-of : tie.After-noted-arg3 → tie.Then2
+then2-of p = p .before .before .before
+
+abbrev else2-of : tie.After-bounded-arg6 → tie.Else2
+else2-of p = p .before .before .before .before .before .before
 
 abbrev bounded-of : tie.After-told → tie.After-bounded
 bounded-of p = p .before .before .before .before .before .before .before .before .before .before .before
+
+-- The buffers before the row is told, as rows and as a live state; the state that it is moved to, and that it fits.
+
+abbrev rows-at : tie.After-moved-state → HeldRows
+rows-at c =
+    let a = start c .args in
+    heldRows (a .row-conditions .now) (a .row-weights .now) (a .rows .now) (a .guard-bounds .now) (a .guard-nodes .now)
+
+abbrev live-at : tie.After-moved-state → Live
+live-at c =
+    let a = start c .args in
+    liveOf (a .figures .now) (a .cursors .now) (a .sure .now) (a .never .now) (a .node-queue .now) (a .row-queues .now) (a .rings)
+
+abbrev moved-at : tie.After-moved-state → Tightened
+moved-at c =
+    let a = start c .args in
+    movedState (a .source) (stateAt (live-at c) (a .row)) (a .many) (a .own)
+
+made : (c : tie.After-moved-state) → c .moved-state .result ≡ moved-at c
+made c =
+    let a = start c .args in
+    c .moved-state .ensures ∙ ap (λ (y : State). movedState (a .source) y (a .many) (a .own)) (c .before .load .ensures)
+
+fits : (c : tie.After-moved-state) → Fit (rows-at c) figureLimit (start c .args .row) (c .moved-state .result .state)
+fits c =
+    let a = start c .args in
+    let p = start c .pre in
+    let r = a .row in
+    let f = fit-prefix (rows-at c) figureLimit r (a .source) (stateAt (live-at c) r) (a .many) (a .own) (p .0 .2) (p .0 .3) (p .1 .ready .fit r (p .0 .1)) in
+    fit-by (rows-at c) figureLimit r (c .moved-state .result .state) (moved-at c .state) (ap (λ (y : Tightened). y .state) (made c)) f
 
 load-requires : tie.Need-load-requires
 load-requires c κs =
@@ -32,74 +77,97 @@ load-requires c κs =
     let p = s .pre in
     omega (arith, p .1 .ready .long, p .0 .1)
 
-bounded-requires : tie.Need-bounded-requires
-bounded-requires c κs =
-    let at-moved-state = then1-of c .before .before in
-    let moved-state = at-moved-state .moved-state in
-    let load = at-moved-state .before .load in
-    let s = start-of (at-moved-state .before .before) in
-    let a = s .args in
+rests-at-requires : tie.Need-rests-at-requires
+rests-at-requires c κs =
+    let s = start (moved-of c) in
     let p = s .pre in
-    let h = heldRows (a .row-conditions .now) (a .row-weights .now) (a .rows .now) (a .guard-bounds .now) (a .guard-nodes .now) in
-    let v = liveOf (a .figures .now) (a .cursors .now) (a .sure .now) (a .never .now) (a .node-queue .now) (a .row-queues .now) (a .rings) in
-    let r = a .row in
-    let t = movedState (a .source) (stateAt v r) (a .many) (a .own) in
-    let e : moved-state .result ≡ t = moved-state .ensures ∙ ap (λ (y : State). movedState (a .source) y (a .many) (a .own)) (load .ensures) in
-    let f = fit-prefix h figureLimit r (a .source) (stateAt v r) (a .many) (a .own) (p .0 .2) (p .0 .3) (p .1 .ready .fit r (p .0 .1)) in
-    ((p .0 .0, p .0 .1, fit-by h figureLimit r (moved-state .result .state) (t .state) (ap (λ (y : Tightened). y .state) e) f), p .1)
+    ((s .args .guard-nodes .now, p .0 .0, fits (moved-of c)), p .0 .1, omega (arith, p .1 .ready .waits .sures), omega (arith, p .1 .ready .waits .nevers))
+
+noted-requires : tie.Need-noted-requires
+noted-requires c κs =
+    let p = start (moved-of (then2-of c .before .before)) .pre in
+    (omega (arith, p .1 .ready .long, p .0 .1), p .1 .dirty .held, omega (arith, p .0 .0 .few, p .0 .1))
 
 same-length : tie.Need-same-length
-same-length c = bounded-of c .bounded .kept .1 .1 .1 .1 .1 .0
+same-length c = c .before .before .before .noted .kept .0
 
 same-length-2 : tie.Need-same-length-2
-same-length-2 c = bounded-of c .bounded .kept .1 .1 .1 .1 .1 .1 .0
-
-same-length-3 : tie.Need-same-length-3
-same-length-3 c = bounded-of c .bounded .kept .1 .1 .1 .1 .1 .1 .1 .0
-
-same-length-4 : tie.Need-same-length-4
-same-length-4 c = bounded-of c .bounded .kept .1 .1 .1 .1 .1 .1 .1 .1 .0
+same-length-2 c = c .before .before .before .noted .kept .1 .0
 
 same-length-5 : tie.Need-same-length-5
-same-length-5 c = bounded-of c .bounded .kept .1 .1 .1 .1 .1 .1 .1 .1 .1 .0
-
-same-length-6 : tie.Need-same-length-6
-same-length-6 c = bounded-of c .bounded .kept .1 .1 .1 .1 .1 .1 .1 .1 .1 .1 .0
+same-length-5 c = c .before .before .before .noted .kept .1 .1 .0
 
 returns : tie.Need-returns
 returns c =
-    let answer = c .told in
-    let at-bounded = bounded-of c in
-    let ran = at-bounded .bounded in
-    let at-if1 = then1-of (at-bounded .before) in
-    let if1 = at-if1 .if1 in
-    let moved-state = at-if1 .before .before .moved-state in
-    let load = at-if1 .before .before .before .load in
-    let s = start-of (at-if1 .before .before .before .before) in
-    let a = s .args in
-    let h = heldRows (a .row-conditions .now) (a .row-weights .now) (a .rows .now) (a .guard-bounds .now) (a .guard-nodes .now) in
-    let v = liveOf (a .figures .now) (a .cursors .now) (a .sure .now) (a .never .now) (a .node-queue .now) (a .row-queues .now) (a .rings) in
-    let m = ran .last .1 .1 .1 .1 .1 in
-    let o = liveOf (m .0) (m .1 .0) (m .1 .1 .0) (m .1 .1 .1 .0) (m .1 .1 .1 .1 .0) (m .1 .1 .1 .1 .1 .0) (ran .result .rings) in
+    let noted = c .before .before .before .noted in
+    let at-if2 = then2-of (c .before .before .before .before) in
+    let rests-at = at-if2 .before .rests-at in
+    let at-moved = moved-of (at-if2 .before .before) in
+    let moved-state = at-moved .moved-state in
+    let a = start at-moved .args in
+    let p = start at-moved .pre in
+    let row = heldRow (rows-at at-moved) (a .row) in
+    let v = live-at at-moved in
     let r = a .row in
-    let t = movedState (a .source) (stateAt v r) (a .many) (a .own) in
-    let e : moved-state .result ≡ t = moved-state .ensures ∙ ap (λ (y : State). movedState (a .source) y (a .many) (a .own)) (load .ensures) in (
-      handed-new (heldRow h r) v r t (moved-state .result) e (if1 .taken) (did o (ran .result .step)) (ran .ensures .0) (answer .result) (answer .ensures),
-      ran .ensures .1,
-    )
+    let t = moved-at at-moved in
+    let f = noted .last in
+    let o = liveOf (f .0) (f .1 .0) (a .sure .now) (a .never .now) (a .node-queue .now) (f .1 .1 .0) (noted .result) in
+    let rest = rests-at .ensures (at-if2 .if2 .taken) (a .guard-nodes .now) (queue (a .node-queue .now) (a .rings .nodes)) (p .0 .0) in
+    let same : o .marks ≡ v .marks = ap (λ (y : Ring). marks (a .sure .now) (a .never .now) (queue (a .node-queue .now) y)) (noted .ensures .4) in
+    let ran = rest-told row v r (moved-state .result .state) (omega (arith, p .1 .ready .long, p .0 .1)) rest o (noted .ensures .0) same (noted .ensures .2) (noted .ensures .3) in
+    (handed-new row v r t (moved-state .result) (made at-moved) (at-if2 .before .before .before .before .if1 .taken) (did o Unchanged) ran Changed refl, noted .ensures .1)
+
+bounded-requires : tie.Need-bounded-requires
+bounded-requires c κs =
+    let at-moved = moved-of (else2-of c .before .before) in
+    let p = start at-moved .pre in
+    ((p .0 .0, p .0 .1, fits at-moved), p .1)
+
+same-length-6 : tie.Need-same-length-6
+same-length-6 c = bounded-of c .bounded .kept .1 .1 .1 .1 .1 .0
+
+same-length-7 : tie.Need-same-length-7
+same-length-7 c = bounded-of c .bounded .kept .1 .1 .1 .1 .1 .1 .0
+
+same-length-8 : tie.Need-same-length-8
+same-length-8 c = bounded-of c .bounded .kept .1 .1 .1 .1 .1 .1 .1 .0
+
+same-length-9 : tie.Need-same-length-9
+same-length-9 c = bounded-of c .bounded .kept .1 .1 .1 .1 .1 .1 .1 .1 .0
+
+same-length-10 : tie.Need-same-length-10
+same-length-10 c = bounded-of c .bounded .kept .1 .1 .1 .1 .1 .1 .1 .1 .1 .0
+
+same-length-11 : tie.Need-same-length-11
+same-length-11 c = bounded-of c .bounded .kept .1 .1 .1 .1 .1 .1 .1 .1 .1 .1 .0
 
 returns-2 : tie.Need-returns-2
 returns-2 c =
-    let moved-state = c .before .before .moved-state in
-    let load = c .before .before .before .load in
-    let s = start-of (c .before .before .before .before) in
-    let a = s .args in
-    let h = heldRows (a .row-conditions .now) (a .row-weights .now) (a .rows .now) (a .guard-bounds .now) (a .guard-nodes .now) in
-    let v = liveOf (a .figures .now) (a .cursors .now) (a .sure .now) (a .never .now) (a .node-queue .now) (a .row-queues .now) (a .rings) in
+    let answer = c .told in
+    let ran = bounded-of c .bounded in
+    let at-rests = else2-of (bounded-of c .before) .before .before in
+    let at-moved = moved-of at-rests in
+    let moved-state = at-moved .moved-state in
+    let a = start at-moved .args in
+    let row = heldRow (rows-at at-moved) (a .row) in
+    let v = live-at at-moved in
+    let m = ran .last .1 .1 .1 .1 .1 in
+    let o = liveOf (m .0) (m .1 .0) (m .1 .1 .0) (m .1 .1 .1 .0) (m .1 .1 .1 .1 .0) (m .1 .1 .1 .1 .1 .0) (ran .result .rings) in
     let r = a .row in
-    let t = movedState (a .source) (stateAt v r) (a .many) (a .own) in
-    let e : moved-state .result ≡ t = moved-state .ensures ∙ ap (λ (y : State). movedState (a .source) y (a .many) (a .own)) (load .ensures) in
-    (handed-none (heldRow h r) v r t (moved-state .result) e (c .if1 .left), λ y. y)
+    let t = moved-at at-moved in (
+      handed-new row v r t (moved-state .result) (made at-moved) (at-rests .before .before .if1 .taken) (did o (ran .result .step)) (ran .ensures .0) (answer .result) (answer .ensures),
+      ran .ensures .1,
+    )
+
+returns-3 : tie.Need-returns-3
+returns-3 c =
+    let at-moved = c .before .before in
+    let a = start at-moved .args in
+    let row = heldRow (rows-at at-moved) (a .row) in
+    let v = live-at at-moved in
+    let r = a .row in
+    let t = moved-at at-moved in
+    (handed-none row v r t (at-moved .moved-state .result) (made at-moved) (c .if1 .left), λ y. y)
 
 pub hand-on-spec : {M : Type 1} → statement M
 hand-on-spec =
@@ -107,14 +175,21 @@ hand-on-spec =
     (tie.spec
     load-requires
     (λ c κs. tt)
-    bounded-requires
-    (λ c κs. tt)
+    rests-at-requires
+    noted-requires
     same-length
     same-length-2
-    same-length-3
-    same-length-4
-    same-length-5
-    same-length-6
-    returns
     (λ c. search needs) (λ c. search needs)
-    returns-2)
+    same-length-5
+    returns
+    bounded-requires
+    (λ c κs. tt)
+    same-length-6
+    same-length-7
+    same-length-8
+    same-length-9
+    same-length-10
+    same-length-11
+    returns-2
+    (λ c. search needs) (λ c. search needs)
+    returns-3)
