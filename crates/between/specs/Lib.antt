@@ -18,3 +18,5 @@ pub mod GuardLaws
 pub mod KeptLaws
 pub mod KeptHeldLaws
 pub mod FirstLaws
+pub mod Stored
+pub mod StoredLaws

@@ -3,7 +3,7 @@ use Prim.Native.Nat.{ℕ, _+_, _<_, _≤_}
 use native.Mathlib.Decide.{ℕ-discrete}
 use native.Mathlib.Omega.{arith}
 use mathlib.Core.Path.{_≡_, refl, ap, _∙_}
-use mathlib.Core.Bool.{Bool, true, false, cond}
+use mathlib.Core.Bool.{Bool, true, false, cond, _&&_}
 use mathlib.Core.List.{List}
 use lib.ListN.{length, getD, set, length-set}
 use lib.Seq.{getD-set-same, getD-set-other}
@@ -30,7 +30,7 @@ use Rattle.propagate.specs.Told.{guardState, movedLower, movedState}
 use Rattle.propagate.specs.ToldLaws.{guard-cases, lower-cases, upper-cases}
 use Rattle.memory.specs.Limits.{maxThresholds}
 use Rattle.memory.specs.Ranges.{figureLimit, weightLimit, drainLimit}
-use Rattle.between.specs.Between.{Live, withState, Did, residualQueued, runWith}
+use Rattle.between.specs.Between.{Live, Did, residualQueued, runWith}
 use Rattle.between.specs.Numbers.{Runs}
 use Rattle.between.specs.Held.{endBy, startBy, heldRow, Shaped}
 use Rattle.between.specs.HeldLaws.{term-slices, guard-slices}
@@ -161,9 +161,6 @@ fit-by h n r s t e f = rw e f
 
 pub drains-by : (s t : State) (w : ℕ) → s ≡ t → Drains t w → Drains s w
 drains-by s t w e d = rw e d
-
-pub from-state : (row : Row) (v : Live) (r : ℕ) (s t : State) → s ≡ t → (o : Did) → o ≡ runWith row (withState v r s) r → o ≡ runWith row (withState v r t) r
-from-state row v r s t e o made = made ∙ ap (λ (y : State). runWith row (withState v r y) r) e
 
 -- Rows that wait to hand on their bounds need not be looked at; those that wait for a residual are as they were.
 pub ready-queue : (h : HeldRows) (n : ℕ) (v : Live) (q : Rows) → q ≡ v .residuals → ReadyLive h n v → Ready h n (v .states) (v .marks) q

@@ -21,6 +21,7 @@ ghost use Rattle.queues.specs.Marks.{marks};
 ghost use Rattle.queues.specs.MarksLaws.{Waits};
 ghost use Rattle.thresholds.specs.Rows.{Guard, rowOf};
 ghost use Rattle.between.specs.Between.{Index, did, withState, firstStates, residualQueued, runWith, thresholdCondition, seedFrom};
+ghost use Rattle.between.specs.Stored.{sumWords, cursorWords};
 ghost use Rattle.between.specs.Numbers.{rowState, statesOf, liveOf, standing, Runs, Tidy};
 ghost use Rattle.memory.specs.Ranges.{figureLimit, roomLimit, weightLimit, drainLimit};
 ghost use Rattle.between.specs.Held.{startBy, endBy, stretchBy, heldRow, edgeIn, Inside, Rising, Shaped, EdgesShaped, Holds, HoldsEdges};
@@ -128,6 +129,30 @@ pub fn store(figures: &mut [[i64; 4]], cursors: &mut [[usize; 5]], row: usize, s
     cursors[row] = c;
 }
 
+// The sums of a row, written to the buffer; its other words stay.
+fn store_sums(figures: &mut [[i64; 4]], row: usize, known: i64, possible: i64)
+    requires { ⌜ row < length (now figures) ⌝ }
+    ensures { λ _. ⌜ now (figures .exit) ≡ set (now (figures .entry)) row (sumWords (getD (now (figures .entry)) row []) known possible) ⌝ }
+{
+    let old = figures[row];
+    let f = [known, possible, old[2], old[3]];
+    figures[row] = f;
+}
+
+// The cursors of a row, written to the buffer; its flag stays.
+fn store_cursors(cursors: &mut [[usize; 5]], row: usize, state: State)
+    requires { ⌜ row < length (now cursors) ⌝ }
+    ensures { λ _. ⌜ now (cursors .exit) ≡ set (now (cursors .entry)) row (cursorWords (getD (now (cursors .entry)) row []) state) ⌝ }
+{
+    let old = cursors[row];
+    let sure_guard = state.sure_guard;
+    let never_guard = state.never_guard;
+    let true_term = state.true_term;
+    let false_term = state.false_term;
+    let c = [sure_guard, never_guard, true_term, false_term, old[4]];
+    cursors[row] = c;
+}
+
 // A row that wants a residual waits for it.
 fn queue_residual(
     row_conditions: &[u16],
@@ -203,7 +228,7 @@ fn run_row(
     let after = ran.state;
     let step = ran.step;
     let next = ran.ring;
-    store(figures, cursors, row, after);
+    store_cursors(cursors, row, after);
     Outcome {
         nodes: next,
         residuals: left,
@@ -447,7 +472,8 @@ fn drain_edge(
 {
     let state = load(figures, cursors, row);
     let next = state.drained(value, weight);
-    run_from(
+    store_sums(figures, row, next.known, next.possible);
+    run_at(
         row_conditions,
         row_weights,
         rows,
@@ -461,7 +487,6 @@ fn drain_edge(
         row_queues,
         rings,
         row,
-        next,
     )
 }
 

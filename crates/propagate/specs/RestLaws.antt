@@ -16,17 +16,17 @@ use Rattle.state.specs.declared.Step.the-variants.{Unchanged}
 use Rattle.state.specs.declared.State.{State}
 use Rattle.state.specs.declared.Upper.{Upper}
 use Rattle.state.specs.declared.Upper.the-variants.{Open}
-use Rattle.state.specs.State.{reached, limited, upperAtMost, conflict, hasResidualInterval, withGuards, withTerms}
+use Rattle.state.specs.State.{reached, limited, upperAtMost, conflict, hasResidualInterval, withGuards}
 use Rattle.queues.specs.Marks.{Marks, Decided, isDecided}
 use Rattle.thresholds.specs.Rows.{rowOf, Guard, guard, hasNonunit}
-use Rattle.propagate.specs.Scan.{Scanned, scanned, scan}
+use Rattle.propagate.specs.Scan.{scanned, scan}
 use Rattle.propagate.specs.ScanLaws.{scan-none}
 use Rattle.propagate.specs.Guards.{guards}
 use Rattle.propagate.specs.GuardsLaws.{up-guards, down-guards, length-guards}
 use Rattle.propagate.specs.Turns.{light, cut}
 use Rattle.propagate.specs.declared.Cutoff.{Cutoff}
-use Rattle.propagate.specs.Row.{Ran, ran, decides, sureWaits, sureGuards, neverWaits, neverGuards, reachable, thresholdGuards, termWaits, forces, forced, trueTerms, falseTerms, rowTerms, thresholdRow, wantsResidual}
-use Rattle.propagate.specs.RowLaws.{guards-more, true-none, true-forced, false-none, terms-more, row-terms, wants-unit, wants-interval}
+use Rattle.propagate.specs.Row.{ran, decides, sureWaits, sureGuards, neverWaits, neverGuards, reachable, thresholdGuards, termWaits, forces, forced, falseTerms, rowTerms, wantsResidual}
+use Rattle.propagate.specs.RowLaws.{guards-more, stay-true, true-none, true-forced, false-none, terms-more, row-terms, wants-unit, wants-interval}
 use Rattle.propagate.specs.Rest.{Rests, UpRests, DownRests, TrueRests}
 
 -- A scan whose first place waits, and one of nothing.
@@ -82,13 +82,9 @@ module _ (ts : List Term) (s : State) (m : Marks) where
   pub true-met : leZ (s .lower) (s .known) ≡ true → TrueRests ts s m
   true-met h = sym (true-none ts s m h)
 
-  stay-terms : s ≡ withTerms s (s .«true_term» + 0) (s .«false_term»)
-  unfolding withTerms
-  stay-terms = let z : s .«true_term» ≡ s .«true_term» + 0 = omega arith in ap (λ (j : ℕ). withTerms s j (s .«false_term»)) z
-
   pub true-waits : (z : ℤ) → leZ (s .lower) (s .known) ≡ false → z ≡ s .possible -ℤ s .lower → forced true (light (cut true z)) (drop (s .«true_term») ts) m ≡ scanned 0 m Unchanged
       → TrueRests ts s m
-  true-waits z h e f = sym (true-forced ts s m z (scanned 0 m Unchanged) s h e (sym f) stay-terms)
+  true-waits z h e f = sym (true-forced ts s m z (scanned 0 m Unchanged) s h e (sym f) (stay-true s))
 
 -- ---- the row
 

@@ -73,6 +73,15 @@ forced-keeps value waits ts from m conditions w =
     scan-keeps (termWaits waits) (forces value) Waits Condition (λ (t : Term) (k : Marks) h v. force-keeps value k (t .condition) h v)
     (drop from ts) 0 m Unchanged (all-drop Condition from ts conditions) w
 
+-- A cursor that passes nothing stays.
+pub stay-true : (s : State) → s ≡ withTerms s (s .«true_term» + 0) (s .«false_term»)
+unfolding withTerms
+stay-true s = let z : s .«true_term» ≡ s .«true_term» + 0 = omega arith in ap (λ (j : ℕ). withTerms s j (s .«false_term»)) z
+
+pub stay-false : (s : State) → s ≡ withTerms s (s .«true_term») (s .«false_term» + 0)
+unfolding withTerms
+stay-false s = let z : s .«false_term» ≡ s .«false_term» + 0 = omega arith in ap (λ (j : ℕ). withTerms s (s .«true_term») j) z
+
 -- Terms are forced only where something is required, and the cutoff is a difference of two figures.
 module _ (ts : List Term) (s : State) (m : Marks) where
   pub true-none : leZ (s .lower) (s .known) ≡ true → ran s m Unchanged ≡ trueTerms ts s m

@@ -1,13 +1,13 @@
 // Propagation on one row: propagate.rs on the state of a row, and what a state takes from a guard or another row.
 ghost use mathlib.Core.Path.{_≡_};
 ghost use mathlib.Core.Bool.{cond, true, false, not, _&&_};
-ghost use Prim.Native.Nat.{ℕ, _+_, _<_, _≤_, _^_};
+ghost use Prim.Native.Nat.{ℕ, _+_, _-_, _<_, _≤_, _^_};
 ghost use lib.ListN.{length, drop};
 ghost use mathlib.Core.List.{List, []};
 ghost use lib.Signed.{ltZ};
 ghost use Rattle.numeric.specs.Threshold.{Term};
 ghost use Rattle.numeric.specs.Slices.{terms};
-ghost use Rattle.state.specs.State.{reached, limit, withLower, withUpper};
+ghost use Rattle.state.specs.State.{reached, limit, withLower, withUpper, withTerms};
 ghost use Rattle.state.specs.Shape.{Figures};
 ghost use Rattle.queues.specs.Queue.{Queue, queue};
 ghost use Rattle.queues.specs.Marks.{Marks, marks, isDecided, decided, decide};
@@ -318,7 +318,7 @@ fn forced_terms(
     so_far
 }
 
-// `threshold_terms` for true: a term heavier than possible - lower is needed.
+// `threshold_terms` for true: a term heavier than possible - lower is needed. The places passed, behind the cursor.
 fn true_terms(
     conditions: &[u16],
     weights: &[u64],
@@ -327,17 +327,18 @@ fn true_terms(
     never: &mut [u64],
     node_queue: &mut [u16],
     ring: Ring,
-) -> Ran
+) -> Scan
     requires { ⌜ TermSlices (now conditions) (now weights) × Figures state × Waits (marks (now sure) (now never) (queue (now «node_queue») ring)) ⌝ }
-    ensures { λ r. ⌜ ranOf (r .state) (marks (now (sure .exit)) (now (never .exit)) (queue (now («node_queue» .exit)) (r .ring))) (r .step)
-        ≡ trueTerms (terms (now (conditions .entry)) (now (weights .entry))) state (marks (now (sure .entry)) (now (never .entry)) (queue (now («node_queue» .entry)) ring)) ⌝ }
+    ensures { λ r. ⌜ (ranOf (withTerms state (state .«true_term» + r .passed) (state .«false_term»)) (marks (now (sure .exit)) (now (never .exit)) (queue (now («node_queue» .exit)) (r .ring))) (r .step)
+        ≡ trueTerms (terms (now (conditions .entry)) (now (weights .entry))) state (marks (now (sure .entry)) (now (never .entry)) (queue (now («node_queue» .entry)) ring)))
+        × (r .passed ≤ length (now (weights .entry)) - state .«true_term») ⌝ }
 {
     let known = state.known;
     let lower = state.lower;
     let possible = state.possible;
     if known >= lower {
-        return Ran {
-            state: state,
+        return Scan {
+            passed: 0,
             step: Step::Unchanged,
             ring: ring,
         };
@@ -347,7 +348,7 @@ fn true_terms(
         weight: possible - lower,
     };
     let from = state.true_term;
-    let scan = forced_terms(
+    forced_terms(
         conditions,
         weights,
         from,
@@ -356,18 +357,10 @@ fn true_terms(
         never,
         node_queue,
         ring,
-    );
-    let moved = state.with_terms(from + scan.passed, state.false_term);
-    let step = scan.step;
-    let next = scan.ring;
-    Ran {
-        state: moved,
-        step: step,
-        ring: next,
-    }
+    )
 }
 
-// `threshold_terms` for false: a term of at least upper - known is too heavy.
+// `threshold_terms` for false: a term of at least upper - known is too heavy. The places passed, behind the cursor.
 fn false_terms(
     conditions: &[u16],
     weights: &[u64],
@@ -376,16 +369,17 @@ fn false_terms(
     never: &mut [u64],
     node_queue: &mut [u16],
     ring: Ring,
-) -> Ran
+) -> Scan
     requires { ⌜ TermSlices (now conditions) (now weights) × Figures state × Waits (marks (now sure) (now never) (queue (now «node_queue») ring)) ⌝ }
-    ensures { λ r. ⌜ ranOf (r .state) (marks (now (sure .exit)) (now (never .exit)) (queue (now («node_queue» .exit)) (r .ring))) (r .step)
-        ≡ falseTerms (terms (now (conditions .entry)) (now (weights .entry))) state (marks (now (sure .entry)) (now (never .entry)) (queue (now («node_queue» .entry)) ring)) ⌝ }
+    ensures { λ r. ⌜ (ranOf (withTerms state (state .«true_term») (state .«false_term» + r .passed)) (marks (now (sure .exit)) (now (never .exit)) (queue (now («node_queue» .exit)) (r .ring))) (r .step)
+        ≡ falseTerms (terms (now (conditions .entry)) (now (weights .entry))) state (marks (now (sure .entry)) (now (never .entry)) (queue (now («node_queue» .entry)) ring)))
+        × (r .passed ≤ length (now (weights .entry)) - state .«false_term») ⌝ }
 {
     let known = state.known;
     let upper = state.upper;
     match upper {
-        Upper::Open => Ran {
-            state: state,
+        Upper::Open => Scan {
+            passed: 0,
             step: Step::Unchanged,
             ring: ring,
         },
@@ -395,7 +389,7 @@ fn false_terms(
                 weight: limit - known,
             };
             let from = state.false_term;
-            let scan = forced_terms(
+            forced_terms(
                 conditions,
                 weights,
                 from,
@@ -404,15 +398,7 @@ fn false_terms(
                 never,
                 node_queue,
                 ring,
-            );
-            let moved = state.with_terms(state.true_term, from + scan.passed);
-            let step = scan.step;
-            let next = scan.ring;
-            Ran {
-                state: moved,
-                step: step,
-                ring: next,
-            }
+            )
         }
     }
 }
@@ -435,18 +421,22 @@ fn row_terms(
     let ring = before.ring;
     let first = true_terms(conditions, weights, start, sure, never, node_queue, ring);
     let step = first.step;
-    if step.contradicts() {
-        return first;
-    }
-    let state = first.state;
     let next = first.ring;
+    let state = start.with_terms(start.true_term + first.passed, start.false_term);
+    if step.contradicts() {
+        return Ran {
+            state: state,
+            step: step,
+            ring: next,
+        };
+    }
     let second = false_terms(conditions, weights, state, sure, never, node_queue, next);
     let guards = before.step;
     let last = second.step;
-    let end = second.state;
     let left = second.ring;
     let both = guards.join(step);
     let all = both.join(last);
+    let end = state.with_terms(state.true_term, state.false_term + second.passed);
     Ran {
         state: end,
         step: all,

@@ -1,7 +1,6 @@
 -- `propagate::up_rests` meets its contract: the guard at the cursor waits, or there is none.
 use native.Mathlib.Omega.{arith}
 use mathlib.Core.Path.{_≡_, sym, _∙_}
-use mathlib.Core.Bool.{true}
 use lib.ListN.{getD}
 use lib.IntN.{pos}
 use lib.Signed.{ltZ}
