@@ -48,7 +48,7 @@ run-made row v r s f v′ t k g states dirty residuals =
     (λ i. did (live (ss i) (run i .marks) (dirty i) (q i)) (run i .step))
 
 -- A row that rests is run with nothing changed, where its state stands already and where it was told.
-rest-run : (row : Row) (v : Live) (r : ℕ) → Rests row (stateAt v r) (v .marks) → did v Unchanged ≡ runWith row v r
+pub rest-run : (row : Row) (v : Live) (r : ℕ) → Rests row (stateAt v r) (v .marks) → did v Unchanged ≡ runWith row v r
 unfolding runWith
 rest-run row v r y =
     let s = stateAt v r in

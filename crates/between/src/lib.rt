@@ -349,7 +349,7 @@ pub fn rests_at(
     )
 }
 
-// A row run, all queues taken and given back.
+// A row run, all queues taken and given back. One that rests is not run.
 pub fn run_at(
     row_conditions: &[u16],
     row_weights: &[u64],
@@ -376,6 +376,24 @@ pub fn run_at(
     let nodes = rings.nodes;
     let waiting = rings.rows;
     let residuals = rings.residuals;
+    let state = load(figures, cursors, row);
+    if rests_at(
+        row_conditions,
+        row_weights,
+        rows,
+        guard_bounds,
+        sure,
+        never,
+        row,
+        state,
+    ) {
+        let same = Outcome {
+            nodes: nodes,
+            residuals: residuals,
+            step: Step::Unchanged,
+        };
+        return stood(same, waiting);
+    }
     let made = run_cut(
         row_conditions,
         row_weights,
