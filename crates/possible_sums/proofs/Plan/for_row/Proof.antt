@@ -1,8 +1,8 @@
 -- `possible_sums::Plan::for_row` meets its contract: each test is one of the definition's.
 use Prim.Native.Nat.{_-_}
 use native.Mathlib.Omega.{arith}
-use mathlib.Core.Path.{_≡_, sym, ap, _∙_}
-use mathlib.Core.Bool.{true}
+use mathlib.Core.Path.{_≡_, sym, ap, _∙_, subst}
+use mathlib.Core.Bool.{true, false}
 use lib.IntN.{pos, _-ℤ_}
 use lib.Signed.{ltZ}
 use lib.ListN.{length}
@@ -21,6 +21,41 @@ use Rattle.thresholds.specs.Rows.{hasNonunit}
 use Rattle.possible_sums.specs.SearchStepsLaws.{plan-unit, plan-wide, plan-reached, not-planned, is-planned, open-wide, lower-known, limit-known, last-known}
 use Rattle.possible_sums.proofs.Plan.for_row.Statement.{statement}
 use Rattle.possible_sums.proofs.Plan.for_row.Tie as tie
+
+-- Ways back to earlier places.
+
+abbrev start-of : tie.After-enum-told → tie.Start
+start-of p = p .before .before .before .before .before .before .before .before
+
+abbrev start-of-then3 : tie.Then3 → tie.Start
+start-of-then3 p = p .before .before .before .before .before .before .before .before .before .before .before
+
+abbrev else1-of : tie.Then3 → tie.Else1
+else1-of p = p .before .before .before .before .before .before .before
+
+abbrev start-of-struct-told2 : tie.After-struct-told2 → tie.Start
+start-of-struct-told2 p = p .before .before .before .before .before .before .before .before .before .before .before .before .before
+
+abbrev start-of-natural : tie.After-natural → tie.Start
+start-of-natural p = p .before .before .before .before .before .before .before .before .before .before .before .before .before .before
+
+abbrev start-of-natural2 : tie.After-natural2 → tie.Start
+start-of-natural2 p = p .before .before .before .before .before .before .before .before .before .before .before .before .before .before .before
+
+abbrev upper-of : tie.After-natural2 → tie.After-upper
+upper-of p = p .before .before .before .before .before .before .before
+
+abbrev else1-of-natural2 : tie.After-natural2 → tie.Else1
+else1-of-natural2 p = p .before .before .before .before .before .before .before .before .before .before .before
+
+abbrev else2-of : tie.After-natural2 → tie.Else2
+else2-of p = p .before .before .before .before .before .before .before .before .before
+
+abbrev start-of-then4 : tie.Then4 → tie.Start
+start-of-then4 p = p .before .before .before .before .before .before .before .before .before .before .before .before .before .before .before .before
+
+abbrev start-of-else4 : tie.Else4 → tie.Start
+start-of-else4 p = p .before .before .before .before .before .before .before .before .before .before .before .before .before .before .before .before
 
 has-nonunit-requires : tie.Need-has-nonunit-requires
 has-nonunit-requires c κs = sym (c .before .before .pre .0)
@@ -58,48 +93,48 @@ enum-told c = search needs
 
 returns-3 : tie.Need-returns-3
 returns-3 c =
-    let g = c .before .before .before .before .before .before .before .before .args in
+    let g = start-of c .args in
     sym (plan-wide (terms (g .conditions .now) (g .weights .now)) (g .state) (heavy (c .before .before .before .before)) (open-wide (g .state) (c .enum-told .given .1)))
 
 returns-4 : tie.Need-returns-4
 returns-4 c =
-    let g = c .before .before .before .before .before .before .before .before .before .before .before .args in
+    let g = start-of-then3 c .args in
     let s = g .state in
     let e = c .before .before .before .upper .given in
     let hk : toZ w64 (ofZ w64 (s .known)) ≡ s .known = search needs in
     let hb : toZ w64 (ofZ w64 (e .0 .0)) ≡ e .0 .0 = search needs in
     sym
-    (plan-reached (terms (g .conditions .now) (g .weights .now)) s (heavy (c .before .before .before .before .before .before .before)) (cut (c .before .before .before .before .before))
-    (rw (e .1) (leZ-nlt (s .known) (e .0 .0) (simp (hk, hb) at (c .if3 .taken)))))
+    (plan-reached (terms (g .conditions .now) (g .weights .now)) s (heavy (else1-of c)) (cut (c .before .before .before .before .before))
+    (subst (λ (u : Upper). ltZ (s .known) (limit u) ≡ false) (sym (e .1)) (leZ-nlt (s .known) (e .0 .0) (simp (hk, hb) at (c .if3 .taken)))))
 
 sub-natural : tie.Need-sub-natural
 sub-natural c =
-    let s = c .before .before .before .before .before .before .before .before .before .before .before .before .before .args .state in
+    let s = start-of-struct-told2 c .args .state in
     let e = c .before .before .before .before .before .upper .given in
     let hk : toZ w64 (ofZ w64 (s .known)) ≡ s .known = search needs in
     let hb : toZ w64 (ofZ w64 (e .0 .0)) ≡ e .0 .0 = search needs in
     let hl : toZ w64 (ofZ w64 (s .lower)) ≡ s .lower = search needs in
-    simp (hk, hl) (lower-known s (e .0 .0) (c .before .before .before .before .before .before .before .before .before .before .before .before .before .pre .2) (e .1))
+    simp (hk, hl) (lower-known s (e .0 .0) (start-of-struct-told2 c .pre .2) (e .1))
 
 natural-requires : tie.Need-natural-requires
 natural-requires c κs = search needs
 
 sub-natural-2 : tie.Need-sub-natural-2
 sub-natural-2 c =
-    let s = c .before .before .before .before .before .before .before .before .before .before .before .before .before .before .args .state in
+    let s = start-of-natural c .args .state in
     let e = c .before .before .before .before .before .before .upper .given in
     let hk : toZ w64 (ofZ w64 (s .known)) ≡ s .known = search needs in
     let hb : toZ w64 (ofZ w64 (e .0 .0)) ≡ e .0 .0 = search needs in
-    simp (hk, hb) (limit-known s (e .0 .0) (c .before .before .before .before .before .before .before .before .before .before .before .before .before .before .pre .2) (e .1))
+    simp (hk, hb) (limit-known s (e .0 .0) (start-of-natural c .pre .2) (e .1))
 
 sub-natural-3 : tie.Need-sub-natural-3
 sub-natural-3 c =
-    let s = c .before .before .before .before .before .before .before .before .before .before .before .before .before .before .args .state in
+    let s = start-of-natural c .args .state in
     let e = c .before .before .before .before .before .before .upper .given in
     let hk : toZ w64 (ofZ w64 (s .known)) ≡ s .known = search needs in
     let hb : toZ w64 (ofZ w64 (e .0 .0)) ≡ e .0 .0 = search needs in
-    let hd = toZ-ofZ (limit-known s (e .0 .0) (c .before .before .before .before .before .before .before .before .before .before .before .before .before .before .pre .2) (e .1)) in
-    simp (hk, hb, hd) (last-known s (e .0 .0) (c .before .before .before .before .before .before .before .before .before .before .before .before .before .before .pre .2) (e .1))
+    let hd = toZ-ofZ (limit-known s (e .0 .0) (start-of-natural c .pre .2) (e .1)) in
+    simp (hk, hb, hd) (last-known s (e .0 .0) (start-of-natural c .pre .2) (e .1))
 
 natural-requires-2 : tie.Need-natural-requires-2
 natural-requires-2 c κs = search needs
@@ -108,32 +143,32 @@ add-words : tie.Need-add-words
 add-words c = omega arith
 
 mul-visits : tie.Need-mul-visits
-mul-visits c = omega (arith, c .before .before .before .before .before .before .before .before .before .before .before .before .before .before .before .pre .1)
+mul-visits c = omega (arith, start-of-natural2 c .pre .1)
 
 add-if4 : tie.Need-add-if4
 add-if4 c = omega arith
 
 -- Every test but the last was met, and the numbers are the window's.
-numbers : (c : tie.After-natural2) → (hasNonunit (terms (c .before .before .before .before .before .before .before .before .before .before .before .before .before .before .before .args .conditions .now) (c .before .before .before .before .before .before .before .before .before .before .before .before .before .before .before .args .weights .now)) ≡ true)
-    × (hasResidualInterval (c .before .before .before .before .before .before .before .before .before .before .before .before .before .before .before .args .state) ≡ true)
-    × (ltZ (c .before .before .before .before .before .before .before .before .before .before .before .before .before .before .before .args .state .known) (limit (c .before .before .before .before .before .before .before .before .before .before .before .before .before .before .before .args .state .upper)) ≡ true)
-    × (c .before .natural .result ≡ natural (c .before .before .before .before .before .before .before .before .before .before .before .before .before .before .before .args .state .lower -ℤ c .before .before .before .before .before .before .before .before .before .before .before .before .before .before .before .args .state .known))
-    × (c .natural2 .result ≡ natural (limit (c .before .before .before .before .before .before .before .before .before .before .before .before .before .before .before .args .state .upper) -ℤ c .before .before .before .before .before .before .before .before .before .before .before .before .before .before .before .args .state .known -ℤ pos 1))
-    × (length (c .before .before .before .before .before .before .before .before .before .before .before .before .before .before .before .args .weights .now) ≡ length (terms (c .before .before .before .before .before .before .before .before .before .before .before .before .before .before .before .args .conditions .now) (c .before .before .before .before .before .before .before .before .before .before .before .before .before .before .before .args .weights .now)))
+numbers : (c : tie.After-natural2) → (hasNonunit (terms (start-of-natural2 c .args .conditions .now) (start-of-natural2 c .args .weights .now)) ≡ true)
+    × (hasResidualInterval (start-of-natural2 c .args .state) ≡ true)
+    × (ltZ (start-of-natural2 c .args .state .known) (limit (start-of-natural2 c .args .state .upper)) ≡ true)
+    × (c .before .natural .result ≡ natural (start-of-natural2 c .args .state .lower -ℤ start-of-natural2 c .args .state .known))
+    × (c .natural2 .result ≡ natural (limit (start-of-natural2 c .args .state .upper) -ℤ start-of-natural2 c .args .state .known -ℤ pos 1))
+    × (length (start-of-natural2 c .args .weights .now) ≡ length (terms (start-of-natural2 c .args .conditions .now) (start-of-natural2 c .args .weights .now)))
 numbers c =
-    let g = c .before .before .before .before .before .before .before .before .before .before .before .before .before .before .before .args in
-    let p = c .before .before .before .before .before .before .before .before .before .before .before .before .before .before .before .pre in
-    let s = c .before .before .before .before .before .before .before .before .before .before .before .before .before .before .before .args .state in
-    let e = c .before .before .before .before .before .before .before .upper .given in
+    let g = start-of-natural2 c .args in
+    let p = start-of-natural2 c .pre in
+    let s = start-of-natural2 c .args .state in
+    let e = upper-of c .upper .given in
     let hk : toZ w64 (ofZ w64 (s .known)) ≡ s .known = search needs in
     let hb : toZ w64 (ofZ w64 (e .0 .0)) ≡ e .0 .0 = search needs in
     let hl : toZ w64 (ofZ w64 (s .lower)) ≡ s .lower = search needs in
     let hd = toZ-ofZ (lower-known s (e .0 .0) (p .2) (e .1)) in
     let hm = toZ-ofZ (limit-known s (e .0 .0) (p .2) (e .1)) in
     let hn = toZ-ofZ (last-known s (e .0 .0) (p .2) (e .1)) in (
-      heavy (c .before .before .before .before .before .before .before .before .before .before .before),
-      cut (c .before .before .before .before .before .before .before .before .before),
-      rw (e .1) (nle-ltZ (s .known) (e .0 .0) (simp (hk, hb) at (c .before .before .before .before .if3 .left))),
+      heavy (else1-of-natural2 c),
+      cut (else2-of c),
+      subst (λ (u : Upper). ltZ (s .known) (limit u) ≡ true) (sym (e .1)) (nle-ltZ (s .known) (e .0 .0) (simp (hk, hb) at (c .before .before .before .before .if3 .left))),
       simp (hk, hl, hd) at (c .before .natural .ensures),
       simp (hk, hb, hm, hn) at (c .natural2 .ensures) ∙ ap (λ (u : Upper). natural (limit u -ℤ s .known -ℤ pos 1)) (sym (e .1)),
       omega (arith, length-terms (g .conditions .now) (g .weights .now), p .0),
@@ -142,7 +177,7 @@ numbers c =
 returns-5 : tie.Need-returns-5
 returns-5 c =
     let n = numbers (c .before) in
-    let g = c .before .before .before .before .before .before .before .before .before .before .before .before .before .before .before .before .args in
+    let g = start-of-then4 c .args in
     sym
     (not-planned (terms (g .conditions .now) (g .weights .now)) (g .state) (n .0) (n .1) (n .2) (c .before .before .natural .result) (c .before .natural2 .result) (length (g .weights .now))
     (n .3) (n .4) (n .5) (omega (arith, c .if4 .taken)))
@@ -150,7 +185,7 @@ returns-5 c =
 returns-6 : tie.Need-returns-6
 returns-6 c =
     let n = numbers (c .before) in
-    let g = c .before .before .before .before .before .before .before .before .before .before .before .before .before .before .before .before .args in
+    let g = start-of-else4 c .args in
     sym
     (is-planned (terms (g .conditions .now) (g .weights .now)) (g .state) (n .0) (n .1) (n .2) (c .before .before .natural .result) (c .before .natural2 .result) (length (g .weights .now))
     (n .3) (n .4) (n .5) (omega (arith, c .if4 .left)))
