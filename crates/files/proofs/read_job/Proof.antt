@@ -18,6 +18,26 @@ Inv-loop input raw-conditions₀ raw-weights₀ thresholds₀ bounds₀ read₀ 
 abbrev μ-loop : tie.MeasureT-loop
 μ-loop input raw-conditions₀ raw-weights₀ thresholds₀ bounds₀ read₀ raw-conditions raw-weights thresholds bounds read = length input - read .at
 
+-- Ways back to earlier places: to the read that was just made, and to the test that there is more to read.
+
+abbrev term-of : tie.After-thresholds Inv-loop μ-loop → tie.After-read-term Inv-loop μ-loop
+term-of p = p .before .before .before .before .before
+
+abbrev test-of-term : tie.After-read-term Inv-loop μ-loop → tie.Then1 Inv-loop μ-loop
+test-of-term p = p .before .before .before .before .before .before .before
+
+abbrev test-of-arg : tie.After-read-record-arg4 Inv-loop μ-loop → tie.Then1 Inv-loop μ-loop
+test-of-arg p = p .before .before .before .before .before .before .before .before
+
+abbrev record-of : tie.Then3 Inv-loop μ-loop → tie.After-read-record Inv-loop μ-loop
+record-of p = p .before .before .before .before .before .before .before .before .before
+
+abbrev record-of-left : tie.Else3 Inv-loop μ-loop → tie.After-read-record Inv-loop μ-loop
+record-of-left p = p .before .before .before .before .before .before .before .before .before
+
+abbrev test-of-record : tie.After-read-record Inv-loop μ-loop → tie.Then1 Inv-loop μ-loop
+test-of-record p = p .before .before .before .before .before .before .before .before .before
+
 loop-holds : tie.Need-loop-holds Inv-loop μ-loop
 loop-holds c =
     let g = c .before .before .before .args in
@@ -34,8 +54,8 @@ read-term-requires c κs =
 
 loop-less : tie.Need-loop-less Inv-loop μ-loop
 loop-less c =
-    let at-read = c .before .before .before .before .before in
-    let at-test = at-read .before .before .before .before .before .before .before in
+    let at-read = term-of c in
+    let at-test = test-of-term at-read in
     let at-loop = at-test .before .before in
     let s = at-loop .before .before .before .before in
     let g = s .args in
@@ -48,8 +68,8 @@ loop-less c =
 
 loop-again : tie.Need-loop-again Inv-loop μ-loop
 loop-again c =
-    let at-read = c .before .before .before .before .before in
-    let at-test = at-read .before .before .before .before .before .before .before in
+    let at-read = term-of c in
+    let at-test = test-of-term at-read in
     let at-loop = at-test .before .before in
     let s = at-loop .before .before .before .before in
     let g = s .args in
@@ -67,7 +87,7 @@ loop-again c =
 
 read-record-requires : tie.Need-read-record-requires Inv-loop μ-loop
 read-record-requires c κs =
-    let at-test = c .before .before .before .before .before .before .before .before in
+    let at-test = test-of-arg c in
     let at-loop = at-test .before .before in
     let s = at-loop .before .before .before .before in
     let g = s .args in
@@ -76,21 +96,21 @@ read-record-requires c κs =
     (at-test .if1 .taken, going-unsealed (g .input .now) w (v .read) (v .raw-conditions) (v .raw-weights) (v .thresholds) (v .bounds) (v .inv .0), v .inv .0 .held .gathered)
 
 same-length : tie.Need-same-length Inv-loop μ-loop
-same-length c = let at-read = c .before .before .before .before .before .before .before .before .before in at-read .read-record .kept .1 .1 .1 .0 ∙ at-read .before .before .before .before .before .before .before .before .before .before .before .loop .inv .1
+same-length c = let at-read = record-of c in at-read .read-record .kept .1 .1 .1 .0 ∙ test-of-record at-read .before .before .loop .inv .1
 
 same-length-2 : tie.Need-same-length-2 Inv-loop μ-loop
-same-length-2 c = let at-read = c .before .before .before .before .before .before .before .before .before in at-read .read-record .kept .1 .1 .1 .1 .0 ∙ at-read .before .before .before .before .before .before .before .before .before .before .before .loop .inv .2
+same-length-2 c = let at-read = record-of c in at-read .read-record .kept .1 .1 .1 .1 .0 ∙ test-of-record at-read .before .before .loop .inv .2
 
 same-length-3 : tie.Need-same-length-3 Inv-loop μ-loop
-same-length-3 c = let at-read = c .before .before .before .before .before .before .before .before .before in at-read .read-record .kept .1 .1 .1 .1 .1 .0 ∙ at-read .before .before .before .before .before .before .before .before .before .before .before .loop .inv .3
+same-length-3 c = let at-read = record-of c in at-read .read-record .kept .1 .1 .1 .1 .1 .0 ∙ test-of-record at-read .before .before .loop .inv .3
 
 same-length-4 : tie.Need-same-length-4 Inv-loop μ-loop
-same-length-4 c = let at-read = c .before .before .before .before .before .before .before .before .before in at-read .read-record .kept .1 .1 .1 .1 .1 .1 .0 ∙ at-read .before .before .before .before .before .before .before .before .before .before .before .loop .inv .4
+same-length-4 c = let at-read = record-of c in at-read .read-record .kept .1 .1 .1 .1 .1 .1 .0 ∙ test-of-record at-read .before .before .loop .inv .4
 
 returns : tie.Need-returns Inv-loop μ-loop
 returns c =
-    let at-read = c .before .before .before .before .before .before .before .before .before in
-    let at-test = at-read .before .before .before .before .before .before .before .before .before in
+    let at-read = record-of c in
+    let at-test = test-of-record at-read in
     let at-loop = at-test .before .before in
     let s = at-loop .before .before .before .before in
     let g = s .args in
@@ -102,8 +122,8 @@ returns c =
 
 loop-less-2 : tie.Need-loop-less-2 Inv-loop μ-loop
 loop-less-2 c =
-    let at-read = c .before .before .before .before .before .before .before .before .before in
-    let at-test = at-read .before .before .before .before .before .before .before .before .before in
+    let at-read = record-of-left c in
+    let at-test = test-of-record at-read in
     let at-loop = at-test .before .before in
     let s = at-loop .before .before .before .before in
     let g = s .args in
@@ -115,8 +135,8 @@ loop-less-2 c =
 
 loop-again-2 : tie.Need-loop-again-2 Inv-loop μ-loop
 loop-again-2 c =
-    let at-read = c .before .before .before .before .before .before .before .before .before in
-    let at-test = at-read .before .before .before .before .before .before .before .before .before in
+    let at-read = record-of-left c in
+    let at-test = test-of-record at-read in
     let at-loop = at-test .before .before in
     let s = at-loop .before .before .before .before in
     let g = s .args in

@@ -6,6 +6,11 @@ use borrow.Author.Needs.{needs}
 use Rattle.files.proofs.read_term.Statement.{statement}
 use Rattle.files.proofs.read_term.Tie as tie
 
+-- Ways back to earlier places.
+
+abbrev start-of : tie.After-add-term-arg3 → tie.Start
+start-of p = p .before .before .before .before .before .before .before .before
+
 add-u16-at : tie.Need-add-u16-at
 add-u16-at c = search needs
 
@@ -25,7 +30,7 @@ add-term-requires : tie.Need-add-term-requires
 add-term-requires c κs =
     let w = c .before .before .before .u32-at in
     let n = c .before .before .before .before .u16-at in
-    let s = c .before .before .before .before .before .before .before .before in
+    let s = (start-of c) in
     let g = s .args in
     (s .pre .1, s .pre .2, search needs, term-passes (g .input .now) (g .at) (g .standing) (s .pre .0) (n .result) (w .result) (n .ensures) (w .ensures))
 
