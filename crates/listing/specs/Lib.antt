@@ -6,3 +6,4 @@ pub mod LinesLaws
 pub mod Shows
 pub mod ShowsLaws
 pub mod ListLaws
+pub mod Numbers

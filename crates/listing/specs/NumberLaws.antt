@@ -2,19 +2,20 @@
 use Prim.Native.Nat.{ℕ, zero, suc, _+_, _-_, _/_, _%_, _^_, _<_, _≤_}
 use native.Mathlib.Nat.{pow-suc}
 use native.Mathlib.Omega.{arith}
-use mathlib.Core.Path.{_≡_, refl, sym, ap, _∙_, subst}
+use mathlib.Core.Path.{_≡_, refl, sym, ap, ap₂, _∙_, subst}
 use mathlib.Core.Bool.{Bool, true, false}
-use mathlib.Core.List.{List, [], _∷_}
+use mathlib.Core.List.{List, [], _∷_, _++_}
 use lib.ListN.{length, getD, drop, set, length-set, drop-of-length-le}
 use lib.Seq.{drop-cons, drop-set-lt, getD-set-same}
-use lib.Dec.{ltb, T}
+use lib.Dec.{ltb, leb, T}
 use lib.IntN.{ℤ, pos, negsuc, _-ℤ_, natAbs}
 use lib.Signed.{ltZ, nonNeg}
 use mir.Syntax.{w64}
 use mir.Val.{toZ, ofZ, Fits, SFits}
 use mir.Facts.{toZ-ofZ}
-use borrow.Author.Tests.{lt-ltb, le-ltb, ltb-true}
+use borrow.Author.Tests.{lt-ltb, le-ltb, ltb-true, leb-true, leb-false}
 use Rattle.files.specs.Listing.{digits, decimal, decimalZ}
+use Rattle.listing.specs.Numbers.{unit, four}
 
 -- ---- digits
 
@@ -71,6 +72,68 @@ digits-last n l first rest d h =
     let g = d .long in
     drop-cons l first 0 (omega arith) ∙ ap (λ (x : ℕ). x ∷ drop (suc first) l) (d .here ∙ ap (λ (x : ℕ). 48 + x) e)
     ∙ sym (last first rest (drop (suc first) l) h) ∙ d .same
+
+-- ---- short numbers, digit by digit
+
+module _ (k n : ℕ) (after : List ℕ) where
+  pub one-digit : n < 10 → digits (suc k) n after ≡ unit n ∷ after
+  one-digit h =
+      let e : n ≡ n % 10 = omega arith in
+      last k n after h ∙ ap (λ (x : ℕ). (48 + x) ∷ after) e
+
+pub two-digits : (k n : ℕ) (after : List ℕ) → 10 ≤ n → n < 100 → digits (suc (suc k)) n after ≡ unit (n / 10) ∷ unit n ∷ after
+two-digits k n after l h = more (suc k) n after l ∙ one-digit k (n / 10) (unit n ∷ after) (omega arith)
+
+pub three-digits : (k n : ℕ) (after : List ℕ) → 100 ≤ n → n < 1000 → digits (suc (suc (suc k))) n after ≡ unit (n / 100) ∷ unit (n / 10) ∷ unit n ∷ after
+three-digits k n after l h =
+    let e : n / 10 / 10 ≡ n / 100 = omega arith in
+    more (suc (suc k)) n after (omega arith) ∙ two-digits k (n / 10) (unit n ∷ after) (omega arith) (omega arith)
+    ∙ ap (λ (x : ℕ). unit x ∷ unit (n / 10) ∷ unit n ∷ after) e
+
+pub four-digits : (k n : ℕ) (after : List ℕ) → 1000 ≤ n → n < 10000
+    → digits (suc (suc (suc (suc k)))) n after ≡ unit (n / 100 / 10) ∷ unit (n / 100) ∷ unit (n / 10) ∷ unit n ∷ after
+four-digits k n after l h =
+    let e : n / 10 / 100 ≡ n / 100 / 10 = omega arith in
+    let f : n / 10 / 10 ≡ n / 100 = omega arith in
+    more (suc (suc (suc k))) n after (omega arith) ∙ three-digits k (n / 10) (unit n ∷ after) (omega arith) (omega arith)
+    ∙ ap₂ (λ (x y : ℕ). unit x ∷ unit y ∷ unit (n / 10) ∷ unit n ∷ after) e f
+
+-- Of a longer number the last four, behind the others.
+front : (k n : ℕ) (after : List ℕ) → 10000 ≤ n
+    → digits (suc (suc (suc (suc k)))) n after ≡ digits k (n / 10000) (unit (n / 100 / 10) ∷ unit (n / 100) ∷ unit (n / 10) ∷ unit n ∷ after)
+front k n after l =
+    let a : n / 10 / 10 ≡ n / 100 = omega arith in
+    let b : n / 10 / 10 / 10 ≡ n / 100 / 10 = omega arith in
+    let c : n / 10 / 10 / 10 / 10 ≡ n / 10000 = omega arith in
+    more (suc (suc (suc k))) n after (omega arith) ∙ more (suc (suc k)) (n / 10) (unit n ∷ after) (omega arith)
+    ∙ more (suc k) (n / 10 / 10) (unit (n / 10) ∷ unit n ∷ after) (omega arith)
+    ∙ more k (n / 10 / 10 / 10) (unit (n / 10 / 10) ∷ unit (n / 10) ∷ unit n ∷ after) (omega arith)
+    ∙ ap (λ (x : ℕ). digits k x (unit (n / 10 / 10 / 10) ∷ unit (n / 10 / 10) ∷ unit (n / 10) ∷ unit n ∷ after)) c
+    ∙ ap₂ (λ (x y : ℕ). digits k (n / 10000) (unit x ∷ unit y ∷ unit (n / 10) ∷ unit n ∷ after)) b a
+
+-- A short number is written the same whatever stands behind it.
+behind : (k j m : ℕ) (after : List ℕ) → m < 10000 → digits (suc (suc (suc (suc k)))) m after ≡ digits (suc (suc (suc (suc j)))) m [] ++ after
+behind k j m after h = by (leb 10 m) refl (leb 100 m) refl (leb 1000 m) refl
+  where
+    by : (a : Bool) → leb 10 m ≡ a → (b : Bool) → leb 100 m ≡ b → (c : Bool) → leb 1000 m ≡ c
+        → digits (suc (suc (suc (suc k)))) m after ≡ digits (suc (suc (suc (suc j)))) m [] ++ after
+    by false e b f c g =
+        let l = leb-false 10 m e in
+        one-digit (suc (suc (suc k))) m after (omega arith) ∙ ap (λ (t : List ℕ). t ++ after) (sym (one-digit (suc (suc (suc j))) m [] (omega arith)))
+    by true e false f c g =
+        let l = leb-true 10 m e in
+        let u = leb-false 100 m f in
+        two-digits (suc (suc k)) m after (omega arith) (omega arith) ∙ ap (λ (t : List ℕ). t ++ after) (sym (two-digits (suc (suc j)) m [] (omega arith) (omega arith)))
+    by true e true f false g =
+        let l = leb-true 100 m f in
+        let u = leb-false 1000 m g in
+        three-digits (suc k) m after (omega arith) (omega arith) ∙ ap (λ (t : List ℕ). t ++ after) (sym (three-digits (suc j) m [] (omega arith) (omega arith)))
+    by true e true f true g =
+        let l = leb-true 1000 m g in
+        four-digits k m after (omega arith) h ∙ ap (λ (t : List ℕ). t ++ after) (sym (four-digits j m [] (omega arith) h))
+
+pub in-two-parts : (n : ℕ) → 10000 ≤ n → n < 100000000 → decimal n ≡ decimal (n / 10000) ++ four n
+in-two-parts n l h = front 16 n [] l ∙ behind 12 16 (n / 10000) (four n) (omega arith)
 
 -- ---- how long
 

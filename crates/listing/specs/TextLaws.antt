@@ -3,8 +3,8 @@ use Prim.Native.Nat.{ℕ, suc, _+_, _*_, _<_, _≤_}
 use native.Mathlib.Nat.{mul-suc, mul-le-mul-left}
 use native.Mathlib.Numerals.{add-one}
 use native.Mathlib.Omega.{arith}
-use mathlib.Core.Path.{_≡_, refl, sym, ap, _∙_}
-use mathlib.Core.List.{List, [], _++_, append-assoc}
+use mathlib.Core.Path.{_≡_, refl, sym, ap, subst, _∙_}
+use mathlib.Core.List.{List, [], _∷_, _++_, append-assoc}
 use lib.ListN.{length, getD, set, take, drop, length-append}
 use lib.Seq.{length-take-le, take-at, drop-append-seam, drop-append-add, drop-drop, take-length, paste, paste-zero, paste-suc}
 use Rattle.listing.specs.Text.{placed, Wrote, joined, Joins}
@@ -66,6 +66,14 @@ put-done d e at s i h q = record {
   bytes = q ∙ ap (paste d at s) h ∙ ap (λ (l : List ℕ). take at d ++ l ++ drop (at + length s) d) (take-length s);
   within = omega arith;
 }
+
+-- One byte.
+pub wrote-one : (d e : List ℕ) (at x r : ℕ) → at < length d → e ≡ set d at x → r ≡ at + 1 → Wrote 1 d e at r (x ∷ [])
+wrote-one d e at x r h q k =
+    let s = x ∷ [] in
+    let z : at ≡ at + 0 = omega arith in
+    let p : e ≡ paste d at s 1 = q ∙ ap (λ (i : ℕ). set d i x) z ∙ put-next d d at s 0 (omega arith) (omega arith) (paste-zero d at s) in
+    subst (λ (i : ℕ). Wrote 1 d e at i s) (sym k) (put-done d e at s 1 refl p)
 
 -- ---- texts by number
 

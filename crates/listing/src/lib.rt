@@ -1,12 +1,13 @@
 // The listing of document 01: what the call gave back and what it left in its buffers, as bytes in a lent buffer of fixed length.
 ghost use mathlib.Core.Path.{_≡_};
 ghost use mathlib.Core.Bool.{true};
-ghost use mathlib.Core.List.{_++_};
+ghost use mathlib.Core.List.{[], _∷_, _++_};
 ghost use Prim.Native.Nat.{_+_, _*_, _<_, _≤_, _%_};
 ghost use lib.ListN.{length, drop};
 ghost use lib.IntN.{natAbs};
 ghost use Rattle.files.specs.Listing.{text as textOf, decimal as decimalOf, decimalZ, upperText, stepWord, figures as figuresText, answerLine};
 ghost use Rattle.listing.specs.Text.{Wrote, joined};
+ghost use Rattle.listing.specs.Numbers.{unit, pair, four as fourOf};
 ghost use Rattle.listing.specs.Lines.{maxDecimal, maxSigned, maxStep, maxFigures, maxAnswerLine, maxNodeLine, maxRowLine, maxLastLine, maxNodeLines, maxFront, maxListing};
 ghost use Rattle.listing.specs.Lines.{stepOf, answerOf, answerAt, nodeAt, rowLine, rowAt, endLine, refusedLine, decided, nodeText, frontText, rowCount, lastText, InMasks, Answered, Listable};
 ghost use Rattle.listing.specs.Shows.{Listed};
@@ -51,13 +52,72 @@ fn digits(into: &mut [u8], n: u64) -> usize
     first
 }
 
-fn decimal(out: &mut [u8], at: usize, n: u64) -> usize
+// A number by way of a buffer of its own.
+fn long(out: &mut [u8], at: usize, n: u64) -> usize
     requires { ⌜ at + maxDecimal ≤ length (now out) ⌝ }
     ensures { λ r. ⌜ Wrote maxDecimal (now (out .entry)) (now (out .exit)) at r (decimalOf n) ⌝ }
 {
     let mut buffer = [0; 20];
     let first = digits(&mut buffer, n);
     put(out, at, &buffer[first..])
+}
+
+// The last digit of a number, the last two, the last four.
+fn one(out: &mut [u8], at: usize, n: u64) -> usize
+    requires { ⌜ at < length (now out) ⌝ }
+    ensures { λ r. ⌜ Wrote 1 (now (out .entry)) (now (out .exit)) at r (unit n ∷ []) ⌝ }
+{
+    out[at] = digit(n);
+    at + 1
+}
+
+fn two(out: &mut [u8], at: usize, n: u64) -> usize
+    requires { ⌜ at + 2 ≤ length (now out) ⌝ }
+    ensures { λ r. ⌜ Wrote 2 (now (out .entry)) (now (out .exit)) at r (pair n) ⌝ }
+{
+    let next = one(out, at, n / 10);
+    one(out, next, n)
+}
+
+fn four(out: &mut [u8], at: usize, n: u64) -> usize
+    requires { ⌜ at + 4 ≤ length (now out) ⌝ }
+    ensures { λ r. ⌜ Wrote 4 (now (out .entry)) (now (out .exit)) at r (fourOf n) ⌝ }
+{
+    let next = two(out, at, n / 100);
+    two(out, next, n)
+}
+
+// A number of at most four digits.
+fn short(out: &mut [u8], at: usize, n: u64) -> usize
+    requires { ⌜ (n < 10000) × (at + 4 ≤ length (now out)) ⌝ }
+    ensures { λ r. ⌜ Wrote 4 (now (out .entry)) (now (out .exit)) at r (decimalOf n) ⌝ }
+{
+    if n < 10 {
+        return one(out, at, n);
+    }
+    if n < 100 {
+        return two(out, at, n);
+    }
+    if n < 1000 {
+        let next = one(out, at, n / 100);
+        return two(out, next, n);
+    }
+    four(out, at, n)
+}
+
+// Most numbers have at most eight digits, and are written where they stand.
+fn decimal(out: &mut [u8], at: usize, n: u64) -> usize
+    requires { ⌜ at + maxDecimal ≤ length (now out) ⌝ }
+    ensures { λ r. ⌜ Wrote maxDecimal (now (out .entry)) (now (out .exit)) at r (decimalOf n) ⌝ }
+{
+    if n < 10000 {
+        return short(out, at, n);
+    }
+    if n < 100000000 {
+        let next = short(out, at, n / 10000);
+        return four(out, next, n);
+    }
+    long(out, at, n)
 }
 
 // A byte string and a number behind it.

@@ -1,31 +1,31 @@
--- `listing::decimal` meets its contract: its digits, put behind one another.
-use mathlib.Core.Path.{_≡_, ap, _∙_}
-use Prim.Native.Nat.{_-_}
+-- `listing::decimal` meets its contract: a short number, a short one with four digits behind it, or a long one.
+use Prim.Native.Nat.{_≤_, _<_}
 use native.Mathlib.Omega.{arith}
-use lib.ListN.{length, take, drop, length-drop}
-use lib.Seq.{take-all}
-use Rattle.files.specs.Listing.{decimal}
-use Rattle.listing.specs.TextLaws.{wrote-as}
-use Rattle.listing.specs.NumberLaws.{decimal-short}
+use mathlib.Core.Path.{sym}
+use lib.ListN.{length}
+use Rattle.listing.specs.TextLaws.{wrote-then, wrote-as}
+use Rattle.listing.specs.NumberLaws.{in-two-parts}
 use borrow.Author.Needs.{needs}
 use Rattle.listing.proofs.decimal.Statement.{statement}
 use Rattle.listing.proofs.decimal.Tie as tie
 
-returns : tie.Need-returns
-returns c =
-    let at-put = c .before .before in
-    let at-digits = at-put .before .before .before .before .before in
-    let s = at-digits .before .before .before in
-    let d = at-digits .digits in
-    let l = at-digits .digits .last .0 in
-    let e : take (20 - d .result) (drop (d .result) l) ≡ decimal (s .args .n) =
-    take-all (20 - d .result) (drop (d .result) l) (omega (arith, length-drop (d .result) l, d .kept .0)) ∙ d .ensures .1 in
-    wrote-as (omega (arith, ap length e, decimal-short (s .args .n))) e (at-put .put .ensures)
+returns-2 : tie.Need-returns-2
+returns-2 c =
+    let second = c .before .before in
+    let first = second .before .before .before .before in
+    let at = first .before .before in
+    let s = at .before .before .before in
+    let n = s .args .n in
+    let from : 10000 ≤ n = omega (arith, at .before .if1 .left) in
+    let below : n < 100000000 = omega (arith, at .if2 .taken) in
+    let h : s .args .at ≤ length (s .args .out .now) = omega (arith, s .pre) in
+    wrote-as (omega arith) (sym (in-two-parts n from below)) (wrote-then h (first .short2 .ensures) (second .four .ensures))
 
 pub decimal-spec : {M : Type 1} → statement M
 decimal-spec =
     tie.close
     (tie.spec
-    (λ c. search needs) (λ c κs. search needs) (λ c. search needs) (λ c. search needs) (λ c. search needs) (λ c κs. search needs)
-    (λ c. search needs)
-    returns)
+    (λ c κs. search needs) (λ c. search needs) (λ c. search needs)
+    (λ c κs. search needs) (λ c κs. search needs) (λ c. search needs)
+    returns-2
+    (λ c κs. search needs) (λ c. search needs) (λ c. search needs))

@@ -1,0 +1,12 @@
+-- The last digits of a number, as bytes.
+use Prim.Native.Nat.{ℕ, _+_, _/_, _%_}
+use mathlib.Core.List.{List, [], _∷_}
+
+abbrev pub unit : ℕ → ℕ
+unit n = 48 + n % 10
+
+abbrev pub pair : ℕ → List ℕ
+pair n = unit (n / 10) ∷ unit n ∷ []
+
+abbrev pub four : ℕ → List ℕ
+four n = unit (n / 100 / 10) ∷ unit (n / 100) ∷ unit (n / 10) ∷ unit n ∷ []
