@@ -1,5 +1,5 @@
 -- `settle::settle` meets its contract: the turns that are left from here are those from the start.
-use mathlib.Core.Bool.{true, false, not, _&&_}
+use mathlib.Core.Bool.{false, not, _&&_}
 use lib.Dec.{eqb}
 use borrow.Author.Tests.{not-true, not-false}
 use Rattle.memory.specs.Buffers.{heldRows, Built, built}
@@ -63,8 +63,9 @@ then p = let l = p .turn .last .1 .1 .1 .1 .1 .1 .1 .1 .1 in
     liveOf (l .0) (l .1 .0) (l .1 .1 .0) (l .1 .1 .1 .0) (l .1 .1 .1 .1 .0) (l .1 .1 .1 .1 .1 .0) (p .turn .result .rings)
 
 -- Something waits, since the loop goes on.
-abbrev busy : (p : tie.At-loop Inv-loop μ-loop) → p .loop .busy ≡ true → (eqb (p .loop .so-far .rings .nodes .count) 0 && eqb (p .loop .so-far .rings .rows .count) 0) ≡ false
-busy p e = not-true (eqb (p .loop .so-far .rings .nodes .count) 0 && eqb (p .loop .so-far .rings .rows .count) 0) (sym (p .loop .inv .1) ∙ e)
+abbrev busy : (p : tie.In-loop Inv-loop μ-loop) → (eqb (p .before .loop .so-far .rings .nodes .count) 0 && eqb (p .before .loop .so-far .rings .rows .count) 0) ≡ false
+busy p = let l = p .before .loop in
+    not-true (eqb (l .so-far .rings .nodes .count) 0 && eqb (l .so-far .rings .rows .count) 0) (sym (l .inv .1) ∙ p .loop-test .taken)
 
 -- Behind a turn each buffer is as long as it was lent.
 kept-lengths : (p : tie.After-turn Inv-loop μ-loop) →
@@ -98,8 +99,7 @@ turn-requires c κs =
     let at-loop = in-loop .before in
     let start = start-of (at-loop .before) in
     let l = at-loop .loop in
-    let e = busy at-loop (in-loop .loop-test .taken) in
-    ((start .pre .0, row-waits (l .so-far .rings .nodes .count) (l .so-far .rings .rows .count) e), l .inv .0 .going)
+    ((start .pre .0, row-waits (l .so-far .rings .nodes .count) (l .so-far .rings .rows .count) (busy in-loop)), l .inv .0 .going)
 
 returns : tie.Need-returns Inv-loop μ-loop
 returns c =
@@ -109,9 +109,8 @@ returns c =
     let at-loop = in-loop .before in
     let start = start-of (at-loop .before) in
     let l = at-loop .loop in
-    let t = after-turn .turn in
-    let e = busy at-loop (in-loop .loop-test .taken) in (
-      settling-stop (start .args .bounds .now) (buffers start) (entry start) (l .so-far .step) (here at-loop) (l .inv .0) e (did (then after-turn) (t .result .step)) (t .ensures .0)
+    let t = after-turn .turn in (
+      settling-stop (start .args .bounds .now) (buffers start) (entry start) (l .so-far .step) (here at-loop) (l .inv .0) (busy in-loop) (did (then after-turn) (t .result .step)) (t .ensures .0)
           (sym (after-contradicts .contradicts .ensures) ∙ c .if1 .taken),
       λ i. t .ensures .1 (l .inv .3 i),
     )
@@ -125,8 +124,7 @@ loop-less c =
     let l = at-loop .loop in
     let t = after-turn .turn in
     let w = start .pre .0 in
-    let e = busy at-loop (in-loop .loop-test .taken) in
-    settling-less (start .args .bounds .now) (buffers start) (entry start) (l .so-far .step) (here at-loop) (l .inv .0) e (did (then after-turn) (t .result .step)) (t .ensures .0) (w .0) (w .1)
+    settling-less (start .args .bounds .now) (buffers start) (entry start) (l .so-far .step) (here at-loop) (l .inv .0) (busy in-loop) (did (then after-turn) (t .result .step)) (t .ensures .0) (w .0) (w .1)
 
 loop-again : tie.Need-loop-again Inv-loop μ-loop
 loop-again c =
@@ -139,9 +137,8 @@ loop-again c =
     let start = start-of (at-loop .before) in
     let l = at-loop .loop in
     let t = after-turn .turn in
-    let w = start .pre .0 in
-    let e = busy at-loop (in-loop .loop-test .taken) in (
-      settling-next (start .args .bounds .now) (buffers start) (entry start) (l .so-far .step) (here at-loop) (l .inv .0) e (did (then after-turn) (t .result .step)) (t .ensures .0) (w .0) (w .1)
+    let w = start .pre .0 in (
+      settling-next (start .args .bounds .now) (buffers start) (entry start) (l .so-far .step) (here at-loop) (l .inv .0) (busy in-loop) (did (then after-turn) (t .result .step)) (t .ensures .0) (w .0) (w .1)
           (sym (after-contradicts .contradicts .ensures) ∙ else1 .if1 .left) (after-join .join .result) (after-join .join .ensures),
       c .waits2 .ensures,
       kept-lengths after-turn,
