@@ -77,19 +77,15 @@ try-terms-requires : tie.Need-try-terms-requires
 try-terms-requires c κs =
     let after-load = load-of c in
     let after-end-by = after-load .before in
-    let after-start-by = after-end-by .before in
-    let after-oldest-row = oldest-row-of after-start-by in
+    let after-oldest-row = oldest-row-of (after-end-by .before) in
     let start = start-of (after-oldest-row .before) in
     let t = start .pre .2 in
     let o = after-oldest-row .oldest-row in
-    let a = after-start-by .start-by in
+    let a = after-end-by .before .start-by in
     let e = after-end-by .end-by in
-    let h = held start in
-    let v = entry start in
-    let g = start .args .gcds .now in
-    let w = start .args .search .now in
-    let slices = term-slices h (t .shaped) (o .result) (inside after-oldest-row) (a .result) (e .result) (a .ensures .0) (e .ensures .0) in
-    (slices, cut after-end-by .few, try-figures h v g w t (o .result) (o .ensures) (after-load .load .result) (after-load .load .ensures), t .ready .waits, t .scratch)
+    let slices = term-slices (held start) (t .shaped) (o .result) (inside after-oldest-row) (a .result) (e .result) (a .ensures .0) (e .ensures .0) in
+    let figures = try-figures (held start) (entry start) (start .args .gcds .now) (start .args .search .now) t (o .result) (o .ensures) (after-load .load .result) (after-load .load .ensures) in
+    (slices, cut after-end-by .few, figures, t .ready .waits, t .scratch)
 
 returns : tie.Need-returns
 returns c =
@@ -103,10 +99,7 @@ returns c =
     let o = after-oldest-row .oldest-row in
     let a = after-start-by .start-by in
     let e = after-end-by .end-by in
-    let h = held start in
     let v = entry start in
-    let g = start .args .gcds .now in
-    let w = start .args .search .now in
     let n = after-next-row .next-row in
     let q = n .last .0 in
     let r = start .args .rings in
@@ -115,7 +108,7 @@ returns c =
     let u = live (v .states) (v .marks) (rowsIn 0 q (r .rows)) (rowsIn 2 q (n .result)) in
     let m = marks (l .0) (l .1 .0) (queue (l .1 .1 .0) (t .result .ring)) in (
       λ x bs ns z.
-          try-is h v g w (start .pre .2) (o .result) (o .ensures) (a .result) (e .result) (a .ensures .0) (e .ensures .0) (after-load .load .result) (after-load .load .ensures) (u .dirty) (n .ensures .1 (r .rows)) (u .residuals)
+          try-is (held start) v (start .args .gcds .now) (start .args .search .now) (start .pre .2) (o .result) (o .ensures) (a .result) (e .result) (a .ensures .0) (e .ensures .0) (after-load .load .result) (after-load .load .ensures) (u .dirty) (n .ensures .1 (r .rows)) (u .residuals)
           (n .ensures .0) x (start .args .visits) (z .terms (o .result) (inside after-oldest-row)) (sifted (withMarks u m) (l .1 .1 .1 .0) (t .result .step) (t .result .visits)) (t .ensures .0 u),
       t .ensures .1,
     )
