@@ -1,12 +1,13 @@
 -- `serve::seal_and_serve` meets its contract: what the seal leaves is what the records behind it begin with.
 use native.Mathlib.Omega.{arith}
-use Prim.Native.Nat.{_+_}
-use mathlib.Core.Path.{refl, _∙_}
+use Prim.Native.Nat.{ℕ, _+_}
+use mathlib.Core.Path.{_≡_, refl, _∙_}
+use mathlib.Core.List.{List, []}
 use Rattle.memory.specs.Buffers.{heldRows, Built, built, Kept, kept}
 use Rattle.records.specs.declared.Record.the-variants.{Seal}
-use Rattle.files.specs.File.{apply}
+use Rattle.files.specs.File.{File, standing, apply, outcome}
 use Rattle.serve.specs.declared.Reached.{Reached}
-use Rattle.serve.specs.Serve.{Same}
+use Rattle.serve.specs.Serve.{Lies, Seals, noRings, Reaches, Same}
 use Rattle.serve.specs.SealLaws.{seals-holds, seals-shaped, seals-totals, seals-room, seals-waits, seals-flags, seals-reaches, seals-passed, seals-whole}
 use borrow.Author.Needs.{needs}
 use Rattle.serve.proofs.seal_and_serve.Statement.{statement}
@@ -37,10 +38,10 @@ entry p =
     kept (a .figures .now) (a .cursors .now) (a .sure .now) (a .never .now) (a .search .now) (a .gcds .now) (a .node-queue .now) (a .row-queues .now) (a .answers .now)
 
 -- Behind the seal; the other buffers are as they were.
-abbrev sealed : tie.After-seal → tie.Start → Kept
-sealed p q =
+abbrev sealed : tie.After-seal → Kept
+sealed p =
     let l = p .seal .last .1 .1 .1 .1 .1 in
-    let a = q .args in
+    let a = start-of (p .before) .args in
     kept (l .0) (l .1 .0) (l .1 .1 .0) (l .1 .1 .1 .0) (a .search .now) (a .gcds .now) (l .1 .1 .1 .1 .0) (l .1 .1 .1 .1 .1 .0) (a .answers .now)
 
 abbrev after : tie.After-serve-records → Kept
@@ -48,9 +49,24 @@ after p =
     let l = p .serve-records .last .1 .1 .1 .1 .1 .1 .1 .1 .1 .1 in
     kept (l .0) (l .1 .0) (l .1 .1 .0) (l .1 .1 .1 .0) (l .1 .1 .1 .1 .1 .1 .1 .0) (l .1 .1 .1 .1 .1 .1 .0) (l .1 .1 .1 .1 .0) (l .1 .1 .1 .1 .1 .0) (l .1 .1 .1 .1 .1 .1 .1 .1 .0)
 
-abbrev first : tie.After-stood → tie.After-seal → tie.Start → Reached
-first p q s =
-    record { at = s .args .at + 1; refused = 0; standing = p .stood .result; last = q .seal .result .step; rings = q .seal .result .rings }
+abbrev first : tie.After-stood → Reached
+first p =
+    let q = seal-of p in
+    record { at = start-of (q .before) .args .at + 1; refused = 0; standing = p .stood .result; last = q .seal .result .step; rings = q .seal .result .rings }
+
+-- With the seal the records behind it have a beginning.
+reaches : (p : tie.After-stood) →
+    let s = start-of (seal-of p .before) in
+    (f : File) (base : List (List ℕ)) → Seals (s .args .bounds .now) (buffers s) f → Lies base f (entry s) noRings → s .args .standing ≡ standing f
+    → Reaches (s .args .bounds .now) (buffers s) base (sealed (seal-of p)) (first p) (outcome (apply f Seal) [] 0 (first p .at))
+reaches p f base z l e =
+    let q = seal-of p in
+    let s = start-of (q .before) in
+    let a = s .args in
+    let t = q .seal in
+    let passed = seals-passed f (a .input .now) (a .at) (s .pre .1) (a .standing) e (s .pre .2) in
+    seals-reaches (a .bounds .now) (buffers s) base f (entry s) z l (sealed q) (t .result .rings) (t .result .step) (t .ensures .0) passed
+    (t .ensures .1 (l .tidy)) refl refl refl (first p) refl refl refl (a .standing) e (p .stood .ensures)
 
 -- Behind the records each buffer is as long as it was lent.
 kept-lengths : (p : tie.After-serve-records) → Same (entry (start-of (seal-of (stood-of (p .before)) .before))) (after p)
@@ -94,37 +110,21 @@ add-behind c =
 serve-records-requires : tie.Need-serve-records-requires
 serve-records-requires c κs =
     let after-stood = stood-of c in
-    let after-seal = seal-of after-stood in
-    let start = start-of (after-seal .before) in
-    let a = start .args in
-    let w = start .pre in
+    let w = start-of (seal-of after-stood .before) .pre in
     let p = w .0 in
-    let s = after-seal .seal in
-    let passed = seals-passed (p .0) (a .input .now) (a .at) (w .1) (a .standing) (p .4) (w .2) in (
-      (
-        apply (p .0) Seal,
-        p .1,
-        seals-reaches (a .bounds .now) (buffers start) (p .1) (p .0) (entry start) (p .2) (p .3) (sealed after-seal start) (s .result .rings) (s .result .step) (s .ensures .0) passed
-            (s .ensures .1 (p .3 .tidy)) refl refl refl (first after-stood after-seal start) refl refl refl (a .standing) (p .4) (after-stood .stood .ensures),
-      ),
-      w .3,
-    )
+    ((apply (p .0) Seal, p .1, reaches after-stood (p .0) (p .1) (p .2) (p .3) (p .4)), w .3)
 
 returns : tie.Need-returns
 returns c =
     let after-serve-records = serve-records-of c in
     let after-stood = stood-of (after-serve-records .before) in
-    let after-seal = seal-of after-stood in
-    let start = start-of (after-seal .before) in
+    let start = start-of (seal-of after-stood .before) in
     let a = start .args in
     let w = start .pre in
-    let s = after-seal .seal in
     let t = after-serve-records .serve-records in (
       λ f base z l e.
-          let passed = seals-passed f (a .input .now) (a .at) (w .1) (a .standing) e (w .2) in
-          let y = seals-reaches (a .bounds .now) (buffers start) base f (entry start) z l (sealed after-seal start) (s .result .rings) (s .result .step) (s .ensures .0) passed
-          (s .ensures .1 (l .tidy)) refl refl refl (first after-stood after-seal start) refl refl refl (a .standing) e (after-stood .stood .ensures) in
-          seals-whole (a .bounds .now) (buffers start) base f (after after-serve-records) (t .result) (a .input .now) (a .at) (w .1) (a .standing) e (w .2) (t .ensures (apply f Seal) base y),
+          seals-whole (a .bounds .now) (buffers start) base f (after after-serve-records) (t .result) (a .input .now) (a .at) (w .1) (a .standing) e (w .2)
+          (t .ensures (apply f Seal) base (reaches after-stood f base z l e)),
       c .fours .ensures,
     )
 
