@@ -1,7 +1,7 @@
 """Writes proofs by hand of functions that lend structs: a walk of the function's MIR, statement by statement.
 
 `Walk` keeps the walk's context as a list of names and works out each position; `Proof` is a proof file: what it uses, its
-body, its layout. The steps themselves are the toolchain's and those of crate `walks`."""
+body, its layout. The steps themselves are the toolchain's and those of crate `states`."""
 import re
 
 LIMIT = 200  # characters of a line
@@ -636,6 +636,6 @@ unfolding code.routine tablesOf
         return long_tup([p.tells for p in self.params])
 
     def file(self, body):
-        uses = LIBRARY + self.specs + ''.join(c.uses() for c in self.callees) + modules(self.crate, self.fn)
+        uses = LIBRARY.replace(f'Rattle.{self.crate}.specs', f'Rattle.{self.crate}.specs') + self.specs + ''.join(c.uses() for c in self.callees) + modules(self.crate, self.fn)
         text = f'-- `{self.crate}::{self.fn}` meets its contract: a walk of its MIR, written by tools/walks. {self.about}\n-- Assumes nothing.\n' + used(uses, body) + '\n' + body
         return re.sub(r'\n\n\n+', '\n\n', re.sub(r'where\n\n', 'where\n', layout(text)))

@@ -13,25 +13,15 @@ use Rattle.state.specs.declared.State.{State}
 use Rattle.state.specs.State.{firstState, noState}
 use Rattle.row.specs.Terms.{total}
 use Rattle.queues.specs.Queue.{Rows}
-use Rattle.queues.specs.RowsLaws.{Flags}
 use Rattle.queues.specs.Marks.{Marks}
-use Rattle.queues.specs.MarksLaws.{Waits}
+use Rattle.queues.specs.Waiting.{Waits, Flags}
 use Rattle.thresholds.specs.Rows.{Row, noRow, Guard, stateOfRow}
 use Rattle.thresholds.specs.Raw.{stretch}
 use Rattle.thresholds.specs.RawLaws.{stretch-length}
 use Rattle.propagate.specs.GuardsLaws.{length-guards}
-use Rattle.propagate.specs.Guards.{guards}
 use Rattle.between.specs.Between.{Index, firstStates}
 use Rattle.between.specs.Held.{startBy, endBy, stretchBy, heldGuards, Shaped, Holds}
-use Rattle.between.specs.Ready.{Ready}
-
--- The first state of row r, as the buffers hold the row.
-abbrev pub firstAt : List ℕ → List ℕ → List (List ℕ) → ℕ → State
-firstAt cs ws rows r = firstState (total (terms (stretchBy 0 rows r cs) (stretchBy 0 rows r ws))) (endBy 1 rows r - startBy 1 rows r)
-
--- Every row's total is below n.
-abbrev pub Totals : ℕ → List ℕ → List ℕ → List (List ℕ) → Type 0
-Totals n cs ws rows = (r : ℕ) → r < length rows → total (terms (stretchBy 0 rows r cs) (stretchBy 0 rows r ws)) < n
+use Rattle.between.specs.Ready.{Ready, firstAt, Totals}
 
 -- As many guards as the stretch is long.
 guards-many : (h : HeldRows) → Shaped h → (r : ℕ) → r < length (h .rows) → length (heldGuards h r) ≡ endBy 1 (h .rows) r - startBy 1 (h .rows) r

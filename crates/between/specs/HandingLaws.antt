@@ -14,7 +14,8 @@ use Rattle.state.specs.declared.Step.the-variants.{Unchanged}
 use Rattle.state.specs.declared.State.{State}
 use Rattle.state.specs.Step.{joined, contradicts}
 use Rattle.state.specs.State.{limit}
-use Rattle.queues.specs.RowsLaws.{Flags, flags-queue}
+use Rattle.queues.specs.RowsLaws.{flags-queue}
+use Rattle.queues.specs.Waiting.{Flags}
 use Rattle.thresholds.specs.Rows.{Row, noRow}
 use Rattle.thresholds.specs.Raw.{stretch}
 use Rattle.thresholds.specs.RawLaws.{stretch-length}
@@ -22,7 +23,7 @@ use Rattle.prefixes.specs.Links.{neighbours}
 use Rattle.propagate.specs.declared.Tightened.{Tightened}
 use Rattle.propagate.specs.Told.{movedState}
 use Rattle.memory.specs.Ranges.{figureLimit}
-use Rattle.between.specs.Between.{Index, Live, live, Did, did, stateAt, withState, withDirty, runWith, runRow, termCount, prefixesFrom, thresholdPrefixes}
+use Rattle.between.specs.Between.{Index, Live, Did, did, stateAt, withState, withDirty, runWith, runRow, termCount, prefixesFrom, thresholdPrefixes}
 use Rattle.between.specs.Handing.{after, toldStep, handedOn}
 use Rattle.between.specs.Held.{startBy, endBy, heldRow, Shaped, LinksShaped, Holds, HoldsLinks}
 use Rattle.between.specs.HeldLaws.{stretch-cons, stretch-none, run-held}

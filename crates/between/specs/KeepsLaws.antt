@@ -10,6 +10,7 @@ use mathlib.Core.List.{List, [], _∷_, reverse, List·Memᴰ, List·Memᴰ·hea
 use lib.ListN.{length, getD, take, drop, List·getD-eq-default}
 use lib.IntN.{pos, _-ℤ_}
 use lib.Signed.{leZ, ltZ}
+use Rattle.lists.specs.All.{All}
 use Rattle.memory.specs.Limits.{maxNodes}
 use Rattle.numeric.specs.Threshold.{Term, Threshold}
 use Rattle.state.specs.declared.Step.the-variants.{Unchanged, Contradiction}
@@ -19,25 +20,20 @@ use Rattle.state.specs.State.{limited, limit, withGuards, withTerms}
 use Rattle.queues.specs.Marks.{Marks, isDecided, decided, decide}
 use Rattle.thresholds.specs.Rows.{Row, noRow, Guard}
 use Rattle.propagate.specs.Scan.{Scanned, force}
-use Rattle.propagate.specs.ScanLaws.{All, all-drop, all-take, all-reverse, scan-keeps}
+use Rattle.propagate.specs.ScanLaws.{all-drop, all-take, all-reverse, scan-keeps}
 use Rattle.propagate.specs.Row.{Ran, ran, sureWaits, decides, sureGuards, neverWaits, neverGuards, thresholdGuards, termWaits, forces, forced, trueTerms, falseTerms, thresholdRow}
 use Rattle.between.specs.Between.{Index, Live, stateAt, runRow, runWith, thresholdGuard, thresholdCondition, thresholdPrefixes}
 use Rattle.between.specs.RunsLaws.{guardsRun, trueRun, run-ends}
 use Rattle.between.specs.WalkLaws.{Moves, all-member, keep-guard, keep-condition, keep-prefixes}
+use Rattle.between.specs.Ready.{Names}
 
 abbrev pub Small : ℕ → Type 0
 Small n = n < maxNodes
-
--- The guards and the terms of a row are such nodes.
-pub record Names (Ok : ℕ → Type 0) (row : Row) : Type 0 where
-  pub guards : (g : Guard) → List·Memᴰ g (row .guards) → Ok (g .node)
-  pub terms : (t : Term) → List·Memᴰ t (row .terms) → Ok (t .condition)
 
 pub names-all : (Ok : ℕ → Type 0) (row : Row) → All (λ (g : Guard). Ok (g .node)) (row .guards) → All (λ (t : Term). Ok (t .condition)) (row .terms) → Names Ok row
 names-all Ok row gs ts = record { guards = all-member (λ (g : Guard). Ok (g .node)) (row .guards) gs; terms = all-member (λ (t : Term). Ok (t .condition)) (row .terms) ts }
 
 pub member-all : {X : Type 0} (P : X → Type 0) (xs : List X) → ((a : X) → List·Memᴰ a xs → P a) → All P xs
-unfolding All
 member-all P [] f = Prim.tt
 member-all P (y ∷ ys) f = (f y (List·Memᴰ·head refl), member-all P ys (λ a m. f a (List·Memᴰ·tail m)))
 

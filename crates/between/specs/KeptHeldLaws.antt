@@ -5,6 +5,7 @@ use mathlib.Core.Path.{_≡_, refl, sym, ap, subst, _∙_}
 use mathlib.Core.List.{List, [], _∷_, map}
 use lib.ListN.{length, getD}
 use lib.IntN.{ℤ}
+use Rattle.lists.specs.All.{All}
 use Rattle.memory.specs.Buffers.{HeldRows}
 use Rattle.words.specs.Mask.{bit}
 use Rattle.thresholds.specs.Rows.{Edge, edgesOf}
@@ -12,7 +13,6 @@ use Rattle.thresholds.specs.Raw.{stretch}
 use Rattle.thresholds.specs.RawLaws.{stretch-length}
 use Rattle.thresholds.specs.Laid.{edgeRow}
 use Rattle.prefixes.specs.Links.{neighbours}
-use Rattle.propagate.specs.ScanLaws.{All}
 use Rattle.memory.specs.Ranges.{drainLimit}
 use Rattle.between.specs.Between.{Index, Live, Did, guardOf, thresholdCondition, thresholdPrefixes}
 use Rattle.between.specs.Held.{startBy, endBy, edgeIn, edgesIn, Shaped, EdgesShaped, LinksShaped, GuardsShaped, Holds, HoldsEdges, HoldsLinks, HoldsGuards}
@@ -23,14 +23,12 @@ use Rattle.between.specs.KeptLaws.{Light, kept-condition, kept-guard, ke
 
 -- What holds at every place of a stretch holds of all in it.
 all-stretch : {X : Type 0} (P : X → Type 0) (d : X) (l : List X) (e : ℕ) → e ≤ length l → (m a : ℕ) → e - a ≡ m → ((i : ℕ) → a ≤ i → i < e → P (getD l i d)) → All P (stretch a e l)
-unfolding All
 all-stretch P d l e k zero a s f = rw (stretch-none l a e (omega arith)) Prim.tt
 all-stretch P d l e k (suc m) a s f =
     rw (stretch-cons d l a e (omega arith) k)
     (f a (omega arith) (omega arith), all-stretch P d l e k m (a + 1) (omega arith) (λ i g h. f i (omega arith) h))
 
 all-edges : (P : Edge → Type 0) (ls : List (List ℕ)) → All (λ (l : List ℕ). P (edgeIn l)) ls → All P (edgesIn ls)
-unfolding All
 all-edges P [] h = h
 all-edges P (l ∷ ls) h = (h .0, all-edges P ls (h .1))
 

@@ -7,16 +7,17 @@ use mathlib.Core.List.{List, List·Memᴰ}
 use lib.Dec.{eqb}
 use lib.ListN.{length, set}
 use lib.Signed.{mag}
+use Rattle.lists.specs.All.{All}
 use Rattle.memory.specs.Buffers.{HeldRows}
 use Rattle.numeric.specs.Threshold.{Threshold}
 use Rattle.state.specs.declared.State.{State}
 use Rattle.state.specs.State.{drained}
 use Rattle.words.specs.Mask.{bit}
 use Rattle.queues.specs.Queue.{Rows, queueRow}
-use Rattle.queues.specs.RowsLaws.{Flags, flags-queue}
+use Rattle.queues.specs.RowsLaws.{flags-queue}
+use Rattle.queues.specs.Waiting.{Flags}
 use Rattle.thresholds.specs.Rows.{Edge, rowNumber}
 use Rattle.prefixes.specs.Links.{neighbours}
-use Rattle.propagate.specs.ScanLaws.{All}
 use Rattle.memory.specs.Limits.{maxThresholds}
 use Rattle.memory.specs.Ranges.{figureLimit, weightLimit, drainLimit}
 use Rattle.between.specs.Between.{Index, Live, live, Did, stateAt, withState, linkedQueued, runWith, runRow, thresholdGuard, conditionFrom, termCount, thresholdPrefixes}

@@ -5,6 +5,7 @@ use mathlib.Core.Path.{_≡_, refl, sym, ap, _∙_}
 use mathlib.Core.Bool.{Bool, true, false, cond}
 use mathlib.Core.List.{List, [], _∷_}
 use lib.ListN.{getD}
+use Rattle.state.specs.StepLaws.{contradiction-is}
 use Rattle.state.specs.declared.Step.{Step}
 use Rattle.state.specs.declared.Step.the-variants.{Unchanged, Changed, Contradiction}
 use Rattle.state.specs.declared.State.{State}
@@ -12,7 +13,7 @@ use Rattle.state.specs.Step.{joined, contradicts}
 use Rattle.state.specs.State.{drained, withKnown, withPossible}
 use Rattle.thresholds.specs.Rows.{Row, noRow, Edge}
 use Rattle.propagate.specs.declared.Tightened.{Tightened}
-use Rattle.propagate.specs.ScanLaws.{clash, joined-last}
+use Rattle.propagate.specs.ScanLaws.{joined-last}
 use Rattle.propagate.specs.Told.{movedState}
 use Rattle.between.specs.Between.{Index, Live, Did, did, stateAt, withState, withDirty, runRow, conditionFrom, termCount, prefixesFrom, seedFrom}
 use Rattle.between.specs.Handing.{after, toldStep, handedOn}
@@ -28,22 +29,10 @@ joined-assoc Changed Changed Contradiction = refl
 joined-assoc Changed Contradiction c = refl
 joined-assoc Contradiction b c = refl
 
-pub joined-fine : (a b : Step) → contradicts a ≡ false → contradicts b ≡ false → contradicts (joined a b) ≡ false
-joined-fine Unchanged b e f = f
-joined-fine Changed Unchanged e f = refl
-joined-fine Changed Changed e f = refl
-joined-fine Changed Contradiction e f = f
-joined-fine Contradiction b e f = e
-
 joined-contradiction : (k : Step) → joined k Contradiction ≡ Contradiction
 joined-contradiction Unchanged = refl
 joined-contradiction Changed = refl
 joined-contradiction Contradiction = refl
-
-pub contradiction-is : (k : Step) → contradicts k ≡ true → k ≡ Contradiction
-contradiction-is Unchanged e = clash (sym e)
-contradiction-is Changed e = clash (sym e)
-contradiction-is Contradiction e = refl
 
 pub after-none : (v : Live) (k : Step) → did v k ≡ after k (did v Unchanged)
 after-none v k = ap (did v) (sym (joined-last k))

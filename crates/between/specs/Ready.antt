@@ -1,18 +1,21 @@
 -- What states, marks and queues must be like so that any row can be run.
 use Prim.Native.Nat.{ℕ, _-_, _<_, _≤_}
-use mathlib.Core.List.{List}
+use mathlib.Core.List.{List, List·Memᴰ}
 use lib.ListN.{length, getD}
 use lib.Signed.{mag}
 use Rattle.memory.specs.Buffers.{HeldRows}
 use Rattle.state.specs.declared.State.{State}
-use Rattle.state.specs.State.{noState, limit}
+use Rattle.state.specs.State.{noState, limit, firstState}
 use Rattle.queues.specs.Queue.{Rows}
-use Rattle.queues.specs.RowsLaws.{Flags}
 use Rattle.queues.specs.Marks.{Marks}
-use Rattle.queues.specs.MarksLaws.{Waits}
+use Rattle.queues.specs.Waiting.{Waits, Flags}
 use Rattle.memory.specs.Ranges.{figureLimit}
 use Rattle.between.specs.Between.{Live}
-use Rattle.between.specs.Held.{endBy, startBy}
+use Rattle.between.specs.Held.{endBy, startBy, stretchBy}
+use Rattle.numeric.specs.Slices.{terms}
+use Rattle.row.specs.Terms.{total}
+use Rattle.numeric.specs.Threshold.{Term}
+use Rattle.thresholds.specs.Rows.{Row, Guard}
 
 -- Figures in range, and the cursor from above among the row's guards. What is drained moves known and possible by the weights of
 -- edges, so their range n is a number of its own: a caller lets it grow with the edges drained so far, of which there are at
@@ -37,3 +40,16 @@ ReadyLive h n v = Ready h n (v .states) (v .marks) (v .residuals)
 pub record Runnable (h : HeldRows) (n : ℕ) (v : Live) : Type 0 where
   pub ready : ReadyLive h n v
   pub dirty : Flags (v .dirty)
+
+-- The first state of row r, as the buffers hold the row.
+abbrev pub firstAt : List ℕ → List ℕ → List (List ℕ) → ℕ → State
+firstAt cs ws rows r = firstState (total (terms (stretchBy 0 rows r cs) (stretchBy 0 rows r ws))) (endBy 1 rows r - startBy 1 rows r)
+
+-- Every row's total is below n.
+abbrev pub Totals : ℕ → List ℕ → List ℕ → List (List ℕ) → Type 0
+Totals n cs ws rows = (r : ℕ) → r < length rows → total (terms (stretchBy 0 rows r cs) (stretchBy 0 rows r ws)) < n
+
+-- The guards and the terms of a row are such nodes.
+pub record Names (Ok : ℕ → Type 0) (row : Row) : Type 0 where
+  pub guards : (g : Guard) → List·Memᴰ g (row .guards) → Ok (g .node)
+  pub terms : (t : Term) → List·Memᴰ t (row .terms) → Ok (t .condition)

@@ -2,8 +2,8 @@
 use Prim.Native.Nat.{ℕ, _+_, _<_, _≤_}
 use native.Mathlib.Decide.{ℕ-discrete}
 use native.Mathlib.Omega.{arith}
-use mathlib.Core.Path.{_≡_, refl, ap, _∙_}
-use mathlib.Core.Bool.{Bool, true, false, cond, _&&_}
+use mathlib.Core.Path.{_≡_, refl}
+use mathlib.Core.Bool.{Bool, true, false, cond}
 use mathlib.Core.List.{List}
 use lib.ListN.{length, getD, set, length-set}
 use lib.Seq.{getD-set-same, getD-set-other}
@@ -17,7 +17,8 @@ use Rattle.state.specs.declared.Upper.the-variants.{Under}
 use Rattle.state.specs.State.{noState, limit, withLower, withUpper, drained, withKnown, withPossible}
 use Rattle.state.specs.Shape.{Drains}
 use Rattle.queues.specs.Queue.{Rows, queueRow}
-use Rattle.queues.specs.RowsLaws.{Flags, flags-queue}
+use Rattle.queues.specs.RowsLaws.{flags-queue}
+use Rattle.queues.specs.Waiting.{Flags}
 use Rattle.queues.specs.Marks.{Marks}
 use Rattle.thresholds.specs.Rows.{Row}
 use Rattle.thresholds.specs.Raw.{stretch}

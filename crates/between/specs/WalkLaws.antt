@@ -9,6 +9,8 @@ use mathlib.Core.Logic.{⊎-elim, _≢_}
 use lib.Dec.{eqb}
 use lib.ListN.{length}
 use borrow.Author.Tests.{eqb-true, eqb-false}
+use Rattle.lists.specs.All.{All}
+use Rattle.state.specs.StepLaws.{joined-fine, contradiction-is}
 use Rattle.numeric.specs.Threshold.{Threshold}
 use Rattle.state.specs.declared.Step.{Step}
 use Rattle.state.specs.declared.Step.the-variants.{Unchanged, Contradiction}
@@ -16,15 +18,14 @@ use Rattle.state.specs.declared.State.{State}
 use Rattle.state.specs.Step.{joined, contradicts}
 use Rattle.words.specs.Mask.{bit}
 use Rattle.queues.specs.Queue.{queueRow}
-use Rattle.row.specs.TermsLaws.{All as Every}
 use Rattle.thresholds.specs.Rows.{Row, Edge, edgesOf, rowNumber}
 use Rattle.prefixes.specs.Links.{neighbours}
 use Rattle.propagate.specs.declared.Tightened.{Tightened}
-use Rattle.propagate.specs.ScanLaws.{All, clash}
+use Rattle.propagate.specs.ScanLaws.{clash}
 use Rattle.propagate.specs.Told.{guardState}
 use Rattle.between.specs.Between.{Index, Live, live, stateAt, withState, withDirty, Did, did, runRow, withBound, bounded, thresholdGuard, guardOf, conditionFrom, thresholdCondition, prefixesFrom, thresholdPrefixes, seedFrom}
 use Rattle.between.specs.Handing.{after, toldStep}
-use Rattle.between.specs.LoopLaws.{joined-fine, contradiction-is, Walk, walk-end, walk-next, walk-stop, after-told, edgeRun, condition-walk, moved, movedRun, handRun, hand-ends, prefix-walk, seed-next, seed-stop, seed-end}
+use Rattle.between.specs.LoopLaws.{Walk, walk-end, walk-next, walk-stop, after-told, edgeRun, condition-walk, moved, movedRun, handRun, hand-ends, prefix-walk, seed-next, seed-stop, seed-end}
 
 -- ---- THE PRINCIPLE
 
@@ -151,11 +152,10 @@ module _ (x : Index) (P : ℕ → Live → Type 0) (G : Did → Type 0)
 -- ---- WHAT EVERY MOVE KEEPS the walks keep, whatever they answer
 
 pub all-member : {X : Type 0} (P : X → Type 0) (xs : List X) → All P xs → (a : X) → List·Memᴰ a xs → P a
-unfolding All
 all-member P [] h a m = absurd (List·Memᴰ·not-nil m)
 all-member P (y ∷ ys) h a m = ⊎-elim (λ (e : a ≡ y). subst P (sym e) (h .0)) (all-member P ys (h .1) a) (List·Memᴰ·cases-cons m)
 
-pub every-member : {X : Type 0} (P : X → Type 0) (xs : List X) → Every P xs → (a : X) → List·Memᴰ a xs → P a
+pub every-member : {X : Type 0} (P : X → Type 0) (xs : List X) → All P xs → (a : X) → List·Memᴰ a xs → P a
 every-member P [] h a m = absurd (List·Memᴰ·not-nil m)
 every-member P (y ∷ ys) h a m = ⊎-elim (λ (e : a ≡ y). subst P (sym e) (h .0)) (every-member P ys (h .1) a) (List·Memᴰ·cases-cons m)
 

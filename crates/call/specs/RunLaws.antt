@@ -7,6 +7,7 @@ use mathlib.Core.List.{List, [], _∷_}
 use mathlib.Core.Logic.{⊎-elim}
 use lib.ListN.{length, drop}
 use lib.IntN.{ℤ}
+use borrow.Author.Tests.{not-true, not-false}
 use Rattle.memory.specs.Limits.{maxLinks}
 use Rattle.memory.specs.Ranges.{rawLimit}
 use Rattle.memory.specs.Buffers.{rawLists, Raw, raw, Built, Kept, Work, work, fits, longestInput, clearRaw, clearBuilt, cleared}
@@ -29,8 +30,8 @@ use Rattle.files.specs.Contents.{laid, served, untouched, whole, out, nothing}
 use Rattle.files.specs.JobPart.{JobPart, jobPartOf}
 use Rattle.files.specs.JobPartLaws.{file-goes-on, file-ends}
 use Rattle.files.specs.Held.{Room, HeldPart}
-use Rattle.ends.specs.BuiltLaws.{Light}
-use Rattle.ends.specs.FilesLaws.{Good, good-apply, both, Taken as Passes, taken, building-turn, change-turn, refused-by}
+use Rattle.ends.specs.Good.{Light, Good}
+use Rattle.ends.specs.FilesLaws.{good-apply, both, Taken as Passes, taken, building-turn, change-turn, refused-by}
 use Rattle.holds.specs.GatheredLaws.{gathered-light}
 use Rattle.serve.specs.declared.Reached.{Reached}
 use Rattle.serve.specs.Serve.{readAt}
@@ -136,14 +137,6 @@ kept-room w s = record {
   row-queues = s 19;
   answers = s 20;
 }
-
-not-true : (b : Bool) → not b ≡ true → b ≡ false
-not-true true e = sym e
-not-true false e = refl
-
-not-false : (b : Bool) → not b ≡ false → b ≡ true
-not-false true e = refl
-not-false false e = sym e
 
 -- The test as the call makes it.
 pub long : (input : List ℕ) (w : Work) (short : Bool) → short ≡ not (fits input w) → short ≡ false → fits input w ≡ true

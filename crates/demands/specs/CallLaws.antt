@@ -11,6 +11,8 @@ use lib.ListN.{length, getD, drop, length-map, List·getD-append, List·getD-eq-
 use lib.Seq.{getD-append-add, getD-drop}
 use lib.Dec.{eqb}
 use lib.IntN.{ℤ}
+use Rattle.lists.specs.TestLaws.{true-false}
+use Rattle.state.specs.StepLaws.{contradiction-is}
 use Rattle.lists.specs.Laid.{over}
 use Rattle.numeric.specs.Layout.{Layout, IsLayout}
 use Rattle.state.specs.declared.Step.{Step}
@@ -30,7 +32,6 @@ use Rattle.files.specs.Contents.{Out, served, whole, laid, keptOf}
 use Rattle.table.specs.Table.{Table, ReachesConflict}
 use Rattle.ends.specs.BuiltLaws.{rows-few}
 use Rattle.ends.specs.FilesLaws.{both}
-use Rattle.follows.specs.AnswersLaws.{true-false}
 use Rattle.demands.specs.Reading.{Agrees, SameMarks, NoSift, decidedIn, decidedAnd, marksOnly, SameEnd, SameFigures, records, decoded, plainlyAll, Passes}
 use Rattle.demands.specs.Demands.{ExactlyTheTable, SaysTable, SaysSame, CallIsTheTable}
 use Rattle.demands.specs.RefusalLaws.{taken, good, untouched-when, files}
@@ -117,11 +118,6 @@ module _ (input : List ℕ) (w : Work) (fit : fits input w ≡ true) where
 
 -- ---- a step that contradicts
 
-step-is : (k : Step) → contradicts k ≡ true → k ≡ Contradiction
-step-is Unchanged e = absurd (both refl (sym e))
-step-is Changed e = absurd (both refl (sym e))
-step-is Contradiction e = refl
-
 is-step : (k : Step) → k ≡ Contradiction → contradicts k ≡ true
 is-step k e = ap contradicts e
 
@@ -189,7 +185,7 @@ exactly : (input : List ℕ) (w : Work) → fits input w ≡ true → (g : File)
     → (s : Table) → ExactlyTheTable rows s g → CallIsTheTable rows s (whole input w)
 exactly input w h g e k rows q s x = record {
   contradicts = λ c. x .contradicts (ap (λ (f : File). contradicted f) (sym e) ∙ broke input w c);
-  only-then = λ r. last-is input w h ∙ ap (λ (f : File). f .last) e ∙ step-is (g .last) (x .only-then r);
+  only-then = λ r. last-is input w h ∙ ap (λ (f : File). f .last) e ∙ contradiction-is (g .last) (x .only-then r);
   every-end = λ c t n.
       let a = x .every-end (step-not (g .last) (λ z. c (last-is input w h ∙ ap (λ (f : File). f .last) e ∙ z))) t n in
       (a .0, subst (λ (l : List Row). SaysTable (whole input w) l t) (ap (λ (f : File). rowsOf (f .closed)) e ∙ q) (says input w h (ap (λ (f : File). f .sealed) e ∙ k) t (subst (λ (f : File). SameEnd f t) (sym e) (a .1))));
@@ -249,7 +245,7 @@ pub order-does-not-matter : (x y : List ℕ) (v w : Work) → fits x v ≡ true 
     → ((whole x v .given .last ≡ Contradiction) × (whole y w .given .last ≡ Contradiction)) ⊎ SaysSame (whole x v) (whole y w)
 order-does-not-matter x y v w h k rs qs d g p q a b j m u n =
     ⊎-elim
-    (λ (c : (contradicted (planned x .file) ≡ true) × (contradicted (planned y .file) ≡ true)). inl (last-is x v h ∙ step-is (planned x .file .last) (c .0), last-is y w k ∙ step-is (planned y .file .last) (c .1)))
+    (λ (c : (contradicted (planned x .file) ≡ true) × (contradicted (planned y .file) ≡ true)). inl (last-is x v h ∙ contradiction-is (planned x .file .last) (c .0), last-is y w k ∙ contradiction-is (planned y .file .last) (c .1)))
     (λ (s : SameFigures (planned x .file) (planned y .file)). inr (same-words x y v w h k s))
     (Order.order-does-not-matter x y rs qs d g p q (refusal-is x v h a) (refusal-is y w k b) j m u n)
   where

@@ -4,10 +4,10 @@ use Prim.Native.Nat.{ℕ}
 use mathlib.Core.Path.{_≡_, sym, subst}
 use mathlib.Core.Bool.{true, false}
 use mathlib.Core.List.{List}
+use Rattle.lists.specs.TestLaws.{clash}
 use Rattle.numeric.specs.Layout.{Layout, IsLayout}
 use Rattle.words.specs.Mask.{bit}
 use Rattle.files.specs.File.{File, contradicted, planned}
-use Rattle.follows.specs.AnswersLaws.{clash}
 use Rattle.layouts.specs.TurnsLaws.{Fits}
 use Rattle.layouts.specs.FilesLaws.{file-layouts}
 use Rattle.demands.specs.Reading.{Agrees}

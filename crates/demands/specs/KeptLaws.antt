@@ -12,7 +12,7 @@ use Rattle.state.specs.declared.Step.{Step}
 use Rattle.state.specs.declared.Step.the-variants.{Unchanged, Changed, Contradiction}
 use Rattle.state.specs.declared.State.{State}
 use Rattle.queues.specs.Queue.{Queue, Rows, rows, push, popped, queueRow, nextRow, oldest}
-use Rattle.queues.specs.Marks.{Marks, marks, waiting, decide}
+use Rattle.queues.specs.Marks.{Marks, waiting, decide}
 use Rattle.queues.specs.MarksLaws.{decide-waits}
 use Rattle.thresholds.specs.Rows.{Row, noRow}
 use Rattle.propagate.specs.Row.{wantsResidual}
@@ -32,10 +32,10 @@ use Rattle.records.specs.Checks.{tooMany}
 use Rattle.files.specs.File.{File, Answer, settled, sifted, begun, standing, refusal, sealedFile, markedFile, settledFile, siftedFile, act, apply, after, readFrom, fileOf, Passed}
 use Rattle.files.specs.FileLaws.{read-taken}
 use Rattle.ends.specs.KeepsLaws.{residual-named}
-use Rattle.ends.specs.TurnsLaws.{Indexed}
+use Rattle.ends.specs.Good.{Indexed, Good}
 use Rattle.ends.specs.BuiltLaws.{indexed}
 use Rattle.ends.specs.SizeLaws.{row-terms-few}
-use Rattle.ends.specs.FilesLaws.{Good, good-begun, taken, good-apply, read-passed}
+use Rattle.ends.specs.FilesLaws.{good-begun, taken, good-apply, read-passed}
 
 -- ---- QUEUES KEEP THEIR LENGTH
 

@@ -7,6 +7,7 @@ use mathlib.Core.List.{List, [], _∷_, _++_, map}
 use mathlib.Core.Logic.{⊎-elim}
 use lib.ListN.{length, drop, replicate, length-append, length-drop, length-map}
 use lib.IntN.{pos}
+use Rattle.lists.specs.TestLaws.{true-false}
 use Rattle.lists.specs.Laid.{over, joinAll, ends, pairs, triples, quads, numbers}
 use Rattle.numeric.specs.Threshold.{Term, Threshold}
 use Rattle.thresholds.specs.Rows.{Row, Guard, rowsOf}
@@ -24,7 +25,6 @@ use Rattle.prepare.specs.JobBuffers.{listsOf, rawOf, builtWith, builtOf}
 use Rattle.files.specs.Contents.{answerNumber, answerVisits, keptOf, laid, Out, whole}
 use Rattle.ends.specs.BuiltLaws.{rows-few}
 use Rattle.ends.specs.SizeLaws.{zeros-long, terms-few, guards-few, edges-most, links-most, pairs-few, triples-few, quads-few}
-use Rattle.follows.specs.AnswersLaws.{true-false}
 use Rattle.demands.specs.MemoryLaws.{SameLengths}
 use Rattle.demands.specs.RefusalLaws.{served-when, untouched-when}
 use Rattle.demands.specs.KeptLaws.{Kept, kept-file}

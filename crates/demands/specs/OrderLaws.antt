@@ -3,7 +3,7 @@
 use Prim.Native.Nat.{ℕ, _<_}
 use native.Mathlib.Omega.{arith}
 use mathlib.Core.Path.{_≡_, refl, sym, ap, ap₂, _∙_, subst}
-use mathlib.Core.Bool.{Bool, true, false, cond, _||_, _&&_}
+use mathlib.Core.Bool.{Bool, true, false, cond, _&&_}
 use mathlib.Core.List.{List, [], _∷_, _++_, map, map-append, List·Memᴰ, List·Memᴰ·head, List·Memᴰ·tail, List·Memᴰ·cases-cons, List·Memᴰ·not-nil, Memᴰ·append-left, List·Memᴰ·append-cases, List·Memᴰ·eq-of-singleton}
 use mathlib.Core.Logic.{_⊎_, inl, inr, ⊎-elim}
 use lib.ListN.{length}
@@ -11,6 +11,7 @@ use lib.Dec.{eqb}
 use lib.IntN.{pos}
 use lib.Signed.{≤ℤ-refl}
 use borrow.Author.Tests.{eq-eqb, eqb-true}
+use Rattle.lists.specs.TestLaws.{or-left, or-right, same-bool, true-false, and-left, and-right, or-true, unequal}
 use Rattle.numeric.specs.Threshold.{Job}
 use Rattle.thresholds.specs.Rows.{Row, rowsOf}
 use Rattle.records.specs.declared.Record.{Record}
@@ -21,7 +22,6 @@ use Rattle.files.specs.FileLaws.{after-snoc}
 use Rattle.ends.specs.FilesLaws.{both, taken as accepts, serving-turn, planned-passed}
 use Rattle.table.specs.Table.{Table, knownOf, possibleOf}
 use Rattle.table.specs.TableLaws.{Le, follows-more}
-use Rattle.follows.specs.AnswersLaws.{true-false, and-left, and-right, or-true}
 use Rattle.follows.specs.DecideLaws.{Broken}
 use Rattle.settles.specs.RecordsLaws.{keeps-begun, keeps-after}
 use Rattle.settles.specs.StillLaws.{Still, not-broken, known-is, possible-is, one-table, settle-still}
@@ -49,14 +49,6 @@ marked-mem b (r ∷ rs) n h =
     is sifts e = absurd (both e refl)
     is (idles x) e = absurd (both e refl)
 
-or-left : (a b : Bool) → a ≡ true → (a || b) ≡ true
-or-left true b h = refl
-or-left false b h = absurd (both h refl)
-
-or-right : (a b : Bool) → b ≡ true → (a || b) ≡ true
-or-right true b h = refl
-or-right false b h = h
-
 mem-marked : (b : Bool) (rs : List Record) (n : ℕ) → Marked rs n b → markedNode b rs n ≡ true
 unfolding markedNode
 mem-marked b [] n m = absurd (List·Memᴰ·not-nil m)
@@ -66,11 +58,6 @@ mem-marked b (r ∷ rs) n m =
   where
     itself : (eqb n n && eqb (cond b 1 0) (cond b 1 0)) ≡ true
     itself = ap₂ (λ (x y : Bool). x && y) (eq-eqb n n refl) (eq-eqb (cond b 1 0) (cond b 1 0) refl)
-
-same-bool : (a b : Bool) → (a ≡ true → b ≡ true) → (b ≡ true → a ≡ true) → a ≡ b
-same-bool true b h g = sym (h refl)
-same-bool false true h g = g refl
-same-bool false false h g = refl
 
 marks-set : (rs qs : List Record) → SameMarks rs qs → marksOnly rs ≡ marksOnly qs
 marks-set rs qs s = start-same _ _ _ _ (same true) (same false)
@@ -126,7 +113,7 @@ module _ (rs : List Record) (passes : Passes begun (rs ++ (Settle ∷ []))) (uns
 
   no-sift : NoSift all
   no-sift m =
-      ⊎-elim (λ (k : List·Memᴰ sifts (map action rs)). unsifted k) (λ (k : List·Memᴰ sifts (settles ∷ [])). let e = List·Memᴰ·eq-of-singleton k in let z : _≡_ {A = ℕ} 0 1 = cc in omega arith)
+      ⊎-elim (λ (k : List·Memᴰ sifts (map action rs)). unsifted k) (λ (k : List·Memᴰ sifts (settles ∷ [])). let e = List·Memᴰ·eq-of-singleton k in unequal cc)
       (List·Memᴰ·append-cases (map action rs) (subst (List·Memᴰ sifts) (map-append action rs (Settle ∷ [])) m))
 
   all-marks : marksOnly all ≡ marksOnly rs

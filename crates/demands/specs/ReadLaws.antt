@@ -11,11 +11,11 @@ use lib.ListN.{length, take, drop, length-take, length-drop}
 use lib.Seq.{take-nil, drop-drop}
 use lib.Dec.{eqb, ltb}
 use borrow.Author.Tests.{eqb-true, eqb-false, ltb-false}
+use Rattle.lists.specs.TestLaws.{or-false}
 use Rattle.records.specs.declared.Record.{Record}
 use Rattle.records.specs.Record.{kindOf, bodyLength}
 use Rattle.files.specs.File.{File, begun, apply, Outcome, outcome, bodyOf, recordAt, unknownKind, cutBody, refusal, refusalAt, readFrom, fileOf, planned}
 use Rattle.files.specs.FileLaws.{checked, drop-take, same-body}
-use Rattle.follows.specs.AnswersLaws.{or-false}
 use Rattle.demands.specs.Reading.{Decoded, records, damaged, decodeFrom, decoded}
 
 -- A record that is not refused has a known kind and a whole body.

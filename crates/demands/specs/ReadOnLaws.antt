@@ -9,15 +9,15 @@ use mathlib.Core.Logic.{_⊎_, inl, inr, ⊎-elim, _≢_}
 use lib.ListN.{length, drop}
 use lib.Dec.{eqb, leb, ltb}
 use borrow.Author.Tests.{eqb-false}
+use Rattle.lists.specs.TestLaws.{clash}
 use Rattle.numeric.specs.Threshold.{Job}
 use Rattle.records.specs.declared.Record.{Record}
 use Rattle.records.specs.Record.{kindOf, bodyLength}
-use Rattle.records.specs.Facts.{Change, Action, begins, changes, closes, decides, settles, sifts, idles, action, facts}
+use Rattle.records.specs.Facts.{Action, begins, changes, closes, decides, settles, sifts, idles, action, facts}
 use Rattle.records.specs.Checks.{anyOf, wrongTurn, notRising, badBound, tooMany, Check, check, first}
 use Rattle.job.specs.Job.{changed}
 use Rattle.files.specs.File.{File, contradicted, begun, standing, refusal, sealedFile, markedFile, settledFile, siftedFile, act, apply, Outcome, outcome, recordAt, unknownKind, cutBody, refusalAt, readFrom, fileOf, planned, after}
 use Rattle.ends.specs.FilesLaws.{both, Taken, taken, building-turn, change-turn, serving-turn, refused-by}
-use Rattle.follows.specs.AnswersLaws.{clash}
 use Rattle.demands.specs.Reading.{Decoded, records, damaged, decodeFrom, decoded, plain, plainly, plainlyAll, Passes}
 
 -- ---- READING

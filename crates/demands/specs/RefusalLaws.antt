@@ -10,13 +10,14 @@ use mathlib.Core.Logic.{⊎-elim, _≢_, _↔_}
 use lib.ListN.{length, take, length-take}
 use lib.Dec.{ltb}
 use borrow.Author.Tests.{le-ltb}
+use Rattle.lists.specs.TestLaws.{true-false, unequal}
 use Rattle.memory.specs.Buffers.{Work, fits}
 use Rattle.files.specs.File.{Outcome, outcome, fileOf, begun, after, planned, readFrom}
 use Rattle.files.specs.FileLaws.{read-up-to, read-taken, read-enough, read-cut}
 use Rattle.memory.specs.LengthsLaws.{fits-input, fits-shorter}
 use Rattle.files.specs.Contents.{Out, served, untouched, whole}
-use Rattle.ends.specs.FilesLaws.{Good, good-before}
-use Rattle.follows.specs.AnswersLaws.{true-false}
+use Rattle.ends.specs.FilesLaws.{good-before}
+use Rattle.ends.specs.Good.{Good}
 use Rattle.demands.specs.Demands.{accepted}
 
 pub numbers : (input : List ℕ) (w : Work) → whole input w .given .refused ≤ 10
@@ -55,7 +56,7 @@ unfolding whole fileOf
 ten input w = by (fits input w)
   where
     by : (b : Bool) → let o : Out = elim b [ true ↦ served (fileOf input) w | false ↦ untouched w ] in (o .given .refused ≡ 10) ↔ (b ≡ false)
-    by true = ((λ e. absurd (let k = read-up-to (length input) 0 input begun [] in omega arith)), λ e. absurd (let z : _≡_ {A = ℕ} 0 1 = cc in omega arith))
+    by true = ((λ e. absurd (let k = read-up-to (length input) 0 input begun [] in omega arith)), λ e. absurd (unequal cc))
     by false = ((λ e. refl), λ e. refl)
 
 -- the two ways of the call

@@ -9,6 +9,7 @@ use mathlib.Core.Logic.{⊎-elim}
 use lib.ListN.{length}
 use lib.Dec.{eqb}
 use borrow.Author.Tests.{ne-eqb}
+use Rattle.lists.specs.TestLaws.{true-false}
 use Rattle.words.specs.Mask.{bit}
 use Rattle.thresholds.specs.Rows.{Row, rowsOf}
 use Rattle.between.specs.Between.{Live}
@@ -22,7 +23,6 @@ use Rattle.table.specs.TableLaws.{run-below}
 use Rattle.table.specs.Ends.{Finite}
 use Rattle.table.specs.EndsLaws as Ends
 use Rattle.table.specs.EndsLaws.{start-finite}
-use Rattle.follows.specs.AnswersLaws.{true-false}
 use Rattle.follows.specs.DecideLaws.{Broken, decideAs}
 use Rattle.follows.specs.StandsLaws.{tableAt}
 use Rattle.follows.specs.SettledLaws.{every-conflict}

@@ -7,16 +7,16 @@ use mathlib.Core.List.{List, [], _∷_, _++_, map, List·Memᴰ, List·Memᴰ·h
 use mathlib.Core.Logic.{⊎-elim, _≢_}
 use lib.ListN.{length, replicate}
 use lib.IntN.{pos}
+use Rattle.lists.specs.All.{All}
 use Rattle.state.specs.declared.Step.{Step}
 use Rattle.state.specs.declared.Step.the-variants.{Unchanged, Changed, Contradiction}
 use Rattle.state.specs.Step.{joined, contradicts}
 use Rattle.words.specs.Mask.{bit}
 use Rattle.queues.specs.Queue.{isEmpty}
-use Rattle.row.specs.TermsLaws.{All as Every}
 use Rattle.possible_sums.specs.declared.Search.{Search}
 use Rattle.possible_sums.specs.declared.Search.the-variants.{Skipped, Fits, Nothing, Cut}
 use Rattle.possible_sums.specs.Search.{searchVisits}
-use Rattle.between.specs.Between.{Index, Live, live, Did}
+use Rattle.between.specs.Between.{Index, Live, Did}
 use Rattle.regions.specs.Drain.{indexOf}
 use Rattle.regions.specs.Drain as Drain
 use Rattle.regions.specs.Sift.{Sifted, tryRow, siftFrom}
@@ -122,7 +122,7 @@ drains-one-node h =
     both (d .2) (h (writtenAll (two-wait ++ (Settle ∷ []))) two-wait [] (d .0) (let n = d .1 in omega arith))
 
 -- File A forces node 0, which it does not mark,
-unmarked : (rs : List Record) → Every (λ (r : Record). marks true (action r) 0 ≡ false) rs → Marked rs 0 true → ⊥
+unmarked : (rs : List Record) → All (λ (r : Record). marks true (action r) 0 ≡ false) rs → Marked rs 0 true → ⊥
 unmarked [] h m = List·Memᴰ·not-nil m
 unmarked (r ∷ rs) h m =
     ⊎-elim (λ (e : decides 0 1 ≡ action r). absurd (both refl (ap (λ (a : Action). marks true a 0) e ∙ h .0)))

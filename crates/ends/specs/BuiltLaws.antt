@@ -9,53 +9,37 @@ use mathlib.Core.Logic.{⊎-elim}
 use lib.ListN.{length, getD, set, length-set, length-append}
 use lib.IntN.{ℤ}
 use lib.Dec.{eqb}
+use Rattle.lists.specs.All.{All}
 use Rattle.memory.specs.Limits.{maxNodes, maxTerms, maxThresholds, listTerms}
 use Rattle.numeric.specs.Threshold.{Term, Threshold, Job}
 use Rattle.state.specs.declared.State.{State}
 use Rattle.row.specs.Terms.{rowTerms, merged, sameTerms, total}
-use Rattle.row.specs.TermsLaws.{All as Every, all-map, conditions-merged, all-sorted}
+use Rattle.row.specs.TermsLaws.{all-map, conditions-merged, all-sorted}
 use Rattle.thresholds.specs.Guards.{Bound}
 use Rattle.thresholds.specs.Rows.{Row, rowOf, noRow, Guard, guard, below, insertGuard, place, placeAll, rowsOf, rowNumber, stateOfRow, Edge, edge, edgesIn, edgesFrom}
 use Rattle.thresholds.specs.RawLaws.{same-refl}
 use Rattle.prefixes.specs.Links.{Link, links, neighbours}
 use Rattle.prefixes.specs.LinksLaws.{links-range, Joined, downward, upward, neighbours-joined}
-use Rattle.propagate.specs.ScanLaws.{All}
 use Rattle.propagate.specs.Guards.{Node, Condition}
-use Rattle.between.specs.Between.{Index, Live, live, firstStates}
+use Rattle.between.specs.Between.{Index, Live, firstStates}
 use Rattle.regions.specs.Drain.{indexOf, seal}
 use Rattle.regions.specs.DrainLaws.{seal-keeps}
 use Rattle.job.specs.Job.{lastTerms, allTerms, addTerm}
 use Rattle.job.specs.Taken.{withThreshold, withTerm}
-use Rattle.ends.specs.RoomsLaws.{AllBounded, set-bounded, first-bounded}
-use Rattle.ends.specs.TurnsLaws.{Indexed, Sound, run-row}
-
--- A threshold of a job with so many nodes, and a job, within the limits.
-pub record Fit (nodes : ℕ) (t : Threshold) : Type 0 where
-  pub node : t .node < nodes
-  pub bound : Bound (t .bound)
-  pub conditions : Every (λ (u : Term). u .condition < nodes) (t .terms)
-  pub short : length (t .terms) ≤ listTerms
-
-pub record Fits (j : Job) : Type 0 where
-  pub nodes : j .nodes ≤ maxNodes
-  pub few : length (j .thresholds) ≤ maxThresholds
-  pub terms : allTerms (j .thresholds) ≤ maxTerms
-  pub each : Every (Fit (j .nodes)) (j .thresholds)
-
--- Its weights are below a limit. This stands apart since a file of any numbers fits, but only one of bytes is light.
-abbrev pub Light : ℕ → Job → Type 0
-Light limit j = Every (λ (t : Threshold). Every (λ (u : Term). u .weight < limit) (t .terms)) (j .thresholds)
+use Rattle.ends.specs.RoomsLaws.{set-bounded, first-bounded}
+use Rattle.ends.specs.Good.{AllBounded, Indexed, Sound, Fit, Fits}
+use Rattle.ends.specs.TurnsLaws.{run-row}
 
 -- ---- lists
 
-pub every-append : {X : Type 0} (P : X → Type 0) (xs ys : List X) → Every P xs → Every P ys → Every P (xs ++ ys)
+pub every-append : {X : Type 0} (P : X → Type 0) (xs ys : List X) → All P xs → All P ys → All P (xs ++ ys)
 every-append P [] ys a b = b
 every-append P (x ∷ xs) ys a b = (a .0, every-append P xs ys (a .1) b)
 
-pub every-last : {X : Type 0} (P : X → Type 0) (xs : List X) (x : X) → Every P xs → P x → Every P (xs ++ (x ∷ []))
+pub every-last : {X : Type 0} (P : X → Type 0) (xs : List X) (x : X) → All P xs → P x → All P (xs ++ (x ∷ []))
 every-last P xs x a p = every-append P xs (x ∷ []) a (p, tt)
 
-pub every-each : {X : Type 0} (P : X → Type 0) (xs : List X) → Every P xs → (y : X) → List·Memᴰ y xs → P y
+pub every-each : {X : Type 0} (P : X → Type 0) (xs : List X) → All P xs → (y : X) → List·Memᴰ y xs → P y
 every-each P [] a y m = absurd (List·Memᴰ·not-nil m)
 every-each P (x ∷ xs) a y m = ⊎-elim (λ (e : y ≡ x). subst P (sym e) (a .0)) (λ k. every-each P xs (a .1) y k) (List·Memᴰ·cases-cons m)
 
@@ -67,23 +51,22 @@ pub fits-condition : (j : Job) → Fits j → (t : Threshold) → List·Memᴰ t
 fits-condition j f t m u i =
     omega (arith, every-each (λ (v : Term). v .condition < j .nodes) (t .terms) (every-each (Fit (j .nodes)) (j .thresholds) (f .each) t m .conditions) u i, f .nodes)
 
-pub every-mem : {X : Type 0} (P : X → Type 0) (xs : List X) → ((x : X) → List·Memᴰ x xs → P x) → Every P xs
+pub every-mem : {X : Type 0} (P : X → Type 0) (xs : List X) → ((x : X) → List·Memᴰ x xs → P x) → All P xs
 every-mem P [] f = tt
 every-mem P (x ∷ xs) f = (f x (List·Memᴰ·head refl), every-mem P xs (λ y m. f y (List·Memᴰ·tail m)))
 
-pub every-at : {X : Type 0} (P : X → Type 0) (d : X) (xs : List X) → P d → Every P xs → (i : ℕ) → P (getD xs i d)
+pub every-at : {X : Type 0} (P : X → Type 0) (d : X) (xs : List X) → P d → All P xs → (i : ℕ) → P (getD xs i d)
 every-at P d [] p a i = p
 every-at P d (x ∷ xs) p a zero = a .0
 every-at P d (x ∷ xs) p a (suc i) = every-at P d xs p (a .1) i
 
-every-all : {X : Type 0} (P : X → Type 0) (xs : List X) → Every P xs → All P xs
-unfolding All
+every-all : {X : Type 0} (P : X → Type 0) (xs : List X) → All P xs → All P xs
 every-all P [] a = tt
 every-all P (x ∷ xs) a = (a .0, every-all P xs (a .1))
 
 -- ---- A JOB THAT GROWS within the limits: by a threshold, by a term of its last threshold
 
-fit-term : (n : ℕ) (x : Term) (ts : List Threshold) → x .condition < n → lastTerms ts < listTerms → Every (Fit n) ts → Every (Fit n) (addTerm x ts)
+fit-term : (n : ℕ) (x : Term) (ts : List Threshold) → x .condition < n → lastTerms ts < listTerms → All (Fit n) ts → All (Fit n) (addTerm x ts)
 unfolding addTerm lastTerms
 fit-term n x [] h k a = tt
 fit-term n x (t ∷ []) h k a = (
@@ -137,8 +120,8 @@ fits-term j f x h k l = record {
 }
 
 pub light-term : (limit : ℕ) (x : Term) (ts : List Threshold) → x .weight < limit
-    → Every (λ (t : Threshold). Every (λ (u : Term). u .weight < limit) (t .terms)) ts
-    → Every (λ (t : Threshold). Every (λ (u : Term). u .weight < limit) (t .terms)) (addTerm x ts)
+    → All (λ (t : Threshold). All (λ (u : Term). u .weight < limit) (t .terms)) ts
+    → All (λ (t : Threshold). All (λ (u : Term). u .weight < limit) (t .terms)) (addTerm x ts)
 unfolding addTerm
 light-term limit x [] h a = tt
 light-term limit x (t ∷ []) h a = (every-last (λ (u : Term). u .weight < limit) (t .terms) x (a .0) h, tt)
@@ -148,42 +131,42 @@ light-term limit x (t ∷ u ∷ us) h a = (a .0, light-term limit x (u ∷ us) h
 
 module _ (P : Row → Type 0) (Q : Threshold → Type 0) (new : (t : Threshold) → Q t → P (rowOf (t .terms) (rowTerms (t .terms)) (guard (t .bound) (t .node) ∷ [])))
     (more : (t : Threshold) (r : Row) → Q t → P r → P (rowOf (r .raw) (r .terms) (insertGuard (guard (t .bound) (t .node)) (r .guards)))) where
-  place-every : (t : Threshold) (rs : List Row) → Q t → Every P rs → Every P (place t rs)
+  place-every : (t : Threshold) (rs : List Row) → Q t → All P rs → All P (place t rs)
   unfolding place
   place-every t [] q a = (new t q, tt)
   place-every t (r ∷ rs) q a = by (place-every t rs q (a .1)) (sameTerms (r .raw) (t .terms))
     where
-      by : Every P (place t rs) → (b : Bool) → Every P (elim b [ true ↦ rowOf (r .raw) (r .terms) (insertGuard (guard (t .bound) (t .node)) (r .guards)) ∷ rs | false ↦ r ∷ place t rs ])
+      by : All P (place t rs) → (b : Bool) → All P (elim b [ true ↦ rowOf (r .raw) (r .terms) (insertGuard (guard (t .bound) (t .node)) (r .guards)) ∷ rs | false ↦ r ∷ place t rs ])
       by ih true = (more t r q (a .0), a .1)
       by ih false = (a .0, ih)
 
-  all-every : (ts : List Threshold) (rs : List Row) → Every Q ts → Every P rs → Every P (placeAll ts rs)
+  all-every : (ts : List Threshold) (rs : List Row) → All Q ts → All P rs → All P (placeAll ts rs)
   unfolding placeAll
   all-every [] rs q a = a
   all-every (t ∷ ts) rs q a = all-every ts (place t rs) (q .1) (place-every t rs (q .0) a)
 
-  pub rows-all : (j : Job) → Every Q (j .thresholds) → Every P (rowsOf j)
+  pub rows-all : (j : Job) → All Q (j .thresholds) → All P (rowsOf j)
   rows-all j a = all-every (j .thresholds) [] a tt
 
   -- and so has the row of any number, if noRow has it
-  pub rows-every : P noRow → (j : Job) → Every Q (j .thresholds) → (r : ℕ) → P (getD (rowsOf j) r noRow)
+  pub rows-every : P noRow → (j : Job) → All Q (j .thresholds) → (r : ℕ) → P (getD (rowsOf j) r noRow)
   rows-every p j a = every-at P noRow (rowsOf j) p (rows-all j a)
 
 -- ---- rows name nodes
 
 abbrev RowFits : Row → Type 0
-RowFits r = Every Node (r .guards) × Every Condition (r .terms)
+RowFits r = All Node (r .guards) × All Condition (r .terms)
 
-insert-fits : (g : Guard) (gs : List Guard) → Node g → Every Node gs → Every Node (insertGuard g gs)
+insert-fits : (g : Guard) (gs : List Guard) → Node g → All Node gs → All Node (insertGuard g gs)
 unfolding insertGuard
 insert-fits g [] n a = (n, tt)
 insert-fits g (h ∷ hs) n a = by (insert-fits g hs n (a .1)) (below g h)
   where
-    by : Every Node (insertGuard g hs) → (b : Bool) → Every Node (elim b [ true ↦ g ∷ h ∷ hs | false ↦ h ∷ insertGuard g hs ])
+    by : All Node (insertGuard g hs) → (b : Bool) → All Node (elim b [ true ↦ g ∷ h ∷ hs | false ↦ h ∷ insertGuard g hs ])
     by ih true = (n, a)
     by ih false = (a .0, ih)
 
-terms-fit : (raw : List Term) → Every Condition raw → Every Condition (rowTerms raw)
+terms-fit : (raw : List Term) → All Condition raw → All Condition (rowTerms raw)
 terms-fit raw h = all-sorted Condition (merged raw) (conditions-merged (λ (n : ℕ). n < maxNodes) raw h)
 
 row-fits : (n : ℕ) → n ≤ maxNodes → (t : Threshold) → Fit n t → RowFits (rowOf (t .terms) (rowTerms (t .terms)) (guard (t .bound) (t .node) ∷ []))
@@ -264,35 +247,35 @@ unfolding placeAll
 all-keep [] rs raw h = h
 all-keep (t ∷ ts) rs raw h = all-keep ts (place t rs) raw (place-keeps t rs raw h)
 
-pub all-there : (ts : List Threshold) (rs : List Row) → Every (λ (t : Threshold). There (t .terms) (placeAll ts rs)) ts
+pub all-there : (ts : List Threshold) (rs : List Row) → All (λ (t : Threshold). There (t .terms) (placeAll ts rs)) ts
 unfolding placeAll
 all-there [] rs = tt
 all-there (t ∷ ts) rs = (all-keep ts (place t rs) (t .terms) (place-there t rs), all-there ts (place t rs))
 
-placed : (n : ℕ) (rs : List Row) (ts : List Threshold) → length rs ≤ maxThresholds → Every (Fit n) ts → Every (λ (t : Threshold). There (t .terms) rs) ts
-    → Every (λ (t : Threshold). Bound (t .bound) × (rowNumber rs (t .terms) < maxThresholds)) ts
+placed : (n : ℕ) (rs : List Row) (ts : List Threshold) → length rs ≤ maxThresholds → All (Fit n) ts → All (λ (t : Threshold). There (t .terms) rs) ts
+    → All (λ (t : Threshold). Bound (t .bound) × (rowNumber rs (t .terms) < maxThresholds)) ts
 placed n rs [] h f a = tt
 placed n rs (t ∷ ts) h f a = ((f .0 .bound, (let k = a .0 in omega arith)), placed n rs ts h (f .1) (a .1))
 
 -- ---- edges and links lead to rows
 
-edges-in : (c r : ℕ) (ts : List Term) (n : ℕ) → r < n → Every (λ (e : Edge). e .row < n) (edgesIn c r ts)
+edges-in : (c r : ℕ) (ts : List Term) (n : ℕ) → r < n → All (λ (e : Edge). e .row < n) (edgesIn c r ts)
 unfolding edgesIn
 edges-in c r [] n h = tt
 edges-in c r (t ∷ ts) n h = by (edges-in c r ts n h) (eqb (t .condition) c)
   where
-    by : Every (λ (e : Edge). e .row < n) (edgesIn c r ts) → (b : Bool)
-        → Every (λ (e : Edge). e .row < n) (elim b [ true ↦ edge r (t .weight) ∷ edgesIn c r ts | false ↦ edgesIn c r ts ])
+    by : All (λ (e : Edge). e .row < n) (edgesIn c r ts) → (b : Bool)
+        → All (λ (e : Edge). e .row < n) (elim b [ true ↦ edge r (t .weight) ∷ edgesIn c r ts | false ↦ edgesIn c r ts ])
     by ih true = (h, ih)
     by ih false = ih
 
-pub edges-from : (c k : ℕ) (rs : List Row) (n : ℕ) → k + length rs ≤ n → Every (λ (e : Edge). e .row < n) (edgesFrom c k rs)
+pub edges-from : (c k : ℕ) (rs : List Row) (n : ℕ) → k + length rs ≤ n → All (λ (e : Edge). e .row < n) (edgesFrom c k rs)
 unfolding edgesFrom
 edges-from c k [] n h = tt
 edges-from c k (r ∷ rs) n h =
     every-append (λ (e : Edge). e .row < n) (edgesIn c k (r .terms)) (edgesFrom c (k + 1) rs) (edges-in c k (r .terms) n (omega arith)) (edges-from c (k + 1) rs n (omega arith))
 
-pub linked-rows : (rs : List Row) (n r : ℕ) → length rs ≤ n → Every (λ (q : ℕ). q < n) (neighbours r (links rs))
+pub linked-rows : (rs : List Row) (n r : ℕ) → length rs ≤ n → All (λ (q : ℕ). q < n) (neighbours r (links rs))
 linked-rows rs n r h = every-mem (λ (q : ℕ). q < n) (neighbours r (links rs)) (λ q m. let a = neighbours-joined r q (links rs) m in by q (a .0) (a .1) (a .2))
   where
     by : (q : ℕ) (l : Link) → List·Memᴰ l (links rs) → Joined r q l → q < n

@@ -11,6 +11,7 @@ use lib.Dec.{eqb, ltb, leb}
 use lib.IntN.{ℤ, pos, negsuc}
 use lib.Signed.{ltZ}
 use borrow.Author.Tests.{ltb-false, leb-false, eqb-true}
+use Rattle.lists.specs.TestLaws.{unequal}
 use Rattle.memory.specs.Limits.{listTerms, maxNodes, maxTerms, maxThresholds}
 use Rattle.signed.specs.SignedLaws.{nlt-leZ}
 use Rattle.state.specs.declared.State.{State}
@@ -31,22 +32,14 @@ use Rattle.records.specs.CheckLaws.{Passes, passes}
 use Rattle.job.specs.Job.{changed, lastTerms, allTerms}
 use Rattle.files.specs.File.{File, contradicted, begun, standing, refusal, sealedFile, markedFile, settledFile, siftedFile, act, apply, Outcome, outcome, recordAt, unknownKind, cutBody, refusalAt, readFrom, fileOf, planned, after, Passed}
 use Rattle.files.specs.FileLaws.{checked, after-snoc}
-use Rattle.ends.specs.RoomsLaws.{Bounded, none-bounded}
-use Rattle.ends.specs.TurnsLaws.{Sound}
+use Rattle.ends.specs.RoomsLaws.{none-bounded}
+use Rattle.ends.specs.Good.{Bounded, Sound, Fits, Good}
 use Rattle.ends.specs.SettlesLaws.{settle-stays, settle-ends, sift-sound, sift-ends as sift-rests}
-use Rattle.ends.specs.BuiltLaws.{Fits, fits-none, fits-threshold, fits-term, indexed, seal-sound}
+use Rattle.ends.specs.BuiltLaws.{fits-none, fits-threshold, fits-term, indexed, seal-sound}
 use Rattle.ends.specs.BlankLaws.{same-at}
 
--- A file within the limits: the job that records gave and the one that the last seal closed, which is the same.
-pub record Good (f : File) : Type 0 where
-  pub job : Fits (f .job)
-  pub closed : Fits (f .closed)
-  pub live : Sound (f .live)
-  pub unstarted : f .started ≡ false → f .sealed ≡ false
-  pub same : f .sealed ≡ true → f .closed ≡ f .job
-
 pub both : {b : Bool} → b ≡ true → b ≡ false → ⊥
-both h k = let z : _≡_ {A = ℕ} 0 1 = cc in omega arith
+both h k = unequal cc
 
 pub good-begun : Good begun
 unfolding begun

@@ -2,16 +2,15 @@
 use Prim.Native.Nat.{ℕ}
 use mathlib.Core.Bool.{Bool, true, false}
 use mathlib.Core.List.{List, [], _∷_}
+use Rattle.lists.specs.All.{All}
 use Rattle.numeric.specs.Threshold.{Term}
 use Rattle.state.specs.declared.State.{State}
 use Rattle.queues.specs.Marks.{Marks, Decided, decide}
-use Rattle.propagate.specs.ScanLaws.{All}
 use Rattle.residual.specs.Residual.{thresholdResidual}
 use Rattle.residual.specs.declared.Interval.{Interval}
 use Rattle.residual.specs.ForceLaws.{Each, force-cases, residual-keeping}
 
 inside : (Q : Term → Type 0) (ts : List Term) → All Q ts → Each Q ts
-unfolding All
 inside Q [] h = tt
 inside Q (t ∷ ts) h = (h .0, inside Q ts (h .1))
 

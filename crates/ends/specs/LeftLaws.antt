@@ -8,13 +8,15 @@ use mathlib.Core.Path.{_≡_, refl, sym, ap, ap₂, _∙_}
 use mathlib.Core.Bool.{Bool, true, false, cond, not, _||_, or-true}
 use mathlib.Core.Logic.{_≢_}
 use lib.ListN.{length}
+use Rattle.lists.specs.TestLaws.{unequal}
 use Rattle.memory.specs.Limits.{maxNodes}
 use Rattle.state.specs.declared.Step.{Step}
 use Rattle.state.specs.declared.Step.the-variants.{Changed, Contradiction}
 use Rattle.words.specs.Mask.{bit}
 use Rattle.queues.specs.Queue.{Queue, push, popped}
 use Rattle.queues.specs.Marks.{Marks, marks, isDecided, Decided, decide, waiting}
-use Rattle.queues.specs.MarksLaws.{mask, Waits, decide-there, decide-clash, decide-new, decide-waits, decide-has, decide-other}
+use Rattle.queues.specs.MarksLaws.{mask, decide-there, decide-clash, decide-new, decide-waits, decide-has, decide-other}
+use Rattle.queues.specs.Waiting.{Waits}
 
 -- How many of the first n nodes are not decided.
 unfoldable pub undecided : (ℕ → Bool) → ℕ → ℕ
@@ -76,7 +78,7 @@ module _ (m : Marks) (w : Waits m) (value : Bool) (n : ℕ) (h : n < maxNodes) w
   decided-after false e = ap (λ (b : Bool). bit (after .sure) n || b) e ∙ or-true (bit (after .sure) n)
 
   unlike : Changed ≡ Contradiction → ⊥
-  unlike e = let z : _≡_ {A = ℕ} 0 1 = cc in omega arith
+  unlike e = unequal cc
 
   -- A node that is decided anew waits, and is not undecided any more.
   new : bit (mask value m) n ≡ false → bit (mask (not value) m) n ≡ false → load after ≤ load m

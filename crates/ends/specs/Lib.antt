@@ -7,3 +7,4 @@ pub mod BuiltLaws
 pub mod SizeLaws
 pub mod BlankLaws
 pub mod FilesLaws
+pub mod Good

@@ -4,13 +4,14 @@ use Prim.Native.Nat.{ℕ, zero, suc, _+_, _-_, _*_, _≤_, _<_}
 use native.Mathlib.Nat.{le-refl, not-suc-le-zero, le-of-suc-le-suc}
 use native.Mathlib.Omega.{arith}
 use mathlib.Core.Path.{_≡_, refl, sym, ap₂, _∙_}
-use mathlib.Core.Bool.{Bool, true, false, _&&_}
+use mathlib.Core.Bool.{Bool, true, false}
 use mathlib.Core.List.{List, [], _∷_}
 use lib.ListN.{length, getD, set}
 use lib.Dec.{leb}
 use lib.IntN.{ℤ, pos}
 use lib.Signed.{leZ, ltZ}
 use borrow.Author.Tests.{ltb-true, not-true}
+use Rattle.lists.specs.TestLaws.{and-right}
 use Rattle.signed.specs.SignedLaws.{nle-ltZ, ltZ-nle, ltZ-add, ltZ-pos}
 use Rattle.state.specs.declared.State.{State}
 use Rattle.state.specs.declared.Upper.{Upper}
@@ -22,11 +23,7 @@ use Rattle.propagate.specs.ScanLaws.{clash}
 use Rattle.propagate.specs.declared.Tightened.{Tightened}
 use Rattle.propagate.specs.Told.{tight, guardState, movedLower, under, movedUpper, movedState}
 use Rattle.propagate.specs.ToldLaws.{guard-cases, lower-cases, upper-cases}
-
--- Both bounds of a row are in the range.
-pub record Bounded (s : State) : Type 0 where
-  pub lower : Bound (s .lower)
-  pub upper : Bound (limit (s .upper))
+use Rattle.ends.specs.Good.{Bounded, AllBounded}
 
 abbrev pub above : ℤ → ℕ
 above z = 9007199254740992 - raised z
@@ -92,10 +89,6 @@ tells-guard s value b h k =
     guard-cases s value b (Tells s) (λ e. tells-not s h) (λ e f. tells-less s (withLower s b) (bounded-lower s b h k) (room-lower s b h k f))
     (λ e f. tells-less s (withUpper s (Under b)) (bounded-upper s (Under b) h k) (room-upper s b h k f))
 
-and-right : (a b : Bool) → (a && b) ≡ true → b ≡ true
-and-right true b h = h
-and-right false b h = clash (sym h)
-
 tells-lower : (source s : State) (n k : ℕ) → Bounded source → Bounded s → Tells s (movedLower source s n k)
 tells-lower source s n k o h =
     lower-cases source n k (Tells s) s (λ e. tells-less s (withLower s (source .lower)) (bounded-lower s (source .lower) h (o .lower))
@@ -127,9 +120,6 @@ unfolding rooms
 rooms-set [] r s h = absurd (not-suc-le-zero h)
 rooms-set (x ∷ ss) zero s h = omega arith
 rooms-set (x ∷ ss) (suc r) s h = omega (arith, rooms-set ss r s (le-of-suc-le-suc h))
-
-abbrev pub AllBounded : List State → Type 0
-AllBounded ss = (r : ℕ) → Bounded (getD ss r noState)
 
 pub rooms-most : (ss : List State) → AllBounded ss → rooms ss ≤ 18014398509481986 * length ss
 unfolding rooms

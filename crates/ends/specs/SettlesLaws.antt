@@ -10,10 +10,11 @@ use borrow.Author.Tests.{eqb-false}
 use Rattle.state.specs.Step.{contradicts}
 use Rattle.queues.specs.Queue.{isEmpty, oldest, popped, nextRow}
 use Rattle.queues.specs.RowsLaws.{flags-next}
-use Rattle.queues.specs.Marks.{Marks, marks}
-use Rattle.queues.specs.MarksLaws.{Waits, waits-popped}
+use Rattle.queues.specs.Marks.{Marks}
+use Rattle.queues.specs.MarksLaws.{waits-popped}
+use Rattle.queues.specs.Waiting.{Waits}
 use Rattle.propagate.specs.ScanLaws.{clash}
-use Rattle.between.specs.Between.{Index, Live, live, Did, stateAt}
+use Rattle.between.specs.Between.{Index, Live, Did, stateAt}
 use Rattle.between.specs.KeepsLaws.{Small}
 use Rattle.regions.specs.Drain.{takeNode, takeRow, turn, atRest, settle}
 use Rattle.regions.specs.DrainLaws.{untaken, unrowed, nodeTold, nodeDrained, node-ends, row-ends, turn-ends, settle-walks, settle-keeps}
@@ -21,7 +22,8 @@ use Rattle.regions.specs.Sift.{Sifted, tryRow, sift}
 use Rattle.regions.specs.SiftLaws.{tryTerms, try-leaves, sift-walks, sift-keeps}
 use Rattle.ends.specs.LeftLaws.{load, load-popped}
 use Rattle.ends.specs.KeepsLaws.{residual-named}
-use Rattle.ends.specs.TurnsLaws.{Indexed, Sound, core, left, left-most, Then, then, less-decide, run-guards, run-condition, run-prefixes}
+use Rattle.ends.specs.TurnsLaws.{left, left-most, Then, then, less-decide, run-guards, run-condition, run-prefixes}
+use Rattle.ends.specs.Good.{Indexed, Sound}
 
 -- One came of the other, and has less left to do; or no more.
 abbrev pub Falls : Live → Live → Type 0

@@ -1,7 +1,6 @@
 -- How much a job's rows are: no more guards than thresholds, no more terms and edges than the job has terms, and less than two
 -- neighbours for each row.
-use Prim.Native.Nat.{ℕ, suc, _+_, _*_, _<_, _≤_}
-use native.Mathlib.Numerals.{add-one}
+use Prim.Native.Nat.{ℕ, suc, _+_, _≤_}
 use native.Mathlib.Omega.{arith}
 use mathlib.Core.Path.{_≡_, refl, ap}
 use mathlib.Core.Bool.{Bool, true, false}
@@ -22,7 +21,8 @@ use Rattle.prefixes.specs.Links.{neighbourLists}
 use Rattle.prefixes.specs.NeighboursLaws.{neighbours-few}
 use Rattle.prepare.specs.RowsGivenTermsLaws.{row-short}
 use Rattle.job.specs.Job.{allTerms}
-use Rattle.ends.specs.BuiltLaws.{Fit, Fits, rows-every, rows-few}
+use Rattle.ends.specs.BuiltLaws.{rows-every, rows-few}
+use Rattle.ends.specs.Good.{Fit, Fits}
 
 -- ---- sums over lists
 

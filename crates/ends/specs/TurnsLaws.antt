@@ -16,39 +16,22 @@ use Rattle.state.specs.State.{noState, drained}
 use Rattle.words.specs.Mask.{bit}
 use Rattle.queues.specs.Queue.{Rows, push, queueRow}
 use Rattle.queues.specs.QueueLaws.{row-waits, row-new}
-use Rattle.queues.specs.RowsLaws.{Flags, flags-queue}
+use Rattle.queues.specs.RowsLaws.{flags-queue}
 use Rattle.queues.specs.Marks.{Marks, decide}
-use Rattle.queues.specs.MarksLaws.{Waits, waits-decide}
-use Rattle.row.specs.TermsLaws.{All as Every}
+use Rattle.queues.specs.MarksLaws.{waits-decide}
+use Rattle.queues.specs.Waiting.{Waits, Flags}
 use Rattle.thresholds.specs.Guards.{Bound}
 use Rattle.thresholds.specs.Rows.{Row, noRow, Edge, edgesOf, rowNumber}
 use Rattle.prefixes.specs.Links.{neighbours}
-use Rattle.propagate.specs.ScanLaws.{All}
-use Rattle.propagate.specs.Guards.{Node, Condition}
 use Rattle.propagate.specs.Row.{Ran, thresholdRow, wantsResidual}
 use Rattle.propagate.specs.RowLaws.{Kept, kept-row}
-use Rattle.between.specs.Between.{Index, Live, live, Did, stateAt, withState, residualQueued, runWith, runRow, linkedQueued, bounded, thresholdGuard, guardOf, thresholdCondition, termCount, thresholdPrefixes}
+use Rattle.between.specs.Between.{Index, Live, live, Did, stateAt, withState, residualQueued, runWith, runRow, linkedQueued, thresholdGuard, guardOf, thresholdCondition, termCount, thresholdPrefixes}
 use Rattle.between.specs.LoopLaws.{drained-lower, drained-upper, edgeRun, moved, movedRun}
 use Rattle.between.specs.WalkLaws.{guardRow, guardTold, guard-ends, guard-of-ends, every-member, condition-keeps, prefix-keeps}
 use Rattle.between.specs.KeepsLaws.{Small, names-all, row-named}
 use Rattle.ends.specs.LeftLaws.{load, load-decide, load-most}
-use Rattle.ends.specs.RoomsLaws.{Bounded, room, rooms, rooms-set, rooms-most, AllBounded, set-bounded, bounded-same, room-same, tells-guard, tells-moved}
-
--- What is asked of the rows: all that a row or a threshold names has its place, and bounds are in the range.
-pub record Indexed (x : Index) : Type 0 where
-  pub nodes : (r : ℕ) → All Node (getD (x .rows) r noRow .guards)
-  pub conditions : (r : ℕ) → All Condition (getD (x .rows) r noRow .terms)
-  pub thresholds : Every (λ (t : Threshold). Bound (t .bound) × (rowNumber (x .rows) (t .terms) < maxThresholds)) (x .thresholds)
-  pub edges : (n : ℕ) → Every (λ (e : Edge). e .row < maxThresholds) (edgesOf (x .rows) n)
-  pub linked : (r : ℕ) → Every (λ (q : ℕ). q < maxThresholds) (neighbours r (x .links))
-
--- What is asked of the rest: each row and each node waits at most once, and bounds are in the range.
-pub record Sound (v : Live) : Type 0 where
-  pub long : length (v .states) ≡ maxThresholds
-  pub states : AllBounded (v .states)
-  pub waits : Waits (v .marks)
-  pub dirty : Flags (v .dirty)
-  pub residuals : Flags (v .residuals)
+use Rattle.ends.specs.RoomsLaws.{room, rooms, rooms-set, rooms-most, set-bounded, bounded-same, room-same, tells-guard, tells-moved}
+use Rattle.ends.specs.Good.{Bounded, Indexed, Sound}
 
 -- What is left to do, without the rows that wait for a residual and with them. A node that is drained may queue all rows for a
 -- residual, a bound that moves queues its row twice.

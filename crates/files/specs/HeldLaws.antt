@@ -8,15 +8,15 @@ use lib.ListN.{length, getD, drop, set, drop-of-length-le}
 use lib.Seq.{drop-cons, drop-drop}
 use lib.IntN.{ℤ}
 use lib.Dec.{eqb}
-use borrow.Author.Tests.{ltb-false, ne-eqb}
+use borrow.Author.Tests.{ltb-false, ne-eqb, not-false}
 use mathlib.Core.Logic.{_⊎_, inl, inr, ⊎-elim}
+use Rattle.lists.specs.TestLaws.{or-false, true-false, unequal}
 use Rattle.numeric.specs.Threshold.{term, Threshold, Job}
 use Rattle.numeric.specs.Area.{weightOfArea}
 use Rattle.memory.specs.Limits.{maxNodes, maxTerms, maxThresholds}
 use Rattle.memory.specs.Buffers.{Raw, rawLists, raw}
 use Rattle.lists.specs.Laid.{numbers, joinAll, ends, pairs}
 use Rattle.thresholds.specs.Guards.{nodeAt}
-use Rattle.prepare.specs.Given.{given}
 use Rattle.prepare.specs.JobBuffers.{rawOf}
 use Rattle.records.specs.declared.Standing.{Standing}
 use Rattle.records.specs.declared.Record.{Record}
@@ -30,7 +30,7 @@ use Rattle.records.specs.CheckLaws.{Passes, passes, was-refused, was-taken, tak
 use Rattle.job.specs.Job.{lastNode, lastTerms, allTerms, standingOf}
 use Rattle.job.specs.Taken.{openedBy, addedTo, withThreshold, withTerm}
 use Rattle.job.specs.Gathered.{Gathered, Opened, Added}
-use Rattle.job.specs.JobLaws.{or-false, standing-opened, standing-added}
+use Rattle.job.specs.JobLaws.{standing-opened, standing-added}
 use Rattle.job.specs.SoundLaws.{gathered-none}
 use Rattle.job.specs.TakenLaws.{opened-gathered, added-gathered, term-open}
 use Rattle.job.specs.RawLaws.{raw-opened, raw-added}
@@ -38,12 +38,8 @@ use Rattle.files.specs.declared.JobRead.{JobRead}
 use Rattle.files.specs.File.{File, contradicted, standing, noJob, begun, withJob, act, apply, refusalAt}
 use Rattle.files.specs.FileLaws.{zero-or}
 use Rattle.files.specs.JobPart.{JobPart, jobPart, readJob, jobPartOf}
-use Rattle.files.specs.JobPartLaws.{true-or, job-refused, job-sealing, job-next}
+use Rattle.files.specs.JobPartLaws.{job-refused, job-sealing, job-next}
 use Rattle.files.specs.Held.{headed, Room, Held, Takes, HeldPart, Reads, Going}
-
-not-false : (b : Bool) → not b ≡ false → b ≡ true
-not-false true e = refl
-not-false false e = sym e
 
 -- ---- one record that is taken
 
@@ -113,7 +109,7 @@ module _ (f : File) (w : Raw) (room : Room w) (s : Standing) (cs ws : List ℕ) 
     job = o .job cs ws ∙ ap (λ (j : Job). withThreshold j n b) (h .job);
     gathered = opened-gathered s n b cs ws ts bs r ts′ bs′ (h .gathered) o;
     unsealed = h .unsealed;
-    unstarted = λ q. absurd (let z : _≡_ {A = ℕ} 0 1 = cc in omega arith);
+    unstarted = λ q. absurd (unequal cc);
   }
     where
       started : f .started ≡ true
@@ -155,7 +151,7 @@ module _ (f : File) (w : Raw) (room : Room w) (s : Standing) (cs ws : List ℕ) 
       job = o .job bs ∙ ap (λ (j : Job). withTerm j (term c v)) (h .job);
       gathered = added-gathered s c v cs ws ts bs r cs′ ws′ ts′ (h .gathered) o;
       unsealed = h .unsealed;
-      unstarted = λ q. absurd (let z : _≡_ {A = ℕ} 0 1 = cc in omega arith);
+      unstarted = λ q. absurd (unequal cc);
     }
 
     pub held-adds : Held (apply f (Adds c v)) w r cs′ ws′ ts′ bs
@@ -203,13 +199,13 @@ module _ (x : Record) (s : Standing) (cs ws : List ℕ) (ts : List (List ℕ)) (
   pub takes-seal : x ≡ Seal → closing (action x) ≡ false → Takes x s cs ws ts bs s cs ws ts bs
   takes-seal e c =
       let b : _≡_ {A = Bool} true false = sym (ap (λ (y : Record). closing (action y)) e) ∙ c in
-      absurd (let z : _≡_ {A = ℕ} 0 1 = cc in omega arith)
+      absurd (unequal cc)
 
   pub takes-serving : (y : Record) → x ≡ y → facts (action y) .turn ≡ serving → s .sealed ≡ false → Takes x s cs ws ts bs s cs ws ts bs
   takes-serving y e t u =
       let p = passes s (facts (action y)) (sym (ap (refusedBy s) e) ∙ none) in
       let b : _≡_ {A = Bool} true false = sym (ap not u) ∙ sym (ap (wrongTurn s) t) ∙ p .turn in
-      absurd (let z : _≡_ {A = ℕ} 0 1 = cc in omega arith)
+      absurd (unequal cc)
 
   pub takes-unknown : x ≡ Unknown → Takes x s cs ws ts bs s cs ws ts bs
   unfolding apply act
@@ -370,7 +366,7 @@ one-record (suc n) o bytes f taken whole h k e =
     ⊎-elim
     (λ (z : number ≡ 0).
     ⊎-elim (λ (c : closing (action x) ≡ true). inl (stops-by _ whole f taken 0 o true (at-sealing bytes o h 0 f [] z c) (sym e ∙ at-sealing bytes o h n f taken z c) refl))
-    (λ (c : closing (action x) ≡ false). inr (on z c)) (true-or (closing (action x))))
+    (λ (c : closing (action x) ≡ false). inr (on z c)) (true-false (closing (action x))))
     (λ (z : number ≡ 0 → ⊥). inl (stops-by _ whole f taken number o false (at-refused bytes o h 0 f [] z) (sym e ∙ at-refused bytes o h n f taken z)
     (ap (λ (t : Bool). not t || false) (ne-eqb number 0 z))))
     (zero-or number)
@@ -434,12 +430,12 @@ module _ (bytes : List ℕ) (w : Raw) (r : JobRead) (cs ws : List ℕ) (ts : Lis
     no-goes e q =
         let a = ap₂ (λ (n : ℕ) (b : Bool). not (eqb n 0) || b) (q .refused) (q .sealing) in
         let b : _≡_ {A = Bool} true false = sym e ∙ by-part ∙ a in
-        let z : _≡_ {A = ℕ} 0 1 = cc in omega arith
+        unequal cc
 
     no-stops : stopping r′ ≡ false → Stops one (jobPartOf bytes) → ⊥
     no-stops e q =
         let b : _≡_ {A = Bool} true false = sym (q .stopped) ∙ sym by-part ∙ e in
-        let z : _≡_ {A = ℕ} 0 1 = cc in omega arith
+        unequal cc
 
     pub going-stops : stopping r′ ≡ true → HeldPart (jobPartOf bytes) w r′ cs′ ws′ ts′ bs′
     going-stops e =

@@ -7,8 +7,9 @@ use mathlib.Core.Bool.{Bool, true, false}
 use mathlib.Core.List.{List, [], _∷_, _++_}
 use lib.ListN.{length, drop, length-drop}
 use lib.Seq.{drop-drop}
-use mathlib.Core.Logic.{_⊎_, inl, inr, ⊎-elim}
+use mathlib.Core.Logic.{⊎-elim}
 use borrow.Author.Tests.{eq-eqb, ne-eqb}
+use Rattle.lists.specs.TestLaws.{true-false, unequal}
 use Rattle.records.specs.declared.Record.{Record}
 use Rattle.records.specs.Record.{kindOf, bodyLength, recordAt}
 use Rattle.records.specs.Facts.{action}
@@ -16,10 +17,6 @@ use Rattle.records.specs.Next.{closing}
 use Rattle.files.specs.File.{File, begun, apply, refusalAt, outcome, readFrom, fileOf}
 use Rattle.files.specs.FileLaws.{zero-or, read-on, read-stop, read-enough}
 use Rattle.files.specs.JobPart.{JobPart, jobPart, readJob, jobPartOf}
-
-pub true-or : (b : Bool) → (b ≡ true) ⊎ (b ≡ false)
-true-or true = inl refl
-true-or false = inr refl
 
 -- ---- one record: it is refused, a seal, or taken
 module _ (n o kind : ℕ) (rest : List ℕ) (f : File) (taken : List Record) where
@@ -64,7 +61,7 @@ goes-on (suc n) o (kind ∷ rest) f taken h =
     (λ (c : closing (action x) ≡ false).
     subst (GoesOn (suc n) o (kind ∷ rest) f taken) (sym (job-next n o kind rest f taken e c))
     (further e (readJob n (o + 1 + room) (drop room rest) (apply f x) (taken ++ (x ∷ []))) (goes-on n (o + 1 + room) (drop room rest) (apply f x) (taken ++ (x ∷ [])) (let d = length-drop room rest in omega (arith, d, h)))))
-    (true-or (closing (action x))))
+    (true-false (closing (action x))))
     (λ (e : refusalAt f kind rest ≡ 0 → ⊥). subst (GoesOn (suc n) o (kind ∷ rest) f taken) (sym (job-refused n o kind rest f taken e)) (stop (refusalAt f kind rest) false))
     (zero-or (refusalAt f kind rest))
   where
@@ -110,11 +107,11 @@ ends-there (suc n) o (kind ∷ rest) f taken =
     (λ (e : refusalAt f kind rest ≡ 0).
     ⊎-elim
     (λ (c : closing (action x) ≡ true).
-    subst (EndsThere (suc n) o (kind ∷ rest) f taken) (sym (job-sealing n o kind rest f taken e c)) (λ q. absurd (let z : _≡_ {A = ℕ} 0 1 = cc in omega arith)))
+    subst (EndsThere (suc n) o (kind ∷ rest) f taken) (sym (job-sealing n o kind rest f taken e c)) (λ q. absurd (unequal cc)))
     (λ (c : closing (action x) ≡ false).
     subst (EndsThere (suc n) o (kind ∷ rest) f taken) (sym (job-next n o kind rest f taken e c))
     (λ q. read-on n o kind rest f taken e ∙ ends-there n (o + 1 + room) (drop room rest) (apply f x) (taken ++ (x ∷ [])) q))
-    (true-or (closing (action x))))
+    (true-false (closing (action x))))
     (λ (e : refusalAt f kind rest ≡ 0 → ⊥). subst (EndsThere (suc n) o (kind ∷ rest) f taken) (sym (job-refused n o kind rest f taken e)) (λ q. read-stop n o kind rest f taken e))
     (zero-or (refusalAt f kind rest))
   where

@@ -9,6 +9,7 @@ use mathlib.Core.List.{List, [], _∷_, List·Memᴰ, List·Memᴰ·head, List·
 use mathlib.Core.Logic.{_⊎_, inl, inr, ⊎-elim, _≢_}
 use lib.ListN.{length, getD}
 use lib.Signed.{leZ, ltZ}
+use Rattle.lists.specs.TestLaws.{and-left, or-true, or-false}
 use Rattle.memory.specs.Limits.{maxNodes}
 use Rattle.signed.specs.SignedLaws.{leZ-trans, ltZ-weaken, nlt-leZ}
 use Rattle.numeric.specs.Threshold.{Term, Threshold, Job}
@@ -22,9 +23,7 @@ use Rattle.prefixes.specs.LinksLaws.{link, link-starts, links-range, links-apar
 use Rattle.between.specs.Between.{Index}
 use Rattle.table.specs.Table.{IsRow, termsOf, Guards, IsPrefix}
 use Rattle.table.specs.LayoutLaws.{row-made}
-use Rattle.follows.specs.AnswersLaws.{and-left, or-true, or-false}
-use Rattle.follows.specs.CompleteLaws.{All, Rising, Falling}
-use Rattle.follows.specs.RowCompleteLaws.{Ordered}
+use Rattle.follows.specs.Ordered.{Each, Rising, Falling, Ordered}
 
 pub record Built (j : Job) (x : Index) : Type 0 where
   pub thresholds : x .thresholds ≡ j .thresholds
@@ -224,11 +223,11 @@ rises-at (x ∷ xs) zero h k = h .0
 rises-at (x ∷ xs) (suc r) h k = rises-at xs r (h .1) (le-of-suc-le-suc k)
 
 -- a list's property, element by element
-each : (P : Term → Type 0) (ts : List Term) → TermsLaws.All P ts → All P ts
+each : (P : Term → Type 0) (ts : List Term) → TermsLaws.All P ts → Each P ts
 each P [] a t m = absurd (List·Memᴰ·not-nil m)
 each P (x ∷ xs) a t m = ⊎-elim (λ (e : t ≡ x). subst P (sym e) (a .0)) (λ k. each P xs (a .1) t k) (List·Memᴰ·cases-cons m)
 
-together : (P : Term → Type 0) (ts : List Term) → All P ts → TermsLaws.All P ts
+together : (P : Term → Type 0) (ts : List Term) → Each P ts → TermsLaws.All P ts
 together P [] a = tt
 together P (x ∷ xs) a = (a x (List·Memᴰ·head refl), together P xs (λ t m. a t (List·Memᴰ·tail m)))
 
@@ -264,10 +263,10 @@ from-at all [] r h k = absurd (not-suc-le-zero k)
 from-at all (x ∷ xs) zero h k = h .0
 from-at all (x ∷ xs) (suc r) h k = from-at all xs r (h .1) (le-of-suc-le-suc k)
 
--- All nodes that a job names have a place in the masks.
+-- Each nodes that a job names have a place in the masks.
 pub record InRange (j : Job) : Type 0 where
   pub nodes : (t : Threshold) → List·Memᴰ t (j .thresholds) → t .node < maxNodes
-  pub conditions : (t : Threshold) → List·Memᴰ t (j .thresholds) → All (λ (u : Term). u .condition < maxNodes) (t .terms)
+  pub conditions : (t : Threshold) → List·Memᴰ t (j .thresholds) → Each (λ (u : Term). u .condition < maxNodes) (t .terms)
 
 pub rows-ordered : (j : Job) → InRange j → (r : ℕ) → IsRow (rowsOf j) r → Ordered (getD (rowsOf j) r noRow)
 rows-ordered j ok r i =
@@ -278,8 +277,8 @@ rows-ordered j ok r i =
       rising = rises-at (rowsOf j) r (all-rise (j .thresholds) [] tt) i;
       falling = subst Falling (sym (m .terms)) (falls (rowTerms raw) (sorted-falling raw));
       guards = λ g k. let o = m .guards g k in subst (λ (y : Guard). y .node < maxNodes) (sym (o .3)) (ok .nodes (o .0) (o .1));
-      terms = subst (All (λ (u : Term). u .condition < maxNodes)) (sym (m .terms))
+      terms = subst (Each (λ (u : Term). u .condition < maxNodes)) (sym (m .terms))
           (each (λ (u : Term). u .condition < maxNodes) (rowTerms raw)
           (all-sorted (λ (u : Term). u .condition < maxNodes) (merged raw) (conditions-merged (λ (n : ℕ). n < maxNodes) raw
-          (together (λ (u : Term). u .condition < maxNodes) raw (subst (All (λ (u : Term). u .condition < maxNodes)) (from .2) (ok .conditions (from .0) (from .1)))))));
+          (together (λ (u : Term). u .condition < maxNodes) raw (subst (Each (λ (u : Term). u .condition < maxNodes)) (from .2) (ok .conditions (from .0) (from .1)))))));
     }

@@ -10,6 +10,8 @@ use lib.ListN.{length, take, drop, take-append-drop, length-take, length-append,
 use lib.Seq.{take-add, take-append-seam, drop-append-seam}
 use lib.IntN.{ℤ, pos}
 use lib.Signed.{leZ}
+use Rattle.lists.specs.TestLaws.{and-left, and-right, or-true, unequal}
+use Rattle.state.specs.StepLaws.{joined-fine}
 use Rattle.memory.specs.Limits.{maxNodes}
 use Rattle.signed.specs.SignedLaws.{leZ-refl, leZ-trans, leZ-nlt}
 use Rattle.numeric.specs.Threshold.{Term}
@@ -26,14 +28,9 @@ use Rattle.state.specs.declared.Upper.the-variants.{Open, Under}
 use Rattle.thresholds.specs.Rows.{Guard}
 use Rattle.propagate.specs.Scan.{scan, Scanned, scanned, force}
 use Rattle.propagate.specs.Row.{sureWaits, decides, sureGuards, reachable, neverWaits, neverGuards, termWaits, forces, forced}
-use Rattle.between.specs.LoopLaws.{joined-fine}
-use Rattle.follows.specs.AnswersLaws.{and-left, and-right, or-true}
 use Rattle.follows.specs.DecideLaws.{scan-keeps}
 use Rattle.follows.specs.RowLaws.{decide-grows, mem-drop, mem-take, mem-reverse}
-
--- Every element has a property.
-abbrev pub All : {X : Type 0} → (X → Type 0) → List X → Type 0
-All P xs = (x : _) → List·Memᴰ x xs → P x
+use Rattle.follows.specs.Ordered.{Each, Rising, Falling}
 
 -- WHERE A SCAN STOPS: the places that it passed are done, and the next one waits.
 pub record Stopped {X : Type 0} (waits : X → Marks → Bool) (Done : X → Marks → Type 0) (xs : List X) (n : ℕ) (r : Scanned) : Type 0 where
@@ -41,7 +38,7 @@ pub record Stopped {X : Type 0} (waits : X → Marks → Bool) (Done : X → Mar
   pub back : List X
   pub split : xs ≡ front ++ back
   pub passed : r .passed ≡ n + length front
-  pub done : All (λ (x : X). Done x (r .marks)) front
+  pub done : Each (λ (x : X). Done x (r .marks)) front
   pub next : (back ≡ []) ⊎ ((x : X) × (rest : List X) × (back ≡ x ∷ rest) × (waits x (r .marks) ≡ true))
 
 pub scan-stops : {X : Type 0} (waits : X → Marks → Bool) (act : X → Marks → Decided) (P : Marks → Type 0) (Done : X → Marks → Type 0)
@@ -91,7 +88,7 @@ scan-stops {X} waits act P Done keeps stays (x ∷ xs) makes n m k p c h =
     turn b = elim b [ true ↦ scanned n m k | false ↦ acted (contradicts (act x m .step)) ]
 
     two : After → waits x m ≡ false → (b : Bool) → contradicts (act x m .step) ≡ b → contradicts (acted b .step) ≡ false → Goal (acted b)
-    two ih w true e d = absurd (let z : _≡_ {A = ℕ} 0 1 = cc in omega arith)
+    two ih w true e d = absurd (unequal cc)
     two ih w false e d =
         go-on w e (scan waits act xs (n + 1) (act x m .marks) (joined k (act x m .step))) refl
         (ih (n + 1) (act x m .marks) (joined k (act x m .step)) (keeps x m p) (joined-fine k (act x m .step) c e) d)
@@ -117,8 +114,8 @@ has-stays true k value m n h = decide-grows value m n (λ _. pos 0) (λ _. Open)
 has-stays false k value m n h = decide-grows value m n (λ _. pos 0) (λ _. Open) .never k h
 
 has-after : (v : Bool) (m : Marks) (n : ℕ) → n < maxNodes → Wide m → contradicts (decide v m n .step) ≡ false → Has v n (decide v m n .marks)
-has-after true m n h w c = decide-has true m n (let k = w .sure in omega arith) (λ e. absurd (let z : _≡_ {A = ℕ} 0 1 = cc in omega arith))
-has-after false m n h w c = decide-has false m n (let k = w .never in omega arith) (λ e. absurd (let z : _≡_ {A = ℕ} 0 1 = cc in omega arith))
+has-after true m n h w c = decide-has true m n (let k = w .sure in omega arith) (λ e. absurd (unequal cc))
+has-after false m n h w c = decide-has false m n (let k = w .never in omega arith) (λ e. absurd (unequal cc))
 
 either-has : (v : Bool) (n : ℕ) (m : Marks) → Has v n m → isDecided m n ≡ true
 either-has true n m h = ap (λ (b : Bool). b || bit (m .never) n) h
@@ -151,11 +148,6 @@ module _ {X : Type 0} where
       take-add n k xs ∙ ap (λ (l : List X). take n xs ++ l) (ap₂ (λ (i : ℕ) (l : List X). take i l) h e ∙ take-append-seam front back) in
       List·Memᴰ·append-cases (take n xs) (subst (λ (l : List X). List·Memᴰ x l) p m)
 
--- GUARDS by rising bounds
-abbrev pub Rising : List Guard → Type 0
-Rising [] = Unit {0}
-Rising (g ∷ gs) = All (λ (h : Guard). leZ (g .bound) (h .bound) ≡ true) gs × Rising gs
-
 rising-back : (xs ys : List Guard) → Rising (xs ++ ys) → Rising ys
 rising-back [] ys h = h
 rising-back (x ∷ xs) ys h = rising-back xs ys (h .1)
@@ -166,16 +158,16 @@ rising-drop (suc n) [] h = h
 rising-drop (suc n) (x ∷ xs) h = rising-drop n xs (h .1)
 
 -- RULE 2 IS DONE: every guard whose bound is reached is sure, and so is every guard that the cursor passed.
-pub sure-complete : (gs : List Guard) (st : State) (m : Marks) → Rising gs → All (λ (g : Guard). g .node < maxNodes) gs → Wide m
-    → All (λ (g : Guard). Has true (g .node) m) (take (st .«sure_guard») gs) → contradicts (sureGuards gs st m .step) ≡ false
+pub sure-complete : (gs : List Guard) (st : State) (m : Marks) → Rising gs → Each (λ (g : Guard). g .node < maxNodes) gs → Wide m
+    → Each (λ (g : Guard). Has true (g .node) m) (take (st .«sure_guard») gs) → contradicts (sureGuards gs st m .step) ≡ false
     → let a = sureGuards gs st m in
-    All (λ (g : Guard). Has true (g .node) (a .marks)) (take (st .«sure_guard» + a .passed) gs)
-    × All (λ (g : Guard). leZ (g .bound) (reached st) ≡ true → Has true (g .node) (a .marks)) gs
+    Each (λ (g : Guard). Has true (g .node) (a .marks)) (take (st .«sure_guard» + a .passed) gs)
+    × Each (λ (g : Guard). leZ (g .bound) (reached st) ≡ true → Has true (g .node) (a .marks)) gs
 sure-complete gs st m up small w old c =
     let o = scan-stops (sureWaits st) (decides true) Wide (λ (g : Guard). Has true (g .node)) (λ g k p. wide-decide true k (g .node) p)
     (λ g h k p. has-stays true (g .node) true k (h .node) p) (drop (st .«sure_guard») gs)
     (λ g k i p v d. has-after true k (g .node) (small g (mem-drop (st .«sure_guard») gs g i)) p d) 0 m Unchanged w refl c in
-    let before : All (λ (g : Guard). Has true (g .node) (sureGuards gs st m .marks)) (take (st .«sure_guard») gs) =
+    let before : Each (λ (g : Guard). Has true (g .node) (sureGuards gs st m .marks)) (take (st .«sure_guard») gs) =
     λ g i. scan-keeps (Has true (g .node)) (Unit {0}) (sureWaits st) (decides true) (drop (st .«sure_guard») gs)
     (λ h k j p v. (has-stays true (g .node) true k (h .node) p, λ _. tt)) 0 m Unchanged (old g i) refl .0 in (
       λ g i. ⊎-elim (before g) (o .done g) (front-cases gs (o .front) (o .back) (st .«sure_guard») (sureGuards gs st m .passed) (o .split) (o .passed) g i),
@@ -192,12 +184,7 @@ sure-complete gs st m up small w old c =
         ⊎-elim (λ (e : g ≡ x). subst (λ (y : Guard). leZ (x .bound) (y .bound) ≡ true) (sym e) (leZ-refl (x .bound))) (λ j. up′ .0 g j)
         (List·Memᴰ·cases-cons (subst (λ (l : List Guard). List·Memᴰ g l) (n .2) b)) in
         let f = leZ-nlt (reached st) (x .bound) (leZ-trans (x .bound) (g .bound) (reached st) le h) in
-        let z : _≡_ {A = ℕ} 0 1 = cc (f, n .3) in omega arith) (o .next)
-
--- TERMS by falling weights
-abbrev pub Falling : List Term → Type 0
-Falling [] = Unit {0}
-Falling (t ∷ ts) = All (λ (u : Term). u .weight ≤ t .weight) ts × Falling ts
+        unequal (cc (f, n .3))) (o .next)
 
 falling-back : (xs ys : List Term) → Falling (xs ++ ys) → Falling ys
 falling-back [] ys h = h
@@ -238,16 +225,16 @@ force-has v k value m n h = by (isDecided m n)
 
 -- RULES 4 AND 5 ARE DONE: every term that the cutoff forces is decided, and so is every term that the cursor passed.
 pub forced-complete : (value : Bool) (light : ℕ → Bool) → ((a b : ℕ) → a ≤ b → light b ≡ true → light a ≡ true)
-    → (ts : List Term) (n : ℕ) (m : Marks) → Falling ts → All (λ (t : Term). t .condition < maxNodes) ts → Wide m
-    → All (λ (t : Term). isDecided m (t .condition) ≡ true) (take n ts) → contradicts (forced value light (drop n ts) m .step) ≡ false
+    → (ts : List Term) (n : ℕ) (m : Marks) → Falling ts → Each (λ (t : Term). t .condition < maxNodes) ts → Wide m
+    → Each (λ (t : Term). isDecided m (t .condition) ≡ true) (take n ts) → contradicts (forced value light (drop n ts) m .step) ≡ false
     → let a = forced value light (drop n ts) m in
-    All (λ (t : Term). isDecided (a .marks) (t .condition) ≡ true) (take (n + a .passed) ts)
-    × All (λ (t : Term). light (t .weight) ≡ false → isDecided (a .marks) (t .condition) ≡ true) ts
+    Each (λ (t : Term). isDecided (a .marks) (t .condition) ≡ true) (take (n + a .passed) ts)
+    × Each (λ (t : Term). light (t .weight) ≡ false → isDecided (a .marks) (t .condition) ≡ true) ts
 forced-complete value light down ts n m fall small w old c =
     let o = scan-stops (termWaits light) (forces value) Wide (λ (t : Term) (k : Marks). isDecided k (t .condition) ≡ true) (λ t k p. wide-force value k (t .condition) p)
     (λ t u k p. force-stays (t .condition) value k (u .condition) p) (drop n ts)
     (λ t k i p v d. force-makes value k (t .condition) (small t (mem-drop n ts t i)) p d) 0 m Unchanged w refl c in
-    let before : All (λ (t : Term). isDecided (forced value light (drop n ts) m .marks) (t .condition) ≡ true) (take n ts) =
+    let before : Each (λ (t : Term). isDecided (forced value light (drop n ts) m .marks) (t .condition) ≡ true) (take n ts) =
     λ t i. scan-keeps (λ (k : Marks). isDecided k (t .condition) ≡ true) (Unit {0}) (termWaits light) (forces value) (drop n ts)
     (λ u k j p v. (force-stays (t .condition) value k (u .condition) p, λ _. tt)) 0 m Unchanged (old t i) refl .0 in (
       λ t i. ⊎-elim (before t) (o .done t) (front-cases ts (o .front) (o .back) n (forced value light (drop n ts) m .passed) (o .split) (o .passed) t i),
@@ -265,14 +252,14 @@ forced-complete value light down ts n m fall small w old c =
         ⊎-elim (λ (e : t ≡ x). let z : t .weight ≡ x .weight = ap (λ (y : Term). y .weight) e in omega arith) (λ j. fall′ .0 t j)
         (List·Memᴰ·cases-cons (subst (λ (l : List Term). List·Memᴰ t l) (q .2) b)) in
         let f = down (t .weight) (x .weight) le (and-right (not (isDecided (forced value light (drop n ts) m .marks) (x .condition))) (light (x .weight)) (q .3)) in
-        let z : _≡_ {A = ℕ} 0 1 = cc (f, h) in omega arith) (o .next)
+        unequal (cc (f, h))) (o .next)
 
 -- GUARDS FROM ABOVE: bounds fall along the reversed list.
 abbrev FallingBounds : List Guard → Type 0
 FallingBounds [] = Unit {0}
-FallingBounds (g ∷ gs) = All (λ (h : Guard). leZ (h .bound) (g .bound) ≡ true) gs × FallingBounds gs
+FallingBounds (g ∷ gs) = Each (λ (h : Guard). leZ (h .bound) (g .bound) ≡ true) gs × FallingBounds gs
 
-falls-snoc : (gs : List Guard) (x : Guard) → FallingBounds gs → All (λ (h : Guard). leZ (x .bound) (h .bound) ≡ true) gs → FallingBounds (gs ++ (x ∷ []))
+falls-snoc : (gs : List Guard) (x : Guard) → FallingBounds gs → Each (λ (h : Guard). leZ (x .bound) (h .bound) ≡ true) gs → FallingBounds (gs ++ (x ∷ []))
 falls-snoc [] x f h = (λ y i. absurd (List·Memᴰ·not-nil i), tt)
 falls-snoc (g ∷ gs) x f h = (
   λ y i. ⊎-elim (f .0 y)
@@ -310,16 +297,16 @@ reach-down st a b h k = both-true (leZ-trans a b (st .possible) h (and-left (leZ
     under (Under u) e = below u (leZ u a) refl e
 
 -- RULE 3 IS DONE: every guard whose bound is out of reach is never, and so is every guard behind the cursor.
-pub never-complete : (gs : List Guard) (st : State) (m : Marks) (k : Step) → Rising gs → All (λ (g : Guard). g .node < maxNodes) gs → Wide m → st .«never_guard» ≤ length gs
-    → All (λ (g : Guard). Has false (g .node) m) (drop (st .«never_guard») gs) → contradicts k ≡ false → contradicts (neverGuards gs st m k .step) ≡ false
+pub never-complete : (gs : List Guard) (st : State) (m : Marks) (k : Step) → Rising gs → Each (λ (g : Guard). g .node < maxNodes) gs → Wide m → st .«never_guard» ≤ length gs
+    → Each (λ (g : Guard). Has false (g .node) m) (drop (st .«never_guard») gs) → contradicts k ≡ false → contradicts (neverGuards gs st m k .step) ≡ false
     → let a = neverGuards gs st m k in
-    All (λ (g : Guard). Has false (g .node) (a .marks)) (drop (st .«never_guard» - a .passed) gs)
-    × All (λ (g : Guard). reachable st (g .bound) ≡ false → Has false (g .node) (a .marks)) gs
+    Each (λ (g : Guard). Has false (g .node) (a .marks)) (drop (st .«never_guard» - a .passed) gs)
+    × Each (λ (g : Guard). reachable st (g .bound) ≡ false → Has false (g .node) (a .marks)) gs
 never-complete gs st m k up small w fits old ck c =
     let o = scan-stops (neverWaits st) (decides false) Wide (λ (g : Guard). Has false (g .node)) (λ g n p. wide-decide false n (g .node) p)
     (λ g h n p. has-stays false (g .node) false n (h .node) p) rs
     (λ g n i p v d. has-after false n (g .node) (small g (mem-take (st .«never_guard») gs g (mem-reverse (take (st .«never_guard») gs) g i))) p d) 0 m k w ck c in
-    let before : All (λ (g : Guard). Has false (g .node) (neverGuards gs st m k .marks)) (drop (st .«never_guard») gs) =
+    let before : Each (λ (g : Guard). Has false (g .node) (neverGuards gs st m k .marks)) (drop (st .«never_guard») gs) =
     λ g i. scan-keeps (Has false (g .node)) (Unit {0}) (neverWaits st) (decides false) rs
     (λ h n j p v. (has-stays false (g .node) false n (h .node) p, λ _. tt)) 0 m k (old g i) ck .0 in (
       λ g i. ⊎-elim (λ j. o .done g (mem-reverse (o .front) g j)) (before g)
@@ -362,4 +349,4 @@ never-complete gs st m k up small w fits old ck c =
         ⊎-elim (λ (e : g ≡ x). subst (λ (y : Guard). leZ (y .bound) (x .bound) ≡ true) (sym e) (leZ-refl (x .bound))) (λ j. fall .0 g j)
         (List·Memᴰ·cases-cons (subst (λ (l : List Guard). List·Memᴰ g l) (n .2) b)) in
         let f = reach-down st (g .bound) (x .bound) le (n .3) in
-        let z : _≡_ {A = ℕ} 0 1 = cc (f, h) in omega arith) (o .next)
+        unequal (cc (f, h))) (o .next)

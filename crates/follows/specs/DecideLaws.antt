@@ -1,6 +1,5 @@
 -- A decided node follows by the rules of the table where one of them gives it; a scan keeps that from place to place.
 use Prim.Native.Nat.{ℕ, _+_}
-use native.Mathlib.Omega.{arith}
 use native.Mathlib.Decide.{ℕ-discrete}
 use mathlib.Core.Path.{_≡_, refl, sym, ap, _∙_, subst}
 use mathlib.Core.Bool.{Bool, true, false, not, cond}
@@ -10,6 +9,8 @@ use lib.Dec.{eqb}
 use lib.IntN.{ℤ}
 use lib.Signed.{≤ℤ-refl}
 use borrow.Author.Tests.{eq-eqb}
+use Rattle.lists.specs.TestLaws.{true-false, unequal}
+use Rattle.state.specs.StepLaws.{joined-fine}
 use Rattle.state.specs.declared.Step.{Step}
 use Rattle.state.specs.declared.Step.the-variants.{Contradiction}
 use Rattle.state.specs.declared.Upper.{Upper}
@@ -23,8 +24,6 @@ use Rattle.table.specs.Table as T
 use Rattle.table.specs.Table.{Table, decideSure, decideNever, Conflict, both}
 use Rattle.table.specs.OrderLaws.{up-refl}
 use Rattle.table.specs.TableLaws.{Le, le-then, Follows, follows-step}
-use Rattle.between.specs.LoopLaws.{joined-fine}
-use Rattle.follows.specs.AnswersLaws.{true-false}
 
 -- The nodes of the masks, with lowers and uppers of rows, as a state of the table.
 abbrev pub tableOf : Marks → (ℕ → ℤ) → (ℕ → Upper) → Table
@@ -95,14 +94,14 @@ module _ (rows : List Row) (s : Table) (l : ℕ → ℤ) (u : ℕ → Upper) whe
       there : bit (mask value m) n ≡ true → Kept (decide value m n .marks) × (contradicts (decide value m n .step) ≡ true → Broken rows s)
       there e =
           let q = decide-there value m n e in
-          (subst (λ (d : Decided). Kept (d .marks)) (sym q) f, λ c. absurd (let z : _≡_ {A = ℕ} 0 1 = cc (q, c) in omega arith))
+          (subst (λ (d : Decided). Kept (d .marks)) (sym q) f, λ c. absurd (unequal (cc (q, c))))
 
       new : bit (mask value m) n ≡ false → Kept (decide value m n .marks) × (contradicts (decide value m n .step) ≡ true → Broken rows s)
       new e =
           let d = follows-step rows s (tableOf m l u) (decideAs value (tableOf m l u) n) f (gives e) in (
             follows-below rows s (tableOf (decide value m n .marks) l u) (decideAs value (tableOf m l u) n) d (decided-below l u value m n),
             λ c. ⊎-elim (λ (o : bit (mask (not value) m) n ≡ true). (decideAs value (tableOf m l u) n, d, against l u rows value m n o))
-                (λ (o : bit (mask (not value) m) n ≡ false). absurd (let q = decide-new value m n e o in let z : _≡_ {A = ℕ} 0 1 = cc (q, c) in omega arith))
+                (λ (o : bit (mask (not value) m) n ≡ false). absurd (let q = decide-new value m n e o in unequal (cc (q, c))))
                 (true-false (bit (mask (not value) m) n)),
           )
 
@@ -112,7 +111,7 @@ pub scan-keeps : {X : Type 0} (P : Marks → Type 0) (C : Type 0) (waits : X →
     → (n : ℕ) (m : Marks) (k : Step) → P m → contradicts k ≡ false
     → P (scan waits act xs n m k .marks) × (contradicts (scan waits act xs n m k .step) ≡ true → C)
 unfolding scan
-scan-keeps P C waits act [] h n m k p c = (p, λ d. absurd (let z : _≡_ {A = ℕ} 0 1 = cc in omega arith))
+scan-keeps P C waits act [] h n m k p c = (p, λ d. absurd (unequal cc))
 scan-keeps P C waits act (x ∷ xs) h n m k p c =
     waiting-or (λ n m k p c. scan-keeps P C waits act xs (λ y m i. h y m (List·Memᴰ·tail i)) n m k p c) (waits x m) refl
   where
@@ -131,5 +130,5 @@ scan-keeps P C waits act (x ∷ xs) h n m k p c =
           | false ↦
               elim (contradicts (act x m .step)) [ true ↦ record { passed = n + 1; marks = act x m .marks; step = Contradiction } | false ↦ scan waits act xs (n + 1) (act x m .marks) (joined k (act x m .step)) ]
         ])
-    waiting-or ih true e = (p, λ d. absurd (let z : _≡_ {A = ℕ} 0 1 = cc in omega arith))
+    waiting-or ih true e = (p, λ d. absurd (unequal cc))
     waiting-or ih false e = acted ih e (contradicts (act x m .step)) refl

@@ -12,6 +12,7 @@ use lib.Dec.{eqb}
 use lib.IntN.{ℤ, pos, _-ℤ_}
 use lib.Signed.{leZ, ltZ}
 use borrow.Author.Tests.{eq-eqb}
+use Rattle.lists.specs.TestLaws.{clash, and-right, or-true}
 use Rattle.numeric.specs.Threshold.{Threshold}
 use Rattle.state.specs.declared.Step.the-variants.{Contradiction}
 use Rattle.state.specs.declared.State.{State}
@@ -31,9 +32,9 @@ use Rattle.between.specs.Between.{Index, Live, live, stateAt, Did, runRow, runW
 use Rattle.between.specs.LoopLaws.{condition-walk}
 use Rattle.between.specs.WalkLaws.{walk-fine, prefix-fine, guardRow, guard-ends}
 use Rattle.table.specs.Table.{IsRow}
-use Rattle.follows.specs.AnswersLaws.{clash, and-right, or-true}
 use Rattle.follows.specs.CompleteLaws.{Wide, Has, wide-decide, has-stays}
-use Rattle.follows.specs.RowCompleteLaws.{Ordered, Passed, Complete, SameFigures, row-complete}
+use Rattle.follows.specs.RowCompleteLaws.{Passed, Complete, SameFigures, row-complete}
+use Rattle.follows.specs.Ordered.{Ordered}
 use Rattle.follows.specs.StandsLaws.{also, also-before, also-other, put-state}
 use Rattle.follows.specs.KeepsLaws.{run-keeps}
 use Rattle.follows.specs.EdgesLaws.{edge-term}

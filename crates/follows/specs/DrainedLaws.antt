@@ -13,6 +13,7 @@ use lib.Dec.{eqb}
 use lib.IntN.{ℤ, pos, _+ℤ_, _-ℤ_, pos-+ℤ-pos}
 use lib.Signed.{_≤ℤ_, ≤ℤ-refl}
 use borrow.Author.Tests.{eq-eqb, ne-eqb}
+use Rattle.lists.specs.TestLaws.{true-false, clash}
 use Rattle.signed.specs.SignedLaws.{pos-minus}
 use Rattle.numeric.specs.Threshold.{Term, term}
 use Rattle.state.specs.declared.State.{State}
@@ -23,13 +24,12 @@ use Rattle.words.specs.Mask.{bit}
 use Rattle.queues.specs.Marks.{isDecided}
 use Rattle.row.specs.TermsLaws.{Distinct}
 use Rattle.thresholds.specs.Rows.{Row, Edge, edgesOf}
-use Rattle.between.specs.Between.{Index, Live, live, stateAt, withState, Did, runRow, conditionFrom, thresholdCondition}
+use Rattle.between.specs.Between.{Index, Live, stateAt, withState, Did, runRow, conditionFrom, thresholdCondition}
 use Rattle.between.specs.LoopLaws.{drained-lower, drained-upper, edgeRun, condition-walk}
 use Rattle.between.specs.WalkLaws.{walks, every-member}
 use Rattle.table.specs.Table.{Table, IsRow, termsOf, known, possible}
 use Rattle.table.specs.OrderLaws.{UpLe, up-refl}
 use Rattle.table.specs.TableLaws.{le-then}
-use Rattle.follows.specs.AnswersLaws.{true-false, clash}
 use Rattle.follows.specs.DecideLaws.{Broken}
 use Rattle.follows.specs.StandsLaws.{tableAt, among, also, Stands, known-same, possible-same, put-state, restart}
 use Rattle.follows.specs.MovesLaws.{Kept, run-stands}

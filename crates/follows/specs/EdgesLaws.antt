@@ -9,8 +9,9 @@ use mathlib.Core.Logic.{_⊎_, inl, inr, ⊎-elim, _≢_}
 use lib.ListN.{length, getD}
 use lib.Dec.{eqb}
 use borrow.Author.Tests.{eq-eqb, ne-eqb, eqb-true, eqb-false}
+use Rattle.lists.specs.All.{All}
 use Rattle.numeric.specs.Threshold.{Term, term}
-use Rattle.row.specs.TermsLaws.{All, Distinct}
+use Rattle.row.specs.TermsLaws.{Distinct}
 use Rattle.thresholds.specs.Rows.{Row, noRow, Edge, edge, edgesIn, edgesFrom, edgesOf}
 use Rattle.table.specs.Table.{IsRow, termsOf}
 

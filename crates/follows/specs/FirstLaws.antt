@@ -8,17 +8,17 @@ use mathlib.Core.List.{List, [], _∷_}
 use mathlib.Core.Logic.{_⊎_, inl, inr, ⊎-elim}
 use lib.ListN.{length, getD, set, length-set}
 use lib.Seq.{getD-set-same, getD-set-other}
+use Rattle.lists.specs.TestLaws.{clash}
 use Rattle.state.specs.declared.State.{State}
 use Rattle.state.specs.State.{noState}
 use Rattle.words.specs.Mask.{bit}
 use Rattle.queues.specs.Marks.{isDecided}
-use Rattle.queues.specs.MarksLaws.{mask, Waits}
+use Rattle.queues.specs.MarksLaws.{mask}
+use Rattle.queues.specs.Waiting.{Waits, Queued}
 use Rattle.thresholds.specs.Rows.{Row, noRow, stateOfRow}
 use Rattle.between.specs.Between.{Index, Live, live, stateAt, firstStates}
 use Rattle.table.specs.Table.{start}
-use Rattle.follows.specs.AnswersLaws.{clash}
 use Rattle.follows.specs.StandsLaws.{Apart}
-use Rattle.follows.specs.WaitingLaws.{Queued}
 use Rattle.follows.specs.SettledLaws.{Sound}
 use Rattle.follows.specs.StartLaws.{nothing, first-sound}
 

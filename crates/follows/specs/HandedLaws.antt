@@ -13,6 +13,7 @@ use lib.Dec.{eqb, leb}
 use lib.IntN.{ℤ}
 use lib.Signed.{leZ, ltZ, _≤ℤ_, ≤ℤ-refl}
 use borrow.Author.Tests.{eq-eqb, ne-eqb, eqb-true, le-leb}
+use Rattle.lists.specs.TestLaws.{clash, and-one}
 use Rattle.signed.specs.SignedLaws.{nlt-leZ}
 use Rattle.numeric.specs.Threshold.{Threshold}
 use Rattle.state.specs.declared.State.{State}
@@ -34,7 +35,6 @@ use Rattle.between.specs.LoopLaws.{drained-lower, drained-upper, edgeRun, moved
 use Rattle.between.specs.WalkLaws.{prefix-fine, guardRow, guardTold, guard-ends, condition-keeps}
 use Rattle.table.specs.Table.{Table, IsRow, termsOf, IsPrefix}
 use Rattle.table.specs.OrderLaws.{le, ≤ℤ-trans, UpLe, up-refl, up-trans}
-use Rattle.follows.specs.AnswersLaws.{clash, and-one}
 use Rattle.follows.specs.StandsLaws.{Stands}
 use Rattle.follows.specs.BoundsLaws.{SameBounds, same-bounds, run-bounds, put-here, put-there}
 use Rattle.follows.specs.MovesLaws.{guard-tightens, neighbour-stands, moved-tighter}

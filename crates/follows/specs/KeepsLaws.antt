@@ -7,8 +7,9 @@ use Rattle.numeric.specs.Threshold.{Threshold}
 use Rattle.queues.specs.Marks.{Marks, decide}
 use Rattle.thresholds.specs.Rows.{noRow}
 use Rattle.between.specs.Between.{Index, Live, runRow, thresholdGuard, thresholdCondition, thresholdPrefixes}
-use Rattle.between.specs.KeepsLaws.{Small, Names, run-named, guard-named, condition-named, prefixes-named}
-use Rattle.follows.specs.RowCompleteLaws.{Ordered}
+use Rattle.between.specs.KeepsLaws.{Small, run-named, guard-named, condition-named, prefixes-named}
+use Rattle.between.specs.Ready.{Names}
+use Rattle.follows.specs.Ordered.{Ordered}
 
 module _ (P : Marks → Type 0) (each : (value : Bool) (m : Marks) (n : ℕ) → n < maxNodes → P m → P (decide value m n .marks))
     (x : Index) (ordered : (r : ℕ) → r < length (x .rows) → Ordered (getD (x .rows) r noRow)) where

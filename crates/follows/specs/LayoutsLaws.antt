@@ -7,6 +7,7 @@ use mathlib.Core.Bool.{Bool, true, false, not}
 use mathlib.Core.List.{List}
 use lib.IntN.{pos}
 use lib.Signed.{_≤ℤ_}
+use borrow.Author.Tests.{not-true}
 use Rattle.numeric.specs.Threshold.{Job}
 use Rattle.numeric.specs.Layout.{Layout, IsLayout}
 use Rattle.state.specs.declared.Upper.the-variants.{Under}
@@ -19,7 +20,6 @@ use Rattle.table.specs.Table.{Table, start, termsOf}
 use Rattle.table.specs.OrderLaws.{UpLe, pos-≤ℤ}
 use Rattle.table.specs.TableLaws.{Le, Follows}
 use Rattle.table.specs.LayoutLaws.{ofLayout, layout-agrees, no-layout}
-use Rattle.follows.specs.AnswersLaws.{not-true}
 use Rattle.follows.specs.DecideLaws.{Broken}
 use Rattle.follows.specs.StandsLaws.{tableAt, Stands}
 use Rattle.follows.specs.MovesLaws.{Kept}

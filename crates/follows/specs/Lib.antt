@@ -1,4 +1,3 @@
-pub mod AnswersLaws
 pub mod DecideLaws
 pub mod RowLaws
 pub mod CompleteLaws
@@ -21,3 +20,4 @@ pub mod SettledLaws
 pub mod StartLaws
 pub mod FirstLaws
 pub mod EndsLaws
+pub mod Ordered

@@ -11,6 +11,7 @@ use lib.Dec.{leb}
 use lib.IntN.{ℤ}
 use lib.Signed.{leZ, _≤ℤ_, _<ℤ_, ≤ℤ-refl}
 use borrow.Author.Tests.{leb-true}
+use Rattle.lists.specs.TestLaws.{clash, and-left, and-right}
 use Rattle.signed.specs.SignedLaws.{nle-ltZ}
 use Rattle.numeric.specs.Threshold.{Term, Threshold}
 use Rattle.state.specs.declared.Step.the-variants.{Unchanged}
@@ -34,7 +35,6 @@ use Rattle.between.specs.WalkLaws.{guardRow, guardTold, guard-ends, prefix-walk
 use Rattle.table.specs.Table.{Table, IsRow, termsOf, Guards, IsPrefix, raiseLower, lowerUpper, AtRest, sure-guard, never-guard, longer-lower, shorter-upper}
 use Rattle.table.specs.OrderLaws.{lt, ≤ℤ-trans, <ℤ-≤ℤ, ≤ℤ-or-<ℤ, UpLe, up-refl, up-trans, le-or-below}
 use Rattle.table.specs.TableLaws.{Le}
-use Rattle.follows.specs.AnswersLaws.{clash, and-left, and-right}
 use Rattle.follows.specs.DecideLaws.{tableOf, Broken, follows-below}
 use Rattle.follows.specs.RowLaws.{Fine, row-fine}
 use Rattle.follows.specs.CursorsLaws.{row-goes}

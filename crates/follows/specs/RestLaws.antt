@@ -10,6 +10,7 @@ use mathlib.Core.Logic.{_⊎_, inl, inr}
 use lib.ListN.{getD}
 use lib.IntN.{ℤ, pos, _-ℤ_}
 use lib.Signed.{leZ, ltZ, _≤ℤ_, _<ℤ_, ≤ℤ-refl, clashℤ}
+use Rattle.lists.specs.TestLaws.{true-false, clash, or-false}
 use Rattle.signed.specs.SignedLaws.{pos-minus, ltZ-nle, leZ-nlt}
 use Rattle.numeric.specs.Threshold.{Term}
 use Rattle.state.specs.declared.Upper.{Upper}
@@ -22,7 +23,6 @@ use Rattle.propagate.specs.Row.{reachable}
 use Rattle.between.specs.Between.{Live, stateAt}
 use Rattle.table.specs.Table.{Table, IsRow, termsOf, known, possible, Guards, HasTerm, knownOf, possibleOf, reachedOf, Undecided, AtMost, IsPrefix, Step, sure-guard, never-guard, bound-reached, bound-out-of-reach, term-needed, term-too-heavy, longer-lower, shorter-upper, Conflict, both, lower-above, upper-reached, AtRest, Below}
 use Rattle.table.specs.OrderLaws.{le, of-le, of-lt, ≤ℤ-trans, pos-≤ℤ, sub-up, UpLe}
-use Rattle.follows.specs.AnswersLaws.{true-false, clash, or-false}
 use Rattle.follows.specs.RowCompleteLaws.{Complete}
 use Rattle.follows.specs.StandsLaws.{tableAt, Stands, AllDrained, known-exact, possible-exact}
 

@@ -1,5 +1,5 @@
 -- A ROW RUN ONCE leaves none of the rules 2 to 5 undone that its drained figures give, and its cursors pass only what is decided.
-use Prim.Native.Nat.{ℕ, _+_, _-_, _≤_, _<_}
+use Prim.Native.Nat.{ℕ, _+_, _-_, _≤_}
 use native.Mathlib.Omega.{arith}
 use mathlib.Core.Path.{_≡_, refl, sym, ap, ap₂, _∙_, subst}
 use mathlib.Core.Bool.{Bool, true, false, cond}
@@ -7,7 +7,8 @@ use mathlib.Core.List.{List, List·Memᴰ, reverse}
 use lib.ListN.{length, take, drop}
 use lib.IntN.{ℤ, pos, _-ℤ_}
 use lib.Signed.{leZ, ltZ}
-use Rattle.memory.specs.Limits.{maxNodes}
+use Rattle.state.specs.StepLaws.{joined-right}
+use Rattle.lists.specs.TestLaws.{clash, unequal}
 use Rattle.signed.specs.SignedLaws.{leZ-trans, leZ-ltZ, leZ-pos}
 use borrow.Author.Tests.{le-leb}
 use Rattle.numeric.specs.Threshold.{Term}
@@ -22,33 +23,26 @@ use Rattle.queues.specs.Marks.{Marks, isDecided, Decided}
 use Rattle.thresholds.specs.Rows.{Row, Guard}
 use Rattle.propagate.specs.Scan.{Scanned, scan}
 use Rattle.propagate.specs.Row.{Ran, ran, decides, sureWaits, sureGuards, reachable, neverWaits, neverGuards, thresholdGuards, termWaits, forces, forced, trueTerms, falseTerms, thresholdRow}
-use Rattle.follows.specs.AnswersLaws.{clash, joined-right}
 use Rattle.between.specs.RunsLaws.{guardsRun, trueRun, falseRun, wholeRun, run-ends}
 use Rattle.follows.specs.DecideLaws.{scan-keeps}
-use Rattle.follows.specs.CompleteLaws.{All, Wide, Has, wide-decide, wide-force, has-stays, decided-stays, force-stays, force-has, Rising, Falling, sure-complete, never-complete, forced-complete}
-
--- A row as the seal builds it: guards by rising bounds, terms by falling weights, every node below 4,096.
-pub record Ordered (row : Row) : Type 0 where
-  pub rising : Rising (row .guards)
-  pub falling : Falling (row .terms)
-  pub guards : All (λ (g : Guard). g .node < maxNodes) (row .guards)
-  pub terms : All (λ (t : Term). t .condition < maxNodes) (row .terms)
+use Rattle.follows.specs.CompleteLaws.{Wide, Has, wide-decide, wide-force, has-stays, decided-stays, force-stays, force-has, sure-complete, never-complete, forced-complete}
+use Rattle.follows.specs.Ordered.{Each, Ordered}
 
 -- What the cursors passed is decided.
 pub record Passed (row : Row) (st : State) (m : Marks) : Type 0 where
   pub wide : Wide m
   pub inside : st .«never_guard» ≤ length (row .guards)
-  pub sure : All (λ (g : Guard). Has true (g .node) m) (take (st .«sure_guard») (row .guards))
-  pub never : All (λ (g : Guard). Has false (g .node) m) (drop (st .«never_guard») (row .guards))
-  pub true-terms : All (λ (t : Term). isDecided m (t .condition) ≡ true) (take (st .«true_term») (row .terms))
-  pub false-terms : All (λ (t : Term). isDecided m (t .condition) ≡ true) (take (st .«false_term») (row .terms))
+  pub sure : Each (λ (g : Guard). Has true (g .node) m) (take (st .«sure_guard») (row .guards))
+  pub never : Each (λ (g : Guard). Has false (g .node) m) (drop (st .«never_guard») (row .guards))
+  pub true-terms : Each (λ (t : Term). isDecided m (t .condition) ≡ true) (take (st .«true_term») (row .terms))
+  pub false-terms : Each (λ (t : Term). isDecided m (t .condition) ≡ true) (take (st .«false_term») (row .terms))
 
 -- Nothing that the figures decide is left.
 pub record Complete (row : Row) (st : State) (m : Marks) : Type 0 where
-  pub reached : All (λ (g : Guard). leZ (g .bound) (reached st) ≡ true → Has true (g .node) m) (row .guards)
-  pub out-of-reach : All (λ (g : Guard). reachable st (g .bound) ≡ false → Has false (g .node) m) (row .guards)
-  pub needed : leZ (st .lower) (st .known) ≡ false → All (λ (t : Term). leZ (pos (t .weight)) (st .possible -ℤ st .lower) ≡ false → isDecided m (t .condition) ≡ true) (row .terms)
-  pub too-heavy : (b : ℤ) → st .upper ≡ Under b → All (λ (t : Term). ltZ (pos (t .weight)) (b -ℤ st .known) ≡ false → isDecided m (t .condition) ≡ true) (row .terms)
+  pub reached : Each (λ (g : Guard). leZ (g .bound) (reached st) ≡ true → Has true (g .node) m) (row .guards)
+  pub out-of-reach : Each (λ (g : Guard). reachable st (g .bound) ≡ false → Has false (g .node) m) (row .guards)
+  pub needed : leZ (st .lower) (st .known) ≡ false → Each (λ (t : Term). leZ (pos (t .weight)) (st .possible -ℤ st .lower) ≡ false → isDecided m (t .condition) ≡ true) (row .terms)
+  pub too-heavy : (b : ℤ) → st .upper ≡ Under b → Each (λ (t : Term). ltZ (pos (t .weight)) (b -ℤ st .known) ≡ false → isDecided m (t .condition) ≡ true) (row .terms)
 
 -- A scan keeps what its places keep, whether it contradicts or not.
 scan-stays : {X : Type 0} (P : Marks → Type 0) (waits : X → Marks → Bool) (act : X → Marks → Decided) → ((x : X) (m : Marks) → P m → P (act x m .marks))
@@ -65,8 +59,8 @@ module _ (row : Row) (o : Ordered row) where
   -- THE GUARDS
   pub record GuardsDone (st : State) (r : Ran) : Type 0 where
     pub passed : Passed row (r .state) (r .marks)
-    pub reached : All (λ (g : Guard). leZ (g .bound) (reached st) ≡ true → Has true (g .node) (r .marks)) (row .guards)
-    pub out-of-reach : All (λ (g : Guard). reachable st (g .bound) ≡ false → Has false (g .node) (r .marks)) (row .guards)
+    pub reached : Each (λ (g : Guard). leZ (g .bound) (reached st) ≡ true → Has true (g .node) (r .marks)) (row .guards)
+    pub out-of-reach : Each (λ (g : Guard). reachable st (g .bound) ≡ false → Has false (g .node) (r .marks)) (row .guards)
 
   guards-done : (st : State) (m : Marks) → Passed row st m → contradicts (thresholdGuards (row .guards) st m .step) ≡ false → GuardsDone st (thresholdGuards (row .guards) st m)
   unfolding thresholdGuards withGuards
@@ -88,11 +82,11 @@ module _ (row : Row) (o : Ordered row) where
       ends t = elim t [ true ↦ ran up (a .marks) Contradiction | false ↦ ran (withGuards up (up .«sure_guard») (st .«never_guard» - b .passed)) (b .marks) (b .step) ]
 
       by : (t : Bool) → contradicts (a .step) ≡ t → contradicts (ends t .step) ≡ false → GuardsDone st (ends t)
-      by true e d = absurd (let z : _≡_ {A = ℕ} 0 1 = cc in omega arith)
+      by true e d = absurd (unequal cc)
       by false e d =
           let s = sure-complete gs st m (o .rising) (o .guards) (p .wide) (p .sure) e in
           let w : Wide (a .marks) = scan-stays Wide (sureWaits st) (decides true) (λ g k q. wide-decide true k (g .node) q) (drop (st .«sure_guard») gs) 0 m Unchanged refl (p .wide) in
-          let old : All (λ (g : Guard). Has false (g .node) (a .marks)) (drop (st .«never_guard») gs) =
+          let old : Each (λ (g : Guard). Has false (g .node) (a .marks)) (drop (st .«never_guard») gs) =
           λ g i. scan-stays (Has false (g .node)) (sureWaits st) (decides true) (λ x k q. has-stays false (g .node) true k (x .node) q) (drop (st .«sure_guard») gs) 0 m Unchanged refl (p .never g i) in
           let n = never-complete gs st (a .marks) (a .step) (o .rising) (o .guards) w (p .inside) old e d in
           let later : (P : Marks → Type 0) → ((x : Guard) (k : Marks) → P k → P (decides false x k .marks)) → P (a .marks) → P (b .marks) =
@@ -129,8 +123,8 @@ module _ (row : Row) (o : Ordered row) where
 
     stays-passed : (st st′ : State) → Passed row st m
         → st′ .«sure_guard» ≡ st .«sure_guard» → st′ .«never_guard» ≡ st .«never_guard»
-        → All (λ (t : Term). isDecided (forced value light (drop n (row .terms)) m .marks) (t .condition) ≡ true) (take (st′ .«true_term») (row .terms))
-        → All (λ (t : Term). isDecided (forced value light (drop n (row .terms)) m .marks) (t .condition) ≡ true) (take (st′ .«false_term») (row .terms))
+        → Each (λ (t : Term). isDecided (forced value light (drop n (row .terms)) m .marks) (t .condition) ≡ true) (take (st′ .«true_term») (row .terms))
+        → Each (λ (t : Term). isDecided (forced value light (drop n (row .terms)) m .marks) (t .condition) ≡ true) (take (st′ .«false_term») (row .terms))
         → Passed row st′ (forced value light (drop n (row .terms)) m .marks)
     stays-passed st st′ p e f a b = record {
       wide = stays-wide (p .wide);
@@ -148,7 +142,7 @@ module _ (row : Row) (o : Ordered row) where
   true-done : (st : State) (m : Marks) → Passed row st m → contradicts (trueTerms (row .terms) st m .step) ≡ false
       → let r = trueTerms (row .terms) st m in
       Passed row (r .state) (r .marks) × Stays m (r .marks)
-      × (leZ (st .lower) (st .known) ≡ false → All (λ (t : Term). leZ (pos (t .weight)) (st .possible -ℤ st .lower) ≡ false → isDecided (r .marks) (t .condition) ≡ true) (row .terms))
+      × (leZ (st .lower) (st .known) ≡ false → Each (λ (t : Term). leZ (pos (t .weight)) (st .possible -ℤ st .lower) ≡ false → isDecided (r .marks) (t .condition) ≡ true) (row .terms))
   unfolding trueTerms withTerms
   true-done st m p h = by (leZ (st .lower) (st .known)) refl h
     where
@@ -163,8 +157,8 @@ module _ (row : Row) (o : Ordered row) where
 
       by : (b : Bool) → leZ (st .lower) (st .known) ≡ b → contradicts (ends b .step) ≡ false
           → Passed row (ends b .state) (ends b .marks) × Stays m (ends b .marks)
-          × (leZ (st .lower) (st .known) ≡ false → All (λ (t : Term). light (t .weight) ≡ false → isDecided (ends b .marks) (t .condition) ≡ true) (row .terms))
-      by true e d = (p, ((λ v k q. q), (λ k q. q)), λ f. absurd (let z : _≡_ {A = ℕ} 0 1 = cc in omega arith))
+          × (leZ (st .lower) (st .known) ≡ false → Each (λ (t : Term). light (t .weight) ≡ false → isDecided (ends b .marks) (t .condition) ≡ true) (row .terms))
+      by true e d = (p, ((λ v k q. q), (λ k q. q)), λ f. absurd (unequal cc))
       by false e d =
           let c = forced-complete true light (light-true st) (row .terms) (st .«true_term») m (o .falling) (o .terms) (p .wide) (p .true-terms) d in (
             stays-passed true light (light-true st) (st .«true_term») m st (withTerms st (st .«true_term» + a .passed) (st .«false_term»)) p refl refl (c .0)
@@ -176,7 +170,7 @@ module _ (row : Row) (o : Ordered row) where
   false-done : (st : State) (m : Marks) → Passed row st m → contradicts (falseTerms (row .terms) st m .step) ≡ false
       → let r = falseTerms (row .terms) st m in
       Passed row (r .state) (r .marks) × Stays m (r .marks)
-      × ((b : ℤ) → st .upper ≡ Under b → All (λ (t : Term). ltZ (pos (t .weight)) (b -ℤ st .known) ≡ false → isDecided (r .marks) (t .condition) ≡ true) (row .terms))
+      × ((b : ℤ) → st .upper ≡ Under b → Each (λ (t : Term). ltZ (pos (t .weight)) (b -ℤ st .known) ≡ false → isDecided (r .marks) (t .condition) ≡ true) (row .terms))
   unfolding falseTerms withTerms
   false-done st m p h = by (st .upper) refl h
     where
@@ -191,8 +185,8 @@ module _ (row : Row) (o : Ordered row) where
 
       by : (x : Upper) → st .upper ≡ x → contradicts (ends x .step) ≡ false
           → Passed row (ends x .state) (ends x .marks) × Stays m (ends x .marks)
-          × ((b : ℤ) → st .upper ≡ Under b → All (λ (t : Term). ltZ (pos (t .weight)) (b -ℤ st .known) ≡ false → isDecided (ends x .marks) (t .condition) ≡ true) (row .terms))
-      by Open e d = (p, ((λ v k q. q), (λ k q. q)), λ b f. absurd (let g : Open ≡ Under b = sym e ∙ f in let z : _≡_ {A = ℕ} 0 1 = cc in omega arith))
+          × ((b : ℤ) → st .upper ≡ Under b → Each (λ (t : Term). ltZ (pos (t .weight)) (b -ℤ st .known) ≡ false → isDecided (ends x .marks) (t .condition) ≡ true) (row .terms))
+      by Open e d = (p, ((λ v k q. q), (λ k q. q)), λ b f. absurd (let g : Open ≡ Under b = sym e ∙ f in unequal cc))
       by (Under b) e d =
           let c = forced-complete false (light (Under b)) (light-false (b -ℤ st .known)) (row .terms) (st .«false_term») m (o .falling) (o .terms) (p .wide) (p .false-terms) d in (
             stays-passed false (light (Under b)) (light-false (b -ℤ st .known)) (st .«false_term») m st (withTerms st (st .«true_term») (st .«false_term» + a (Under b) .passed)) p refl refl

@@ -1,7 +1,6 @@
 -- ONE ROW RUN ONCE: whatever `threshold_row` decides follows by rules 2 to 5 of the table, from drained figures that lie inside
 -- those of the masks; where it contradicts, a conflict follows.
 use Prim.Native.Nat.{ℕ, zero, suc, _+_, _-_}
-use native.Mathlib.Omega.{arith}
 use native.Mathlib.Decide.{ℕ-discrete}
 use mathlib.Core.Path.{_≡_, refl, sym, ap, _∙_, subst}
 use mathlib.Core.Bool.{Bool, true, false, not, cond, _&&_}
@@ -10,6 +9,9 @@ use mathlib.Core.Logic.{_⊎_, inl, inr, ⊎-elim}
 use lib.ListN.{getD, take, drop}
 use lib.IntN.{ℤ, pos, _-ℤ_}
 use lib.Signed.{leZ, ltZ, _≤ℤ_, _<ℤ_, ≤ℤ-refl}
+use borrow.Author.Tests.{not-false}
+use Rattle.lists.specs.TestLaws.{and-false, or-true, or-false, unequal}
+use Rattle.state.specs.StepLaws.{joined-fine, joined-which}
 use Rattle.signed.specs.SignedLaws.{nlt-leZ, nle-ltZ}
 use Rattle.numeric.specs.Threshold.{Term}
 use Rattle.state.specs.declared.Step.{Step}
@@ -21,15 +23,13 @@ use Rattle.state.specs.Step.{joined, contradicts}
 use Rattle.state.specs.State.{reached, upperAtMost, limited, limit, conflict, withGuards, withTerms}
 use Rattle.words.specs.Mask.{bit, learn, Learned}
 use Rattle.words.specs.MaskLaws.{learn-there, learn-other}
-use Rattle.queues.specs.Marks.{Marks, marks, isDecided, decided, decide}
+use Rattle.queues.specs.Marks.{Marks, isDecided, decided, decide}
 use Rattle.thresholds.specs.Rows.{Row, Guard, noRow}
 use Rattle.propagate.specs.Scan.{Scanned}
 use Rattle.propagate.specs.Row.{Ran, ran, sureGuards, neverGuards, thresholdGuards, forced, trueTerms, falseTerms, thresholdRow}
 use Rattle.table.specs.Table.{Table, IsRow, termsOf, knownOf, possibleOf, reachedOf, AtMost, Conflict, lower-above, upper-reached, bound-reached, bound-out-of-reach, term-needed, term-too-heavy}
 use Rattle.table.specs.OrderLaws.{le, lt, ≤ℤ-trans, ≤ℤ-<ℤ-trans, pos-≤ℤ, max-up, sub-up, up-refl, at-most-up}
 use Rattle.table.specs.TableLaws.{Le, known-up, possible-down}
-use Rattle.between.specs.LoopLaws.{joined-fine}
-use Rattle.follows.specs.AnswersLaws.{and-false, not-false, or-true, or-false, joined-which}
 use Rattle.between.specs.RunsLaws.{guardsRun, trueRun, falseRun, run-ends}
 use Rattle.follows.specs.DecideLaws.{tableOf, Broken, Kept, decide-follows, scan-keeps}
 
@@ -55,7 +55,7 @@ mem-reverse xs x m = ⊎-elim (λ k. k) (λ k. absurd (List·Memᴰ·not-nil k))
 
 -- UPPERS
 at-most : (x : Upper) (z : ℤ) → upperAtMost x z ≡ true → AtMost x z
-at-most Open z h = absurd (let y : _≡_ {A = ℕ} 0 1 = cc in omega arith)
+at-most Open z h = absurd (unequal cc)
 at-most (Under a) z h = le h
 
 -- DECIDING only adds
@@ -162,11 +162,11 @@ module _ (rows : List Row) (s : Table) (l : ℕ → ℤ) (u : ℕ → Upper) (r 
           → let a = cond (isDecided k (t .condition)) (decided k Unchanged) (decide value k (t .condition)) in Along st (a .marks) × (contradicts (a .step) ≡ true → Broken rows s)
       place t k x p w true e =
           subst (λ (b : Bool). let a = cond b (decided k Unchanged) (decide value k (t .condition)) in Along st (a .marks) × (contradicts (a .step) ≡ true → Broken rows s)) (sym e)
-          (p, λ c. absurd (let z : _≡_ {A = ℕ} 0 1 = cc in omega arith))
+          (p, λ c. absurd (unequal cc))
       place t k x p w false e =
           subst (λ (b : Bool). let a = cond b (decided k Unchanged) (decide value k (t .condition)) in Along st (a .marks) × (contradicts (a .step) ≡ true → Broken rows s)) (sym e)
           (along-decide value st k (t .condition) p (gives t k x p e
-          (⊎-elim (λ (y : not (isDecided k (t .condition)) ≡ false). absurd (let q = not-false (isDecided k (t .condition)) y in let z : _≡_ {A = ℕ} 0 1 = cc in omega arith))
+          (⊎-elim (λ (y : not (isDecided k (t .condition)) ≡ false). absurd (let q = not-false (isDecided k (t .condition)) y in unequal cc))
           (λ y. y) (and-false (not (isDecided k (t .condition))) (waits (t .weight)) w))))
 
   abbrev pub Fine : Ran → Type 0
@@ -189,7 +189,7 @@ module _ (rows : List Row) (s : Table) (l : ℕ → ℤ) (u : ℕ → Upper) (r 
 
       by : (b : Bool) → Fine (cond b (ran st m Unchanged) (ran (withTerms st (st .«true_term» + forced true waits (drop (st .«true_term») (termsOf rows r)) m .passed) (st .«false_term»))
           (forced true waits (drop (st .«true_term») (termsOf rows r)) m .marks) (forced true waits (drop (st .«true_term») (termsOf rows r)) m .step)))
-      by true = (h, λ c. absurd (let z : _≡_ {A = ℕ} 0 1 = cc in omega arith))
+      by true = (h, λ c. absurd (unequal cc))
       by false = ((a .0 .0, inside-terms st _ _ _ (a .0 .1), a .0 .2), a .1)
 
   pub false-fine : (st : State) (m : Marks) → Along st m → Fine (falseTerms (termsOf rows r) st m)
@@ -202,7 +202,7 @@ module _ (rows : List Row) (s : Table) (l : ℕ → ℤ) (u : ℕ → Upper) (r 
           (forced false (λ (w : ℕ). ltZ (pos w) (limit x -ℤ st .known)) (drop (st .«false_term») (termsOf rows r)) m .marks)
           (forced false (λ (w : ℕ). ltZ (pos w) (limit x -ℤ st .known)) (drop (st .«false_term») (termsOf rows r)) m .step))
           (ran st m Unchanged))
-      by Open e = (h, λ c. absurd (let z : _≡_ {A = ℕ} 0 1 = cc in omega arith))
+      by Open e = (h, λ c. absurd (unequal cc))
       by (Under b) e =
           let a = force-along false st (drop (st .«false_term») (termsOf rows r)) (λ (w : ℕ). ltZ (pos w) (b -ℤ st .known)) m h
           (λ t k x p d w. decide-follows rows s l u false k (t .condition) (p .0)

@@ -18,7 +18,7 @@ use Rattle.between.specs.Between.{Index, Live, stateAt, Did, runRow, thresholdG
 use Rattle.table.specs.Table.{Table, IsRow, IsPrefix, Guards, knownOf, possibleOf, Conflict, ReachesConflict, AtRest, Ended}
 use Rattle.table.specs.TableLaws.{conflict-up, run-below, only-end, only-conflict}
 use Rattle.follows.specs.DecideLaws.{Broken}
-use Rattle.follows.specs.RowCompleteLaws.{Ordered}
+use Rattle.follows.specs.Ordered.{Ordered}
 use Rattle.follows.specs.StandsLaws.{tableAt, also, also-this, Stands, AllDrained, known-exact, possible-exact, restart}
 use Rattle.follows.specs.MovesLaws.{Kept, run-stands, guard-stands, prefixes-stand}
 use Rattle.follows.specs.DrainedLaws.{drainedAll, condition-stands}
@@ -28,7 +28,8 @@ use Rattle.follows.specs.RestLaws.{RowRests, row-rests, at-rest}
 use Rattle.follows.specs.DoneLaws.{Done, run-done, guard-done, condition-done, prefixes-done}
 use Rattle.follows.specs.ToldLaws.{Told, Single, told-stays, told-none, guard-told}
 use Rattle.follows.specs.HandedLaws.{Handed, waiting, run-handed, guard-handed, condition-handed, prefixes-handed, all-handed}
-use Rattle.follows.specs.WaitingLaws.{Queued, queued-decide, none-left}
+use Rattle.follows.specs.WaitingLaws.{queued-decide, none-left}
+use Rattle.queues.specs.Waiting.{Queued}
 
 -- What was done so far: nodes drained into each row, guards told, nodes taken from the queue, rows run, rows that are just handing on.
 pub record Ledger : Type 0 where

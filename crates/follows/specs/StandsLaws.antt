@@ -15,6 +15,7 @@ use lib.Dec.{eqb}
 use lib.IntN.{ℤ, pos}
 use lib.Signed.{_≤ℤ_, ≤ℤ-refl}
 use borrow.Author.Tests.{eq-eqb, ne-eqb, eqb-true}
+use Rattle.lists.specs.TestLaws.{true-false, clash, and-right, never-true}
 use Rattle.numeric.specs.Threshold.{Term}
 use Rattle.state.specs.declared.State.{State}
 use Rattle.state.specs.declared.Upper.{Upper}
@@ -28,7 +29,6 @@ use Rattle.between.specs.Between.{Live, live, stateAt}
 use Rattle.table.specs.Table.{Table, IsRow, termsOf, known, possible, knownOf, possibleOf}
 use Rattle.table.specs.OrderLaws.{pos-≤ℤ, up-refl}
 use Rattle.table.specs.TableLaws.{Le, le-same, le-then, Follows, follows-start, known-up, possible-down}
-use Rattle.follows.specs.AnswersLaws.{true-false, clash, and-right, never-true}
 use Rattle.follows.specs.DecideLaws.{tableOf}
 
 -- The nodes of the masks and the bounds of the row states, as a state of the table.

@@ -11,6 +11,7 @@ use lib.ListN.{length, getD, drop-of-length-le}
 use lib.Dec.{eqb}
 use lib.IntN.{ℤ, pos}
 use lib.Signed.{_≤ℤ_, ≤ℤ-refl}
+use Rattle.lists.specs.TestLaws.{true-false, clash}
 use Rattle.memory.specs.Limits.{maxNodes}
 use Rattle.numeric.specs.Threshold.{Term}
 use Rattle.state.specs.declared.State.{State}
@@ -21,14 +22,14 @@ use Rattle.state.specs.State.{noState, firstState}
 use Rattle.words.specs.Mask.{bit}
 use Rattle.queues.specs.Queue.{Rows, oldest, popped, nextRow}
 use Rattle.queues.specs.Marks.{Marks, marks, isDecided, Decided, decide}
-use Rattle.queues.specs.MarksLaws.{mask, Waits, decide-has, decide-there, decide-new}
+use Rattle.queues.specs.MarksLaws.{mask, decide-has, decide-there, decide-new}
+use Rattle.queues.specs.Waiting.{Waits, Queued}
 use Rattle.row.specs.Terms.{total}
 use Rattle.thresholds.specs.Rows.{Row, noRow, Guard, stateOfRow}
 use Rattle.between.specs.Between.{Index, Live, live, stateAt, did}
 use Rattle.table.specs.Table.{Table, start, IsRow, termsOf, known, possible}
 use Rattle.table.specs.OrderLaws.{UpLe, up-refl}
 use Rattle.table.specs.TableLaws.{Le, le-then, Follows, follows-more}
-use Rattle.follows.specs.AnswersLaws.{true-false, clash}
 use Rattle.follows.specs.DecideLaws.{tableOf, decideAs, decided-below, against}
 use Rattle.follows.specs.RowLaws.{decide-grows}
 use Rattle.follows.specs.CompleteLaws.{Wide, wide-decide}
@@ -37,7 +38,7 @@ use Rattle.follows.specs.StandsLaws.{tableAt, among, also, also-this, al
 use Rattle.follows.specs.DoneLaws.{Done, Grows, passed-up, complete-up}
 use Rattle.follows.specs.ToldLaws.{Told}
 use Rattle.follows.specs.HandedLaws.{Handed, taken-handed}
-use Rattle.follows.specs.WaitingLaws.{Queued, queued-decide, first-decided, first-fresh, queued-taken}
+use Rattle.follows.specs.WaitingLaws.{queued-decide, first-decided, first-fresh, queued-taken}
 use Rattle.follows.specs.SettledLaws.{Ledger, Sound, Leads}
 
 -- MORE NODES DECIDED, all else as it was

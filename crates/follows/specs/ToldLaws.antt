@@ -10,6 +10,7 @@ use mathlib.Core.Logic.{_⊎_, inl, inr, ⊎-elim, _≢_}
 use lib.ListN.{length, getD}
 use lib.IntN.{ℤ}
 use lib.Signed.{_≤ℤ_, ≤ℤ-refl}
+use Rattle.lists.specs.TestLaws.{true-false, clash}
 use Rattle.numeric.specs.Threshold.{Term, Threshold, Job}
 use Rattle.row.specs.Terms.{sameTerms}
 use Rattle.state.specs.declared.Step.the-variants.{Unchanged}
@@ -24,13 +25,12 @@ use Rattle.thresholds.specs.RawLaws.{same-refl}
 use Rattle.propagate.specs.declared.Tightened.{Tightened}
 use Rattle.propagate.specs.Told.{guardState}
 use Rattle.propagate.specs.ToldLaws.{guard-cases}
-use Rattle.between.specs.Between.{Index, Live, live, stateAt, Did, did, thresholdGuard}
+use Rattle.between.specs.Between.{Index, Live, stateAt, Did, did, thresholdGuard}
 use Rattle.between.specs.WalkLaws.{guardTold, guardRun, guard-ends}
 use Rattle.table.specs.Table.{Table, Guards}
 use Rattle.table.specs.OrderLaws.{le, ≤ℤ-trans, UpLe, up-refl, up-trans}
 use Rattle.table.specs.TableLaws.{Le}
 use Rattle.table.specs.LayoutLaws.{row-made}
-use Rattle.follows.specs.AnswersLaws.{true-false, clash}
 use Rattle.follows.specs.StandsLaws.{tableAt, also, also-which, Apart, Stands, Stay, stay-decided, restart}
 use Rattle.follows.specs.BoundsLaws.{SameBounds, put-here}
 use Rattle.follows.specs.MovesLaws.{guard-stands}

@@ -7,25 +7,16 @@ use mathlib.Core.Path.{_≡_, refl, sym, ap, ap₂, _∙_, subst}
 use mathlib.Core.Bool.{Bool, true, false, not, _||_}
 use mathlib.Core.List.{_∷_}
 use mathlib.Core.Logic.{⊎-elim, _≢_}
+use Rattle.lists.specs.TestLaws.{true-false, clash}
 use Rattle.memory.specs.Limits.{maxNodes}
 use Rattle.words.specs.Mask.{bit, setBit}
 use Rattle.queues.specs.Queue.{isEmpty, oldest, push, popped}
-use Rattle.queues.specs.QueueLaws.{waitingList, push-times, popped-times, empty-none}
-use Rattle.queues.specs.OnceLaws.{times, times-none, times-same, times-other}
+use Rattle.queues.specs.QueueLaws.{push-times, popped-times, empty-none}
+use Rattle.queues.specs.OnceLaws.{times-none, times-same, times-other}
+use Rattle.queues.specs.Waiting.{times, waitingList, waits, Queued}
 use Rattle.queues.specs.Marks.{Marks, marks, isDecided, Decided, decide}
-use Rattle.queues.specs.MarksLaws.{mask, put, decide-new, decide-other, Waits, waits-room, waits-decide, waits-popped}
-use Rattle.follows.specs.AnswersLaws.{true-false, clash}
+use Rattle.queues.specs.MarksLaws.{mask, put, decide-new, decide-other, waits-room, waits-decide, waits-popped}
 use Rattle.follows.specs.StandsLaws.{also, also-other, also-this, decide-nothing, not-decided}
-
--- How often a node waits.
-abbrev pub waits : Marks → ℕ → ℕ
-waits m n = times n (waitingList maxNodes (m .nodes))
-
-pub record Queued (drained : ℕ → Bool) (m : Marks) : Type 0 where
-  pub queue : Waits m
-  pub decided : (n : ℕ) → drained n ≡ true → isDecided m n ≡ true
-  pub gone : (n : ℕ) → drained n ≡ true → waits m n ≡ 0
-  pub left : (n : ℕ) → isDecided m n ≡ true → drained n ≡ false → waits m n ≡ 1
 
 module _ (drained : ℕ → Bool) where
   -- ONE MORE NODE DECIDED: a new one waits

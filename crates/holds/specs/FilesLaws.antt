@@ -19,13 +19,13 @@ use Rattle.records.specs.declared.Record.the-variants.{Seal}
 use Rattle.records.specs.Facts.{Action, begins, changes, closes, decides, settles, sifts, idles, action, facts}
 use Rattle.files.specs.File.{File, begun, refusal, sealedFile, markedFile, settledFile, siftedFile, act, apply, after, Passed}
 use Rattle.prepare.specs.JobBuffers.{builtOf}
-use Rattle.ends.specs.BuiltLaws.{Fits, Light}
-use Rattle.ends.specs.FilesLaws.{Good, good-begun, both, Taken, taken, building-turn, change-turn, good-apply, good-after}
-use Rattle.settle.specs.Serves.{Serves, Going}
+use Rattle.ends.specs.Good.{Fits, Light, Good}
+use Rattle.ends.specs.FilesLaws.{good-begun, both, Taken, taken, building-turn, change-turn, good-apply, good-after}
+use Rattle.settle.specs.Serves.{Serves, Going, Fresh}
 use Rattle.settle.specs.SettlingLaws.{going-settle}
-use Rattle.settle.specs.BeginsLaws.{Fresh, going-seal, going-mark}
-use Rattle.holds.specs.ServedLaws.{boundsOf}
-use Rattle.holds.specs.LentLaws.{lentOf, Lendable, served-built}
+use Rattle.settle.specs.BeginsLaws.{going-seal, going-mark}
+use Rattle.holds.specs.Lent.{boundsOf, lentOf, Lendable}
+use Rattle.holds.specs.LentLaws.{served-built}
 use Rattle.holds.specs.GoesLaws.{fresh-begun}
 use Rattle.sift.specs.SiftingLaws.{going-sift}
 

@@ -7,10 +7,11 @@ use mathlib.Core.Bool.{Bool, true, false, _||_}
 use mathlib.Core.List.{List, [], _∷_}
 use lib.ListN.{length}
 use lib.IntN.{ℤ}
+use Rattle.lists.specs.All.{All}
+use Rattle.lists.specs.TestLaws.{clash}
 use Rattle.numeric.specs.Threshold.{Job}
 use Rattle.words.specs.Mask.{bit}
 use Rattle.queues.specs.Marks.{isDecided}
-use Rattle.row.specs.TermsLaws.{All as Every}
 use Rattle.between.specs.Between.{Index, Live}
 use Rattle.regions.specs.Drain.{indexOf, seal, mark, settle}
 use Rattle.regions.specs.Sift.{sift}
@@ -19,16 +20,16 @@ use Rattle.memory.specs.Ranges.{rawLimit}
 use Rattle.memory.specs.Buffers.{Built}
 use Rattle.files.specs.File.{begun}
 use Rattle.prepare.specs.JobBuffers.{builtOf}
-use Rattle.ends.specs.BuiltLaws.{Fits, Light}
+use Rattle.ends.specs.Good.{Fits, Light}
 use Rattle.ends.specs.BlankLaws.{blank-begun, same-at}
 use Rattle.ends.specs.FilesLaws.{good-begun}
-use Rattle.follows.specs.AnswersLaws.{clash}
-use Rattle.settle.specs.Serves.{Serves, Going}
-use Rattle.settle.specs.BeginsLaws.{Fresh, going-seal, going-mark}
+use Rattle.settle.specs.Serves.{Serves, Going, Fresh}
+use Rattle.settle.specs.BeginsLaws.{going-seal, going-mark}
 use Rattle.settle.specs.SettlingLaws.{going-settle}
 use Rattle.sift.specs.SiftingLaws.{going-sift}
-use Rattle.holds.specs.ServedLaws.{boundsOf, Served}
-use Rattle.holds.specs.LentLaws.{lentOf, Lendable, served-built}
+use Rattle.holds.specs.ServedLaws.{Served}
+use Rattle.holds.specs.Lent.{boundsOf, lentOf, Lendable}
+use Rattle.holds.specs.LentLaws.{served-built}
 
 -- ---- cleared memory can be sealed
 
@@ -71,7 +72,7 @@ followed x (marks n value ∷ ds) v gcds = followed x ds (mark v n value .live) 
 followed x (settles ∷ ds) v gcds = followed x ds (settle x v .live) gcds
 followed x (sifts ∷ ds) v gcds = followed x ds (sift x v gcds .live) (sift x v gcds .gcds)
 
-pub going-on : (x : Index) (bounds : List ℤ) (b : Built) → Serves x bounds b → length (b .nodes) ≤ maxNodes → (ds : List Deed) → Every (Inside (length (b .nodes))) ds → (v : Live) (gcds : List ℕ)
+pub going-on : (x : Index) (bounds : List ℤ) (b : Built) → Serves x bounds b → length (b .nodes) ≤ maxNodes → (ds : List Deed) → All (Inside (length (b .nodes))) ds → (v : Live) (gcds : List ℕ)
     → Going (b .held) (b .nodes) v → Going (b .held) (b .nodes) (followed x ds v gcds)
 unfolding followed
 going-on x bounds b s few [] a v gcds g = g
@@ -81,12 +82,12 @@ going-on x bounds b s few (settles ∷ ds) a v gcds g = going-on x bounds b s fe
 going-on x bounds b s few (sifts ∷ ds) a v gcds g = going-on x bounds b s few ds (a .1) (sift x v gcds .live) (sift x v gcds .gcds) (going-sift x bounds b s v gcds g)
 
 -- A JOB WITHIN THE LIMITS, SEALED FROM CLEARED MEMORY: its buffers serve, and memory can be drained whatever follows.
-pub goes-on : (j : Job) → Fits j → Light rawLimit j → (w : Built) → Lendable w → (ds : List Deed) → Every (Inside (j .nodes)) ds
+pub goes-on : (j : Job) → Fits j → Light rawLimit j → (w : Built) → Lendable w → (ds : List Deed) → All (Inside (j .nodes)) ds
     → let b = lentOf j (builtOf j w) in Served j b × Going (b .held) (b .nodes) (followed (indexOf j) ds (seal (indexOf j) (begun .live) .live) (begun .gcds))
 goes-on j f l w p ds a =
     let b = lentOf j (builtOf j w) in
     let s = served-built j f l w p in (
       s,
-      going-on (indexOf j) (boundsOf j) b (s .serves) (omega (arith, s .many, f .nodes)) ds (subst (λ (n : ℕ). Every (Inside n) ds) (sym (s .many)) a)
+      going-on (indexOf j) (boundsOf j) b (s .serves) (omega (arith, s .many, f .nodes)) ds (subst (λ (n : ℕ). All (Inside n) ds) (sym (s .many)) a)
           (seal (indexOf j) (begun .live) .live) (begun .gcds) (going-seal (indexOf j) (boundsOf j) b (s .serves) (s .totals) (begun .live) (fresh-begun b)),
     )

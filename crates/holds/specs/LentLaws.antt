@@ -8,12 +8,13 @@ use mathlib.Core.List.{List, [], _∷_, _++_, map, List·Memᴰ}
 use lib.ListN.{length, getD, take, drop, replicate, length-append, length-drop, length-map}
 use lib.Seq.{take-append-seam}
 use lib.IntN.{pos}
+use Rattle.lists.specs.All.{All}
 use Rattle.lists.specs.Laid.{over, joinAll, ends, triples, numbers}
 use Rattle.lists.specs.Columns.{column}
 use Rattle.lists.specs.ColumnsLaws.{length-column}
 use Rattle.numeric.specs.Threshold.{Term, Threshold, Job}
 use Rattle.numeric.specs.Slices.{Below}
-use Rattle.row.specs.TermsLaws.{All as Every, all-map}
+use Rattle.row.specs.TermsLaws.{all-map}
 use Rattle.thresholds.specs.Rows.{Row, noRow, rowsOf, Guard, edgesOf}
 use Rattle.thresholds.specs.Laid.{conditions, weights, termLists, guardLists, guardBounds, guardNodes, thresholdOf, rowOfNode, edgeLists, edgeRow}
 use Rattle.prefixes.specs.Links.{links, neighbours, neighbourLists}
@@ -21,18 +22,15 @@ use Rattle.prepare.specs.RowsGivenLaidLaws.{length-ends}
 use Rattle.prepare.specs.NodesGivenLaws.{triples-columns}
 use Rattle.memory.specs.Limits.{maxNodes, maxTerms}
 use Rattle.memory.specs.Ranges.{rawLimit, weightLimit}
-use Rattle.memory.specs.Buffers.{Raw, Built, heldRows, built, zeros, clearBuilt}
+use Rattle.memory.specs.Buffers.{Raw, Built, zeros, clearBuilt}
 use Rattle.prepare.specs.JobBuffers.{rawOf, builtWith, builtOf}
 use Rattle.prepare.specs.JobBuffersLaws.{length-first}
-use Rattle.ends.specs.BuiltLaws.{Fits, Light, every-append, every-mem}
+use Rattle.ends.specs.BuiltLaws.{every-append, every-mem}
+use Rattle.ends.specs.Good.{Fits, Light}
 use Rattle.ends.specs.SizeLaws.{zeros-long, edges-most}
 use Rattle.holds.specs.WeightsLaws.{totals, weights as row-weights}
-use Rattle.holds.specs.ServedLaws.{boundsOf, Laid, Served, every-image, job-names, served}
-
-abbrev pub lentOf : Job → Built → Built
-lentOf j w =
-    let h = w .held in
-    built (heldRows (h .row-conditions) (h .row-weights) (take (length (rowsOf j)) (h .rows)) (h .guard-bounds) (h .guard-nodes)) (take (j .nodes) (w .nodes)) (w .edges) (w .links)
+use Rattle.holds.specs.ServedLaws.{Laid, Served, every-image, job-names, served}
+use Rattle.holds.specs.Lent.{boundsOf, lentOf, Lendable}
 
 -- The bounds are those of the raw buffers.
 pub bounds-lent : (j : Job) (w : Raw) → take (length (j .thresholds)) (rawOf j w .bounds) ≡ boundsOf j
@@ -40,15 +38,6 @@ unfolding rawOf
 bounds-lent j w =
     let l = boundsOf j in
     ap (λ (n : ℕ). take n (over l (w .bounds))) (sym (length-map (j .thresholds) (λ (t : Threshold). t .bound))) ∙ take-append-seam l (drop (length l) (w .bounds))
-
--- Buffers as they are before: of equal lengths where they are parallel, and with nothing in them that would be no node or too heavy.
-pub record Lendable (w : Built) : Type 0 where
-  pub weighed : length (w .held .row-weights) ≡ length (w .held .row-conditions)
-  pub named : length (w .held .guard-nodes) ≡ length (w .held .guard-bounds)
-  pub edges : length (w .edges) ≤ maxTerms
-  pub conditions : Below maxNodes (w .held .row-conditions)
-  pub weights : Below (2 ^ 63) (w .held .row-weights)
-  pub guards : Below maxNodes (w .held .guard-nodes)
 
 -- ---- cleared buffers are such
 
@@ -74,7 +63,7 @@ lendable-clear w a b c = record {
 over-long : {X : Type 0} (l b : List X) → length (over l b) ≡ length l + (length b - length l)
 over-long l b = length-append l (drop (length l) b) ∙ ap (λ (n : ℕ). length l + n) (length-drop (length l) b)
 
-below-append : (n : ℕ) (l r : List ℕ) → Every (λ (k : ℕ). k < n) l → Below n r → Below n (l ++ r)
+below-append : (n : ℕ) (l r : List ℕ) → All (λ (k : ℕ). k < n) l → Below n r → Below n (l ++ r)
 below-append n [] r a h i k = h i k
 below-append n (x ∷ l) r a h zero k = a .0
 below-append n (x ∷ l) r a h (suc i) k = below-append n l r (a .1) h i (le-of-suc-le-suc k)
@@ -84,7 +73,7 @@ below-drop n zero l h i q = h i q
 below-drop n (suc k) [] h i q = absurd (not-suc-le-zero q)
 below-drop n (suc k) (x ∷ l) h i q = below-drop n k l (λ m r. h (suc m) (suc-le-suc r)) i q
 
-below-over : (n : ℕ) (l b : List ℕ) → Every (λ (k : ℕ). k < n) l → Below n b → Below n (over l b)
+below-over : (n : ℕ) (l b : List ℕ) → All (λ (k : ℕ). k < n) l → Below n b → Below n (over l b)
 below-over n l b a h = below-append n l (drop (length l) b) a (below-drop n (length l) b h)
 
 -- Triples cut to their number have their three columns.
@@ -98,13 +87,13 @@ cut-triples xs ys zs p q n e b =
     (ap (column 0) cut ∙ c .0, ap (column 1) cut ∙ c .1, ap (column 2) cut ∙ c .2)
 
 -- What each row has of its own, all rows have together.
-every-row : {X : Type 0} (P : X → Type 0) (f : Row → List X) (rs : List Row) → ((r : ℕ) → r < length rs → (u : X) → List·Memᴰ u (f (getD rs r noRow)) → P u) → Every P (joinAll (map f rs))
+every-row : {X : Type 0} (P : X → Type 0) (f : Row → List X) (rs : List Row) → ((r : ℕ) → r < length rs → (u : X) → List·Memᴰ u (f (getD rs r noRow)) → P u) → All P (joinAll (map f rs))
 unfolding joinAll
 every-row P f [] h = tt
 every-row P f (r ∷ rs) h =
     every-append P (f r) (joinAll (map f rs)) (every-mem P (f r) (λ u m. h 0 (omega arith) u m)) (every-row P f rs (λ i k. h (suc i) (suc-le-suc k)))
 
-every-join : {X : Type 0} (P Q : X → Type 0) → ((u : X) → P u → Q u) → (f : Row → List X) (rs : List Row) → Every (λ (r : Row). Every P (f r)) rs → Every Q (joinAll (map f rs))
+every-join : {X : Type 0} (P Q : X → Type 0) → ((u : X) → P u → Q u) → (f : Row → List X) (rs : List Row) → All (λ (r : Row). All P (f r)) rs → All Q (joinAll (map f rs))
 unfolding joinAll
 every-join P Q g f [] a = tt
 every-join P Q g f (r ∷ rs) a = every-append Q (f r) (joinAll (map f rs)) (all-map P Q (f r) g (a .0)) (every-join P Q g f rs (a .1))
@@ -121,17 +110,17 @@ module _ (j : Job) (f : Fits j) (light : Light rawLimit j) (w : Built) (p : Lend
   abbrev gs : List Guard
   gs = joinAll (guardLists rs)
 
-  all-conditions : Every (λ (n : ℕ). n < maxNodes) (conditions ts)
+  all-conditions : All (λ (n : ℕ). n < maxNodes) (conditions ts)
   all-conditions =
       every-image (λ (n : ℕ). n < maxNodes) (λ (t : Term). t .condition) ts
       (every-row (λ (t : Term). t .condition < maxNodes) (λ (r : Row). r .terms) rs (λ r k u m. omega (arith, job-names j f (j .nodes) refl r k .terms u m, f .nodes)))
 
-  all-weights : Every (λ (n : ℕ). n < 2 ^ 63) (weights ts)
+  all-weights : All (λ (n : ℕ). n < 2 ^ 63) (weights ts)
   all-weights =
       every-image (λ (n : ℕ). n < 2 ^ 63) (λ (t : Term). t .weight) ts
       (every-join (λ (t : Term). t .weight < weightLimit) (λ (t : Term). t .weight < 2 ^ 63) (λ t k. omega arith) (λ (r : Row). r .terms) rs (row-weights rs (totals j f light)))
 
-  all-guards : Every (λ (n : ℕ). n < maxNodes) (guardNodes rs)
+  all-guards : All (λ (n : ℕ). n < maxNodes) (guardNodes rs)
   all-guards =
       every-image (λ (n : ℕ). n < maxNodes) (λ (g : Guard). g .node) gs
       (every-row (λ (g : Guard). g .node < maxNodes) (λ (r : Row). r .guards) rs (λ r k u m. omega (arith, job-names j f (j .nodes) refl r k .guards u m, f .nodes)))

@@ -5,3 +5,4 @@ pub mod LentLaws
 pub mod GoesLaws
 pub mod GatheredLaws
 pub mod FilesLaws
+pub mod Lent

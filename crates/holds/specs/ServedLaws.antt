@@ -11,6 +11,7 @@ use lib.ListN.{length, getD, length-map, length-append, List·getD-append}
 use lib.IntN.{ℤ, pos, negsuc}
 use lib.Signed.{mag}
 use borrow.Author.Tests.{leb-true}
+use Rattle.lists.specs.All.{All}
 use Rattle.memory.specs.Limits.{maxNodes, maxTerms}
 use Rattle.memory.specs.Ranges.{rawLimit, weightLimit, totalLimit, figureLimit}
 use Rattle.memory.specs.Buffers.{Built}
@@ -20,7 +21,7 @@ use Rattle.lists.specs.ColumnsLaws.{length-column}
 use Rattle.numeric.specs.Threshold.{Term, Threshold, Job}
 use Rattle.numeric.specs.Slices.{Below}
 use Rattle.row.specs.Terms.{merged, total}
-use Rattle.row.specs.TermsLaws.{All as Every, all-map, all-sorted, conditions-merged}
+use Rattle.row.specs.TermsLaws.{all-map, all-sorted, conditions-merged}
 use Rattle.thresholds.specs.Guards.{Bound}
 use Rattle.thresholds.specs.Raw.{stretch}
 use Rattle.thresholds.specs.RawLaws.{stretch-length, length-terms}
@@ -30,19 +31,17 @@ use Rattle.prefixes.specs.Links.{links, neighbours, neighbourLists}
 use Rattle.prefixes.specs.HeldLaws.{length-numbers}
 use Rattle.between.specs.Between.{Index}
 use Rattle.between.specs.Held.{startBy, endBy, edgeIn, Inside, Shaped, EdgesShaped, LinksShaped, GuardsShaped, Holds, noThreshold, rowAt, HoldsGuards}
-use Rattle.between.specs.FirstLaws.{Totals}
+use Rattle.between.specs.Ready.{Totals, Names}
 use Rattle.regions.specs.Drain.{indexOf}
-use Rattle.ends.specs.BuiltLaws.{Fit, Fits, Light, every-append, every-each, every-at, rows-every, rows-few, There, all-there, edges-from, linked-rows, indexed, fits-node, fits-condition}
+use Rattle.ends.specs.BuiltLaws.{every-append, every-each, every-at, rows-every, rows-few, There, all-there, edges-from, linked-rows, indexed, fits-node, fits-condition}
+use Rattle.ends.specs.Good.{Fit, Fits, Light}
 use Rattle.ends.specs.SizeLaws.{row-terms-few}
 use Rattle.follows.specs.BuiltLaws.{built, guard-threshold, rows-ordered}
-use Rattle.between.specs.KeepsLaws.{Names}
 use Rattle.settle.specs.Serves.{Serves}
 use Rattle.sift.specs.Tries.{Short}
 use Rattle.holds.specs.HoldsLaws.{LaidRows, inside-laid, front, holds-rows, shaped-rows, holds-edges, holds-links, holds-guards}
 use Rattle.holds.specs.WeightsLaws.{totals, weights, edges-light}
-
-abbrev pub boundsOf : Job → List ℤ
-boundsOf j = map (λ (t : Threshold). t .bound) (j .thresholds)
+use Rattle.holds.specs.Lent.{boundsOf}
 
 -- What the seal laid of a job, as it is lent: `rows` and `nodes` cut to their number. What stands behind the lists in the other
 -- buffers are conditions, weights and nodes, too.
@@ -72,19 +71,19 @@ pub record Served (j : Job) (b : Built) : Type 0 where
 
 -- ---- lists in front of a buffer
 
-every-in : {X : Type 0} (P : X → Type 0) (d : X) (xs : List X) → Every P xs → (i : ℕ) → i < length xs → P (getD xs i d)
+every-in : {X : Type 0} (P : X → Type 0) (d : X) (xs : List X) → All P xs → (i : ℕ) → i < length xs → P (getD xs i d)
 every-in P d [] a i h = absurd (not-suc-le-zero h)
 every-in P d (x ∷ xs) a zero h = a .0
 every-in P d (x ∷ xs) a (suc i) h = every-in P d xs (a .1) i (le-of-suc-le-suc h)
 
-every-front : {X : Type 0} (P : X → Type 0) (d : X) (xs more : List X) → Every P xs → (i : ℕ) → i < length xs → P (getD (xs ++ more) i d)
+every-front : {X : Type 0} (P : X → Type 0) (d : X) (xs more : List X) → All P xs → (i : ℕ) → i < length xs → P (getD (xs ++ more) i d)
 every-front P d xs more a i h = subst P (sym (List·getD-append xs more d i h)) (every-in P d xs a i h)
 
-pub every-image : {X Y : Type 0} (P : Y → Type 0) (f : X → Y) (xs : List X) → Every (λ (x : X). P (f x)) xs → Every P (map f xs)
+pub every-image : {X Y : Type 0} (P : Y → Type 0) (f : X → Y) (xs : List X) → All (λ (x : X). P (f x)) xs → All P (map f xs)
 every-image P f [] a = tt
 every-image P f (x ∷ xs) a = (a .0, every-image P f xs (a .1))
 
-pub every-joined : {X Y : Type 0} (P : Y → Type 0) (f : X → List Y) (xs : List X) → ((x : X) → Every P (f x)) → Every P (joinAll (map f xs))
+pub every-joined : {X Y : Type 0} (P : Y → Type 0) (f : X → List Y) (xs : List X) → ((x : X) → All P (f x)) → All P (joinAll (map f xs))
 unfolding joinAll
 every-joined P f [] h = tt
 every-joined P f (x ∷ xs) h = every-append P (f x) (joinAll (map f xs)) (h x) (every-joined P f xs h)
@@ -111,16 +110,16 @@ bound-small (negsuc n) h = omega (arith, leb-true n 4503599627370495 (h .low))
 -- ---- what a threshold and its terms name
 
 abbrev Named : (ℕ → Type 0) → Threshold → Type 0
-Named Ok t = Ok (t .node) × Every (λ (u : Term). Ok (u .condition)) (t .terms)
+Named Ok t = Ok (t .node) × All (λ (u : Term). Ok (u .condition)) (t .terms)
 
 -- ROWS NAME ONLY WHAT THRESHOLDS NAME
-rows-names : (Ok : ℕ → Type 0) (j : Job) → Every (Named Ok) (j .thresholds) → (r : ℕ) → r < length (rowsOf j) → Names Ok (getD (rowsOf j) r noRow)
+rows-names : (Ok : ℕ → Type 0) (j : Job) → All (Named Ok) (j .thresholds) → (r : ℕ) → r < length (rowsOf j) → Names Ok (getD (rowsOf j) r noRow)
 rows-names Ok j h r k = record {
   guards = λ g i.
       let o = guard-threshold j (indexOf j) (built j (indexOf j) refl refl refl) r g (k, i) in
       subst Ok (sym (o .2)) (every-each (Named Ok) (j .thresholds) h (o .0) (o .1) .0);
   terms = every-each (λ (u : Term). Ok (u .condition)) (getD (rowsOf j) r noRow .terms)
-      (rows-every (λ (y : Row). Every (λ (u : Term). Ok (u .condition)) (y .terms)) (Named Ok)
+      (rows-every (λ (y : Row). All (λ (u : Term). Ok (u .condition)) (y .terms)) (Named Ok)
       (λ t q. all-sorted (λ (u : Term). Ok (u .condition)) (merged (t .terms)) (conditions-merged Ok (t .terms) (q .1))) (λ t y q a. a) tt j h r);
 }
 
@@ -173,7 +172,7 @@ module _ (j : Job) (f : Fits j) (light : Light rawLimit j) (b : Built) (y : Laid
   edges-inside : (m : ℕ) → length edges ≤ m → Inside 2 (b .nodes) m
   edges-inside m h = inside-laid 2 (b .nodes) (edgeLists (j .nodes) (rowsOf j)) (y .edges-end) m h
 
-  edge-has : (P : Edge → Type 0) → ((n : ℕ) → Every P (edgesOf (rowsOf j) n)) → (n i : ℕ) → n < length (b .nodes) → i < endBy 2 (b .nodes) n → P (edgeIn (getD (b .edges) i []))
+  edge-has : (P : Edge → Type 0) → ((n : ℕ) → All P (edgesOf (rowsOf j) n)) → (n i : ℕ) → n < length (b .nodes) → i < endBy 2 (b .nodes) n → P (edgeIn (getD (b .edges) i []))
   edge-has P a n i k h =
       subst (λ (l : List (List ℕ)). P (edgeIn (getD l i []))) (sym (y .edges))
       (every-front (λ (l : List ℕ). P (edgeIn l)) [] (map edgeRow edges) (y .more-edges)

@@ -11,6 +11,7 @@ use lib.Dec.{eqb, leb}
 use lib.IntN.{ℤ, pos, negsuc}
 use lib.Signed.{ltZ}
 use borrow.Author.Tests.{eqb-false, leb-false, ne-eqb}
+use Rattle.lists.specs.TestLaws.{or-false}
 use Rattle.signed.specs.SignedLaws.{nlt-leZ}
 use Rattle.lists.specs.PartsLaws.{start-after}
 use Rattle.lists.specs.Parts.{endBy, startBy}
@@ -32,7 +33,7 @@ use Rattle.records.specs.CheckLaws.{Passes, passes}
 use Rattle.job.specs.Job.{addTerm}
 use Rattle.job.specs.Taken.{openedBy, addedTo, withThreshold, withTerm}
 use Rattle.job.specs.Gathered.{cut, jobIn, Listed, Bounded, Termed, Gathered, Opened, Added}
-use Rattle.job.specs.JobLaws.{map-same, add-more, term-more, stretch-set, stretch-more, or-false}
+use Rattle.job.specs.JobLaws.{map-same, add-more, term-more, stretch-set, stretch-more}
 use Rattle.job.specs.GatheredLaws.{threshold-by, by-last, list-by, gathered, gathered-last}
 
 abbrev node-of : List ℕ → ℕ

@@ -21,10 +21,11 @@ use Rattle.records.specs.declared.Record.{Record}
 use Rattle.records.specs.Facts.{Action, begins, changes, closes, decides, settles, sifts, idles, action, facts}
 use Rattle.files.specs.File.{File, contradicted, begun, sealedFile, markedFile, settledFile, siftedFile, act, apply, planned, after, Passed}
 use Rattle.table.specs.Table.{IsRow}
-use Rattle.ends.specs.BuiltLaws.{Fits as JobFits, fits-node, fits-condition, rows-few, indexed}
+use Rattle.ends.specs.BuiltLaws.{fits-node, fits-condition, rows-few, indexed}
+use Rattle.ends.specs.Good.{Fits as JobFits, Good}
 use Rattle.ends.specs.BlankLaws.{blank-begun}
-use Rattle.ends.specs.FilesLaws.{Good, good-begun, both, Taken, taken, building-turn, change-turn, serving-turn, node-small, good-apply, planned-passed}
-use Rattle.follows.specs.RowCompleteLaws.{Ordered}
+use Rattle.ends.specs.FilesLaws.{good-begun, both, Taken, taken, building-turn, change-turn, serving-turn, node-small, good-apply, planned-passed}
+use Rattle.follows.specs.Ordered.{Ordered}
 use Rattle.follows.specs.StandsLaws.{stay-same, stay-decide, apart-decide}
 use Rattle.follows.specs.BuiltLaws.{Built, built, rows-ordered}
 use Rattle.follows.specs.WaitingLaws.{queued-decide}

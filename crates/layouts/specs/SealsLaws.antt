@@ -13,9 +13,9 @@ use Rattle.between.specs.Between.{Index, Live, runRow}
 use Rattle.regions.specs.Drain.{seal}
 use Rattle.regions.specs.DrainLaws.{begun, seal-walks}
 use Rattle.table.specs.Table.{IsRow, start}
-use Rattle.ends.specs.TurnsLaws.{Sound}
+use Rattle.ends.specs.Good.{Sound}
 use Rattle.ends.specs.BuiltLaws.{first-long}
-use Rattle.follows.specs.RowCompleteLaws.{Ordered}
+use Rattle.follows.specs.Ordered.{Ordered}
 use Rattle.follows.specs.StandsLaws.{restart}
 use Rattle.follows.specs.BuiltLaws.{Built}
 use Rattle.follows.specs.LayoutsLaws.{nodes-agree, stands-agrees}

@@ -4,19 +4,19 @@ use mathlib.Core.Path.{_≡_}
 use mathlib.Core.Bool.{false}
 use mathlib.Core.List.{List}
 use lib.ListN.{getD}
+use Rattle.lists.specs.TestLaws.{clash, and-left}
 use Rattle.numeric.specs.Threshold.{Job}
 use Rattle.numeric.specs.Layout.{Layout, IsLayout}
 use Rattle.state.specs.Step.{contradicts}
 use Rattle.thresholds.specs.Rows.{noRow}
-use Rattle.between.specs.Between.{Index, Live, live}
+use Rattle.between.specs.Between.{Index, Live}
 use Rattle.regions.specs.Drain.{settle}
 use Rattle.regions.specs.Sift.{Sifted, tryRow, sift}
 use Rattle.regions.specs.SiftLaws.{sift-walks}
 use Rattle.table.specs.Table.{IsRow}
-use Rattle.ends.specs.TurnsLaws.{Indexed, Sound}
+use Rattle.ends.specs.Good.{Indexed, Sound}
 use Rattle.ends.specs.SettlesLaws.{settle-stays, settle-ends, fall-try}
-use Rattle.follows.specs.AnswersLaws.{clash, and-left}
-use Rattle.follows.specs.RowCompleteLaws.{Ordered}
+use Rattle.follows.specs.Ordered.{Ordered}
 use Rattle.follows.specs.BuiltLaws.{Built}
 use Rattle.layouts.specs.TurnsLaws.{Between, FineBetween, settle-fine}
 use Rattle.layouts.specs.TriedLaws.{try-fine}

@@ -12,6 +12,8 @@ use lib.ListN.{length, getD, List·getD-eq-default}
 use lib.IntN.{ℤ, pos, _+ℤ_, pos-+ℤ-pos}
 use lib.Signed.{leZ, ltZ, clashℤ}
 use borrow.Author.Tests.{lt-ltb}
+use Rattle.lists.specs.TestLaws.{true-false, clash, unequal}
+use Rattle.state.specs.StepLaws.{contradiction-is}
 use Rattle.signed.specs.SignedLaws.{ltZ-pos, nle-ltZ}
 use Rattle.numeric.specs.Threshold.{Term, Job}
 use Rattle.numeric.specs.Layout.{Layout}
@@ -41,7 +43,7 @@ use Rattle.residual.specs.SumsLaws.{openWeights, openSum, sum, open-skip, open-
 use Rattle.residual.specs.SoundLaws.{Fresh, Distinct, residual-sound}
 use Rattle.possible_sums.specs.Search.{plan, search, searchStep, chosen}
 use Rattle.possible_sums.specs.SearchLaws.{search-refutes}
-use Rattle.between.specs.Between.{Index, Live, live, stateAt}
+use Rattle.between.specs.Between.{Index, Live, stateAt}
 use Rattle.between.specs.KeepsLaws.{Small}
 use Rattle.regions.specs.Sift.{Sifted, tryRow}
 use Rattle.regions.specs.SiftLaws.{tryTerms, tryResidual, tryLive, try-ends}
@@ -49,10 +51,10 @@ use Rattle.table.specs.Table.{IsRow, termsOf, known, possible}
 use Rattle.table.specs.OrderLaws.{UpLe, le, lt, of-le, ≤ℤ-trans}
 use Rattle.table.specs.LayoutLaws.{row-made}
 use Rattle.ends.specs.KeepsLaws.{residual-named}
-use Rattle.follows.specs.AnswersLaws.{true-false, clash}
 use Rattle.follows.specs.StandsLaws.{tableAt, Apart, Stay, stay-same, stay-decide, apart-decide, known-exact, possible-exact}
 use Rattle.follows.specs.BuiltLaws.{Built}
-use Rattle.follows.specs.WaitingLaws.{Queued, queued-decide, none-left}
+use Rattle.follows.specs.WaitingLaws.{queued-decide, none-left}
+use Rattle.queues.specs.Waiting.{Queued}
 use Rattle.layouts.specs.TurnsLaws.{Fits, Holds, agrees-fits, marked}
 
 -- THE SUM OF A ROW under a layout: what is known, and what it takes of the undecided terms
@@ -117,8 +119,8 @@ joined-none : (a b : Step) → joined a b ≡ Unchanged → (a ≡ Unchanged) ×
 joined-none Unchanged b h = (refl, h)
 joined-none Changed Unchanged h = (h, refl)
 joined-none Changed Changed h = (h, h)
-joined-none Changed Contradiction h = absurd (let z : _≡_ {A = ℕ} 0 1 = cc in omega arith)
-joined-none Contradiction b h = absurd (let z : _≡_ {A = ℕ} 0 1 = cc in omega arith)
+joined-none Changed Contradiction h = absurd (unequal cc)
+joined-none Contradiction b h = absurd (unequal cc)
 
 not-unchanged : Changed ≡ Unchanged → ⊥
 not-unchanged e = clash (isUnchanged Changed) (ap isUnchanged e) refl
@@ -187,11 +189,6 @@ unchanged-is : (k : Step) → isUnchanged k ≡ true → k ≡ Unchanged
 unchanged-is Unchanged h = refl
 unchanged-is Changed h = absurd (clash false h refl)
 unchanged-is Contradiction h = absurd (clash false h refl)
-
-contradiction-is : (k : Step) → contradicts k ≡ true → k ≡ Contradiction
-contradiction-is Unchanged h = absurd (clash false h refl)
-contradiction-is Changed h = absurd (clash false h refl)
-contradiction-is Contradiction h = refl
 
 -- AN UPPER ABOVE THE SUM is not reached
 under : (u : Upper) (n : ℕ) → UpLe (Under (pos (suc n))) u → upperAtMost u (pos n) ≡ false

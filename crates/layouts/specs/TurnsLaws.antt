@@ -5,29 +5,30 @@ use mathlib.Core.Path.{_≡_, refl, ap, _∙_}
 use mathlib.Core.Bool.{Bool, true, false}
 use mathlib.Core.List.{List·Memᴰ}
 use lib.ListN.{getD}
+use Rattle.lists.specs.TestLaws.{clash, never-true}
+use Rattle.state.specs.StepLaws.{joined-fine}
 use Rattle.numeric.specs.Threshold.{Threshold, Job}
 use Rattle.numeric.specs.Layout.{Layout, IsLayout}
 use Rattle.state.specs.Step.{contradicts}
 use Rattle.words.specs.Mask.{bit}
 use Rattle.queues.specs.Queue.{Rows, oldest, nextRow}
-use Rattle.queues.specs.Marks.{Marks, marks, isDecided}
+use Rattle.queues.specs.Marks.{Marks, isDecided}
 use Rattle.queues.specs.MarksLaws.{mask}
 use Rattle.thresholds.specs.Rows.{noRow}
 use Rattle.between.specs.Between.{Index, Live, live, Did, runRow, thresholdGuard, thresholdCondition, thresholdPrefixes}
-use Rattle.between.specs.LoopLaws.{joined-fine}
 use Rattle.between.specs.WalkLaws.{guard-of-ends}
 use Rattle.regions.specs.Drain.{takeNode, takeRow, turn, atRest, settle}
 use Rattle.regions.specs.DrainLaws.{untaken, unrowed, nodeTold, nodeDrained, node-ends, row-ends, turn-ends, settle-walks}
 use Rattle.table.specs.Table.{IsRow}
 use Rattle.table.specs.TableLaws.{le-same, follows-start}
-use Rattle.follows.specs.AnswersLaws.{clash, never-true}
-use Rattle.follows.specs.RowCompleteLaws.{Ordered}
+use Rattle.follows.specs.Ordered.{Ordered}
 use Rattle.follows.specs.StandsLaws.{tableAt, also, also-this, Apart, Stands, Stay, restart}
 use Rattle.follows.specs.MovesLaws.{Kept, run-stands, guard-stands, prefixes-stand}
 use Rattle.follows.specs.DrainedLaws.{condition-stands}
 use Rattle.follows.specs.BuiltLaws.{Built}
 use Rattle.follows.specs.KeepsLaws.{run-keeps, guard-keeps, condition-keeps, prefixes-keeps}
-use Rattle.follows.specs.WaitingLaws.{Queued, queued-decide, first-decided, first-fresh, queued-taken}
+use Rattle.follows.specs.WaitingLaws.{queued-decide, first-decided, first-fresh, queued-taken}
+use Rattle.queues.specs.Waiting.{Queued}
 use Rattle.follows.specs.StartLaws.{marked-stands, wide-of}
 use Rattle.follows.specs.LayoutsLaws.{Agrees, agrees-le, broken-none, kept-stays}
 

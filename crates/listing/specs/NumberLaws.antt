@@ -14,6 +14,7 @@ use mir.Syntax.{w64}
 use mir.Val.{toZ, ofZ, Fits, SFits}
 use mir.Facts.{toZ-ofZ}
 use borrow.Author.Tests.{lt-ltb, le-ltb, ltb-true, leb-true, leb-false}
+use Rattle.lists.specs.TestLaws.{unequal}
 use Rattle.files.specs.Listing.{digits, decimal, decimalZ}
 use Rattle.listing.specs.Numbers.{unit, four}
 
@@ -185,4 +186,4 @@ signed-below (negsuc n) h = refl
 
 pub signed-from : (z : ℤ) → ltZ z (pos 0) ≡ false → decimalZ z ≡ decimal (natAbs z)
 signed-from (pos n) h = refl
-signed-from (negsuc n) h = absurd (let q : _≡_ {A = ℕ} 0 1 = cc in omega arith)
+signed-from (negsuc n) h = absurd (unequal cc)

@@ -7,6 +7,7 @@ use mathlib.Core.List.{List, [], _∷_, _++_, map, append-assoc}
 use lib.ListN.{length, getD, take}
 use lib.Seq.{getD-take}
 use lib.Dec.{eqb}
+use Rattle.lists.specs.TestLaws.{unequal}
 use Rattle.lists.specs.Laid.{pairs}
 use Rattle.state.specs.declared.Step.the-variants.{Unchanged, Changed, Contradiction}
 use Rattle.state.specs.declared.State.{State}
@@ -15,7 +16,7 @@ use Rattle.words.specs.Mask.{digit, bit, count}
 use Rattle.words.specs.CountLaws.{count-above}
 use Rattle.thresholds.specs.Rows.{Row, rowsOf}
 use Rattle.memory.specs.Limits.{maxNodes}
-use Rattle.files.specs.File.{File, Answer, settled, sifted, Outcome, outcome, begun}
+use Rattle.files.specs.File.{File, Answer, settled, sifted, Outcome, begun}
 use Rattle.files.specs.Contents.{answerNumber, answerVisits, givenOf}
 use Rattle.files.specs.Listing.{text, digits, decimal, answerLine, answerLines, nodeLines, rowLines, stateLines, lastLine, listing}
 use Rattle.files.specs.declared.Given.{Given}
@@ -208,7 +209,7 @@ ten-listable : (answers : List (List ℕ)) (states : List State) (sure never : L
 unfolding begun
 ten-listable answers states sure never = record {
   answered = record { few = omega arith; inside = omega arith };
-  sealed = λ s. absurd (let z : _≡_ {A = ℕ} 0 1 = cc in omega arith);
+  sealed = λ s. absurd (unequal cc);
   ended = λ z. absurd (omega arith);
 }
 

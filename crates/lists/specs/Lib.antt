@@ -1,3 +1,4 @@
+pub mod TestLaws
 pub mod Laid
 pub mod Parts
 pub mod PartsLaws
@@ -7,3 +8,4 @@ pub mod Columns
 pub mod ColumnsLaws
 pub mod TallyLaws
 pub mod IndexLaws
+pub mod All

@@ -7,18 +7,15 @@ use mathlib.Core.List.{List, [], _∷_}
 use lib.ListN.{getD, length}
 use lib.Dec.{leb}
 use borrow.Author.Tests.{leb-true, le-leb}
+use Rattle.lists.specs.TestLaws.{and-true, unequal}
 use Rattle.memory.specs.Buffers.{Work, needed, lengths, enough, longestInput, fitsBy, fits}
-
-pub both : (a b : Bool) → (a && b) ≡ true → (a ≡ true) × (b ≡ true)
-both true b h = (refl, h)
-both false b h = (h, absurd (let z : _≡_ {A = ℕ} 0 1 = cc in omega arith))
 
 enough-at : (ns ms : List ℕ) → enough ns ms ≡ true → (i : ℕ) → getD ns i 0 ≤ getD ms i 0
 unfolding enough
 enough-at [] ms h i = omega arith
-enough-at (n ∷ ns) [] h i = absurd (let z : _≡_ {A = ℕ} 0 1 = cc in omega arith)
-enough-at (n ∷ ns) (m ∷ ms) h zero = leb-true n m (both (leb n m) (enough ns ms) h .0)
-enough-at (n ∷ ns) (m ∷ ms) h (suc i) = enough-at ns ms (both (leb n m) (enough ns ms) h .1) i
+enough-at (n ∷ ns) [] h i = absurd (unequal cc)
+enough-at (n ∷ ns) (m ∷ ms) h zero = leb-true n m (and-true (leb n m) (enough ns ms) h .0)
+enough-at (n ∷ ns) (m ∷ ms) h (suc i) = enough-at ns ms (and-true (leb n m) (enough ns ms) h .1) i
 
 -- Each buffer is as long as it must be.
 abbrev pub Sized : Work → Type 0
@@ -26,18 +23,18 @@ Sized w = (i : ℕ) → getD needed i 0 ≤ getD (lengths w) i 0
 
 pub fits-sized : (input : List ℕ) (w : Work) → fits input w ≡ true → Sized w
 unfolding fitsBy
-fits-sized input w h = enough-at needed (lengths w) (both (enough needed (lengths w)) (leb (length input) longestInput) h .0)
+fits-sized input w h = enough-at needed (lengths w) (and-true (enough needed (lengths w)) (leb (length input) longestInput) h .0)
 
 pub fits-input : (input : List ℕ) (w : Work) → fits input w ≡ true → length input ≤ longestInput
 unfolding fitsBy
-fits-input input w h = leb-true (length input) longestInput (both (enough needed (lengths w)) (leb (length input) longestInput) h .1)
+fits-input input w h = leb-true (length input) longestInput (and-true (enough needed (lengths w)) (leb (length input) longestInput) h .1)
 
 -- A shorter input fits too.
 pub fits-shorter : (x input : List ℕ) (w : Work) → length x ≤ length input → fits input w ≡ true → fits x w ≡ true
 unfolding fitsBy
 fits-shorter x input w h e =
     let k = fits-input input w e in
-    ap₂ (λ (p q : Bool). p && q) (both (enough needed (lengths w)) (leb (length input) longestInput) e .0) (le-leb (length x) longestInput (omega arith))
+    ap₂ (λ (p q : Bool). p && q) (and-true (enough needed (lengths w)) (leb (length input) longestInput) e .0) (le-leb (length x) longestInput (omega arith))
 
 -- The test as code makes it.
 unfoldable pub enoughFrom : Bool → List ℕ → List ℕ → Bool

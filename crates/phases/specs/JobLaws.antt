@@ -6,10 +6,11 @@ use native.Mathlib.Omega.{arith}
 use mathlib.Core.Path.{_≡_, refl, sym, ap, ap₂, subst, _∙_}
 use mathlib.Core.Bool.{Bool, true, false, cond}
 use mathlib.Core.List.{List, [], _∷_, _++_}
-use mathlib.Core.Logic.{_⊎_, ⊎-elim}
+use mathlib.Core.Logic.{⊎-elim}
 use lib.ListN.{length, getD, drop, drop-of-length-le}
 use lib.Seq.{drop-cons, drop-drop}
 use borrow.Author.Tests.{eq-eqb}
+use Rattle.lists.specs.TestLaws.{true-false}
 use Rattle.records.specs.declared.Record.{Record}
 use Rattle.records.specs.declared.Record.the-variants.{Header, Opens, Adds, Areas, Seal, Mark, Settle, Sift, Unknown}
 use Rattle.records.specs.declared.Next.the-variants.{Refused, Taken}
@@ -22,8 +23,9 @@ use Rattle.files.specs.File.{File, begun, standing, refusal, act, apply, Outcom
 use Rattle.files.specs.FileLaws.{zero-or}
 use Rattle.files.specs.Contents.{keptOf}
 use Rattle.files.specs.JobPart.{JobPart, jobPart, readJob, jobPartOf}
-use Rattle.files.specs.JobPartLaws.{true-or, job-refused, job-sealing, job-next, file-goes-on, file-ends}
-use Rattle.ends.specs.FilesLaws.{Good, good-begun, good-apply, both, Taken as Passes, taken, serving-turn, refused-by}
+use Rattle.files.specs.JobPartLaws.{job-refused, job-sealing, job-next, file-goes-on, file-ends}
+use Rattle.ends.specs.FilesLaws.{good-begun, good-apply, both, Taken as Passes, taken, serving-turn, refused-by}
+use Rattle.ends.specs.Good.{Good}
 use Rattle.serve.specs.declared.Reached.{Reached}
 use Rattle.serve.specs.Serve.{readAt}
 use Rattle.serve.specs.ReadLaws.{ended, taken-any}
@@ -104,7 +106,7 @@ module _ (input : List ℕ) where
           (λ (c : closing (action x) ≡ false).
           subst (Ended input) (sym (job-next n o kind rest f rs e c))
           (subst (λ (l : List ℕ). Ended input (readJob n (o + 1 + size) l (apply f x) (rs ++ (x ∷ [])))) (sym (drop-drop size (o + 1) input))
-          (ih (o + 1 + size) (apply f x) (rs ++ (x ∷ [])) (before-apply f b x (refused-by 0 (λ z. omega arith) (λ z. omega arith) f kind rest e) c)))) (true-or (closing (action x))))
+          (ih (o + 1 + size) (apply f x) (rs ++ (x ∷ [])) (before-apply f b x (refused-by 0 (λ z. omega arith) (λ z. omega arith) f kind rest e) c)))) (true-false (closing (action x))))
           (λ (e : refusalAt f kind rest ≡ 0 → ⊥). subst (Ended input) (sym (job-refused n o kind rest f rs e)) (stops f b rs (refusalAt f kind rest) o)) (zero-or (refusalAt f kind rest))
 
       by : ((p : ℕ) (g : File) (qs : List Record) → Before g → Ended input (readJob n p (drop p input) g qs)) → Dec (o < length input) → Ended input (readJob (suc n) o (drop o input) f rs)

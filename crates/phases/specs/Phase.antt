@@ -14,8 +14,7 @@ use Rattle.prepare.specs.JobBuffers.{rawOf, builtOf}
 use Rattle.files.specs.declared.JobRead.{JobRead}
 use Rattle.files.specs.File.{File, begun, standing, Outcome, outcome}
 use Rattle.files.specs.Contents.{keptOf}
-use Rattle.ends.specs.BuiltLaws.{Light}
-use Rattle.ends.specs.FilesLaws.{Good}
+use Rattle.ends.specs.Good.{Light, Good}
 use Rattle.serve.specs.declared.Reached.{Reached}
 use Rattle.serve.specs.Serve.{readAt}
 

@@ -1,5 +1,5 @@
 -- What the phase lends is what the seal requires, and what it leaves is the file's, in every word. Assumes nothing.
-use Prim.Native.Nat.{ℕ, zero, suc, _+_, _<_, _≤_}
+use Prim.Native.Nat.{ℕ, zero, suc, _≤_}
 use native.Mathlib.Nat.{not-suc-le-zero, le-of-suc-le-suc}
 use native.Mathlib.Omega.{arith}
 use mathlib.Core.Path.{_≡_, refl, sym, ap, ap₂, subst, _∙_}
@@ -29,11 +29,12 @@ use Rattle.records.specs.declared.Standing.{Standing}
 use Rattle.files.specs.File.{File, Answer, begun, standing, Outcome, outcome}
 use Rattle.files.specs.declared.JobRead.{JobRead}
 use Rattle.files.specs.Contents.{keptOf}
-use Rattle.ends.specs.BuiltLaws.{Fits, rows-few}
+use Rattle.ends.specs.BuiltLaws.{rows-few}
+use Rattle.ends.specs.Good.{Fits}
 use Rattle.ends.specs.SizeLaws.{terms-few, guards-few, edges-most}
-use Rattle.settle.specs.BeginsLaws.{Fresh}
-use Rattle.holds.specs.ServedLaws.{boundsOf}
-use Rattle.holds.specs.LentLaws.{lentOf, lendable-clear, bounds-lent}
+use Rattle.settle.specs.Serves.{Fresh}
+use Rattle.holds.specs.Lent.{boundsOf, lentOf}
+use Rattle.holds.specs.LentLaws.{lendable-clear, bounds-lent}
 use Rattle.holds.specs.GoesLaws.{fresh-begun}
 use Rattle.serve.specs.declared.Reached.{Reached}
 use Rattle.serve.specs.Serve.{liveIn, answersOf, Lies, Seals, noRings, Reaches, readAt, Same, fourfold}

@@ -9,6 +9,7 @@ use lib.ListN.{length, replicate}
 use lib.IntN.{pos}
 use lib.Dec.{leb}
 use borrow.Author.Tests.{leb-false, le-leb, lt-ltb}
+use Rattle.lists.specs.TestLaws.{true-false}
 use Rattle.memory.specs.Limits.{maxThresholds}
 use Rattle.memory.specs.Buffers.{rawLists, raw, heldRows, built, kept, Work, work, needed, lengths, enough, longestInput, fits, fitsBy}
 use Rattle.files.specs.declared.Given.{Given}
@@ -16,11 +17,10 @@ use Rattle.state.specs.declared.State.{State}
 use Rattle.files.specs.File.{Outcome, fileOf, planned}
 use Rattle.files.specs.Contents.{givenOf, out}
 use Rattle.planner.specs.Planner.{Left, left, fitsAll, plan}
-use Rattle.listing.specs.Lines.{maxListing, Listable}
+use Rattle.listing.specs.Lines.{Listable}
 use Rattle.listing.specs.Shows.{ten, Shows, Listed}
 use Rattle.listing.specs.Shows as Is
 use Rattle.listing.specs.ShowsLaws.{shows-listable}
-use Rattle.follows.specs.AnswersLaws.{true-false}
 use Rattle.shown.specs.ShownLaws.{ended, ShowsIn, shows-plan}
 use Rattle.plan.specs.Plan.{Plans}
 use Rattle.plan.specs.Ready.{Ready, planOf}

@@ -3,7 +3,7 @@ use Prim.Native.Nat.{ℕ, _≤_}
 use mathlib.Core.Path.{_≡_}
 use mathlib.Core.List.{List}
 use lib.ListN.{length}
-use Rattle.row.specs.TermsLaws.{All as Every}
+use Rattle.lists.specs.All.{All}
 use Rattle.memory.specs.Buffers.{Work, needed, lengths}
 use Rattle.files.specs.declared.Given.{Given}
 use Rattle.listing.specs.Lines.{maxListing}
@@ -11,7 +11,7 @@ use Rattle.shown.specs.BytesLaws.{IsByte}
 use Rattle.plan.specs.declared.Planned.{Planned}
 
 pub record Ready (input out : List ℕ) (w : Work) : Type 0 where
-  pub bytes : Every IsByte input
+  pub bytes : All IsByte input
   pub room : maxListing ≤ length out
   pub long : lengths w ≡ needed
 

@@ -1,5 +1,5 @@
 -- The public call joined to `whole`, the call over the buffers of numbers. Assumes nothing.
-use Prim.Native.Nat.{ℕ, _+_, _<_, _≤_}
+use Prim.Native.Nat.{ℕ, _<_, _≤_}
 use native.Mathlib.Omega.{arith}
 use mathlib.Core.Path.{_≡_, refl, sym, ap, ap₂, _∙_, subst}
 use mathlib.Core.Bool.{Bool, true, false, _&&_}
@@ -7,9 +7,9 @@ use mathlib.Core.List.{List, [], _∷_, _++_, map}
 use mathlib.Core.Logic.{⊎-elim}
 use lib.ListN.{length, take, drop, length-append}
 use lib.Seq.{take-at}
-use lib.Dec.{leb}
 use lib.IntN.{ℤ}
 use borrow.Author.Tests.{le-leb, lt-leb}
+use Rattle.lists.specs.TestLaws.{true-false}
 use Rattle.lists.specs.Laid.{over}
 use Rattle.memory.specs.Limits.{maxThresholds}
 use Rattle.memory.specs.Buffers.{Work, Kept, fits, zeros, cleared}
@@ -18,9 +18,8 @@ use Rattle.state.specs.State.{noState, figuresOf, cursorsOf}
 use Rattle.between.specs.NumbersLaws.{stored-read}
 use Rattle.between.specs.Numbers.{statesOf}
 use Rattle.states.specs.States.{shown}
-use Rattle.files.specs.File.{File, Outcome, fileOf}
+use Rattle.files.specs.File.{File, fileOf}
 use Rattle.files.specs.Contents.{Out, served, untouched, whole, keptOf, laid}
-use Rattle.follows.specs.AnswersLaws.{true-false}
 use Rattle.demands.specs.RefusalLaws.{ten, served-when, untouched-when}
 use Rattle.demands.specs.KeptLaws.{kept-file}
 use Rattle.planner.specs.Planner.{Left, left, fitsAll, plan}

@@ -2,9 +2,10 @@
 use Prim.Native.Nat.{ℕ, _≤_}
 use mathlib.Core.Logic.{_≢_}
 use mathlib.Core.List.{List, [], _∷_, reverse, reverseAux}
+use Rattle.lists.specs.All.{All}
 use Rattle.numeric.specs.Threshold.{Term}
 use Rattle.row.specs.Terms.{rowTerms}
-use Rattle.row.specs.TermsLaws.{All, Falling, Distinct, sorted-falling, distinct}
+use Rattle.row.specs.TermsLaws.{Falling, Distinct, sorted-falling, distinct}
 
 -- The condition is none of a list's.
 abbrev pub Fresh : ℕ → List Term → Type 0

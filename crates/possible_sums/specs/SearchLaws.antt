@@ -12,6 +12,8 @@ use lib.Dec.{ltb}
 use lib.IntN.{ℤ, pos, negsuc, _+ℤ_, _-ℤ_, +ℤ-idl, +ℤ-comm, +ℤ-negℤ-cancel}
 use lib.Signed.{leZ, ltZ}
 use borrow.Author.Tests.{ltb-true, leb-true}
+use Rattle.lists.specs.All.{All}
+use Rattle.lists.specs.TestLaws.{unequal}
 use Rattle.numeric.specs.Threshold.{Term}
 use Rattle.signed.specs.SignedLaws.{natural-minus, leZ-sub, ltZ-minus}
 use Rattle.signed.specs.Signed.{natural}
@@ -31,7 +33,7 @@ use Rattle.possible_sums.specs.declared.Plan.the-variants.{Unplanned, Pl
 use Rattle.possible_sums.specs.declared.Search.{Search}
 use Rattle.possible_sums.specs.declared.Search.the-variants.{Skipped, Fits, Nothing, Cut}
 use Rattle.possible_sums.specs.Search.{window, plan, search, searchFrom, searchStep, searchVisits, chosen, Lands}
-use Rattle.row.specs.TermsLaws.{All, all-map}
+use Rattle.row.specs.TermsLaws.{all-map}
 use Rattle.possible_sums.specs.RowLaws.{Fresh, Later, Rising, all-both, all-of, rising}
 use Rattle.possible_sums.specs.ChoiceLaws.{chosen-none, chosen-moves, chosen-heavy, chosen-reverse}
 use Rattle.possible_sums.specs.SearchStepsLaws.{from-heavy, from-skip, from-fits, from-stopped, from-more, plan-is, search-none, search-begins}
@@ -118,7 +120,7 @@ module _ (w : Window) (d : ℕ → Bool) where
 
 above : (z : ℤ) → ltZ (pos 0) z ≡ true → 0 < natural z
 above (pos n) e = ltb-true 0 n e
-above (negsuc n) e = absurd (let z : _≡_ {A = ℕ} 0 1 = cc in omega arith)
+above (negsuc n) e = absurd (unequal cc)
 
 gap-above : (a b : ℤ) → ltZ a b ≡ true → 0 < natural (b -ℤ a)
 gap-above a b h = above (b -ℤ a) (ltZ-minus (pos 0) b a ∙ ap (λ (z : ℤ). ltZ z b) (+ℤ-idl a) ∙ h)
@@ -155,7 +157,7 @@ search-exact raw s d w e n = by (search (rowTerms raw) s d) refl (answered raw s
         let l = a .1 .0 in
         let m = a .1 .1 in
         let x = whole raw s d c in
-        (λ z. absurd (let y : _≡_ {A = ℕ} 0 1 = cc in omega arith), λ f. absurd (f c (omega arith, omega arith)))
+        (λ z. absurd (unequal cc), λ f. absurd (f c (omega arith, omega arith)))
     by (Nothing k) q a =
         (λ z choice l. let x = whole raw s d choice in let f = l .0 in let g = l .1 in a choice (omega arith, omega arith), λ f. refl)
     by (Cut k) q a = absurd (n k q)
@@ -172,7 +174,7 @@ past (negsuc m) n h = omega arith
 
 short : (z : ℤ) (n : ℕ) → ltZ (pos n) z ≡ true → n ≤ natural (z -ℤ pos 1)
 short (pos m) n h = omega (arith, ltb-true n m h, natural-minus m 1)
-short (negsuc m) n h = absurd (let z : _≡_ {A = ℕ} 0 1 = cc in omega arith)
+short (negsuc m) n h = absurd (unequal cc)
 
 lands : (ts : List Term) (s : State) (d choice : ℕ → Bool) → leZ (s .lower) (s .known +ℤ pos (chosen d choice ts)) ≡ true
     → ltZ (s .known +ℤ pos (chosen d choice ts)) (limit (s .upper)) ≡ true → Lands (window ts s) d ts choice
@@ -191,13 +193,13 @@ pub search-refutes : (raw : List Term) (s : State) (d : ℕ → Bool) → search
 search-refutes raw s d q = by (plan (rowTerms raw) s) refl
   where
     not-cut : (n : ℕ) → search (rowTerms raw) s d ≢ Cut n
-    not-cut n e = let z = sym (ap searchStep e) ∙ q in let y : _≡_ {A = ℕ} 0 1 = cc in omega arith
+    not-cut n e = let z = sym (ap searchStep e) ∙ q in unequal cc
 
     by : (p : Plan) → plan (rowTerms raw) s ≡ p → (b : ℤ) × (s .upper ≡ Under b)
         × ((choice : ℕ → Bool) → leZ (s .lower) (s .known +ℤ pos (chosen d choice (rowTerms raw))) ≡ true
         → ltZ (s .known +ℤ pos (chosen d choice (rowTerms raw))) b ≡ true → ⊥)
     by Unplanned e =
-        absurd (let z = sym (ap searchStep (search-none (rowTerms raw) s d e)) ∙ q in let y : _≡_ {A = ℕ} 0 1 = cc in omega arith)
+        absurd (let z = sym (ap searchStep (search-none (rowTerms raw) s d e)) ∙ q in unequal cc)
     by (Planned w) e =
         let p = plan-is (rowTerms raw) s w e in
         let u = upper-cuts s (p .cut) in (

@@ -11,6 +11,7 @@ use lib.Signed.{mag, ltZ}
 use mir.Syntax.{w64}
 use mir.Val.{SFits}
 use borrow.Author.Tests.{le-leb, lt-leb, leb-true}
+use Rattle.lists.specs.TestLaws.{unequal}
 use Rattle.memory.specs.Limits.{listTerms}
 use Rattle.numeric.specs.Threshold.{Term, term}
 use Rattle.signed.specs.SignedLaws.{mag-minus, sub-sfits}
@@ -141,15 +142,15 @@ plan-is ts s w e = by (tests (hasNonunit ts)) refl e
 
     met : (a b c d : Bool) → (a && b && c && d) ≡ true → (b ≡ true) × (d ≡ true)
     met true true true d h = (refl, h)
-    met true true false d h = absurd (let z : _≡_ {A = ℕ} 0 1 = cc in omega arith)
-    met true false c d h = absurd (let z : _≡_ {A = ℕ} 0 1 = cc in omega arith)
-    met false b c d h = absurd (let z : _≡_ {A = ℕ} 0 1 = cc in omega arith)
+    met true true false d h = absurd (unequal cc)
+    met true false c d h = absurd (unequal cc)
+    met false b c d h = absurd (unequal cc)
 
     by : (x : Bool) → tests (hasNonunit ts) ≡ x → cond x (Planned (window ts s)) Unplanned ≡ Planned w → Searched ts s w
     by true h q =
         let m = met (hasNonunit ts) (hasResidualInterval s) (ltZ (s .known) (limit (s .upper))) (leb (window ts s .words + 5) (window ts s .visits)) h in
         record { same = cc; cut = m .0; room = leb-true (window ts s .words + 5) (window ts s .visits) (m .1) }
-    by false h q = absurd (let z : _≡_ {A = ℕ} 0 1 = cc in omega arith)
+    by false h q = absurd (unequal cc)
 
 pub plan-prepared : (ts : List Term) (s : State) (w : Window) → length ts ≤ listTerms → plan ts s ≡ Planned w → Prepared w
 plan-prepared ts s w n e =
@@ -198,6 +199,6 @@ unfolding unionShifted
 hit-left l sources shift start end allowance k e = by (outcome shift start end (readable l sources shift) l allowance) e
   where
     by : {r : Shifted} → Outcome shift start end (readable l sources shift) l allowance r → r .ended ≡ Hit k → k ≤ allowance
-    by (completes j q f) e = absurd (let z : _≡_ {A = ℕ} 0 1 = cc in omega arith)
+    by (completes j q f) e = absurd (unequal cc)
     by (hits j s i q w f) e = let z : j ≡ k = cc in omega arith
-    by (stops i f) e = absurd (let z : _≡_ {A = ℕ} 0 1 = cc in omega arith)
+    by (stops i f) e = absurd (unequal cc)

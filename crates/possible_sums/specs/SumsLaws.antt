@@ -11,6 +11,7 @@ use mathlib.Core.List.{List, [], _∷_}
 use lib.Pow.{pow-pos}
 use lib.ListN.{length, getD, set, replicate, length-set, length-replicate, getD-replicate, List·getD-eq-default}
 use lib.Seq.{getD-set-same, getD-set-other}
+use Rattle.lists.specs.TestLaws.{unequal}
 use Rattle.numeric.specs.Threshold.{Term}
 use Rattle.words.specs.declared.Ended.the-variants.{Hit, Complete}
 use Rattle.words.specs.Mask.{digit, digitAt}
@@ -259,10 +260,9 @@ module _ (w : Window) (d : ℕ → Bool) (t : Term) (before rest : List Term) (s
           by (inl z) = s .outside p z a b
           by (inr m) =
               let r = moved-hit sums (maximum / 64 + 1) (t .weight) (w .lower) (w .maximum) left p m a b
-              (λ x. let z : _≡_ {A = ℕ} 0 1 = cc in omega arith) in
+              (λ x. unequal cc) in
               let f = r .1 in
-              let z : _≡_ {A = ℕ} 0 1 = cc in
-              omega arith
+              unequal cc
 
       -- A complete shift: the words hold the sums with this term too.
       pub sums-more : Sums w d (t ∷ before) rest next (min (maximum + t .weight) (w .maximum))

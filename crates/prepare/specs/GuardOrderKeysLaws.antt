@@ -11,11 +11,12 @@ use lib.Dec.{eqb, leb, ltb}
 use lib.IntN.{ℤ, pos}
 use lib.Signed.{leZ, ltZ}
 use borrow.Author.Tests.{ltb-true, ltb-false, leb-true, leb-false, le-leb, lt-leb, le-ltb, eqb-true, eqb-false}
+use Rattle.lists.specs.All.{All}
 use Rattle.memory.specs.Limits.{maxThresholds}
 use Rattle.lists.specs.Laid.{numbers}
 use Rattle.signed.specs.SignedLaws.{ltZ-add}
 use Rattle.sort.specs.Sorted.{put}
-use Rattle.sort.specs.SortedLaws.{All, put-before, put-behind}
+use Rattle.sort.specs.SortedLaws.{put-before, put-behind}
 use Rattle.thresholds.specs.Rows.{Guard, guard, below, insertGuard}
 use Rattle.thresholds.specs.Guards.{Bound, Bounds, raised, guardKey, guardKeys, nodeAt}
 use Rattle.thresholds.specs.GuardsLaws.{raised-pos}

@@ -7,9 +7,10 @@ use mathlib.Core.Bool.{Bool, true, false}
 use mathlib.Core.List.{List, [], _∷_, map}
 use lib.Dec.{eqb, leb}
 use borrow.Author.Tests.{eq-eqb, ne-eqb, eqb-true, eqb-false}
+use Rattle.lists.specs.All.{All}
 use Rattle.lists.specs.Deal.{keyed, those}
 use Rattle.sort.specs.Sorted.{put, sorted}
-use Rattle.sort.specs.SortedLaws.{All, AtLeast, Rising, either, put-before, put-behind, put-comm, at-least-trans, rising-sorted}
+use Rattle.sort.specs.SortedLaws.{AtLeast, Rising, either, put-before, put-behind, put-comm, at-least-trans, rising-sorted}
 
 -- The numbers of a list whose key is k.
 unfoldable pub picked : (ℕ → ℕ) → ℕ → List ℕ → List ℕ

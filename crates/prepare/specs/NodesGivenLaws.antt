@@ -26,6 +26,7 @@ use Rattle.thresholds.specs.Placed.{nodesTo, nodeEntry, rowTo}
 use Rattle.prefixes.specs.HeldLaws.{length-numbers}
 use Rattle.prepare.specs.Given.{thresholdAt, given, givenRows}
 use Rattle.prepare.specs.RowsGivenLaws.{row-given}
+use Rattle.prepare.specs.Place.{NodesRise}
 
 -- ---- the first threshold of a node among thresholds k, k + 1 .. of which there are so many
 
@@ -121,10 +122,6 @@ node-own r nodes (suc n) t h k d = by (λ q. node-own r nodes n t q k (λ s a b.
         getD-set-other (nodesTo r nodes n) (nodeAt (r .thresholds) n) (nodeAt (r .thresholds) t) (nodeEntry n (rowTo r n)) []
         (λ q. d n (omega arith) (omega arith) (sym q))
         ∙ ih (omega arith)
-
--- Nodes of thresholds rise.
-abbrev pub NodesRise : List (List ℕ) → Type 0
-NodesRise ths = (t : ℕ) → t + 1 < length ths → nodeAt ths t < nodeAt ths (t + 1)
 
 pub nodes-rise : (ths : List (List ℕ)) → NodesRise ths → (s t : ℕ) → s < t → t < length ths → nodeAt ths s < nodeAt ths t
 nodes-rise ths h s zero a b = absurd (not-suc-le-zero a)

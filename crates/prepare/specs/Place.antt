@@ -42,3 +42,7 @@ rowsNext r t rows =
 
 abbrev pub nodesNext : RawLists → ℕ → List (List ℕ) → List (List ℕ)
 nodesNext r t nodes = set nodes (nodeAt (r .thresholds) t) (nodeEntry t (rowTo r t))
+
+-- Nodes of thresholds rise.
+abbrev pub NodesRise : List (List ℕ) → Type 0
+NodesRise ths = (t : ℕ) → t + 1 < length ths → nodeAt ths t < nodeAt ths (t + 1)

@@ -9,6 +9,7 @@ use lib.ListN.{length, take, drop, getD, set, replicate, length-append, length-s
 use lib.Seq.{length-take-le, drop-cons, set-at, drop-drop, drop-set-lt, take-suc-set}
 use lib.Dec.{ltb}
 use borrow.Author.Tests.{ltb-true, ltb-false, lt-ltb, le-ltb}
+use Rattle.lists.specs.TestLaws.{unequal}
 use Rattle.memory.specs.Limits.{maxThresholds}
 use Rattle.lists.specs.Parts.{endBy, startBy}
 use Rattle.lists.specs.Laid.{over, joinAll, ends}
@@ -98,7 +99,7 @@ module _ (r : RawLists) (t : ℕ) (ms : List ℕ) (e : map (markedList r) ms ≡
         where
           by : (c : Bool) → ltb n m ≡ c → rowTo r t < length (rawsTo r t)
           by true f = let g = ltb-true n m f in omega arith
-          by false f = absurd (let h = rw f at q in let z : _≡_ {A = ℕ} 0 1 = cc in omega arith)
+          by false f = absurd (let h = rw f at q in unequal cc)
 
   pub found-new : foundOf (numberIn (map (markedList r) ms) (listAt r t)) (length ms) ≡ Nothing → rowTo r t ≡ length (rawsTo r t)
   found-new q =

@@ -22,8 +22,7 @@ use Rattle.thresholds.specs.Rows.{rowsOf}
 use Rattle.prepare.specs.declared.Extent.{Extent}
 use Rattle.prepare.specs.Given.{givenRows, givenJob}
 use Rattle.prepare.specs.JobBuffers.{builtWith}
-use Rattle.prepare.specs.NodesGivenLaws.{NodesRise}
-use Rattle.prepare.specs.Place.{Blank, rowEnds}
+use Rattle.prepare.specs.Place.{Blank, rowEnds, NodesRise}
 
 -- What the buffers hold before the links are found.
 abbrev pub unlinkedOf : Job → Built → Built

@@ -8,13 +8,14 @@ use mathlib.Core.List.{List, [], _∷_, _++_, map}
 use lib.ListN.{length, take, drop, getD, length-append, length-take}
 use lib.IntN.{ℤ}
 use lib.Dec.{eqb, ltb}
+use Rattle.lists.specs.All.{All}
 use Rattle.lists.specs.Parts.{endBy, startBy}
 use Rattle.lists.specs.Laid.{joinAll}
 use Rattle.numeric.specs.Threshold.{Term}
 use Rattle.numeric.specs.Slices.{terms}
 use Rattle.numeric.specs.TermsLaws.{length-terms}
 use Rattle.row.specs.Terms.{before, merge, merged, insert, sorted, rowTerms}
-use Rattle.row.specs.TermsLaws.{All, either, all-sorted, conditions-merged}
+use Rattle.row.specs.TermsLaws.{either, all-sorted, conditions-merged}
 use Rattle.memory.specs.Buffers.{RawLists}
 use Rattle.thresholds.specs.Raw.{stretch, listAt, numberIn, Lists}
 use Rattle.thresholds.specs.Laid.{conditions, termLists}

@@ -8,9 +8,9 @@ use mathlib.Core.List.{List, [], _∷_, _++_, reverse, reverseAux}
 use lib.ListN.{length, getD, take, drop}
 use lib.Seq.{take-suc, drop-cons}
 use lib.IntN.{ℤ, pos}
+use Rattle.lists.specs.All.{All}
 use Rattle.thresholds.specs.Rows.{Guard, guard}
 use Rattle.numeric.specs.Slices.{Below, terms}
-use Rattle.propagate.specs.ScanLaws.{All}
 use Rattle.propagate.specs.Guards.{guards, noGuard, Node, Condition}
 
 pub length-guards : (bs : List ℤ) (ns : List ℕ) → length (guards bs ns) ≡ min (length bs) (length ns)
@@ -48,13 +48,13 @@ module _ (bs : List ℤ) (ns : List ℕ) (i : ℕ) (h : i < length bs) (k : i < 
       snoc (y ∷ ys) x acc = snoc ys x (y ∷ acc)
 
 pub all-guards : (bs : List ℤ) (ns : List ℕ) → Below 4096 ns → All Node (guards bs ns)
-unfolding guards All
+unfolding guards
 all-guards [] ns h = Prim.tt
 all-guards (b ∷ bs) [] h = Prim.tt
 all-guards (b ∷ bs) (n ∷ ns) h = (h 0 (omega arith), all-guards bs ns (λ i k. h (suc i) (omega arith)))
 
 pub all-terms : (cs ws : List ℕ) → Below 4096 cs → All Condition (terms cs ws)
-unfolding terms All
+unfolding terms
 all-terms [] ws h = Prim.tt
 all-terms (c ∷ cs) [] h = Prim.tt
 all-terms (c ∷ cs) (w ∷ ws) h = (h 0 (omega arith), all-terms cs ws (λ i k. h (suc i) (omega arith)))

@@ -10,6 +10,7 @@ use lib.Signed.{leZ, mag}
 use mir.Syntax.{w64}
 use mir.Val.{toZ, ofZ}
 use mir.Facts.{toZ-ofZ}
+use Rattle.lists.specs.All.{All}
 use Rattle.numeric.specs.Threshold.{Term}
 use Rattle.state.specs.declared.Step.{Step}
 use Rattle.state.specs.declared.Step.the-variants.{Unchanged, Contradiction}
@@ -18,10 +19,11 @@ use Rattle.state.specs.Step.{joined, contradicts}
 use Rattle.state.specs.State.{limit, limited, conflict, hasResidualInterval, withGuards, withTerms}
 use Rattle.state.specs.Shape.{Figures}
 use Rattle.queues.specs.Marks.{Marks}
-use Rattle.queues.specs.MarksLaws.{Waits, waits-decide}
+use Rattle.queues.specs.MarksLaws.{waits-decide}
+use Rattle.queues.specs.Waiting.{Waits}
 use Rattle.thresholds.specs.Rows.{Row, rowOf, Guard, hasNonunit}
 use Rattle.propagate.specs.Scan.{Scanned}
-use Rattle.propagate.specs.ScanLaws.{All, all-drop, all-take, all-reverse, scan-keeps, scan-within, force-keeps}
+use Rattle.propagate.specs.ScanLaws.{all-drop, all-take, all-reverse, scan-keeps, scan-within, force-keeps}
 use Rattle.propagate.specs.Guards.{Node, Condition}
 use Rattle.propagate.specs.Row.{Ran, ran, decides, sureWaits, sureGuards, neverWaits, neverGuards, thresholdGuards, termWaits, forces, forced, trueTerms, falseTerms, rowTerms, scans, thresholdRow, wantsResidual}
 use Rattle.propagate.specs.Turns.{light, cut}

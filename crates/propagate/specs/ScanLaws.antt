@@ -5,18 +5,21 @@ use mathlib.Core.Path.{_≡_, refl, sym, ap, _∙_}
 use mathlib.Core.Bool.{Bool, true, false, cond, _&&_, not}
 use mathlib.Core.List.{List, [], _∷_, reverse, reverseAux}
 use lib.ListN.{length, take, drop}
+use Rattle.lists.specs.All.{All}
+use Rattle.lists.specs.TestLaws.{unequal}
 use Rattle.state.specs.declared.Step.{Step}
 use Rattle.state.specs.declared.Step.the-variants.{Unchanged, Changed, Contradiction}
 use Rattle.state.specs.Step.{joined, contradicts}
 use Rattle.queues.specs.declared.Ring.{Ring}
 use Rattle.queues.specs.Queue.{queue}
 use Rattle.queues.specs.Marks.{Marks, marks, Decided, decided, isDecided, decide}
-use Rattle.queues.specs.MarksLaws.{Waits, waits-decide}
+use Rattle.queues.specs.MarksLaws.{waits-decide}
+use Rattle.queues.specs.Waiting.{Waits}
 use Rattle.propagate.specs.Scan.{Scanned, scanned, scan, force}
 use Rattle.propagate.specs.Turns.{Turned, turn, turned}
 
 pub clash : {A : Type 0} → true ≡ false → A
-clash h = absurd (let z : _≡_ {A = ℕ} 0 1 = cc in omega arith)
+clash h = absurd (unequal cc)
 
 pub joined-last : (s : Step) → joined s Unchanged ≡ s
 joined-last Unchanged = refl
@@ -87,26 +90,18 @@ turn-keeps P false d s a b = by (contradicts (d .step)) refl
     by true f = rw (turn-stops d s f) b
     by false f = rw (turn-on d s f) b
 
--- Every element of a list.
-unfoldable pub All : {X : Type 0} → (X → Type 0) → List X → Type 0
-All P [] = Prim.Unit
-All P (x ∷ xs) = P x × All P xs
-
 module _ {X : Type 0} (P : X → Type 0) where
   pub all-drop : (n : ℕ) (xs : List X) → All P xs → All P (drop n xs)
-  unfolding All
   all-drop zero xs h = h
   all-drop (suc n) [] h = h
   all-drop (suc n) (x ∷ xs) h = all-drop n xs (h .1)
 
   pub all-take : (n : ℕ) (xs : List X) → All P xs → All P (take n xs)
-  unfolding All
   all-take zero xs h = Prim.tt
   all-take (suc n) [] h = h
   all-take (suc n) (x ∷ xs) h = (h .0, all-take n xs (h .1))
 
   pub all-reverse : (xs : List X) → All P xs → All P (reverse xs)
-  unfolding All
   all-reverse xs h = go xs [] h Prim.tt
     where
       go : (ys acc : List X) → All P ys → All P acc → All P (reverseAux ys acc)
@@ -117,7 +112,7 @@ module _ {X : Type 0} (P : X → Type 0) where
 module _ {X : Type 0} (waits : X → Marks → Bool) (act : X → Marks → Decided) where
   pub scan-keeps : (P : Marks → Type 0) (Q : X → Type 0) → ((x : X) (m : Marks) → Q x → P m → P (act x m .marks))
       → (xs : List X) (n : ℕ) (m : Marks) (k : Step) → All Q xs → P m → P (scan waits act xs n m k .marks)
-  unfolding scan All
+  unfolding scan
   scan-keeps P Q f [] n m k q p = p
   scan-keeps P Q f (x ∷ xs) n m k q p = by (waits x m) refl (contradicts (act x m .step)) refl (scan-keeps P Q f xs (n + 1) (act x m .marks) (joined k (act x m .step)) (q .1) (f x m (q .0) p))
     where

@@ -11,7 +11,7 @@ ghost use Rattle.state.specs.State.{reached, limit, withLower, withUpper, withT
 ghost use Rattle.state.specs.Shape.{Figures};
 ghost use Rattle.queues.specs.Queue.{Queue, queue};
 ghost use Rattle.queues.specs.Marks.{Marks, marks, isDecided, decided, decide};
-ghost use Rattle.queues.specs.MarksLaws.{Waits};
+ghost use Rattle.queues.specs.Waiting.{Waits};
 ghost use Rattle.thresholds.specs.Rows.{Guard, rowOf};
 ghost use Rattle.state.specs.declared.Step.the-variants.{Unchanged};
 ghost use Rattle.propagate.specs.Scan.{scanned, force};

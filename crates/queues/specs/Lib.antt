@@ -7,3 +7,4 @@ pub mod RowsLaws
 pub mod SlotLaws
 pub mod Marks
 pub mod MarksLaws
+pub mod Waiting

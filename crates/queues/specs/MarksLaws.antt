@@ -9,6 +9,7 @@ use native.Mathlib.Omega.{arith}
 use lib.Dec.{eqb, lit<}
 use lib.ListN.{length, replicate, length-replicate, List·getD-eq-default}
 use lib.Pow.{pow-pos}
+use Rattle.lists.specs.TestLaws.{unequal}
 use Rattle.memory.specs.Limits.{maxNodes}
 use Rattle.state.specs.declared.Step.{Step}
 use Rattle.state.specs.declared.Step.the-variants.{Unchanged, Changed, Contradiction}
@@ -16,9 +17,9 @@ use Rattle.words.specs.Mask.{bit, digit, setBit, learn, Learned}
 use Rattle.words.specs.MaskLaws.{learn-there, learn-opposite, learn-new, learn-has, learn-other, length-learn, set-bit-same, set-bit-other, length-set-bit}
 use Rattle.words.specs.DigitsLaws.{digit-high}
 use Rattle.queues.specs.Queue.{Queue, queue, ring, oldest, push, popped}
-use Rattle.queues.specs.Shape.{Held}
-use Rattle.queues.specs.QueueLaws.{entries, waitingList, push-times, popped-times, room-left, held-push, held-popped}
-use Rattle.queues.specs.OnceLaws.{times, times-same, times-other, times-behind}
+use Rattle.queues.specs.QueueLaws.{push-times, popped-times, room-left, held-push, held-popped}
+use Rattle.queues.specs.OnceLaws.{times-same, times-other, times-behind}
+use Rattle.queues.specs.Waiting.{times, entries, waitingList, Waits}
 use Rattle.queues.specs.Marks.{Marks, marks, isDecided, Decided, decided, waiting, decide}
 
 -- A mask that learnt, and what waits after its answer, make up a decision.
@@ -134,17 +135,9 @@ behind : (l : List ℕ) (n : ℕ) → length l ≤ n / 64 → bit l n ≡ false
 behind l n h = ap (λ (w : ℕ). eqb (digit w (n % 64)) 1) (List·getD-eq-default l 0 h) ∙ ap (λ (d : ℕ). eqb d 1) (digit-high 0 (n % 64) (pow-pos (n % 64)))
 
 clash : true ≡ false → ⊥
-clash h = let z : _≡_ {A = ℕ} 0 1 = cc in omega arith
+clash h = unequal cc
 
 -- ---- nodes that wait
-
--- Each node waits at most once, and only a decided one.
-pub record Waits (m : Marks) : Type 0 where
-  pub held : Held maxNodes (m .nodes)
-  pub sures : length (m .sure) ≡ 64
-  pub nevers : length (m .never) ≡ 64
-  pub once : (n : ℕ) → times n (waitingList maxNodes (m .nodes)) ≤ 1
-  pub idle : (n : ℕ) → isDecided m n ≡ false → times n (waitingList maxNodes (m .nodes)) ≡ 0
 
 module _ (m : Marks) (w : Waits m) where
   none : (n : ℕ) → maxNodes ≤ n → isDecided m n ≡ false

@@ -13,8 +13,9 @@ use borrow.Author.Tests.{eq-eqb, ne-eqb, eqb-true}
 use lib.ListN.{length, getD, set, length-set}
 use lib.Seq.{getD-set-same, getD-set-other}
 use Rattle.memory.specs.Limits.{maxThresholds}
-use Rattle.queues.specs.OnceLaws.{times, times-last, room}
-use Rattle.queues.specs.Queue.{Queue, queue, isEmpty, oldest, push, popped, Rows, rows, queueRow}
+use Rattle.queues.specs.OnceLaws.{times-last, room}
+use Rattle.queues.specs.Waiting.{times, entries, waitingList}
+use Rattle.queues.specs.Queue.{Queue, isEmpty, oldest, push, popped, Rows, rows, queueRow}
 use Rattle.queues.specs.Shape.{Held}
 
 -- A place behind the last is that much behind the first.
@@ -22,14 +23,6 @@ pub wrap-once : (at places : ℕ) → places ≤ at → at < places + places →
 wrap-once at places h k = mod-eq-sub-mod h ∙ mod-eq-of-lt (omega arith)
 
 -- ---- what waits
-
--- The n entries from place h on; a place counts modulo the number of places.
-unfoldable pub entries : ℕ → List ℕ → ℕ → ℕ → List ℕ
-entries places l h zero = []
-entries places l h (suc n) = getD l (h % places) 0 ∷ entries places l (h + 1) n
-
-abbrev pub waitingList : ℕ → Queue → List ℕ
-waitingList places q = entries places (q .items) (q .ring .head) (q .ring .count)
 
 pub entries-length : (places : ℕ) (l : List ℕ) (h n : ℕ) → length (entries places l h n) ≡ n
 unfolding entries

@@ -11,9 +11,9 @@ use lib.ListN.{length, getD, set, length-set, replicate, length-replicate, List�
 use lib.Seq.{getD-set-same, getD-set-other}
 use Rattle.memory.specs.Limits.{maxThresholds}
 use Rattle.queues.specs.Queue.{queue, ring, oldest, push, popped, Rows, rows, queueRow, nextRow}
-use Rattle.queues.specs.Shape.{Held}
-use Rattle.queues.specs.QueueLaws.{entries, waitingList, push-times, popped-times, room-left, held-push, held-popped, row-waits, row-new}
-use Rattle.queues.specs.OnceLaws.{times, times-same, times-other, within}
+use Rattle.queues.specs.QueueLaws.{push-times, popped-times, room-left, held-push, held-popped, row-waits, row-new}
+use Rattle.queues.specs.OnceLaws.{times-same, times-other, within}
+use Rattle.queues.specs.Waiting.{times, entries, waitingList, Flags}
 
 small-set : (l : List ℕ) (r v : ℕ) → v ≤ 1 → r < length l → ((i : ℕ) → getD l i 0 ≤ 1) → (i : ℕ) → getD (set l r v) i 0 ≤ 1
 small-set l r v s k f i = by (ℕ-discrete i r)
@@ -21,13 +21,6 @@ small-set l r v s k f i = by (ℕ-discrete i r)
     by : Dec (i ≡ r) → getD (set l r v) i 0 ≤ 1
     by (yes e) = rw (e, getD-set-same l r v 0 k) s
     by (no d) = rw (getD-set-other l r i v 0 d) (f i)
-
--- A row waits as often as its flag says, which is once or not at all.
-pub record Flags (q : Rows) : Type 0 where
-  pub held : Held maxThresholds (q .queue)
-  pub long : length (q .pending) ≡ maxThresholds
-  pub flag : (r : ℕ) → times r (waitingList maxThresholds (q .queue)) ≡ getD (q .pending) r 0
-  pub once : (r : ℕ) → getD (q .pending) r 0 ≤ 1
 
 module _ (q : Rows) (f : Flags q) where
   -- There is room for a row that does not wait.

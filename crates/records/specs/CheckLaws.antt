@@ -8,6 +8,7 @@ use mathlib.Core.Path.{_≡_, refl, sym, ap, subst, _∙_}
 use mathlib.Core.Bool.{Bool, true, false, cond}
 use mathlib.Core.List.{List, [], _∷_}
 use borrow.Author.Tests.{ltb-false, lt-ltb, le-ltb, eq-eqb, ne-eqb}
+use Rattle.lists.specs.TestLaws.{unequal}
 use Rattle.memory.specs.Limits.{maxThresholds}
 use Rattle.records.specs.declared.Record.{Record}
 use Rattle.records.specs.declared.Record.the-variants.{Opens, Adds, Seal}
@@ -22,11 +23,11 @@ use Rattle.records.specs.Checks.{wrongTurn, anyOf, notRising, badBound, 
 pub first-here : (p : Bool) (n : ℕ) (cs : List Check) → p ≡ true → n ≡ first (check p n ∷ cs)
 unfolding first
 first-here true n cs e = refl
-first-here false n cs e = absurd (let z : _≡_ {A = ℕ} 0 1 = cc in omega arith)
+first-here false n cs e = absurd (unequal cc)
 
 pub first-next : (p : Bool) (n x : ℕ) (cs : List Check) → p ≡ false → x ≡ first cs → x ≡ first (check p n ∷ cs)
 unfolding first
-first-next true n x cs e h = absurd (let z : _≡_ {A = ℕ} 0 1 = cc in omega arith)
+first-next true n x cs e h = absurd (unequal cc)
 first-next false n x cs e h = h
 
 pub first-none : 0 ≡ first []
@@ -154,7 +155,7 @@ module _ (s : Standing) (bytes : List ℕ) (at : ℕ) where
   was-refused x e = by number e
     where
       by : (n : ℕ) → Refused x ≡ taking n (recordIn bytes at) → (n ≡ x) × (x ≡ 0 → ⊥)
-      by zero q = absurd (let z : _≡_ {A = ℕ} 0 1 = cc in omega arith)
+      by zero q = absurd (unequal cc)
       by (suc n) q = let p = q ∙ refused-more n (recordIn bytes at) in let same : suc n ≡ x = cc in (same, λ z. let y : _≡_ {A = ℕ} (suc n) 0 = same ∙ z in omega arith)
 
   pub was-taken : (r : Record) → Taken r ≡ nextAt s bytes at → (number ≡ 0) × (r ≡ recordIn bytes at)
@@ -162,7 +163,7 @@ module _ (s : Standing) (bytes : List ℕ) (at : ℕ) where
     where
       by : (n : ℕ) → Taken r ≡ taking n (recordIn bytes at) → (n ≡ 0) × (r ≡ recordIn bytes at)
       by zero q = (refl, cc)
-      by (suc n) q = absurd (let p = q ∙ refused-more n (recordIn bytes at) in let z : _≡_ {A = ℕ} 0 1 = cc in omega arith)
+      by (suc n) q = absurd (let p = q ∙ refused-more n (recordIn bytes at) in unequal cc)
 
   -- Its body is whole and the other checks are passed.
   module _ (none : number ≡ 0) where

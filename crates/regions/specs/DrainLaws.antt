@@ -6,6 +6,7 @@ use mathlib.Core.Path.{_≡_, refl, sym, ap, _∙_}
 use mathlib.Core.Bool.{Bool, true, false, _&&_}
 use lib.ListN.{length}
 use borrow.Author.Tests.{eqb-false}
+use Rattle.state.specs.StepLaws.{joined-fine}
 use Rattle.memory.specs.Limits.{maxNodes}
 use Rattle.state.specs.declared.Step.{Step}
 use Rattle.state.specs.declared.Step.the-variants.{Unchanged}
@@ -14,7 +15,6 @@ use Rattle.queues.specs.Queue.{isEmpty, oldest, popped, nextRow}
 use Rattle.queues.specs.Marks.{marks}
 use Rattle.between.specs.Between.{Index, Live, live, Did, did, runRow, firstStates, guardOf, thresholdCondition, thresholdPrefixes}
 use Rattle.between.specs.Handing.{after}
-use Rattle.between.specs.LoopLaws.{joined-fine}
 use Rattle.between.specs.WalkLaws.{seed-walks, Moves, keep-guards, keep-condition, keep-prefixes}
 use Rattle.regions.specs.Drain.{seal, withMarks, takeNode, takeRow, turn, atRest, drain, turns, settle}
 

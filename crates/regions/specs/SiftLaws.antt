@@ -5,6 +5,7 @@ use mathlib.Core.Path.{_≡_, refl, sym, subst}
 use mathlib.Core.Bool.{Bool, true, false}
 use mathlib.Core.List.{List}
 use lib.ListN.{getD}
+use Rattle.state.specs.StepLaws.{joined-fine}
 use Rattle.numeric.specs.Threshold.{Term}
 use Rattle.state.specs.declared.Step.{Step}
 use Rattle.state.specs.declared.Step.the-variants.{Unchanged, Contradiction}
@@ -16,7 +17,6 @@ use Rattle.residual.specs.Residual.{Residual, thresholdResidual}
 use Rattle.possible_sums.specs.declared.Search.{Search}
 use Rattle.possible_sums.specs.Search.{search, searchStep, searchVisits}
 use Rattle.between.specs.Between.{Index, Live, live, Did, stateAt}
-use Rattle.between.specs.LoopLaws.{joined-fine}
 use Rattle.regions.specs.Drain.{settle, turns}
 use Rattle.regions.specs.Sift.{Sifted, sifted, tryRow, siftFrom, sift}
 

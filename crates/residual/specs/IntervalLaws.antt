@@ -1,14 +1,14 @@
 -- A figure as a natural number, and the window that a state's interval gives where the check reaches the terms.
 use Prim.Native.Nat.{_-_, _^_, _<_, _≤_}
 use native.Mathlib.Omega.{arith}
-use mathlib.Core.Path.{_≡_, refl, sym}
-use mathlib.Core.Bool.{Bool, true, false, _&&_}
-use lib.Dec.{T}
-use lib.IntN.{ℤ, pos, negsuc, natAbs}
-use lib.Signed.{nonNeg, leZ, ltZ}
+use mathlib.Core.Path.{_≡_, sym}
+use mathlib.Core.Bool.{true, false}
+use lib.IntN.{ℤ, pos, negsuc}
+use lib.Signed.{leZ, ltZ}
 use borrow.Author.Tests.{ltb-true, leb-true}
 use mir.Syntax.{w64}
-use mir.Val.{SFits, Fits}
+use mir.Val.{SFits}
+use Rattle.lists.specs.TestLaws.{and-left, and-right}
 use Rattle.signed.specs.SignedLaws.{leZ-trans, nlt-leZ, ltZ-weaken, nle-ltZ, leZ-ltZ, max-right}
 use Rattle.signed.specs.Signed.{natural}
 use Rattle.state.specs.declared.Upper.{Upper}
@@ -34,14 +34,6 @@ natural-last (pos a) (pos b) h = omega (arith, ltb-true a b h)
 natural-last (pos a) (negsuc b) h = absurd (clash (sym h))
 natural-last (negsuc a) b h = omega arith
 
-pub both-left : (a b : Bool) → (a && b) ≡ true → a ≡ true
-both-left true b h = refl
-both-left false b h = absurd (clash (sym h))
-
-pub both-right : (a b : Bool) → (a && b) ≡ true → b ≡ true
-both-right true b h = h
-both-right false b h = absurd (clash (sym h))
-
 -- A limit that there is, and that is not at most z, is above z.
 pub limit-above : (u : Upper) (y z : ℤ) → upperAtMost u y ≡ true → upperAtMost u z ≡ false → ltZ z (limit u) ≡ true
 limit-above Open y z h k = absurd (clash (sym h))
@@ -52,8 +44,8 @@ pub window : (s : State) → hasResidualInterval s ≡ true → upperAtMost (s .
 unfolding hasResidualInterval
 window s h u p =
     let r = max-right (s .known) (s .lower) in
-    let l = limit-above (s .upper) (s .possible) (reached s) (both-right (ltZ (s .known) (s .lower)) (upperAtMost (s .upper) (s .possible)) h) u in
-    let a = natural-mono (s .known) (s .lower) (ltZ-weaken (s .known) (s .lower) (both-left (ltZ (s .known) (s .lower)) (upperAtMost (s .upper) (s .possible)) h)) in
+    let l = limit-above (s .upper) (s .possible) (reached s) (and-right (ltZ (s .known) (s .lower)) (upperAtMost (s .upper) (s .possible)) h) u in
+    let a = natural-mono (s .known) (s .lower) (ltZ-weaken (s .known) (s .lower) (and-left (ltZ (s .known) (s .lower)) (upperAtMost (s .upper) (s .possible)) h)) in
     let b = natural-mono (s .lower) (s .possible) (leZ-trans (s .lower) (reached s) (s .possible) r (nlt-leZ (s .possible) (reached s) p)) in
     let e = natural-last (s .lower) (limit (s .upper)) (leZ-ltZ (s .lower) (reached s) (limit (s .upper)) r l) in
     record { above = a; inside = omega arith }

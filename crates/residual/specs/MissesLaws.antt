@@ -8,10 +8,11 @@ use mathlib.Core.Logic.{_↔_, _≢_}
 use lib.Dec.{ltb}
 use native.Mathlib.Decide.{decLt}
 use borrow.Author.Tests.{lt-ltb, le-ltb, ltb-true, ltb-false, eq-eqb, ne-eqb}
+use Rattle.lists.specs.TestLaws.{unequal}
 use Rattle.residual.specs.Gcd.{distance, misses, branchMisses}
 
 pub clash : true ≡ false → ⊥
-clash q = let w : _≡_ {A = ℕ} 0 1 = cc in omega arith
+clash q = unequal cc
 
 pub unless : (b : Bool) → (b ≡ false → ⊥) → b ≡ true
 unless true n = refl

@@ -12,6 +12,7 @@ use lib.Dec.{eqb, leb}
 use lib.IntN.{ℤ, pos}
 use lib.Signed.{leZ, ltZ}
 use borrow.Author.Tests.{ne-eqb, le-leb}
+use Rattle.lists.specs.TestLaws.{and-right}
 use Rattle.signed.specs.SignedLaws.{leZ-trans, ltZ-nle, max-least}
 use Rattle.signed.specs.Signed.{natural}
 use Rattle.numeric.specs.Threshold.{Term}
@@ -28,7 +29,7 @@ use Rattle.residual.specs.GcdLaws.{chosen, gcd-left, gcd-right}
 use Rattle.residual.specs.MissesLaws.{clash, misses-sum, branch-sum}
 use Rattle.residual.specs.Residual.{interval, stopsAt, checkFrom, residualCheck, offMisses, onMisses}
 use Rattle.residual.specs.Shape.{Window}
-use Rattle.residual.specs.IntervalLaws.{natural-mono, natural-last, both-right, limit-above, window}
+use Rattle.residual.specs.IntervalLaws.{natural-mono, natural-last, limit-above, window}
 use Rattle.residual.specs.CheckLaws.{check-skip, check-stop, check-more, check-unit, check-wide, check-terms, check-end-hits}
 use Rattle.residual.specs.SumsLaws.{
   openWeights,
@@ -159,7 +160,7 @@ residual-check-sound ts s d e k q cs p l u = units (hasNonunit ts) refl
         let n : natural (s .known) ≡ k = ap natural q in
         let y = natural-mono (s .lower) σ l in
         let x = natural-mono σ (s .possible) p in
-        let z = natural-last σ (limit (s .upper)) (limit-above (s .upper) (s .possible) σ (both-right (ltZ (s .known) (s .lower)) (upperAtMost (s .upper) (s .possible)) r) u) in
+        let z = natural-last σ (limit (s .upper)) (limit-above (s .upper) (s .possible) σ (and-right (ltZ (s .known) (s .lower)) (upperAtMost (s .upper) (s .possible)) r) u) in
         check-sound (interval s) (window s r a b) d ts (sym (check-terms ts s d h r a b) ∙ e) cs (omega arith) (omega arith) (omega arith)
 
     bounds : hasNonunit ts ≡ true → hasResidualInterval s ≡ true → (a : Bool) → upperAtMost (s .upper) (reached s) ≡ a

@@ -12,6 +12,8 @@ use lib.ListN.{length, getD, length-reverse}
 use lib.IntN.{pos}
 use lib.Signed.{leZ, ltZ}
 use borrow.Author.Tests.{le-leb}
+use Rattle.lists.specs.TestLaws.{and-right}
+use Rattle.state.specs.StepLaws.{joined-fine}
 use Rattle.signed.specs.Signed.{natural}
 use Rattle.numeric.specs.Threshold.{Term}
 use Rattle.state.specs.declared.Step.{Step}
@@ -28,7 +30,7 @@ use Rattle.residual.specs.Gcd.{gcd}
 use Rattle.residual.specs.GcdLaws.{chosen, gcd-left, gcd-right}
 use Rattle.residual.specs.MissesLaws.{clash, branch-sum}
 use Rattle.residual.specs.Residual.{interval, residualCheck, fitsFrom, suffixFrom, suffixes, offMisses, onMisses, forceTerm, forceFrom, Residual, over, nothingForced, thresholdResidual}
-use Rattle.residual.specs.IntervalLaws.{natural-mono, natural-last, both-right, limit-above}
+use Rattle.residual.specs.IntervalLaws.{natural-mono, natural-last, limit-above}
 use Rattle.residual.specs.ForceLaws.{force-cases, Each, residual-keeping, from-skip, from-more, force-over, residual-rest, residual-forced}
 use Rattle.residual.specs.SuffixLaws.{length-suffix}
 use Rattle.residual.specs.SumsLaws.{
@@ -198,13 +200,6 @@ same-forced i m t divisor d [] f s = tt
 same-forced i m t divisor d (u ∷ ts) f s =
     (force-rest i m t divisor (u .condition) (f .0) ∙ s .0, same-forced i m t divisor d ts (f .1) (s .1))
 
-joined-kept : (a b : Step) → contradicts a ≡ false → contradicts b ≡ false → contradicts (joined a b) ≡ false
-joined-kept Unchanged b h k = k
-joined-kept Changed Unchanged h k = refl
-joined-kept Changed Changed h k = refl
-joined-kept Changed Contradiction h k = k
-joined-kept Contradiction b h k = h
-
 module _ (i : Interval) (suf : List ℕ) (d v : ℕ → Bool) where
   -- x is what the layout takes of the undecided weights before, y all of them. The sum of the row is allowed.
   pub record Allowed (ts : List Term) (prefix x y : ℕ) : Type 0 where
@@ -291,7 +286,7 @@ module _ (i : Interval) (suf : List ℕ) (d v : ℕ → Bool) where
           let b = v (t .condition) in
           rw (from-more i suf t ts prefix m step (s .0 ∙ k) (forceTerm i m t divisor) refl (r .1))
           (ih (gcd prefix (t .weight)) (x + cond b (t .weight) 0) (y + t .weight) (forceTerm i m t divisor .marks) (joined step (forceTerm i m t divisor .step))
-          (u .1) (same-forced i m t divisor d ts (u .0) (s .1)) (f .1) (next k b refl) (r .0) (joined-kept step (forceTerm i m t divisor .step) c (r .1)))
+          (u .1) (same-forced i m t divisor d ts (u .0) (s .1)) (f .1) (next k b refl) (r .0) (joined-fine step (forceTerm i m t divisor .step) c (r .1)))
 
       by : (b : Bool) → d (t .condition) ≡ b → Kept v (forceFrom i suf (t ∷ ts) prefix m step)
       by true k = skipped k
@@ -340,8 +335,8 @@ residual-sound ts s m gcds v k u g e p l h = by (contradicts (residualCheck ts s
 
     allowed : nothingForced ts s d ≡ false → Allowed (interval s) (suffixes d ts) d v ts 0 0 0
     allowed q =
-        let r = both-right (hasNonunit ts) (hasResidualInterval s) (split (hasNonunit ts && hasResidualInterval s) (fitsFrom (interval s) d (reverse ts) false 0) q) in
-        let lim = limit-above (s .upper) (s .possible) (pos σ) (both-right (ltZ (s .known) (s .lower)) (upperAtMost (s .upper) (s .possible)) r) h in
+        let r = and-right (hasNonunit ts) (hasResidualInterval s) (split (hasNonunit ts && hasResidualInterval s) (fitsFrom (interval s) d (reverse ts) false 0) q) in
+        let lim = limit-above (s .upper) (s .possible) (pos σ) (and-right (ltZ (s .known) (s .lower)) (upperAtMost (s .upper) (s .possible)) r) h in
         let n : natural (s .known) ≡ k = ap natural e in
         let t : natural (s .possible) ≡ k + sum (openWeights d ts) = ap natural p in
         record {

@@ -14,7 +14,7 @@ ghost use Rattle.words.specs.Mask.{inEither};
 ghost use Rattle.queues.specs.Queue.{queue};
 ghost use Rattle.queues.specs.Shape.{Held};
 ghost use Rattle.state.specs.declared.Step.the-variants.{Unchanged};
-ghost use Rattle.queues.specs.MarksLaws.{Waits};
+ghost use Rattle.queues.specs.Waiting.{Waits};
 ghost use Rattle.queues.specs.Marks.{marks, decided as decidedOf};
 ghost use Rattle.residual.specs.Gcd.{gcd, misses, branchMisses};
 ghost use Rattle.residual.specs.Shape.{Window};

@@ -11,12 +11,13 @@ use lib.IntN.{ℤ, pos, _+ℤ_}
 use lib.Dec.{eqb}
 use lib.ListN.{length}
 use borrow.Author.Tests.{eqb-true, eq-eqb, ne-eqb}
+use Rattle.lists.specs.All.{All}
 use Rattle.memory.specs.Limits.{listTerms}
 use Rattle.memory.specs.Ranges.{rawLimit, weightLimit}
 use Rattle.numeric.specs.Threshold.{Term, term}
 use Rattle.numeric.specs.Layout.{value, weighted}
 use Rattle.row.specs.Terms.{before, merge, merged, insert, sorted, rowTerms, total}
-use Rattle.row.specs.TermsLaws.{All, Distinct, Positive, Ordered, either, before-true, Before}
+use Rattle.row.specs.TermsLaws.{Distinct, Positive, Ordered, either, before-true, Before}
 
 -- The sum of the weights whose condition a layout makes true.
 unfoldable pub sumOf : (ℕ → Bool) → List Term → ℕ

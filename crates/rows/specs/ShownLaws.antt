@@ -11,6 +11,7 @@ use lib.Signed.{ltZ}
 use mir.Syntax.{w64}
 use mir.Val.{SFits}
 use borrow.Author.Tests.{le-ltb, ltb-true}
+use Rattle.lists.specs.All.{All}
 use Rattle.memory.specs.Ranges.{rawLimit, weightLimit}
 use Rattle.memory.specs.Buffers.{Built, heldRows, built}
 use Rattle.lists.specs.Parts.{endBy, startBy}
@@ -20,7 +21,6 @@ use Rattle.lists.specs.ColumnsLaws.{length-column}
 use Rattle.numeric.specs.Threshold.{Term, Threshold}
 use Rattle.numeric.specs.Slices.{terms}
 use Rattle.row.specs.Terms.{total, rowTerms, sameTerms}
-use Rattle.row.specs.TermsLaws.{All}
 use Rattle.row.specs.SumLaws.{row-total-fits}
 use Rattle.thresholds.specs.Raw.{stretch, listAt}
 use Rattle.thresholds.specs.RawLaws.{length-terms, stretch-length}

@@ -2,12 +2,13 @@
 use Prim.Native.Nat.{ℕ, zero, suc, _+_, _-_, _<_, _≤_}
 use native.Mathlib.Omega.{arith}
 use mathlib.Core.Path.{_≡_, refl, sym, ap, _∙_}
-use mathlib.Core.Bool.{Bool, true, false, cond, _||_}
+use mathlib.Core.Bool.{Bool, true, false, cond}
 use mathlib.Core.List.{List, [], _∷_, _++_}
 use lib.ListN.{length, getD, drop, length-drop, drop-of-length-le}
 use lib.Seq.{drop-cons, drop-drop}
 use lib.Dec.{eqb, leb}
 use borrow.Author.Tests.{eqb-true, eqb-false, le-leb}
+use Rattle.lists.specs.TestLaws.{or-right}
 use Rattle.records.specs.declared.Record.{Record}
 use Rattle.records.specs.declared.Next.{Next}
 use Rattle.records.specs.declared.Next.the-variants.{Refused, Taken}
@@ -63,10 +64,6 @@ isUnknown Settle = false
 isUnknown Sift = false
 isUnknown Unknown = true
 
-or-true : (a b : Bool) → b ≡ true → (a || b) ≡ true
-or-true true b e = refl
-or-true false b e = e
-
 known : (kind : ℕ) (rest : List ℕ) → unknownKind kind ≡ false → recordAt kind rest ≡ Unknown → ⊥
 unfolding isUnknown
 known zero rest e q = both refl e
@@ -80,7 +77,7 @@ known (suc (suc (suc (suc (suc (suc (suc zero))))))) rest e q = both refl (sym (
 known (suc (suc (suc (suc (suc (suc (suc (suc zero)))))))) rest e q = both refl (sym (ap isUnknown q))
 known (suc (suc (suc (suc (suc (suc (suc (suc (suc k))))))))) rest e q =
     let n : ℕ = suc (suc (suc (suc (suc (suc (suc (suc (suc k)))))))) in
-    both (or-true (eqb n 0) (leb 9 n) (le-leb 9 n (omega arith))) e
+    both (or-right (eqb n 0) (leb 9 n) (le-leb 9 n (omega arith))) e
 
 pub body-small : (kind : ℕ) → bodyLength (kindOf kind) ≤ 10
 body-small zero = omega arith

@@ -10,11 +10,10 @@ use Rattle.memory.specs.Buffers.{Built, Kept}
 use Rattle.lists.specs.Laid.{over}
 use Rattle.state.specs.declared.Step.{Step}
 use Rattle.queues.specs.declared.Rings.{Rings}
-use Rattle.queues.specs.RowsLaws.{Flags}
-use Rattle.queues.specs.MarksLaws.{Waits}
+use Rattle.queues.specs.Waiting.{Waits, Flags}
 use Rattle.between.specs.Between.{Index, Live, Did, did}
 use Rattle.between.specs.Held.{Shaped, Holds}
-use Rattle.between.specs.FirstLaws.{Totals}
+use Rattle.between.specs.Ready.{Totals}
 use Rattle.between.specs.Numbers.{Tidy}
 use Rattle.regions.specs.Drain as Drain
 use Rattle.regions.specs.Drain.{indexOf}
@@ -23,7 +22,7 @@ use Rattle.records.specs.declared.Standing.{Standing}
 use Rattle.records.specs.declared.Next.the-variants.{Taken}
 use Rattle.records.specs.Next.{nextAt}
 use Rattle.files.specs.File.{File, standing, refusal, told, sealedFile, act, apply, outcome}
-use Rattle.settle.specs.BeginsLaws.{Fresh}
+use Rattle.settle.specs.Serves.{Fresh}
 use Rattle.sift.specs.Tries.{Scratch}
 use Rattle.holds.specs.ServedLaws.{Served}
 use Rattle.holds.specs.LentLaws.{served-built}

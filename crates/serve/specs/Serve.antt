@@ -28,12 +28,10 @@ use Rattle.records.specs.declared.Standing.{Standing}
 use Rattle.prepare.specs.JobBuffers.{builtOf}
 use Rattle.files.specs.File.{File, Answer, settled, sifted, standing, refusal, Outcome, readFrom}
 use Rattle.files.specs.Contents.{answerNumber, answerVisits}
-use Rattle.ends.specs.BuiltLaws.{Fits, Light}
-use Rattle.ends.specs.FilesLaws.{Good}
-use Rattle.settle.specs.BeginsLaws.{Fresh}
+use Rattle.ends.specs.Good.{Fits, Light, Good}
+use Rattle.settle.specs.Serves.{Fresh}
 use Rattle.sift.specs.Tries.{Scratch}
-use Rattle.holds.specs.ServedLaws.{boundsOf}
-use Rattle.holds.specs.LentLaws.{lentOf, Lendable}
+use Rattle.holds.specs.Lent.{boundsOf, lentOf, Lendable}
 use Rattle.holds.specs.FilesLaws.{Serving}
 use Rattle.serve.specs.declared.Reached.{Reached}
 

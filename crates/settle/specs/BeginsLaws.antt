@@ -13,21 +13,20 @@ use Rattle.state.specs.declared.State.{State}
 use Rattle.state.specs.declared.Step.{Step}
 use Rattle.state.specs.declared.Step.the-variants.{Unchanged}
 use Rattle.queues.specs.Queue.{Rows}
-use Rattle.queues.specs.RowsLaws.{Flags}
 use Rattle.queues.specs.Marks.{Marks, Decided, decided, decide}
-use Rattle.queues.specs.MarksLaws.{Waits, waits-decide}
+use Rattle.queues.specs.MarksLaws.{waits-decide}
+use Rattle.queues.specs.Waiting.{Waits, Flags}
 use Rattle.between.specs.Between.{Index, Live, live, Did, did, firstStates, seedFrom}
 use Rattle.between.specs.Held.{startBy, endBy, EdgesShaped, Shaped, Holds}
-use Rattle.between.specs.Ready.{Ready, Runnable}
+use Rattle.between.specs.Ready.{Ready, Runnable, Totals}
 use Rattle.between.specs.ReadyLaws.{ready-states}
-use Rattle.between.specs.FirstLaws.{Totals, ready-first}
+use Rattle.between.specs.FirstLaws.{ready-first}
 use Rattle.between.specs.KeptLaws.{kept-run}
 use Rattle.regions.specs.Drain.{withMarks, mark, seal}
 use Rattle.regions.specs.DrainLaws.{seal-keeps}
-use Rattle.ends.specs.TurnsLaws.{Sound}
 use Rattle.ends.specs.BuiltLaws.{seal-stays}
 use Rattle.follows.specs.WaitingLaws.{queued-decide}
-use Rattle.settle.specs.Serves.{Serves, owed, Tracked, Going}
+use Rattle.settle.specs.Serves.{Serves, owed, Tracked, Going, Fresh}
 use Rattle.settle.specs.KeepingLaws.{low-decide, tracked-run}
 
 -- ---- a mark
@@ -88,11 +87,6 @@ module _ (h : HeldRows) (nodes edges : List (List ℕ)) (y : EdgesShaped h nodes
 
   pub owed-most : owed nodes taken (length nodes) ≤ maxTerms
   owed-most = omega (arith, owed-start (length nodes) (omega arith), start-most (length nodes) (omega arith))
-
--- Memory that can be sealed: every decided node waits once, and none was drained.
-pub record Fresh (b : Built) (v : Live) : Type 0 where
-  pub sound : Sound v
-  pub tracked : Tracked (length (b .nodes)) (length (b .held .rows)) (λ (n : ℕ). false) v
 
 -- SEALING FRESH MEMORY, all is such that draining can begin.
 pub going-seal : (x : Index) (bounds : List ℤ) (b : Built) → Serves x bounds b → Totals totalLimit (b .held .row-conditions) (b .held .row-weights) (b .held .rows) → (v : Live) → Fresh b v

@@ -9,27 +9,29 @@ use mathlib.Core.List.{List}
 use lib.ListN.{length, getD, set}
 use lib.Seq.{getD-set-same, getD-set-other}
 use lib.IntN.{ℤ}
+use Rattle.lists.specs.All.{All}
 use Rattle.memory.specs.Buffers.{HeldRows}
 use Rattle.state.specs.declared.State.{State}
 use Rattle.queues.specs.Queue.{Rows, oldest, queueRow, nextRow}
 use Rattle.queues.specs.QueueLaws.{row-waits, row-new}
-use Rattle.queues.specs.RowsLaws.{Flags, flags-oldest, oldest-row}
+use Rattle.queues.specs.RowsLaws.{flags-oldest, oldest-row}
+use Rattle.queues.specs.Waiting.{Flags, Queued}
 use Rattle.queues.specs.Marks.{Marks, decide}
 use Rattle.queues.specs.MarksLaws.{decide-other}
 use Rattle.thresholds.specs.Rows.{Row, noRow, edgesOf}
 use Rattle.prefixes.specs.Links.{neighbours}
 use Rattle.propagate.specs.Row.{wantsResidual}
-use Rattle.propagate.specs.ScanLaws.{All}
-use Rattle.between.specs.Between.{Index, Live, live, Did, stateAt, residualQueued, runWith, runRow, guardOf, thresholdCondition, thresholdPrefixes}
+use Rattle.between.specs.Between.{Index, Live, Did, stateAt, residualQueued, runWith, runRow, guardOf, thresholdCondition, thresholdPrefixes}
 use Rattle.between.specs.Held.{GuardsShaped, LinksShaped, HoldsGuards, HoldsLinks}
 use Rattle.between.specs.GuardLaws.{guard-held}
 use Rattle.between.specs.WalkLaws.{Moves, all-member, keep-guard, keep-condition, keep-prefixes}
 use Rattle.between.specs.KeptLaws.{Light}
 use Rattle.between.specs.KeptHeldLaws.{links-inside}
-use Rattle.follows.specs.WaitingLaws.{Queued, queued-decide}
-use Rattle.between.specs.KeepsLaws.{Names, run-named}
+use Rattle.follows.specs.WaitingLaws.{queued-decide}
+use Rattle.between.specs.KeepsLaws.{run-named}
+use Rattle.between.specs.Ready.{Names}
 use Rattle.follows.specs.KeepsLaws.{run-keeps}
-use Rattle.follows.specs.RowCompleteLaws.{Ordered}
+use Rattle.follows.specs.Ordered.{Ordered}
 use Rattle.settle.specs.Serves.{Among, Low, Tracked}
 
 -- Of rows that the buffers hold.

@@ -1,7 +1,7 @@
 -- What shared buffers and a live state must be like so that what waits can be drained.
 use Prim.Native.Nat.{ℕ, zero, suc, _+_, _-_, _*_, _<_, _≤_}
 use mathlib.Core.Path.{_≡_}
-use mathlib.Core.Bool.{Bool, true, cond}
+use mathlib.Core.Bool.{Bool, true, cond, false}
 use mathlib.Core.List.{List}
 use lib.ListN.{length, getD}
 use lib.IntN.{ℤ}
@@ -11,12 +11,11 @@ use Rattle.queues.specs.Queue.{Rows}
 use Rattle.thresholds.specs.Rows.{noRow}
 use Rattle.between.specs.Between.{Index, Live}
 use Rattle.between.specs.Held.{startBy, endBy, Shaped, EdgesShaped, LinksShaped, GuardsShaped, Holds, HoldsEdges, HoldsLinks, HoldsGuards}
-use Rattle.between.specs.Ready.{Runnable}
-use Rattle.ends.specs.TurnsLaws.{Indexed, Sound}
+use Rattle.between.specs.Ready.{Runnable, Names}
+use Rattle.ends.specs.Good.{Indexed, Sound}
 use Rattle.queues.specs.Marks.{Marks, isDecided}
-use Rattle.follows.specs.RowCompleteLaws.{Ordered}
-use Rattle.between.specs.KeepsLaws.{Names}
-use Rattle.follows.specs.WaitingLaws.{Queued}
+use Rattle.follows.specs.Ordered.{Ordered}
+use Rattle.queues.specs.Waiting.{Queued}
 
 -- What the seal built, with the bounds of the thresholds, holds the index, whose rows are such as a job gives. Each buffer is lent cut to what is filled of it: `nodes` has an entry for
 -- each node of the job and no other, and the rows name no node behind them.
@@ -65,3 +64,8 @@ pub record Within (h : HeldRows) (nodes : List (List ℕ)) (v : Live) : Type 0 w
 pub record Going (h : HeldRows) (nodes : List (List ℕ)) (v : Live) : Type 0 where
   pub sound : Sound v
   pub within : Within h nodes v
+
+-- Memory that can be sealed: every decided node waits once, and none was drained.
+pub record Fresh (b : Built) (v : Live) : Type 0 where
+  pub sound : Sound v
+  pub tracked : Tracked (length (b .nodes)) (length (b .held .rows)) (λ (n : ℕ). false) v

@@ -10,6 +10,7 @@ use lib.Dec.{eqb}
 use lib.ListN.{length, getD, List·getD-eq-default}
 use lib.Pow.{pow-pos}
 use lib.IntN.{ℤ}
+use Rattle.lists.specs.TestLaws.{clash}
 use Rattle.memory.specs.Limits.{maxNodes}
 use Rattle.memory.specs.Ranges.{drainLimit, roomLimit, figureLimit}
 use Rattle.memory.specs.Buffers.{HeldRows, Built}
@@ -22,9 +23,10 @@ use Rattle.words.specs.DigitsLaws.{digit-high}
 use Rattle.queues.specs.declared.Ring.{Ring}
 use Rattle.queues.specs.Queue.{Rows, queue, isEmpty, oldest, poppedRing, popped, nextRow}
 use Rattle.queues.specs.Slot.{rowsIn}
-use Rattle.queues.specs.RowsLaws.{Flags, flags-next, oldest-row}
+use Rattle.queues.specs.RowsLaws.{flags-next, oldest-row}
 use Rattle.queues.specs.Marks.{Marks, marks, isDecided}
-use Rattle.queues.specs.MarksLaws.{Waits, waits-popped}
+use Rattle.queues.specs.MarksLaws.{waits-popped}
+use Rattle.queues.specs.Waiting.{Waits, Flags}
 use Rattle.between.specs.Between.{Index, Live, live, Did, did, guardOf, thresholdCondition, thresholdPrefixes}
 use Rattle.between.specs.Handing.{after}
 use Rattle.between.specs.Held.{startBy, endBy}
@@ -35,7 +37,6 @@ use Rattle.between.specs.KeptHeldLaws.{edges-light, edges-many, kept-node, kept
 use Rattle.regions.specs.Drain.{takeNode, takeRow, turn, atRest}
 use Rattle.regions.specs.DrainLaws.{untaken, unrowed, nodeTold, nodeDrained, node-ends, row-ends, turn-ends}
 use Rattle.ends.specs.SettlesLaws.{fall-turn}
-use Rattle.follows.specs.AnswersLaws.{clash}
 use Rattle.follows.specs.StandsLaws.{also, also-other, also-this}
 use Rattle.follows.specs.WaitingLaws.{first-decided, first-fresh, queued-taken}
 use Rattle.settle.specs.Serves.{Serves, Among, owed, Tracked, Within, Going}

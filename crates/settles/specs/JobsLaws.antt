@@ -10,14 +10,16 @@ use mathlib.Core.Logic.{_⊎_, inl, inr}
 use lib.ListN.{length, getD}
 use lib.Dec.{eqb, leb}
 use borrow.Author.Tests.{leb-false, ne-eqb}
+use Rattle.lists.specs.All.{All}
 use Rattle.numeric.specs.Threshold.{Term, Threshold, Job}
-use Rattle.row.specs.TermsLaws.{All as Every, all-map}
+use Rattle.row.specs.TermsLaws.{all-map}
 use Rattle.thresholds.specs.Rows.{noRow, rowsOf}
 use Rattle.regions.specs.Drain.{indexOf}
 use Rattle.job.specs.Job.{lastNode, addTerm}
-use Rattle.ends.specs.BuiltLaws.{Fits, every-last, every-each, fits-node, fits-condition}
+use Rattle.ends.specs.BuiltLaws.{every-last, every-each, fits-node, fits-condition}
+use Rattle.ends.specs.Good.{Fits}
 use Rattle.table.specs.Table.{IsRow}
-use Rattle.follows.specs.RowCompleteLaws.{Ordered}
+use Rattle.follows.specs.Ordered.{Ordered}
 use Rattle.follows.specs.BuiltLaws.{Built, built, rows-ordered}
 use Rattle.follows.specs.ToldLaws.{Single, rows-single}
 
@@ -25,7 +27,7 @@ use Rattle.follows.specs.ToldLaws.{Single, rows-single}
 
 abbrev pub Rises : List Threshold → Type 0
 Rises [] = Unit {0}
-Rises (t ∷ ts) = Every (λ (u : Threshold). t .node < u .node) ts × Rises ts
+Rises (t ∷ ts) = All (λ (u : Threshold). t .node < u .node) ts × Rises ts
 
 rises-unique : (ts : List Threshold) → Rises ts → (t u : Threshold) → List·Memᴰ t ts → List·Memᴰ u ts → t .node ≡ u .node → t ≡ u
 rises-unique [] h t u m n e = absurd (List·Memᴰ·not-nil m)
@@ -41,12 +43,12 @@ rises-unique (y ∷ ys) h t u m n e = by (λ a b. rises-unique ys (h .1) t u a b
     by ih (inr a) (inr b) = ih a b
 
 -- the last is the highest
-below-last : (t : Threshold) (ts : List Threshold) → Rises (t ∷ ts) → Every (λ (u : Threshold). u .node ≤ lastNode (t ∷ ts)) (t ∷ ts)
+below-last : (t : Threshold) (ts : List Threshold) → Rises (t ∷ ts) → All (λ (u : Threshold). u .node ≤ lastNode (t ∷ ts)) (t ∷ ts)
 unfolding lastNode
 below-last t [] h = (le-refl (t .node), tt)
 below-last t (u ∷ us) h = let k = below-last u us (h .1) in (let a = h .0 .0 in let c = k .0 in omega arith, k)
 
-rises-last : (ts : List Threshold) (x : Threshold) → Rises ts → Every (λ (u : Threshold). u .node < x .node) ts → Rises (ts ++ (x ∷ []))
+rises-last : (ts : List Threshold) (x : Threshold) → Rises ts → All (λ (u : Threshold). u .node < x .node) ts → Rises (ts ++ (x ∷ []))
 rises-last [] x h e = (tt, tt)
 rises-last (t ∷ ts) x h e = (every-last (λ (u : Threshold). t .node < u .node) ts x (h .0) (e .0), rises-last ts x (h .1) (e .1))
 
@@ -59,7 +61,7 @@ rises-opens (t ∷ ts) x h e =
     (all-map (λ (u : Threshold). u .node ≤ lastNode (t ∷ ts)) (λ (u : Threshold). u .node < x .node) (t ∷ ts) (λ u l. omega arith) (below-last t ts h))
 
 -- a term leaves all nodes as they were
-every-term : (P : ℕ → Type 0) (x : Term) (ts : List Threshold) → Every (λ (u : Threshold). P (u .node)) ts → Every (λ (u : Threshold). P (u .node)) (addTerm x ts)
+every-term : (P : ℕ → Type 0) (x : Term) (ts : List Threshold) → All (λ (u : Threshold). P (u .node)) ts → All (λ (u : Threshold). P (u .node)) (addTerm x ts)
 unfolding addTerm
 every-term P x [] h = tt
 every-term P x (t ∷ []) h = (h .0, tt)

@@ -17,7 +17,8 @@ use Rattle.records.specs.Facts.{Change, opens, adds, Action, begins, changes, c
 use Rattle.job.specs.Job.{changed}
 use Rattle.files.specs.File.{File, contradicted, begun, refusal, sealedFile, markedFile, settledFile, siftedFile, act, apply, after, Passed}
 use Rattle.ends.specs.BlankLaws.{blank-begun}
-use Rattle.ends.specs.FilesLaws.{Good, good-begun, both, Taken, taken, building-turn, change-turn, serving-turn, node-small, good-apply}
+use Rattle.ends.specs.FilesLaws.{good-begun, both, Taken, taken, building-turn, change-turn, serving-turn, node-small, good-apply}
+use Rattle.ends.specs.Good.{Good}
 use Rattle.table.specs.Table.{Table}
 use Rattle.follows.specs.DecideLaws.{Broken, decideAs}
 use Rattle.follows.specs.FirstLaws.{Undrained, undrained-from, undrained-none}

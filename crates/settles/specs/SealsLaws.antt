@@ -9,7 +9,8 @@ use Rattle.thresholds.specs.Rows.{rowsOf}
 use Rattle.between.specs.Between.{Live}
 use Rattle.regions.specs.Drain.{indexOf, seal}
 use Rattle.ends.specs.TurnsLaws as Turns
-use Rattle.ends.specs.BuiltLaws.{Fits, rows-few, first-long}
+use Rattle.ends.specs.BuiltLaws.{rows-few, first-long}
+use Rattle.ends.specs.Good.{Fits}
 use Rattle.table.specs.Table.{Table, start}
 use Rattle.follows.specs.FirstLaws.{Undrained, first-undrained}
 use Rattle.settles.specs.JobsLaws.{Rises, job-built, job-ordered, job-single}

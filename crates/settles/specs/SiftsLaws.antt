@@ -5,6 +5,7 @@ use mathlib.Core.Path.{_≡_, refl, sym, ap, subst}
 use mathlib.Core.Bool.{Bool, true, false, not}
 use mathlib.Core.List.{List}
 use mathlib.Core.Logic.{⊎-elim}
+use Rattle.lists.specs.TestLaws.{true-false, clash}
 use Rattle.memory.specs.Limits.{maxNodes}
 use Rattle.numeric.specs.Threshold.{Job}
 use Rattle.state.specs.Step.{contradicts}
@@ -18,10 +19,9 @@ use Rattle.regions.specs.Drain.{indexOf, mark, settle}
 use Rattle.regions.specs.Sift.{Sifted, tryRow, sift}
 use Rattle.regions.specs.SiftLaws.{tryTerms, tryResidual, tryLive, try-leaves, sift-walks}
 use Rattle.ends.specs.KeepsLaws.{residual-named}
-use Rattle.ends.specs.TurnsLaws.{Indexed}
-use Rattle.ends.specs.BuiltLaws.{Fits, indexed}
+use Rattle.ends.specs.Good.{Indexed, Fits}
+use Rattle.ends.specs.BuiltLaws.{indexed}
 use Rattle.table.specs.Table.{Table, start}
-use Rattle.follows.specs.AnswersLaws.{true-false, clash}
 use Rattle.follows.specs.DecideLaws.{decideAs}
 use Rattle.follows.specs.StandsLaws.{decide-nothing, not-decided}
 use Rattle.follows.specs.StartLaws.{mark-leads, restarted}

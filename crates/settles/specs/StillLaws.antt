@@ -5,13 +5,13 @@ use mathlib.Core.Path.{_≡_, refl}
 use mathlib.Core.Bool.{true, false}
 use lib.ListN.{length}
 use Rattle.numeric.specs.Threshold.{Job}
-use Rattle.queues.specs.RowsLaws.{Flags}
+use Rattle.queues.specs.Waiting.{Flags}
 use Rattle.thresholds.specs.Rows.{rowsOf}
 use Rattle.between.specs.Between.{Live, stateAt}
 use Rattle.regions.specs.Drain.{indexOf, atRest}
 use Rattle.records.specs.declared.Record.the-variants.{Settle}
 use Rattle.files.specs.File.{File, contradicted, refusal, settledFile, act, apply}
-use Rattle.ends.specs.BuiltLaws.{Fits}
+use Rattle.ends.specs.Good.{Fits}
 use Rattle.ends.specs.FilesLaws.{taken, good-apply, rests-settle}
 use Rattle.table.specs.Table.{Table, knownOf, possibleOf, AtRest, Ended}
 use Rattle.table.specs.TableLaws.{le-both, only-end, conflict-up}

@@ -9,24 +9,25 @@ use mathlib.Core.List.{List}
 use lib.ListN.{length, getD}
 use lib.Dec.{eqb}
 use borrow.Author.Tests.{ne-eqb}
+use Rattle.state.specs.StepLaws.{joined-which, joined-right}
+use Rattle.lists.specs.TestLaws.{clash, and-left, and-right}
 use Rattle.memory.specs.Limits.{maxThresholds}
 use Rattle.numeric.specs.Threshold.{Job}
 use Rattle.state.specs.declared.Step.{Step}
 use Rattle.state.specs.Step.{contradicts}
 use Rattle.queues.specs.Queue.{isEmpty, oldest}
 use Rattle.queues.specs.QueueLaws.{empty-none}
-use Rattle.queues.specs.OnceLaws.{times, times-none}
-use Rattle.queues.specs.RowsLaws.{Flags}
-use Rattle.queues.specs.Marks.{marks, isDecided}
+use Rattle.queues.specs.OnceLaws.{times-none}
+use Rattle.queues.specs.Waiting.{times, Flags}
+use Rattle.queues.specs.Marks.{isDecided}
 use Rattle.thresholds.specs.Rows.{Row, noRow}
-use Rattle.between.specs.Between.{Index, Live, live, Did, did, stateAt, runRow, thresholdGuard, guardOf}
+use Rattle.between.specs.Between.{Index, Live, Did, did, stateAt, runRow, thresholdGuard, guardOf}
 use Rattle.between.specs.WalkLaws.{guard-of-ends}
 use Rattle.regions.specs.Drain.{seal, takeNode, takeRow, turn, atRest, settle}
 use Rattle.regions.specs.DrainLaws.{begun, untaken, unrowed, nodeTold, nodeDrained, node-ends, row-ends, turn-ends, seal-walks, settle-walks}
 use Rattle.table.specs.Table.{Table, IsRow, knownOf, possibleOf, AtRest}
-use Rattle.follows.specs.AnswersLaws.{clash, and-left, and-right, joined-which, joined-right}
 use Rattle.follows.specs.DecideLaws.{Broken}
-use Rattle.follows.specs.RowCompleteLaws.{Ordered}
+use Rattle.follows.specs.Ordered.{Ordered}
 use Rattle.follows.specs.StandsLaws.{tableAt, also, also-this, also-other, also-before}
 use Rattle.follows.specs.DrainedLaws.{drainedAll}
 use Rattle.follows.specs.BuiltLaws.{Built}

@@ -1,17 +1,18 @@
 -- WHAT THE CALL LEAVES SHOWS ITS FILE: for every input of bytes and every lent memory the words and row states in the buffers are those of the
 -- outcome, so that the listing made of them is the file's. Assumes nothing.
-use Prim.Native.Nat.{ℕ, suc, _+_, _-_, _≤_}
+use Prim.Native.Nat.{ℕ, suc, _≤_}
 use native.Mathlib.Omega.{arith}
 use mathlib.Core.Path.{_≡_, refl, sym, ap, subst}
-use mathlib.Core.Bool.{Bool, true, false, cond, _&&_}
-use mathlib.Core.List.{List, [], _∷_, _++_, map}
+use mathlib.Core.Bool.{Bool, true, false, cond}
+use mathlib.Core.List.{List, [], _∷_, map}
 use lib.ListN.{length, take, drop, length-append}
 use lib.Seq.{take-at, take-append-le}
 use lib.Dec.{leb}
+use Rattle.lists.specs.All.{All}
+use Rattle.lists.specs.TestLaws.{and-right}
 use Rattle.lists.specs.Laid.{over, pairs}
 use Rattle.state.specs.declared.State.{State}
 use Rattle.state.specs.State.{noState}
-use Rattle.row.specs.TermsLaws.{All as Every}
 use Rattle.thresholds.specs.Rows.{rowsOf}
 use Rattle.memory.specs.Limits.{maxThresholds}
 use Rattle.memory.specs.Buffers.{Work, Kept, fits, zeros, cleared}
@@ -90,12 +91,8 @@ untouched-shows : (states : List State) (w : Work) → ShowsIn ten (left (untouc
 unfolding begun
 untouched-shows states w = Is.untouched refl refl
 
-and-right : (a b : Bool) → (a && b) ≡ true → b ≡ true
-and-right true b h = h
-and-right false b h = absurd (let z : _≡_ {A = ℕ} 0 1 = cc in omega arith)
-
 -- THE CALL SHOWS ITS FILE
-pub shows-plan : (input : List ℕ) → Every IsByte input → (states : List State) (w : Work) → ShowsIn (ended input states w) (plan input states w)
+pub shows-plan : (input : List ℕ) → All IsByte input → (states : List State) (w : Work) → ShowsIn (ended input states w) (plan input states w)
 unfolding ended plan
 shows-plan input a states w = by (fitsAll input states w) refl
   where
@@ -112,6 +109,6 @@ shows-plan input a states w = by (fitsAll input states w) refl
     by false e = untouched-shows states w
 
 -- So the listing can be made of what the call left; `listing::list` then makes that of the outcome.
-pub listable-plan : (input : List ℕ) → Every IsByte input → (states : List State) (w : Work)
+pub listable-plan : (input : List ℕ) → All IsByte input → (states : List State) (w : Work)
     → let l = plan input states w in let k = l .out .work .kept in Listable (l .out .given) (k .answers) (l .states) (k .sure) (k .never)
 listable-plan input a states w = shows-listable (shows-plan input a states w)

@@ -3,23 +3,25 @@ use Prim.Native.Nat.{ℕ, _<_}
 use native.Mathlib.Nat.{not-suc-le-zero}
 use native.Mathlib.Omega.{arith}
 use mathlib.Core.Path.{_≡_, refl, sym, ap, _∙_, subst}
-use mathlib.Core.Bool.{Bool, true, false, _||_}
+use mathlib.Core.Bool.{Bool, false, _||_}
 use mathlib.Core.List.{List, [], _∷_}
+use Rattle.lists.specs.All.{All}
+use Rattle.lists.specs.TestLaws.{or-right}
 use Rattle.memory.specs.Ranges.{rawLimit}
 use Rattle.memory.specs.Buffers.{Built, heldRows, built}
 use Rattle.numeric.specs.Area.{weightOfArea}
 use Rattle.numeric.specs.Threshold.{Term, term, Threshold, Job}
 use Rattle.words.specs.Mask.{bit}
-use Rattle.row.specs.TermsLaws.{All as Every}
 use Rattle.prepare.specs.JobBuffers.{builtOf}
 use Rattle.records.specs.declared.Record.{Record}
 use Rattle.records.specs.declared.Record.the-variants.{Header, Opens, Adds, Areas, Seal, Mark, Settle, Sift, Unknown}
 use Rattle.files.specs.File.{File, begun, refusal, act, apply, after, planned, Passed}
-use Rattle.ends.specs.BuiltLaws.{Fits, Light, every-last, light-term}
-use Rattle.ends.specs.FilesLaws.{Good, good-begun, both, taken, serving-turn, good-apply, planned-passed}
-use Rattle.settle.specs.Serves.{Low}
-use Rattle.settle.specs.BeginsLaws.{Fresh}
-use Rattle.holds.specs.LentLaws.{lentOf, Lendable, served-built}
+use Rattle.ends.specs.BuiltLaws.{every-last, light-term}
+use Rattle.ends.specs.Good.{Fits, Light, Good}
+use Rattle.ends.specs.FilesLaws.{good-begun, both, taken, serving-turn, good-apply, planned-passed}
+use Rattle.settle.specs.Serves.{Low, Fresh}
+use Rattle.holds.specs.LentLaws.{served-built}
+use Rattle.holds.specs.Lent.{lentOf, Lendable}
 use Rattle.holds.specs.GoesLaws.{fresh-begun}
 use Rattle.holds.specs.FilesLaws.{Serving, serving-seal, serving-apply}
 use Rattle.demands.specs.RefusalLaws as Refusals
@@ -48,7 +50,7 @@ stage-first : (f : File) → Good f → f .sealed ≡ false → ((b : Built) →
 unfolding apply act
 stage-first f g e v l (Header n) h k = unsealed e v tt
 stage-first f g e v l (Opens n b) h k =
-    unsealed e v (every-last (λ (t : Threshold). Every (λ (u : Term). u .weight < rawLimit) (t .terms)) (f .job .thresholds) (record { node = n; bound = b; terms = [] }) l tt)
+    unsealed e v (every-last (λ (t : Threshold). All (λ (u : Term). u .weight < rawLimit) (t .terms)) (f .job .thresholds) (record { node = n; bound = b; terms = [] }) l tt)
 stage-first f g e v l (Adds c w) h k = unsealed e v (light-term rawLimit (term c w) (f .job .thresholds) k l)
 stage-first f g e v l (Areas c a) h k = unsealed e v (light-term rawLimit (term c (weightOfArea a)) (f .job .thresholds) k l)
 stage-first f g e v l Seal h k =
@@ -62,7 +64,7 @@ stage-apply : (f : File) → Good f → Stage f → (r : Record) → refusal f r
 stage-apply f g (unsealed e v l) r h k = stage-first f g e v l r h k
 stage-apply f g (sealed j fits light s) r h k = sealed j fits light (serving-apply j fits light none lendable f s r h)
 
-stage-after : (f : File) (rs : List Record) → Good f → Stage f → Passed f rs → Every LightRecord rs → Stage (after f rs)
+stage-after : (f : File) (rs : List Record) → Good f → Stage f → Passed f rs → All LightRecord rs → Stage (after f rs)
 unfolding after
 stage-after f [] g s p l = s
 stage-after f (r ∷ rs) g s p l = stage-after (apply f r) rs (good-apply f g r (p .0)) (stage-apply f g s r (p .0) (l .0)) (p .1) (l .1)
@@ -81,12 +83,8 @@ low-stage f g (sealed j fits light s) i d =
     let h = s .going .within .tracked .low i d in
     omega (arith, m, q, h)
 
-or-right : (a b : Bool) → b ≡ true → (a || b) ≡ true
-or-right true b h = refl
-or-right false b h = h
-
 -- ONLY NODES OF THE JOB
-pub planned-inside : (input : List ℕ) → Every IsByte input
+pub planned-inside : (input : List ℕ) → All IsByte input
     → let f = planned input .file in Inside (f .job .nodes) (f .live .marks .sure) × Inside (f .job .nodes) (f .live .marks .never)
 planned-inside input a =
     let f = planned input .file in

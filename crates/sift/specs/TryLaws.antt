@@ -33,7 +33,8 @@ use Rattle.regions.specs.Sift.{Sifted, sifted, tryRow}
 use Rattle.regions.specs.SiftLaws.{tryTerms, tryResidual, tryLive, try-row, try-leaves}
 use Rattle.ends.specs.KeepsLaws.{residual-named}
 use Rattle.ends.specs.SettlesLaws.{fall-try}
-use Rattle.follows.specs.WaitingLaws.{Queued, queued-decide}
+use Rattle.follows.specs.WaitingLaws.{queued-decide}
+use Rattle.queues.specs.Waiting.{Queued}
 use Rattle.settle.specs.Serves.{Serves, Low, Within, Going}
 use Rattle.settle.specs.KeepingLaws.{among-next, oldest-among, low-decide}
 use Rattle.sift.specs.Tries.{Tries, tried}

@@ -10,7 +10,7 @@ ghost use Rattle.numeric.specs.Slices.{terms};
 ghost use Rattle.state.specs.Shape.{Figures};
 ghost use Rattle.queues.specs.Queue.{queue};
 ghost use Rattle.queues.specs.Marks.{marks};
-ghost use Rattle.queues.specs.MarksLaws.{Waits};
+ghost use Rattle.queues.specs.Waiting.{Waits};
 ghost use Rattle.propagate.specs.Shape.{TermSlices};
 ghost use Rattle.between.specs.Between.{Index, Live};
 ghost use Rattle.between.specs.Numbers.{liveOf, Tidy};

@@ -11,6 +11,7 @@ use lib.Dec.{eqb, ltb}
 use lib.IntN.{ℤ, pos, _-ℤ_}
 use lib.Signed.{_≤ℤ_, _<ℤ_, ≤ℤ-refl, clashℤ}
 use borrow.Author.Tests.{eqb-true, eqb-false, ltb-true, ltb-false}
+use Rattle.lists.specs.TestLaws.{unequal}
 use Rattle.numeric.specs.Threshold.{Term}
 use Rattle.state.specs.declared.Upper.{Upper}
 use Rattle.state.specs.declared.Upper.the-variants.{Open, Under}
@@ -26,8 +27,8 @@ Decided A = A ⊎ (A → ⊥)
 
 is : (a b : Bool) → Decided (a ≡ b)
 is true true = inl refl
-is true false = inr (λ e. let z : _≡_ {A = ℕ} 0 1 = cc in omega arith)
-is false true = inr (λ e. let z : _≡_ {A = ℕ} 0 1 = cc in omega arith)
+is true false = inr (λ e. unequal cc)
+is false true = inr (λ e. unequal cc)
 is false false = inl refl
 
 same-number : (a b : ℕ) → Decided (a ≡ b)

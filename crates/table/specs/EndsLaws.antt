@@ -8,6 +8,7 @@ use mathlib.Core.List.{List, List·Memᴰ, List·Memᴰ·head}
 use mathlib.Core.Logic.{_⊎_, inl, inr}
 use lib.Dec.{ltb}
 use borrow.Author.Tests.{ltb-true, ltb-false}
+use Rattle.lists.specs.TestLaws.{unequal}
 use Rattle.thresholds.specs.Rows.{Row}
 use Rattle.table.specs.Table.{Table, start, Step, Conflict, Run, done, more, steps, Ended}
 use Rattle.table.specs.Ends.{nodesOf, levels, Finite, most}
@@ -22,7 +23,7 @@ module _ (rows : List Row) where
     where
       by : (m : ℕ) → sure m ≡ true → (t : Bool) → ltb m n ≡ t → (m < n) ⊎ List·Memᴰ m (nodesOf rows)
       by m e true c = inl (ltb-true m n c)
-      by m e false c = let f = sym e ∙ h m (ltb-false m n c) in absurd (let z : _≡_ {A = ℕ} 0 1 = cc in omega arith)
+      by m e false c = let f = sym e ∙ h m (ltb-false m n c) in absurd (unequal cc)
 
   module _ (n : ℕ) where
     -- one turn: the table is at its end, or goes on where a step leads

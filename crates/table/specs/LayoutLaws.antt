@@ -6,39 +6,34 @@ use native.Mathlib.Omega.{arith}
 use mathlib.Core.Path.{_≡_, refl, sym, ap, ap₂, _∙_, subst}
 use mathlib.Core.Bool.{Bool, true, false, cond, not, _&&_}
 use mathlib.Core.List.{List, [], _∷_, _++_, List·Memᴰ, List·Memᴰ·head, List·Memᴰ·tail, List·Memᴰ·cases-cons, List·Memᴰ·not-nil}
-use mathlib.Core.Logic.{_⊎_, inl, inr, ⊎-elim}
+use mathlib.Core.Logic.{⊎-elim}
 use lib.ListN.{length, getD}
-use lib.Dec.{eqb, leb, ltb}
+use lib.Dec.{eqb}
 use lib.IntN.{ℤ, pos, negsuc}
-use lib.Signed.{leZ, ltZ, _≤ℤ_, _<ℤ_, ≤ℤ-refl, clashℤ}
-use borrow.Author.Tests.{eqb-true, le-leb, lt-ltb}
-use Rattle.signed.specs.SignedLaws.{leZ-pos, ltZ-pos, nle-ltZ, max-least}
-use Rattle.numeric.specs.Threshold.{Term, term, Threshold, Job}
-use Rattle.numeric.specs.Layout.{Layout, IsLayout, satisfied, constraint, weighted, value}
-use Rattle.state.specs.declared.Upper.{Upper}
-use Rattle.state.specs.declared.Upper.the-variants.{Open, Under}
-use Rattle.state.specs.State.{maxZ}
+use lib.Signed.{leZ, _≤ℤ_, _<ℤ_, ≤ℤ-refl, clashℤ}
+use borrow.Author.Tests.{eqb-true, le-leb, lt-ltb, not-false, not-true}
+use Rattle.lists.specs.TestLaws.{and-true, unequal}
+use Rattle.signed.specs.SignedLaws.{leZ-pos, ltZ-pos, max-least}
+use Rattle.numeric.specs.Threshold.{Term, Threshold, Job}
+use Rattle.numeric.specs.Layout.{Layout, IsLayout, constraint, value}
+use Rattle.state.specs.declared.Upper.the-variants.{Under}
 use Rattle.row.specs.Terms.{rowTerms, sameTerms}
 use Rattle.row.specs.SumLaws.{row-sum, value-sum, sumOf}
 use Rattle.thresholds.specs.Rows.{Row, rowOf, Guard, guard, noRow, insertGuard, below, place, placeAll, rowsOf}
-use Rattle.table.specs.Table.{Table, start, known, possible, AtMost, Below, IsRow, termsOf, Guards, knownOf, possibleOf, reachedOf, Step, sure-guard, never-guard, bound-reached, bound-out-of-reach, term-needed, term-too-heavy, longer-lower, shorter-upper, Conflict, both, lower-above, upper-reached, AtRest}
-use Rattle.table.specs.OrderLaws.{le, lt, of-le, of-lt, ≤ℤ-trans, ≤ℤ-or-<ℤ, <ℤ-≤ℤ, pos-≤ℤ}
+use Rattle.table.specs.Table.{Table, known, possible, termsOf, Guards, knownOf, possibleOf, reachedOf, Step, sure-guard, never-guard, bound-reached, bound-out-of-reach, term-needed, term-too-heavy, longer-lower, shorter-upper, Conflict, both, lower-above, upper-reached, AtRest}
+use Rattle.table.specs.OrderLaws.{le, lt, of-le, ≤ℤ-trans, pos-≤ℤ}
 use Rattle.table.specs.TableLaws.{Le, Follows, conflict-up}
 
 -- ROWS come from thresholds: a row's terms are those of its raw list, and each of its guards is a threshold with that list
 
-same-true : (a b : Bool) → (a && b) ≡ true → (a ≡ true) × (b ≡ true)
-same-true true b h = (refl, h)
-same-true false b h = absurd (let z : _≡_ {A = ℕ} 0 1 = cc in omega arith)
-
 same-terms : (ts us : List Term) → sameTerms ts us ≡ true → ts ≡ us
 unfolding sameTerms
 same-terms [] [] h = refl
-same-terms [] (u ∷ us) h = absurd (let z : _≡_ {A = ℕ} 0 1 = cc in omega arith)
-same-terms (t ∷ ts) [] h = absurd (let z : _≡_ {A = ℕ} 0 1 = cc in omega arith)
+same-terms [] (u ∷ us) h = absurd (unequal cc)
+same-terms (t ∷ ts) [] h = absurd (unequal cc)
 same-terms (t ∷ ts) (u ∷ us) h =
-    let a = same-true (eqb (t .condition) (u .condition) && eqb (t .weight) (u .weight)) (sameTerms ts us) h in
-    let b = same-true (eqb (t .condition) (u .condition)) (eqb (t .weight) (u .weight)) (a .0) in
+    let a = and-true (eqb (t .condition) (u .condition) && eqb (t .weight) (u .weight)) (sameTerms ts us) h in
+    let b = and-true (eqb (t .condition) (u .condition)) (eqb (t .weight) (u .weight)) (a .0) in
     ap₂ (λ (x : Term) (xs : List Term). x ∷ xs)
     (λ i. record { condition = eqb-true (t .condition) (u .condition) (b .0) i; weight = eqb-true (t .weight) (u .weight) (b .1) i })
     (same-terms ts us (a .1))
@@ -127,17 +122,9 @@ ofLayout rows v = record {
   upper = λ (r : ℕ). Under (pos (suc (sumOf v (termsOf rows r))));
 }
 
-true-is : (b : Bool) → not b ≡ false → b ≡ true
-true-is true h = refl
-true-is false h = sym h
-
-false-is : (b : Bool) → not b ≡ true → b ≡ false
-false-is true h = sym h
-false-is false h = refl
-
 not-both : (b : Bool) → b ≡ true → not b ≡ true → ⊥
-not-both true h k = let z : _≡_ {A = ℕ} 0 1 = cc in omega arith
-not-both false h k = let z : _≡_ {A = ℕ} 0 1 = cc in omega arith
+not-both true h k = unequal cc
+not-both false h k = unequal cc
 
 module _ (j : Job) (v : Layout) (is : IsLayout j v) where
   -- a guard's node is true exactly if its row's sum reaches its bound
@@ -158,7 +145,7 @@ module _ (j : Job) (v : Layout) (is : IsLayout j v) where
 
   above-sum : (n : ℕ) (z : ℤ) → leZ z (pos n) ≡ false → pos (suc n) ≤ℤ z
   above-sum n (pos m) h = le (leZ-pos (suc n) m ∙ le-leb (suc n) m (let k = borrow.Author.Tests.leb-false m n (sym (leZ-pos m n) ∙ h) in omega arith))
-  above-sum n (negsuc m) h = absurd (let z : _≡_ {A = ℕ} 0 1 = cc in omega arith)
+  above-sum n (negsuc m) h = absurd (unequal cc)
 
   no-conflict : Conflict (rowsOf j) (ofLayout (rowsOf j) v) → ⊥
   no-conflict (both n h k) = not-both (v n) h k
@@ -170,7 +157,7 @@ module _ (j : Job) (v : Layout) (is : IsLayout j v) where
 
   no-step : (t : Table) → Step (rowsOf j) (ofLayout (rowsOf j) v) t → ⊥
   no-step t (sure-guard r g i e h) = clashℤ h (le (sym (guard-value r g i) ∙ e))
-  no-step t (never-guard r g i e h) = clashℤ h (above-sum (sumOf v (termsOf (rowsOf j) r)) (g .bound) (sym (guard-value r g i) ∙ false-is (v (g .node)) e))
+  no-step t (never-guard r g i e h) = clashℤ h (above-sum (sumOf v (termsOf (rowsOf j) r)) (g .bound) (sym (guard-value r g i) ∙ not-true (v (g .node)) e))
   no-step t (bound-reached r g i h e) = not-both (v (g .node)) (guard-value r g i ∙ of-le (≤ℤ-trans h (reached-sum r))) (ap not e)
   no-step t (bound-out-of-reach r g i h e) =
       ⊎-elim
@@ -182,9 +169,9 @@ module _ (j : Job) (v : Layout) (is : IsLayout j v) where
       n = sumOf v (termsOf (rowsOf j) r)
 
       reaches : g .bound ≤ℤ pos (sumOf v (termsOf (rowsOf j) r))
-      reaches = le (sym (guard-value r g i) ∙ true-is (v (g .node)) e)
-  no-step t (term-needed r x i d h) = not-both (v (x .condition)) (true-is (v (x .condition)) (d .1)) (ap not (d .0))
-  no-step t (term-too-heavy r x u i d e h) = not-both (v (x .condition)) (true-is (v (x .condition)) (d .1)) (ap not (d .0))
+      reaches = le (sym (guard-value r g i) ∙ not-false (v (g .node)) e)
+  no-step t (term-needed r x i d h) = not-both (v (x .condition)) (not-false (v (x .condition)) (d .1)) (ap not (d .0))
+  no-step t (term-too-heavy r x u i d e h) = not-both (v (x .condition)) (not-false (v (x .condition)) (d .1)) (ap not (d .0))
   no-step t (longer-lower r q i h) =
       clashℤ h (pos-≤ℤ (subst (λ (ts : List Term). sumOf v (termsOf (rowsOf j) r) ≤ sumOf v ts) (sym (i .2 .1)) (sum-prefix v (termsOf (rowsOf j) r) (i .2 .0))))
   no-step t (shorter-upper r q i h) =

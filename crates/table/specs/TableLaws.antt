@@ -1,23 +1,22 @@
 -- One end for all orders: the rules only add, and every state at rest above a start has what a rule concludes.
 -- So all runs from one start end in a conflict, or all end in the same state.
-use Prim.Native.Nat.{ℕ, zero, suc, _+_, _≤_, _<_}
+use Prim.Native.Nat.{ℕ, _+_, _≤_}
 use native.Mathlib.Nat.{le-refl}
 use native.Mathlib.Omega.{arith}
 use mathlib.Core.Path.{_≡_, refl, sym, ap, _∙_, subst, fun-ext}
 use mathlib.Core.Bool.{Bool, true, false, cond}
-use mathlib.Core.List.{List, [], _∷_, _++_, List·Memᴰ, List·Memᴰ·cases-cons, List·Memᴰ·not-nil}
+use mathlib.Core.List.{List, [], _∷_, List·Memᴰ, List·Memᴰ·cases-cons, List·Memᴰ·not-nil}
 use mathlib.Core.Logic.{_⊎_, inl, inr, ⊎-elim}
-use lib.ListN.{length, getD}
 use lib.Dec.{eqb}
 use lib.IntN.{ℤ, pos, _-ℤ_}
-use lib.Signed.{_≤ℤ_, _<ℤ_, ≤ℤ-refl, <ℤ-≤ℤ-trans, clashℤ}
+use lib.Signed.{_≤ℤ_, _<ℤ_, ≤ℤ-refl, <ℤ-≤ℤ-trans}
 use borrow.Author.Tests.{eqb-true}
+use Rattle.lists.specs.TestLaws.{same-bool, true-false}
 use Rattle.numeric.specs.Threshold.{Term}
 use Rattle.state.specs.declared.Upper.{Upper}
 use Rattle.state.specs.declared.Upper.the-variants.{Open, Under}
-use Rattle.state.specs.State.{maxZ}
-use Rattle.thresholds.specs.Rows.{Row, Guard, noRow}
-use Rattle.table.specs.Table.{Table, start, known, possible, AtMost, Below, at, decideSure, decideNever, raiseLower, lowerUpper, IsRow, termsOf, Guards, HasTerm, knownOf, possibleOf, reachedOf, Undecided, IsPrefix, Step, sure-guard, never-guard, bound-reached, bound-out-of-reach, term-needed, term-too-heavy, longer-lower, shorter-upper, Conflict, both, lower-above, upper-reached, Run, done, more, ReachesConflict, AtRest, Ended}
+use Rattle.thresholds.specs.Rows.{Row}
+use Rattle.table.specs.Table.{Table, known, possible, AtMost, Below, at, decideSure, decideNever, raiseLower, lowerUpper, termsOf, HasTerm, knownOf, possibleOf, reachedOf, Undecided, Step, sure-guard, never-guard, bound-reached, bound-out-of-reach, term-needed, term-too-heavy, longer-lower, shorter-upper, Conflict, both, lower-above, upper-reached, Run, done, more, AtRest, Ended}
 use Rattle.table.specs.OrderLaws.{≤ℤ-trans, ≤ℤ-<ℤ-trans, ≤ℤ-anti, <ℤ-≤ℤ, ≤ℤ-or-<ℤ, pos-≤ℤ, max-up, max-above, sub-up, needed-clash, heavy-clash, UpLe, up-refl, up-trans, up-anti, below-le, le-or-below, at-most-up}
 
 -- THE ORDER: more nodes decided, lowers higher, uppers lower
@@ -37,11 +36,6 @@ le-then s t u a b = record {
   lower = λ r. ≤ℤ-trans (a .lower r) (b .lower r);
   upper = λ r. up-trans (u .upper r) (t .upper r) (s .upper r) (b .upper r) (a .upper r);
 }
-
-same-bool : (a b : Bool) → (a ≡ true → b ≡ true) → (b ≡ true → a ≡ true) → a ≡ b
-same-bool true b h k = sym (h refl)
-same-bool false true h k = k refl
-same-bool false false h k = refl
 
 pub le-both : (s t : Table) → Le s t → Le t s → s ≡ t
 le-both s t a b = λ i. record {
@@ -180,10 +174,6 @@ upper-lowered s r b h = record {
   upper = changed (λ (m : ℕ) (z : Upper). UpLe z (s .upper m)) r b (s .upper) (below-le b (s .upper r) h) (λ m. up-refl (s .upper m));
 }
 
-true-or-false : (b : Bool) → (b ≡ true) ⊎ (b ≡ false)
-true-or-false true = inl refl
-true-or-false false = inr refl
-
 module _ (rows : List Row) where
   reached-up : (s u : Table) (r : ℕ) → Le s u → reachedOf rows s r ≤ℤ reachedOf rows u r
   reached-up s u r a =
@@ -226,8 +216,8 @@ module _ (rows : List Row) where
       (λ (y : u .sure (t .condition) ≡ false).
       absurd (rest .1 (decideNever u (t .condition)) (term-too-heavy r t c i (y, n) q
       (≤ℤ-trans (sub-up l (pos-≤ℤ (known-up (s .sure) (u .sure) (termsOf rows r) (a .sure)))) h))))
-      (true-or-false (u .sure (t .condition))))
-      (true-or-false (u .never (t .condition)))
+      (true-false (u .sure (t .condition))))
+      (true-false (u .never (t .condition)))
 
   pub kept : (s t u : Table) → Step rows s t → Le s u → AtRest rows u → Le t u
   kept s t u (sure-guard r g i e h) a rest =
@@ -244,7 +234,7 @@ module _ (rows : List Row) where
       sure-below s u (g .node) a
       (⊎-elim (λ (k : u .sure (g .node) ≡ true). k)
       (λ (k : u .sure (g .node) ≡ false). absurd (rest .1 (decideSure u (g .node)) (bound-reached r g i (≤ℤ-trans h (reached-up s u r a)) k)))
-      (true-or-false (u .sure (g .node))))
+      (true-false (u .sure (g .node))))
   kept s t u (bound-out-of-reach r g i h e) a rest =
       never-below s u (g .node) a
       (⊎-elim (λ (k : u .never (g .node) ≡ true). k)
@@ -252,7 +242,7 @@ module _ (rows : List Row) where
       absurd (rest .1 (decideNever u (g .node)) (bound-out-of-reach r g i
       (⊎-elim (λ (x : possibleOf rows s r <ℤ g .bound). inl (≤ℤ-<ℤ-trans (possible-up s u r a) x))
       (λ (x : AtMost (s .upper r) (g .bound)). inr (at-most-up (u .upper r) (s .upper r) (a .upper r) (≤ℤ-refl (g .bound)) x)) h) k)))
-      (true-or-false (u .never (g .node))))
+      (true-false (u .never (g .node))))
   kept s t u (term-needed r x i d h) a rest =
       sure-below s u (x .condition) a
       (⊎-elim (λ (k : u .sure (x .condition) ≡ true). k)
@@ -265,8 +255,8 @@ module _ (rows : List Row) where
       (a .lower r)))))
       (λ (y : u .never (x .condition) ≡ false).
       absurd (rest .1 (decideSure u (x .condition)) (term-needed r x i (k, y) (≤ℤ-<ℤ-trans (sub-up (possible-up s u r a) (a .lower r)) h))))
-      (true-or-false (u .never (x .condition))))
-      (true-or-false (u .sure (x .condition))))
+      (true-false (u .never (x .condition))))
+      (true-false (u .sure (x .condition))))
   kept s t u (term-too-heavy r x b i d e h) a rest =
       never-below s u (x .condition) a
       (heavy s u r x b a rest i d e h (u .upper r) refl (subst (λ (z : Upper). UpLe (u .upper r) z) e (a .upper r)))

@@ -10,6 +10,7 @@ use lib.ListN.{length, drop, getD, drop-of-length-le, length-take, length-drop}
 use lib.Seq.{drop-cons}
 use lib.Dec.{eqb, ltb}
 use borrow.Author.Tests.{eqb-true, eq-eqb, ne-eqb, lt-ltb, le-ltb, ltb-false}
+use Rattle.lists.specs.TestLaws.{and-left, and-right, unequal}
 use Rattle.lists.specs.Parts.{endBy, startBy}
 use Rattle.numeric.specs.Threshold.{Term, term}
 use Rattle.numeric.specs.Slices.{terms}
@@ -78,20 +79,11 @@ same-lengths (x ∷ xs) (y ∷ ys) h =
     never true false = refl
     never false t = refl
 
--- Two lists are the same exactly if they are equal.
-and-left : (s t : Bool) → (s && t) ≡ true → s ≡ true
-and-left true t h = refl
-and-left false t h = h
-
-and-right : (s t : Bool) → (s && t) ≡ true → t ≡ true
-and-right true t h = h
-and-right false t h = absurd (let z : _≡_ {A = ℕ} 0 1 = cc in omega arith)
-
 pub same-is : (xs ys : List Term) → sameTerms xs ys ≡ true → xs ≡ ys
 unfolding sameTerms
 same-is [] [] h = refl
-same-is [] (y ∷ ys) h = absurd (let z : _≡_ {A = ℕ} 0 1 = cc in omega arith)
-same-is (x ∷ xs) [] h = absurd (let z : _≡_ {A = ℕ} 0 1 = cc in omega arith)
+same-is [] (y ∷ ys) h = absurd (unequal cc)
+same-is (x ∷ xs) [] h = absurd (unequal cc)
 same-is (x ∷ xs) (y ∷ ys) h =
     let a = eqb (x .condition) (y .condition) in
     let b = eqb (x .weight) (y .weight) in
@@ -168,13 +160,13 @@ found-is n m k e = by (ltb n m) e
   where
     by : (b : Bool) → cond b (At n) Nothing ≡ At k → k ≡ n
     by true q = cc
-    by false q = absurd (let z : _≡_ {A = ℕ} 0 1 = cc in omega arith)
+    by false q = absurd (unequal cc)
 
 pub found-none : (n m : ℕ) → n ≤ m → foundOf n m ≡ Nothing → m ≡ n
 found-none n m h e = by (ltb n m) refl
   where
     by : (b : Bool) → ltb n m ≡ b → m ≡ n
-    by true q = absurd (let r = rw q at e in let z : _≡_ {A = ℕ} 0 1 = cc in omega arith)
+    by true q = absurd (let r = rw q at e in unequal cc)
     by false q = let r = ltb-false n m q in omega arith
 
 pub number-most : (ls : List (List Term)) (x : List Term) → numberIn ls x ≤ length ls

@@ -7,6 +7,7 @@ use native.Mathlib.Nat.{not-suc-le-zero}
 use native.Mathlib.Omega.{arith}
 use native.Nat.{ℕᴺ-discrete as decEq}
 use lib.ListN.{length, List·getD-eq-default}
+use Rattle.lists.specs.TestLaws.{unequal}
 use Rattle.words.specs.Mask.{digit, digitAt}
 use Rattle.words.specs.DigitsLaws.{Words}
 use Rattle.words.specs.Shift.{Shifted, shifted, shiftWord, wordHits, shiftFrom, unionShifted}
@@ -132,24 +133,24 @@ module _ (d a b n : ℕ) (l : List ℕ) (left : ℕ) where
   outcome-complete : (r : Shifted) → Outcome d a b n l left r → (k : ℕ) → r .ended ≡ Complete k
       → (k + n ≡ left) × ((t : ℕ) → t < n → wordHits l t d a b ≡ false)
   outcome-complete r (completes k e f) j q = let z : k ≡ j = cc in (omega arith, f)
-  outcome-complete r (hits k s i e w f) j q = absurd (let z : _≡_ {A = ℕ} 0 1 = cc in omega arith)
-  outcome-complete r (stops i f) j q = absurd (let z : _≡_ {A = ℕ} 0 1 = cc in omega arith)
+  outcome-complete r (hits k s i e w f) j q = absurd (unequal cc)
+  outcome-complete r (stops i f) j q = absurd (unequal cc)
 
   outcome-hit : (r : Shifted) → Outcome d a b n l left r → (k : ℕ) → r .ended ≡ Hit k
       → (s : ℕ) × (s < n) × (k + (n - s) ≡ left) × (wordHits l s d a b ≡ true) × ((t : ℕ) → s < t → t < n → wordHits l t d a b ≡ false)
-  outcome-hit r (completes k e f) j q = absurd (let z : _≡_ {A = ℕ} 0 1 = cc in omega arith)
+  outcome-hit r (completes k e f) j q = absurd (unequal cc)
   outcome-hit r (hits k s i e w f) j q = let z : k ≡ j = cc in (s, i, omega arith, w, f)
-  outcome-hit r (stops i f) j q = absurd (let z : _≡_ {A = ℕ} 0 1 = cc in omega arith)
+  outcome-hit r (stops i f) j q = absurd (unequal cc)
 
   outcome-stopped : (r : Shifted) → Outcome d a b n l left r → r .ended ≡ Stopped
       → (left < n) × ((t : ℕ) → n ≤ t + left → t < n → wordHits l t d a b ≡ false)
-  outcome-stopped r (completes k e f) q = absurd (let z : _≡_ {A = ℕ} 0 1 = cc in omega arith)
-  outcome-stopped r (hits k s i e w f) q = absurd (let z : _≡_ {A = ℕ} 0 1 = cc in omega arith)
+  outcome-stopped r (completes k e f) q = absurd (unequal cc)
+  outcome-stopped r (hits k s i e w f) q = absurd (unequal cc)
   outcome-stopped r (stops i f) q = (i, f)
 
   outcome-some : (r : Shifted) → Outcome d a b n l left r → (t : ℕ) → t < n → wordHits l t d a b ≡ true → (r .ended ≡ Stopped → ⊥)
       → (k : ℕ) × (r .ended ≡ Hit k)
-  outcome-some r (completes k e f) t h w q = absurd (let y = f t h in let z : _≡_ {A = ℕ} 0 1 = cc in omega arith)
+  outcome-some r (completes k e f) t h w q = absurd (let y = f t h in unequal cc)
   outcome-some r (hits k s i e w f) t h v q = (k, refl)
   outcome-some r (stops i f) t h w q = absurd (q refl)
 
@@ -214,7 +215,7 @@ module _ (l : List ℕ) (sources d a b allowance : ℕ) where
         o .1,
         o .2,
         hits-only l (o .0) d a b (w (o .0)) (let i = o .1 in omega arith) (o .3),
-        λ t g h x. let y = o .4 t g h in let v = hits-set l t d a b x in let z : _≡_ {A = ℕ} 0 1 = cc in omega arith,
+        λ t g h x. let y = o .4 t g h in let v = hits-set l t d a b x in unequal cc,
       )
 
   -- A stopped shift has met no such bit in the words that it read.
@@ -224,8 +225,7 @@ module _ (l : List ℕ) (sources d a b allowance : ℕ) where
       let o = outcome-stopped d a b (readable l sources d) l allowance (unionShifted l sources d a b allowance) union-outcome q in
       let y = o .1 t g h in
       let v = hits-set l t d a b x in
-      let z : _≡_ {A = ℕ} 0 1 = cc in
-      omega arith
+      unequal cc
 
   pub hit-moved : Words l → (k : ℕ) → unionShifted l sources d a b allowance .ended ≡ Hit k → (p : ℕ) × Moved l sources d p × (a ≤ p) × (p ≤ b)
   hit-moved w k q =

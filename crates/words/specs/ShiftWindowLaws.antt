@@ -11,6 +11,7 @@ use lib.Dec.{eqb, ltb}
 use lib.Pow.{pow-mono, pow-pos, shr-le}
 use lib.ListN.{length, getD}
 use borrow.Author.Tests.{ne-eqb, eqb-false, ltb-true, not-true}
+use Rattle.lists.specs.TestLaws.{unequal}
 use Rattle.words.specs.Mask.{digit, digitAt}
 use Rattle.words.specs.DigitsLaws.{shr-digit, mod-digit, digit-high}
 use Rattle.words.specs.Shift.{before, upTo, inWindow, meets, spills, wordHits}
@@ -201,9 +202,9 @@ module _ (l : List ℕ) (s d a b : ℕ) where
 
       both : (x y z : Bool) → ((x && y) && z) ≡ true → (y ≡ true) × (z ≡ true)
       both true true true e = (refl, refl)
-      both true true false e = absurd (let z : _≡_ {A = ℕ} 0 1 = cc in omega arith)
-      both true false z e = absurd (let z : _≡_ {A = ℕ} 0 1 = cc in omega arith)
-      both false y z e = absurd (let z : _≡_ {A = ℕ} 0 1 = cc in omega arith)
+      both true true false e = absurd (unequal cc)
+      both true false z e = absurd (unequal cc)
+      both false y z e = absurd (unequal cc)
 
       by : (x : Bool) → meets (target l s d) (lowOf l s d) a b ≡ x → Hits l s d a b
       by true e = in-low (meets-only (target l s d) (lowOf l s d) a b e)

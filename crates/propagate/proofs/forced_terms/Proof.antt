@@ -11,7 +11,7 @@ use Rattle.numeric.specs.Slices.{terms}
 use Rattle.numeric.specs.TermsLaws.{up-terms, length-terms}
 use Rattle.queues.specs.Queue.{queue}
 use Rattle.queues.specs.Marks.{marks, isDecided}
-use Rattle.queues.specs.MarksLaws.{Waits}
+use Rattle.queues.specs.Waiting.{Waits}
 use Rattle.propagate.specs.Scan.{scan, scanned}
 use Rattle.propagate.specs.Turns.{turn, light}
 use Rattle.propagate.specs.ScanLaws.{force-keeps, place-ends, place-goes, place-passed, place-keeps, scan-none}

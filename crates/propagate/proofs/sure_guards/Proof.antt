@@ -12,7 +12,8 @@ use borrow.Author.Needs.{needs}
 use Rattle.thresholds.specs.Rows.{Guard, guard}
 use Rattle.queues.specs.Queue.{queue}
 use Rattle.queues.specs.Marks.{marks}
-use Rattle.queues.specs.MarksLaws.{Waits, waits-decide}
+use Rattle.queues.specs.MarksLaws.{waits-decide}
+use Rattle.queues.specs.Waiting.{Waits}
 use Rattle.propagate.specs.Scan.{scan, scanned}
 use Rattle.propagate.specs.Turns.{turn}
 use Rattle.propagate.specs.ScanLaws.{place-ends, place-goes, place-passed, place-keeps, scan-none}

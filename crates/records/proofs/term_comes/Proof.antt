@@ -1,8 +1,6 @@
 -- `records::term_comes` meets its contract: kind, body, then the number that would refuse it.
-use mathlib.Core.Path.{_≡_}
-use Prim.Native.Nat.{ℕ}
-use native.Mathlib.Omega.{arith}
 use borrow.Author.Tests.{eqb-true}
+use Rattle.lists.specs.TestLaws.{unequal}
 use Rattle.records.specs.CheckLaws.{term-next}
 use borrow.Author.Needs.{needs}
 use Rattle.records.proofs.term_comes.Statement.{statement}
@@ -12,13 +10,13 @@ shared-slice-read-if1 : tie.Need-shared-slice-read-if1
 shared-slice-read-if1 c = search needs
 
 returns : tie.Need-returns
-returns c e = absurd (let z : _≡_ {A = ℕ} 0 1 = cc in omega arith)
+returns c e = absurd (unequal cc)
 
 sub-if2 : tie.Need-sub-if2
 sub-if2 c = search needs
 
 returns-2 : tie.Need-returns-2
-returns-2 c e = absurd (let z : _≡_ {A = ℕ} 0 1 = cc in omega arith)
+returns-2 c e = absurd (unequal cc)
 
 add-u16-at : tie.Need-add-u16-at
 add-u16-at c = search needs

@@ -7,7 +7,7 @@ use Rattle.numeric.specs.Slices.{terms}
 use Rattle.state.specs.declared.Step.the-variants.{Unchanged}
 use Rattle.queues.specs.Queue.{queue}
 use Rattle.queues.specs.Marks.{Marks, marks}
-use Rattle.queues.specs.MarksLaws.{Waits}
+use Rattle.queues.specs.Waiting.{Waits}
 use Rattle.residual.specs.Residual.{forceFrom}
 use Rattle.residual.specs.ForceLaws.{force-skip, turn-waits, turn-stops, turn-goes-on, force-end}
 use Rattle.residual.proofs.force_from.Statement.{statement}
