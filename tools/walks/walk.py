@@ -470,13 +470,13 @@ use denote.Triple.Table.{entered, cited}
 use denote.Triple.Walked.{says, needs, Stays, walkOf, Walks, ends-at, walked, walk-meets}
 use borrow.Author.Needs.{scaled-fits}
 use borrow.Author.Tests.{ltb-true, ltb-false, eqb-true, eqb-false}
-use Rattle.walks.specs.Pairs.{_▹_}
-use Rattle.walks.specs.ChainLaws.{chain, chain-out, chain-in}
-use Rattle.walks.specs.AgainLaws.{LentAgain, lends-again, comes-back, lends-at, back-at}
-use Rattle.walks.specs.LocalsLaws.{cellsOf, diesOf, envOf, Nats, alloc-all, free-all, free-under}
-use Rattle.walks.specs.SaidLaws.{saids, goes-saids, last-list, gives-up, lets-go, two-go}
-use Rattle.walks.specs.SharedLaws.{shares-on}
-use Rattle.walks.specs.StepsLaws.{if-returns, while-goes, big-lit, holds, fails, holds-not}
+use Rattle.states.specs.Pairs.{_▹_}
+use Rattle.states.specs.ChainLaws.{chain, chain-out, chain-in}
+use Rattle.states.specs.AgainLaws.{LentAgain, lends-again, comes-back, lends-at, back-at}
+use Rattle.states.specs.LocalsLaws.{cellsOf, diesOf, envOf, Nats, alloc-all, free-all, free-under}
+use Rattle.states.specs.SaidLaws.{saids, goes-saids, last-list, gives-up, lets-go, two-go}
+use Rattle.states.specs.SharedLaws.{shares-on}
+use Rattle.states.specs.StepsLaws.{if-returns, while-goes, big-lit, holds, fails, holds-not}
 '''
 
 

@@ -8,8 +8,8 @@ use lib.Signed.{mag}
 use Rattle.memory.specs.Buffers.{HeldRows}
 use Rattle.numeric.specs.Threshold.{Term, Threshold}
 use Rattle.thresholds.specs.Rows.{Row, rowOf, noRow, Guard, Edge, edge, edgesOf, rowNumber}
-unfoldable pub use Rattle.lists.specs.Parts.{startBy}
-pub use Rattle.lists.specs.Parts.{endBy, stretchBy, Inside}
+unfoldable pub use Rattle.base.specs.Parts.{startBy}
+pub use Rattle.base.specs.Parts.{endBy, stretchBy, Inside}
 use Rattle.thresholds.specs.Laid.{edgeRow, thresholdOf}
 use Rattle.prefixes.specs.Links.{neighbours}
 use Rattle.numeric.specs.Slices.{Below, terms}

@@ -10,7 +10,7 @@ use mathlib.Core.List.{List, [], _∷_, reverse, List·Memᴰ, List·Memᴰ·hea
 use lib.ListN.{length, getD, take, drop, List·getD-eq-default}
 use lib.IntN.{pos, _-ℤ_}
 use lib.Signed.{leZ, ltZ}
-use Rattle.lists.specs.All.{All}
+use Rattle.base.specs.All.{All}
 use Rattle.memory.specs.Limits.{maxNodes}
 use Rattle.numeric.specs.Threshold.{Term, Threshold}
 use Rattle.state.specs.declared.Step.the-variants.{Unchanged, Contradiction}

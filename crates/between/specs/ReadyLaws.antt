@@ -10,7 +10,7 @@ use lib.Seq.{getD-set-same, getD-set-other}
 use lib.IntN.{ℤ, pos}
 use lib.Signed.{mag}
 use Rattle.memory.specs.Buffers.{HeldRows}
-use Rattle.signed.specs.SignedLaws.{mag-add, mag-minus}
+use Rattle.base.specs.SignedLaws.{mag-add, mag-minus}
 use Rattle.state.specs.declared.State.{State}
 use Rattle.state.specs.declared.Upper.{Upper}
 use Rattle.state.specs.declared.Upper.the-variants.{Under}

@@ -8,7 +8,7 @@ ghost use lib.ListN.{length, getD, set};
 ghost use mathlib.Core.List.{List, []};
 ghost use lib.IntN.{ℤ};
 ghost use Rattle.memory.specs.Buffers.{heldRows};
-ghost use Rattle.lists.specs.Columns.{column};
+ghost use Rattle.base.specs.Columns.{column};
 ghost use Rattle.numeric.specs.Threshold.{Term};
 ghost use Rattle.numeric.specs.Slices.{terms};
 ghost use Rattle.row.specs.Terms.{total};
@@ -255,7 +255,7 @@ pub fn end_by(table: &[[u16; 3]], j: usize, n: usize) -> usize
 }
 
 // A run's outcome, with the queue of rows as it stands.
-pub fn stood(made: Outcome, rows: Ring) -> Did
+fn stood(made: Outcome, rows: Ring) -> Did
     ensures { λ r. ⌜ (r .rings ≡ standing (made .nodes) rows (made .residuals)) × (r .step ≡ made .step) ⌝ }
 {
     let nodes = made.nodes;
@@ -273,7 +273,7 @@ pub fn stood(made: Outcome, rows: Ring) -> Did
 }
 
 // A row run with its own stretches of the terms and the guards.
-pub fn run_cut(
+fn run_cut(
     row_conditions: &[u16],
     row_weights: &[u64],
     rows: &[[u16; 3]],
@@ -349,7 +349,7 @@ pub fn rests_at(
 }
 
 // A row run, all queues taken and given back. One that rests is not run.
-pub fn run_at(
+fn run_at(
     row_conditions: &[u16],
     row_weights: &[u64],
     rows: &[[u16; 3]],

@@ -30,9 +30,9 @@ use Rattle.files.specs.Contents.{laid, served, untouched, whole, out, nothing}
 use Rattle.files.specs.JobPart.{JobPart, jobPartOf}
 use Rattle.files.specs.JobPartLaws.{file-goes-on, file-ends}
 use Rattle.files.specs.Held.{Room, HeldPart}
-use Rattle.ends.specs.Good.{Light, Good}
-use Rattle.ends.specs.FilesLaws.{good-apply, both, Taken as Passes, taken, building-turn, change-turn, refused-by}
-use Rattle.holds.specs.GatheredLaws.{gathered-light}
+use Rattle.theorem_ends.specs.Good.{Light, Good}
+use Rattle.theorem_ends.specs.FilesLaws.{good-apply, both, Taken as Passes, taken, building-turn, change-turn, refused-by}
+use Rattle.theorem_holds.specs.GatheredLaws.{gathered-light}
 use Rattle.serve.specs.declared.Reached.{Reached}
 use Rattle.serve.specs.Serve.{readAt}
 use Rattle.serve.specs.ReadLaws.{ended, taken-any, seal-goes}

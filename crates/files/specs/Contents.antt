@@ -3,7 +3,7 @@ use Prim.Native.Nat.{ℕ, _+_}
 use mathlib.Core.Bool.{true, false, cond}
 use mathlib.Core.List.{List, map}
 use lib.ListN.{length}
-use Rattle.lists.specs.Laid.{over, pairs, quads}
+use Rattle.base.specs.Laid.{over, pairs, quads}
 use Rattle.state.specs.declared.Step.the-variants.{Unchanged}
 use Rattle.state.specs.Step.{stepNumber}
 use Rattle.thresholds.specs.Rows.{rowsOf}

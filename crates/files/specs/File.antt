@@ -14,9 +14,9 @@ use Rattle.state.specs.State.{noState}
 use Rattle.queues.specs.Queue.{queue, ring, rows}
 use Rattle.queues.specs.Marks.{marks}
 use Rattle.between.specs.Between.{Live, live}
-use Rattle.regions.specs.Drain as Drain
-use Rattle.regions.specs.Drain.{indexOf}
-use Rattle.regions.specs.Sift as Sift
+use Rattle.files.specs.Drain as Drain
+use Rattle.files.specs.Drain.{indexOf}
+use Rattle.files.specs.Sift as Sift
 use Rattle.job.specs.Job.{standingOf, withChange}
 use Rattle.records.specs.declared.Record.{Record}
 use Rattle.records.specs.declared.Standing.{Standing}

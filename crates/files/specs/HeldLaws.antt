@@ -10,12 +10,12 @@ use lib.IntN.{ℤ}
 use lib.Dec.{eqb}
 use borrow.Author.Tests.{ltb-false, ne-eqb, not-false}
 use mathlib.Core.Logic.{_⊎_, inl, inr, ⊎-elim}
-use Rattle.lists.specs.TestLaws.{or-false, true-false, unequal}
+use Rattle.base.specs.TestLaws.{or-false, true-false, unequal}
 use Rattle.numeric.specs.Threshold.{term, Threshold, Job}
 use Rattle.numeric.specs.Area.{weightOfArea}
 use Rattle.memory.specs.Limits.{maxNodes, maxTerms, maxThresholds}
 use Rattle.memory.specs.Buffers.{Raw, rawLists, raw}
-use Rattle.lists.specs.Laid.{numbers, joinAll, ends, pairs}
+use Rattle.base.specs.Laid.{numbers, joinAll, ends, pairs}
 use Rattle.thresholds.specs.Guards.{nodeAt}
 use Rattle.prepare.specs.JobBuffers.{rawOf}
 use Rattle.records.specs.declared.Standing.{Standing}

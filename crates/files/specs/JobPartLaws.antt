@@ -9,7 +9,7 @@ use lib.ListN.{length, drop, length-drop}
 use lib.Seq.{drop-drop}
 use mathlib.Core.Logic.{⊎-elim}
 use borrow.Author.Tests.{eq-eqb, ne-eqb}
-use Rattle.lists.specs.TestLaws.{true-false, unequal}
+use Rattle.base.specs.TestLaws.{true-false, unequal}
 use Rattle.records.specs.declared.Record.{Record}
 use Rattle.records.specs.Record.{kindOf, bodyLength, recordAt}
 use Rattle.records.specs.Facts.{action}

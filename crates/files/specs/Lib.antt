@@ -1,3 +1,7 @@
+pub mod Drain
+pub mod Sift
+pub mod DrainLaws
+pub mod SiftLaws
 pub mod File
 pub mod Listing
 pub mod Contents

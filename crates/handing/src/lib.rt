@@ -6,7 +6,7 @@ ghost use lib.ListN.{length, getD, set};
 ghost use lib.IntN.{pos};
 ghost use lib.Signed.{mag};
 ghost use Rattle.memory.specs.Buffers.{heldRows};
-ghost use Rattle.lists.specs.Columns.{column};
+ghost use Rattle.base.specs.Columns.{column};
 ghost use Rattle.numeric.specs.Threshold.{Threshold};
 ghost use Rattle.state.specs.State.{limit, noState};
 ghost use Rattle.queues.specs.declared.Ring.{Ring};
@@ -94,7 +94,7 @@ fn bounded(
 }
 
 // `threshold_guard`: a drained guard tells its row its bound.
-pub fn threshold_guard(
+fn threshold_guard(
     row_conditions: &[u16],
     row_weights: &[u64],
     rows: &[[u16; 3]],

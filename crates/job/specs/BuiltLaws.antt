@@ -9,9 +9,9 @@ use lib.Seq.{length-take-le, take-at, drop-at}
 use lib.IntN.{ℤ}
 use Rattle.memory.specs.Limits.{maxThresholds, maxLinks}
 use Rattle.memory.specs.Buffers.{Built, heldRows, built}
-use Rattle.lists.specs.Laid.{over, joinAll, ends, triples}
-use Rattle.lists.specs.Columns.{column, withColumn, Wide}
-use Rattle.lists.specs.ColumnsLaws.{with-last}
+use Rattle.base.specs.Laid.{over, joinAll, ends, triples}
+use Rattle.base.specs.Columns.{column, withColumn, Wide}
+use Rattle.base.specs.ColumnsLaws.{with-last}
 use Rattle.numeric.specs.Threshold.{Job}
 use Rattle.thresholds.specs.Rows.{Row, rowsOf}
 use Rattle.thresholds.specs.Laid.{conditions, weights, termLists, guardLists}

@@ -4,7 +4,7 @@ use mathlib.Core.Path.{_≡_}
 use mathlib.Core.List.{List, [], _∷_}
 use lib.ListN.{length, getD, take, set}
 use lib.IntN.{ℤ, pos}
-use Rattle.lists.specs.Parts.{endBy, startBy}
+use Rattle.base.specs.Parts.{endBy, startBy}
 use Rattle.numeric.specs.Threshold.{Job, term}
 use Rattle.memory.specs.Limits.{maxNodes, maxTerms, maxThresholds, listTerms}
 use Rattle.memory.specs.Ranges.{rawLimit}

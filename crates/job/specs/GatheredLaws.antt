@@ -7,8 +7,8 @@ use mathlib.Core.List.{List, [], _∷_, _++_, map}
 use lib.ListN.{length, getD, take, length-map}
 use lib.Seq.{getD-take, length-take-le}
 use lib.IntN.{ℤ, pos}
-use Rattle.lists.specs.Parts.{endBy, startBy}
-use Rattle.lists.specs.Laid.{numbers}
+use Rattle.base.specs.Parts.{endBy, startBy}
+use Rattle.base.specs.Laid.{numbers}
 use Rattle.numeric.specs.Threshold.{Term, Threshold}
 use Rattle.numeric.specs.Slices.{terms}
 use Rattle.memory.specs.Buffers.{RawLists, rawLists}

@@ -8,7 +8,7 @@ use mathlib.Core.List.{List, [], _∷_, _++_, map}
 use lib.ListN.{length, take, drop, set, length-drop, length-append}
 use lib.IntN.{ℤ}
 use lib.Seq.{take-nil, take-take, take-set-le, drop-set-add, take-suc-set}
-use Rattle.lists.specs.Laid.{numbers}
+use Rattle.base.specs.Laid.{numbers}
 use Rattle.numeric.specs.Threshold.{Term, term, Threshold, Job}
 use Rattle.numeric.specs.Slices.{terms}
 use Rattle.thresholds.specs.Raw.{stretch}

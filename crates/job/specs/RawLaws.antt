@@ -7,7 +7,7 @@ use mathlib.Core.List.{List, [], _∷_, _++_, map, append-nil, append-assoc}
 use lib.ListN.{length, drop, set, length-append, length-map, length-set}
 use lib.IntN.{ℤ}
 use Rattle.memory.specs.Buffers.{Raw, rawLists, raw}
-use Rattle.lists.specs.Laid.{over, joinAll, ends, pairs}
+use Rattle.base.specs.Laid.{over, joinAll, ends, pairs}
 use Rattle.numeric.specs.Threshold.{Term, Threshold, Job}
 use Rattle.thresholds.specs.Laid.{conditions, weights}
 use Rattle.prepare.specs.JobBuffers.{rawOf}

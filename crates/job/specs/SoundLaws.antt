@@ -8,7 +8,7 @@ use mathlib.Core.List.{List, [], _∷_}
 use lib.ListN.{length, getD, take, replicate, List·getD-eq-default}
 use lib.Seq.{getD-take, length-take-le}
 use lib.IntN.{ℤ, pos}
-use Rattle.lists.specs.Parts.{endBy, startBy}
+use Rattle.base.specs.Parts.{endBy, startBy}
 use Rattle.memory.specs.Limits.{maxNodes, maxTerms, maxThresholds}
 use Rattle.memory.specs.Ranges.{rawLimit}
 use Rattle.memory.specs.Buffers.{Built, built}

@@ -11,11 +11,11 @@ use lib.Dec.{eqb, leb}
 use lib.IntN.{ℤ, pos, negsuc}
 use lib.Signed.{ltZ}
 use borrow.Author.Tests.{eqb-false, leb-false, ne-eqb}
-use Rattle.lists.specs.TestLaws.{or-false}
-use Rattle.signed.specs.SignedLaws.{nlt-leZ}
-use Rattle.lists.specs.PartsLaws.{start-after}
-use Rattle.lists.specs.Parts.{endBy, startBy}
-use Rattle.lists.specs.Laid.{numbers}
+use Rattle.base.specs.TestLaws.{or-false}
+use Rattle.base.specs.SignedLaws.{nlt-leZ}
+use Rattle.base.specs.PartsLaws.{start-after}
+use Rattle.base.specs.Parts.{endBy, startBy}
+use Rattle.base.specs.Laid.{numbers}
 use Rattle.numeric.specs.Threshold.{term, Threshold}
 use Rattle.numeric.specs.Slices.{terms}
 use Rattle.memory.specs.Limits.{listTerms, maxTerms, maxThresholds}

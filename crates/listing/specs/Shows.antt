@@ -4,7 +4,7 @@ use mathlib.Core.Path.{_≡_}
 use mathlib.Core.Bool.{true}
 use mathlib.Core.List.{List, [], map}
 use lib.ListN.{length, take, drop}
-use Rattle.lists.specs.Laid.{pairs}
+use Rattle.base.specs.Laid.{pairs}
 use Rattle.state.specs.declared.State.{State}
 use Rattle.words.specs.Mask.{bit}
 use Rattle.memory.specs.Limits.{maxNodes, maxThresholds}

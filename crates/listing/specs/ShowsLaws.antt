@@ -7,8 +7,8 @@ use mathlib.Core.List.{List, [], _∷_, _++_, map, append-assoc}
 use lib.ListN.{length, getD, take}
 use lib.Seq.{getD-take}
 use lib.Dec.{eqb}
-use Rattle.lists.specs.TestLaws.{unequal}
-use Rattle.lists.specs.Laid.{pairs}
+use Rattle.base.specs.TestLaws.{unequal}
+use Rattle.base.specs.Laid.{pairs}
 use Rattle.state.specs.declared.Step.the-variants.{Unchanged, Changed, Contradiction}
 use Rattle.state.specs.declared.State.{State}
 use Rattle.state.specs.State.{noState}

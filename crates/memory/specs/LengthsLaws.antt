@@ -7,7 +7,7 @@ use mathlib.Core.List.{List, [], _∷_}
 use lib.ListN.{getD, length}
 use lib.Dec.{leb}
 use borrow.Author.Tests.{leb-true, le-leb}
-use Rattle.lists.specs.TestLaws.{and-true, unequal}
+use Rattle.base.specs.TestLaws.{and-true, unequal}
 use Rattle.memory.specs.Buffers.{Work, needed, lengths, enough, longestInput, fitsBy, fits}
 
 enough-at : (ns ms : List ℕ) → enough ns ms ≡ true → (i : ℕ) → getD ns i 0 ≤ getD ms i 0

@@ -17,7 +17,7 @@ pub fn clear_u16(b: &mut [u16])
     }
 }
 
-pub fn clear_u64(b: &mut [u64])
+fn clear_u64(b: &mut [u64])
     ensures { λ _. ⌜ now (b .exit) ≡ zeros 0 (now (b .entry)) ⌝ }
 {
     let mut i: usize = 0;
@@ -27,7 +27,7 @@ pub fn clear_u64(b: &mut [u64])
     }
 }
 
-pub fn clear_i64(b: &mut [i64])
+fn clear_i64(b: &mut [i64])
     ensures { λ _. ⌜ now (b .exit) ≡ zeros (pos 0) (now (b .entry)) ⌝ }
 {
     let mut i: usize = 0;
@@ -37,7 +37,7 @@ pub fn clear_i64(b: &mut [i64])
     }
 }
 
-pub fn clear_u16x2(b: &mut [[u16; 2]])
+fn clear_u16x2(b: &mut [[u16; 2]])
     ensures { λ _. ⌜ now (b .exit) ≡ zeros (replicate 2 0) (now (b .entry)) ⌝ }
 {
     let z: [u16; 2] = [0; 2];
@@ -48,7 +48,7 @@ pub fn clear_u16x2(b: &mut [[u16; 2]])
     }
 }
 
-pub fn clear_u16x3(b: &mut [[u16; 3]])
+fn clear_u16x3(b: &mut [[u16; 3]])
     ensures { λ _. ⌜ now (b .exit) ≡ zeros (replicate 3 0) (now (b .entry)) ⌝ }
 {
     let z: [u16; 3] = [0; 3];
@@ -59,7 +59,7 @@ pub fn clear_u16x3(b: &mut [[u16; 3]])
     }
 }
 
-pub fn clear_u16x4(b: &mut [[u16; 4]])
+fn clear_u16x4(b: &mut [[u16; 4]])
     ensures { λ _. ⌜ now (b .exit) ≡ zeros (replicate 4 0) (now (b .entry)) ⌝ }
 {
     let z: [u16; 4] = [0; 4];
@@ -70,7 +70,7 @@ pub fn clear_u16x4(b: &mut [[u16; 4]])
     }
 }
 
-pub fn clear_u64x2(b: &mut [[u64; 2]])
+fn clear_u64x2(b: &mut [[u64; 2]])
     ensures { λ _. ⌜ now (b .exit) ≡ zeros (replicate 2 0) (now (b .entry)) ⌝ }
 {
     let z: [u64; 2] = [0; 2];
@@ -81,7 +81,7 @@ pub fn clear_u64x2(b: &mut [[u64; 2]])
     }
 }
 
-pub fn clear_i64x4(b: &mut [[i64; 4]])
+fn clear_i64x4(b: &mut [[i64; 4]])
     ensures { λ _. ⌜ now (b .exit) ≡ zeros (replicate 4 (pos 0)) (now (b .entry)) ⌝ }
 {
     let z: [i64; 4] = [0; 4];
@@ -92,7 +92,7 @@ pub fn clear_i64x4(b: &mut [[i64; 4]])
     }
 }
 
-pub fn clear_usizex5(b: &mut [[usize; 5]])
+fn clear_usizex5(b: &mut [[usize; 5]])
     ensures { λ _. ⌜ now (b .exit) ≡ zeros (replicate 5 0) (now (b .entry)) ⌝ }
 {
     let z: [usize; 5] = [0; 5];

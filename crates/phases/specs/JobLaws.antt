@@ -10,7 +10,7 @@ use mathlib.Core.Logic.{⊎-elim}
 use lib.ListN.{length, getD, drop, drop-of-length-le}
 use lib.Seq.{drop-cons, drop-drop}
 use borrow.Author.Tests.{eq-eqb}
-use Rattle.lists.specs.TestLaws.{true-false}
+use Rattle.base.specs.TestLaws.{true-false}
 use Rattle.records.specs.declared.Record.{Record}
 use Rattle.records.specs.declared.Record.the-variants.{Header, Opens, Adds, Areas, Seal, Mark, Settle, Sift, Unknown}
 use Rattle.records.specs.declared.Next.the-variants.{Refused, Taken}
@@ -24,8 +24,8 @@ use Rattle.files.specs.FileLaws.{zero-or}
 use Rattle.files.specs.Contents.{keptOf}
 use Rattle.files.specs.JobPart.{JobPart, jobPart, readJob, jobPartOf}
 use Rattle.files.specs.JobPartLaws.{job-refused, job-sealing, job-next, file-goes-on, file-ends}
-use Rattle.ends.specs.FilesLaws.{good-begun, good-apply, both, Taken as Passes, taken, serving-turn, refused-by}
-use Rattle.ends.specs.Good.{Good}
+use Rattle.theorem_ends.specs.FilesLaws.{good-begun, good-apply, both, Taken as Passes, taken, serving-turn, refused-by}
+use Rattle.theorem_ends.specs.Good.{Good}
 use Rattle.serve.specs.declared.Reached.{Reached}
 use Rattle.serve.specs.Serve.{readAt}
 use Rattle.serve.specs.ReadLaws.{ended, taken-any}

@@ -14,7 +14,7 @@ use Rattle.prepare.specs.JobBuffers.{rawOf, builtOf}
 use Rattle.files.specs.declared.JobRead.{JobRead}
 use Rattle.files.specs.File.{File, begun, standing, Outcome, outcome}
 use Rattle.files.specs.Contents.{keptOf}
-use Rattle.ends.specs.Good.{Light, Good}
+use Rattle.theorem_ends.specs.Good.{Light, Good}
 use Rattle.serve.specs.declared.Reached.{Reached}
 use Rattle.serve.specs.Serve.{readAt}
 

@@ -10,7 +10,7 @@ use lib.Seq.{length-take-le}
 use lib.IntN.{ℤ, pos}
 use Rattle.memory.specs.Limits.{maxNodes, maxTerms, maxThresholds, maxGcds, searchWords}
 use Rattle.memory.specs.Buffers.{Raw, heldRows, Built, built, Kept, kept, zeros, clearBuilt, clearKept}
-use Rattle.lists.specs.Laid.{over, joinAll, ends, pairs, quads}
+use Rattle.base.specs.Laid.{over, joinAll, ends, pairs, quads}
 use Rattle.numeric.specs.Threshold.{Term, Job}
 use Rattle.state.specs.declared.State.{State}
 use Rattle.state.specs.declared.Step.the-variants.{Unchanged}
@@ -29,13 +29,13 @@ use Rattle.records.specs.declared.Standing.{Standing}
 use Rattle.files.specs.File.{File, Answer, begun, standing, Outcome, outcome}
 use Rattle.files.specs.declared.JobRead.{JobRead}
 use Rattle.files.specs.Contents.{keptOf}
-use Rattle.ends.specs.BuiltLaws.{rows-few}
-use Rattle.ends.specs.Good.{Fits}
-use Rattle.ends.specs.SizeLaws.{terms-few, guards-few, edges-most}
+use Rattle.theorem_ends.specs.BuiltLaws.{rows-few}
+use Rattle.theorem_ends.specs.Good.{Fits}
+use Rattle.theorem_ends.specs.SizeLaws.{terms-few, guards-few, edges-most}
 use Rattle.settle.specs.Serves.{Fresh}
-use Rattle.holds.specs.Lent.{boundsOf, lentOf}
-use Rattle.holds.specs.LentLaws.{lendable-clear, bounds-lent}
-use Rattle.holds.specs.GoesLaws.{fresh-begun}
+use Rattle.theorem_holds.specs.Lent.{boundsOf, lentOf}
+use Rattle.theorem_holds.specs.LentLaws.{lendable-clear, bounds-lent}
+use Rattle.theorem_holds.specs.GoesLaws.{fresh-begun}
 use Rattle.serve.specs.declared.Reached.{Reached}
 use Rattle.serve.specs.Serve.{liveIn, answersOf, Lies, Seals, noRings, Reaches, readAt, Same, fourfold}
 use Rattle.phases.specs.Phase.{BuiltRoom, KeptRoom, cutBuilt, cutKept, Blank, Stops, ending, Leaves}

@@ -9,7 +9,7 @@ use lib.ListN.{length, replicate}
 use lib.IntN.{pos}
 use lib.Dec.{leb}
 use borrow.Author.Tests.{leb-false, le-leb, lt-ltb}
-use Rattle.lists.specs.TestLaws.{true-false}
+use Rattle.base.specs.TestLaws.{true-false}
 use Rattle.memory.specs.Limits.{maxThresholds}
 use Rattle.memory.specs.Buffers.{rawLists, raw, heldRows, built, kept, Work, work, needed, lengths, enough, longestInput, fits, fitsBy}
 use Rattle.files.specs.declared.Given.{Given}
@@ -21,7 +21,7 @@ use Rattle.listing.specs.Lines.{Listable}
 use Rattle.listing.specs.Shows.{ten, Shows, Listed}
 use Rattle.listing.specs.Shows as Is
 use Rattle.listing.specs.ShowsLaws.{shows-listable}
-use Rattle.shown.specs.ShownLaws.{ended, ShowsIn, shows-plan}
+use Rattle.plan.specs.ShownLaws.{ended, ShowsIn, shows-plan}
 use Rattle.plan.specs.Plan.{Plans}
 use Rattle.plan.specs.Ready.{Ready, planOf}
 

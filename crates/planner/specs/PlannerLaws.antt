@@ -9,8 +9,8 @@ use lib.ListN.{length, take, drop, length-append}
 use lib.Seq.{take-at}
 use lib.IntN.{ℤ}
 use borrow.Author.Tests.{le-leb, lt-leb}
-use Rattle.lists.specs.TestLaws.{true-false}
-use Rattle.lists.specs.Laid.{over}
+use Rattle.base.specs.TestLaws.{true-false}
+use Rattle.base.specs.Laid.{over}
 use Rattle.memory.specs.Limits.{maxThresholds}
 use Rattle.memory.specs.Buffers.{Work, Kept, fits, zeros, cleared}
 use Rattle.state.specs.declared.State.{State}
@@ -20,8 +20,8 @@ use Rattle.between.specs.Numbers.{statesOf}
 use Rattle.states.specs.States.{shown}
 use Rattle.files.specs.File.{File, fileOf}
 use Rattle.files.specs.Contents.{Out, served, untouched, whole, keptOf, laid}
-use Rattle.demands.specs.RefusalLaws.{ten, served-when, untouched-when}
-use Rattle.demands.specs.KeptLaws.{kept-file}
+use Rattle.theorem_demands.specs.RefusalLaws.{ten, served-when, untouched-when}
+use Rattle.theorem_demands.specs.KeptLaws.{kept-file}
 use Rattle.planner.specs.Planner.{Left, left, fitsAll, plan}
 
 -- ---- the states that the rows of numbers hold

@@ -1,2 +1,4 @@
+pub mod Notice
+pub mod NoticeLaws
 pub mod Reads
 pub mod ReadsLaws

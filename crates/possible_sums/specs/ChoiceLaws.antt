@@ -7,7 +7,7 @@ use mathlib.Core.Logic.{_≢_, _⊎_, inl, inr}
 use mathlib.Core.List.{List, [], _∷_, reverse, reverseAux}
 use lib.Dec.{eqb}
 use borrow.Author.Tests.{eq-eqb, ne-eqb}
-use Rattle.lists.specs.All.{All}
+use Rattle.base.specs.All.{All}
 use Rattle.numeric.specs.Threshold.{Term}
 use Rattle.possible_sums.specs.Search.{chosen}
 use Rattle.possible_sums.specs.RowLaws.{Fresh}

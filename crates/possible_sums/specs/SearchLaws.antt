@@ -12,11 +12,11 @@ use lib.Dec.{ltb}
 use lib.IntN.{ℤ, pos, negsuc, _+ℤ_, _-ℤ_, +ℤ-idl, +ℤ-comm, +ℤ-negℤ-cancel}
 use lib.Signed.{leZ, ltZ}
 use borrow.Author.Tests.{ltb-true, leb-true}
-use Rattle.lists.specs.All.{All}
-use Rattle.lists.specs.TestLaws.{unequal}
+use Rattle.base.specs.All.{All}
+use Rattle.base.specs.TestLaws.{unequal}
 use Rattle.numeric.specs.Threshold.{Term}
-use Rattle.signed.specs.SignedLaws.{natural-minus, leZ-sub, ltZ-minus}
-use Rattle.signed.specs.Signed.{natural}
+use Rattle.base.specs.SignedLaws.{natural-minus, leZ-sub, ltZ-minus}
+use Rattle.base.specs.Signed.{natural}
 use Rattle.state.specs.declared.State.{State}
 use Rattle.state.specs.declared.Step.the-variants.{Unchanged, Contradiction}
 use Rattle.state.specs.declared.Upper.{Upper}

@@ -11,11 +11,11 @@ use lib.Signed.{mag, ltZ}
 use mir.Syntax.{w64}
 use mir.Val.{SFits}
 use borrow.Author.Tests.{le-leb, lt-leb, leb-true}
-use Rattle.lists.specs.TestLaws.{unequal}
+use Rattle.base.specs.TestLaws.{unequal}
 use Rattle.memory.specs.Limits.{listTerms}
 use Rattle.numeric.specs.Threshold.{Term, term}
-use Rattle.signed.specs.SignedLaws.{mag-minus, sub-sfits}
-use Rattle.signed.specs.Signed.{natural}
+use Rattle.base.specs.SignedLaws.{mag-minus, sub-sfits}
+use Rattle.base.specs.Signed.{natural}
 use Rattle.state.specs.declared.State.{State}
 use Rattle.state.specs.declared.Upper.the-variants.{Open, Under}
 use Rattle.state.specs.State.{limit, upperAtMost, hasResidualInterval}

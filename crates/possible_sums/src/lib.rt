@@ -78,7 +78,7 @@ fn smaller(a: usize, b: usize) -> usize
 impl Plan {
     // Only a row with a weight above 1 and both limits inside what is possible is searched, and only where the words of the
     // window are few against its terms.
-    pub fn for_row(conditions: &[u16], weights: &[u64], state: State) -> Plan
+    fn for_row(conditions: &[u16], weights: &[u64], state: State) -> Plan
         requires { ⌜ (length (now conditions) ≡ length (now weights)) × (length (now weights) ≤ 1024) × Figures state ⌝ }
         ensures { λ r. ⌜ r ≡ plan (terms (now (conditions .entry)) (now (weights .entry))) state ⌝ }
     {
@@ -96,8 +96,8 @@ impl Plan {
         if limit <= known {
             return Plan::Unplanned;
         }
-        let lower = signed::natural(state.lower - known) as usize;
-        let maximum = signed::natural(limit - known - 1) as usize;
+        let lower = base::natural(state.lower - known) as usize;
+        let maximum = base::natural(limit - known - 1) as usize;
         let words = maximum / 64 + 1;
         // The reference build has 32 bytes for a term, and a visit for each 8 of them.
         let visits = 4 * weights.len();

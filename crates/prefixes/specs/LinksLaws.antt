@@ -10,7 +10,7 @@ use mathlib.Core.List.{List, [], _∷_, _++_, map, List·Memᴰ, List·Memᴰ·h
 use borrow.Author.Tests.{ltb-true, ltb-false, eqb-true, eqb-false, eq-eqb, ne-eqb}
 use lib.Dec.{eqb, ltb}
 use lib.ListN.{length, length-append}
-use Rattle.lists.specs.Laid.{numbers}
+use Rattle.base.specs.Laid.{numbers}
 use Rattle.numeric.specs.Threshold.{Term}
 use Rattle.thresholds.specs.Rows.{Row}
 use Rattle.prefixes.specs.Links.{termsAt, notAfter, orderFrom, common, Link, ancestors, stacked, linked, linksFrom, links, neighbours, neighbourLists}

@@ -11,7 +11,7 @@ use borrow.Author.Tests.{lt-ltb, le-ltb, eq-eqb, ne-eqb}
 use lib.Dec.{eqb, ltb}
 use lib.ListN.{length, getD, set, take, drop, length-set, length-map, drop-of-length-le, List·getD-map}
 use lib.Seq.{drop-cons, take-all, take-suc-set, getD-set-same, getD-set-other}
-use Rattle.lists.specs.Parts.{endBy, startBy}
+use Rattle.base.specs.Parts.{endBy, startBy}
 use Rattle.memory.specs.Limits.{maxThresholds}
 use Rattle.numeric.specs.Threshold.{Term}
 use Rattle.thresholds.specs.Rows.{Row}

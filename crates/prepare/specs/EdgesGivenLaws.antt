@@ -2,9 +2,9 @@
 use Prim.Native.Nat.{ℕ}
 use mathlib.Core.Path.{_≡_, ap, _∙_}
 use mathlib.Core.List.{List, map}
-use Rattle.lists.specs.Laid.{joinAll, ends}
-use Rattle.lists.specs.Deal.{Keyed, grouped}
-use Rattle.lists.specs.Columns.{column}
+use Rattle.base.specs.Laid.{joinAll, ends}
+use Rattle.base.specs.Deal.{Keyed, grouped}
+use Rattle.base.specs.Columns.{column}
 use Rattle.thresholds.specs.Rows.{Row, Edge}
 use Rattle.thresholds.specs.Laid.{conditions, weights, termLists, edgeLists, edgeRow}
 use Rattle.thresholds.specs.Incidents.{heldItems}

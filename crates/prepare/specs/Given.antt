@@ -3,7 +3,7 @@ use Prim.Native.Nat.{ℕ}
 use mathlib.Core.List.{List, [], map}
 use lib.ListN.{length, getD}
 use lib.IntN.{ℤ, pos}
-use Rattle.lists.specs.Laid.{numbers}
+use Rattle.base.specs.Laid.{numbers}
 use Rattle.numeric.specs.Threshold.{Threshold, Job}
 use Rattle.memory.specs.Buffers.{RawLists}
 use Rattle.thresholds.specs.Raw.{listAt}

@@ -11,10 +11,10 @@ use lib.Dec.{eqb, leb, ltb}
 use lib.IntN.{ℤ, pos}
 use lib.Signed.{leZ, ltZ}
 use borrow.Author.Tests.{ltb-true, ltb-false, leb-true, leb-false, le-leb, lt-leb, le-ltb, eqb-true, eqb-false}
-use Rattle.lists.specs.All.{All}
+use Rattle.base.specs.All.{All}
 use Rattle.memory.specs.Limits.{maxThresholds}
-use Rattle.lists.specs.Laid.{numbers}
-use Rattle.signed.specs.SignedLaws.{ltZ-add}
+use Rattle.base.specs.Laid.{numbers}
+use Rattle.base.specs.SignedLaws.{ltZ-add}
 use Rattle.sort.specs.Sorted.{put}
 use Rattle.sort.specs.SortedLaws.{put-before, put-behind}
 use Rattle.thresholds.specs.Rows.{Guard, guard, below, insertGuard}

@@ -6,10 +6,10 @@ use mathlib.Core.Path.{_≡_, refl, sym, ap, ap₂, _∙_, subst}
 use mathlib.Core.List.{List, [], _∷_, _++_, map, map-map, map-append}
 use lib.ListN.{length, getD, length-map}
 use lib.IntN.{ℤ, pos}
-use Rattle.lists.specs.All.{All}
+use Rattle.base.specs.All.{All}
 use Rattle.memory.specs.Limits.{maxThresholds}
-use Rattle.lists.specs.Laid.{joinAll, ends, numbers}
-use Rattle.lists.specs.Deal.{Keyed, keyed, those, grouped}
+use Rattle.base.specs.Laid.{joinAll, ends, numbers}
+use Rattle.base.specs.Deal.{Keyed, keyed, those, grouped}
 use Rattle.sort.specs.Sorted.{sorted}
 use Rattle.sort.specs.SortedLaws.{all-sorted, length-sorted}
 use Rattle.memory.specs.Buffers.{RawLists}

@@ -7,8 +7,8 @@ use mathlib.Core.Bool.{Bool, true, false}
 use mathlib.Core.List.{List, [], _∷_, map}
 use lib.Dec.{eqb, leb}
 use borrow.Author.Tests.{eq-eqb, ne-eqb, eqb-true, eqb-false}
-use Rattle.lists.specs.All.{All}
-use Rattle.lists.specs.Deal.{keyed, those}
+use Rattle.base.specs.All.{All}
+use Rattle.base.specs.Deal.{keyed, those}
 use Rattle.sort.specs.Sorted.{put, sorted}
 use Rattle.sort.specs.SortedLaws.{AtLeast, Rising, either, put-before, put-behind, put-comm, at-least-trans, rising-sorted}
 

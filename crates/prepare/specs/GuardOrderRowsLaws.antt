@@ -9,9 +9,9 @@ use lib.ListN.{length, getD}
 use lib.Dec.{eqb}
 use lib.IntN.{ℤ}
 use borrow.Author.Tests.{eq-eqb, ne-eqb, eqb-true, eqb-false}
-use Rattle.lists.specs.All.{All}
+use Rattle.base.specs.All.{All}
 use Rattle.memory.specs.Limits.{maxThresholds}
-use Rattle.lists.specs.Laid.{numbers}
+use Rattle.base.specs.Laid.{numbers}
 use Rattle.numeric.specs.Threshold.{Threshold}
 use Rattle.row.specs.Terms.{sameTerms}
 use Rattle.sort.specs.Sorted.{put, sorted}

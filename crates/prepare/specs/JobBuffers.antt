@@ -2,7 +2,7 @@
 use Prim.Native.Nat.{ℕ}
 use mathlib.Core.List.{List, map}
 use Rattle.memory.specs.Buffers.{Raw, Built, rawLists, raw, heldRows, built}
-use Rattle.lists.specs.Laid.{over, joinAll, ends, pairs, triples, numbers}
+use Rattle.base.specs.Laid.{over, joinAll, ends, pairs, triples, numbers}
 use Rattle.numeric.specs.Threshold.{Term, Threshold, Job}
 use Rattle.thresholds.specs.Rows.{rowsOf}
 use Rattle.thresholds.specs.Laid.{conditions, weights, termLists, guardLists, guardBounds, guardNodes, thresholdOf, rowOfNode, edgeLists, edgeRow}

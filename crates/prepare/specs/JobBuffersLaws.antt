@@ -3,9 +3,9 @@ use Prim.Native.Nat.{ℕ}
 use mathlib.Core.Path.{_≡_, sym, ap, _∙_}
 use mathlib.Core.List.{List, _++_, map, map-append}
 use lib.ListN.{length, getD, drop, length-map}
-use Rattle.lists.specs.Laid.{over, ends, triples, numbers}
-use Rattle.lists.specs.Columns.{column}
-use Rattle.lists.specs.ColumnsLaws.{length-column}
+use Rattle.base.specs.Laid.{over, ends, triples, numbers}
+use Rattle.base.specs.Columns.{column}
+use Rattle.base.specs.ColumnsLaws.{length-column}
 use Rattle.numeric.specs.Threshold.{Job}
 use Rattle.thresholds.specs.Rows.{Row, rowsOf, edgesOf}
 use Rattle.thresholds.specs.Laid.{termLists, guardLists, thresholdOf, rowOfNode, edgeLists}

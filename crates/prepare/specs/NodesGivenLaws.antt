@@ -13,8 +13,8 @@ use lib.Seq.{getD-set-same, getD-set-other, ext-getD}
 use lib.IntN.{ℤ}
 use lib.Dec.{eqb}
 use borrow.Author.Tests.{eqb-true, eqb-false}
-use Rattle.lists.specs.Laid.{numbers, triples}
-use Rattle.lists.specs.Columns.{column, Wide}
+use Rattle.base.specs.Laid.{numbers, triples}
+use Rattle.base.specs.Columns.{column, Wide}
 use Rattle.numeric.specs.Threshold.{Threshold}
 use Rattle.row.specs.TermsLaws.{either}
 use Rattle.memory.specs.Buffers.{RawLists}

@@ -5,7 +5,7 @@ use mathlib.Core.Bool.{cond}
 use mathlib.Core.List.{List, map}
 use lib.ListN.{length, getD, set, replicate}
 use lib.Dec.{ltb}
-use Rattle.lists.specs.Laid.{joinAll, ends}
+use Rattle.base.specs.Laid.{joinAll, ends}
 use Rattle.memory.specs.Buffers.{RawLists}
 use Rattle.thresholds.specs.Raw.{Lists}
 use Rattle.thresholds.specs.Guards.{nodeAt}

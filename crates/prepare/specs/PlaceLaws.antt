@@ -9,10 +9,10 @@ use lib.ListN.{length, take, drop, getD, set, replicate, length-append, length-s
 use lib.Seq.{length-take-le, drop-cons, set-at, drop-drop, drop-set-lt, take-suc-set}
 use lib.Dec.{ltb}
 use borrow.Author.Tests.{ltb-true, ltb-false, lt-ltb, le-ltb}
-use Rattle.lists.specs.TestLaws.{unequal}
+use Rattle.base.specs.TestLaws.{unequal}
 use Rattle.memory.specs.Limits.{maxThresholds}
-use Rattle.lists.specs.Parts.{endBy, startBy}
-use Rattle.lists.specs.Laid.{over, joinAll, ends}
+use Rattle.base.specs.Parts.{endBy, startBy}
+use Rattle.base.specs.Laid.{over, joinAll, ends}
 use Rattle.numeric.specs.Threshold.{Term}
 use Rattle.row.specs.Terms.{rowTerms}
 use Rattle.row.specs.Keys.{laid, conditionsOf, weightsOf}

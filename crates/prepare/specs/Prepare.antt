@@ -6,10 +6,10 @@ use lib.ListN.{length, getD, take, drop, replicate}
 use lib.IntN.{ℤ}
 use Rattle.thresholds.specs.Chain.{classCount}
 use Rattle.memory.specs.Limits.{maxThresholds}
-use Rattle.lists.specs.Laid.{over, joinAll, ends}
-use Rattle.lists.specs.Deal.{Keyed, grouped}
-use Rattle.lists.specs.Parts.{Inside}
-use Rattle.lists.specs.Columns.{column, withColumn, Wide}
+use Rattle.base.specs.Laid.{over, joinAll, ends}
+use Rattle.base.specs.Deal.{Keyed, grouped}
+use Rattle.base.specs.Parts.{Inside}
+use Rattle.base.specs.Columns.{column, withColumn, Wide}
 use Rattle.row.specs.Keys.{conditionsOf, weightsOf}
 use Rattle.memory.specs.Buffers.{RawLists, Built}
 use Rattle.numeric.specs.Threshold.{Job}

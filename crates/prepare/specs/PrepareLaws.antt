@@ -9,10 +9,10 @@ use lib.Seq.{length-take-le, take-at, drop-at}
 use lib.IntN.{ℤ}
 use Rattle.thresholds.specs.Chain.{classCount}
 use Rattle.memory.specs.Limits.{maxThresholds}
-use Rattle.lists.specs.Laid.{over, joinAll, ends, triples, numbers}
-use Rattle.lists.specs.Deal.{Keyed, grouped}
-use Rattle.lists.specs.Columns.{column, withColumn, Wide}
-use Rattle.lists.specs.ColumnsLaws.{length-with, column-beside, with-middle, with-last}
+use Rattle.base.specs.Laid.{over, joinAll, ends, triples, numbers}
+use Rattle.base.specs.Deal.{Keyed, grouped}
+use Rattle.base.specs.Columns.{column, withColumn, Wide}
+use Rattle.base.specs.ColumnsLaws.{length-with, column-beside, with-middle, with-last}
 use Rattle.numeric.specs.Threshold.{Term, Job}
 use Rattle.row.specs.Keys.{conditionsOf, weightsOf}
 use Rattle.sort.specs.Sorted.{sorted}

@@ -7,9 +7,9 @@ use mathlib.Core.List.{List, [], _∷_, _++_, append-assoc, append-nil}
 use lib.ListN.{length, take, drop, replicate, length-append, length-drop, drop-of-length-le, take-append-drop}
 use lib.Seq.{length-take-le, take-at, take-all, drop-append-le, drop-append-add, drop-drop}
 use Rattle.memory.specs.Buffers.{zeros}
-use Rattle.lists.specs.Laid.{over, joinAll}
-use Rattle.lists.specs.Deal.{Keyed, grouped}
-use Rattle.lists.specs.TallyLaws.{count-most}
+use Rattle.base.specs.Laid.{over, joinAll}
+use Rattle.base.specs.Deal.{Keyed, grouped}
+use Rattle.base.specs.TallyLaws.{count-most}
 use Rattle.row.specs.Keys.{laid}
 use Rattle.sort.specs.Runs.{cleared}
 use Rattle.sort.specs.FillLaws.{cleared-zeros}

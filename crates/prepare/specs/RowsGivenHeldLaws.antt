@@ -7,10 +7,10 @@ use mathlib.Core.Path.{_≡_, refl, sym, ap, ap₂, _∙_, subst}
 use mathlib.Core.List.{List, [], _∷_, _++_, map, append-nil}
 use lib.ListN.{length, drop, getD, length-map, drop-of-length-le}
 use lib.Seq.{drop-cons}
-use Rattle.lists.specs.Parts.{endBy, startBy, stretch, Inside}
-use Rattle.lists.specs.Laid.{joinAll, ends}
-use Rattle.lists.specs.Deal.{Keyed}
-use Rattle.lists.specs.Columns.{column}
+use Rattle.base.specs.Parts.{endBy, startBy, stretch, Inside}
+use Rattle.base.specs.Laid.{joinAll, ends}
+use Rattle.base.specs.Deal.{Keyed}
+use Rattle.base.specs.Columns.{column}
 use Rattle.numeric.specs.Threshold.{Term}
 use Rattle.numeric.specs.Slices.{terms}
 use Rattle.thresholds.specs.Laid.{conditions, weights}

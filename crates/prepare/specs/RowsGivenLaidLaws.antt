@@ -6,10 +6,10 @@ use mathlib.Core.Path.{_≡_, refl, sym, ap, ap₂, _∙_, subst}
 use mathlib.Core.List.{List, [], _∷_, _++_, map, append-assoc, append-nil}
 use lib.ListN.{length, take, drop, getD, replicate, length-append, length-drop, length-map, List·getD-append}
 use lib.Seq.{drop-at, take-append-seam, take-append-le, drop-append-le}
-use Rattle.lists.specs.Parts.{endBy, startBy, stretch}
-use Rattle.lists.specs.Laid.{joinAll, ends}
-use Rattle.lists.specs.Columns.{column, Wide}
-use Rattle.lists.specs.ColumnsLaws.{length-column, column-at}
+use Rattle.base.specs.Parts.{endBy, startBy, stretch}
+use Rattle.base.specs.Laid.{joinAll, ends}
+use Rattle.base.specs.Columns.{column, Wide}
+use Rattle.base.specs.ColumnsLaws.{length-column, column-at}
 use Rattle.thresholds.specs.Placed.{rowEntry}
 
 -- ---- by the list of ends; the first list begins at s

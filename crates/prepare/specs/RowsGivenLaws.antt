@@ -10,7 +10,7 @@ use lib.ListN.{length, length-append, length-map}
 use lib.IntN.{ℤ}
 use lib.Dec.{ltb}
 use borrow.Author.Tests.{ltb-true}
-use Rattle.lists.specs.Laid.{numbers}
+use Rattle.base.specs.Laid.{numbers}
 use Rattle.numeric.specs.Threshold.{Term}
 use Rattle.row.specs.Terms.{rowTerms, sameTerms}
 use Rattle.memory.specs.Buffers.{RawLists}

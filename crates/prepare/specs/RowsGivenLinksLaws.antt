@@ -5,9 +5,9 @@ use native.Mathlib.Omega.{arith}
 use mathlib.Core.Path.{_≡_, refl, sym, ap, _∙_, subst}
 use mathlib.Core.List.{List, _++_}
 use lib.ListN.{length, length-append, length-map, List·getD-map, List·getD-eq-default}
-use Rattle.lists.specs.Laid.{joinAll, ends}
-use Rattle.lists.specs.Columns.{column}
-use Rattle.lists.specs.ColumnsLaws.{length-column}
+use Rattle.base.specs.Laid.{joinAll, ends}
+use Rattle.base.specs.Columns.{column}
+use Rattle.base.specs.ColumnsLaws.{length-column}
 use Rattle.numeric.specs.Threshold.{Term}
 use Rattle.thresholds.specs.Rows.{Row, noRow}
 use Rattle.thresholds.specs.Laid.{conditions, weights, termLists}

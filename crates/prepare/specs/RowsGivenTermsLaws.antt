@@ -8,9 +8,9 @@ use mathlib.Core.List.{List, [], _∷_, _++_, map}
 use lib.ListN.{length, take, drop, getD, length-append, length-take}
 use lib.IntN.{ℤ}
 use lib.Dec.{eqb, ltb}
-use Rattle.lists.specs.All.{All}
-use Rattle.lists.specs.Parts.{endBy, startBy}
-use Rattle.lists.specs.Laid.{joinAll}
+use Rattle.base.specs.All.{All}
+use Rattle.base.specs.Parts.{endBy, startBy}
+use Rattle.base.specs.Laid.{joinAll}
 use Rattle.numeric.specs.Threshold.{Term}
 use Rattle.numeric.specs.Slices.{terms}
 use Rattle.numeric.specs.TermsLaws.{length-terms}

@@ -3,7 +3,7 @@ ghost use mathlib.Core.Path.{_≡_};
 ghost use mathlib.Core.List.{[]};
 ghost use Prim.Native.Nat.{_+_, _<_, _≤_};
 ghost use lib.ListN.{length, take, set, getD};
-ghost use Rattle.lists.specs.Laid.{over};
+ghost use Rattle.base.specs.Laid.{over};
 ghost use Rattle.sort.specs.Sorted.{sorted};
 ghost use Rattle.sort.specs.Runs.{cleared};
 ghost use Rattle.thresholds.specs.Guards.{Bounds, guardKeys, nodeAt, NodesIn};

@@ -8,7 +8,7 @@ use mathlib.Core.List.{List, [], _∷_, _++_, reverse, reverseAux}
 use lib.ListN.{length, getD, take, drop}
 use lib.Seq.{take-suc, drop-cons}
 use lib.IntN.{ℤ, pos}
-use Rattle.lists.specs.All.{All}
+use Rattle.base.specs.All.{All}
 use Rattle.thresholds.specs.Rows.{Guard, guard}
 use Rattle.numeric.specs.Slices.{Below, terms}
 use Rattle.propagate.specs.Guards.{guards, noGuard, Node, Condition}

@@ -5,8 +5,8 @@ use mathlib.Core.Path.{_≡_, refl, sym, ap, _∙_}
 use mathlib.Core.Bool.{Bool, true, false, cond, _&&_, not}
 use mathlib.Core.List.{List, [], _∷_, reverse, reverseAux}
 use lib.ListN.{length, take, drop}
-use Rattle.lists.specs.All.{All}
-use Rattle.lists.specs.TestLaws.{unequal}
+use Rattle.base.specs.All.{All}
+use Rattle.base.specs.TestLaws.{unequal}
 use Rattle.state.specs.declared.Step.{Step}
 use Rattle.state.specs.declared.Step.the-variants.{Unchanged, Changed, Contradiction}
 use Rattle.state.specs.Step.{joined, contradicts}

@@ -6,7 +6,7 @@ use lib.IntN.{ℤ}
 use lib.Dec.{leb}
 use lib.Signed.{leZ, ltZ}
 use borrow.Author.Tests.{le-leb, lt-leb, not-true, not-false}
-use Rattle.signed.specs.SignedLaws.{nle-ltZ, leZ-nlt}
+use Rattle.base.specs.SignedLaws.{nle-ltZ, leZ-nlt}
 use Rattle.state.specs.declared.State.{State}
 use Rattle.state.specs.declared.Upper.the-variants.{Open, Under}
 use Rattle.state.specs.State.{upperAtMost, withLower, withUpper}

@@ -224,7 +224,7 @@ fn never_guards(
 }
 
 // `threshold_guards`: what is reached makes guards sure, what cannot be reached makes them never.
-pub fn threshold_guards(
+fn threshold_guards(
     bounds: &[i64],
     names: &[u16],
     state: State,

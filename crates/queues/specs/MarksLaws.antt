@@ -9,7 +9,7 @@ use native.Mathlib.Omega.{arith}
 use lib.Dec.{eqb, lit<}
 use lib.ListN.{length, replicate, length-replicate, List·getD-eq-default}
 use lib.Pow.{pow-pos}
-use Rattle.lists.specs.TestLaws.{unequal}
+use Rattle.base.specs.TestLaws.{unequal}
 use Rattle.memory.specs.Limits.{maxNodes}
 use Rattle.state.specs.declared.Step.{Step}
 use Rattle.state.specs.declared.Step.the-variants.{Unchanged, Changed, Contradiction}

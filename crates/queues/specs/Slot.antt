@@ -2,7 +2,7 @@
 use Prim.Native.Nat.{ℕ, _+_}
 use mathlib.Core.List.{List, [], _∷_}
 use lib.ListN.{getD, set}
-use Rattle.lists.specs.Columns.{column}
+use Rattle.base.specs.Columns.{column}
 use Rattle.queues.specs.declared.Ring.{Ring}
 use Rattle.queues.specs.Queue.{queue, Rows, rows}
 

@@ -7,8 +7,8 @@ use mathlib.Core.List.{List, [], _∷_, map}
 use lib.ListN.{length, getD, set}
 use lib.Seq.{getD-set-same, getD-set-other, set-getD}
 use Rattle.memory.specs.Limits.{maxThresholds}
-use Rattle.lists.specs.Columns.{column}
-use Rattle.lists.specs.ColumnsLaws.{column-at}
+use Rattle.base.specs.Columns.{column}
+use Rattle.base.specs.ColumnsLaws.{column-at}
 use Rattle.queues.specs.declared.Ring.{Ring}
 use Rattle.queues.specs.Queue.{queue, behind, longerRing, push, popped, poppedRing, rows, queueRow, nextRow}
 use Rattle.queues.specs.Slot.{rowsIn, slot, put}

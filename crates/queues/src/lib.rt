@@ -2,7 +2,7 @@
 ghost use mathlib.Core.Path.{_≡_};
 ghost use Prim.Native.Nat.{_+_, _-_, _<_, _≤_, _%_, _^_};
 ghost use lib.ListN.{length, getD};
-ghost use Rattle.lists.specs.Columns.{column};
+ghost use Rattle.base.specs.Columns.{column};
 ghost use Rattle.queues.specs.declared.Ring.{Ring};
 ghost use Rattle.queues.specs.Queue.{queue, push as pushed, behind as behindAll, longerRing, poppedRing, queueRow, nextRow};
 ghost use Rattle.queues.specs.Slot.{rowsIn, put as puts};
@@ -64,7 +64,7 @@ fn behind(ring: Ring, places: usize) -> usize
 }
 
 // x waits behind all others.
-pub fn push(items: &mut [u16], ring: Ring, places: usize, x: u16) -> Ring
+fn push(items: &mut [u16], ring: Ring, places: usize, x: u16) -> Ring
     requires { ⌜ Held places (queue (now items) ring) ⌝ }
     ensures { λ r. ⌜ queue (now (items .exit)) r ≡ pushed places (queue (now (items .entry)) ring) x ⌝ }
 {

@@ -107,7 +107,7 @@ fn i64_at(input: &[u8], at: usize) -> i64
 }
 
 // The record that begins at an offset, all of whose body is there.
-pub fn record_at(input: &[u8], at: usize) -> Record
+fn record_at(input: &[u8], at: usize) -> Record
     requires { ⌜ at + 1 + bodyLength (kindAt (now input) at) ≤ length (now input) ⌝ }
     ensures { λ r. ⌜ r ≡ recordIn (now (input .entry)) at ⌝ }
 {
@@ -231,7 +231,7 @@ fn plain_refusal(standing: Standing, turn: bool, count: bool) -> u8
 }
 
 // The number that refuses a record, 0 for none: what its turn, its node, its bound or value and its count say.
-pub fn refusal(standing: Standing, entry: Record) -> u8
+fn refusal(standing: Standing, entry: Record) -> u8
     ensures { λ r. ⌜ r ≡ refusedBy standing entry ⌝ }
 {
     let past = standing.contradicted;

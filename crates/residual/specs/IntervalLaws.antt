@@ -8,9 +8,9 @@ use lib.Signed.{leZ, ltZ}
 use borrow.Author.Tests.{ltb-true, leb-true}
 use mir.Syntax.{w64}
 use mir.Val.{SFits}
-use Rattle.lists.specs.TestLaws.{and-left, and-right}
-use Rattle.signed.specs.SignedLaws.{leZ-trans, nlt-leZ, ltZ-weaken, nle-ltZ, leZ-ltZ, max-right}
-use Rattle.signed.specs.Signed.{natural}
+use Rattle.base.specs.TestLaws.{and-left, and-right}
+use Rattle.base.specs.SignedLaws.{leZ-trans, nlt-leZ, ltZ-weaken, nle-ltZ, leZ-ltZ, max-right}
+use Rattle.base.specs.Signed.{natural}
 use Rattle.state.specs.declared.Upper.{Upper}
 use Rattle.state.specs.declared.Upper.the-variants.{Open, Under}
 use Rattle.state.specs.declared.State.{State}

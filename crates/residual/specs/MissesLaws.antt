@@ -8,7 +8,7 @@ use mathlib.Core.Logic.{_↔_, _≢_}
 use lib.Dec.{ltb}
 use native.Mathlib.Decide.{decLt}
 use borrow.Author.Tests.{lt-ltb, le-ltb, ltb-true, ltb-false, eq-eqb, ne-eqb}
-use Rattle.lists.specs.TestLaws.{unequal}
+use Rattle.base.specs.TestLaws.{unequal}
 use Rattle.residual.specs.Gcd.{distance, misses, branchMisses}
 
 pub clash : true ≡ false → ⊥

@@ -5,7 +5,7 @@ use mathlib.Core.List.{List, [], _∷_, reverse}
 use lib.ListN.{length, getD}
 use lib.Dec.{eqb, leb, ltb}
 use lib.Signed.{ltZ}
-pub use Rattle.lists.specs.Laid.{over}
+pub use Rattle.base.specs.Laid.{over}
 use Rattle.numeric.specs.Threshold.{Term}
 use Rattle.state.specs.declared.Step.{Step}
 use Rattle.state.specs.declared.Step.the-variants.{Unchanged, Contradiction}

@@ -12,9 +12,9 @@ use lib.Dec.{eqb, leb}
 use lib.IntN.{ℤ, pos}
 use lib.Signed.{leZ, ltZ}
 use borrow.Author.Tests.{ne-eqb, le-leb}
-use Rattle.lists.specs.TestLaws.{and-right}
-use Rattle.signed.specs.SignedLaws.{leZ-trans, ltZ-nle, max-least}
-use Rattle.signed.specs.Signed.{natural}
+use Rattle.base.specs.TestLaws.{and-right}
+use Rattle.base.specs.SignedLaws.{leZ-trans, ltZ-nle, max-least}
+use Rattle.base.specs.Signed.{natural}
 use Rattle.numeric.specs.Threshold.{Term}
 use Rattle.state.specs.declared.Step.the-variants.{Unchanged, Contradiction}
 use Rattle.state.specs.declared.Upper.{Upper}

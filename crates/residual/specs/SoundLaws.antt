@@ -12,9 +12,9 @@ use lib.ListN.{length, getD, length-reverse}
 use lib.IntN.{pos}
 use lib.Signed.{leZ, ltZ}
 use borrow.Author.Tests.{le-leb}
-use Rattle.lists.specs.TestLaws.{and-right}
+use Rattle.base.specs.TestLaws.{and-right}
 use Rattle.state.specs.StepLaws.{joined-fine}
-use Rattle.signed.specs.Signed.{natural}
+use Rattle.base.specs.Signed.{natural}
 use Rattle.numeric.specs.Threshold.{Term}
 use Rattle.state.specs.declared.Step.{Step}
 use Rattle.state.specs.declared.Step.the-variants.{Unchanged, Changed, Contradiction}

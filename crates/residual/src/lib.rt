@@ -7,7 +7,7 @@ ghost use lib.ListN.{length};
 ghost use lib.Dec.{eqb, leb};
 ghost use Rattle.numeric.specs.Threshold.{term};
 ghost use Rattle.numeric.specs.Slices.{Below, Shape, terms};
-ghost use Rattle.signed.specs.Signed.{natural as naturalOf};
+ghost use Rattle.base.specs.Signed.{natural as naturalOf};
 ghost use Rattle.state.specs.State.{limit};
 ghost use Rattle.state.specs.Step.{joined};
 ghost use Rattle.words.specs.Mask.{inEither};
@@ -53,7 +53,7 @@ pub struct Interval {
 }
 
 // The greatest common divisor, 0 standing for no number. The right number falls at each turn.
-pub fn gcd(left: u64, right: u64) -> u64
+fn gcd(left: u64, right: u64) -> u64
     ensures { λ r. ⌜ r ≡ gcd left right ⌝ }
 {
     if left == 0 {
@@ -81,7 +81,7 @@ pub fn gcd(left: u64, right: u64) -> u64
 
 // No sum base, base + divisor, base + 2 divisor .. lies from lower to upper. The distance to the next one is held against
 // the width, so that nothing is added to an extreme bound.
-pub fn misses(base: u64, lower: u64, upper: u64, divisor: u64) -> bool
+fn misses(base: u64, lower: u64, upper: u64, divisor: u64) -> bool
     requires { ⌜ (base ≤ lower) × (lower ≤ upper) ⌝ }
     ensures { λ r. ⌜ r ≡ misses base lower upper divisor ⌝ }
 {
@@ -99,7 +99,7 @@ pub fn misses(base: u64, lower: u64, upper: u64, divisor: u64) -> bool
 }
 
 // The same of the sums from base to maximum alone; where none of these is from lower to upper there is nothing to divide.
-pub fn branch_misses(base: u64, maximum: u64, lower: u64, upper: u64, divisor: u64) -> bool
+fn branch_misses(base: u64, maximum: u64, lower: u64, upper: u64, divisor: u64) -> bool
     ensures { λ r. ⌜ r ≡ branchMisses base maximum lower upper divisor ⌝ }
 {
     let from = larger(base, lower);
@@ -139,7 +139,7 @@ fn reduce(skip: bool, divisor: u64, weight: u64) -> u64
 }
 
 // The gcd of the undecided weights among the last 0, 1, 2 .. terms, from the start of the buffer on.
-pub fn prepare_suffix(
+fn prepare_suffix(
     conditions: &[u16],
     weights: &[u64],
     sure: &[u64],
@@ -178,20 +178,20 @@ fn limit_of(upper: Upper) -> u64
 {
     match upper {
         Upper::Open => 0,
-        Upper::Under(bound) => signed::natural(bound),
+        Upper::Under(bound) => base::natural(bound),
     }
 }
 
 // The interval of a state's figures.
-pub fn interval_of(state: State) -> Interval
+fn interval_of(state: State) -> Interval
     ensures { λ r. ⌜ r ≡ interval state ⌝ }
 {
     let upper = state.upper;
     let limit = limit_of(upper);
-    let lower = signed::natural(state.lower);
+    let lower = base::natural(state.lower);
     Interval {
-        known: signed::natural(state.known),
-        possible: signed::natural(state.possible),
+        known: base::natural(state.known),
+        possible: base::natural(state.possible),
         lower: lower,
         upper: minus(limit, 1),
         width: minus(limit, lower),
@@ -261,7 +261,7 @@ fn check_from(conditions: &[u16], weights: &[u64], i: Interval, sure: &[u64], ne
 }
 
 // What divisibility shows of the whole row: that no sum is allowed, or nothing.
-pub fn threshold_residual_check(
+fn threshold_residual_check(
     conditions: &[u16],
     weights: &[u64],
     state: State,

@@ -11,7 +11,7 @@ use lib.IntN.{ℤ, pos, _+ℤ_}
 use lib.Dec.{eqb}
 use lib.ListN.{length}
 use borrow.Author.Tests.{eqb-true, eq-eqb, ne-eqb}
-use Rattle.lists.specs.All.{All}
+use Rattle.base.specs.All.{All}
 use Rattle.memory.specs.Limits.{listTerms}
 use Rattle.memory.specs.Ranges.{rawLimit, weightLimit}
 use Rattle.numeric.specs.Threshold.{Term, term}

@@ -8,7 +8,7 @@ use lib.ListN.{length, getD, drop, length-drop, drop-of-length-le}
 use lib.Seq.{drop-cons, drop-drop}
 use lib.Dec.{eqb, leb}
 use borrow.Author.Tests.{eqb-true, eqb-false, le-leb}
-use Rattle.lists.specs.TestLaws.{or-right}
+use Rattle.base.specs.TestLaws.{or-right}
 use Rattle.records.specs.declared.Record.{Record}
 use Rattle.records.specs.declared.Next.{Next}
 use Rattle.records.specs.declared.Next.the-variants.{Refused, Taken}
@@ -18,7 +18,7 @@ use Rattle.records.specs.declared.Record.the-variants.{Header, Opens, Adds, Are
 use Rattle.records.specs.Checks.{unknownKind, cutBody}
 use Rattle.files.specs.File.{File, standing, refusal, apply, Outcome, outcome, recordAt, refusalAt, readFrom}
 use Rattle.files.specs.FileLaws.{read-enough, checked}
-use Rattle.ends.specs.FilesLaws.{refused-by, both}
+use Rattle.theorem_ends.specs.FilesLaws.{refused-by, both}
 use Rattle.serve.specs.Serve.{readAt}
 
 -- What is left of an outcome, its records not told.

@@ -7,7 +7,7 @@ use lib.ListN.{length}
 use lib.IntN.{ℤ}
 use Rattle.memory.specs.Ranges.{totalLimit}
 use Rattle.memory.specs.Buffers.{Built, Kept}
-use Rattle.lists.specs.Laid.{over}
+use Rattle.base.specs.Laid.{over}
 use Rattle.state.specs.declared.Step.{Step}
 use Rattle.queues.specs.declared.Rings.{Rings}
 use Rattle.queues.specs.Waiting.{Waits, Flags}
@@ -15,8 +15,8 @@ use Rattle.between.specs.Between.{Index, Live, Did, did}
 use Rattle.between.specs.Held.{Shaped, Holds}
 use Rattle.between.specs.Ready.{Totals}
 use Rattle.between.specs.Numbers.{Tidy}
-use Rattle.regions.specs.Drain as Drain
-use Rattle.regions.specs.Drain.{indexOf}
+use Rattle.files.specs.Drain as Drain
+use Rattle.files.specs.Drain.{indexOf}
 use Rattle.records.specs.declared.Record.the-variants.{Seal}
 use Rattle.records.specs.declared.Standing.{Standing}
 use Rattle.records.specs.declared.Next.the-variants.{Taken}
@@ -24,9 +24,9 @@ use Rattle.records.specs.Next.{nextAt}
 use Rattle.files.specs.File.{File, standing, refusal, told, sealedFile, act, apply, outcome}
 use Rattle.settle.specs.Serves.{Fresh}
 use Rattle.sift.specs.Tries.{Scratch}
-use Rattle.holds.specs.ServedLaws.{Served}
-use Rattle.holds.specs.LentLaws.{served-built}
-use Rattle.holds.specs.FilesLaws.{serving-seal}
+use Rattle.theorem_holds.specs.ServedLaws.{Served}
+use Rattle.theorem_holds.specs.LentLaws.{served-built}
+use Rattle.theorem_holds.specs.FilesLaws.{serving-seal}
 use Rattle.serve.specs.declared.Reached.{Reached}
 use Rattle.serve.specs.Serve.{Lent, liveIn, answersOf, Lies, Seals, noRings, stood, Reaches, readAt}
 use Rattle.serve.specs.ReadLaws.{seal-goes}

@@ -8,8 +8,8 @@ use lib.Dec.{eqb}
 use lib.IntN.{ℤ}
 use Rattle.memory.specs.Ranges.{rawLimit}
 use Rattle.memory.specs.Buffers.{Built, Kept}
-use Rattle.lists.specs.Columns.{column}
-use Rattle.lists.specs.Laid.{over, pairs, quads}
+use Rattle.base.specs.Columns.{column}
+use Rattle.base.specs.Laid.{over, pairs, quads}
 use Rattle.numeric.specs.Threshold.{Job}
 use Rattle.state.specs.declared.Step.{Step}
 use Rattle.state.specs.declared.Step.the-variants.{Unchanged}
@@ -18,21 +18,20 @@ use Rattle.queues.specs.declared.Rings.{Rings}
 use Rattle.queues.specs.Queue.{ring}
 use Rattle.between.specs.Between.{Live, Did}
 use Rattle.between.specs.Numbers.{liveOf, Tidy}
-use Rattle.regions.specs.Drain as Drain
-use Rattle.regions.specs.Drain.{indexOf}
-use Rattle.regions.specs.Sift as Sift
-use Rattle.regions.specs.Sift.{Sifted}
+use Rattle.files.specs.Drain as Drain
+use Rattle.files.specs.Drain.{indexOf}
+use Rattle.files.specs.Sift as Sift
+use Rattle.files.specs.Sift.{Sifted}
 use Rattle.records.specs.declared.Record.{Record}
 use Rattle.records.specs.declared.Record.the-variants.{Header, Opens, Adds, Areas, Seal, Mark, Settle, Sift, Unknown}
 use Rattle.records.specs.declared.Standing.{Standing}
 use Rattle.prepare.specs.JobBuffers.{builtOf}
 use Rattle.files.specs.File.{File, Answer, settled, sifted, standing, refusal, Outcome, readFrom}
 use Rattle.files.specs.Contents.{answerNumber, answerVisits}
-use Rattle.ends.specs.Good.{Fits, Light, Good}
+use Rattle.theorem_ends.specs.Good.{Fits, Light, Good}
 use Rattle.settle.specs.Serves.{Fresh}
 use Rattle.sift.specs.Tries.{Scratch}
-use Rattle.holds.specs.Lent.{boundsOf, lentOf, Lendable}
-use Rattle.holds.specs.FilesLaws.{Serving}
+use Rattle.theorem_holds.specs.Lent.{boundsOf, lentOf, Lendable, Serving}
 use Rattle.serve.specs.declared.Reached.{Reached}
 
 -- THE BUFFERS OF A FILE
@@ -46,7 +45,7 @@ pub record Lent (bs : List ℤ) (b : Built) (f : File) : Type 0 where
   pub lendable : Lendable from
   pub built : b ≡ lentOf job (builtOf job from)
   pub bounds : bs ≡ boundsOf job
-  pub serving : Serving job fits light from lendable f
+  pub serving : Serving job from f
 
 abbrev pub liveIn : Kept → Rings → Live
 liveIn k rings = liveOf (k .figures) (k .cursors) (k .sure) (k .never) (k .node-queue) (k .row-queues) rings

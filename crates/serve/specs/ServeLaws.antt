@@ -11,7 +11,7 @@ use lib.IntN.{ℤ}
 use borrow.Author.Tests.{leb-false}
 use Rattle.memory.specs.Limits.{maxNodes}
 use Rattle.memory.specs.Buffers.{Built, Kept}
-use Rattle.lists.specs.Laid.{over, pairs}
+use Rattle.base.specs.Laid.{over, pairs}
 use Rattle.numeric.specs.Area.{weightOfArea}
 use Rattle.numeric.specs.Threshold.{term, Job}
 use Rattle.state.specs.declared.Step.{Step}
@@ -25,11 +25,11 @@ use Rattle.possible_sums.specs.Search.{search, searchVisits}
 use Rattle.possible_sums.specs.SearchLaws.{search-visits}
 use Rattle.between.specs.Between.{Index, Live, live, Did, stateAt}
 use Rattle.between.specs.Numbers.{Tidy}
-use Rattle.regions.specs.Drain as Drain
-use Rattle.regions.specs.Drain.{indexOf}
-use Rattle.regions.specs.Sift as Sift
-use Rattle.regions.specs.Sift.{Sifted, tryRow}
-use Rattle.regions.specs.SiftLaws.{tryTerms, tryResidual, trySearch, try-ends, sift-keeps}
+use Rattle.files.specs.Drain as Drain
+use Rattle.files.specs.Drain.{indexOf}
+use Rattle.files.specs.Sift as Sift
+use Rattle.files.specs.Sift.{Sifted, tryRow}
+use Rattle.files.specs.SiftLaws.{tryTerms, tryResidual, trySearch, try-ends, sift-keeps}
 use Rattle.records.specs.declared.Record.{Record}
 use Rattle.records.specs.declared.Record.the-variants.{Header, Opens, Adds, Areas, Seal, Mark, Settle, Sift, Unknown}
 use Rattle.records.specs.declared.Standing.{Standing}
@@ -40,14 +40,14 @@ use Rattle.records.specs.Next.{kindAt, nextAt}
 use Rattle.records.specs.Facts.{adds}
 use Rattle.files.specs.File.{File, Answer, sifted, standing, refusal, told, markedFile, settledFile, siftedFile, act, apply, Outcome, outcome}
 use Rattle.files.specs.Contents.{answerNumber, answerVisits}
-use Rattle.ends.specs.FilesLaws.{both, taken, building-turn, change-turn}
-use Rattle.ends.specs.SizeLaws.{row-terms-few}
+use Rattle.theorem_ends.specs.FilesLaws.{both, taken, building-turn, change-turn}
+use Rattle.theorem_ends.specs.SizeLaws.{row-terms-few}
 use Rattle.settle.specs.Serves.{Serves, Going}
 use Rattle.sift.specs.Tries.{Short}
 use Rattle.sift.specs.SiftingLaws.{scratch-next}
-use Rattle.holds.specs.ServedLaws.{Served}
-use Rattle.holds.specs.LentLaws.{served-built}
-use Rattle.holds.specs.FilesLaws.{serving-apply}
+use Rattle.theorem_holds.specs.ServedLaws.{Served}
+use Rattle.theorem_holds.specs.LentLaws.{served-built}
+use Rattle.theorem_holds.specs.FilesLaws.{serving-apply}
 use Rattle.serve.specs.declared.Reached.{Reached}
 use Rattle.serve.specs.Serve.{Lent, liveIn, answersOf, Lies, Asks, plain, came, answered, Takes, stood, Reaches, readAt}
 use Rattle.serve.specs.ReadLaws.{ended, refused-next, taken-next, known-next, read-goes, read-stops, read-none}

@@ -4,7 +4,7 @@ use native.Mathlib.Omega.{arith}
 use mathlib.Core.Path.{_≡_, refl, ap₂}
 use mathlib.Core.List.{List, [], _∷_}
 use lib.ListN.{length, getD}
-use Rattle.lists.specs.Laid.{quads}
+use Rattle.base.specs.Laid.{quads}
 use Rattle.serve.specs.Serve.{fourfold}
 
 four-list : (v : List ℕ) → length v ≡ 4 → (getD v 0 0 ∷ getD v 1 0 ∷ getD v 2 0 ∷ getD v 3 0 ∷ []) ≡ v

@@ -6,9 +6,9 @@ ghost use mathlib.Core.List.{List, [], _∷_, _++_};
 ghost use Prim.Native.Nat.{ℕ, _+_, _<_, _≤_};
 ghost use lib.ListN.{length, set};
 ghost use Rattle.memory.specs.Buffers.{heldRows, built, kept, longestInput};
-ghost use Rattle.lists.specs.Laid.{over};
+ghost use Rattle.base.specs.Laid.{over};
 ghost use Rattle.between.specs.Numbers.{liveOf, Tidy};
-ghost use Rattle.regions.specs.Sift.{sifted};
+ghost use Rattle.files.specs.Sift.{sifted};
 ghost use Rattle.files.specs.File.{File, Answer, refusal, outcome, apply, standing as standingOf};
 ghost use Rattle.records.specs.declared.Record.the-variants.{Seal};
 ghost use Rattle.records.specs.declared.Next.the-variants.{Taken};
@@ -335,7 +335,7 @@ fn serve_record(
 }
 
 // Records up to the end of the input or the first that is refused.
-pub fn serve_records(
+fn serve_records(
     input: &[u8],
     row_conditions: &[u16],
     row_weights: &[u64],

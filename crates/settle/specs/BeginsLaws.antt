@@ -22,10 +22,10 @@ use Rattle.between.specs.Ready.{Ready, Runnable, Totals}
 use Rattle.between.specs.ReadyLaws.{ready-states}
 use Rattle.between.specs.FirstLaws.{ready-first}
 use Rattle.between.specs.KeptLaws.{kept-run}
-use Rattle.regions.specs.Drain.{withMarks, mark, seal}
-use Rattle.regions.specs.DrainLaws.{seal-keeps}
-use Rattle.ends.specs.BuiltLaws.{seal-stays}
-use Rattle.follows.specs.WaitingLaws.{queued-decide}
+use Rattle.files.specs.Drain.{withMarks, mark, seal}
+use Rattle.files.specs.DrainLaws.{seal-keeps}
+use Rattle.theorem_ends.specs.BuiltLaws.{seal-stays}
+use Rattle.theorem_follows.specs.WaitingLaws.{queued-decide}
 use Rattle.settle.specs.Serves.{Serves, owed, Tracked, Going, Fresh}
 use Rattle.settle.specs.KeepingLaws.{low-decide, tracked-run}
 

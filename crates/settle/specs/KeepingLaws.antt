@@ -9,7 +9,7 @@ use mathlib.Core.List.{List}
 use lib.ListN.{length, getD, set}
 use lib.Seq.{getD-set-same, getD-set-other}
 use lib.IntN.{ℤ}
-use Rattle.lists.specs.All.{All}
+use Rattle.base.specs.All.{All}
 use Rattle.memory.specs.Buffers.{HeldRows}
 use Rattle.state.specs.declared.State.{State}
 use Rattle.queues.specs.Queue.{Rows, oldest, queueRow, nextRow}
@@ -27,11 +27,11 @@ use Rattle.between.specs.GuardLaws.{guard-held}
 use Rattle.between.specs.WalkLaws.{Moves, all-member, keep-guard, keep-condition, keep-prefixes}
 use Rattle.between.specs.KeptLaws.{Light}
 use Rattle.between.specs.KeptHeldLaws.{links-inside}
-use Rattle.follows.specs.WaitingLaws.{queued-decide}
+use Rattle.theorem_follows.specs.WaitingLaws.{queued-decide}
 use Rattle.between.specs.KeepsLaws.{run-named}
 use Rattle.between.specs.Ready.{Names}
-use Rattle.follows.specs.KeepsLaws.{run-keeps}
-use Rattle.follows.specs.Ordered.{Ordered}
+use Rattle.theorem_follows.specs.KeepsLaws.{run-keeps}
+use Rattle.theorem_follows.specs.Ordered.{Ordered}
 use Rattle.settle.specs.Serves.{Among, Low, Tracked}
 
 -- Of rows that the buffers hold.

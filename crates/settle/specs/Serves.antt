@@ -12,9 +12,9 @@ use Rattle.thresholds.specs.Rows.{noRow}
 use Rattle.between.specs.Between.{Index, Live}
 use Rattle.between.specs.Held.{startBy, endBy, Shaped, EdgesShaped, LinksShaped, GuardsShaped, Holds, HoldsEdges, HoldsLinks, HoldsGuards}
 use Rattle.between.specs.Ready.{Runnable, Names}
-use Rattle.ends.specs.Good.{Indexed, Sound}
+use Rattle.theorem_ends.specs.Good.{Indexed, Sound}
 use Rattle.queues.specs.Marks.{Marks, isDecided}
-use Rattle.follows.specs.Ordered.{Ordered}
+use Rattle.theorem_follows.specs.Ordered.{Ordered}
 use Rattle.queues.specs.Waiting.{Queued}
 
 -- What the seal built, with the bounds of the thresholds, holds the index, whose rows are such as a job gives. Each buffer is lent cut to what is filled of it: `nodes` has an entry for

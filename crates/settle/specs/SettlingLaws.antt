@@ -14,10 +14,10 @@ use Rattle.state.specs.declared.Step.{Step}
 use Rattle.state.specs.declared.Step.the-variants.{Unchanged}
 use Rattle.state.specs.Step.{joined, contradicts}
 use Rattle.between.specs.Between.{Index, Live, Did, did}
-use Rattle.regions.specs.Drain.{turn, atRest, drain, turns, settle}
-use Rattle.regions.specs.DrainLaws.{drain-goes, settle-keeps}
-use Rattle.ends.specs.TurnsLaws.{left, left-most}
-use Rattle.ends.specs.SettlesLaws.{fall-turn}
+use Rattle.files.specs.Drain.{turn, atRest, drain, turns, settle}
+use Rattle.files.specs.DrainLaws.{drain-goes, settle-keeps}
+use Rattle.theorem_ends.specs.TurnsLaws.{left, left-most}
+use Rattle.theorem_ends.specs.SettlesLaws.{fall-turn}
 use Rattle.settle.specs.Serves.{Serves, Going}
 use Rattle.settle.specs.TurnLaws.{going-turn}
 

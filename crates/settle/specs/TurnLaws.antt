@@ -10,12 +10,12 @@ use lib.Dec.{eqb}
 use lib.ListN.{length, getD, List·getD-eq-default}
 use lib.Pow.{pow-pos}
 use lib.IntN.{ℤ}
-use Rattle.lists.specs.TestLaws.{clash}
+use Rattle.base.specs.TestLaws.{clash}
 use Rattle.memory.specs.Limits.{maxNodes}
 use Rattle.memory.specs.Ranges.{drainLimit, roomLimit, figureLimit}
 use Rattle.memory.specs.Buffers.{HeldRows, Built}
-use Rattle.lists.specs.Columns.{column}
-use Rattle.lists.specs.ColumnsLaws.{length-column}
+use Rattle.base.specs.Columns.{column}
+use Rattle.base.specs.ColumnsLaws.{length-column}
 use Rattle.state.specs.declared.Step.{Step}
 use Rattle.state.specs.Step.{joined, contradicts}
 use Rattle.words.specs.Mask.{bit, digit}
@@ -34,11 +34,11 @@ use Rattle.between.specs.WalkLaws.{Moves}
 use Rattle.between.specs.Ready.{Ready, Runnable}
 use Rattle.between.specs.KeptLaws.{runnable-more, runnable-by}
 use Rattle.between.specs.KeptHeldLaws.{edges-light, edges-many, kept-node, kept-links, kept-guard-of}
-use Rattle.regions.specs.Drain.{takeNode, takeRow, turn, atRest}
-use Rattle.regions.specs.DrainLaws.{untaken, unrowed, nodeTold, nodeDrained, node-ends, row-ends, turn-ends}
-use Rattle.ends.specs.SettlesLaws.{fall-turn}
-use Rattle.follows.specs.StandsLaws.{also, also-other, also-this}
-use Rattle.follows.specs.WaitingLaws.{first-decided, first-fresh, queued-taken}
+use Rattle.files.specs.Drain.{takeNode, takeRow, turn, atRest}
+use Rattle.files.specs.DrainLaws.{untaken, unrowed, nodeTold, nodeDrained, node-ends, row-ends, turn-ends}
+use Rattle.theorem_ends.specs.SettlesLaws.{fall-turn}
+use Rattle.theorem_follows.specs.StandsLaws.{also, also-other, also-this}
+use Rattle.theorem_follows.specs.WaitingLaws.{first-decided, first-fresh, queued-taken}
 use Rattle.settle.specs.Serves.{Serves, Among, owed, Tracked, Within, Going}
 use Rattle.settle.specs.KeepingLaws.{Inside, keep-guard-of, keep-edges, keep-links, among-next, oldest-among, tracked-moves}
 

@@ -17,7 +17,7 @@ ghost use Rattle.between.specs.Between.{Index, did};
 ghost use Rattle.between.specs.Numbers.{statesOf, Tidy, liveOf};
 ghost use Rattle.between.specs.Held.{Shaped, LinksShaped, Holds, HoldsLinks};
 ghost use Rattle.between.specs.Ready.{Runnable, Totals};
-ghost use Rattle.regions.specs.Drain.{mark as marked, seal as seals, takeNode, takeRow, turn as turns, settle as settles};
+ghost use Rattle.files.specs.Drain.{mark as marked, seal as seals, takeNode, takeRow, turn as turns, settle as settles};
 ghost use Rattle.settle.specs.Serves.{Serves, Among, Going};
 use between::Did;
 use queues::Ring;

@@ -8,7 +8,7 @@ use mathlib.Core.Bool.{Bool, true, false, cond}
 use mathlib.Core.List.{List}
 use lib.ListN.{length}
 use lib.IntN.{ℤ}
-use Rattle.lists.specs.TestLaws.{clash}
+use Rattle.base.specs.TestLaws.{clash}
 use Rattle.memory.specs.Ranges.{figureLimit}
 use Rattle.memory.specs.Buffers.{Built}
 use Rattle.state.specs.declared.Step.{Step}
@@ -18,11 +18,11 @@ use Rattle.queues.specs.Queue.{isEmpty}
 use Rattle.between.specs.Between.{Index, Live, Did}
 use Rattle.between.specs.LoopLaws.{joined-assoc}
 use Rattle.between.specs.KeptLaws.{runnable-more}
-use Rattle.regions.specs.Drain.{turns, settle}
-use Rattle.regions.specs.Sift.{Sifted, sifted, tryRow, siftFrom, sift}
-use Rattle.regions.specs.SiftLaws.{tries, sift-tries, sift-keeps}
-use Rattle.ends.specs.TurnsLaws.{left, left-most}
-use Rattle.ends.specs.SettlesLaws.{settle-stays, fall-try}
+use Rattle.files.specs.Drain.{turns, settle}
+use Rattle.files.specs.Sift.{Sifted, sifted, tryRow, siftFrom, sift}
+use Rattle.files.specs.SiftLaws.{tries, sift-tries, sift-keeps}
+use Rattle.theorem_ends.specs.TurnsLaws.{left, left-most}
+use Rattle.theorem_ends.specs.SettlesLaws.{settle-stays, fall-try}
 use Rattle.settle.specs.Serves.{Serves, Going}
 use Rattle.settle.specs.SettlingLaws.{going-settle}
 use Rattle.sift.specs.Tries.{Scratch, Short, Tries, Round, round, once}

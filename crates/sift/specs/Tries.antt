@@ -18,8 +18,8 @@ use Rattle.possible_sums.specs.Search.{search, searchStep, searchVisits}
 use Rattle.between.specs.Between.{Index, Live}
 use Rattle.between.specs.Held.{startBy, endBy, Shaped}
 use Rattle.between.specs.Ready.{ReadyLive}
-use Rattle.regions.specs.Drain.{withMarks, settle}
-use Rattle.regions.specs.Sift.{Sifted, sifted, tryRow}
+use Rattle.files.specs.Drain.{withMarks, settle}
+use Rattle.files.specs.Sift.{Sifted, sifted, tryRow}
 use Rattle.settle.specs.Serves.{Among}
 
 -- The gcds of the longest row and one more have room, as do the words of a search, which are zero before and after.

@@ -28,12 +28,12 @@ use Rattle.possible_sums.specs.Search.{search, searchStep, searchVisits}
 use Rattle.between.specs.Between.{Index, Live, live, stateAt}
 use Rattle.between.specs.Held.{startBy, endBy, heldTerms}
 use Rattle.between.specs.KeepsLaws.{Small, member-all}
-use Rattle.regions.specs.Drain.{withMarks}
-use Rattle.regions.specs.Sift.{Sifted, sifted, tryRow}
-use Rattle.regions.specs.SiftLaws.{tryTerms, tryResidual, tryLive, try-row, try-leaves}
-use Rattle.ends.specs.KeepsLaws.{residual-named}
-use Rattle.ends.specs.SettlesLaws.{fall-try}
-use Rattle.follows.specs.WaitingLaws.{queued-decide}
+use Rattle.files.specs.Drain.{withMarks}
+use Rattle.files.specs.Sift.{Sifted, sifted, tryRow}
+use Rattle.files.specs.SiftLaws.{tryTerms, tryResidual, tryLive, try-row, try-leaves}
+use Rattle.theorem_ends.specs.KeepsLaws.{residual-named}
+use Rattle.theorem_ends.specs.SettlesLaws.{fall-try}
+use Rattle.theorem_follows.specs.WaitingLaws.{queued-decide}
 use Rattle.queues.specs.Waiting.{Queued}
 use Rattle.settle.specs.Serves.{Serves, Low, Within, Going}
 use Rattle.settle.specs.KeepingLaws.{among-next, oldest-among, low-decide}

@@ -1,7 +1,7 @@
 -- Laws of answers: what two joined ones say of their parts.
 use mathlib.Core.Path.{_≡_, refl}
 use mathlib.Core.Bool.{true, false}
-use Rattle.lists.specs.TestLaws.{clash}
+use Rattle.base.specs.TestLaws.{clash}
 use Rattle.state.specs.declared.Step.{Step}
 use Rattle.state.specs.declared.Step.the-variants.{Unchanged, Changed, Contradiction}
 use Rattle.state.specs.Step.{joined, contradicts}

@@ -1,7 +1,7 @@
 -- What lent row states show: the states that the rows of numbers hold.
 use mathlib.Core.List.{List}
 use lib.ListN.{take}
-use Rattle.lists.specs.Laid.{over}
+use Rattle.base.specs.Laid.{over}
 use Rattle.memory.specs.Limits.{maxThresholds}
 use Rattle.memory.specs.Buffers.{zeros}
 use Rattle.state.specs.declared.State.{State}

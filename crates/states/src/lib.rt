@@ -16,7 +16,7 @@ pub fn load(states: &[State], row: usize) -> State
     states[row]
 }
 
-pub fn store(states: &mut [State], row: usize, state: State)
+fn store(states: &mut [State], row: usize, state: State)
     requires { ⌜ row < length (now states) ⌝ }
     ensures { λ _. ⌜ now (states .exit) ≡ set (now (states .entry)) row state ⌝ }
 {

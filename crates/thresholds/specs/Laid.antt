@@ -4,7 +4,7 @@ use mathlib.Core.Bool.{Bool, true, false}
 use mathlib.Core.List.{List, [], _∷_, map}
 use lib.Dec.{eqb}
 use lib.IntN.{ℤ}
-use Rattle.lists.specs.Laid.{joinAll, ends, numbers}
+use Rattle.base.specs.Laid.{joinAll, ends, numbers}
 use Rattle.numeric.specs.Threshold.{Term, Threshold, Job}
 use Rattle.thresholds.specs.Rows.{Row, Guard, Edge, edgesOf, rowNumber}
 

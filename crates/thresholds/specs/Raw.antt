@@ -5,8 +5,8 @@ use mathlib.Core.Bool.{true, false, cond}
 use mathlib.Core.List.{List, [], _∷_}
 use lib.ListN.{length, getD}
 use lib.Dec.{ltb}
-use Rattle.lists.specs.Parts.{endBy, startBy}
-pub use Rattle.lists.specs.Parts.{stretch}
+use Rattle.base.specs.Parts.{endBy, startBy}
+pub use Rattle.base.specs.Parts.{stretch}
 use Rattle.memory.specs.Limits.{maxThresholds, listTerms}
 use Rattle.memory.specs.Ranges.{rawLimit}
 use Rattle.memory.specs.Buffers.{RawLists}

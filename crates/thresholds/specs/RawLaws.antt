@@ -10,8 +10,8 @@ use lib.ListN.{length, drop, getD, drop-of-length-le, length-take, length-drop}
 use lib.Seq.{drop-cons}
 use lib.Dec.{eqb, ltb}
 use borrow.Author.Tests.{eqb-true, eq-eqb, ne-eqb, lt-ltb, le-ltb, ltb-false}
-use Rattle.lists.specs.TestLaws.{and-left, and-right, unequal}
-use Rattle.lists.specs.Parts.{endBy, startBy}
+use Rattle.base.specs.TestLaws.{and-left, and-right, unequal}
+use Rattle.base.specs.Parts.{endBy, startBy}
 use Rattle.numeric.specs.Threshold.{Term, term}
 use Rattle.numeric.specs.Slices.{terms}
 use Rattle.row.specs.Terms.{sameTerms, total}

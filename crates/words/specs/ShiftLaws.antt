@@ -7,7 +7,7 @@ use native.Mathlib.Nat.{not-suc-le-zero}
 use native.Mathlib.Omega.{arith}
 use native.Nat.{ℕᴺ-discrete as decEq}
 use lib.ListN.{length, List·getD-eq-default}
-use Rattle.lists.specs.TestLaws.{unequal}
+use Rattle.base.specs.TestLaws.{unequal}
 use Rattle.words.specs.Mask.{digit, digitAt}
 use Rattle.words.specs.DigitsLaws.{Words}
 use Rattle.words.specs.Shift.{Shifted, shifted, shiftWord, wordHits, shiftFrom, unionShifted}

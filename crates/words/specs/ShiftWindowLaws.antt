@@ -11,7 +11,7 @@ use lib.Dec.{eqb, ltb}
 use lib.Pow.{pow-mono, pow-pos, shr-le}
 use lib.ListN.{length, getD}
 use borrow.Author.Tests.{ne-eqb, eqb-false, ltb-true, not-true}
-use Rattle.lists.specs.TestLaws.{unequal}
+use Rattle.base.specs.TestLaws.{unequal}
 use Rattle.words.specs.Mask.{digit, digitAt}
 use Rattle.words.specs.DigitsLaws.{shr-digit, mod-digit, digit-high}
 use Rattle.words.specs.Shift.{before, upTo, inWindow, meets, spills, wordHits}

@@ -17,7 +17,7 @@ pub enum Ended {
 }
 
 // The number of 64-bit words that a mask over so many nodes takes.
-pub fn words(atoms: usize) -> usize
+fn words(atoms: usize) -> usize
     ensures { λ r. ⌜ r ≡ (atoms + 63) / 64 ⌝ }
 {
     if atoms % 64 == 0 {

@@ -1,6 +1,6 @@
 -- `between::start_by` meets its contract.
 use native.Mathlib.Omega.{arith}
-use Rattle.lists.specs.PartsLaws.{start-zero, start-before}
+use Rattle.base.specs.PartsLaws.{start-zero, start-before}
 use mathlib.Core.Path.{_∙_}
 use borrow.Author.Needs.{needs}
 use Rattle.between.proofs.start_by.Statement.{statement}

@@ -5,7 +5,7 @@ use mir.Syntax.{w64}
 use mir.Val.{SFits}
 use mir.Facts.{toZ-ofZ}
 use borrow.Author.Needs.{needs}
-use Rattle.signed.specs.SignedLaws.{natural-cast}
+use Rattle.base.specs.SignedLaws.{natural-cast}
 use Rattle.listing.specs.NumberLaws.{held, Below, below-zero}
 use Rattle.listing.proofs.magnitude.Statement.{statement}
 use Rattle.listing.proofs.magnitude.Tie as tie

@@ -1,7 +1,7 @@
 -- `plan::plan` meets its contract: its own buffers are of the listed lengths, and the input is bytes.
 use native.Mathlib.Omega.{arith}
 use borrow.Author.Needs.{needs}
-use Rattle.shown.specs.BytesLaws.{bytes-by}
+use Rattle.plan.specs.BytesLaws.{bytes-by}
 use Rattle.plan.specs.Ready.{Ready}
 use Rattle.plan.specs.PlanLaws.{fresh, fresh-long}
 use Rattle.plan.proofs.plan.Statement.{statement}

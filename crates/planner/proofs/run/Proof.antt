@@ -46,13 +46,13 @@ use denote.Triple.Spec.{Meets, tripleOf}
 use denote.Triple.Table.{entered, cited}
 use denote.Triple.Walked.{says, Stays, walkOf, Walks, ends-at, walked, walk-meets}
 use borrow.Author.Tests.{ltb-false, eqb-true, eqb-false}
-use Rattle.walks.specs.Pairs.{_▹_}
-use Rattle.walks.specs.ChainLaws.{chain, chain-out, chain-in}
-use Rattle.walks.specs.AgainLaws.{LentAgain, lends-at, back-at}
-use Rattle.walks.specs.LocalsLaws.{alloc-all, free-under}
-use Rattle.walks.specs.SaidLaws.{saids, goes-saids, gives-up, lets-go, two-go}
-use Rattle.walks.specs.SharedLaws.{shares-on}
-use Rattle.walks.specs.StepsLaws.{if-returns, big-lit, holds, fails}
+use Rattle.states.specs.Pairs.{_▹_}
+use Rattle.states.specs.ChainLaws.{chain, chain-out, chain-in}
+use Rattle.states.specs.AgainLaws.{LentAgain, lends-at, back-at}
+use Rattle.states.specs.LocalsLaws.{alloc-all, free-under}
+use Rattle.states.specs.SaidLaws.{saids, goes-saids, gives-up, lets-go, two-go}
+use Rattle.states.specs.SharedLaws.{shares-on}
+use Rattle.states.specs.StepsLaws.{if-returns, big-lit, holds, fails}
 use Rattle.state.specs.declared.State.{State}
 use Rattle.state.proofs.State as T
 use Rattle.memory.specs.Limits.{maxThresholds}

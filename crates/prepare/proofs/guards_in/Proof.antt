@@ -4,10 +4,10 @@ use native.Mathlib.Omega.{arith}
 use mathlib.Core.List.{List, _++_}
 use lib.ListN.{length, take, drop}
 use lib.Seq.{length-take-le}
-use Rattle.lists.specs.Laid.{ends}
-use Rattle.lists.specs.Deal.{grouped}
-use Rattle.lists.specs.Columns.{withColumn}
-use Rattle.lists.specs.TallyLaws.{mapped-long}
+use Rattle.base.specs.Laid.{ends}
+use Rattle.base.specs.Deal.{grouped}
+use Rattle.base.specs.Columns.{withColumn}
+use Rattle.base.specs.TallyLaws.{mapped-long}
 use Rattle.thresholds.specs.Guards.{boundItem, nodeItem, boundItems, nodeItems}
 use Rattle.prepare.specs.PreparePartsLaws.{grouped-part, cleared-part}
 use mathlib.Core.Path.{_∙_, sym, ap}

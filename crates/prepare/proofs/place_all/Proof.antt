@@ -3,7 +3,7 @@ use native.Mathlib.Omega.{arith}
 use Prim.Native.Nat.{_≤_}
 use lib.ListN.{length}
 use lib.Seq.{length-take-le}
-use Rattle.lists.specs.Laid.{joinAll}
+use Rattle.base.specs.Laid.{joinAll}
 use Rattle.row.specs.Keys.{conditionsOf, weightsOf}
 use Rattle.memory.specs.Buffers.{RawLists, rawLists}
 use Rattle.thresholds.specs.Placed.{termsTo}

@@ -4,7 +4,7 @@ use native.Mathlib.Omega.{arith}
 use mathlib.Core.List.{List, _++_}
 use lib.ListN.{length, drop, length-map}
 use lib.Seq.{length-take-le}
-use Rattle.lists.specs.Laid.{joinAll}
+use Rattle.base.specs.Laid.{joinAll}
 use Rattle.numeric.specs.Threshold.{Term}
 use Rattle.row.specs.Keys.{conditionsOf, weightsOf}
 use Rattle.memory.specs.Buffers.{rawLists}

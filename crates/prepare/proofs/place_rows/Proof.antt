@@ -2,7 +2,7 @@
 use Prim.Native.Nat.{_-_, _≤_}
 use native.Mathlib.Omega.{arith}
 use lib.ListN.{length}
-use Rattle.lists.specs.Laid.{over}
+use Rattle.base.specs.Laid.{over}
 use Rattle.memory.specs.Buffers.{RawLists, rawLists}
 use Rattle.thresholds.specs.Placed.{nodesTo}
 use Rattle.prepare.specs.Place.{Placing, rowEnds}

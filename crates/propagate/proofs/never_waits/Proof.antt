@@ -3,7 +3,7 @@ use mathlib.Core.Path.{_≡_, ap}
 use mathlib.Core.Bool.{not}
 use mir.Syntax.{w64}
 use mir.Val.{toZ, ofZ}
-use Rattle.signed.specs.SignedLaws.{ltZ-nle, nlt-leZ}
+use Rattle.base.specs.SignedLaws.{ltZ-nle, nlt-leZ}
 use Rattle.state.specs.State.{upperAtMost}
 use borrow.Author.Needs.{needs}
 use Rattle.propagate.proofs.never_waits.Statement.{statement}

@@ -6,7 +6,7 @@ use mir.Syntax.{w64}
 use mir.Val.{toZ, ofZ}
 use mir.Facts.{toZ-ofZ}
 use borrow.Author.Needs.{needs}
-use Rattle.signed.specs.SignedLaws.{sub-sfits}
+use Rattle.base.specs.SignedLaws.{sub-sfits}
 use Rattle.numeric.specs.Slices.{terms}
 use Rattle.queues.specs.Marks.{marks}
 use Rattle.propagate.specs.RowLaws.{signed}

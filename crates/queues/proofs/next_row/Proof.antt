@@ -1,6 +1,6 @@
 -- `queues::next_row` meets its contract. Assumes nothing.
 use native.Mathlib.Omega.{arith}
-use Rattle.lists.specs.ColumnsLaws.{length-column, column-at}
+use Rattle.base.specs.ColumnsLaws.{length-column, column-at}
 use Rattle.queues.specs.SlotLaws.{slots-next, next-beside}
 use borrow.Author.Needs.{needs}
 use Rattle.queues.proofs.next_row.Statement.{statement}

@@ -1,7 +1,7 @@
 -- `queues::queue_row` meets its contract. Assumes nothing.
 use mathlib.Core.Path.{refl}
 use native.Mathlib.Omega.{arith}
-use Rattle.lists.specs.ColumnsLaws.{length-column}
+use Rattle.base.specs.ColumnsLaws.{length-column}
 use Rattle.queues.specs.SlotLaws.{slots-waits, slots-new, new-beside}
 use borrow.Author.Needs.{needs}
 use Rattle.queues.proofs.queue_row.Statement.{statement}

@@ -1,6 +1,6 @@
 -- `records::term_comes` meets its contract: kind, body, then the number that would refuse it.
 use borrow.Author.Tests.{eqb-true}
-use Rattle.lists.specs.TestLaws.{unequal}
+use Rattle.base.specs.TestLaws.{unequal}
 use Rattle.records.specs.CheckLaws.{term-next}
 use borrow.Author.Needs.{needs}
 use Rattle.records.proofs.term_comes.Statement.{statement}

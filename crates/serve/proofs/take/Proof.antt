@@ -6,7 +6,7 @@ use denote.Enum.Declared.{tagOf}
 use Rattle.memory.specs.Buffers.{heldRows, Built, built}
 use Rattle.between.specs.Between.{Live, Did, did}
 use Rattle.between.specs.Numbers.{liveOf}
-use Rattle.regions.specs.Sift.{Sifted, sifted}
+use Rattle.files.specs.Sift.{Sifted, sifted}
 use Rattle.records.specs.declared.Record.{Record}
 use Rattle.records.proofs.Record.{the-type}
 use Rattle.records.specs.declared.Record.the-variants.{Mark, Settle, Sift}

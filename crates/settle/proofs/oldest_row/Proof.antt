@@ -1,7 +1,7 @@
 -- `settle::oldest_row` meets its contract.
 use mathlib.Core.List.{[]}
 use lib.ListN.{getD}
-use Rattle.lists.specs.ColumnsLaws.{column-at}
+use Rattle.base.specs.ColumnsLaws.{column-at}
 use mathlib.Core.Path.{_≡_, _∙_, sym}
 use borrow.Author.Needs.{needs}
 use Rattle.settle.proofs.oldest_row.Statement.{statement}

@@ -6,7 +6,7 @@ use Rattle.memory.specs.Buffers.{heldRows, Built, built}
 use Rattle.between.specs.Between.{Live, did}
 use Rattle.between.specs.NumbersLaws.{same-self}
 use Rattle.between.specs.Numbers.{liveOf, Tidy, Same}
-use Rattle.ends.specs.TurnsLaws.{left}
+use Rattle.theorem_ends.specs.TurnsLaws.{left}
 use Rattle.settle.specs.SettlingLaws.{Settling, settling-first, settling-next, settling-less, settling-stop, settling-end, row-waits}
 use mathlib.Core.Path.{_≡_, _∙_, sym}
 use borrow.Author.Needs.{needs}

@@ -7,8 +7,8 @@ use Rattle.memory.specs.Buffers.{heldRows, Built, built}
 use Rattle.between.specs.Between.{Live}
 use Rattle.between.specs.NumbersLaws.{same-self}
 use Rattle.between.specs.Numbers.{liveOf, Tidy, Same}
-use Rattle.ends.specs.TurnsLaws.{left}
-use Rattle.regions.specs.Sift.{sifted}
+use Rattle.theorem_ends.specs.TurnsLaws.{left}
+use Rattle.files.specs.Sift.{sifted}
 use Rattle.sift.specs.Tries.{Scratch, Round, round}
 use Rattle.sift.specs.SiftingLaws.{Sifting, sifting-first, sifting-next, sifting-less, sifting-stop, sifting-end, scratch-next}
 use mathlib.Core.Path.{_≡_, _∙_, refl, sym, ap}

@@ -9,8 +9,8 @@ use Rattle.queues.specs.Marks.{marks}
 use Rattle.between.specs.Between.{Live, live}
 use Rattle.between.specs.Numbers.{liveOf}
 use Rattle.between.specs.HeldLaws.{term-slices}
-use Rattle.regions.specs.Drain.{withMarks}
-use Rattle.regions.specs.Sift.{sifted}
+use Rattle.files.specs.Drain.{withMarks}
+use Rattle.files.specs.Sift.{sifted}
 use Rattle.settle.specs.TurnLaws.{slots-head, slots-oldest}
 use Rattle.sift.specs.TryLaws.{try-inside, try-state, try-figures, Cut, try-cut, try-is}
 use mathlib.Core.Path.{refl}

@@ -1,5 +1,5 @@
 -- `thresholds::copy_list` meets its contract. Assumes nothing.
-use Rattle.lists.specs.TallyLaws.{blend, blend-next, blend-all}
+use Rattle.base.specs.TallyLaws.{blend, blend-next, blend-all}
 use lib.ListN.{length-set, length, getD, set}
 use mathlib.Core.Path.{_≡_, refl, ap, _∙_}
 use mathlib.Core.List.{List}

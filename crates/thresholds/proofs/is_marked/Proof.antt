@@ -1,5 +1,5 @@
 -- `thresholds::is_marked` meets its contract. Assumes nothing.
-use Rattle.lists.specs.Parts.{endBy, startBy}
+use Rattle.base.specs.Parts.{endBy, startBy}
 use Rattle.thresholds.specs.RawLaws.{list-is}
 use Rattle.thresholds.specs.ChainLaws.{prints-differ}
 use Rattle.memory.specs.Buffers.{rawLists}

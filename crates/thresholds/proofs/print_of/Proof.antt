@@ -1,5 +1,5 @@
 -- `thresholds::print_of` meets its contract. Assumes nothing.
-use Rattle.lists.specs.Parts.{endBy, startBy}
+use Rattle.base.specs.Parts.{endBy, startBy}
 use Rattle.thresholds.specs.RawLaws.{list-is}
 use Rattle.memory.specs.Buffers.{rawLists}
 use Rattle.thresholds.specs.Raw.{fingerprint}

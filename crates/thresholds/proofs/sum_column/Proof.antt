@@ -1,8 +1,8 @@
 -- `thresholds::sum_column` meets its contract. Assumes nothing.
-use Rattle.lists.specs.TallyLaws.{blend, blend-next, blend-at, blend-all, begin-at, sum-next, sum-grows, sum-zero, length-begins}
-use Rattle.lists.specs.ColumnsLaws.{beside-self, beside-stored, beside-is, wide-stored, column-at, length-column, column-stored}
-use Rattle.lists.specs.Columns.{column, Wide, Beside, withColumn}
-use Rattle.lists.specs.Deal.{begins, sumTo}
+use Rattle.base.specs.TallyLaws.{blend, blend-next, blend-at, blend-all, begin-at, sum-next, sum-grows, sum-zero, length-begins}
+use Rattle.base.specs.ColumnsLaws.{beside-self, beside-stored, beside-is, wide-stored, column-at, length-column, column-stored}
+use Rattle.base.specs.Columns.{column, Wide, Beside, withColumn}
+use Rattle.base.specs.Deal.{begins, sumTo}
 use mathlib.Core.Path.{_≡_, refl, sym, ap, ap₂, _∙_}
 use mathlib.Core.List.{List, []}
 use Prim.Native.Nat.{ℕ, _+_, _-_, _<_, _≤_}

@@ -13,8 +13,8 @@ use borrow.Author.Needs.{needs}
 use borrow.Author.Tests.{not-true, not-false}
 use Rattle.numeric.specs.Slices.{terms}
 use Rattle.numeric.specs.TermsLaws.{length-terms}
-use Rattle.signed.specs.SignedLaws.{leZ-nlt, nle-ltZ}
-use Rattle.signed.specs.Signed.{natural}
+use Rattle.base.specs.SignedLaws.{leZ-nlt, nle-ltZ}
+use Rattle.base.specs.Signed.{natural}
 use Rattle.state.specs.declared.Upper.{Upper}
 use Rattle.state.specs.State.{limit, hasResidualInterval}
 use Rattle.thresholds.specs.Rows.{hasNonunit}

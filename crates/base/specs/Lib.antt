@@ -1,0 +1,13 @@
+pub mod TestLaws
+pub mod Laid
+pub mod Parts
+pub mod PartsLaws
+pub mod Deal
+pub mod DealLaws
+pub mod Columns
+pub mod ColumnsLaws
+pub mod TallyLaws
+pub mod IndexLaws
+pub mod All
+pub mod SignedLaws
+pub mod Signed

@@ -1,5 +1,0 @@
-pub mod TurnsLaws
-pub mod TriedLaws
-pub mod SiftsLaws
-pub mod SealsLaws
-pub mod FilesLaws

@@ -1,1 +1,0 @@
-// No layout of a job is lost by any record of a file: theorems, no code.

@@ -1,1 +1,0 @@
-// Lists as buffers hold them: definitions and laws, no code.

@@ -1,4 +1,0 @@
-pub mod Drain
-pub mod Sift
-pub mod DrainLaws
-pub mod SiftLaws

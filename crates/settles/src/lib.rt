@@ -1,1 +1,0 @@
-// Every record of a file keeps the invariant of draining: theorems, no code.

@@ -1,3 +1,0 @@
-pub mod BytesLaws
-pub mod StagesLaws
-pub mod ShownLaws

@@ -1,0 +1,185 @@
+-- The cases P1 to P12 of document 01, rows of one table under one theorem, proved by computing the definitions.
+use Prim.Native.Nat.{ℕ, zero, suc, _+_, _-_, _/_, _%_, _^_, _≤_}
+use Prim.Native.String.{String}
+use native.Mathlib.Omega.{arith}
+use mathlib.Core.Path.{_≡_, refl, subst⁻¹}
+use mathlib.Core.Bool.{Bool, true, false, cond}
+use mathlib.Core.List.{List, [], _∷_, _++_, List·Memᴰ, List·Memᴰ·cases-cons, List·Memᴰ·not-nil}
+use mathlib.Core.Logic.{⊎-elim}
+use lib.IntN.{ℤ, pos, negsuc}
+use Rattle.numeric.specs.Area.{weightOfArea}
+use Rattle.numeric.specs.Threshold.{Term, term}
+use Rattle.state.specs.declared.Step.{Step}
+use Rattle.state.specs.declared.Step.the-variants.{Unchanged, Changed, Contradiction}
+use Rattle.state.specs.declared.State.{State}
+use Rattle.state.specs.declared.Upper.the-variants.{Open, Under}
+use Rattle.state.specs.State as States
+use Rattle.words.specs.Mask as Mask
+use Rattle.words.specs.Shift as Shift
+use Rattle.queues.specs.Queue as Queues
+use Rattle.queues.specs.Marks as Marks
+use Rattle.row.specs.Terms as Terms
+use Rattle.thresholds.specs.Rows as Rows
+use Rattle.prefixes.specs.Links as Links
+use Rattle.residual.specs.Gcd as Gcd
+use Rattle.residual.specs.Residual as Residuals
+use Rattle.possible_sums.specs.declared.Search.{Search}
+use Rattle.possible_sums.specs.declared.Search.the-variants.{Cut}
+use Rattle.possible_sums.specs.Search as Searches
+use Rattle.propagate.specs.Scan as Scan
+use Rattle.propagate.specs.Row as Row
+use Rattle.between.specs.Between as Between
+use Rattle.files.specs.Drain as Drain
+use Rattle.files.specs.Sift as Sift
+use Rattle.records.specs.declared.Record.{Record}
+use Rattle.records.specs.declared.Record.the-variants.{Header, Opens, Adds, Areas, Seal, Mark, Settle, Sift, Unknown}
+use Rattle.records.specs.Record.{littleEndian}
+use Rattle.records.specs.Checks as Checks
+use Rattle.job.specs.Job as Job
+use Rattle.files.specs.File as File
+use Rattle.files.specs.Listing.{text, listing}
+use Rattle.files.specs.Listing as Listing
+
+-- A number as so many bytes, the lowest first.
+unfoldable pub bytes : ℕ → ℕ → List ℕ
+bytes zero n = []
+bytes (suc k) n = n % 256 ∷ bytes k (n / 256)
+
+unfoldable pub twos : ℤ → ℕ
+twos (pos n) = n
+twos (negsuc n) = 2 ^ 64 - 1 - n
+
+-- A record as it is written.
+unfoldable pub written : Record → List ℕ
+written (Header n) = 1 ∷ bytes 2 n
+written (Opens n b) = 2 ∷ bytes 2 n ++ bytes 8 (twos b)
+written (Adds c w) = 3 ∷ bytes 2 c ++ bytes 4 w
+written Seal = 4 ∷ []
+written (Mark n v) = 5 ∷ bytes 2 n ++ bytes 1 v
+written Settle = 6 ∷ []
+written Sift = 7 ∷ []
+written (Areas c a) = 8 ∷ bytes 2 c ++ bytes 4 a
+written Unknown = []
+
+unfoldable pub writtenAll : List Record → List ℕ
+writtenAll [] = []
+writtenAll (r ∷ rs) = written r ++ writtenAll rs
+
+-- A case: what is given, and what the papers say of it.
+pub data Case : Type 0 where
+  lists : (file : List Record) (listing : String) → Case
+  conflicts : State → Bool → Case
+  divides : (a b gcd : ℕ) → Case
+  weighs : (area weight : ℕ) → Case
+  merges : (raw row : List Term) → Case
+  searches : (row : List Term) → State → Search → Case
+  misses : (row : List Term) → State → Case
+  residual : (row : List Term) → State → Step → Case
+  takes : (file : List Record) (answers : List File.Answer) (contradicted : Bool) → Case
+  forces : (file : List Record) (node : ℕ) → Case
+  drains : (file : List Record) (waiting : ℕ) → Case
+
+-- What is claimed of a case: the definitions give it.
+abbrev pub Right : Case → Type 0
+Right (lists f t) = listing (File.planned (writtenAll f)) ≡ text t
+Right (conflicts s b) = States.conflict s ≡ b
+Right (divides a b g) = Gcd.gcd a b ≡ g
+Right (weighs a w) = weightOfArea a ≡ w
+Right (merges raw row) = Terms.rowTerms raw ≡ row
+Right (searches row s r) = Searches.search row s (λ n. false) ≡ r
+Right (misses row s) = (choice : ℕ → Bool) → Searches.Lands (Searches.window row s) (λ n. false) row choice → ⊥
+Right (residual row s k) = Residuals.thresholdResidual row s (File.cleared .marks) [] .step ≡ k
+Right (takes f as′ b) =
+    let o = File.planned (writtenAll f) in
+    (o .refused ≡ 0) × (o .records ≡ f) × (o .file .answers ≡ as′) × (File.contradicted (o .file) ≡ b)
+Right (forces f n) = Mask.bit (File.planned (writtenAll f) .file .live .marks .sure) n ≡ true
+Right (drains f n) =
+    let all = f ++ (Settle ∷ []) in
+    (File.planned (writtenAll all) .records ≡ all) × (File.after File.begun f .live .marks .nodes .ring .count ≡ n)
+    × (Queues.isEmpty (File.after File.begun all .live .marks .nodes) ≡ true)
+
+-- A row state before its scans: known 0, possible, lower, upper.
+abbrev fresh : ℕ → ℕ → ℕ → State
+fresh p l u = States.stateOf (pos 0) (pos p) (pos l) (Under (pos u)) 0 0 0 0
+
+-- Files A and B of document 01.
+abbrev pub file-A : List Record
+file-A = Header 5 ∷ Opens 4 (pos 6) ∷ Adds 0 4 ∷ Adds 1 3 ∷ Adds 2 2 ∷ Seal ∷ Mark 4 1 ∷ Settle ∷ []
+
+abbrev pub file-B : List Record
+file-B =
+    Header 6 ∷ Opens 4 (pos 6) ∷ Adds 0 5 ∷ Adds 1 5 ∷ Adds 2 4 ∷ Adds 3 4
+    ∷ Opens 5 (pos 8) ∷ Adds 0 5 ∷ Adds 1 5 ∷ Adds 2 4 ∷ Adds 3 4 ∷ Seal ∷ Mark 4 1 ∷ Mark 5 0 ∷ Settle ∷ Sift ∷ []
+
+abbrev pub cases : List Case
+cases =
+    lists (Header 1 ∷ Opens 0 (pos 0) ∷ Seal ∷ []) "node 0 sure\nrow 0 0 0 0 -\nend 1 0\n"  -- P1
+    ∷ lists (Header 1 ∷ Opens 0 (pos 1) ∷ Seal ∷ []) "node 0 never\nrow 0 0 0 0 -\nend 0 1\n"  -- P2
+    ∷ lists (Header 1 ∷ Opens 0 (negsuc 0) ∷ Seal ∷ []) "node 0 sure\nrow 0 0 0 0 -\nend 1 0\n"  -- P3
+    ∷ divides 0 0 0 ∷ divides 0 6 6  -- P4
+    ∷ lists file-A "settle changed\nnode 0 sure\nnode 4 sure\nrow 0 4 9 6 -\nend 2 0\n"  -- P5
+    ∷ lists (Header 3 ∷ Opens 2 (pos 5) ∷ Adds 0 5 ∷ Adds 1 4 ∷ Seal ∷ Mark 2 0 ∷ Settle ∷ [])
+    "settle changed\nnode 0 never\nnode 2 never\nrow 0 0 4 0 5\nend 0 2\n"  -- P6
+    ∷ conflicts (States.stateOf (pos 0) (pos 9) (pos 9) Open 0 0 0 0) false  -- P7
+    ∷ conflicts (States.stateOf (pos 0) (pos 9) (pos 10) Open 0 0 0 0) true
+    ∷ lists file-B "settle unchanged\nsift contradiction 11\nnode 4 sure\nnode 5 never\nrow 0 0 18 6 8\nend 1 1\n"  -- P8
+    ∷ searches (term 0 301 ∷ term 1 299 ∷ term 2 200 ∷ []) (fresh 800 400 431) (Cut 12)  -- P9
+    ∷ misses (term 0 301 ∷ term 1 299 ∷ term 2 200 ∷ []) (fresh 800 400 431)
+    ∷ lists (Header 5 ∷ Opens 3 (pos 400) ∷ Adds 0 301 ∷ Adds 1 299 ∷ Adds 2 200 ∷ Opens 4 (pos 431) ∷ Adds 0 301 ∷ Adds 1 299 ∷ Adds 2 200
+    ∷ Seal ∷ Mark 3 1 ∷ Mark 4 0 ∷ Sift ∷ [])
+    "sift unchanged 12\nnode 3 sure\nnode 4 never\nrow 0 0 800 400 431\nend 1 1\n"
+    ∷ weighs 49 0 ∷ weighs 50 1 ∷ weighs 4294967295 42949673  -- P10
+    ∷ merges (term 3 2 ∷ term 3 2 ∷ []) (term 3 4 ∷ [])  -- P11
+    ∷ residual (term 0 4 ∷ term 1 4 ∷ term 2 4 ∷ term 3 3 ∷ []) (fresh 15 5 7) Contradiction  -- P12
+    ∷ []
+
+-- The job of file A, and two nodes that wait.
+abbrev pub two-wait : List Record
+two-wait = Header 5 ∷ Opens 4 (pos 6) ∷ Adds 0 4 ∷ Adds 1 3 ∷ Adds 2 2 ∷ Seal ∷ Mark 0 1 ∷ Mark 1 0 ∷ []
+
+-- Files A and B once more, as clause c of document 01 needs them: both are taken, with their answers, and A forces node 0. Where two
+-- nodes wait, a settle drains both.
+abbrev pub shown : List Case
+shown =
+    takes file-A (File.settled Changed ∷ []) false
+    ∷ takes file-B (File.settled Unchanged ∷ File.sifted Contradiction 11 ∷ []) true
+    ∷ forces file-A 0
+    ∷ drains two-wait 2
+    ∷ []
+
+-- The claim at each row of a list.
+abbrev Every : List Case → Type 0
+Every [] = Unit {0}
+Every (c ∷ cs) = Right c × Every cs
+
+lift : (cs : List Case) → Every cs → (c : Case) → List·Memᴰ c cs → Right c
+lift [] h c m = absurd (List·Memᴰ·not-nil m)
+lift (d ∷ cs) h c m =
+    ⊎-elim (λ (e : c ≡ d). subst⁻¹ Right e (h .0)) (λ (n : List·Memᴰ c cs). lift cs (h .1) c n) (List·Memᴰ·cases-cons m)
+
+-- P9: no choice of 301, 299 and 200 lands in 400 to 430.
+between : (a b c : Bool) → 400 ≤ cond a 301 0 + (cond b 299 0 + (cond c 200 0 + 0)) → cond a 301 0 + (cond b 299 0 + (cond c 200 0 + 0)) ≤ 430 → ⊥
+between true true c h k = omega arith
+between true false true h k = omega arith
+between true false false h k = omega arith
+between false true true h k = omega arith
+between false true false h k = omega arith
+between false false true h k = omega arith
+between false false false h k = omega arith
+
+computed : Every cases × Every shown
+unfolding States.firstState States.noState States.withKnown States.withPossible States.withLower States.withUpper States.withGuards States.withTerms States.drained States.conflict States.hasResidualInterval Mask.setBit Mask.learn Mask.count Shift.shiftWord Shift.wordHits Shift.shiftFrom Shift.unionShifted Queues.push Queues.popped Queues.queueRow Queues.nextRow Marks.decide Terms.merge Terms.merged Terms.insert Terms.sorted Terms.total Terms.sameTerms Rows.insertGuard Rows.place Rows.placeAll Rows.rowNumber Rows.hasNonunit Rows.edgesIn Rows.edgesFrom Links.notAfter Links.insertRow Links.orderFrom Links.common Links.ancestors Links.stacked Links.linked Links.linksFrom Links.links Links.neighbours Gcd.gcdIn Gcd.gcd Gcd.misses Gcd.branchMisses Residuals.checkFrom Residuals.residualCheck Residuals.fitsFrom Residuals.suffixFrom Residuals.forceTerm Residuals.forceFrom Residuals.thresholdResidual Searches.plan Searches.chosen Searches.searchFrom Searches.search Scan.scan Row.thresholdGuards Row.trueTerms Row.falseTerms Row.scans Row.thresholdRow Row.wantsResidual Between.runWith Between.runRow Between.bounded Between.thresholdGuard Between.conditionFrom Between.thresholdCondition Between.prefixesFrom Between.thresholdPrefixes Between.firstStates Between.seedFrom Between.guardOf Drain.seal Drain.mark Drain.takeNode Drain.takeRow Drain.drain Sift.tryRow Sift.siftFrom File.begun Job.lastNode Job.lastTerms Job.allTerms Checks.first File.refusal Job.addTerm File.sealedFile File.markedFile File.settledFile File.siftedFile File.act File.apply File.readFrom File.fileOf File.planned File.after Listing.text Listing.digits Listing.answerLines Listing.nodeLines Listing.rowLines Listing.listing littleEndian bytes twos written writtenAll
+computed = (
+  (refl, (refl, (refl, (refl, (refl, (refl, (refl, (refl, (refl, (refl, (refl, (nothing-fits, (refl, (refl, (refl, (refl, (refl, (refl, tt)))))))))))))))))),
+  ((refl, refl, refl, refl), ((refl, refl, refl, refl), (refl, ((refl, refl, refl), tt)))),
+)
+  where
+    nothing-fits : Right (misses (term 0 301 ∷ term 1 299 ∷ term 2 200 ∷ []) (fresh 800 400 431))
+    nothing-fits choice h = between (choice 0) (choice 1) (choice 2) (h .0) (h .1)
+
+-- EVERY CASE OF THE TABLE
+pub worked : (c : Case) → List·Memᴰ c cases → Right c
+worked c m = lift cases (computed .0) c m
+
+pub shown-right : (c : Case) → List·Memᴰ c shown → Right c
+shown-right c m = lift shown (computed .1) c m

@@ -1,0 +1,276 @@
+-- ONE ROW RUN ONCE: whatever `threshold_row` decides follows by rules 2 to 5 of the table, from drained figures that lie inside
+-- those of the masks; where it contradicts, a conflict follows.
+use Prim.Native.Nat.{ℕ, zero, suc, _+_, _-_}
+use native.Mathlib.Decide.{ℕ-discrete}
+use mathlib.Core.Path.{_≡_, refl, sym, ap, _∙_, subst}
+use mathlib.Core.Bool.{Bool, true, false, not, cond, _&&_}
+use mathlib.Core.List.{List, [], _∷_, reverse, reverseAux, List·Memᴰ, List·Memᴰ·head, List·Memᴰ·tail, List·Memᴰ·cases-cons, List·Memᴰ·not-nil}
+use mathlib.Core.Logic.{_⊎_, inl, inr, ⊎-elim}
+use lib.ListN.{getD, take, drop}
+use lib.IntN.{ℤ, pos, _-ℤ_}
+use lib.Signed.{leZ, ltZ, _≤ℤ_, _<ℤ_, ≤ℤ-refl}
+use borrow.Author.Tests.{not-false}
+use Rattle.base.specs.TestLaws.{and-false, or-true, or-false, unequal}
+use Rattle.state.specs.StepLaws.{joined-fine, joined-which}
+use Rattle.base.specs.SignedLaws.{nlt-leZ, nle-ltZ}
+use Rattle.numeric.specs.Threshold.{Term}
+use Rattle.state.specs.declared.Step.{Step}
+use Rattle.state.specs.declared.Step.the-variants.{Unchanged, Contradiction}
+use Rattle.state.specs.declared.State.{State}
+use Rattle.state.specs.declared.Upper.{Upper}
+use Rattle.state.specs.declared.Upper.the-variants.{Open, Under}
+use Rattle.state.specs.Step.{joined, contradicts}
+use Rattle.state.specs.State.{reached, upperAtMost, limited, limit, conflict, withGuards, withTerms}
+use Rattle.words.specs.Mask.{bit, learn, Learned}
+use Rattle.words.specs.MaskLaws.{learn-there, learn-other}
+use Rattle.queues.specs.Marks.{Marks, isDecided, decided, decide}
+use Rattle.thresholds.specs.Rows.{Row, Guard, noRow}
+use Rattle.propagate.specs.Scan.{Scanned}
+use Rattle.propagate.specs.Row.{Ran, ran, sureGuards, neverGuards, thresholdGuards, forced, trueTerms, falseTerms, thresholdRow}
+use Rattle.theorem_table.specs.Table.{Table, IsRow, termsOf, knownOf, possibleOf, reachedOf, AtMost, Conflict, lower-above, upper-reached, bound-reached, bound-out-of-reach, term-needed, term-too-heavy}
+use Rattle.theorem_table.specs.OrderLaws.{le, lt, ≤ℤ-trans, ≤ℤ-<ℤ-trans, pos-≤ℤ, max-up, sub-up, up-refl, at-most-up}
+use Rattle.theorem_table.specs.TableLaws.{Le, known-up, possible-down}
+use Rattle.between.specs.RunsLaws.{guardsRun, trueRun, falseRun, run-ends}
+use Rattle.theorem_follows.specs.DecideLaws.{tableOf, Broken, Kept, decide-follows, scan-keeps}
+
+-- LISTS
+
+pub mem-drop : {X : Type 0} (n : ℕ) (xs : List X) (x : X) → List·Memᴰ x (drop n xs) → List·Memᴰ x xs
+mem-drop zero xs x m = m
+mem-drop (suc n) [] x m = m
+mem-drop (suc n) (y ∷ ys) x m = List·Memᴰ·tail (mem-drop n ys x m)
+
+pub mem-take : {X : Type 0} (n : ℕ) (xs : List X) (x : X) → List·Memᴰ x (take n xs) → List·Memᴰ x xs
+mem-take zero xs x m = absurd (List·Memᴰ·not-nil m)
+mem-take (suc n) [] x m = m
+mem-take (suc n) (y ∷ ys) x m = ⊎-elim (λ (e : x ≡ y). List·Memᴰ·head e) (λ k. List·Memᴰ·tail (mem-take n ys x k)) (List·Memᴰ·cases-cons m)
+
+mem-aux : {X : Type 0} (xs acc : List X) (x : X) → List·Memᴰ x (reverseAux xs acc) → List·Memᴰ x xs ⊎ List·Memᴰ x acc
+mem-aux [] acc x m = inr m
+mem-aux (y ∷ ys) acc x m =
+    ⊎-elim (λ k. inl (List·Memᴰ·tail k)) (λ k. ⊎-elim (λ (e : x ≡ y). inl (List·Memᴰ·head e)) (λ n. inr n) (List·Memᴰ·cases-cons k)) (mem-aux ys (y ∷ acc) x m)
+
+pub mem-reverse : {X : Type 0} (xs : List X) (x : X) → List·Memᴰ x (reverse xs) → List·Memᴰ x xs
+mem-reverse xs x m = ⊎-elim (λ k. k) (λ k. absurd (List·Memᴰ·not-nil k)) (mem-aux xs [] x m)
+
+-- UPPERS
+at-most : (x : Upper) (z : ℤ) → upperAtMost x z ≡ true → AtMost x z
+at-most Open z h = absurd (unequal cc)
+at-most (Under a) z h = le h
+
+-- DECIDING only adds
+learn-grows : (mask opposite : List ℕ) (n k : ℕ) → bit mask k ≡ true → bit (learn mask opposite n .mask) k ≡ true
+learn-grows mask opposite n k h = by (ℕ-discrete k n)
+  where
+    by : Dec (k ≡ n) → bit (learn mask opposite n .mask) k ≡ true
+    by (yes e) = ap (λ (x : Learned). bit (x .mask) k) (learn-there mask opposite n (subst (λ (i : ℕ). bit mask i ≡ true) e h)) ∙ h
+    by (no d) = learn-other mask opposite n k d ∙ h
+
+pub decide-grows : (value : Bool) (m : Marks) (n : ℕ) (l : ℕ → ℤ) (u : ℕ → Upper) → Le (tableOf m l u) (tableOf (decide value m n .marks) l u)
+unfolding decide
+decide-grows true m n l u = record {
+  sure = λ k h. learn-grows (m .sure) (m .never) n k h;
+  never = λ k h. h;
+  lower = λ r. ≤ℤ-refl (l r);
+  upper = λ r. up-refl (u r);
+}
+decide-grows false m n l u = record {
+  sure = λ k h. h;
+  never = λ k h. learn-grows (m .never) (m .sure) n k h;
+  lower = λ r. ≤ℤ-refl (l r);
+  upper = λ r. up-refl (u r);
+}
+
+-- A row state's figures lie inside those of the masks; its bounds are the table's.
+pub record Inside (rows : List Row) (l : ℕ → ℤ) (u : ℕ → Upper) (r : ℕ) (st : State) (m : Marks) : Type 0 where
+  pub known : st .known ≤ℤ knownOf rows (tableOf m l u) r
+  pub possible : possibleOf rows (tableOf m l u) r ≤ℤ st .possible
+  pub lower : st .lower ≡ l r
+  pub upper : st .upper ≡ u r
+
+pub inside-up : (rows : List Row) (l : ℕ → ℤ) (u : ℕ → Upper) (r : ℕ) (st : State) (m m′ : Marks) → Le (tableOf m l u) (tableOf m′ l u)
+    → Inside rows l u r st m → Inside rows l u r st m′
+inside-up rows l u r st m m′ g i = record {
+  known = ≤ℤ-trans (i .known) (pos-≤ℤ (known-up (bit (m .sure)) (bit (m′ .sure)) (termsOf rows r) (g .sure)));
+  possible = ≤ℤ-trans (pos-≤ℤ (possible-down (bit (m .never)) (bit (m′ .never)) (termsOf rows r) (g .never))) (i .possible);
+  lower = i .lower;
+  upper = i .upper;
+}
+
+-- `More` is whatever else each decision keeps.
+module _ (rows : List Row) (s : Table) (l : ℕ → ℤ) (u : ℕ → Upper) (r : ℕ) (is : IsRow rows r)
+    (More : Marks → Type 0) (keeps : (value : Bool) (m : Marks) (n : ℕ) → More m → More (decide value m n .marks)) where
+  pub inside-guards : (st : State) (m : Marks) (a b : ℕ) → Inside rows l u r st m → Inside rows l u r (withGuards st a b) m
+  unfolding withGuards
+  inside-guards st m a b i = record { known = i .known; possible = i .possible; lower = i .lower; upper = i .upper }
+
+  pub inside-terms : (st : State) (m : Marks) (a b : ℕ) → Inside rows l u r st m → Inside rows l u r (withTerms st a b) m
+  unfolding withTerms
+  inside-terms st m a b i = record { known = i .known; possible = i .possible; lower = i .lower; upper = i .upper }
+
+  reached-inside : (st : State) (m : Marks) → Inside rows l u r st m → reached st ≤ℤ reachedOf rows (tableOf m l u) r
+  reached-inside st m i =
+      max-up {a = st .known} {b = st .lower} {c = knownOf rows (tableOf m l u) r} {d = l r} (i .known) (subst (λ (z : ℤ). z ≤ℤ l r) (sym (i .lower)) (≤ℤ-refl (l r)))
+
+  -- what is kept along a scan of the row
+  abbrev pub Along : State → Marks → Type 0
+  Along st m = Kept rows s l u m × Inside rows l u r st m × More m
+
+  along-decide : (value : Bool) (st : State) (m : Marks) (n : ℕ) → Along st m
+      → Kept rows s l u (decide value m n .marks) × (contradicts (decide value m n .step) ≡ true → Broken rows s)
+      → Along st (decide value m n .marks) × (contradicts (decide value m n .step) ≡ true → Broken rows s)
+  along-decide value st m n h k = ((k .0, inside-up rows l u r st m (decide value m n .marks) (decide-grows value m n l u) (h .1), keeps value m n (h .2)), k .1)
+
+  -- RULE 2
+  sure-along : (st : State) (m : Marks) → Along st m → let a = sureGuards (getD rows r noRow .guards) st m in Along st (a .marks) × (contradicts (a .step) ≡ true → Broken rows s)
+  sure-along st m h =
+      scan-keeps (Along st) (Broken rows s) _ _ (drop (st .«sure_guard») (getD rows r noRow .guards))
+      (λ (g : Guard) k x p w. along-decide true st k (g .node) p (decide-follows rows s l u true k (g .node) (p .0)
+      (λ e. bound-reached r g (is, mem-drop (st .«sure_guard») (getD rows r noRow .guards) g x)
+      (≤ℤ-trans (le (nlt-leZ (reached st) (g .bound) w)) (reached-inside st k (p .1))) e)))
+      0 m Unchanged h refl
+
+  -- RULE 3
+  out-of-reach : (st : State) (m : Marks) (b : ℤ) → Inside rows l u r st m → (leZ b (st .possible) && not (upperAtMost (st .upper) b)) ≡ false
+      → (possibleOf rows (tableOf m l u) r <ℤ b) ⊎ AtMost (u r) b
+  out-of-reach st m b i w =
+      ⊎-elim (λ (e : leZ b (st .possible) ≡ false). inl (≤ℤ-<ℤ-trans (i .possible) (lt (nle-ltZ (st .possible) b e))))
+      (λ (e : not (upperAtMost (st .upper) b) ≡ false). inr (subst (λ (x : Upper). AtMost x b) (i .upper) (at-most (st .upper) b (not-false (upperAtMost (st .upper) b) e))))
+      (and-false (leZ b (st .possible)) (not (upperAtMost (st .upper) b)) w)
+
+  never-along : (st : State) (m : Marks) (k : Step) → Along st m → contradicts k ≡ false
+      → let a = neverGuards (getD rows r noRow .guards) st m k in Along st (a .marks) × (contradicts (a .step) ≡ true → Broken rows s)
+  never-along st m k h c =
+      scan-keeps (Along st) (Broken rows s) _ _ (reverse (take (st .«never_guard») (getD rows r noRow .guards)))
+      (λ (g : Guard) n x p w. along-decide false st n (g .node) p (decide-follows rows s l u false n (g .node) (p .0)
+      (λ e. bound-out-of-reach r g (is, mem-take (st .«never_guard») (getD rows r noRow .guards) g (mem-reverse (take (st .«never_guard») (getD rows r noRow .guards)) g x))
+      (out-of-reach st n (g .bound) (p .1) w) e)))
+      0 m k h c
+
+  -- RULES 4 AND 5: a term that is decided is passed; an undecided one is forced
+  force-along : (value : Bool) (st : State) (ts : List Term) (waits : ℕ → Bool) (m : Marks) → Along st m
+      → ((t : Term) (k : Marks) → List·Memᴰ t ts → Along st k → isDecided k (t .condition) ≡ false → waits (t .weight) ≡ false
+      → Kept rows s l u (decide value k (t .condition) .marks) × (contradicts (decide value k (t .condition) .step) ≡ true → Broken rows s))
+      → Along st (forced value waits ts m .marks) × (contradicts (forced value waits ts m .step) ≡ true → Broken rows s)
+  force-along value st ts waits m h gives =
+      scan-keeps (Along st) (Broken rows s) _ _ ts
+      (λ (t : Term) k x p w. place t k x p w (isDecided k (t .condition)) refl)
+      0 m Unchanged h refl
+    where
+      place : (t : Term) (k : Marks) → List·Memᴰ t ts → Along st k → (not (isDecided k (t .condition)) && waits (t .weight)) ≡ false
+          → (b : Bool) → isDecided k (t .condition) ≡ b
+          → let a = cond (isDecided k (t .condition)) (decided k Unchanged) (decide value k (t .condition)) in Along st (a .marks) × (contradicts (a .step) ≡ true → Broken rows s)
+      place t k x p w true e =
+          subst (λ (b : Bool). let a = cond b (decided k Unchanged) (decide value k (t .condition)) in Along st (a .marks) × (contradicts (a .step) ≡ true → Broken rows s)) (sym e)
+          (p, λ c. absurd (unequal cc))
+      place t k x p w false e =
+          subst (λ (b : Bool). let a = cond b (decided k Unchanged) (decide value k (t .condition)) in Along st (a .marks) × (contradicts (a .step) ≡ true → Broken rows s)) (sym e)
+          (along-decide value st k (t .condition) p (gives t k x p e
+          (⊎-elim (λ (y : not (isDecided k (t .condition)) ≡ false). absurd (let q = not-false (isDecided k (t .condition)) y in unequal cc))
+          (λ y. y) (and-false (not (isDecided k (t .condition))) (waits (t .weight)) w))))
+
+  abbrev pub Fine : Ran → Type 0
+  Fine a = Along (a .state) (a .marks) × (contradicts (a .step) ≡ true → Broken rows s)
+
+  pub true-fine : (st : State) (m : Marks) → Along st m → Fine (trueTerms (termsOf rows r) st m)
+  unfolding trueTerms
+  true-fine st m h = by (leZ (st .lower) (st .known))
+    where
+      waits : ℕ → Bool
+      waits w = leZ (pos w) (st .possible -ℤ st .lower)
+
+      a : Along st (forced true waits (drop (st .«true_term») (termsOf rows r)) m .marks)
+          × (contradicts (forced true waits (drop (st .«true_term») (termsOf rows r)) m .step) ≡ true → Broken rows s)
+      a = force-along true st (drop (st .«true_term») (termsOf rows r)) waits m h
+          (λ t k x p e w. decide-follows rows s l u true k (t .condition) (p .0)
+          (λ q. term-needed r t (is, mem-drop (st .«true_term») (termsOf rows r) t x) (or-false (bit (k .sure) (t .condition)) (bit (k .never) (t .condition)) e)
+          (≤ℤ-<ℤ-trans (subst (λ (z : ℤ). (possibleOf rows (tableOf k l u) r -ℤ z) ≤ℤ (st .possible -ℤ st .lower)) (p .1 .lower) (sub-up (p .1 .possible) (≤ℤ-refl (st .lower))))
+          (lt (nle-ltZ (st .possible -ℤ st .lower) (pos (t .weight)) w)))))
+
+      by : (b : Bool) → Fine (cond b (ran st m Unchanged) (ran (withTerms st (st .«true_term» + forced true waits (drop (st .«true_term») (termsOf rows r)) m .passed) (st .«false_term»))
+          (forced true waits (drop (st .«true_term») (termsOf rows r)) m .marks) (forced true waits (drop (st .«true_term») (termsOf rows r)) m .step)))
+      by true = (h, λ c. absurd (unequal cc))
+      by false = ((a .0 .0, inside-terms st _ _ _ (a .0 .1), a .0 .2), a .1)
+
+  pub false-fine : (st : State) (m : Marks) → Along st m → Fine (falseTerms (termsOf rows r) st m)
+  unfolding falseTerms
+  false-fine st m h = by (st .upper) refl
+    where
+      by : (x : Upper) → st .upper ≡ x
+          → Fine (cond (limited x)
+          (ran (withTerms st (st .«true_term») (st .«false_term» + forced false (λ (w : ℕ). ltZ (pos w) (limit x -ℤ st .known)) (drop (st .«false_term») (termsOf rows r)) m .passed))
+          (forced false (λ (w : ℕ). ltZ (pos w) (limit x -ℤ st .known)) (drop (st .«false_term») (termsOf rows r)) m .marks)
+          (forced false (λ (w : ℕ). ltZ (pos w) (limit x -ℤ st .known)) (drop (st .«false_term») (termsOf rows r)) m .step))
+          (ran st m Unchanged))
+      by Open e = (h, λ c. absurd (unequal cc))
+      by (Under b) e =
+          let a = force-along false st (drop (st .«false_term») (termsOf rows r)) (λ (w : ℕ). ltZ (pos w) (b -ℤ st .known)) m h
+          (λ t k x p d w. decide-follows rows s l u false k (t .condition) (p .0)
+          (λ q. term-too-heavy r t b (is, mem-drop (st .«false_term») (termsOf rows r) t x) (or-false (bit (k .sure) (t .condition)) (bit (k .never) (t .condition)) d)
+          (sym (p .1 .upper) ∙ e) (≤ℤ-trans (sub-up (≤ℤ-refl b) (p .1 .known)) (le (nlt-leZ (pos (t .weight)) (b -ℤ st .known) w))))) in
+          ((a .0 .0, inside-terms st _ _ _ (a .0 .1), a .0 .2), a .1)
+
+  pub guards-fine : (st : State) (m : Marks) → Along st m → Fine (thresholdGuards (getD rows r noRow .guards) st m)
+  unfolding thresholdGuards
+  guards-fine st m h = by (contradicts (a .step)) refl
+    where
+      gs : List Guard
+      gs = getD rows r noRow .guards
+
+      a : Scanned
+      a = sureGuards gs st m
+
+      f : Along st (a .marks) × (contradicts (a .step) ≡ true → Broken rows s)
+      f = sure-along st m h
+
+      up : State
+      up = withGuards st (st .«sure_guard» + a .passed) (st .«never_guard»)
+
+      by : (b : Bool) → contradicts (a .step) ≡ b
+          → Fine (elim b [
+            | true ↦ ran up (a .marks) Contradiction
+            | false ↦ ran (withGuards up (up .«sure_guard») (st .«never_guard» - neverGuards gs st (a .marks) (a .step) .passed)) (neverGuards gs st (a .marks) (a .step) .marks) (neverGuards gs st (a .marks) (a .step) .step)
+          ])
+      by true e = ((f .0 .0, inside-guards st _ _ _ (f .0 .1), f .0 .2), λ c. f .1 e)
+      by false e =
+          let n = never-along st (a .marks) (a .step) (f .0) e in
+          ((n .0 .0, inside-guards up _ _ _ (inside-guards st _ _ _ (n .0 .1)), n .0 .2), n .1)
+
+  -- A ROW RUN ONCE
+  pub row-fine : (st : State) (m : Marks) → Along st m → Fine (thresholdRow (getD rows r noRow) st m)
+  unfolding conflict
+  row-fine st m h =
+      run-ends row st m Fine (λ e. (h, λ x. (tableOf m l u, h .0, broken e))) (λ e. fa) (λ e f. fb)
+      (λ e f. (fc .0, λ x. fc .1 (joined-which (joined (a .step) (b .step)) (c .step) (joined-fine (a .step) (b .step) e f) x)))
+    where
+      row : Row
+      row = getD rows r noRow
+
+      a : Ran
+      a = guardsRun row st m
+
+      b : Ran
+      b = trueRun row st m
+
+      c : Ran
+      c = falseRun row st m
+
+      fa : Fine a
+      fa = guards-fine st m h
+
+      fb : Fine b
+      fb = true-fine (a .state) (a .marks) (fa .0)
+
+      fc : Fine c
+      fc = false-fine (b .state) (b .marks) (fb .0)
+
+      broken : conflict st ≡ true → Conflict rows (tableOf m l u)
+      broken e =
+          ⊎-elim
+          (λ (x : ltZ (st .possible) (st .lower) ≡ true). lower-above r is (≤ℤ-<ℤ-trans (h .1 .possible) (subst (λ (z : ℤ). st .possible <ℤ z) (h .1 .lower) (lt x))))
+          (λ (x : upperAtMost (st .upper) (reached st) ≡ true).
+          upper-reached r is (T-up (subst (λ (y : Upper). AtMost y (reached st)) (h .1 .upper) (at-most (st .upper) (reached st) x))))
+          (or-true (ltZ (st .possible) (st .lower)) (upperAtMost (st .upper) (reached st)) e)
+        where
+          T-up : AtMost (u r) (reached st) → AtMost (u r) (reachedOf rows (tableOf m l u) r)
+          T-up x = at-most-up (u r) (u r) (up-refl (u r)) (reached-inside st m (h .1)) x

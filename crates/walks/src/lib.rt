@@ -1,1 +1,0 @@
-// Steps for proofs by hand; no code.
