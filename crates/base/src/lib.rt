@@ -1,4 +1,4 @@
-// Signed numbers: `natural`, and laws for the proofs of every crate above (specs/).
+// What every crate above stands on: laws of lists, tests and signed numbers (specs/), and `natural`.
 ghost use mathlib.Core.Path.{_≡_};
 ghost use Rattle.base.specs.Signed.{natural as naturalOf};
 

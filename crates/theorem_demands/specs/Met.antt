@@ -1,4 +1,4 @@
--- WHICH DEMANDS ARE MET: a value of the type that states each. The proofs stand in the files named `Laws` beside this one, and in `ends`.
+-- WHICH DEMANDS ARE MET: a value of the type that states each. The proofs stand in the files named `Laws` beside this one, and in `theorem_ends`.
 use Rattle.possible_sums.specs.SearchLaws as SearchLaws
 use Rattle.theorem_ends.specs.FilesLaws as Files
 use Rattle.theorem_demands.specs.Demands.{Demand1, Demand2, Demand3, Call, ClauseA, ClauseC}

@@ -1,1 +1,1 @@
-// The cases P1 to P12 and the demands of the mission, as statements over the definitions: no code.
+// The demands of the mission as statements over the definitions, a proof of each, and the cases P1 to P12: no code.

@@ -1,4 +1,4 @@
--- `signed::natural` meets its contract.
+-- `base::natural` meets its contract.
 use mathlib.Core.Path.{_≡_}
 use mir.Syntax.{w64}
 use mir.Val.{toZ, ofZ}

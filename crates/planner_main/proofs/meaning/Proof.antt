@@ -1,4 +1,4 @@
--- `notice::meaning` meets its contract: a text for each number.
+-- `planner_main::meaning` meets its contract: a text for each number.
 use mathlib.Core.Path.{sym, ap}
 use native.Mathlib.Omega.{arith}
 use borrow.Author.Needs.{needs}
