@@ -1,7 +1,7 @@
 /* The threshold planner for C and C++: link libplanner.a (bindings/archive makes it).
 
    One call runs a whole job file over buffers that its caller lends. The call clears them, takes each record or refuses it by a number, and
-   leaves nodes, rows and answers in them. It keeps nothing between calls and needs no other memory but some 30 KB of stack, so that threads
+   leaves nodes, rows and answers in them. It keeps nothing between calls and needs no other memory but some 53 KB of stack, so that threads
    may call it at the same time, each with its own buffers. The shortest way is a `struct planner_work` and `planner_plan`.
 
    What both functions promise is proved, for every input and whatever the buffers held before. A caller keeps what C cannot test:
@@ -126,15 +126,15 @@ struct planner_given planner_run(
     uint16_t (*answers)[2], size_t answers_length);
 
 /* THE LISTING of a job file, as bytes of text from the start of `out`: how many there are. Nothing is written and 0 is given back if `out` has
-   fewer than PLANNER_LISTING bytes. The file is planned for it, over buffers of the call's own: some 420 KB of stack. */
+   fewer than PLANNER_LISTING bytes. The file is planned for it, over buffers of the call's own: some 460 KB of stack. */
 size_t planner_list(const uint8_t *input, size_t input_length, uint8_t *out, size_t out_length);
 
 /* All buffers at their listed lengths, and what they hold after the call; unused places are 0. A row is a list of terms that thresholds
    share, numbered by first use, and the terms, guards, edges and links of all rows lie one behind the other. */
 struct planner_work {
-    /* The job as the records gave it. */
+    /* The job that the records gave; areas of one condition in one threshold are one term, where the first stood. */
     uint16_t raw_conditions[PLANNER_RAW_CONDITIONS]; /* condition of each term, in the order of the records */
-    uint64_t raw_weights[PLANNER_RAW_WEIGHTS];       /* its weight; of an area the rounded one */
+    uint64_t raw_weights[PLANNER_RAW_WEIGHTS];       /* its weight; of areas that of their sum, rounded */
     uint16_t thresholds[PLANNER_THRESHOLDS][2];      /* node of each threshold; where its terms end in the two above */
     int64_t bounds[PLANNER_BOUNDS];                  /* its bound */
     /* What the seal built. */

@@ -1,4 +1,5 @@
-"""Job files as document 01 has them: records, the job and marks that they give, its rows, the planner's listing.
+"""Job files as document 01 has them: records, the job and marks that they give, its rows, the planner's listing. Areas of one
+condition under one threshold are joined first (document 02, section 1).
 Shared by job, opb, judge and show. Nothing here is taken from the planner but the listing that it prints."""
 
 import collections
@@ -16,7 +17,6 @@ LONGEST = 65_536
 
 Kind = collections.namedtuple("Kind", "number name fields body")
 Record = collections.namedtuple("Record", "at kind values")
-Threshold = collections.namedtuple("Threshold", "node bound terms")
 Row = collections.namedtuple("Row", "terms guards total")
 
 KINDS = {kind.number: kind for kind in (
@@ -44,8 +44,8 @@ REASONS = {
 LIMITS = {
     "header": "a job has at most 4,096 nodes",
     "threshold": "a job has at most 1,024 thresholds",
-    "term": "a threshold has at most 1,024 terms, and a job 4,096",
-    "area": "a threshold has at most 1,024 terms, and a job 4,096",
+    "term": "a threshold has at most 1,024 terms, each area counted, and a job 4,096",
+    "area": "a threshold has at most 1,024 terms, each area counted, and a job 4,096",
     "settle": "a file has at most 64 settles and sifts",
     "sift": "a file has at most 64 settles and sifts",
 }
@@ -74,6 +74,34 @@ def split(data):
 
 def words(record):
     return " ".join(map(str, (record.kind.name, *record.values)))
+
+
+@dataclasses.dataclass
+class Threshold:
+    """A threshold with its terms and areas as their records have them: (name, condition, number)."""
+    node: int
+    bound: int
+    listed: list = dataclasses.field(default_factory=list)
+
+    @property
+    def terms(self):
+        return joined(self.listed)
+
+
+def joined(listed):
+    """The raw list of a threshold's terms and areas: areas of one condition are added in hundredths, the sum is rounded
+    once, a half going up, and stands where the first of them stood."""
+    sums = collections.Counter()
+    for name, condition, number in listed:
+        if name == "area":
+            sums[condition] += number
+    out = []
+    for name, condition, number in listed:
+        if name == "term":
+            out.append((condition, number))
+        elif condition in sums:
+            out.append((condition, (sums.pop(condition) + 50) // 100))
+    return out
 
 
 @dataclasses.dataclass
@@ -133,7 +161,7 @@ def out_of_turn(job, name):
 
 def too_many(job, name, nodes):
     if name in ("term", "area"):
-        return job.terms >= 4096 or job.thresholds and len(job.thresholds[-1].terms) >= 1024
+        return job.terms >= 4096 or job.thresholds and len(job.thresholds[-1].listed) >= 1024
     if name in ("settle", "sift"):
         return job.asked >= 64
     return nodes > 4096 or name == "threshold" and len(job.thresholds) >= 1024
@@ -158,9 +186,9 @@ def take(job, record):
     if name == "header":
         job.nodes = values[0]
     elif name == "threshold":
-        job.thresholds.append(Threshold(*values, []))
+        job.thresholds.append(Threshold(*values))
     elif name in ("term", "area"):
-        job.thresholds[-1].terms.append((values[0], values[1] if name == "term" else (values[1] + 50) // 100))
+        job.thresholds[-1].listed.append((name, *values))
         job.terms += 1
     elif name == "seal":
         job.sealed = True

@@ -50,6 +50,10 @@ impl Random {
     }
 }
 
+/// Kinds of records: a term, and an area.
+const TERM: u8 = 3;
+const AREA: u8 = 8;
+
 /// A job file, record by record.
 #[derive(Default)]
 pub struct File(pub Vec<u8>);
@@ -69,10 +73,14 @@ impl File {
     }
 
     fn terms(&mut self, terms: impl IntoIterator<Item = (usize, u32)>) {
-        for (condition, weight) in terms {
-            self.0.push(3);
+        self.list(TERM, terms);
+    }
+
+    fn list(&mut self, kind: u8, list: impl IntoIterator<Item = (usize, u32)>) {
+        for (condition, number) in list {
+            self.0.push(kind);
             self.0.extend((condition as u16).to_le_bytes());
-            self.0.extend(weight.to_le_bytes());
+            self.0.extend(number.to_le_bytes());
         }
     }
 
@@ -101,13 +109,15 @@ pub struct Family {
     pub grows: bool,
 }
 
-pub const FAMILIES: [Family; 17] = [
+pub const FAMILIES: [Family; 19] = [
     Family { name: "tiny jobs", make: tiny, grows: false },
     Family { name: "1,024 thresholds of 4 terms, sealed", make: many_sealed, grows: true },
     Family { name: "the same, some marked and settled", make: many_settled, grows: true },
     Family { name: "4 of 1,024 terms, in no order", make: long_random, grows: true },
     Family { name: "4 of 1,024 terms, falling", make: long_falling, grows: true },
     Family { name: "4 of 1,024 terms, equal", make: long_equal, grows: true },
+    Family { name: "4 of 1,024 areas, a tile each", make: long_areas, grows: true },
+    Family { name: "4 of 1,024 areas, each tile in 4 slivers", make: long_slivers, grows: true },
     Family { name: "all rows equal but for order", make: same_rows, grows: true },
     Family { name: "all raw lists equal", make: shared_rows, grows: true },
     Family { name: "prefix chain, each row one longer", make: prefix_chain, grows: true },
@@ -198,12 +208,17 @@ fn marked_one_by_one(random: &mut Random, n: usize, of: usize) -> Vec<Vec<u8>> {
 }
 
 /// Four thresholds over all nodes but their own; the first is marked, so that bounds are set.
-fn long(n: usize, of: usize, mut weight: impl FnMut(usize, usize) -> (usize, u32)) -> Vec<Vec<u8>> {
+fn long(
+    kind: u8,
+    n: usize,
+    of: usize,
+    mut number: impl FnMut(usize, usize) -> (usize, u32),
+) -> Vec<Vec<u8>> {
     let terms = 1_024 * n / of;
     let mut file = File::header(terms + 4);
     for row in 0..4 {
         file.threshold(terms + row, 1_000 * (row as i64 + 1));
-        file.terms((0..terms).map(|place| weight(row, place)));
+        file.list(kind, (0..terms).map(|place| number(row, place)));
     }
     file.seal();
     file.mark(terms, true);
@@ -212,17 +227,34 @@ fn long(n: usize, of: usize, mut weight: impl FnMut(usize, usize) -> (usize, u32
 }
 
 fn long_random(random: &mut Random, n: usize, of: usize) -> Vec<Vec<u8>> {
+    let orders = orders(random, n, of);
+    long(TERM, n, of, |row, place| (orders[row][place], 1 + random.below(4_000_000_000) as u32))
+}
+
+/// For each of the four thresholds an order of its terms.
+fn orders(random: &mut Random, n: usize, of: usize) -> Vec<Vec<usize>> {
     let terms = 1_024 * n / of;
-    let orders: Vec<_> = (0..4).map(|_| random.choose(terms, terms)).collect();
-    long(n, of, |row, place| (orders[row][place], 1 + random.below(4_000_000_000) as u32))
+    (0..4).map(|_| random.choose(terms, terms)).collect()
 }
 
 fn long_falling(_: &mut Random, n: usize, of: usize) -> Vec<Vec<u8>> {
-    long(n, of, |row, place| (place, 4_000_000_000 - (row * 10_000 + place * 1_000) as u32))
+    long(TERM, n, of, |row, place| (place, 4_000_000_000 - (row * 10_000 + place * 1_000) as u32))
 }
 
 fn long_equal(_: &mut Random, n: usize, of: usize) -> Vec<Vec<u8>> {
-    long(n, of, |row, place| (place, 7 + row as u32))
+    long(TERM, n, of, |row, place| (place, 7 + row as u32))
+}
+
+/// No area has another to join.
+fn long_areas(random: &mut Random, n: usize, of: usize) -> Vec<Vec<u8>> {
+    let orders = orders(random, n, of);
+    long(AREA, n, of, |row, place| (orders[row][place], 1 + random.below(4_000_000_000) as u32))
+}
+
+/// A quarter of the nodes are tiles, and the four slivers of each stand anywhere.
+fn long_slivers(random: &mut Random, n: usize, of: usize) -> Vec<Vec<u8>> {
+    let orders = orders(random, n, of);
+    long(AREA, n, of, |row, place| (orders[row][place] / 4, 1 + random.below(4_000_000_000) as u32))
 }
 
 /// 128 thresholds over one list of 32 terms, each in another order.

@@ -44,7 +44,8 @@ fn answered(answer: Answer, visits: Option<u64>) -> Element {
 }
 
 fn raw(out: &mut String, run: &Run) {
-    let lists = || run.thresholds.iter();
+    let raw = run.raw();
+    let lists = || raw.iter();
     line(out, "raw_conditions", singles(lists().flat_map(|one| one.conditions.clone())));
     line(out, "raw_weights", singles(lists().flat_map(|one| one.weights.clone())));
     let ends = ends(lists().map(|one| one.conditions.len()));

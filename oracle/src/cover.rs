@@ -2,11 +2,12 @@
 //! outside; the original is not touched. `expected` names every counter there is,
 //! with the reason where document 01 makes one impossible.
 
-use std::collections::BTreeMap;
+use std::collections::{BTreeMap, BTreeSet};
 
-use crate::job::{self, BOUND, Note, Record, Run};
+use crate::RawThreshold;
+use crate::job::{self, BOUND, Note, Record, Run, Term};
 use crate::listing::word;
-use crate::regions::{Answer, Event, Planner};
+use crate::regions::{Answer, Event, Planner, RowView};
 
 #[derive(Default)]
 pub struct Cover {
@@ -76,7 +77,7 @@ const IMPOSSIBLE: [(&str, &str); 13] = [
 ];
 
 /// Counters that need no table.
-const PLAIN: [&str; 101] = [
+const PLAIN: [&str; 120] = [
     "refusal 10",
     "refusal 2 kind 0x00",
     "refusal 2 kind 0x09",
@@ -136,6 +137,24 @@ const PLAIN: [&str; 101] = [
     "equal rows: upper to the earlier",
     "row shared by raw list",
     "row shared by term and area",
+    "row shared by joined areas",
+    "rows equal but for their order, with joined areas",
+    "areas joined",
+    "areas joined around a term of their condition",
+    "areas joined around a term of another condition",
+    "areas joined around areas of another condition",
+    "areas joined to 0",
+    "areas joined to a half",
+    "areas joined to more than one by one",
+    "areas joined to less than one by one",
+    "areas joined, sum above 32 bits",
+    "areas joined, weight above 32 bits",
+    "areas joined right before a refusal",
+    "areas joined, file without seal",
+    "areas of one condition in two thresholds",
+    "area before a term of its condition",
+    "area behind a term of its condition",
+    "first area of a condition ends its threshold",
     "rows equal only after merging",
     "rows equal only without zeros",
     "row without terms",
@@ -164,6 +183,7 @@ const PLAIN: [&str; 101] = [
     "limit thresholds 1,025 passed",
     "limit terms of one 1,024 met",
     "limit terms of one 1,025 passed",
+    "limit areas joined 1,024 met",
     "limit terms 4,096 met",
     "limit terms 4,097 passed",
     "limit answers 64 met",
@@ -204,6 +224,9 @@ pub fn expected() -> Vec<Expected> {
     for kind in [3, 8] {
         add(format!("refusal 4 {} of one threshold", KINDS[kind]));
         add(format!("refusal 4 {} of the file", KINDS[kind]));
+    }
+    for limit in ["of one threshold", "of the file"] {
+        add(format!("refusal 4 joined area {limit}"));
     }
     for kind in [6, 7] {
         add(format!("limit answers 65 passed {}", KINDS[kind]));
@@ -274,6 +297,7 @@ impl Cover {
         self.hit_if(run.refusal.is_some() && !run.answers.is_empty(), "refused behind an answer");
         self.hit_if(run.refusal.is_none() && run.planner.is_none(), "file without seal");
         self.job_limits(run);
+        self.areas(run);
         if let Some(planner) = &run.planner {
             self.rows(run, planner);
         }
@@ -374,13 +398,17 @@ impl Cover {
                 self.hit(format!("limit answers 65 passed {name}"));
             }
             (4, _) => {
-                let open = run.thresholds.last().map_or(0, |last| last.conditions.len());
-                let one = open >= job::TERMS_OF_ONE;
-                let file = run.terms >= job::TERMS;
+                let one = run.terms_of(run.thresholds.len() - 1).len() >= job::TERMS_OF_ONE;
+                let file = run.terms.len() >= job::TERMS;
                 self.hit_if(one, format!("refusal 4 {name} of one threshold"));
                 self.hit_if(one, "limit terms of one 1,025 passed");
                 self.hit_if(file, format!("refusal 4 {name} of the file"));
                 self.hit_if(file, "limit terms 4,097 passed");
+                let areas = areas_by_condition(run.terms_of(run.thresholds.len() - 1));
+                let joins = matches!(note.record, Some(Record::Area { condition, .. })
+                    if areas.contains_key(&condition));
+                self.hit_if(joins && one, "refusal 4 joined area of one threshold");
+                self.hit_if(joins && file, "refusal 4 joined area of the file");
             }
             _ => {}
         }
@@ -482,10 +510,69 @@ impl Cover {
     fn job_limits(&mut self, run: &Run) {
         self.hit_if(run.header == Some(job::NODES), "limit nodes 4,096 met");
         self.hit_if(run.thresholds.len() == job::THRESHOLDS, "limit thresholds 1,024 met");
-        self.hit_if(run.terms == job::TERMS, "limit terms 4,096 met");
+        self.hit_if(run.terms.len() == job::TERMS, "limit terms 4,096 met");
         self.hit_if(run.answers.len() == job::ANSWERS, "limit answers 64 met");
-        let full = |one: &crate::RawThreshold| one.conditions.len() == job::TERMS_OF_ONE;
-        self.hit_if(run.thresholds.iter().any(full), "limit terms of one 1,024 met");
+        let full = |place| run.terms_of(place).len() == job::TERMS_OF_ONE;
+        self.hit_if((0..run.thresholds.len()).any(full), "limit terms of one 1,024 met");
+    }
+
+    /// How the areas of each threshold join, sealed or not.
+    fn areas(&mut self, run: &Run) {
+        let mut earlier = BTreeSet::new();
+        for terms in (0..run.thresholds.len()).map(|place| run.terms_of(place)) {
+            let areas = areas_by_condition(terms);
+            for (condition, places) in &areas {
+                self.hit_if(
+                    earlier.contains(condition),
+                    "areas of one condition in two thresholds",
+                );
+                self.one_condition(terms, *condition, places);
+            }
+            earlier.extend(areas.into_keys());
+        }
+        let open = run.planner.is_none();
+        let joined = (0..run.thresholds.len()).any(|place| joins(run.terms_of(place)));
+        self.hit_if(joined && open && run.refusal.is_none(), "areas joined, file without seal");
+        let before = run.notes.iter().rev().nth(1).and_then(|note| note.record);
+        if let (Some(_), Some(Record::Area { condition, .. })) = (run.refusal, before) {
+            let areas = areas_by_condition(run.terms_of(run.thresholds.len() - 1));
+            self.hit_if(areas[&condition].len() > 1, "areas joined right before a refusal");
+        }
+    }
+
+    /// The areas of one condition in one threshold, by their places there.
+    fn one_condition(&mut self, terms: &[Term], condition: usize, places: &[usize]) {
+        let plain = |term: &Term| !term.area && term.condition == condition;
+        let (first, last) = (places[0], places[places.len() - 1]);
+        self.hit_if(terms[first..].iter().any(plain), "area before a term of its condition");
+        self.hit_if(terms[..last].iter().any(plain), "area behind a term of its condition");
+        self.hit_if(first + 1 == terms.len(), "first area of a condition ends its threshold");
+        if places.len() == 1 {
+            return;
+        }
+        self.hit("areas joined");
+        self.hit_if(places.len() == job::TERMS_OF_ONE, "limit areas joined 1,024 met");
+        let mut between = terms[first..last].iter();
+        let others = |term: &Term| term.condition != condition;
+        self.hit_if(between.clone().any(plain), "areas joined around a term of their condition");
+        self.hit_if(
+            between.clone().any(|term| others(term) && !term.area),
+            "areas joined around a term of another condition",
+        );
+        self.hit_if(
+            between.any(|term| others(term) && term.area),
+            "areas joined around areas of another condition",
+        );
+        let areas = || places.iter().map(|&place| u64::from(terms[place].number));
+        let sum: u64 = areas().sum();
+        let weight = job::area_weight(sum);
+        let alone: u64 = areas().map(job::area_weight).sum();
+        self.hit_if(weight == 0, "areas joined to 0");
+        self.hit_if(sum % 100 == 50, "areas joined to a half");
+        self.hit_if(weight > alone, "areas joined to more than one by one");
+        self.hit_if(weight < alone, "areas joined to less than one by one");
+        self.hit_if(sum > u64::from(u32::MAX), "areas joined, sum above 32 bits");
+        self.hit_if(weight > u64::from(u32::MAX), "areas joined, weight above 32 bits");
     }
 
     /// What the rows of a sealed job look like.
@@ -514,25 +601,32 @@ impl Cover {
             let high = row.guards.last().is_some_and(|guard| guard.1 > row.total);
             self.hit_if(high, "bound above the total");
         }
-        for (place, raw) in run.thresholds.iter().enumerate() {
-            self.raw_list(run, planner, place, raw);
+        let raw = run.raw();
+        for (place, one) in raw.iter().enumerate() {
+            self.raw_list(run, planner, place, one);
         }
-        self.equal_rows(run, planner, &rows);
+        self.equal_rows(run, &raw, planner, &rows);
     }
 
-    fn raw_list(&mut self, run: &Run, planner: &Planner, place: usize, raw: &crate::RawThreshold) {
+    fn raw_list(&mut self, run: &Run, planner: &Planner, place: usize, raw: &RawThreshold) {
         let own = planner.row_of(raw.node);
         let earlier = run.thresholds[..place].iter();
         let shared = earlier.clone().any(|other| planner.row_of(other.node) == own);
         self.hit_if(shared, "row shared by raw list");
         self.hit_if(shared && mixed(run), "row shared by term and area");
+        let terms = run.terms_of(place);
+        let other = |other: usize| {
+            let others = run.terms_of(other);
+            planner.row_of(run.thresholds[other].node) == own
+                && others != terms
+                && (joins(others) || joins(terms))
+        };
+        self.hit_if(shared && (0..place).any(other), "row shared by joined areas");
         self.hit_if(raw.conditions.is_empty(), "row without terms");
         let zeros = !raw.weights.is_empty() && raw.weights.iter().all(|&weight| weight == 0);
         self.hit_if(zeros, "row of zeros alone");
-        let mut sorted = raw.conditions.clone();
-        sorted.sort_unstable();
         self.hit_if(
-            sorted.windows(2).any(|pair| pair[0] == pair[1]),
+            sorted(&raw.conditions).windows(2).any(|pair| pair[0] == pair[1]),
             "row with repeated conditions",
         );
         self.hit_if(raw.conditions.contains(&raw.node), "threshold lists itself");
@@ -544,22 +638,31 @@ impl Cover {
 
     /// Two rows with the same terms: their raw lists differ in order or parts,
     /// or in nothing but terms of weight 0.
-    fn equal_rows(&mut self, run: &Run, planner: &Planner, rows: &[crate::regions::RowView]) {
-        let mut first: BTreeMap<usize, Vec<(usize, u64)>> = BTreeMap::new();
-        for raw in &run.thresholds {
+    fn equal_rows(&mut self, run: &Run, raw: &[RawThreshold], planner: &Planner, rows: &[RowView]) {
+        let mut first: BTreeMap<usize, (Vec<(usize, u64)>, bool)> = BTreeMap::new();
+        for (place, raw) in raw.iter().enumerate() {
             let row = planner.row_of(raw.node).expect("a threshold");
             let pairs = raw.conditions.iter().copied().zip(raw.weights.iter().copied());
-            first.entry(row).or_insert_with(|| pairs.filter(|pair| pair.1 > 0).collect());
+            first.entry(row).or_insert_with(|| {
+                (pairs.filter(|pair| pair.1 > 0).collect(), joins(run.terms_of(place)))
+            });
         }
         for (number, row) in rows.iter().enumerate() {
             for &other in row.links.iter().filter(|&&other| other > number) {
                 if rows[other].terms == row.terms {
-                    let zeros = first[&number] == first[&other];
+                    let [(own, own_joins), (others, others_join)] =
+                        [&first[&number], &first[&other]];
+                    let zeros = own == others;
                     self.hit(if zeros {
                         "rows equal only without zeros"
                     } else {
                         "rows equal only after merging"
                     });
+                    let turned = !zeros && sorted(own) == sorted(others);
+                    self.hit_if(
+                        turned && (*own_joins || *others_join),
+                        "rows equal but for their order, with joined areas",
+                    );
                 }
             }
         }
@@ -596,6 +699,26 @@ impl Cover {
 fn mixed(run: &Run) -> bool {
     let has = |kind: u8| run.notes.iter().any(|note| note.kind == kind);
     has(3) && has(8)
+}
+
+/// The places of a threshold's areas, by condition.
+fn areas_by_condition(terms: &[Term]) -> BTreeMap<usize, Vec<usize>> {
+    let mut areas: BTreeMap<usize, Vec<usize>> = BTreeMap::new();
+    for (place, term) in terms.iter().enumerate().filter(|(_, term)| term.area) {
+        areas.entry(term.condition).or_default().push(place);
+    }
+    areas
+}
+
+/// Whether two areas of a threshold have one condition.
+fn joins(terms: &[Term]) -> bool {
+    areas_by_condition(terms).values().any(|places| places.len() > 1)
+}
+
+fn sorted<T: Copy + Ord>(list: &[T]) -> Vec<T> {
+    let mut list = list.to_vec();
+    list.sort_unstable();
+    list
 }
 
 fn node_field(record: Option<Record>) -> Option<usize> {

@@ -1,5 +1,5 @@
 //! Reads a job file record by record, makes document 01's checks in its order
-//! and hands accepted records to the planner.
+//! and hands accepted records to the planner, areas joined (document 02, section 1).
 
 use crate::RawThreshold;
 use crate::regions::{Answer, Event, Planner};
@@ -25,9 +25,25 @@ pub enum Record {
     Area { condition: usize, area: u32 },
 }
 
-/// The weight of an area, a half going up.
-pub fn area_weight(area: u32) -> u64 {
-    (u64::from(area) + 50) / 100
+/// The weight of areas that add up to this sum, a half going up.
+pub fn area_weight(sum: u64) -> u64 {
+    (sum + 50) / 100
+}
+
+/// A term as its record has it: the number is a weight, or an area.
+#[derive(Clone, Copy, Debug, PartialEq, Eq)]
+pub struct Term {
+    pub condition: usize,
+    pub number: u32,
+    pub area: bool,
+}
+
+/// A threshold as its record has it, and how many of the file's terms stand before its own.
+#[derive(Clone, Copy, Debug)]
+pub struct Opened {
+    pub node: usize,
+    pub bound: i64,
+    pub before: usize,
 }
 
 /// Bytes behind the kind byte, none for an unknown kind.
@@ -82,8 +98,9 @@ pub struct Note {
 pub struct Run<const NOTED: bool = true> {
     pub length: usize,
     pub header: Option<usize>,
-    pub thresholds: Vec<RawThreshold>,
-    pub terms: usize,
+    pub thresholds: Vec<Opened>,
+    /// The terms of all thresholds, record by record.
+    pub terms: Vec<Term>,
     pub planner: Option<Planner<NOTED>>,
     /// Settles and sifts; a sift has visits.
     pub answers: Vec<(Answer, Option<u64>)>,
@@ -98,8 +115,7 @@ pub fn run(input: &[u8]) -> Run {
     run_file(input)
 }
 
-/// The same work with nothing noted, as a program that only plans would do it, for measurements. The job's
-/// thresholds are handed on to the planner.
+/// The same work with nothing noted, as a program that only plans would do it, for measurements.
 pub fn plan(input: &[u8]) -> Run<false> {
     run_file(input)
 }
@@ -180,8 +196,8 @@ impl<const NOTED: bool> Run<NOTED> {
             1 => matches!(record, Some(Record::Header { nodes }) if *nodes > NODES),
             2 => self.thresholds.len() >= THRESHOLDS,
             3 | 8 => {
-                let open = self.thresholds.last().map_or(0, |last| last.conditions.len());
-                open >= TERMS_OF_ONE || self.terms >= TERMS
+                let open = self.thresholds.last().map_or(0, |last| self.terms.len() - last.before);
+                open >= TERMS_OF_ONE || self.terms.len() >= TERMS
             }
             6 | 7 => self.answers.len() >= ANSWERS,
             _ => false,
@@ -206,22 +222,18 @@ impl<const NOTED: bool> Run<NOTED> {
     fn accept(&mut self, record: Record) {
         match record {
             Record::Header { nodes } => self.header = Some(nodes),
-            Record::Threshold { node, bound } => self.thresholds.push(RawThreshold {
-                node,
-                bound: i128::from(bound),
-                conditions: Vec::new(),
-                weights: Vec::new(),
-            }),
-            Record::Term { condition, weight } => self.term(condition, u64::from(weight)),
-            Record::Area { condition, area } => self.term(condition, area_weight(area)),
+            Record::Threshold { node, bound } => {
+                self.thresholds.push(Opened { node, bound, before: self.terms.len() });
+            }
+            Record::Term { condition, weight } => {
+                self.terms.push(Term { condition, number: weight, area: false });
+            }
+            Record::Area { condition, area } => {
+                self.terms.push(Term { condition, number: area, area: true });
+            }
             Record::Seal => {
                 let nodes = self.header.expect("the turn was checked");
-                let thresholds = if NOTED {
-                    self.thresholds.clone()
-                } else {
-                    std::mem::take(&mut self.thresholds)
-                };
-                self.planner = Some(Planner::new(nodes, thresholds));
+                self.planner = Some(Planner::new(nodes, self.raw()));
                 self.work(|planner| (planner.seal(), None));
             }
             Record::Mark { node, value } => {
@@ -241,11 +253,20 @@ impl<const NOTED: bool> Run<NOTED> {
         }
     }
 
-    fn term(&mut self, condition: usize, weight: u64) {
-        let open = self.thresholds.last_mut().expect("the turn was checked");
-        open.conditions.push(condition);
-        open.weights.push(weight);
-        self.terms += 1;
+    /// The terms of a threshold, record by record.
+    pub fn terms_of(&self, place: usize) -> &[Term] {
+        let end = self.thresholds.get(place + 1).map_or(self.terms.len(), |next| next.before);
+        &self.terms[self.thresholds[place].before..end]
+    }
+
+    /// The job's thresholds so far, as the original is handed them: their areas joined.
+    pub fn raw(&self) -> Vec<RawThreshold> {
+        let mut sums = vec![None; self.header.unwrap_or(0)];
+        let threshold = |(place, one): (usize, &Opened)| {
+            let (conditions, weights) = joined(self.terms_of(place), &mut sums);
+            RawThreshold { node: one.node, bound: i128::from(one.bound), conditions, weights }
+        };
+        self.thresholds.iter().enumerate().map(threshold).collect()
     }
 
     /// Let the planner work and enter what it did into the record's note.
@@ -272,4 +293,27 @@ impl<const NOTED: bool> Run<NOTED> {
 
 fn bound_outside(record: &Record) -> bool {
     matches!(record, Record::Threshold { bound, .. } if !(-BOUND..=BOUND).contains(bound))
+}
+
+/// The raw list of a threshold's terms. Areas of one condition are added in hundredths, the sum is rounded once, and the
+/// weight stands where the first of them stood. `sums` has a place for each node, empty before and afterwards.
+fn joined(terms: &[Term], sums: &mut [Option<u64>]) -> (Vec<usize>, Vec<u64>) {
+    for area in terms.iter().filter(|term| term.area) {
+        *sums[area.condition].get_or_insert(0) += u64::from(area.number);
+    }
+    let mut conditions = Vec::with_capacity(terms.len());
+    let mut weights = Vec::with_capacity(terms.len());
+    for term in terms {
+        // The first area of its condition takes the sum, and nothing is left for the others.
+        let weight = if term.area {
+            sums[term.condition].take().map(area_weight)
+        } else {
+            Some(u64::from(term.number))
+        };
+        if let Some(weight) = weight {
+            conditions.push(term.condition);
+            weights.push(weight);
+        }
+    }
+    (conditions, weights)
 }

@@ -3,7 +3,7 @@
 
 include!(concat!(env!("OUT_DIR"), "/core/numeric.rs"));
 
-/// One threshold of the job, its list as read: zeros and repetitions included.
+/// One threshold of the job, its areas joined; zeros and repetitions stand in its list.
 #[derive(Clone, Debug)]
 pub struct RawThreshold {
     pub node: usize,

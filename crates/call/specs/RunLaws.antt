@@ -13,6 +13,7 @@ use Rattle.memory.specs.Ranges.{rawLimit}
 use Rattle.memory.specs.Buffers.{rawLists, Raw, raw, Built, Kept, Work, work, fits, longestInput, clearRaw, clearBuilt, cleared}
 use Rattle.memory.specs.LengthsLaws.{Sized, fits-sized, fits-input}
 use Rattle.numeric.specs.Threshold.{Job}
+use Rattle.numeric.specs.Area.{jobOf}
 use Rattle.thresholds.specs.Rows.{rowsOf}
 use Rattle.prepare.specs.JobBuffers.{rawOf, builtOf}
 use Rattle.records.specs.declared.Standing.{Standing}
@@ -50,7 +51,7 @@ record Closed (j : Job) (f : File) : Type 0 where
   sealed : f .sealed ≡ true
   closed : f .closed ≡ j
 
-closed-seal : (f : File) → Good f → refusal f Seal ≡ 0 → Closed (f .job) (apply f Seal)
+closed-seal : (f : File) → Good f → refusal f Seal ≡ 0 → Closed (jobOf (f .draft)) (apply f Seal)
 unfolding apply act sealedFile
 closed-seal f g h = record { good = good-apply f g Seal h; sealed = refl; closed = refl }
 
@@ -81,23 +82,23 @@ closed-from j (suc n) o (kind ∷ rest) f rs s =
 
 -- HOW THE FILE ENDS, by where its job's records end: sealed if a seal came, with the job that they gave.
 record Ends (input : List ℕ) : Type 0 where
-  job : fileOf input .file .job ≡ jobPartOf input .file .job
+  job : jobOf (fileOf input .file .draft) ≡ jobOf (jobPartOf input .file .draft)
   sealed : fileOf input .file .sealed ≡ jobPartOf input .sealing
-  closed : jobPartOf input .sealing ≡ true → fileOf input .file .closed ≡ jobPartOf input .file .job
+  closed : jobPartOf input .sealing ≡ true → fileOf input .file .closed ≡ jobOf (jobPartOf input .file .draft)
 
 module _ (input : List ℕ) where
   abbrev part : JobPart
   part = jobPartOf input
 
-  file-closed : part .sealing ≡ true → Closed (part .file .job) (fileOf input .file)
+  file-closed : part .sealing ≡ true → Closed (jobOf (part .file .draft)) (fileOf input .file)
   file-closed q =
       let e = job-ended input in
       let n = e .next q in
       let g = seal-goes input (part .at) (part .file) (n .0) (n .1) in
       let h : ended (fileOf input) ≡ ended (readAt (length input) input (part .at + 1) (apply (part .file) Seal)) =
       ap ended (file-goes-on input) ∙ taken-any (length input) (part .at) (drop (part .at) input) (part .file) (part .records) [] ∙ sym (g .1) in
-      subst (λ (p : Outcome). Closed (part .file .job) (p .file)) (sym h)
-      (closed-from (part .file .job) (length input) (part .at + 1) (drop (part .at + 1) input) (apply (part .file) Seal) [] (closed-seal (part .file) (e .before .good) (g .0)))
+      subst (λ (p : Outcome). Closed (jobOf (part .file .draft)) (p .file)) (sym h)
+      (closed-from (jobOf (part .file .draft)) (length input) (part .at + 1) (drop (part .at + 1) input) (apply (part .file) Seal) [] (closed-seal (part .file) (e .before .good) (g .0)))
 
   ends-by : (b : Bool) → part .sealing ≡ b → Ends input
   ends-by true q =
@@ -106,7 +107,7 @@ module _ (input : List ℕ) where
   ends-by false q =
       let e = file-ends input q in
       record {
-        job = ap (λ (p : Outcome). p .file .job) e;
+        job = ap (λ (p : Outcome). jobOf (p .file .draft)) e;
         sealed = ap (λ (p : Outcome). p .file .sealed) e ∙ job-ended input .before .unsealed ∙ sym q;
         closed = λ z. absurd (both z q);
       }
@@ -214,7 +215,7 @@ module _ (input : List ℕ) (w : Work) (yes-fits : fits input w ≡ true) (r : J
       rows-so : n ≡ cond (last .sealed) (length (rowsOf (last .closed))) 0
       rows-so = u .counted ∙ same (λ (i : Job). length (rowsOf i)) 0 (r .sealing) (last .sealed) given (last .closed) sealed-so closed-so
 
-      raw-so : raw (rawLists cs ws ts) bs ≡ rawOf (last .job) (clearRaw (w .raw))
+      raw-so : raw (rawLists cs ws ts) bs ≡ rawOf (jobOf (last .draft)) (clearRaw (w .raw))
       raw-so = h .held .words ∙ ap (λ (i : Job). rawOf i (clearRaw (w .raw))) (sym (file-ends-so input .job))
 
       work-so : work (raw (rawLists cs ws ts) bs) b k ≡ laid last (cleared w)

@@ -7,6 +7,7 @@ use Rattle.base.specs.Laid.{over, pairs, quads}
 use Rattle.state.specs.declared.Step.the-variants.{Unchanged}
 use Rattle.state.specs.Step.{stepNumber}
 use Rattle.thresholds.specs.Rows.{rowsOf}
+use Rattle.numeric.specs.Area.{jobOf}
 use Rattle.prepare.specs.JobBuffers.{rawOf, builtOf}
 use Rattle.state.specs.State.{figuresOf, cursorsOf}
 use Rattle.memory.specs.Buffers.{Kept, Work, kept, work, fits, cleared}
@@ -32,14 +33,14 @@ keptOf f w =
 
 -- What a file left, laid into cleared buffers; the seal fills those of the rows.
 unfoldable pub laid : File → Work → Work
-laid f w = work (rawOf (f .job) (w .raw)) (cond (f .sealed) (builtOf (f .closed) (w .built)) (w .built)) (keptOf f (w .kept))
+laid f w = work (rawOf (jobOf (f .draft)) (w .raw)) (cond (f .sealed) (builtOf (f .closed) (w .built)) (w .built)) (keptOf f (w .kept))
 
 -- What is given back of an outcome.
 abbrev pub givenOf : Outcome → Given
 givenOf o =
     let f = o .file in
     let rows = cond (f .sealed) (length (rowsOf (f .closed))) 0 in
-    record { refused = o .refused; at = o .at; sealed = f .sealed; nodes = f .job .nodes; rows = rows; last = f .last; answered = length (f .answers) }
+    record { refused = o .refused; at = o .at; sealed = f .sealed; nodes = f .draft .nodes; rows = rows; last = f .last; answered = length (f .answers) }
 
 -- THE CALL: what it gives back, and what it leaves in every buffer. Refusal 10 touches none.
 pub record Out : Type 0 where

@@ -6,7 +6,8 @@ use lib.ListN.{length, drop, replicate}
 use lib.Dec.{eqb, ltb}
 use mathlib.Core.Path.{_≡_}
 use Rattle.memory.specs.Limits.{maxGcds, maxNodes, maxThresholds}
-use Rattle.numeric.specs.Threshold.{Job}
+use Rattle.numeric.specs.Threshold.{JobOf, Job}
+use Rattle.numeric.specs.Area.{Draft, jobOf}
 use Rattle.state.specs.declared.Step.{Step}
 use Rattle.state.specs.declared.Step.the-variants.{Unchanged}
 use Rattle.state.specs.Step.{contradicts}
@@ -31,11 +32,11 @@ pub data Answer : Type 0 where
   settled : Step → Answer
   sifted : Step → ℕ → Answer
 
--- All that the records so far left: the job that they gave and the one that the last seal closed; the step of the last record
+-- All that the records so far left: the job as they gave it and the one that the last seal closed; the step of the last record
 -- that answered (a seal, a mark, a settle or a sift), Unchanged before any; and the answers of settles and sifts.
 pub record File : Type 0 where
   pub started : Bool
-  pub job : Job
+  pub draft : Draft
   pub closed : Job
   pub sealed : Bool
   pub last : Step
@@ -43,8 +44,8 @@ pub record File : Type 0 where
   pub gcds : List ℕ
   pub answers : List Answer
 
-abbrev pub file : Bool → Job → Job → Bool → Step → Live → List ℕ → List Answer → File
-file s j c e k v g as′ = record { started = s; job = j; closed = c; sealed = e; last = k; live = v; gcds = g; answers = as′ }
+abbrev pub file : Bool → Draft → Job → Bool → Step → Live → List ℕ → List Answer → File
+file s d c e k v g as′ = record { started = s; draft = d; closed = c; sealed = e; last = k; live = v; gcds = g; answers = as′ }
 
 abbrev pub contradicted : File → Bool
 contradicted f = contradicts (f .last)
@@ -55,7 +56,7 @@ cleared =
     live (replicate maxThresholds noState) (marks (replicate 64 0) (replicate 64 0) (queue (replicate maxNodes 0) (ring 0 0)))
     (rows (queue (replicate maxThresholds 0) (ring 0 0)) (replicate maxThresholds 0)) (rows (queue (replicate maxThresholds 0) (ring 0 0)) (replicate maxThresholds 0))
 
-abbrev pub noJob : ℕ → Job
+abbrev pub noJob : {X : Type 0} → ℕ → JobOf X
 noJob n = record { nodes = n; thresholds = [] }
 
 unfoldable pub begun : File
@@ -63,7 +64,7 @@ begun = file false (noJob 0) (noJob 0) false Unchanged cleared (replicate maxGcd
 
 -- THE CHECKS: what they read of a file, and the number of the first that applies to a record; 0 for none.
 abbrev pub standing : File → Standing
-standing f = standingOf (f .started) (f .sealed) (contradicted f) (f .job) (length (f .answers))
+standing f = standingOf (f .started) (f .sealed) (contradicted f) (f .draft) (length (f .answers))
 
 unfoldable pub refusal : File → Record → ℕ
 refusal f r = refusedBy (standing f) r
@@ -71,17 +72,18 @@ refusal f r = refusedBy (standing f) r
 -- WHAT A RECORD DOES that is not refused.
 
 -- The job before its seal.
-abbrev pub withJob : File → Job → File
-withJob f j = file true j (f .closed) (f .sealed) (f .last) (f .live) (f .gcds) (f .answers)
+abbrev pub withDraft : File → Draft → File
+withDraft f d = file true d (f .closed) (f .sealed) (f .last) (f .live) (f .gcds) (f .answers)
 
 -- What a seal, a mark, a settle or a sift left: the job that is closed then, its step, memory and gcds, and all answers.
 abbrev pub told : File → Job → Step → Live → List ℕ → List Answer → File
-told f j k v g as′ = file (f .started) (f .job) j true k v g as′
+told f j k v g as′ = file (f .started) (f .draft) j true k v g as′
 
 unfoldable pub sealedFile : File → File
 sealedFile f =
-    let d = Drain.seal (indexOf (f .job)) (f .live) in
-    told f (f .job) (d .step) (d .live) (f .gcds) (f .answers)
+    let j = jobOf (f .draft) in
+    let d = Drain.seal (indexOf j) (f .live) in
+    told f j (d .step) (d .live) (f .gcds) (f .answers)
 
 unfoldable pub markedFile : File → ℕ → Bool → File
 markedFile f n value =
@@ -99,8 +101,8 @@ siftedFile f =
     told f (f .closed) (s .step) (s .live) (s .gcds) (f .answers ++ (sifted (s .step) (s .visits) ∷ []))
 
 unfoldable pub act : File → Action → File
-act f (begins n) = withJob f (noJob n)
-act f (changes c) = withJob f (withChange (f .job) c)
+act f (begins n) = withDraft f (noJob n)
+act f (changes c) = withDraft f (withChange (f .draft) c)
 act f closes = sealedFile f
 act f (decides n v) = markedFile f n (eqb v 1)
 act f settles = settledFile f

@@ -3,43 +3,47 @@ use Prim.Native.Nat.{ℕ, zero, suc, _+_, _-_, _<_, _≤_}
 use native.Mathlib.Omega.{arith}
 use mathlib.Core.Path.{_≡_, refl, sym, ap, ap₂, _∙_, subst}
 use mathlib.Core.Bool.{Bool, true, false, not, _||_}
-use mathlib.Core.List.{List, [], _∷_, _++_}
-use lib.ListN.{length, getD, drop, set, drop-of-length-le}
+use mathlib.Core.List.{List, [], _∷_, _++_, map}
+use lib.ListN.{length, getD, drop, set, drop-of-length-le, length-map, length-set}
 use lib.Seq.{drop-cons, drop-drop}
 use lib.IntN.{ℤ}
 use lib.Dec.{eqb}
 use borrow.Author.Tests.{ltb-false, ne-eqb, not-false}
-use mathlib.Core.Logic.{_⊎_, inl, inr, ⊎-elim}
+use mathlib.Core.Logic.{_⊎_, inl, inr, ⊎-elim, _≢_}
 use Rattle.base.specs.TestLaws.{or-false, true-false, unequal}
 use Rattle.numeric.specs.Threshold.{term, Threshold, Job}
-use Rattle.numeric.specs.Area.{weightOfArea}
-use Rattle.memory.specs.Limits.{maxNodes, maxTerms, maxThresholds}
+use Rattle.numeric.specs.Area.{Entry, plain, area, joined, weightOfArea, rounded, weighed, weighedThreshold, Draft, jobOf}
+use Rattle.numeric.specs.AreaLaws.{joined-plain, joined-area, joined-long}
+use Rattle.memory.specs.Limits.{maxNodes, maxTerms, maxThresholds, listTerms}
 use Rattle.memory.specs.Buffers.{Raw, rawLists, raw}
 use Rattle.base.specs.Laid.{numbers, joinAll, ends, pairs}
+use Rattle.base.specs.Parts.{startBy}
 use Rattle.thresholds.specs.Guards.{nodeAt}
 use Rattle.prepare.specs.JobBuffers.{rawOf}
 use Rattle.records.specs.declared.Standing.{Standing}
 use Rattle.records.specs.declared.Record.{Record}
 use Rattle.records.specs.declared.Record.the-variants.{Header, Opens, Adds, Areas, Seal, Unknown}
 use Rattle.records.specs.Record.{kindOf, bodyLength}
-use Rattle.records.specs.Next.{recordIn, closing, nextAt, termCondition, termWeight, TermNext}
+use Rattle.records.specs.Next.{recordIn, closing, nextAt, entryCondition, entryFigure, EntryNext}
 use Rattle.records.specs.Facts.{serving, action, facts}
 use Rattle.records.specs.declared.Next.the-variants.{Refused, Taken}
 use Rattle.records.specs.Checks.{wrongTurn, refusedBy, refusedAt}
 use Rattle.records.specs.CheckLaws.{Passes, passes, was-refused, was-taken, taken-passes, taken-whole}
-use Rattle.job.specs.Job.{lastNode, lastTerms, allTerms, standingOf}
-use Rattle.job.specs.Taken.{openedBy, addedTo, withThreshold, withTerm}
-use Rattle.job.specs.Gathered.{Gathered, Opened, Added}
-use Rattle.job.specs.JobLaws.{standing-opened, standing-added}
+use Rattle.job.specs.Job.{lastNode, lastList, allTerms, standingOf}
+use Rattle.job.specs.Taken.{openedBy, addedTo, withThreshold, withTerm, weighing, withWeight}
+use Rattle.job.specs.Gathered.{Opened, Added, openStart, Joinable, FirstArea, MoreArea, AreaTaken, first, more}
+use Rattle.job.specs.JobLaws.{map-end, list-more, list-on, all-on, all-added, job-opened, last-weighed, node-weighed, job-added, standing-opened, standing-added}
 use Rattle.job.specs.SoundLaws.{gathered-none}
-use Rattle.job.specs.TakenLaws.{opened-gathered, added-gathered, term-open}
-use Rattle.job.specs.RawLaws.{raw-opened, raw-added}
+use Rattle.job.specs.TakenLaws.{opened-gathered, added-gathered, term-open, counts-left}
+use Rattle.job.specs.JoinLaws.{opened-joinable, added-joinable, area-named, reweighed-gathered}
+use Rattle.job.specs.RawLaws.{raw-opened, raw-added, raw-weighed}
 use Rattle.files.specs.declared.JobRead.{JobRead}
-use Rattle.files.specs.File.{File, contradicted, standing, noJob, begun, withJob, act, apply, refusalAt}
+use Rattle.files.specs.File.{File, contradicted, standing, noJob, begun, withDraft, act, apply, refusalAt}
 use Rattle.files.specs.FileLaws.{zero-or}
 use Rattle.files.specs.JobPart.{JobPart, jobPart, readJob, jobPartOf}
 use Rattle.files.specs.JobPartLaws.{job-refused, job-sealing, job-next}
-use Rattle.files.specs.Held.{headed, Room, Held, Takes, HeldPart, Reads, Going}
+use Rattle.files.specs.Held.{headed, blank, Room, Held, noEntry, Noted, Reading, Unnoted, Takes, HeldPart, ReadPart, Reads, Going}
+use Rattle.files.specs.NotedLaws.{add-new, add-old, rounded-set, noted-none, unnoted-joinable, noted-plain, no-first, noted-first, stands-there, spot-inside, only-one, noted-more}
 
 -- ---- one record that is taken
 
@@ -52,41 +56,61 @@ open-turn : (a : Bool) → a ≡ false → a || false ≡ false
 open-turn true e = e
 open-turn false e = refl
 
-module _ (f : File) (w : Raw) (room : Room w) (s : Standing) (cs ws : List ℕ) (ts : List (List ℕ)) (bs : List ℤ) (h : Held f w s cs ws ts bs) where
+module _ (f : File) (w : Raw) (room : Room w) (s : Standing) (cs ws : List ℕ) (ts : List (List ℕ)) (bs : List ℤ) (ps ss : List ℕ) (g : Reading f w s cs ws ts bs ps ss) where
+  abbrev h : Held f w s cs ws ts bs
+  h = g .held
+
+  abbrev now : Draft
+  now = f .draft
+
   abbrev us : List Threshold
-  us = f .job .thresholds
+  us = jobOf now .thresholds
+
+  abbrev open-list : List Entry
+  open-list = lastList (now .thresholds)
+
+  same-many : length us ≡ length (now .thresholds)
+  same-many = length-map (now .thresholds) weighedThreshold
 
   many : s .thresholds ≡ length us
-  many = ap (λ (x : Standing). x .thresholds) (h .stands)
+  many = ap (λ (x : Standing). x .thresholds) (h .stands) ∙ sym same-many
 
-  all : s .terms ≡ allTerms us
-  all = ap (λ (x : Standing). x .terms) (h .stands)
+  all : s .«raw_terms» ≡ allTerms us
+  all = ap (λ (x : Standing). x .«raw_terms») (h .stands)
 
-  pub held-header : (n : ℕ) → refusedBy s (Header n) ≡ 0 → Held (apply f (Header n)) w (headed s n) cs ws ts bs
-  unfolding apply act lastNode lastTerms allTerms numbers
+  pub held-header : (n : ℕ) → refusedBy s (Header n) ≡ 0 → Reading (apply f (Header n)) w (headed s n) cs ws ts bs ps ss
+  unfolding apply act lastNode lastList allTerms numbers joined startBy
   held-header n e = record {
-    stands = ap (λ (x : Standing). headed x n) (h .stands);
-    words = h .words ∙ ap (λ (j : Job). rawOf j w) first-job ∙ first-words;
-    job = refl;
-    gathered = gathered-none (headed s n) cs ws ts bs (ltb-false maxNodes n (p .room)) refl refl (g .termed .conditions) (g .termed .weights) (g .listed .room) (g .bounded .room);
-    unsealed = h .unsealed;
-    unstarted = λ q. refl;
+    held = record {
+      stands = ap (λ (x : Standing). headed x n) (h .stands);
+      words = h .words ∙ ap (λ (j : Job). rawOf j w) first-job ∙ first-words;
+      job = refl;
+      gathered = gathered-none (headed s n) cs ws ts bs (ltb-false maxNodes n (p .room)) refl refl (h .gathered .termed .conditions) (h .gathered .termed .weights) (h .gathered .listed .room) (h .gathered .bounded .room);
+      unsealed = h .unsealed;
+      unstarted = λ q. refl;
+    };
+    noted = noted-none (headed s n) ts ps ss (record { places = j .places; sums = j .sums; behind = λ c. clear c; small = λ c q. absurd (let z = clear c in omega (arith, z, q)) }) refl;
   }
     where
       p : Passes s (facts (action (Header n)))
       p = passes s (facts (action (Header n))) e
 
-      g : Gathered s cs ws ts bs
-      g = h .gathered
+      j : Joinable s ts ps ss
+      j = g .noted .joinable
 
-      no-thresholds : f .job .thresholds ≡ []
+      no-thresholds : f .draft .thresholds ≡ []
       no-thresholds = h .unstarted (sym (ap (λ (x : Standing). x .started) (h .stands)) ∙ p .turn)
 
-      first-job : f .job ≡ noJob (f .job .nodes)
-      first-job = λ i. record { nodes = f .job .nodes; thresholds = no-thresholds i }
+      first-job : jobOf (f .draft) ≡ noJob (f .draft .nodes)
+      first-job = λ i. record { nodes = f .draft .nodes; thresholds = map weighedThreshold (no-thresholds i) }
 
-      first-words : rawOf (noJob (f .job .nodes)) w ≡ rawOf (noJob n) w
-      first-words = words-none (f .job .nodes) n w
+      first-words : rawOf (noJob (f .draft .nodes)) w ≡ rawOf (noJob n) w
+      first-words = words-none (f .draft .nodes) n w
+
+      clear : (c : ℕ) → getD ps c 0 ≤ 0
+      clear c =
+          let q = all ∙ ap (λ (i : Job). allTerms (i .thresholds)) first-job in
+          let l = j .behind c in omega (arith, q, l)
 
   -- The file was started.
   begun-by : (e : Bool) → not (s .started) || s .sealed || e ≡ false → f .started ≡ true
@@ -96,120 +120,252 @@ module _ (f : File) (w : Raw) (room : Room w) (s : Standing) (cs ws : List ℕ) 
       sym (ap (λ (x : Standing). x .started) (h .stands)) ∙ not-false (s .started) (a .0)
 
   pub held-opens : (n : ℕ) (b : ℤ) → refusedBy s (Opens n b) ≡ 0 → (r : Standing) (ts′ : List (List ℕ)) (bs′ : List ℤ) → Opened s n b ts bs r ts′ bs′
-      → Held (apply f (Opens n b)) w r cs ws ts′ bs′
-  unfolding apply act
+      → Reading (apply f (Opens n b)) w r cs ws ts′ bs′ ps ss
+  unfolding apply act joined
   held-opens n b e r ts′ bs′ o = record {
-    stands = o .standing ∙ ap (λ (x : Standing). openedBy x n) (h .stands) ∙ ap (λ (t : Bool). openedBy (standingOf t (f .sealed) (contradicted f) (f .job) (length (f .answers))) n) started
-        ∙ sym (standing-opened true (f .sealed) (contradicted f) (f .job) (length (f .answers)) n b);
-    words =
-        ap₂ (λ (l : List (List ℕ)) (z : List ℤ). raw (rawLists cs ws l) z) (o .thresholds) (o .bounds)
-        ∙ ap (λ (x : Raw). raw (rawLists (x .lists .raw-conditions) (x .lists .raw-weights) (set (x .lists .thresholds) (s .thresholds) (n ∷ s .terms ∷ []))) (set (x .bounds) (s .thresholds) b)) (h .words)
-        ∙ ap₂ (λ (k m : ℕ). raw (rawLists (rawOf (f .job) w .lists .raw-conditions) (rawOf (f .job) w .lists .raw-weights) (set (rawOf (f .job) w .lists .thresholds) k (n ∷ m ∷ []))) (set (rawOf (f .job) w .bounds) k b)) many all
-        ∙ raw-opened (f .job) w n b (omega (arith, few, many, room .thresholds)) (omega (arith, few, many, room .bounds));
-    job = o .job cs ws ∙ ap (λ (j : Job). withThreshold j n b) (h .job);
-    gathered = opened-gathered s n b cs ws ts bs r ts′ bs′ (h .gathered) o;
-    unsealed = h .unsealed;
-    unstarted = λ q. absurd (unequal cc);
+    held = record {
+      stands = o .standing ∙ ap (λ (x : Standing). openedBy x n) (h .stands) ∙ ap (λ (t : Bool). openedBy (standingOf t (f .sealed) (contradicted f) now (length (f .answers))) n) started
+          ∙ sym (standing-opened true (f .sealed) (contradicted f) now (length (f .answers)) n b);
+      words =
+          ap₂ (λ (l : List (List ℕ)) (z : List ℤ). raw (rawLists cs ws l) z) (o .thresholds) (o .bounds)
+          ∙ ap (λ (x : Raw). raw (rawLists (x .lists .raw-conditions) (x .lists .raw-weights) (set (x .lists .thresholds) (s .thresholds) (n ∷ s .«raw_terms» ∷ []))) (set (x .bounds) (s .thresholds) b)) (h .words)
+          ∙ ap₂ (λ (k m : ℕ). raw (rawLists (held-so .lists .raw-conditions) (held-so .lists .raw-weights) (set (held-so .lists .thresholds) k (n ∷ m ∷ []))) (set (held-so .bounds) k b)) many all
+          ∙ raw-opened (jobOf now) w n b (omega (arith, few, many, room .thresholds)) (omega (arith, few, many, room .bounds))
+          ∙ ap (λ (j : Job). rawOf j w) (sym (job-opened now n b));
+      job = o .job cs ws ∙ ap (λ (j : Job). withThreshold j n b) (h .job) ∙ sym (job-opened now n b);
+      gathered = opened-gathered s n b cs ws ts bs r ts′ bs′ (h .gathered) o;
+      unsealed = h .unsealed;
+      unstarted = λ q. absurd (unequal cc);
+    };
+    noted =
+        subst (λ (l : List Entry). Noted (joined l) r ts′ ps ss) (sym (list-more (record { node = n; bound = b; terms = [] }) (now .thresholds)))
+        (noted-none r ts′ ps ss (opens-so .1 ps ss (g .noted .joinable)) (opens-so .0 ∙ sym (ap (λ (x : Standing). x .«raw_terms») (o .standing))));
   }
     where
+      held-so : Raw
+      held-so = rawOf (jobOf now) w
+
       started : f .started ≡ true
       started = begun-by false (open-turn (not (s .started) || s .sealed) (passes s (facts (action (Opens n b))) e .turn))
 
       few : s .thresholds + 1 ≤ maxThresholds
       few = subst (λ (k : ℕ). k ≤ maxThresholds) (ap (λ (x : Standing). x .thresholds) (o .standing)) (o .listed .many)
 
-  -- A term, whether its weight was given or is that of an area.
-  module _ (c v : ℕ) (e : refusedBy s (Adds c v) ≡ 0) (r : Standing) (cs′ ws′ : List ℕ) (ts′ : List (List ℕ)) (o : Added s c v cs ws ts r cs′ ws′ ts′) where
+      opens-so : (openStart r ts′ ≡ s .«raw_terms») × ((qs zs : List ℕ) → Joinable s ts qs zs → Joinable r ts′ qs zs)
+      opens-so = opened-joinable s n b ts bs (h .gathered .listed) (h .gathered .bounded) e r ts′ bs′ o
+
+  -- An entry that passed its checks. A term and an area are checked alike.
+  module _ (c v : ℕ) (e : refusedBy s (Adds c v) ≡ 0) where
     started : f .started ≡ true
     started = begun-by (eqb (s .thresholds) 0) (passes s (facts (action (Adds c v))) e .turn)
 
-    last : ℕ
-    last = s .thresholds - 1
-
-    open-one : s .thresholds ≡ last + 1
-    unfolding last
+    open-one : s .thresholds ≡ s .thresholds - 1 + 1
     open-one = term-open s c v cs ws ts (h .gathered .listed) (h .gathered .termed) e
 
-    node : nodeAt ts (s .thresholds - 1) ≡ lastNode us
-    unfolding last
-    node = h .gathered .listed .last (s .thresholds - 1) (sym open-one) ∙ ap (λ (x : Standing). x .«last_node») (h .stands)
+    some : 0 < length (now .thresholds)
+    some = let m = many in let k = same-many in let q = open-one in omega (arith, m, k, q)
 
-    few : s .terms + 1 ≤ maxTerms
-    few = subst (λ (k : ℕ). k ≤ maxTerms) (ap (λ (x : Standing). x .terms) (o .standing)) (o .listed .terms)
+    stands-so : (x : Entry) (n : ℕ) → allTerms (jobOf (withTerm now x) .thresholds) ≡ n → (r : Standing) → r ≡ addedTo s n → r ≡ standing (withDraft f (withTerm now x))
+    stands-so x n q r k =
+        k ∙ ap (λ (y : Standing). addedTo y n) (h .stands) ∙ ap (λ (t : Bool). addedTo (standingOf t (f .sealed) (contradicted f) now (length (f .answers))) n) started
+        ∙ sym (standing-added true (f .sealed) (contradicted f) now (length (f .answers)) x n some q)
 
-    pub held-term : Held (withJob f (withTerm (f .job) (term c v))) w r cs′ ws′ ts′ bs
-    unfolding last
-    held-term = record {
-      stands = o .standing ∙ ap addedTo (h .stands) ∙ ap (λ (t : Bool). addedTo (standingOf t (f .sealed) (contradicted f) (f .job) (length (f .answers)))) started
-          ∙ sym (standing-added true (f .sealed) (contradicted f) (f .job) (length (f .answers)) (term c v) (omega (arith, many, open-one)));
-      words =
-          (λ i. raw (rawLists (o .conditions i) (o .weights i) (o .thresholds i)) bs)
-          ∙ (λ i. raw (rawLists (set cs (s .terms) c) (set ws (s .terms) v) (set ts (s .thresholds - 1) (node i ∷ (s .terms + 1) ∷ []))) bs)
-          ∙ ap (λ (x : Raw). raw (rawLists (set (x .lists .raw-conditions) (s .terms) c) (set (x .lists .raw-weights) (s .terms) v) (set (x .lists .thresholds) (s .thresholds - 1) (lastNode us ∷ (s .terms + 1) ∷ []))) (x .bounds)) (h .words)
-          ∙ ap (λ (m : ℕ). raw (rawLists (set (rawOf (f .job) w .lists .raw-conditions) m c) (set (rawOf (f .job) w .lists .raw-weights) m v) (set (rawOf (f .job) w .lists .thresholds) (s .thresholds - 1) (lastNode us ∷ (m + 1) ∷ []))) (rawOf (f .job) w .bounds)) all
-          ∙ raw-added (f .job) w (term c v) (s .thresholds - 1) (omega (arith, many, open-one)) (omega (arith, all, few, room .conditions)) (omega (arith, all, few, room .weights));
-      job = o .job bs ∙ ap (λ (j : Job). withTerm j (term c v)) (h .job);
-      gathered = added-gathered s c v cs ws ts bs r cs′ ws′ ts′ (h .gathered) o;
-      unsealed = h .unsealed;
-      unstarted = λ q. absurd (unequal cc);
+    -- one entry more
+    module _ (x : Entry) (u : ℕ) (goes : weighed (open-list ++ (x ∷ [])) ≡ weighed open-list ++ (term c u ∷ []))
+        (r : Standing) (cs′ ws′ : List ℕ) (ts′ : List (List ℕ)) (o : Added s c u cs ws ts r cs′ ws′ ts′) where
+      job-so : jobOf (withTerm now x) ≡ withTerm (jobOf now) (term c u)
+      job-so = job-added now x (λ l. l ++ (term c u ∷ [])) goes
+
+      node : nodeAt ts (s .thresholds - 1) ≡ lastNode us
+      node =
+          h .gathered .listed .last (s .thresholds - 1) (sym open-one) ∙ ap (λ (y : Standing). y .«last_node») (h .stands) ∙ sym (node-weighed (now .thresholds))
+
+      few : s .«raw_terms» + 1 ≤ maxTerms
+      few = subst (λ (k : ℕ). k ≤ maxTerms) (ap (λ (y : Standing). y .«raw_terms») (o .standing)) (o .listed .terms)
+
+      held-entry : Held (withDraft f (withTerm now x)) w r cs′ ws′ ts′ bs
+      held-entry = record {
+        stands = stands-so x (s .«raw_terms» + 1)
+            (ap (λ (j : Job). allTerms (j .thresholds)) job-so ∙ all-added (term c u) us (let m = many in let q = open-one in omega (arith, m, q)) ∙ ap (λ (n : ℕ). n + 1) (sym all)) r (o .standing);
+        words =
+            (λ i. raw (rawLists (o .conditions i) (o .weights i) (o .thresholds i)) bs)
+            ∙ (λ i. raw (rawLists (set cs (s .«raw_terms») c) (set ws (s .«raw_terms») u) (set ts (s .thresholds - 1) (node i ∷ (s .«raw_terms» + 1) ∷ []))) bs)
+            ∙ ap (λ (y : Raw). raw (rawLists (set (y .lists .raw-conditions) (s .«raw_terms») c) (set (y .lists .raw-weights) (s .«raw_terms») u) (set (y .lists .thresholds) (s .thresholds - 1) (lastNode us ∷ (s .«raw_terms» + 1) ∷ []))) (y .bounds)) (h .words)
+            ∙ ap (λ (m : ℕ). raw (rawLists (set (rawOf (jobOf now) w .lists .raw-conditions) m c) (set (rawOf (jobOf now) w .lists .raw-weights) m u) (set (rawOf (jobOf now) w .lists .thresholds) (s .thresholds - 1) (lastNode us ∷ (m + 1) ∷ []))) (rawOf (jobOf now) w .bounds)) all
+            ∙ raw-added (jobOf now) w (term c u) (s .thresholds - 1) (omega (arith, many, open-one)) (omega (arith, all, few, room .conditions)) (omega (arith, all, few, room .weights))
+            ∙ ap (λ (j : Job). rawOf j w) (sym job-so);
+        job = o .job bs ∙ ap (λ (j : Job). withTerm j (term c u)) (h .job) ∙ sym job-so;
+        gathered = added-gathered s c u cs ws ts bs r cs′ ws′ ts′ (h .gathered) o;
+        unsealed = h .unsealed;
+        unstarted = λ q. absurd (unequal cc);
+      }
+
+    -- The list that is open then.
+    open-then : (x : Entry) → lastList (withTerm now x .thresholds) ≡ open-list ++ (x ∷ [])
+    open-then x = list-on (λ l. l ++ (x ∷ [])) (now .thresholds) some
+
+    pub held-adds : (r : Standing) (cs′ ws′ : List ℕ) (ts′ : List (List ℕ)) → Added s c v cs ws ts r cs′ ws′ ts′ → Reading (apply f (Adds c v)) w r cs′ ws′ ts′ bs ps ss
+    unfolding apply act
+    held-adds r cs′ ws′ ts′ o = record {
+      held = held-entry (plain c v) v (ap (map rounded) (joined-plain c v open-list) ∙ map-end rounded (joined open-list) (plain c v)) r cs′ ws′ ts′ o;
+      noted =
+          subst (λ (l : List Entry). Noted l r ts′ ps ss) (sym (ap joined (open-then (plain c v)) ∙ joined-plain c v open-list))
+          (noted-plain (joined open-list) s ts ps ss (g .noted) r ts′ (so .1 ps ss (g .noted .joinable)) (so .0) (ap (λ (y : Standing). y .«raw_terms») (o .standing)) c v);
     }
+      where
+        so : (openStart r ts′ ≡ openStart s ts) × ((qs zs : List ℕ) → Joinable s ts qs zs → Joinable r ts′ qs zs)
+        so = added-joinable s c v cs ws ts (h .gathered .listed) (h .gathered .termed) e v r cs′ ws′ ts′ o
 
-    pub held-adds : Held (apply f (Adds c v)) w r cs′ ws′ ts′ bs
-    unfolding apply act
-    held-adds = held-term
+    -- the open list has room for one more
+    short-list : length (joined open-list) < listTerms
+    short-list =
+        let k = counts-left s c v cs ws ts (h .gathered .listed) (h .gathered .termed) e .0 in
+        let q = ap (λ (y : Standing). y .«last_terms») (h .stands) in
+        let l = joined-long open-list in omega (arith, k, q, l)
 
-    pub held-areas : (a : ℕ) → v ≡ weightOfArea a → Held (apply f (Areas c a)) w r cs′ ws′ ts′ bs
+    named : c < length ps
+    named = area-named s c v cs ws ts ps ss (h .gathered .listed) (h .gathered .termed) (g .noted .joinable) e
+
+    held-first : (a : ℕ) (r : Standing) (cs′ ws′ : List ℕ) (ts′ : List (List ℕ)) (ps′ ss′ : List ℕ) → FirstArea s c a cs ws ts ps ss r cs′ ws′ ts′ ps′ ss′
+        → Reading (apply f (Areas c a)) w r cs′ ws′ ts′ bs ps′ ss′
     unfolding apply act
-    held-areas a q = subst (λ (n : ℕ). Held (withJob f (withTerm (f .job) (term c n))) w r cs′ ws′ ts′ bs) q held-term
+    held-first a r cs′ ws′ ts′ ps′ ss′ o = record {
+      held = held-entry (area c a) (weightOfArea a) (ap (map rounded) one ∙ map-end rounded (joined open-list) (area c a)) r cs′ ws′ ts′ (o .added);
+      noted = subst (λ (l : List Entry). Noted l r ts′ ps′ ss′) (sym (ap joined (open-then (area c a)) ∙ one)) so;
+    }
+      where
+        same : openStart r ts′ ≡ openStart s ts
+        same = added-joinable s c v cs ws ts (h .gathered .listed) (h .gathered .termed) e (weightOfArea a) r cs′ ws′ ts′ (o .added) .0
+
+        room-there : length (joined open-list) < length ss
+        room-there = let k = short-list in omega (arith, k, g .noted .joinable .sums)
+
+        so : Noted (joined open-list ++ (area c a ∷ [])) r ts′ ps′ ss′
+        so = noted-first (joined open-list) s c a cs ws ts ps ss (g .noted) r cs′ ws′ ts′ ps′ ss′ o named room-there same
+
+        one : joined (open-list ++ (area c a ∷ [])) ≡ joined open-list ++ (area c a ∷ [])
+        one =
+            joined-area c a open-list
+            ∙ add-new c a (joined open-list) (no-first (joined open-list) s c a cs ws ts ps ss (g .noted) r cs′ ws′ ts′ ps′ ss′ o named room-there same)
+
+    held-more : (a : ℕ) (r : Standing) (ws′ ss′ : List ℕ) → MoreArea s c a cs ws ts ps ss r ws′ ss′ → Reading (apply f (Areas c a)) w r cs ws′ ts bs ps ss′
+    unfolding apply act
+    held-more a r ws′ ss′ o = record {
+      held = record {
+        stands = stands-so (area c a) (s .«raw_terms») (ap (λ (j : Job). allTerms (j .thresholds)) job-so ∙ same-all ∙ sym all) r (o .reweighed .standing);
+        words =
+            ap (λ (l : List ℕ). raw (rawLists cs l ts) bs) (o .reweighed .weights)
+            ∙ ap (λ (y : Raw). raw (rawLists (y .lists .raw-conditions) (set (y .lists .raw-weights) at weight) (y .lists .thresholds)) (y .bounds)) (h .words)
+            ∙ ap (λ (m : ℕ). raw (rawLists (rawOf (jobOf now) w .lists .raw-conditions) (set (rawOf (jobOf now) w .lists .raw-weights) m weight) (rawOf (jobOf now) w .lists .thresholds)) (rawOf (jobOf now) w .bounds)) at-spot
+            ∙ raw-weighed (jobOf now) w (openStart s ts) spot weight (let l = listed-long in let q = all in omega (arith, l, q, n .long)) (let l = listed-long in let k = inside in omega (arith, l, k))
+            ∙ ap (λ (j : Job). rawOf j w) (sym job-so);
+        job = o .reweighed .job bs ∙ ap (λ (j : Job). withWeight j spot weight) (h .job) ∙ sym job-so;
+        gathered = reweighed-gathered s at weight cs ws ts bs r ws′ (h .gathered) (o .reweighed);
+        unsealed = h .unsealed;
+        unstarted = λ q. absurd (unequal cc);
+      };
+      noted = subst (λ (l : List Entry). Noted l r ts ps ss′) (sym (ap joined (open-then (area c a)) ∙ one)) (noted-more (joined open-list) s c a cs ws ts ps ss n r ws′ ss′ o wide);
+    }
+      where
+        n : Noted (joined open-list) s ts ps ss
+        n = g .noted
+
+        wide : length (joined open-list) ≤ length ss
+        wide = let k = short-list in omega (arith, k, g .noted .joinable .sums)
+
+        at : ℕ
+        at = getD ps c 0 - 1
+
+        spot : ℕ
+        spot = getD ps c 0 - 1 - openStart s ts
+
+        weight : ℕ
+        weight = weightOfArea (getD ss spot 0 + a)
+
+        at-spot : at ≡ openStart s ts + spot
+        at-spot = let t = o .there in omega (arith, t)
+
+        inside : spot < length (joined open-list)
+        inside = spot-inside (joined open-list) s c a cs ws ts ps ss n r ws′ ss′ o wide
+
+        there : getD (joined open-list) spot noEntry ≡ area c (getD ss spot 0)
+        there = stands-there (joined open-list) s c a cs ws ts ps ss n r ws′ ss′ o wide
+
+        one : joined (open-list ++ (area c a ∷ [])) ≡ set (joined open-list) spot (area c (getD ss spot 0 + a))
+        one =
+            joined-area c a open-list
+            ∙ add-old c a (joined open-list) spot (getD ss spot 0) there (only-one (joined open-list) s c a cs ws ts ps ss n r ws′ ss′ o wide)
+
+        goes : weighed (open-list ++ (area c a ∷ [])) ≡ weighing spot weight (weighed open-list)
+        goes = ap (map rounded) one ∙ rounded-set (joined open-list) spot c (getD ss spot 0) (getD ss spot 0 + a) there
+
+        job-so : jobOf (withTerm now (area c a)) ≡ withWeight (jobOf now) spot weight
+        job-so = job-added now (area c a) (weighing spot weight) goes
+
+        listed-long : length (lastList us) ≡ length (joined open-list)
+        listed-long = ap length (last-weighed (now .thresholds)) ∙ length-map (joined open-list) rounded
+
+        same-all : allTerms (withWeight (jobOf now) spot weight .thresholds) ≡ allTerms us
+        same-all =
+            let q = all-on (weighing spot weight) us (let m = many in let k = open-one in omega (arith, m, k)) in
+            let l = length-set (lastList us) spot (term (getD (lastList us) spot (term 0 0) .condition) weight) in omega (arith, q, l)
+
+    held-area : (a : ℕ) (r : Standing) (cs′ ws′ : List ℕ) (ts′ : List (List ℕ)) (ps′ ss′ : List ℕ) → AreaTaken s c a cs ws ts ps ss r cs′ ws′ ts′ ps′ ss′
+        → Reading (apply f (Areas c a)) w r cs′ ws′ ts′ bs ps′ ss′
+    held-area a r cs′ ws′ ts′ ps′ ss′ (first o) = held-first a r cs′ ws′ ts′ ps′ ss′ o
+    held-area a r cs′ ws′ ts′ ps′ ss′ (more o ec et ep) =
+        subst (λ (l : List ℕ). Reading (apply f (Areas c a)) w r l ws′ ts′ bs ps′ ss′) (sym ec)
+        (subst (λ (l : List (List ℕ)). Reading (apply f (Areas c a)) w r cs ws′ l bs ps′ ss′) (sym et)
+        (subst (λ (l : List ℕ). Reading (apply f (Areas c a)) w r cs ws′ ts bs l ss′) (sym ep) (held-more a r ws′ ss′ o)))
 
 -- THE RECORD TAKEN, by what it was found to be
-module _ (x : Record) (s : Standing) (cs ws : List ℕ) (ts : List (List ℕ)) (bs : List ℤ) (none : refusedBy s x ≡ 0) where
-  pub takes-header : (n : ℕ) → x ≡ Header n → (r : Standing) → r ≡ headed s n → Takes x s cs ws ts bs r cs ws ts bs
+module _ (x : Record) (s : Standing) (cs ws : List ℕ) (ts : List (List ℕ)) (bs : List ℤ) (ps ss : List ℕ) (none : refusedBy s x ≡ 0) where
+  pub takes-header : (n : ℕ) → x ≡ Header n → (r : Standing) → r ≡ headed s n → Takes x s cs ws ts bs ps ss r cs ws ts bs ps ss
   takes-header n e r q = record {
     done = λ f w room h.
-        subst (λ (y : Record). Held (apply f y) w r cs ws ts bs) (sym e)
-        (subst (λ (t : Standing). Held (apply f (Header n)) w t cs ws ts bs) (sym q) (held-header f w room s cs ws ts bs h n (sym (ap (refusedBy s) e) ∙ none)));
+        subst (λ (y : Record). Reading (apply f y) w r cs ws ts bs ps ss) (sym e)
+        (subst (λ (t : Standing). Reading (apply f (Header n)) w t cs ws ts bs ps ss) (sym q) (held-header f w room s cs ws ts bs ps ss h n (sym (ap (refusedBy s) e) ∙ none)));
   }
 
   pub takes-opens : (n : ℕ) (b z : ℤ) → x ≡ Opens n b → z ≡ b → (r : Standing) (ts′ : List (List ℕ)) (bs′ : List ℤ) → Opened s n z ts bs r ts′ bs′
-      → Takes x s cs ws ts bs r cs ws ts′ bs′
+      → Takes x s cs ws ts bs ps ss r cs ws ts′ bs′ ps ss
   takes-opens n b z e q r ts′ bs′ o = record {
     done = λ f w room h.
-        subst (λ (y : Record). Held (apply f y) w r cs ws ts′ bs′) (sym e)
-        (held-opens f w room s cs ws ts bs h n b (sym (ap (refusedBy s) e) ∙ none) r ts′ bs′ (subst (λ (y : ℤ). Opened s n y ts bs r ts′ bs′) q o));
+        subst (λ (y : Record). Reading (apply f y) w r cs ws ts′ bs′ ps ss) (sym e)
+        (held-opens f w room s cs ws ts bs ps ss h n b (sym (ap (refusedBy s) e) ∙ none) r ts′ bs′ (subst (λ (y : ℤ). Opened s n y ts bs r ts′ bs′) q o));
   }
 
   pub takes-adds : (c v : ℕ) → x ≡ Adds c v → (r : Standing) (cs′ ws′ : List ℕ) (ts′ : List (List ℕ)) → Added s c v cs ws ts r cs′ ws′ ts′
-      → Takes x s cs ws ts bs r cs′ ws′ ts′ bs
+      → Takes x s cs ws ts bs ps ss r cs′ ws′ ts′ bs ps ss
   takes-adds c v e r cs′ ws′ ts′ o = record {
     done = λ f w room h.
-        subst (λ (y : Record). Held (apply f y) w r cs′ ws′ ts′ bs) (sym e)
-        (held-adds f w room s cs ws ts bs h c v (sym (ap (refusedBy s) e) ∙ none) r cs′ ws′ ts′ o);
+        subst (λ (y : Record). Reading (apply f y) w r cs′ ws′ ts′ bs ps ss) (sym e)
+        (held-adds f w room s cs ws ts bs ps ss h c v (sym (ap (refusedBy s) e) ∙ none) r cs′ ws′ ts′ o);
   }
 
-  pub takes-areas : (c a v : ℕ) → x ≡ Areas c a → v ≡ weightOfArea a → (r : Standing) (cs′ ws′ : List ℕ) (ts′ : List (List ℕ)) → Added s c v cs ws ts r cs′ ws′ ts′
-      → Takes x s cs ws ts bs r cs′ ws′ ts′ bs
-  takes-areas c a v e q r cs′ ws′ ts′ o = record {
+  pub takes-areas : (c a v : ℕ) → x ≡ Areas c a → v ≡ a → (r : Standing) (cs′ ws′ : List ℕ) (ts′ : List (List ℕ)) (ps′ ss′ : List ℕ) → AreaTaken s c v cs ws ts ps ss r cs′ ws′ ts′ ps′ ss′
+      → Takes x s cs ws ts bs ps ss r cs′ ws′ ts′ bs ps′ ss′
+  takes-areas c a v e q r cs′ ws′ ts′ ps′ ss′ o = record {
     done = λ f w room h.
-        subst (λ (y : Record). Held (apply f y) w r cs′ ws′ ts′ bs) (sym e)
-        (held-areas f w room s cs ws ts bs h c v (sym (ap (refusedBy s) e) ∙ none) r cs′ ws′ ts′ o a q);
+        subst (λ (y : Record). Reading (apply f y) w r cs′ ws′ ts′ bs ps′ ss′) (sym e)
+        (held-area f w room s cs ws ts bs ps ss h c a (sym (ap (refusedBy s) e) ∙ none) a r cs′ ws′ ts′ ps′ ss′ (subst (λ (y : ℕ). AreaTaken s c y cs ws ts ps ss r cs′ ws′ ts′ ps′ ss′) q o));
   }
 
   -- No other record comes here: a seal closes, and before it marks, settles and sifts are refused.
-  pub takes-seal : x ≡ Seal → closing (action x) ≡ false → Takes x s cs ws ts bs s cs ws ts bs
+  pub takes-seal : x ≡ Seal → closing (action x) ≡ false → Takes x s cs ws ts bs ps ss s cs ws ts bs ps ss
   takes-seal e c =
       let b : _≡_ {A = Bool} true false = sym (ap (λ (y : Record). closing (action y)) e) ∙ c in
       absurd (unequal cc)
 
-  pub takes-serving : (y : Record) → x ≡ y → facts (action y) .turn ≡ serving → s .sealed ≡ false → Takes x s cs ws ts bs s cs ws ts bs
+  pub takes-serving : (y : Record) → x ≡ y → facts (action y) .turn ≡ serving → s .sealed ≡ false → Takes x s cs ws ts bs ps ss s cs ws ts bs ps ss
   takes-serving y e t u =
       let p = passes s (facts (action y)) (sym (ap (refusedBy s) e) ∙ none) in
       let b : _≡_ {A = Bool} true false = sym (ap not u) ∙ sym (ap (wrongTurn s) t) ∙ p .turn in
       absurd (unequal cc)
 
-  pub takes-unknown : x ≡ Unknown → Takes x s cs ws ts bs s cs ws ts bs
+  pub takes-unknown : x ≡ Unknown → Takes x s cs ws ts bs ps ss s cs ws ts bs ps ss
   unfolding apply act
-  takes-unknown e = record { done = λ f w room h. subst (λ (y : Record). Held (apply f y) w s cs ws ts bs) (sym e) h }
+  takes-unknown e = record { done = λ f w room h. subst (λ (y : Record). Reading (apply f y) w s cs ws ts bs ps ss) (sym e) h }
 
 -- What the next record says, if it is taken.
 module _ (s : Standing) (bytes : List ℕ) (o : ℕ) (x : Record) (e : Taken x ≡ nextAt s bytes o) where
@@ -221,29 +377,25 @@ module _ (s : Standing) (bytes : List ℕ) (o : ℕ) (x : Record) (e : Taken x �
 
 -- NOTHING READ YET
 
-abbrev pub blank : JobRead
-blank = record {
-  at = 0;
-  refusal = 0;
-  sealing = false;
-  standing = record { started = false; sealed = false; contradicted = false; nodes = 0; thresholds = 0; «last_node» = 0; «last_terms» = 0; terms = 0; answers = 0 };
-}
-
-pub going-begun : (bytes cs ws : List ℕ) (ts : List (List ℕ)) (bs : List ℤ) → Room (raw (rawLists cs ws ts) bs) → Going bytes (raw (rawLists cs ws ts) bs) blank cs ws ts bs
-unfolding begun lastNode lastTerms allTerms rawOf numbers jobPartOf joinAll ends pairs
-going-begun bytes cs ws ts bs h = record {
+pub going-begun : (bytes cs ws : List ℕ) (ts : List (List ℕ)) (bs : List ℤ) (ps ss : List ℕ) → Room (raw (rawLists cs ws ts) bs) → Unnoted ps ss
+    → Going bytes (raw (rawLists cs ws ts) bs) blank cs ws ts bs ps ss
+unfolding begun lastNode lastList allTerms rawOf numbers jobPartOf joinAll ends pairs joined startBy
+going-begun bytes cs ws ts bs ps ss h u = record {
   file = begun;
   taken = [];
   left = length bytes;
   enough = omega arith;
   same = refl;
-  held = record {
-    stands = refl;
-    words = refl;
-    job = refl;
-    gathered = gathered-none (blank .standing) cs ws ts bs (omega arith) refl refl (h .conditions) (h .weights) (h .thresholds) (h .bounds);
-    unsealed = refl;
-    unstarted = λ q. refl;
+  reading = record {
+    held = record {
+      stands = refl;
+      words = refl;
+      job = refl;
+      gathered = gathered-none (blank .standing) cs ws ts bs (omega arith) refl refl (h .conditions) (h .weights) (h .thresholds) (h .bounds);
+      unsealed = refl;
+      unstarted = λ q. refl;
+    };
+    noted = noted-none (blank .standing) ts ps ss (unnoted-joinable (blank .standing) ts ps ss u) refl;
   };
   refusal = refl;
   sealing = refl;
@@ -283,54 +435,83 @@ module _ (bytes : List ℕ) (o : ℕ) (inside : o < length bytes) where
   one-next f z c = at-next 0 f [] z c
 
   -- What the code gives back, by what the next record is.
-  module _ (f : File) (w : Raw) (s : Standing) (cs ws : List ℕ) (ts : List (List ℕ)) (bs : List ℤ) (h : Held f w s cs ws ts bs) where
+  module _ (f : File) (w : Raw) (s : Standing) (cs ws : List ℕ) (ts : List (List ℕ)) (bs : List ℤ) (ps ss : List ℕ) (h : Reading f w s cs ws ts bs ps ss) where
     abbrev part : JobPart
     part = readJob 1 o (drop o bytes) f []
 
     by-file : (x : ℕ) → refusedAt s key rest ≡ x → refusalAt f key rest ≡ x
-    by-file x e = sym (ap (λ (y : Standing). refusedAt y key rest) (h .stands)) ∙ e
+    by-file x e = sym (ap (λ (y : Standing). refusedAt y key rest) (h .held .stands)) ∙ e
 
-    pub read-refused : (x : ℕ) → Refused x ≡ nextAt s bytes o → HeldPart part w (record { at = o; refusal = x; sealing = false; standing = s }) cs ws ts bs
+    pub read-refused : (x : ℕ) → Refused x ≡ nextAt s bytes o → ReadPart part w (record { at = o; refusal = x; sealing = false; standing = s }) cs ws ts bs ps ss
     read-refused x e =
         let q = was-refused s bytes o x e in
         let v = by-file x (q .0) in
-        subst (λ (j : JobPart). HeldPart j w (record { at = o; refusal = x; sealing = false; standing = s }) cs ws ts bs)
-        (sym (at-refused 0 f [] (λ z. q .1 (sym v ∙ z)) ∙ ap (λ (y : ℕ). jobPart f [] y o false) v)) (record { refusal = refl; at = refl; sealing = refl; held = h })
+        subst (λ (j : JobPart). ReadPart j w (record { at = o; refusal = x; sealing = false; standing = s }) cs ws ts bs ps ss)
+        (sym (at-refused 0 f [] (λ z. q .1 (sym v ∙ z)) ∙ ap (λ (y : ℕ). jobPart f [] y o false) v)) (record { part = record { refusal = refl; at = refl; sealing = refl; held = h .held }; noted = h .noted })
 
     module _ (x : Record) (e : Taken x ≡ nextAt s bytes o) where
       same-record : x ≡ recordIn bytes o
       same-record = was-taken s bytes o x e .1
 
-      pub read-sealing : closing (action x) ≡ true → HeldPart part w (record { at = o; refusal = 0; sealing = true; standing = s }) cs ws ts bs
+      pub read-sealing : closing (action x) ≡ true → ReadPart part w (record { at = o; refusal = 0; sealing = true; standing = s }) cs ws ts bs ps ss
       read-sealing c =
-          subst (λ (j : JobPart). HeldPart j w (record { at = o; refusal = 0; sealing = true; standing = s }) cs ws ts bs)
+          subst (λ (j : JobPart). ReadPart j w (record { at = o; refusal = 0; sealing = true; standing = s }) cs ws ts bs ps ss)
           (sym (at-sealing 0 f [] (by-file 0 (was-taken s bytes o x e .0)) (sym (ap (λ (y : Record). closing (action y)) same-record) ∙ c)))
-          (record { refusal = refl; at = refl; sealing = refl; held = h })
+          (record { part = record { refusal = refl; at = refl; sealing = refl; held = h .held }; noted = h .noted })
 
-      pub read-next : closing (action x) ≡ false → (n : ℕ) → n ≡ size → (s′ : Standing) (cs′ ws′ : List ℕ) (ts′ : List (List ℕ)) (bs′ : List ℤ) → Held (apply f x) w s′ cs′ ws′ ts′ bs′
-          → HeldPart part w (record { at = o + 1 + n; refusal = 0; sealing = false; standing = s′ }) cs′ ws′ ts′ bs′
-      read-next c n en s′ cs′ ws′ ts′ bs′ a =
-          subst (λ (j : JobPart). HeldPart j w (record { at = o + 1 + n; refusal = 0; sealing = false; standing = s′ }) cs′ ws′ ts′ bs′)
+      pub read-next : closing (action x) ≡ false → (n : ℕ) → n ≡ size → (s′ : Standing) (cs′ ws′ : List ℕ) (ts′ : List (List ℕ)) (bs′ : List ℤ) (ps′ ss′ : List ℕ) → Reading (apply f x) w s′ cs′ ws′ ts′ bs′ ps′ ss′
+          → ReadPart part w (record { at = o + 1 + n; refusal = 0; sealing = false; standing = s′ }) cs′ ws′ ts′ bs′ ps′ ss′
+      read-next c n en s′ cs′ ws′ ts′ bs′ ps′ ss′ a =
+          subst (λ (j : JobPart). ReadPart j w (record { at = o + 1 + n; refusal = 0; sealing = false; standing = s′ }) cs′ ws′ ts′ bs′ ps′ ss′)
           (sym (one-next f (by-file 0 (was-taken s bytes o x e .0)) (sym (ap (λ (y : Record). closing (action y)) same-record) ∙ c)))
-          (record { refusal = refl; at = ap (λ (k : ℕ). o + 1 + k) en; sealing = refl; held = subst (λ (y : Record). Held (apply f y) w s′ cs′ ws′ ts′ bs′) same-record a })
+          (let b = subst (λ (y : Record). Reading (apply f y) w s′ cs′ ws′ ts′ bs′ ps′ ss′) same-record a in
+          record { part = record { refusal = refl; at = ap (λ (k : ℕ). o + 1 + k) en; sealing = refl; held = b .held }; noted = b .noted })
 
--- A term that comes next, by the numbers that were read of it.
-module _ (bytes : List ℕ) (o : ℕ) (s : Standing) (t : TermNext s bytes o) (c v : ℕ) (ec : c ≡ termCondition bytes o) (ev : v ≡ termWeight bytes o) where
-  term-comes : Taken (Adds c v) ≡ nextAt s bytes o
-  term-comes = (λ i. Taken (Adds (ec i) (ev i))) ∙ t .next
+-- A term or an area that comes next, by the numbers that were read of it.
+module _ (bytes : List ℕ) (o : ℕ) (s : Standing) (t : EntryNext s bytes o) (c v : ℕ) (ec : c ≡ entryCondition bytes o) (ev : v ≡ entryFigure bytes o) where
+  by-kind : (n : ℕ) → n ≢ 8 → (n ≡ 3) ⊎ (n ≡ 8) → n ≡ 3
+  by-kind n f (inl e) = e
+  by-kind n f (inr e) = absurd (f e)
 
-  pub term-passes : refusedBy s (Adds c v) ≡ 0
-  term-passes = next-passes s bytes o (Adds c v) term-comes
+  -- what it is, and how long its body
+  module _ (x : Record) (next : Taken x ≡ nextAt s bytes o) (goes : closing (action x) ≡ false) (long : 6 ≡ bodyLength (kindOf (getD bytes o 0)))
+      (cs ws : List ℕ) (ts : List (List ℕ)) (bs : List ℤ) (ps ss : List ℕ) (r : Standing) (cs′ ws′ : List ℕ) (ts′ : List (List ℕ)) (ps′ ss′ : List ℕ)
+      (k : Takes x s cs ws ts bs ps ss r cs′ ws′ ts′ bs ps′ ss′) where
+    read-one : Reads bytes o s cs ws ts bs ps ss (record { at = o + 1 + 6; refusal = 0; sealing = false; standing = r }) cs′ ws′ ts′ bs ps′ ss′
+    read-one = record {
+      part = λ f w room h.
+          read-next bytes o (let q = t .whole in omega (arith, q)) f w s cs ws ts bs ps ss h x next goes 6 long r cs′ ws′ ts′ bs ps′ ss′ (k .done f w room h);
+    }
 
-  pub read-term : (cs ws : List ℕ) (ts : List (List ℕ)) (r : Standing) (cs′ ws′ : List ℕ) (ts′ : List (List ℕ)) → Added s c v cs ws ts r cs′ ws′ ts′ → (bs : List ℤ)
-      → Reads bytes o s cs ws ts bs (record { at = o + 1 + 6; refusal = 0; sealing = false; standing = r }) cs′ ws′ ts′ bs
-  read-term cs ws ts r cs′ ws′ ts′ a bs = record {
-    part = λ f w room h.
-        let k = takes-adds (Adds c v) s cs ws ts bs term-passes c v refl r cs′ ws′ ts′ a in
-        let n = sym (ap (λ (b : ℕ). bodyLength (kindOf b)) (t .kind)) in
-        let inside : o < length bytes = omega (arith, t .whole) in
-        read-next bytes o inside f w s cs ws ts bs h (Adds c v) term-comes refl 6 n r cs′ ws′ ts′ bs (k .done f w room h);
-  }
+  module _ (other : getD bytes o 0 ≢ 8) where
+    is-term : getD bytes o 0 ≡ 3
+    is-term = by-kind (getD bytes o 0) other (t .kind)
+
+    term-comes : Taken (Adds c v) ≡ nextAt s bytes o
+    term-comes = (λ i. Taken (Adds (ec i) (ev i))) ∙ t .term is-term
+
+    pub term-passes : refusedBy s (Adds c v) ≡ 0
+    term-passes = next-passes s bytes o (Adds c v) term-comes
+
+    pub read-term : (cs ws : List ℕ) (ts : List (List ℕ)) (ps ss : List ℕ) (r : Standing) (cs′ ws′ : List ℕ) (ts′ : List (List ℕ)) → Added s c v cs ws ts r cs′ ws′ ts′ → (bs : List ℤ)
+        → Reads bytes o s cs ws ts bs ps ss (record { at = o + 1 + 6; refusal = 0; sealing = false; standing = r }) cs′ ws′ ts′ bs ps ss
+    read-term cs ws ts ps ss r cs′ ws′ ts′ a bs =
+        read-one (Adds c v) term-comes refl (sym (ap (λ (b : ℕ). bodyLength (kindOf b)) is-term)) cs ws ts bs ps ss r cs′ ws′ ts′ ps ss
+        (takes-adds (Adds c v) s cs ws ts bs ps ss term-passes c v refl r cs′ ws′ ts′ a)
+
+  module _ (is-area : getD bytes o 0 ≡ 8) where
+    area-comes : Taken (Areas c v) ≡ nextAt s bytes o
+    area-comes = (λ i. Taken (Areas (ec i) (ev i))) ∙ t .area is-area
+
+    pub area-passes : refusedBy s (Areas c v) ≡ 0
+    area-passes = next-passes s bytes o (Areas c v) area-comes
+
+    pub read-area : (cs ws : List ℕ) (ts : List (List ℕ)) (ps ss : List ℕ) (r : Standing) (cs′ ws′ : List ℕ) (ts′ : List (List ℕ)) (ps′ ss′ : List ℕ)
+        → AreaTaken s c v cs ws ts ps ss r cs′ ws′ ts′ ps′ ss′ → (bs : List ℤ)
+        → Reads bytes o s cs ws ts bs ps ss (record { at = o + 1 + 6; refusal = 0; sealing = false; standing = r }) cs′ ws′ ts′ bs ps′ ss′
+    read-area cs ws ts ps ss r cs′ ws′ ts′ ps′ ss′ a bs =
+        read-one (Areas c v) area-comes refl (sym (ap (λ (b : ℕ). bodyLength (kindOf b)) is-area)) cs ws ts bs ps ss r cs′ ws′ ts′ ps′ ss′
+        (takes-areas (Areas c v) s cs ws ts bs ps ss area-passes c v v refl refl r cs′ ws′ ts′ ps′ ss′ a)
 
 -- ---- THE NEXT ONES: one record stops the reading, or it goes on behind it
 
@@ -403,25 +584,25 @@ stopping r = not (eqb (r .refusal) 0) || r .sealing
 pub goes : (r : JobRead) → r .refusal ≡ 0 → r .sealing ≡ false → stopping r ≡ false
 goes r e q = ap₂ (λ (n : ℕ) (b : Bool). not (eqb n 0) || b) e q
 
-module _ (bytes : List ℕ) (w : Raw) (r : JobRead) (cs ws : List ℕ) (ts : List (List ℕ)) (bs : List ℤ) (g : Going bytes w r cs ws ts bs) where
+module _ (bytes : List ℕ) (w : Raw) (r : JobRead) (cs ws : List ℕ) (ts : List (List ℕ)) (bs : List ℤ) (ps ss : List ℕ) (g : Going bytes w r cs ws ts bs ps ss) where
   pub going-unsealed : r .standing .sealed ≡ false
-  going-unsealed = ap (λ (x : Standing). x .sealed) (g .held .stands) ∙ g .held .unsealed
+  going-unsealed = ap (λ (x : Standing). x .sealed) (g .reading .held .stands) ∙ g .reading .held .unsealed
 
   pub going-ends : length bytes ≤ r .at → HeldPart (jobPartOf bytes) w r cs ws ts bs
   going-ends h =
       subst (λ (j : JobPart). HeldPart j w r cs ws ts bs) (sym (nothing (g .left)) ∙ ap (λ (l : List ℕ). readJob (g .left) (r .at) l (g .file) (g .taken)) (sym (drop-of-length-le bytes h)) ∙ g .same)
-      (record { refusal = g .refusal; at = refl; sealing = g .sealing; held = g .held })
+      (record { refusal = g .refusal; at = refl; sealing = g .sealing; held = g .reading .held })
     where
       nothing : (n : ℕ) → readJob n (r .at) [] (g .file) (g .taken) ≡ jobPart (g .file) (g .taken) 0 (r .at) false
       nothing n = none-left n (r .at) (g .file) (g .taken)
 
-  module _ (inside : r .at < length bytes) (r′ : JobRead) (cs′ ws′ : List ℕ) (ts′ : List (List ℕ)) (bs′ : List ℤ)
-      (p : HeldPart (readJob 1 (r .at) (drop (r .at) bytes) (g .file) []) w r′ cs′ ws′ ts′ bs′) where
+  module _ (inside : r .at < length bytes) (r′ : JobRead) (cs′ ws′ : List ℕ) (ts′ : List (List ℕ)) (bs′ : List ℤ) (ps′ ss′ : List ℕ)
+      (p : ReadPart (readJob 1 (r .at) (drop (r .at) bytes) (g .file) []) w r′ cs′ ws′ ts′ bs′ ps′ ss′) where
     abbrev one : JobPart
     one = readJob 1 (r .at) (drop (r .at) bytes) (g .file) []
 
     by-part : stopping r′ ≡ (not (eqb (one .refused) 0) || one .sealing)
-    by-part = ap₂ (λ (n : ℕ) (b : Bool). not (eqb n 0) || b) (p .refusal) (p .sealing)
+    by-part = ap₂ (λ (n : ℕ) (b : Bool). not (eqb n 0) || b) (p .part .refusal) (p .part .sealing)
 
     either : Stops one (jobPartOf bytes) ⊎ Goes bytes (r .at) one (jobPartOf bytes)
     either = one-record (g .left) (r .at) bytes (g .file) (g .taken) (jobPartOf bytes) inside (g .enough) (g .same)
@@ -441,10 +622,10 @@ module _ (bytes : List ℕ) (w : Raw) (r : JobRead) (cs ws : List ℕ) (ts : Lis
     going-stops e =
         ⊎-elim
         (λ (q : Stops one (jobPartOf bytes)). record {
-          refusal = p .refusal ∙ q .refused;
-          at = p .at ∙ q .at;
-          sealing = p .sealing ∙ q .sealing;
-          held = subst (λ (f : File). Held f w (r′ .standing) cs′ ws′ ts′ bs′) (q .file) (p .held);
+          refusal = p .part .refusal ∙ q .refused;
+          at = p .part .at ∙ q .at;
+          sealing = p .part .sealing ∙ q .sealing;
+          held = subst (λ (f : File). Held f w (r′ .standing) cs′ ws′ ts′ bs′) (q .file) (p .part .held);
         })
         (λ (q : Goes bytes (r .at) one (jobPartOf bytes)). absurd (no-goes e q)) either
 
@@ -452,20 +633,20 @@ module _ (bytes : List ℕ) (w : Raw) (r : JobRead) (cs ws : List ℕ) (ts : Lis
     goes-one e = ⊎-elim (λ (q : Stops one (jobPartOf bytes)). absurd (no-stops e q)) (λ (q : Goes bytes (r .at) one (jobPartOf bytes)). q) either
 
     pub going-farther : stopping r′ ≡ false → r .at < r′ .at
-    going-farther e = let a = p .at in let b = goes-one e .farther in omega (arith, a, b)
+    going-farther e = let a = p .part .at in let b = goes-one e .farther in omega (arith, a, b)
 
-    pub going-on : stopping r′ ≡ false → Going bytes w r′ cs′ ws′ ts′ bs′
+    pub going-on : stopping r′ ≡ false → Going bytes w r′ cs′ ws′ ts′ bs′ ps′ ss′
     going-on e =
         let q = goes-one e in
-        let a = p .at in
+        let a = p .part .at in
         let b = q .enough in
         record {
           file = one .file;
           taken = q .taken;
           left = q .left;
           enough = omega (arith, a, b);
-          same = ap (λ (k : ℕ). readJob (q .left) k (drop k bytes) (one .file) (q .taken)) (p .at) ∙ q .same;
-          held = p .held;
-          refusal = p .refusal ∙ q .refused;
-          sealing = p .sealing ∙ q .sealing;
+          same = ap (λ (k : ℕ). readJob (q .left) k (drop k bytes) (one .file) (q .taken)) (p .part .at) ∙ q .same;
+          reading = record { held = p .part .held; noted = p .noted };
+          refusal = p .part .refusal ∙ q .refused;
+          sealing = p .part .sealing ∙ q .sealing;
         }

@@ -9,4 +9,5 @@ pub mod FileLaws
 pub mod JobPart
 pub mod JobPartLaws
 pub mod Held
+pub mod NotedLaws
 pub mod HeldLaws

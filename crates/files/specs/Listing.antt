@@ -1,8 +1,8 @@
 -- What the program prints, as bytes.
 use Prim.Native.Nat.{ℕ, zero, suc, _+_, _/_, _%_}
-use mathlib.Core.Bool.{Bool, true, false, cond, _||_}
+use mathlib.Core.Bool.{true, false, cond}
 use mathlib.Core.List.{List, [], _∷_, _++_}
-use lib.ListN.{length, getD}
+use lib.ListN.{getD}
 use lib.Dec.{eqb, ltb}
 use lib.IntN.{ℤ, pos, negsuc}
 use Prim.Native.Char.{code}
@@ -76,8 +76,8 @@ stateLines f = cond (f .sealed) (nodeLines f (f .closed .nodes) 0 ++ rowLines f 
 abbrev pub lastLine : Outcome → List ℕ
 lastLine o =
     cond (eqb (o .refused) 0)
-    (text "end " ++ decimal (count (o .file .live .marks .sure) (o .file .job .nodes)) ++ text " "
-    ++ decimal (count (o .file .live .marks .never) (o .file .job .nodes)) ++ text "\n")
+    (text "end " ++ decimal (count (o .file .live .marks .sure) (o .file .draft .nodes)) ++ text " "
+    ++ decimal (count (o .file .live .marks .never) (o .file .draft .nodes)) ++ text "\n")
     (text "refused " ++ decimal (o .refused) ++ text " at " ++ decimal (o .at) ++ text "\n")
 
 unfoldable pub listing : Outcome → List ℕ

@@ -7,11 +7,11 @@ ghost use lib.ListN.{length};
 ghost use lib.IntN.{ℤ};
 ghost use Rattle.memory.specs.Buffers.{rawLists, raw};
 ghost use Rattle.records.specs.Facts.{action};
-ghost use Rattle.records.specs.Next.{closing, TermNext};
+ghost use Rattle.records.specs.Next.{closing, EntryNext};
 ghost use Rattle.records.specs.Checks.{refusedBy};
-ghost use Rattle.job.specs.Gathered.{Listed, Termed, Gathered};
+ghost use Rattle.job.specs.Gathered.{Listed, Termed, Gathered, Joinable};
 ghost use Rattle.files.specs.JobPart.{jobPartOf};
-ghost use Rattle.files.specs.Held.{headed, Room, Takes, HeldPart, Reads};
+ghost use Rattle.files.specs.Held.{headed, blank, Room, Unnoted, Takes, HeldPart, Reads};
 use records::Next;
 use records::Record;
 use records::Standing;
@@ -50,6 +50,7 @@ fn begin(standing: Standing, nodes: u16) -> Standing
         last_node: 0,
         last_terms: 0,
         terms: 0,
+        raw_terms: 0,
         answers: standing.answers,
     }
 }
@@ -62,11 +63,13 @@ fn take_record(
     raw_weights: &mut [u64],
     thresholds: &mut [[u16; 2]],
     bounds: &mut [i64],
+    places: &mut [u16],
+    sums: &mut [u64],
 ) -> Standing
-    requires { ⌜ Gathered standing (now «raw_conditions») (now «raw_weights») (now thresholds) (now bounds)
+    requires { ⌜ Gathered standing (now «raw_conditions») (now «raw_weights») (now thresholds) (now bounds) × Joinable standing (now thresholds) (now places) (now sums)
         × (refusedBy standing entry ≡ 0) × (standing .sealed ≡ false) × (closing (action entry) ≡ false) ⌝ }
-    ensures { λ r. ⌜ Takes entry standing (now («raw_conditions» .entry)) (now («raw_weights» .entry)) (now (thresholds .entry)) (now (bounds .entry))
-        r (now («raw_conditions» .exit)) (now («raw_weights» .exit)) (now (thresholds .exit)) (now (bounds .exit)) ⌝ }
+    ensures { λ r. ⌜ Takes entry standing (now («raw_conditions» .entry)) (now («raw_weights» .entry)) (now (thresholds .entry)) (now (bounds .entry)) (now (places .entry)) (now (sums .entry))
+        r (now («raw_conditions» .exit)) (now («raw_weights» .exit)) (now (thresholds .exit)) (now (bounds .exit)) (now (places .exit)) (now (sums .exit)) ⌝ }
 {
     match entry {
         Record::Header(nodes) => begin(standing, nodes),
@@ -84,14 +87,15 @@ fn take_record(
             )
         }
         Record::Areas(condition, area) => {
-            let weight = numeric::weight_of_area(area) as u64;
-            job::add_term(
+            job::add_area(
                 standing,
                 condition,
-                weight,
+                area as u64,
                 raw_conditions,
                 raw_weights,
                 thresholds,
+                places,
+                sums,
             )
         }
         Record::Seal => standing,
@@ -111,12 +115,14 @@ fn read_record(
     raw_weights: &mut [u64],
     thresholds: &mut [[u16; 2]],
     bounds: &mut [i64],
+    places: &mut [u16],
+    sums: &mut [u64],
 ) -> JobRead
     requires { ⌜ (at < length (now input)) × (standing .sealed ≡ false)
-        × Gathered standing (now «raw_conditions») (now «raw_weights») (now thresholds) (now bounds) ⌝ }
+        × Gathered standing (now «raw_conditions») (now «raw_weights») (now thresholds) (now bounds) × Joinable standing (now thresholds) (now places) (now sums) ⌝ }
     ensures { λ r. ⌜ Reads (now (input .entry)) at standing
-        (now («raw_conditions» .entry)) (now («raw_weights» .entry)) (now (thresholds .entry)) (now (bounds .entry))
-        r (now («raw_conditions» .exit)) (now («raw_weights» .exit)) (now (thresholds .exit)) (now (bounds .exit)) ⌝ }
+        (now («raw_conditions» .entry)) (now («raw_weights» .entry)) (now (thresholds .entry)) (now (bounds .entry)) (now (places .entry)) (now (sums .entry))
+        r (now («raw_conditions» .exit)) (now («raw_weights» .exit)) (now (thresholds .exit)) (now (bounds .exit)) (now (places .exit)) (now (sums .exit)) ⌝ }
 {
     let next = records::next_record(input, at, standing);
     match next {
@@ -143,6 +149,8 @@ fn read_record(
                 raw_weights,
                 thresholds,
                 bounds,
+                places,
+                sums,
             );
             JobRead {
                 at: at + 1 + size,
@@ -154,25 +162,48 @@ fn read_record(
     }
 }
 
-// A term that comes next.
-fn read_term(
+// A term or an area that comes next.
+fn read_entry(
     input: &[u8],
     at: usize,
     standing: Standing,
     raw_conditions: &mut [u16],
     raw_weights: &mut [u64],
     thresholds: &mut [[u16; 2]],
+    places: &mut [u16],
+    sums: &mut [u64],
 ) -> JobRead
-    requires { ⌜ TermNext standing (now input) at × Listed standing (now thresholds) × Termed standing (now «raw_conditions») (now «raw_weights») ⌝ }
-    ensures { λ r. ⌜ ((bs : List ℤ) → Reads (now (input .entry)) at standing (now («raw_conditions» .entry)) (now («raw_weights» .entry)) (now (thresholds .entry)) bs
-        r (now («raw_conditions» .exit)) (now («raw_weights» .exit)) (now (thresholds .exit)) bs) × (r .refusal ≡ 0) × (r .sealing ≡ false) ⌝ }
+    requires { ⌜ EntryNext standing (now input) at × Listed standing (now thresholds) × Termed standing (now «raw_conditions») (now «raw_weights»)
+        × Joinable standing (now thresholds) (now places) (now sums) ⌝ }
+    ensures { λ r. ⌜ ((bs : List ℤ) → Reads (now (input .entry)) at standing
+        (now («raw_conditions» .entry)) (now («raw_weights» .entry)) (now (thresholds .entry)) bs (now (places .entry)) (now (sums .entry))
+        r (now («raw_conditions» .exit)) (now («raw_weights» .exit)) (now (thresholds .exit)) bs (now (places .exit)) (now (sums .exit)))
+        × (r .refusal ≡ 0) × (r .sealing ≡ false) ⌝ }
 {
     let condition = records::u16_at(input, at + 1);
-    let weight = records::u32_at(input, at + 3) as u64;
+    let figure = records::u32_at(input, at + 3) as u64;
+    if input[at] == 8 {
+        let after = job::add_area(
+            standing,
+            condition,
+            figure,
+            raw_conditions,
+            raw_weights,
+            thresholds,
+            places,
+            sums,
+        );
+        return JobRead {
+            at: at + 1 + 6,
+            refusal: 0,
+            sealing: false,
+            standing: after,
+        };
+    }
     let after = job::add_term(
         standing,
         condition,
-        weight,
+        figure,
         raw_conditions,
         raw_weights,
         thresholds,
@@ -185,7 +216,83 @@ fn read_term(
     }
 }
 
-// The records of an input up to its seal, into buffers for the job that they give.
+fn nothing_read() -> JobRead
+    ensures { λ r. ⌜ r ≡ blank ⌝ }
+{
+    let standing = Standing {
+        started: false,
+        sealed: false,
+        contradicted: false,
+        nodes: 0,
+        thresholds: 0,
+        last_node: 0,
+        last_terms: 0,
+        terms: 0,
+        raw_terms: 0,
+        answers: 0,
+    };
+    JobRead {
+        at: 0,
+        refusal: 0,
+        sealing: false,
+        standing: standing,
+    }
+}
+
+// The records of an input up to its seal, into buffers for the job that they give. Where areas stand and what they add up to is noted while
+// their threshold is open.
+fn read_records(
+    input: &[u8],
+    raw_conditions: &mut [u16],
+    raw_weights: &mut [u64],
+    thresholds: &mut [[u16; 2]],
+    bounds: &mut [i64],
+    places: &mut [u16],
+    sums: &mut [u64],
+) -> JobRead
+    requires { ⌜ Room (raw (rawLists (now «raw_conditions») (now «raw_weights») (now thresholds)) (now bounds)) × Unnoted (now places) (now sums) ⌝ }
+    ensures { λ r. ⌜ HeldPart (jobPartOf (now (input .entry)))
+        (raw (rawLists (now («raw_conditions» .entry)) (now («raw_weights» .entry)) (now (thresholds .entry))) (now (bounds .entry))) r
+        (now («raw_conditions» .exit)) (now («raw_weights» .exit)) (now (thresholds .exit)) (now (bounds .exit)) ⌝ }
+{
+    let mut read = nothing_read();
+    while read.at < input.len() {
+        let from = read.at;
+        let stands = read.standing;
+        // Most records are terms or areas, and these need nothing of the others' checks.
+        if records::entry_comes(input, from, stands) {
+            read = read_entry(
+                input,
+                from,
+                stands,
+                raw_conditions,
+                raw_weights,
+                thresholds,
+                places,
+                sums,
+            );
+            continue;
+        }
+        let next = read_record(
+            input,
+            from,
+            stands,
+            raw_conditions,
+            raw_weights,
+            thresholds,
+            bounds,
+            places,
+            sums,
+        );
+        if (next.refusal != 0) | next.sealing {
+            return next;
+        }
+        read = next;
+    }
+    read
+}
+
+// The same with notes of its own.
 pub fn read_job(
     input: &[u8],
     raw_conditions: &mut [u16],
@@ -198,45 +305,15 @@ pub fn read_job(
         (raw (rawLists (now («raw_conditions» .entry)) (now («raw_weights» .entry)) (now (thresholds .entry))) (now (bounds .entry))) r
         (now («raw_conditions» .exit)) (now («raw_weights» .exit)) (now (thresholds .exit)) (now (bounds .exit)) ⌝ }
 {
-    let standing = Standing {
-        started: false,
-        sealed: false,
-        contradicted: false,
-        nodes: 0,
-        thresholds: 0,
-        last_node: 0,
-        last_terms: 0,
-        terms: 0,
-        answers: 0,
-    };
-    let mut read = JobRead {
-        at: 0,
-        refusal: 0,
-        sealing: false,
-        standing: standing,
-    };
-    while read.at < input.len() {
-        let from = read.at;
-        let stands = read.standing;
-        // Most records are terms, and these need nothing of the others' checks.
-        if records::term_comes(input, from, stands) {
-            read = read_term(input, from, stands, raw_conditions, raw_weights, thresholds);
-            continue;
-        }
-        let so_far = read.standing;
-        let next = read_record(
-            input,
-            read.at,
-            so_far,
-            raw_conditions,
-            raw_weights,
-            thresholds,
-            bounds,
-        );
-        if (next.refusal != 0) | next.sealing {
-            return next;
-        }
-        read = next;
-    }
-    read
+    let mut places = [0u16; 4096];
+    let mut sums = [0u64; 1024];
+    read_records(
+        input,
+        raw_conditions,
+        raw_weights,
+        thresholds,
+        bounds,
+        &mut places,
+        &mut sums,
+    )
 }

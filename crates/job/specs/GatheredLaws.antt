@@ -53,8 +53,8 @@ module _ (k : Standing) (cs ws : List ℕ) (ts : List (List ℕ)) (bs : List ℤ
   at-cut t h =
       threshold-by (ap (λ (p : List ℕ). getD p 0 0) (getD-take (k .thresholds) ts t [] h)) (getD-take (k .thresholds) bs t (pos 0) h)
       (list-by (cut k cs ws ts) (rawLists cs ws ts) t (start-cut (k .thresholds) t ts (omega arith)) (ap (λ (p : List ℕ). getD p 1 0) (getD-take (k .thresholds) ts t [] h))
-      (stretch-cut (startBy 1 ts t) (endBy 1 ts t) (k .terms) cs (g .rising t h) (g .within t h))
-      (stretch-cut (startBy 1 ts t) (endBy 1 ts t) (k .terms) ws (g .rising t h) (g .within t h)))
+      (stretch-cut (startBy 1 ts t) (endBy 1 ts t) (k .«raw_terms») cs (g .rising t h) (g .within t h))
+      (stretch-cut (startBy 1 ts t) (endBy 1 ts t) (k .«raw_terms») ws (g .rising t h) (g .within t h)))
 
   -- THE THRESHOLDS ONE BY ONE, of whole buffers.
   pub gathered : given (cut k cs ws ts) (take (k .thresholds) bs) ≡ map at (numbers 0 (k .thresholds))
@@ -85,5 +85,5 @@ module _ (k : Standing) (cs ws : List ℕ) (ts : List (List ℕ)) (bs : List ℤ
         ap allTerms (map-more at n) ∙ all-more (at n) (map at (numbers 0 n))
         ∙ ap₂ (λ (x y : ℕ). x + y) (all-to n (omega arith)) (length-at n q) ∙ (let r = g .rising n q in omega (arith, r))
 
-    pub all-terms : allTerms (given (cut k cs ws ts) (take (k .thresholds) bs)) ≡ k .terms
+    pub all-terms : allTerms (given (cut k cs ws ts) (take (k .thresholds) bs)) ≡ k .«raw_terms»
     all-terms = ap allTerms gathered ∙ all-to (k .thresholds) (omega arith) ∙ g .ended

@@ -8,11 +8,13 @@ use mathlib.Core.List.{List, [], _∷_, _++_, map}
 use lib.ListN.{length, take, drop, set, length-drop, length-append}
 use lib.IntN.{ℤ}
 use lib.Seq.{take-nil, take-take, take-set-le, drop-set-add, take-suc-set}
+use Rattle.base.specs.All.{All}
 use Rattle.base.specs.Laid.{numbers}
-use Rattle.numeric.specs.Threshold.{Term, term, Threshold, Job}
+use Rattle.numeric.specs.Threshold.{Term, term, ThresholdOf, Threshold, Job}
+use Rattle.numeric.specs.Area.{Entry, joined, weighed, weighedThreshold, Draft, jobOf}
 use Rattle.numeric.specs.Slices.{terms}
 use Rattle.thresholds.specs.Raw.{stretch}
-use Rattle.job.specs.Job.{lastNode, lastTerms, allTerms, standingOf, addTerm}
+use Rattle.job.specs.Job.{lastNode, lastList, allTerms, standingOf, onLast, addTerm}
 use Rattle.job.specs.Taken.{openedBy, addedTo, withThreshold, withTerm}
 
 -- ---- the first numbers
@@ -23,13 +25,13 @@ numbers-more a zero = ap (λ (x : ℕ). x ∷ []) (sym (add-zero a))
 numbers-more a (suc n) =
     ap (λ (l : List ℕ). a ∷ l) (numbers-more (a + 1) n ∙ ap (λ (x : ℕ). numbers (a + 1) n ++ (x ∷ [])) {x = a + 1 + n} {y = a + suc n} (omega arith))
 
-map-snoc : {X : Type 0} (f : ℕ → X) (l : List ℕ) (x : ℕ) → map f (l ++ (x ∷ [])) ≡ map f l ++ (f x ∷ [])
-map-snoc f [] x = refl
-map-snoc f (y ∷ l) x = ap (λ (z : List _). f y ∷ z) (map-snoc f l x)
+pub map-end : {X Y : Type 0} (f : X → Y) (l : List X) (x : X) → map f (l ++ (x ∷ [])) ≡ map f l ++ (f x ∷ [])
+map-end f [] x = refl
+map-end f (y ∷ l) x = ap (λ (r : List _). f y ∷ r) (map-end f l x)
 
 pub map-more : {X : Type 0} (f : ℕ → X) (n : ℕ) → map f (numbers 0 (suc n)) ≡ map f (numbers 0 n) ++ (f n ∷ [])
 map-more f n =
-    ap (map f) (numbers-more 0 n) ∙ map-snoc f (numbers 0 n) (0 + n) ∙ ap (λ (x : ℕ). map f (numbers 0 n) ++ (f x ∷ [])) (zero-add n)
+    ap (map f) (numbers-more 0 n) ∙ map-end f (numbers 0 n) (0 + n) ∙ ap (λ (x : ℕ). map f (numbers 0 n) ++ (f x ∷ [])) (zero-add n)
 
 map-from : {X : Type 0} (f g : ℕ → X) (a n : ℕ) → ((t : ℕ) → t < a + n → f t ≡ g t) → map f (numbers a n) ≡ map g (numbers a n)
 unfolding numbers
@@ -41,97 +43,145 @@ map-same f g n h = map-from f g 0 n (λ t q. h t (omega arith))
 
 -- ---- one threshold more
 
-module _ (t : Threshold) where
-  pub node-more : (ts : List Threshold) → lastNode (ts ++ (t ∷ [])) ≡ t .node
+module _ {X : Type 0} (t : ThresholdOf X) where
+  pub node-more : (ts : List (ThresholdOf X)) → lastNode (ts ++ (t ∷ [])) ≡ t .node
   unfolding lastNode
   node-more [] = refl
   node-more (u ∷ []) = refl
   node-more (u ∷ v ∷ ts) = node-more (v ∷ ts)
 
-  pub terms-more : (ts : List Threshold) → lastTerms (ts ++ (t ∷ [])) ≡ length (t .terms)
-  unfolding lastTerms
-  terms-more [] = refl
-  terms-more (u ∷ []) = refl
-  terms-more (u ∷ v ∷ ts) = terms-more (v ∷ ts)
+  pub list-more : (ts : List (ThresholdOf X)) → lastList (ts ++ (t ∷ [])) ≡ t .terms
+  unfolding lastList
+  list-more [] = refl
+  list-more (u ∷ []) = refl
+  list-more (u ∷ v ∷ ts) = list-more (v ∷ ts)
 
-  pub all-more : (ts : List Threshold) → allTerms (ts ++ (t ∷ [])) ≡ allTerms ts + length (t .terms)
+  pub all-more : (ts : List (ThresholdOf X)) → allTerms (ts ++ (t ∷ [])) ≡ allTerms ts + length (t .terms)
   unfolding allTerms
   all-more [] = omega arith
   all-more (u ∷ ts) = let q = all-more ts in omega (arith, q)
 
-  pub add-more : (x : Term) (ts : List Threshold)
-      → addTerm x (ts ++ (t ∷ [])) ≡ ts ++ (record { node = t .node; bound = t .bound; terms = t .terms ++ (x ∷ []) } ∷ [])
-  unfolding addTerm
-  add-more x [] = refl
-  add-more x (u ∷ []) = refl
-  add-more x (u ∷ v ∷ ts) = ap (λ (l : List Threshold). u ∷ l) (add-more x (v ∷ ts))
+  pub on-more : (g : List X → List X) (ts : List (ThresholdOf X))
+      → onLast g (ts ++ (t ∷ [])) ≡ ts ++ (record { node = t .node; bound = t .bound; terms = g (t .terms) } ∷ [])
+  unfolding onLast
+  on-more g [] = refl
+  on-more g (u ∷ []) = refl
+  on-more g (u ∷ v ∷ ts) = ap (λ (l : List (ThresholdOf X)). u ∷ l) (on-more g (v ∷ ts))
 
--- ---- one term more in the last threshold
+-- ---- another list in the last threshold
 
-module _ (x : Term) where
-  pub length-added : (ts : List Threshold) → length (addTerm x ts) ≡ length ts
-  unfolding addTerm
-  length-added [] = refl
-  length-added (t ∷ []) = refl
-  length-added (t ∷ u ∷ ts) = ap suc (length-added (u ∷ ts))
+module _ {X : Type 0} (g : List X → List X) where
+  pub length-on : (ts : List (ThresholdOf X)) → length (onLast g ts) ≡ length ts
+  unfolding onLast
+  length-on [] = refl
+  length-on (t ∷ []) = refl
+  length-on (t ∷ u ∷ ts) = ap suc (length-on (u ∷ ts))
 
-  node-added : (ts : List Threshold) → lastNode (addTerm x ts) ≡ lastNode ts
-  unfolding addTerm lastNode
-  node-added [] = refl
-  node-added (t ∷ []) = refl
-  node-added (t ∷ u ∷ []) = refl
-  node-added (t ∷ u ∷ v ∷ ts) = node-added (u ∷ v ∷ ts)
+  node-on : (ts : List (ThresholdOf X)) → lastNode (onLast g ts) ≡ lastNode ts
+  unfolding onLast lastNode
+  node-on [] = refl
+  node-on (t ∷ []) = refl
+  node-on (t ∷ u ∷ []) = refl
+  node-on (t ∷ u ∷ v ∷ ts) = node-on (u ∷ v ∷ ts)
 
-  terms-added : (ts : List Threshold) → 0 < length ts → lastTerms (addTerm x ts) ≡ lastTerms ts + 1
-  unfolding addTerm lastTerms
-  terms-added [] h = absurd (not-suc-le-zero h)
-  terms-added (t ∷ []) h = length-append (t .terms) (x ∷ [])
-  terms-added (t ∷ u ∷ []) h = length-append (u .terms) (x ∷ [])
-  terms-added (t ∷ u ∷ v ∷ ts) h = terms-added (u ∷ v ∷ ts) (omega arith)
+  pub list-on : (ts : List (ThresholdOf X)) → 0 < length ts → lastList (onLast g ts) ≡ g (lastList ts)
+  unfolding onLast lastList
+  list-on [] h = absurd (not-suc-le-zero h)
+  list-on (t ∷ []) h = refl
+  list-on (t ∷ u ∷ []) h = refl
+  list-on (t ∷ u ∷ v ∷ ts) h = list-on (u ∷ v ∷ ts) (omega arith)
 
-  pub all-added : (ts : List Threshold) → 0 < length ts → allTerms (addTerm x ts) ≡ allTerms ts + 1
-  unfolding addTerm allTerms
-  all-added [] h = absurd (not-suc-le-zero h)
-  all-added (t ∷ []) h = let q = length-append (t .terms) (x ∷ []) in omega (arith, q)
-  all-added (t ∷ u ∷ ts) h = let q = all-added (u ∷ ts) (omega arith) in omega (arith, q)
+  pub all-on : (ts : List (ThresholdOf X)) → 0 < length ts → allTerms (onLast g ts) + length (lastList ts) ≡ allTerms ts + length (g (lastList ts))
+  unfolding onLast allTerms lastList
+  all-on [] h = absurd (not-suc-le-zero h)
+  all-on (t ∷ []) h = omega arith
+  all-on (t ∷ u ∷ ts) h = let q = all-on (u ∷ ts) (omega arith) in omega (arith, q)
 
--- WHAT THE CHECKS READ of the job with a change.
-module _ (s e c : Bool) (j : Job) (m : ℕ) where
-  pub standing-opened : (n : ℕ) (b : ℤ) → standingOf s e c (withThreshold j n b) m ≡ openedBy (standingOf s e c j m) n
+-- What holds of each threshold, and of the last with its new list, holds of each.
+pub every-on : {X : Type 0} (P : ThresholdOf X → Type 0) (g : List X → List X) (ts : List (ThresholdOf X)) → All P ts
+    → ((t : ThresholdOf X) → t .terms ≡ lastList ts → P t → P (record { node = t .node; bound = t .bound; terms = g (t .terms) })) → All P (onLast g ts)
+unfolding onLast lastList
+every-on P g [] a f = tt
+every-on P g (t ∷ []) a f = (f t refl (a .0), tt)
+every-on P g (t ∷ u ∷ us) a f = (a .0, every-on P g (u ∷ us) (a .1) f)
+
+pub last-added : {X : Type 0} (x : X) (ts : List (ThresholdOf X)) → 0 < length ts → length (lastList (addTerm x ts)) ≡ length (lastList ts) + 1
+last-added x ts h = ap length (list-on (λ l. l ++ (x ∷ [])) ts h) ∙ length-append (lastList ts) (x ∷ [])
+
+pub all-added : {X : Type 0} (x : X) (ts : List (ThresholdOf X)) → 0 < length ts → allTerms (addTerm x ts) ≡ allTerms ts + 1
+all-added x ts h =
+    let a = all-on (λ l. l ++ (x ∷ [])) ts h in
+    let l = length-append (lastList ts) (x ∷ []) in omega (arith, a, l)
+
+-- ---- THE JOB of a draft with a change
+
+pub job-opened : (d : Draft) (n : ℕ) (b : ℤ) → jobOf (withThreshold d n b) ≡ withThreshold (jobOf d) n b
+unfolding joined
+job-opened d n b = λ i. record { nodes = d .nodes; thresholds = map-end weighedThreshold (d .thresholds) (record { node = n; bound = b; terms = [] }) i }
+
+pub last-weighed : (ds : List (ThresholdOf Entry)) → lastList (map weighedThreshold ds) ≡ weighed (lastList ds)
+unfolding lastList joined
+last-weighed [] = refl
+last-weighed (t ∷ []) = refl
+last-weighed (t ∷ u ∷ ds) = last-weighed (u ∷ ds)
+
+pub node-weighed : (ds : List (ThresholdOf Entry)) → lastNode (map weighedThreshold ds) ≡ lastNode ds
+unfolding lastNode
+node-weighed [] = refl
+node-weighed (t ∷ []) = refl
+node-weighed (t ∷ u ∷ ds) = node-weighed (u ∷ ds)
+
+-- What one more entry does to the weighed list of the open threshold, it does to the job.
+pub job-added : (d : Draft) (e : Entry) (g : List Term → List Term) → weighed (lastList (d .thresholds) ++ (e ∷ [])) ≡ g (weighed (lastList (d .thresholds)))
+    → jobOf (withTerm d e) ≡ record { nodes = d .nodes; thresholds = onLast g (jobOf d .thresholds) }
+unfolding onLast lastList joined
+job-added d e g q = λ i. record { nodes = d .nodes; thresholds = by (d .thresholds) q i }
+  where
+    by : (ds : List (ThresholdOf Entry)) → weighed (lastList ds ++ (e ∷ [])) ≡ g (weighed (lastList ds)) → map weighedThreshold (addTerm e ds) ≡ onLast g (map weighedThreshold ds)
+    by [] q = refl
+    by (t ∷ []) q = ap (λ (l : List Term). record { node = t .node; bound = t .bound; terms = l } ∷ []) q
+    by (t ∷ u ∷ ds) q = ap (λ (l : List Threshold). weighedThreshold t ∷ l) (by (u ∷ ds) q)
+
+-- WHAT THE CHECKS READ of the draft with a change.
+module _ (s e c : Bool) (d : Draft) (m : ℕ) where
+  pub standing-opened : (n : ℕ) (b : ℤ) → standingOf s e c (withThreshold d n b) m ≡ openedBy (standingOf s e c d m) n
   standing-opened n b = λ i. record {
     started = s;
     sealed = e;
     contradicted = c;
-    nodes = j .nodes;
-    thresholds = many i;
+    nodes = d .nodes;
+    thresholds = length-append ts (t ∷ []) i;
     «last_node» = node-more t ts i;
-    «last_terms» = terms-more t ts i;
-    terms = all i;
+    «last_terms» = length (list-more t ts i);
+    terms = all t ts refl i;
+    «raw_terms» = (ap (λ (j : Job). allTerms (j .thresholds)) (job-opened d n b) ∙ all u (jobOf d .thresholds) refl) i;
     answers = m;
   }
     where
-      t : Threshold
+      t : ThresholdOf Entry
       t = record { node = n; bound = b; terms = [] }
 
-      ts : List Threshold
-      ts = j .thresholds
+      u : Threshold
+      u = record { node = n; bound = b; terms = [] }
 
-      many : length (ts ++ (t ∷ [])) ≡ length ts + 1
-      many = length-append ts (t ∷ [])
+      ts : List (ThresholdOf Entry)
+      ts = d .thresholds
 
-      all : allTerms (ts ++ (t ∷ [])) ≡ allTerms ts
-      all = let q = all-more t ts in omega (arith, q)
+      all : {X : Type 0} (x : ThresholdOf X) (xs : List (ThresholdOf X)) → x .terms ≡ [] → allTerms (xs ++ (x ∷ [])) ≡ allTerms xs
+      all x xs e = let q = all-more x xs in let l = ap length e in omega (arith, q, l)
 
-  pub standing-added : (x : Term) → 0 < length (j .thresholds) → standingOf s e c (withTerm j x) m ≡ addedTo (standingOf s e c j m)
-  standing-added x h = λ i. record {
+  pub standing-added : (x : Entry) (n : ℕ) → 0 < length (d .thresholds) → allTerms (jobOf (withTerm d x) .thresholds) ≡ n
+      → standingOf s e c (withTerm d x) m ≡ addedTo (standingOf s e c d m) n
+  standing-added x n h q = λ i. record {
     started = s;
     sealed = e;
     contradicted = c;
-    nodes = j .nodes;
-    thresholds = length-added x (j .thresholds) i;
-    «last_node» = node-added x (j .thresholds) i;
-    «last_terms» = terms-added x (j .thresholds) h i;
-    terms = all-added x (j .thresholds) h i;
+    nodes = d .nodes;
+    thresholds = length-on (λ l. l ++ (x ∷ [])) (d .thresholds) i;
+    «last_node» = node-on (λ l. l ++ (x ∷ [])) (d .thresholds) i;
+    «last_terms» = last-added x (d .thresholds) h i;
+    terms = all-added x (d .thresholds) h i;
+    «raw_terms» = q i;
     answers = m;
   }
 

@@ -4,6 +4,7 @@ pub mod Gathered
 pub mod JobLaws
 pub mod GatheredLaws
 pub mod TakenLaws
+pub mod JoinLaws
 pub mod RawLaws
 pub mod Built
 pub mod SoundLaws

@@ -1,18 +1,19 @@
--- The words of the raw buffers: what they hold of a job is what they hold of the job with a threshold or a term, but for that one.
-use Prim.Native.Nat.{ℕ, zero, suc, _+_, _-_, _<_}
+-- The words of the raw buffers: what they hold of a job is what they hold of the job with a threshold, a term or another weight, but for that one.
+use Prim.Native.Nat.{ℕ, zero, suc, _+_, _-_, _<_, _≤_}
 use native.Mathlib.Nat.{not-suc-le-zero}
 use native.Mathlib.Omega.{arith}
-use mathlib.Core.Path.{_≡_, refl, sym, ap, _∙_}
+use mathlib.Core.Path.{_≡_, refl, sym, ap, ap₂, _∙_}
 use mathlib.Core.List.{List, [], _∷_, _++_, map, append-nil, append-assoc}
-use lib.ListN.{length, drop, set, length-append, length-map, length-set}
+use lib.ListN.{length, getD, drop, set, length-append, length-map, length-set}
 use lib.IntN.{ℤ}
 use Rattle.memory.specs.Buffers.{Raw, rawLists, raw}
 use Rattle.base.specs.Laid.{over, joinAll, ends, pairs}
-use Rattle.numeric.specs.Threshold.{Term, Threshold, Job}
+use Rattle.numeric.specs.Threshold.{Term, term, Threshold, Job}
 use Rattle.thresholds.specs.Laid.{conditions, weights}
 use Rattle.prepare.specs.JobBuffers.{rawOf}
-use Rattle.job.specs.Job.{lastNode, allTerms, addTerm}
-use Rattle.job.specs.Taken.{withThreshold, withTerm}
+use Rattle.job.specs.Job.{lastNode, lastList, allTerms, onLast, addTerm}
+use Rattle.job.specs.JobLaws.{map-end}
+use Rattle.job.specs.Taken.{withThreshold, withTerm, weighing, withWeight}
 
 -- ---- laid in front of a buffer
 
@@ -38,7 +39,7 @@ lists-more [] n b = refl
 lists-more (t ∷ ts) n b = ap (λ (r : List Term). t .terms ++ r) (lists-more ts n b)
 
 lists-added : (x : Term) (ts : List Threshold) → 0 < length ts → joinAll (lists (addTerm x ts)) ≡ joinAll (lists ts) ++ (x ∷ [])
-unfolding joinAll addTerm
+unfolding joinAll onLast
 lists-added x [] h = absurd (not-suc-le-zero h)
 lists-added x (t ∷ []) h = append-nil (t .terms ++ (x ∷ [])) ∙ ap (λ (l : List Term). l ++ (x ∷ [])) (sym (append-nil (t .terms)))
 lists-added x (t ∷ u ∷ ts) h =
@@ -48,10 +49,6 @@ terms-long : (ts : List Threshold) → length (joinAll (lists ts)) ≡ allTerms 
 unfolding joinAll allTerms
 terms-long [] = refl
 terms-long (t ∷ ts) = let q = terms-long ts in let l = length-append (t .terms) (joinAll (lists ts)) in omega (arith, q, l)
-
-map-end : {X Y : Type 0} (f : X → Y) (l : List X) (x : X) → map f (l ++ (x ∷ [])) ≡ map f l ++ (f x ∷ [])
-map-end f [] x = refl
-map-end f (y ∷ l) x = ap (λ (r : List _). f y ∷ r) (map-end f l x)
 
 -- ---- the thresholds' entries
 
@@ -77,7 +74,7 @@ entries-more s (t ∷ ts) n b =
 
 entries-added : (s : ℕ) (x : Term) (ts : List Threshold) (i : ℕ) → length ts ≡ suc i
     → entries s (addTerm x ts) ≡ set (entries s ts) i (lastNode ts ∷ (s + allTerms ts + 1) ∷ [])
-unfolding pairs ends allTerms addTerm lastNode
+unfolding pairs ends allTerms onLast lastNode
 entries-added s x [] i h = absurd (let z : _≡_ {A = ℕ} 0 (suc i) = h in omega arith)
 entries-added s x (t ∷ []) zero h =
     ap (λ (e : ℕ). (t .node ∷ e ∷ []) ∷ []) {x = s + length (t .terms ++ (x ∷ []))} {y = s + (length (t .terms) + 0) + 1}
@@ -90,11 +87,73 @@ entries-added s x (t ∷ u ∷ ts) (suc i) h =
     (entries-added m x (u ∷ ts) i (let z : _≡_ {A = ℕ} (suc (length (u ∷ ts))) (suc (suc i)) = h in omega arith)
     ∙ ap (λ (e : ℕ). set (entries m (u ∷ ts)) i (lastNode (u ∷ ts) ∷ e ∷ [])) {x = m + allTerms (u ∷ ts) + 1} {y = s + (length (t .terms) + allTerms (u ∷ ts)) + 1} (omega arith))
 
-bounds-added : (x : Term) (us : List Threshold) → map (λ (t : Threshold). t .bound) us ≡ map (λ (t : Threshold). t .bound) (addTerm x us)
-unfolding addTerm
-bounds-added x [] = refl
-bounds-added x (t ∷ []) = refl
-bounds-added x (t ∷ u ∷ us) = ap (λ (l : List ℤ). t .bound ∷ l) (bounds-added x (u ∷ us))
+bounds-on : (g : List Term → List Term) (us : List Threshold) → map (λ (t : Threshold). t .bound) us ≡ map (λ (t : Threshold). t .bound) (onLast g us)
+unfolding onLast
+bounds-on g [] = refl
+bounds-on g (t ∷ []) = refl
+bounds-on g (t ∷ u ∷ us) = ap (λ (l : List ℤ). t .bound ∷ l) (bounds-on g (u ∷ us))
+
+-- ---- another weight in the last threshold
+
+conditions-weighing : (i w : ℕ) (l : List Term) → map (λ (t : Term). t .condition) (weighing i w l) ≡ map (λ (t : Term). t .condition) l
+conditions-weighing i w [] = refl
+conditions-weighing zero w (t ∷ l) = refl
+conditions-weighing (suc i) w (t ∷ l) = ap (λ (r : List ℕ). t .condition ∷ r) (conditions-weighing i w l)
+
+weights-weighing : (i w : ℕ) (l : List Term) → map (λ (t : Term). t .weight) (weighing i w l) ≡ set (map (λ (t : Term). t .weight) l) i w
+weights-weighing i w [] = refl
+weights-weighing zero w (t ∷ l) = refl
+weights-weighing (suc i) w (t ∷ l) = ap (λ (r : List ℕ). t .weight ∷ r) (weights-weighing i w l)
+
+map-join : {X Y : Type 0} (f : X → Y) (l r : List X) → map f (l ++ r) ≡ map f l ++ map f r
+map-join f [] r = refl
+map-join f (x ∷ l) r = ap (λ (s : List _). f x ∷ s) (map-join f l r)
+
+set-behind : {X : Type 0} (l r : List X) (i : ℕ) (x : X) → set (l ++ r) (length l + i) x ≡ l ++ set r i x
+set-behind [] r i x = ap (λ (n : ℕ). set r n x) (let z : 0 + i ≡ i = omega arith in z)
+set-behind (y ∷ l) r i x =
+    ap (λ (n : ℕ). set (y ∷ (l ++ r)) n x) {x = length (y ∷ l) + i} {y = suc (length l + i)} (omega arith) ∙ ap (λ (s : List _). y ∷ s) (set-behind l r i x)
+
+module _ (i w : ℕ) where
+  conditions-same : (ts : List Threshold) → conditions (joinAll (lists (onLast (weighing i w) ts))) ≡ conditions (joinAll (lists ts))
+  unfolding joinAll onLast
+  conditions-same [] = refl
+  conditions-same (t ∷ []) =
+      ap conditions (append-nil (weighing i w (t .terms))) ∙ conditions-weighing i w (t .terms) ∙ ap conditions (sym (append-nil (t .terms)))
+  conditions-same (t ∷ u ∷ ts) =
+      map-join (λ (x : Term). x .condition) (t .terms) (joinAll (lists (onLast (weighing i w) (u ∷ ts))))
+      ∙ ap (λ (l : List ℕ). conditions (t .terms) ++ l) (conditions-same (u ∷ ts)) ∙ sym (map-join (λ (x : Term). x .condition) (t .terms) (joinAll (lists (u ∷ ts))))
+
+  weights-set : (ts : List Threshold) (start : ℕ) → start + length (lastList ts) ≡ allTerms ts → i < length (lastList ts)
+      → weights (joinAll (lists (onLast (weighing i w) ts))) ≡ set (weights (joinAll (lists ts))) (start + i) w
+  unfolding joinAll onLast lastList allTerms
+  weights-set [] start e h = absurd (not-suc-le-zero h)
+  weights-set (t ∷ []) start e h =
+      ap weights (append-nil (weighing i w (t .terms))) ∙ weights-weighing i w (t .terms)
+      ∙ ap₂ (λ (l : List Term) (n : ℕ). set (weights l) n w) (sym (append-nil (t .terms))) (let z : i ≡ start + i = omega (arith, e) in z)
+  weights-set (t ∷ u ∷ ts) start e h =
+      let far = start - length (t .terms) in
+      let f : Term → ℕ = λ x. x .weight in
+      let long : length (t .terms) ≤ start = before (u ∷ ts) start e in
+      map-join f (t .terms) (joinAll (lists (onLast (weighing i w) (u ∷ ts))))
+      ∙ ap (λ (l : List ℕ). weights (t .terms) ++ l) (weights-set (u ∷ ts) far (omega (arith, e, long)) h)
+      ∙ sym (set-behind (weights (t .terms)) (weights (joinAll (lists (u ∷ ts)))) (far + i) w)
+      ∙ ap (λ (n : ℕ). set (weights (t .terms) ++ weights (joinAll (lists (u ∷ ts)))) n w) (let m = length-map (t .terms) f in let z : length (weights (t .terms)) + (far + i) ≡ start + i = omega (arith, m, long) in z)
+      ∙ ap (λ (l : List ℕ). set l (start + i) w) (sym (map-join f (t .terms) (joinAll (lists (u ∷ ts)))))
+    where
+      last-few : (us : List Threshold) → length (lastList us) ≤ allTerms us
+      last-few [] = omega arith
+      last-few (v ∷ []) = omega arith
+      last-few (v ∷ x ∷ us) = let q = last-few (x ∷ us) in omega (arith, q)
+
+      before : (us : List Threshold) (s : ℕ) → s + length (lastList us) ≡ length (t .terms) + allTerms us → length (t .terms) ≤ s
+      before us s q = let k = last-few us in omega (arith, q, k)
+
+  entries-same : (s : ℕ) (ts : List Threshold) → entries s (onLast (weighing i w) ts) ≡ entries s ts
+  unfolding pairs ends onLast
+  entries-same s [] = refl
+  entries-same s (t ∷ []) = ap (λ (n : ℕ). (t .node ∷ (s + n) ∷ []) ∷ []) (length-set (t .terms) i (term (getD (t .terms) i (term 0 0) .condition) w))
+  entries-same s (t ∷ u ∷ ts) = ap (λ (r : List (List ℕ)). (t .node ∷ (s + length (t .terms)) ∷ []) ∷ r) (entries-same (s + length (t .terms)) (u ∷ ts))
 
 -- ---- THE RAW BUFFERS
 
@@ -168,4 +227,34 @@ module _ (j : Job) (w : Raw) where
           (ap (λ (m : ℕ). set (entries 0 ts) last (lastNode ts ∷ m ∷ [])) {x = allTerms ts + 1} {y = 0 + allTerms ts + 1} (omega arith) ∙ sym (entries-added 0 x ts last e))
 
       bs : over (map (λ (t : Threshold). t .bound) ts) (w .bounds) ≡ over (map (λ (t : Threshold). t .bound) (addTerm x ts)) (w .bounds)
-      bs = ap (λ (l : List ℤ). over l (w .bounds)) (bounds-added x ts)
+      bs = ap (λ (l : List ℤ). over l (w .bounds)) (bounds-on (λ l. l ++ (x ∷ [])) ts)
+
+  pub raw-weighed : (start i v : ℕ) → start + length (lastList (j .thresholds)) ≡ allTerms (j .thresholds) → i < length (lastList (j .thresholds))
+      → raw (rawLists (held .lists .raw-conditions) (set (held .lists .raw-weights) (start + i) v) (held .lists .thresholds)) (held .bounds) ≡ rawOf (withWeight j i v) w
+  unfolding rawOf
+  raw-weighed start i v e h = λ k. raw (rawLists (cs k) (ws k) (es k)) (bs k)
+    where
+      ts : List Threshold
+      ts = j .thresholds
+
+      new : List Threshold
+      new = onLast (weighing i v) (j .thresholds)
+
+      cs : over (conditions (joinAll (lists ts))) (w .lists .raw-conditions) ≡ over (conditions (joinAll (lists new))) (w .lists .raw-conditions)
+      cs = ap (λ (l : List ℕ). over l (w .lists .raw-conditions)) (sym (conditions-same i v ts))
+
+      inside : start + i < length (weights (joinAll (lists ts)))
+      inside = omega (arith, length-map (joinAll (lists ts)) (λ (t : Term). t .weight), terms-long ts, e, h)
+
+      ws : set (over (weights (joinAll (lists ts))) (w .lists .raw-weights)) (start + i) v ≡ over (weights (joinAll (lists new))) (w .lists .raw-weights)
+      ws =
+          let l = weights (joinAll (lists ts)) in
+          set-front l (drop (length l) (w .lists .raw-weights)) (start + i) v inside
+          ∙ ap (λ (n : ℕ). set l (start + i) v ++ drop n (w .lists .raw-weights)) (sym (length-set l (start + i) v))
+          ∙ ap (λ (r : List ℕ). over r (w .lists .raw-weights)) (sym (weights-set i v ts start e h))
+
+      es : over (entries 0 ts) (w .lists .thresholds) ≡ over (entries 0 new) (w .lists .thresholds)
+      es = ap (λ (r : List (List ℕ)). over r (w .lists .thresholds)) (sym (entries-same i v 0 ts))
+
+      bs : over (map (λ (t : Threshold). t .bound) ts) (w .bounds) ≡ over (map (λ (t : Threshold). t .bound) new) (w .bounds)
+      bs = ap (λ (l : List ℤ). over l (w .bounds)) (bounds-on (weighing i v) ts)

@@ -21,13 +21,14 @@ use Rattle.job.specs.GatheredLaws.{start-cut}
 use Rattle.job.specs.Built.{Roomy, Spare}
 
 -- NO THRESHOLDS YET
-pub gathered-none : (k : Standing) (cs ws : List ℕ) (ts : List (List ℕ)) (bs : List ℤ) → k .nodes ≤ maxNodes → k .thresholds ≡ 0 → k .terms ≡ 0
+pub gathered-none : (k : Standing) (cs ws : List ℕ) (ts : List (List ℕ)) (bs : List ℤ) → k .nodes ≤ maxNodes → k .thresholds ≡ 0 → k .«raw_terms» ≡ 0
     → maxTerms ≤ length cs → maxTerms ≤ length ws → maxThresholds ≤ length ts → maxThresholds ≤ length bs → Gathered k cs ws ts bs
 unfolding startBy
 gathered-none k cs ws ts bs h e z c w t b = record {
   listed = record {
     nodes = h;
     terms = omega (arith, z);
+    fewer = omega (arith, z);
     many = omega (arith, e);
     room = t;
     wide = λ t q. absurd (omega (arith, e, q));
@@ -51,11 +52,11 @@ module _ (k : Standing) (cs ws : List ℕ) (ts : List (List ℕ)) (bs : List ℤ
   pub bounds-long : length (take (k .thresholds) bs) ≡ k .thresholds
   bounds-long = length-take-le (k .thresholds) bs (let a = g .bounded .room in let b = g .listed .many in omega (arith, a, b))
 
-  pub conditions-long : length (take (k .terms) cs) ≡ k .terms
-  conditions-long = length-take-le (k .terms) cs (let a = g .termed .conditions in let b = g .listed .terms in omega (arith, a, b))
+  pub conditions-long : length (take (k .«raw_terms») cs) ≡ k .«raw_terms»
+  conditions-long = length-take-le (k .«raw_terms») cs (let a = g .termed .conditions in let b = g .listed .terms in omega (arith, a, b))
 
-  pub weights-long : length (take (k .terms) ws) ≡ k .terms
-  weights-long = length-take-le (k .terms) ws (let a = g .termed .weights in let b = g .listed .terms in omega (arith, a, b))
+  pub weights-long : length (take (k .«raw_terms») ws) ≡ k .«raw_terms»
+  weights-long = length-take-le (k .«raw_terms») ws (let a = g .termed .weights in let b = g .listed .terms in omega (arith, a, b))
 
   same : (t : ℕ) → t < k .thresholds → getD (take (k .thresholds) ts) t [] ≡ getD ts t []
   same t q = getD-take (k .thresholds) ts t [] q
@@ -78,13 +79,13 @@ module _ (k : Standing) (cs ws : List ℕ) (ts : List (List ℕ)) (bs : List ℤ
     short = λ t q. let a = starts t q in let e = end-same t q in let r = g .listed .short t q in omega (arith, a, e, r);
     inside = λ t q. let e = end-same t q in let r = g .listed .within t q in let l = conditions-long in omega (arith, e, r, l);
     weighed = weights-long ∙ sym conditions-long;
-    light = λ i. light i (decLt i (k .terms));
+    light = λ i. light i (decLt i (k .«raw_terms»));
   }
     where
-      light : (i : ℕ) → Dec (i < k .terms) → getD (take (k .terms) ws) i 0 < rawLimit
-      light i (yes q) = subst (λ (x : ℕ). x < rawLimit) (sym (getD-take (k .terms) ws i 0 q)) (g .termed .light i q)
+      light : (i : ℕ) → Dec (i < k .«raw_terms») → getD (take (k .«raw_terms») ws) i 0 < rawLimit
+      light i (yes q) = subst (λ (x : ℕ). x < rawLimit) (sym (getD-take (k .«raw_terms») ws i 0 q)) (g .termed .light i q)
       light i (no q) =
-          let l = weights-long in let e = List·getD-eq-default (take (k .terms) ws) 0 {n = i} (omega arith) in omega (arith, e)
+          let l = weights-long in let e = List·getD-eq-default (take (k .«raw_terms») ws) 0 {n = i} (omega arith) in omega (arith, e)
 
   -- WHAT `prepare` ASKS of the job
   pub gathered-sound : (m : ℕ) → m ≡ k .nodes → Sound (cut k cs ws ts) (take (k .thresholds) bs) m
@@ -97,8 +98,8 @@ module _ (k : Standing) (cs ws : List ℕ) (ts : List (List ℕ)) (bs : List ℤ
         let s = node-same t u in let r = g .listed .inside t u in omega (arith, s, r, e);
     rising = λ t q. let u : t + 1 < k .thresholds = subst (λ (x : ℕ). t + 1 < x) long q in
         let s = node-same t (omega arith) in let n = node-same (t + 1) u in let r = g .listed .ordered t u in omega (arith, s, n, r);
-    below = λ i q. let u : i < k .terms = subst (λ (x : ℕ). i < x) conditions-long q in
-        let s = getD-take (k .terms) cs i 0 u in let r = g .termed .below i u in omega (arith, s, r, e);
+    below = λ i q. let u : i < k .«raw_terms» = subst (λ (x : ℕ). i < x) conditions-long q in
+        let s = getD-take (k .«raw_terms») cs i 0 u in let r = g .termed .below i u in omega (arith, s, r, e);
     few = let r = g .listed .nodes in omega (arith, r, e);
     short = let l = conditions-long in let r = g .listed .terms in omega (arith, l, r);
   }
@@ -108,7 +109,7 @@ module _ (k : Standing) (cs ws : List ℕ) (ts : List (List ℕ)) (bs : List ℤ
 
   -- The buffers of docs/BUFFERS.md have room for it, the nodes cut to their number.
   pub gathered-ample : (b : Built) (sc : List ℕ) → Roomy b → Spare sc
-      → Ample (length (take (k .terms) cs)) (length (take (k .thresholds) ts)) (built (b .held) (take (k .nodes) (b .nodes)) (b .edges) (b .links)) sc
+      → Ample (length (take (k .«raw_terms») cs)) (length (take (k .thresholds) ts)) (built (b .held) (take (k .nodes) (b .nodes)) (b .edges) (b .links)) sc
   gathered-ample b sc h w =
       let t = conditions-long in let l = long in let x = g .listed .terms in let y = g .listed .many in record {
         conditions = let z = h .conditions in omega (arith, t, x, z);

@@ -1,12 +1,13 @@
--- What a threshold and a term that are taken make of the job and of what the checks read, as the code counts it.
+-- What a threshold, a term and an area that are taken make of the job and of what the checks read, as the code counts it.
 use Prim.Native.Nat.{ℕ, _+_}
+use mathlib.Core.List.{List, [], _∷_, _++_}
 use lib.IntN.{ℤ}
-use Rattle.numeric.specs.Threshold.{Term, Job}
+use lib.ListN.{getD, set}
+use Rattle.numeric.specs.Threshold.{Term, term, JobOf, Job}
 use Rattle.records.specs.declared.Standing.{Standing}
-use Rattle.records.specs.Facts.{opens, adds}
-use Rattle.job.specs.Job.{withChange}
+use Rattle.job.specs.Job.{onLast, addTerm}
 
--- What the checks read after a threshold, and after a term.
+-- What is read after a threshold, and after a term or an area that leaves so many terms in the raw lists.
 abbrev pub openedBy : Standing → ℕ → Standing
 openedBy s n = record {
   started = s .started;
@@ -17,11 +18,12 @@ openedBy s n = record {
   «last_node» = n;
   «last_terms» = 0;
   terms = s .terms;
+  «raw_terms» = s .«raw_terms»;
   answers = s .answers;
 }
 
-abbrev pub addedTo : Standing → Standing
-addedTo s = record {
+abbrev pub addedTo : Standing → ℕ → Standing
+addedTo s n = record {
   started = s .started;
   sealed = s .sealed;
   contradicted = s .contradicted;
@@ -30,11 +32,19 @@ addedTo s = record {
   «last_node» = s .«last_node»;
   «last_terms» = s .«last_terms» + 1;
   terms = s .terms + 1;
+  «raw_terms» = n;
   answers = s .answers;
 }
 
-abbrev pub withThreshold : Job → ℕ → ℤ → Job
-withThreshold j n b = withChange j (opens n b)
+abbrev pub withThreshold : {X : Type 0} → JobOf X → ℕ → ℤ → JobOf X
+withThreshold j n b = record { nodes = j .nodes; thresholds = j .thresholds ++ (record { node = n; bound = b; terms = [] } ∷ []) }
 
-abbrev pub withTerm : Job → Term → Job
-withTerm j x = withChange j (adds x)
+abbrev pub withTerm : {X : Type 0} → JobOf X → X → JobOf X
+withTerm j x = record { nodes = j .nodes; thresholds = addTerm x (j .thresholds) }
+
+-- The term at a place of the open threshold with another weight.
+abbrev pub weighing : ℕ → ℕ → List Term → List Term
+weighing i w l = set l i (term (getD l i (term 0 0) .condition) w)
+
+abbrev pub withWeight : Job → ℕ → ℕ → Job
+withWeight j i w = record { nodes = j .nodes; thresholds = onLast (weighing i w) (j .thresholds) }

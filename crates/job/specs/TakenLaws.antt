@@ -33,7 +33,7 @@ use Rattle.records.specs.CheckLaws.{Passes, passes}
 use Rattle.job.specs.Job.{addTerm}
 use Rattle.job.specs.Taken.{openedBy, addedTo, withThreshold, withTerm}
 use Rattle.job.specs.Gathered.{cut, jobIn, Listed, Bounded, Termed, Gathered, Opened, Added}
-use Rattle.job.specs.JobLaws.{map-same, add-more, term-more, stretch-set, stretch-more}
+use Rattle.job.specs.JobLaws.{map-same, on-more, term-more, stretch-set, stretch-more}
 use Rattle.job.specs.GatheredLaws.{threshold-by, by-last, list-by, gathered, gathered-last}
 
 abbrev node-of : List ℕ → ℕ
@@ -66,7 +66,7 @@ module _ (k : Standing) (n : ℕ) (b : ℤ) (ts : List (List ℕ)) (bs : List �
   next = openedBy k n
 
   abbrev entry : List ℕ
-  entry = n ∷ k .terms ∷ []
+  entry = n ∷ k .«raw_terms» ∷ []
 
   abbrev ts′ : List (List ℕ)
   ts′ = set ts (k .thresholds) entry
@@ -85,16 +85,17 @@ module _ (k : Standing) (n : ℕ) (b : ℤ) (ts : List (List ℕ)) (bs : List �
   old-start zero q = refl
   old-start (suc t) q = ap end-of (old t q)
 
-  starts : startBy 1 ts′ (k .thresholds) ≡ k .terms
+  pub starts : startBy 1 ts′ (k .thresholds) ≡ k .«raw_terms»
   starts = old-start (k .thresholds) (le-refl (k .thresholds)) ∙ g .ended
 
-  ends : endBy 1 ts′ (k .thresholds) ≡ k .terms
+  ends : endBy 1 ts′ (k .thresholds) ≡ k .«raw_terms»
   ends = ap end-of new
 
   listed-open : Listed next ts′
   listed-open = record {
     nodes = g .nodes;
     terms = g .terms;
+    fewer = g .fewer;
     many = let r = open-room in omega arith;
     room = subst (λ (x : ℕ). maxThresholds ≤ x) (sym (length-set ts (k .thresholds) entry)) (g .room);
     wide = by-last (λ (t : ℕ). length (getD ts′ t []) ≡ 2) (k .thresholds) (k .thresholds + 1) refl (λ t q. ap length (old t q) ∙ g .wide t q) (ap length new);
@@ -107,7 +108,7 @@ module _ (k : Standing) (n : ℕ) (b : ℤ) (ts : List (List ℕ)) (bs : List �
         (λ t q. let a = old-start t (omega arith) in let e : endBy 1 ts′ t ≡ endBy 1 ts t = ap end-of (old t q) in let r = g .short t q in omega (arith, a, e, r))
         (let a = starts in let e = ends in omega (arith, a, e));
     within =
-        by-last (λ (t : ℕ). endBy 1 ts′ t ≤ k .terms) (k .thresholds) (k .thresholds + 1) refl
+        by-last (λ (t : ℕ). endBy 1 ts′ t ≤ k .«raw_terms») (k .thresholds) (k .thresholds + 1) refl
         (λ t q. let e : endBy 1 ts′ t ≡ endBy 1 ts t = ap end-of (old t q) in let r = g .within t q in omega (arith, e, r)) (let e = ends in omega (arith, e));
     ended = start-after 1 ts′ (k .thresholds) ∙ ends;
     inside =
@@ -149,7 +150,7 @@ module _ (k : Standing) (n : ℕ) (b : ℤ) (ts : List (List ℕ)) (bs : List �
     unfolding listAt terms
     no-terms =
         ap₂ (λ (x y : ℕ). terms (stretch x y cs) (stretch x y ws)) starts ends
-        ∙ ap (λ (j : ℕ). terms (take j (drop (k .terms) cs)) (take j (drop (k .terms) ws))) {x = k .terms - k .terms} {y = 0} (omega arith)
+        ∙ ap (λ (j : ℕ). terms (take j (drop (k .«raw_terms») cs)) (take j (drop (k .«raw_terms») ws))) {x = k .«raw_terms» - k .«raw_terms»} {y = 0} (omega arith)
 
     new-at : thresholdAt (rawLists cs ws ts′) bs′ (k .thresholds) ≡ record { node = n; bound = b; terms = [] }
     new-at =
@@ -181,7 +182,7 @@ module _ (k : Standing) (c w : ℕ) (cs ws : List ℕ) (ts : List (List ℕ)) (g
   abbrev last : ℕ
   last = k .thresholds - 1
 
-  abbrev fine : Passes k (facts (action (Adds c w)))
+  abbrev pub fine : Passes k (facts (action (Adds c w)))
   fine = passes k (facts (action (Adds c w))) none
 
   pub term-open : k .thresholds ≡ last + 1
@@ -199,14 +200,14 @@ module _ (k : Standing) (c w : ℕ) (cs ws : List ℕ) (ts : List (List ℕ)) (g
       let o = or-false (leb listTerms (k .«last_terms»)) (leb maxTerms (k .terms)) (fine .room) in
       (leb-false listTerms (k .«last_terms») (o .0), leb-false maxTerms (k .terms) (o .1))
 
-  pub term-room : k .terms < maxTerms
-  term-room = counts-left .1
+  pub term-room : k .«raw_terms» < maxTerms
+  term-room = omega (arith, counts-left .1, g .fewer)
 
   abbrev with-one : Standing
-  with-one = addedTo k
+  with-one = addedTo k (k .«raw_terms» + 1)
 
   abbrev longer : List ℕ
-  longer = nodeAt ts last ∷ (k .terms + 1) ∷ []
+  longer = nodeAt ts last ∷ (k .«raw_terms» + 1) ∷ []
 
   abbrev ts″ : List (List ℕ)
   ts″ = set ts last longer
@@ -222,13 +223,13 @@ module _ (k : Standing) (c w : ℕ) (cs ws : List ℕ) (ts : List (List ℕ)) (g
   before-start zero q = refl
   before-start (suc t) q = ap end-of (before t q)
 
-  last-start : startBy 1 ts″ last ≡ startBy 1 ts last
+  pub last-start : startBy 1 ts″ last ≡ startBy 1 ts last
   last-start = before-start last (le-refl last)
 
-  last-end : endBy 1 ts last ≡ k .terms
+  last-end : endBy 1 ts last ≡ k .«raw_terms»
   last-end = sym (start-after 1 ts last) ∙ ap (startBy 1 ts) (sym term-open) ∙ g .ended
 
-  new-end : endBy 1 ts″ last ≡ k .terms + 1
+  new-end : endBy 1 ts″ last ≡ k .«raw_terms» + 1
   new-end = ap end-of there
 
   same-node : (t : ℕ) → t < k .thresholds → nodeAt ts″ t ≡ nodeAt ts t
@@ -244,6 +245,7 @@ module _ (k : Standing) (c w : ℕ) (cs ws : List ℕ) (ts : List (List ℕ)) (g
   listed-add = record {
     nodes = g .nodes;
     terms = let r = term-room in omega (arith, r);
+    fewer = omega (arith, g .fewer);
     many = g .many;
     room = subst (λ (x : ℕ). maxThresholds ≤ x) (sym (length-set ts last longer)) (g .room);
     wide = by-last (λ (t : ℕ). length (getD ts″ t []) ≡ 2) last (k .thresholds) term-open (λ t q. ap length (before t q) ∙ g .wide t (earlier t q)) (ap length there);
@@ -256,7 +258,7 @@ module _ (k : Standing) (c w : ℕ) (cs ws : List ℕ) (ts : List (List ℕ)) (g
         (λ t q. let a = before-start t (omega arith) in let e : endBy 1 ts″ t ≡ endBy 1 ts t = ap end-of (before t q) in let r = g .short t (earlier t q) in omega (arith, a, e, r))
         (let a = last-start in let e = new-end in let r = counts-left .0 in let o = g .filled last (sym term-open) in omega (arith, a, e, r, o));
     within =
-        by-last (λ (t : ℕ). endBy 1 ts″ t ≤ k .terms + 1) last (k .thresholds) term-open
+        by-last (λ (t : ℕ). endBy 1 ts″ t ≤ k .«raw_terms» + 1) last (k .thresholds) term-open
         (λ t q. let e : endBy 1 ts″ t ≡ endBy 1 ts t = ap end-of (before t q) in let r = g .within t (earlier t q) in omega (arith, e, r)) (let e = new-end in omega (arith, e));
     ended = ap (startBy 1 ts″) term-open ∙ start-after 1 ts″ last ∙ new-end;
     inside = λ t q. subst (λ (x : ℕ). x < k .nodes) (sym (same-node t q)) (g .inside t q);
@@ -267,64 +269,64 @@ module _ (k : Standing) (c w : ℕ) (cs ws : List ℕ) (ts : List (List ℕ)) (g
         let o = term-open in let a = before-start t (omega (arith, e, o)) in let r = g .filled t e in omega (arith, a, r);
   }
 
-  termed-add : w < rawLimit → Termed with-one (set cs (k .terms) c) (set ws (k .terms) w)
+  termed-add : w < rawLimit → Termed with-one (set cs (k .«raw_terms») c) (set ws (k .«raw_terms») w)
   termed-add small = record {
-    conditions = subst (λ (x : ℕ). maxTerms ≤ x) (sym (length-set cs (k .terms) c)) (h .conditions);
-    weights = subst (λ (x : ℕ). maxTerms ≤ x) (sym (length-set ws (k .terms) w)) (h .weights);
+    conditions = subst (λ (x : ℕ). maxTerms ≤ x) (sym (length-set cs (k .«raw_terms») c)) (h .conditions);
+    weights = subst (λ (x : ℕ). maxTerms ≤ x) (sym (length-set ws (k .«raw_terms») w)) (h .weights);
     below =
-        by-last (λ (i : ℕ). getD (set cs (k .terms) c) i 0 < k .nodes) (k .terms) (k .terms + 1) refl
-        (λ i q. subst (λ (x : ℕ). x < k .nodes) (sym (getD-set-other cs (k .terms) i c 0 (λ (e : i ≡ k .terms). omega arith))) (h .below i q))
-        (subst (λ (x : ℕ). x < k .nodes) (sym (getD-set-same cs (k .terms) c 0 (let r = term-room in let l = h .conditions in omega (arith, r, l))))
+        by-last (λ (i : ℕ). getD (set cs (k .«raw_terms») c) i 0 < k .nodes) (k .«raw_terms») (k .«raw_terms» + 1) refl
+        (λ i q. subst (λ (x : ℕ). x < k .nodes) (sym (getD-set-other cs (k .«raw_terms») i c 0 (λ (e : i ≡ k .«raw_terms»). omega arith))) (h .below i q))
+        (subst (λ (x : ℕ). x < k .nodes) (sym (getD-set-same cs (k .«raw_terms») c 0 (let r = term-room in let l = h .conditions in omega (arith, r, l))))
         (leb-false (k .nodes) c (fine .nodes)));
     light =
-        by-last (λ (i : ℕ). getD (set ws (k .terms) w) i 0 < rawLimit) (k .terms) (k .terms + 1) refl
-        (λ i q. subst (λ (x : ℕ). x < rawLimit) (sym (getD-set-other ws (k .terms) i w 0 (λ (e : i ≡ k .terms). omega arith))) (h .light i q))
-        (subst (λ (x : ℕ). x < rawLimit) (sym (getD-set-same ws (k .terms) w 0 (let r = term-room in let l = h .weights in omega (arith, r, l)))) small);
+        by-last (λ (i : ℕ). getD (set ws (k .«raw_terms») w) i 0 < rawLimit) (k .«raw_terms») (k .«raw_terms» + 1) refl
+        (λ i q. subst (λ (x : ℕ). x < rawLimit) (sym (getD-set-other ws (k .«raw_terms») i w 0 (λ (e : i ≡ k .«raw_terms»). omega arith))) (h .light i q))
+        (subst (λ (x : ℕ). x < rawLimit) (sym (getD-set-same ws (k .«raw_terms») w 0 (let r = term-room in let l = h .weights in omega (arith, r, l)))) small);
   }
 
   module _ (bs : List ℤ) where
     abbrev start : ℕ
     start = startBy 1 ts last
 
-    up-to : start ≤ k .terms
+    up-to : start ≤ k .«raw_terms»
     up-to = let r = g .rising last in-last in let e = last-end in omega (arith, r, e)
 
-    before-at : (t : ℕ) → t < last → thresholdAt (rawLists (set cs (k .terms) c) (set ws (k .terms) w) ts″) bs t ≡ thresholdAt (rawLists cs ws ts) bs t
+    before-at : (t : ℕ) → t < last → thresholdAt (rawLists (set cs (k .«raw_terms») c) (set ws (k .«raw_terms») w) ts″) bs t ≡ thresholdAt (rawLists cs ws ts) bs t
     before-at t q =
         threshold-by (ap node-of (before t q)) refl
-        (list-by (rawLists (set cs (k .terms) c) (set ws (k .terms) w) ts″) (rawLists cs ws ts) t (before-start t (omega arith)) (ap end-of (before t q))
-        (stretch-set (startBy 1 ts t) (endBy 1 ts t) (k .terms) c cs (g .rising t (earlier t q)) (g .within t (earlier t q)))
-        (stretch-set (startBy 1 ts t) (endBy 1 ts t) (k .terms) w ws (g .rising t (earlier t q)) (g .within t (earlier t q))))
+        (list-by (rawLists (set cs (k .«raw_terms») c) (set ws (k .«raw_terms») w) ts″) (rawLists cs ws ts) t (before-start t (omega arith)) (ap end-of (before t q))
+        (stretch-set (startBy 1 ts t) (endBy 1 ts t) (k .«raw_terms») c cs (g .rising t (earlier t q)) (g .within t (earlier t q)))
+        (stretch-set (startBy 1 ts t) (endBy 1 ts t) (k .«raw_terms») w ws (g .rising t (earlier t q)) (g .within t (earlier t q))))
 
-    one-more : listAt (rawLists (set cs (k .terms) c) (set ws (k .terms) w) ts″) last ≡ listAt (rawLists cs ws ts) last ++ (term c w ∷ [])
+    one-more : listAt (rawLists (set cs (k .«raw_terms») c) (set ws (k .«raw_terms») w) ts″) last ≡ listAt (rawLists cs ws ts) last ++ (term c w ∷ [])
     unfolding listAt
     one-more =
         let p = h .conditions in
         let q = h .weights in
         let r = term-room in
-        ap₂ (λ (x y : ℕ). terms (stretch x y (set cs (k .terms) c)) (stretch x y (set ws (k .terms) w))) last-start new-end
-        ∙ ap₂ terms (stretch-more start (k .terms) c cs up-to (omega (arith, p, r))) (stretch-more start (k .terms) w ws up-to (omega (arith, q, r)))
-        ∙ term-more (stretch start (k .terms) cs) (stretch start (k .terms) ws) c w
-        (stretch-length start (k .terms) ws (omega (arith, q, r)) ∙ sym (stretch-length start (k .terms) cs (omega (arith, p, r))))
+        ap₂ (λ (x y : ℕ). terms (stretch x y (set cs (k .«raw_terms») c)) (stretch x y (set ws (k .«raw_terms») w))) last-start new-end
+        ∙ ap₂ terms (stretch-more start (k .«raw_terms») c cs up-to (omega (arith, p, r))) (stretch-more start (k .«raw_terms») w ws up-to (omega (arith, q, r)))
+        ∙ term-more (stretch start (k .«raw_terms») cs) (stretch start (k .«raw_terms») ws) c w
+        (stretch-length start (k .«raw_terms») ws (omega (arith, q, r)) ∙ sym (stretch-length start (k .«raw_terms») cs (omega (arith, p, r))))
         ∙ ap (λ (y : ℕ). terms (stretch start y cs) (stretch start y ws) ++ (term c w ∷ [])) (sym last-end)
 
-    job-add : jobIn with-one (set cs (k .terms) c) (set ws (k .terms) w) ts″ bs ≡ withTerm (jobIn k cs ws ts bs) (term c w)
+    job-add : jobIn with-one (set cs (k .«raw_terms») c) (set ws (k .«raw_terms») w) ts″ bs ≡ withTerm (jobIn k cs ws ts bs) (term c w)
     job-add = λ i. record { nodes = k .nodes; thresholds = all i }
       where
         open-one : k .thresholds ≡ suc last
         open-one = let e = term-open in omega (arith, e)
 
-        all : given (cut with-one (set cs (k .terms) c) (set ws (k .terms) w) ts″) (take (k .thresholds) bs) ≡ addTerm (term c w) (given (cut k cs ws ts) (take (k .thresholds) bs))
+        all : given (cut with-one (set cs (k .«raw_terms») c) (set ws (k .«raw_terms») w) ts″) (take (k .thresholds) bs) ≡ addTerm (term c w) (given (cut k cs ws ts) (take (k .thresholds) bs))
         all =
-            gathered-last with-one (set cs (k .terms) c) (set ws (k .terms) w) ts″ bs listed-add last open-one
+            gathered-last with-one (set cs (k .«raw_terms») c) (set ws (k .«raw_terms») w) ts″ bs listed-add last open-one
             ∙ ap₂ (λ (l : List Threshold) (x : Threshold). l ++ (x ∷ []))
-            (map-same (thresholdAt (rawLists (set cs (k .terms) c) (set ws (k .terms) w) ts″) bs) (thresholdAt (rawLists cs ws ts) bs) last before-at)
+            (map-same (thresholdAt (rawLists (set cs (k .«raw_terms») c) (set ws (k .«raw_terms») w) ts″) bs) (thresholdAt (rawLists cs ws ts) bs) last before-at)
             (threshold-by (ap node-of there) refl one-more)
             ∙ sym (ap (addTerm (term c w)) (gathered-last k cs ws ts bs g last open-one)
-            ∙ add-more (thresholdAt (rawLists cs ws ts) bs last) (term c w) (map (thresholdAt (rawLists cs ws ts) bs) (numbers 0 last)))
+            ∙ on-more (thresholdAt (rawLists cs ws ts) bs last) (λ l. l ++ (term c w ∷ [])) (map (thresholdAt (rawLists cs ws ts) bs) (numbers 0 last)))
 
   -- THE TERM TAKEN
-  pub added : w < rawLimit → Added k c w cs ws ts with-one (set cs (k .terms) c) (set ws (k .terms) w) ts″
+  pub added : w < rawLimit → Added k c w cs ws ts with-one (set cs (k .«raw_terms») c) (set ws (k .«raw_terms») w) ts″
   added small = record {
     standing = refl;
     job = λ bs. job-add bs;
@@ -353,8 +355,8 @@ opened-gathered k n b cs ws ts bs r ts′ bs′ g o = record {
     same-nodes : r .nodes ≡ k .nodes
     same-nodes = ap (λ (x : Standing). x .nodes) (o .standing)
 
-    same-terms : r .terms ≡ k .terms
-    same-terms = ap (λ (x : Standing). x .terms) (o .standing)
+    same-terms : r .«raw_terms» ≡ k .«raw_terms»
+    same-terms = ap (λ (x : Standing). x .«raw_terms») (o .standing)
 
 pub added-gathered : (k : Standing) (c w : ℕ) (cs ws : List ℕ) (ts : List (List ℕ)) (bs : List ℤ) (r : Standing) (cs′ ws′ : List ℕ) (ts′ : List (List ℕ))
     → Gathered k cs ws ts bs → Added k c w cs ws ts r cs′ ws′ ts′ → Gathered r cs′ ws′ ts′ bs

@@ -23,17 +23,17 @@ pub record Held (o : Outcome) (answers : List (List ℕ)) (states : List State) 
   pub few-answers : length (o .file .answers) ≤ 64
   pub in-answers : length (o .file .answers) ≤ length answers
   pub numbered : take (length (o .file .answers)) answers ≡ pairs (map answerNumber (o .file .answers)) (map answerVisits (o .file .answers))
-  pub closed : o .file .sealed ≡ true → o .file .closed .nodes ≡ o .file .job .nodes
+  pub closed : o .file .sealed ≡ true → o .file .closed .nodes ≡ o .file .draft .nodes
   pub few-rows : givenOf o .rows ≤ maxThresholds
   pub in-states : givenOf o .rows ≤ length states
   pub stated : take (givenOf o .rows) states ≡ take (givenOf o .rows) (o .file .live .states)
-  pub few-nodes : o .file .job .nodes ≤ maxNodes
+  pub few-nodes : o .file .draft .nodes ≤ maxNodes
   pub in-sure : 64 ≤ length sure
   pub in-never : 64 ≤ length never
   pub sures : take 64 sure ≡ o .file .live .marks .sure
   pub nevers : take 64 never ≡ o .file .live .marks .never
-  pub only-sure : Inside (o .file .job .nodes) (o .file .live .marks .sure)
-  pub only-never : Inside (o .file .job .nodes) (o .file .live .marks .never)
+  pub only-sure : Inside (o .file .draft .nodes) (o .file .live .marks .sure)
+  pub only-never : Inside (o .file .draft .nodes) (o .file .live .marks .never)
 
 -- Refusal 10, before the first byte; the buffers are as they were, of whatever length.
 abbrev pub ten : Outcome

@@ -145,16 +145,16 @@ module _ (o : Outcome) (answers : List (List ℕ)) (states : List State) (sure n
   answer-part =
       answers-taken answers (g .answered) ∙ ap (λ (l : List (List ℕ)). joined (answerAt l) (g .answered)) (h .numbered) ∙ answers-read (f .answers)
 
-  node-part : joined (nodeAt sure never) (f .job .nodes) ≡ nodeLines f (f .job .nodes) 0
+  node-part : joined (nodeAt sure never) (f .draft .nodes) ≡ nodeLines f (f .draft .nodes) 0
   unfolding nodeAt
   node-part =
       let few = h .few-nodes in
-      joined-same (nodeAt sure never) (line f) (f .job .nodes)
+      joined-same (nodeAt sure never) (line f) (f .draft .nodes)
       (λ n k.
       let s : bit sure n ≡ bit (f .live .marks .sure) n = bit-taken sure n (omega arith) ∙ ap (λ (l : List ℕ). bit l n) (h .sures) in
       let v : bit never n ≡ bit (f .live .marks .never) n = bit-taken never n (omega arith) ∙ ap (λ (l : List ℕ). bit l n) (h .nevers) in
       ap₂ (λ (a b : Bool). cond a (text "node " ++ decimal n ++ text " sure\n") (cond b (text "node " ++ decimal n ++ text " never\n") [])) s v)
-      ∙ sym (from-zero (line f) (f .job .nodes)) ∙ sym (nodes-read f (f .job .nodes) 0)
+      ∙ sym (from-zero (line f) (f .draft .nodes)) ∙ sym (nodes-read f (f .draft .nodes) 0)
 
   row-part : (n : ℕ) → take n states ≡ take n (f .live .states) → n ≡ length (rowsOf (f .closed)) → joined (rowAt states) n ≡ rowLines f (rowsOf (f .closed)) 0
   row-part n e q =
@@ -167,15 +167,15 @@ module _ (o : Outcome) (answers : List (List ℕ)) (states : List State) (sure n
   unfolding nodeText joined
   state-part = by (f .sealed) (h .closed) (h .stated)
     where
-      by : (b : Bool) → (b ≡ true → f .closed .nodes ≡ f .job .nodes) → let n : ℕ = cond b (length (rowsOf (f .closed))) 0 in take n states ≡ take n (f .live .states)
-          → cond b (joined (nodeAt sure never) (f .job .nodes)) [] ++ joined (rowAt states) (cond b (cond b (length (rowsOf (f .closed))) 0) 0)
+      by : (b : Bool) → (b ≡ true → f .closed .nodes ≡ f .draft .nodes) → let n : ℕ = cond b (length (rowsOf (f .closed))) 0 in take n states ≡ take n (f .live .states)
+          → cond b (joined (nodeAt sure never) (f .draft .nodes)) [] ++ joined (rowAt states) (cond b (cond b (length (rowsOf (f .closed))) 0) 0)
           ≡ cond b (nodeLines f (f .closed .nodes) 0 ++ rowLines f (rowsOf (f .closed)) 0) []
       by true q e =
           ap₂ (λ (a b : List ℕ). a ++ b) (node-part ∙ ap (λ (n : ℕ). nodeLines f n 0) (sym (q refl))) (row-part (length (rowsOf (f .closed))) e refl)
       by false q e = refl
 
-  decided-part : (mask left : List ℕ) → take 64 mask ≡ left → Inside (f .job .nodes) left → decided mask ≡ count left (f .job .nodes)
-  decided-part mask left e i = ap (λ (l : List ℕ). count l maxNodes) e ∙ count-inside left (f .job .nodes) (h .few-nodes) i
+  decided-part : (mask left : List ℕ) → take 64 mask ≡ left → Inside (f .draft .nodes) left → decided mask ≡ count left (f .draft .nodes)
+  decided-part mask left e i = ap (λ (l : List ℕ). count l maxNodes) e ∙ count-inside left (f .draft .nodes) (h .few-nodes) i
 
   last-part : lastText g sure never ≡ lastLine o
   unfolding lastText endLine refusedLine

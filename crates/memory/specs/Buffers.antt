@@ -9,7 +9,7 @@ use Rattle.memory.specs.Limits.{maxNodes, maxTerms, maxThresholds, maxLi
 
 -- The job as the records gave it.
 pub record RawLists : Type 0 where
-  pub raw-conditions : List ℕ  -- of all terms, in the order of the records
+  pub raw-conditions : List ℕ  -- of all terms, in the order of the records, areas joined
   pub raw-weights : List ℕ
   pub thresholds : List (List ℕ)  -- node; where its terms end
 

@@ -1,5 +1,6 @@
-pub mod Area
 pub mod Threshold
+pub mod Area
+pub mod AreaLaws
 pub mod Layout
 pub mod Slices
 pub mod TermsLaws

@@ -1,4 +1,4 @@
--- A job: its node count and its thresholds, each with the list of weighted terms that the records gave it.
+-- A job: its node count and its thresholds, each with its list of weighted terms.
 use Prim.Native.Nat.{ℕ}
 use mathlib.Core.List.{List}
 use lib.IntN.{ℤ}
@@ -11,12 +11,19 @@ pub record Term : Type 0 where
 abbrev pub term : ℕ → ℕ → Term
 term c w = record { condition = c; weight = w }
 
--- A threshold: its node, its bound and its raw list of terms, in the order of the records, zeros included.
-pub record Threshold : Type 0 where
+-- A threshold: its node, its bound and what is listed in it, in the order of the records, zeros included.
+pub record ThresholdOf (X : Type 0) : Type 0 where
   pub node : ℕ
   pub bound : ℤ
-  pub terms : List Term
+  pub terms : List X
 
-pub record Job : Type 0 where
+pub record JobOf (X : Type 0) : Type 0 where
   pub nodes : ℕ
-  pub thresholds : List Threshold
+  pub thresholds : List (ThresholdOf X)
+
+-- What is listed are terms; while records come in, what they give (`Entry`).
+abbrev pub Threshold : Type 0
+Threshold = ThresholdOf Term
+
+abbrev pub Job : Type 0
+Job = JobOf Term

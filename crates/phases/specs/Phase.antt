@@ -6,6 +6,7 @@ use mathlib.Core.List.{List, []}
 use lib.ListN.{length, take}
 use lib.IntN.{ℤ}
 use Rattle.memory.specs.Limits.{maxNodes, maxTerms, maxThresholds, maxGcds, searchWords}
+use Rattle.numeric.specs.Area.{jobOf}
 use Rattle.memory.specs.Ranges.{rawLimit}
 use Rattle.memory.specs.Buffers.{Raw, heldRows, Built, built, Kept, kept, clearBuilt, clearKept}
 use Rattle.state.specs.declared.Step.the-variants.{Unchanged}
@@ -62,14 +63,14 @@ pub record Blank (f : File) : Type 0 where
 -- Such a file whose seal comes next: what the phases before left of its job, in buffers that were cleared before.
 pub record Stops (bs : List ℤ) (b : Built) (f : File) (rows : ℕ) : Type 0 where
   pub good : Good f
-  pub light : Light rawLimit (f .job)
+  pub light : Light rawLimit (jobOf (f .draft))
   pub from : Built
   pub room : BuiltRoom from
-  pub built : b ≡ builtOf (f .job) (clearBuilt from)
+  pub built : b ≡ builtOf (jobOf (f .draft)) (clearBuilt from)
   pub raw : Raw
   pub many : maxThresholds ≤ length (raw .bounds)
-  pub bounds : bs ≡ rawOf (f .job) raw .bounds
-  pub counted : rows ≡ length (rowsOf (f .job))
+  pub bounds : bs ≡ rawOf (jobOf (f .draft)) raw .bounds
+  pub counted : rows ≡ length (rowsOf (jobOf (f .draft)))
 
 -- How the file ends: behind the seal if there is one.
 abbrev pub ending : List ℕ → File → JobRead → Outcome

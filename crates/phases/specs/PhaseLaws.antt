@@ -12,6 +12,7 @@ use Rattle.memory.specs.Limits.{maxNodes, maxTerms, maxThresholds, maxGcds, sea
 use Rattle.memory.specs.Buffers.{Raw, heldRows, Built, built, Kept, kept, zeros, clearBuilt, clearKept}
 use Rattle.base.specs.Laid.{over, joinAll, ends, pairs, quads}
 use Rattle.numeric.specs.Threshold.{Term, Job}
+use Rattle.numeric.specs.Area.{weighedThreshold, jobOf}
 use Rattle.state.specs.declared.State.{State}
 use Rattle.state.specs.declared.Step.the-variants.{Unchanged}
 use Rattle.state.specs.State.{noState, figuresOf, cursorsOf}
@@ -29,7 +30,7 @@ use Rattle.records.specs.declared.Standing.{Standing}
 use Rattle.files.specs.File.{File, Answer, begun, standing, Outcome, outcome}
 use Rattle.files.specs.declared.JobRead.{JobRead}
 use Rattle.files.specs.Contents.{keptOf}
-use Rattle.theorem_ends.specs.BuiltLaws.{rows-few}
+use Rattle.theorem_ends.specs.BuiltLaws.{fits-of, rows-few}
 use Rattle.theorem_ends.specs.Good.{Fits}
 use Rattle.theorem_ends.specs.SizeLaws.{terms-few, guards-few, edges-most}
 use Rattle.settle.specs.Serves.{Fresh}
@@ -112,10 +113,10 @@ room-clear w r = record {
   edges = omega (arith, zeros-length (replicate 2 0) (w .edges), r .edges);
 }
 
-pub phase-seals : (bs : List ℤ) (b : Built) (f : File) (n : ℕ) → Stops bs b f n → Blank f → Seals (take (length (f .job .thresholds)) bs) (cutBuilt n (f .job .nodes) b) f
+pub phase-seals : (bs : List ℤ) (b : Built) (f : File) (n : ℕ) → Stops bs b f n → Blank f → Seals (take (length (f .draft .thresholds)) bs) (cutBuilt n (f .draft .nodes) b) f
 phase-seals bs b f n s z =
     let w = s .from in
-    let j = f .job in
+    let j = jobOf (f .draft) in
     let r : BuiltRoom (clearBuilt w) = room-clear w (s .room) in
     record {
       good = s .good;
@@ -125,9 +126,9 @@ phase-seals bs b f n s z =
           (length-take-le maxTerms (w .held .row-weights) (s .room .weights) ∙ sym (length-take-le maxTerms (w .held .row-conditions) (s .room .conditions)))
           (length-take-le maxThresholds (w .held .guard-nodes) (s .room .guards) ∙ sym (length-take-le maxThresholds (w .held .guard-bounds) (s .room .bounds)))
           (omega (arith, length-take-le maxTerms (w .edges) (s .room .edges)));
-      built = ap₂ (λ (i : ℕ) (y : Built). cutBuilt i (j .nodes) y) (s .counted) (s .built) ∙ cut-built j (s .good .job) (clearBuilt w) r
+      built = ap₂ (λ (i : ℕ) (y : Built). cutBuilt i (j .nodes) y) (s .counted) (s .built) ∙ cut-built j (fits-of (s .good .draft)) (clearBuilt w) r
           ∙ ap (λ (y : Built). lentOf j (builtOf j y)) (narrow-clear w);
-      bounds = ap (take (length (j .thresholds))) (s .bounds) ∙ bounds-lent j (s .raw);
+      bounds = ap₂ take (sym (length-map (f .draft .thresholds) weighedThreshold)) (s .bounds) ∙ bounds-lent j (s .raw);
       fresh = subst (Fresh (cutBuilt n (j .nodes) b)) (sym (z .live)) (fresh-begun (cutBuilt n (j .nodes) b));
     }
 
@@ -340,17 +341,17 @@ clear-room k r = record {
 
 module _ (bs : List ℤ) (b : Built) (f : File) (n : ℕ) (s : Stops bs b f n) where
   pub phase-room : BuiltRoom b
-  phase-room = subst BuiltRoom (sym (s .built)) (built-room (f .job) (clearBuilt (s .from)) (room-clear (s .from) (s .room)))
+  phase-room = subst BuiltRoom (sym (s .built)) (built-room (jobOf (f .draft)) (clearBuilt (s .from)) (room-clear (s .from) (s .room)))
 
   pub phase-rows : n ≤ length (b .held .rows)
-  phase-rows = omega (arith, s .counted, rows-few (f .job) (s .good .job), phase-room .rows)
+  phase-rows = omega (arith, s .counted, rows-few (jobOf (f .draft)) (fits-of (s .good .draft)), phase-room .rows)
 
   module _ (at : Standing) (e : at ≡ standing f) where
     pub phase-nodes : at .nodes ≤ length (b .nodes)
-    phase-nodes = omega (arith, ap (λ (z : Standing). z .nodes) e, s .good .job .nodes, phase-room .nodes)
+    phase-nodes = omega (arith, ap (λ (z : Standing). z .nodes) e, s .good .draft .nodes, phase-room .nodes)
 
     pub phase-bounds : at .thresholds ≤ length bs
-    phase-bounds = omega (arith, ap (λ (z : Standing). z .thresholds) e, s .good .job .few, bounds-room (f .job) (s .raw) (s .many), ap (λ (l : List ℤ). length l) (s .bounds))
+    phase-bounds = omega (arith, ap (λ (z : Standing). z .thresholds) e, s .good .draft .few, bounds-room (jobOf (f .draft)) (s .raw) (s .many), ap (λ (l : List ℤ). length l) (s .bounds))
 
     pub phase-lent : Blank f → Seals (take (at .thresholds) bs) (cutBuilt n (at .nodes) b) f
     phase-lent z = subst (λ (y : Standing). Seals (take (y .thresholds) bs) (cutBuilt n (y .nodes) b) f) (sym e) (phase-seals bs b f n s z)

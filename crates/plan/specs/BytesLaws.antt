@@ -1,4 +1,4 @@
--- A file of bytes has light terms: no weight is above what four bytes hold. Assumes nothing.
+-- A file of bytes has small entries: no weight and no area is above what four bytes hold. Assumes nothing.
 use Prim.Native.Nat.{ℕ, zero, suc, _+_, _^_, _<_, _≤_}
 use native.Mathlib.Nat.{not-suc-le-zero, le-of-suc-le-suc, pow-suc}
 use native.Mathlib.Omega.{arith}
@@ -7,7 +7,7 @@ use mathlib.Core.List.{List, [], _∷_, _++_}
 use lib.ListN.{length, getD, take, drop, length-take, length-drop}
 use lib.Dec.{eqb, ltb}
 use Rattle.base.specs.All.{All}
-use Rattle.memory.specs.Ranges.{rawLimit}
+use Rattle.numeric.specs.AreaLaws.{Small}
 use Rattle.records.specs.declared.Record.{Record}
 use Rattle.records.specs.Record.{littleEndian, behind, kindOf, bodyLength}
 use Rattle.records.specs.Facts.{Action, begins, changes, closes, decides, settles, sifts, idles, opens, adds, action}
@@ -20,19 +20,19 @@ pub bytes-by : (l : List ℕ) → ((i : ℕ) → getD l i 0 < 256) → All IsByt
 bytes-by [] h = tt
 bytes-by (b ∷ l) h = (h 0, bytes-by l (λ i. h (suc i)))
 
--- A term that a record adds is light.
-abbrev pub LightAction : Action → Type 0
-LightAction (begins n) = Unit {0}
-LightAction (changes (opens n b)) = Unit {0}
-LightAction (changes (adds x)) = x .weight < rawLimit
-LightAction closes = Unit {0}
-LightAction (decides n v) = Unit {0}
-LightAction settles = Unit {0}
-LightAction sifts = Unit {0}
-LightAction (idles x) = Unit {0}
+-- An entry that a record adds is small.
+abbrev SmallAction : Action → Type 0
+SmallAction (begins n) = Unit {0}
+SmallAction (changes (opens n b)) = Unit {0}
+SmallAction (changes (adds x)) = Small x
+SmallAction closes = Unit {0}
+SmallAction (decides n v) = Unit {0}
+SmallAction settles = Unit {0}
+SmallAction sifts = Unit {0}
+SmallAction (idles x) = Unit {0}
 
-abbrev pub LightRecord : Record → Type 0
-LightRecord r = LightAction (action r)
+abbrev pub SmallRecord : Record → Type 0
+SmallRecord r = SmallAction (action r)
 
 every-take : {X : Type 0} (P : X → Type 0) (n : ℕ) (l : List X) → All P l → All P (take n l)
 every-take P zero l a = tt
@@ -56,38 +56,38 @@ field-small : (rest : List ℕ) → All IsByte rest → behind (take 6 rest) < 4
 field-small rest a =
     little-small 4 (drop 2 (take 6 rest)) (omega (arith, length-drop 2 (take 6 rest), length-take 6 rest)) (every-drop IsByte 2 (take 6 rest) (every-take IsByte 6 rest a))
 
-light-at : (kind : ℕ) (rest : List ℕ) → All IsByte rest → LightRecord (recordAt kind rest)
-light-at zero rest a = tt
-light-at (suc zero) rest a = tt
-light-at (suc (suc zero)) rest a = tt
-light-at (suc (suc (suc zero))) rest a = omega (arith, field-small rest a)
-light-at (suc (suc (suc (suc zero)))) rest a = tt
-light-at (suc (suc (suc (suc (suc zero))))) rest a = tt
-light-at (suc (suc (suc (suc (suc (suc zero)))))) rest a = tt
-light-at (suc (suc (suc (suc (suc (suc (suc zero))))))) rest a = tt
-light-at (suc (suc (suc (suc (suc (suc (suc (suc zero)))))))) rest a = omega (arith, field-small rest a)
-light-at (suc (suc (suc (suc (suc (suc (suc (suc (suc n))))))))) rest a = tt
+small-at : (kind : ℕ) (rest : List ℕ) → All IsByte rest → SmallRecord (recordAt kind rest)
+small-at zero rest a = tt
+small-at (suc zero) rest a = tt
+small-at (suc (suc zero)) rest a = tt
+small-at (suc (suc (suc zero))) rest a = omega (arith, field-small rest a)
+small-at (suc (suc (suc (suc zero)))) rest a = tt
+small-at (suc (suc (suc (suc (suc zero))))) rest a = tt
+small-at (suc (suc (suc (suc (suc (suc zero)))))) rest a = tt
+small-at (suc (suc (suc (suc (suc (suc (suc zero))))))) rest a = tt
+small-at (suc (suc (suc (suc (suc (suc (suc (suc zero)))))))) rest a = omega (arith, field-small rest a)
+small-at (suc (suc (suc (suc (suc (suc (suc (suc (suc n))))))))) rest a = tt
 
-read-light : (n o : ℕ) (bytes : List ℕ) (f : File) (rs : List Record) → All IsByte bytes → All LightRecord rs → All LightRecord (readFrom n o bytes f rs .records)
+read-small : (n o : ℕ) (bytes : List ℕ) (f : File) (rs : List Record) → All IsByte bytes → All SmallRecord rs → All SmallRecord (readFrom n o bytes f rs .records)
 unfolding readFrom
-read-light zero o bytes f rs a l = l
-read-light (suc n) o [] f rs a l = l
-read-light (suc n) o (kind ∷ rest) f rs a l = by (λ o b f t h q. read-light n o b f t h q) (eqb (refusalAt f kind rest) 0)
+read-small zero o bytes f rs a l = l
+read-small (suc n) o [] f rs a l = l
+read-small (suc n) o (kind ∷ rest) f rs a l = by (λ o b f t h q. read-small n o b f t h q) (eqb (refusalAt f kind rest) 0)
   where
     x : Record
     x = recordAt kind rest
 
-    by : ((o : ℕ) (b : List ℕ) (f : File) (t : List Record) → All IsByte b → All LightRecord t → All LightRecord (readFrom n o b f t .records)) → (b : Bool)
+    by : ((o : ℕ) (b : List ℕ) (f : File) (t : List Record) → All IsByte b → All SmallRecord t → All SmallRecord (readFrom n o b f t .records)) → (b : Bool)
         → let r : Outcome = elim b [ true ↦ readFrom n (o + 1 + bodyLength (kindOf kind)) (drop (bodyLength (kindOf kind)) rest) (apply f x) (rs ++ (x ∷ [])) | false ↦ outcome f rs (refusalAt f kind rest) o ]
-        in All LightRecord (r .records)
-    by ih true = ih _ _ _ _ (every-drop IsByte (bodyLength (kindOf kind)) rest (a .1)) (every-last LightRecord rs x l (light-at kind rest (a .1)))
+        in All SmallRecord (r .records)
+    by ih true = ih _ _ _ _ (every-drop IsByte (bodyLength (kindOf kind)) rest (a .1)) (every-last SmallRecord rs x l (small-at kind rest (a .1)))
     by ih false = l
 
 -- EVERY RECORD OF A FILE OF BYTES IS LIGHT
-pub planned-light : (input : List ℕ) → All IsByte input → All LightRecord (planned input .records)
+pub planned-small : (input : List ℕ) → All IsByte input → All SmallRecord (planned input .records)
 unfolding planned fileOf
-planned-light input a = by (ltb 65536 (length input))
+planned-small input a = by (ltb 65536 (length input))
   where
-    by : (b : Bool) → let o : Outcome = elim b [ true ↦ outcome begun [] 10 0 | false ↦ fileOf input ] in All LightRecord (o .records)
+    by : (b : Bool) → let o : Outcome = elim b [ true ↦ outcome begun [] 10 0 | false ↦ fileOf input ] in All SmallRecord (o .records)
     by true = tt
-    by false = read-light (length input) 0 input begun [] a tt
+    by false = read-small (length input) 0 input begun [] a tt

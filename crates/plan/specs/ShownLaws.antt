@@ -56,7 +56,7 @@ rows-at-most : (b : Bool) (n : ℕ) → n ≤ maxThresholds → cond b n 0 ≤ m
 rows-at-most true n h = h
 rows-at-most false n h = omega arith
 
-held-kept : (o : Outcome) → Fit.Kept (o .file) → Inside (o .file .job .nodes) (o .file .live .marks .sure) → Inside (o .file .job .nodes) (o .file .live .marks .never) → (states : List State) (w : Kept)
+held-kept : (o : Outcome) → Fit.Kept (o .file) → Inside (o .file .draft .nodes) (o .file .live .marks .sure) → Inside (o .file .draft .nodes) (o .file .live .marks .never) → (states : List State) (w : Kept)
     → let k = keptOf (o .file) w in Held o (k .answers) (over (o .file .live .states) states) (k .sure) (k .never)
 unfolding keptOf
 held-kept o f s n states w =
@@ -73,7 +73,7 @@ held-kept o f s n states w =
       few-rows = few;
       in-states = omega (arith, over-long (v .states) states, few, long);
       stated = take-append-le (givenOf o .rows) (v .states) (drop (length (v .states)) states) (omega (arith, few, long));
-      few-nodes = f .good .job .nodes;
+      few-nodes = f .good .draft .nodes;
       in-sure = omega (arith, over-long (v .marks .sure) (w .sure), f .good .live .waits .sures);
       in-never = omega (arith, over-long (v .marks .never) (w .never), f .good .live .waits .nevers);
       sures = over-front (v .marks .sure) (w .sure) 64 (f .good .live .waits .sures);
@@ -82,7 +82,7 @@ held-kept o f s n states w =
       only-never = n;
     }
 
-served-shows : (o : Outcome) → Fit.Kept (o .file) → Inside (o .file .job .nodes) (o .file .live .marks .sure) → Inside (o .file .job .nodes) (o .file .live .marks .never) → (states : List State) (w : Work)
+served-shows : (o : Outcome) → Fit.Kept (o .file) → Inside (o .file .draft .nodes) (o .file .live .marks .sure) → Inside (o .file .draft .nodes) (o .file .live .marks .never) → (states : List State) (w : Work)
     → ShowsIn o (left (served o w) (over (o .file .live .states) states))
 unfolding laid
 served-shows o f s n states w = Is.held refl (held-kept o f s n states (cleared w .kept))

@@ -1,21 +1,22 @@
 -- Laws of the first check that applies.
 use Prim.Native.Nat.{ℕ, zero, suc, _+_, _-_, _<_, _≤_}
 use lib.ListN.{length, getD, drop, length-take, length-drop}
-use lib.Dec.{leb, ltb}
+use lib.Dec.{eqb, leb, ltb}
 use lib.IntN.{ℤ}
 use native.Mathlib.Omega.{arith}
-use mathlib.Core.Path.{_≡_, refl, sym, ap, subst, _∙_}
-use mathlib.Core.Bool.{Bool, true, false, cond}
+use mathlib.Core.Path.{_≡_, refl, sym, ap, _∙_}
+use mathlib.Core.Bool.{Bool, true, false, cond, not, _&&_}
 use mathlib.Core.List.{List, [], _∷_}
-use borrow.Author.Tests.{ltb-false, lt-ltb, le-ltb, eq-eqb, ne-eqb}
-use Rattle.base.specs.TestLaws.{unequal}
+use mathlib.Core.Logic.{_⊎_, inl, inr, ⊎-elim}
+use borrow.Author.Tests.{eqb-true, ltb-false, lt-ltb, le-ltb, eq-eqb, ne-eqb, not-false}
+use Rattle.base.specs.TestLaws.{unequal, and-false}
 use Rattle.memory.specs.Limits.{maxThresholds}
 use Rattle.records.specs.declared.Record.{Record}
-use Rattle.records.specs.declared.Record.the-variants.{Opens, Adds, Seal}
+use Rattle.records.specs.declared.Record.the-variants.{Opens, Adds, Areas, Seal}
 use Rattle.records.specs.declared.Next.the-variants.{Refused, Taken}
 use Rattle.records.specs.declared.Standing.{Standing}
-use Rattle.records.specs.Record.{kindOf, bodyLength, bodyOf}
-use Rattle.records.specs.Next.{recordIn, taking, nextAt, termCondition, termWeight, TermNext}
+use Rattle.records.specs.Record.{front, behind, Kind, kind, kindOf, bodyLength, bodyOf}
+use Rattle.records.specs.Next.{recordIn, taking, nextAt, entryCondition, entryFigure, EntryNext}
 use Rattle.records.specs.RecordLaws.{two-fields}
 use Rattle.records.specs.Facts.{Facts, building, within, ofTerms, action, facts}
 use Rattle.records.specs.Checks.{wrongTurn, anyOf, notRising, badBound, tooMany, Check, check, first, checks, refusedBy, unknownKind, cutBody, refusedAt}
@@ -125,18 +126,24 @@ module _ (s : Standing) (bytes : List ℕ) (at : ℕ) where
       pub next-taken : (r : Record) → r ≡ recordIn bytes at → x ≡ 0 → Taken r ≡ nextAt s bytes at
       next-taken r e z = ap Taken e ∙ sym (checked ∙ ap (λ (t : Bool). cond t (Taken (recordIn bytes at)) (Refused x)) (eq-eqb x 0 z))
 
--- A term of its kind, whole, with no number that refuses it.
-pub term-next : (s : Standing) (bytes : List ℕ) (at : ℕ) → getD bytes at 0 ≡ 3 → at < length bytes → 6 < length bytes - at → (c n : ℕ) → c ≡ termCondition bytes at
-    → n ≡ refusedBy s (Adds c 0) → n ≡ 0 → TermNext s bytes at
-term-next s bytes at k inside long c n e number z =
-    let made : (x : ℕ) → x ≡ termCondition bytes at → Adds x (termWeight bytes at) ≡ recordIn bytes at
-    = λ x h. two-fields bytes at 3 4 Adds x (termWeight bytes at) refl k h refl in
-    record {
-      kind = k;
-      whole = omega (arith, inside, long);
-      next = next-taken s bytes at (ap unknownKind k) inside (subst (λ (b : ℕ). bodyLength (kindOf b) < length bytes - at) (sym k) long) n (number ∙ ap (refusedBy s) (made c e))
-          (Adds (termCondition bytes at) (termWeight bytes at)) (made (termCondition bytes at) refl) z;
-    }
+pub either-kind : (k : ℕ) → (not (eqb k 3) && not (eqb k 8)) ≡ false → (k ≡ 3) ⊎ (k ≡ 8)
+either-kind k e =
+    ⊎-elim (λ (q : not (eqb k 3) ≡ false). inl (eqb-true k 3 (not-false (eqb k 3) q))) (λ (q : not (eqb k 8) ≡ false). inr (eqb-true k 8 (not-false (eqb k 8) q)))
+    (and-false (not (eqb k 3)) (not (eqb k 8)) e)
+
+-- A term or an area, whole, with no number that refuses it. Both are checked alike.
+pub entry-next : (s : Standing) (bytes : List ℕ) (at : ℕ) → (getD bytes at 0 ≡ 3) ⊎ (getD bytes at 0 ≡ 8) → at < length bytes → 6 < length bytes - at
+    → (c n : ℕ) → c ≡ entryCondition bytes at → n ≡ refusedBy s (Adds c 0) → n ≡ 0 → EntryNext s bytes at
+entry-next s bytes at which inside long c n e number z =
+    record { kind = which; whole = omega (arith, inside, long); term = by-kind 3 Adds refl refl (λ x y. refl); area = by-kind 8 Areas refl refl (λ x y. refl) }
+  where
+    by-kind : (b : ℕ) (make : ℕ → ℕ → Record) → kindOf b ≡ kind 6 (λ (body : List ℕ). make (front body) (behind body)) → unknownKind b ≡ false
+        → ((x y : ℕ) → refusedBy s (make x y) ≡ refusedBy s (Adds x 0)) → getD bytes at 0 ≡ b → Taken (make (entryCondition bytes at) (entryFigure bytes at)) ≡ nextAt s bytes at
+    by-kind b make made known like k =
+        next-taken s bytes at (ap unknownKind k ∙ known) inside
+        (let q = ap (λ (x : ℕ). bodyLength (kindOf x)) k ∙ ap (λ (y : Kind). y .size) made in omega (arith, q, long)) n
+        (number ∙ sym (like c (entryFigure bytes at)) ∙ ap (refusedBy s) (two-fields bytes at b 4 make c (entryFigure bytes at) made k e refl))
+        (make (entryCondition bytes at) (entryFigure bytes at)) (two-fields bytes at b 4 make (entryCondition bytes at) (entryFigure bytes at) made k refl refl) z
 
 -- What the next record says of the checks.
 

@@ -2,8 +2,7 @@
 use Prim.Native.Nat.{ℕ}
 use mathlib.Core.List.{List, [], _∷_}
 use lib.IntN.{ℤ}
-use Rattle.numeric.specs.Area.{weightOfArea}
-use Rattle.numeric.specs.Threshold.{Term, term}
+use Rattle.numeric.specs.Area.{Entry, plain, area, conditionOf}
 use Rattle.records.specs.declared.Record.{Record}
 use Rattle.records.specs.declared.Record.the-variants.{Header, Opens, Adds, Areas, Seal, Mark, Settle, Sift, Unknown}
 
@@ -31,7 +30,7 @@ facing t n r b v c = record { turn = t; nodes = n; rising = r; bounds = b; value
 -- A change of the job that is not sealed yet.
 pub data Change : Type 0 where
   opens : (node : ℕ) (bound : ℤ) → Change
-  adds : Term → Change
+  adds : Entry → Change
 
 -- A record begins the job, changes it, closes it, decides a node, settles, sifts, or does nothing but be checked.
 pub data Action : Type 0 where
@@ -46,8 +45,8 @@ pub data Action : Type 0 where
 abbrev pub action : Record → Action
 action (Header n) = begins n
 action (Opens n b) = changes (opens n b)
-action (Adds c w) = changes (adds (term c w))
-action (Areas c a) = changes (adds (term c (weightOfArea a)))
+action (Adds c w) = changes (adds (plain c w))
+action (Areas c a) = changes (adds (area c a))
 action Seal = closes
 action (Mark n v) = decides n v
 action Settle = settles
@@ -58,7 +57,7 @@ action Unknown = idles (facing whenever [] [] [] [] ofNothing)
 abbrev pub facts : Action → Facts
 facts (begins n) = facing opening [] [] [] [] (ofNodes n)
 facts (changes (opens n b)) = facing building (n ∷ []) (n ∷ []) (b ∷ []) [] ofThresholds
-facts (changes (adds x)) = facing within (x .condition ∷ []) [] [] [] ofTerms
+facts (changes (adds x)) = facing within (conditionOf x ∷ []) [] [] [] ofTerms
 facts closes = facing building [] [] [] [] ofNothing
 facts (decides n v) = facing serving (n ∷ []) [] [] (v ∷ []) ofNothing
 facts settles = facing serving [] [] [] [] ofAnswers

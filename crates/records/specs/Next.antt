@@ -5,8 +5,9 @@ use mathlib.Core.List.{List}
 use lib.ListN.{length, getD, take, drop}
 use mathlib.Core.Bool.{Bool, true, false, cond}
 use lib.Dec.{eqb}
+use mathlib.Core.Logic.{_⊎_}
 use Rattle.records.specs.declared.Record.{Record}
-use Rattle.records.specs.declared.Record.the-variants.{Adds}
+use Rattle.records.specs.declared.Record.the-variants.{Adds, Areas}
 use Rattle.records.specs.Record.{littleEndian, Kind, kindOf, recordAt}
 use Rattle.records.specs.Facts.{Action, begins, changes, closes, decides, settles, sifts, idles}
 use Rattle.records.specs.declared.Next.{Next}
@@ -38,14 +39,15 @@ taking n r = cond (eqb n 0) (Taken r) (Refused n)
 abbrev pub nextAt : Standing → List ℕ → ℕ → Next
 nextAt s bytes at = taking (refusedAt s (getD bytes at 0) (drop (at + 1) bytes)) (recordIn bytes at)
 
--- A term comes next, whole, and no check refuses it.
-abbrev pub termCondition : List ℕ → ℕ → ℕ
-termCondition bytes at = littleEndian (take 2 (drop (at + 1) bytes))
+-- A term or an area comes next, whole, and no check refuses it.
+abbrev pub entryCondition : List ℕ → ℕ → ℕ
+entryCondition bytes at = littleEndian (take 2 (drop (at + 1) bytes))
 
-abbrev pub termWeight : List ℕ → ℕ → ℕ
-termWeight bytes at = littleEndian (take 4 (drop (at + 3) bytes))
+abbrev pub entryFigure : List ℕ → ℕ → ℕ
+entryFigure bytes at = littleEndian (take 4 (drop (at + 3) bytes))
 
-pub record TermNext (s : Standing) (bytes : List ℕ) (at : ℕ) : Type 0 where
-  pub kind : getD bytes at 0 ≡ 3
+pub record EntryNext (s : Standing) (bytes : List ℕ) (at : ℕ) : Type 0 where
+  pub kind : (getD bytes at 0 ≡ 3) ⊎ (getD bytes at 0 ≡ 8)
   pub whole : at + 7 ≤ length bytes
-  pub next : Taken (Adds (termCondition bytes at) (termWeight bytes at)) ≡ nextAt s bytes at
+  pub term : getD bytes at 0 ≡ 3 → Taken (Adds (entryCondition bytes at) (entryFigure bytes at)) ≡ nextAt s bytes at
+  pub area : getD bytes at 0 ≡ 8 → Taken (Areas (entryCondition bytes at) (entryFigure bytes at)) ≡ nextAt s bytes at

@@ -8,7 +8,7 @@ ghost use Rattle.records.specs.declared.Record.the-variants.{Adds};
 ghost use Rattle.records.specs.Facts.{building, within, ofTerms, action};
 ghost use Rattle.records.specs.Checks.{wrongTurn, notRising, badBound, tooMany, check, first, refusedBy};
 ghost use Rattle.records.specs.Record.{kindOf, bodyLength, littleEndian, signed};
-ghost use Rattle.records.specs.Next.{kindAt, recordIn, closing, nextAt, TermNext};
+ghost use Rattle.records.specs.Next.{kindAt, recordIn, closing, nextAt, EntryNext};
 
 // A record with its fields: nodes; node and bound; condition and weight; condition and area; node and value.
 pub enum Record {
@@ -30,7 +30,8 @@ pub enum Next {
 }
 
 // What the checks read of the file so far: whether it has a header, a seal and a contradiction; how many nodes and thresholds
-// the job has; the last threshold's node and number of terms; how many terms and answers there are.
+// the job has; the last threshold's node and number of terms and areas; how many of these and of answers there are. And how many
+// terms the raw lists have, where areas of one condition are one.
 pub struct Standing {
     pub started: bool,
     pub sealed: bool,
@@ -40,6 +41,7 @@ pub struct Standing {
     pub last_node: usize,
     pub last_terms: usize,
     pub terms: usize,
+    pub raw_terms: usize,
     pub answers: usize,
 }
 
@@ -207,12 +209,13 @@ fn term_refusal(standing: Standing, condition: u16) -> u8
     )
 }
 
-// Whether a term comes next, whole, that no check refuses.
-pub fn term_comes(input: &[u8], at: usize, standing: Standing) -> bool
+// Whether a term or an area comes next, whole, that no check refuses.
+pub fn entry_comes(input: &[u8], at: usize, standing: Standing) -> bool
     requires { ⌜ at < length (now input) ⌝ }
-    ensures { λ r. ⌜ (r ≡ true → TermNext standing (now (input .entry)) at) ⌝ }
+    ensures { λ r. ⌜ (r ≡ true → EntryNext standing (now (input .entry)) at) ⌝ }
 {
-    if input[at] != 3 {
+    let kind = input[at];
+    if (kind != 3) & (kind != 8) {
         return false;
     }
     if input.len() - at <= 6 {

@@ -6,6 +6,7 @@ use mathlib.Core.List.{List, []}
 use lib.ListN.{length}
 use lib.IntN.{ℤ}
 use Rattle.memory.specs.Ranges.{totalLimit}
+use Rattle.numeric.specs.Area.{jobOf}
 use Rattle.memory.specs.Buffers.{Built, Kept}
 use Rattle.base.specs.Laid.{over}
 use Rattle.state.specs.declared.Step.{Step}
@@ -22,6 +23,7 @@ use Rattle.records.specs.declared.Standing.{Standing}
 use Rattle.records.specs.declared.Next.the-variants.{Taken}
 use Rattle.records.specs.Next.{nextAt}
 use Rattle.files.specs.File.{File, standing, refusal, told, sealedFile, act, apply, outcome}
+use Rattle.theorem_ends.specs.BuiltLaws.{fits-of}
 use Rattle.settle.specs.Serves.{Fresh}
 use Rattle.sift.specs.Tries.{Scratch}
 use Rattle.theorem_holds.specs.ServedLaws.{Served}
@@ -33,12 +35,12 @@ use Rattle.serve.specs.ReadLaws.{seal-goes}
 use Rattle.serve.specs.ServeLaws.{reaches-ended}
 
 module _ (bs : List ℤ) (b : Built) (base : List (List ℕ)) (f : File) (k : Kept) (s : Seals bs b f) (l : Lies base f k noRings) where
-  served : Served (f .job) b
-  served = subst (Served (f .job)) (sym (s .built)) (served-built (f .job) (s .good .job) (s .light) (s .from) (s .lendable))
+  served : Served (jobOf (f .draft)) b
+  served = subst (Served (jobOf (f .draft))) (sym (s .built)) (served-built (jobOf (f .draft)) (fits-of (s .good .draft)) (s .light) (s .from) (s .lendable))
 
   -- What `settle::seal` requires.
   pub seals-holds : (x : Index) × Holds x (b .held)
-  seals-holds = (indexOf (f .job), served .serves .holds)
+  seals-holds = (indexOf (jobOf (f .draft)), served .serves .holds)
 
   pub seals-shaped : Shaped (b .held)
   seals-shaped = served .serves .shaped
@@ -57,23 +59,23 @@ module _ (bs : List ℤ) (b : Built) (base : List (List ℕ)) (f : File) (k : Ke
 
   lent : refusal f Seal ≡ 0 → Lent bs b (apply f Seal)
   lent h = record {
-    job = f .job;
-    fits = s .good .job;
+    job = jobOf (f .draft);
+    fits = fits-of (s .good .draft);
     light = s .light;
     from = s .from;
     lendable = s .lendable;
     built = s .built;
     bounds = s .bounds;
-    serving = serving-seal (f .job) (s .good .job) (s .light) (s .from) (s .lendable) f (s .good) refl (subst (λ (z : Built). Fresh z (f .live)) (s .built) (s .fresh)) h;
+    serving = serving-seal (jobOf (f .draft)) (fits-of (s .good .draft)) (s .light) (s .from) (s .lendable) f (s .good) refl (subst (λ (z : Built). Fresh z (f .live)) (s .built) (s .fresh)) h;
   }
 
   -- WHAT IT LEAVES
   module _ (m : Kept) (rings : Rings) (step : Step) (made : (x : Index) → Holds x (b .held) → did (liveIn m rings) step ≡ Drain.seal x (liveIn k noRings)) where
-    whole : apply f Seal ≡ told f (f .job) step (liveIn m rings) (f .gcds) (f .answers)
+    whole : apply f Seal ≡ told f (jobOf (f .draft)) step (liveIn m rings) (f .gcds) (f .answers)
     unfolding apply act sealedFile
     whole =
-        ap (λ (d : Did). told f (f .job) (d .step) (d .live) (f .gcds) (f .answers))
-        (ap (Drain.seal (indexOf (f .job))) (sym (l .live)) ∙ sym (made (indexOf (f .job)) (served .serves .holds)))
+        ap (λ (d : Did). told f (jobOf (f .draft)) (d .step) (d .live) (f .gcds) (f .answers))
+        (ap (Drain.seal (indexOf (jobOf (f .draft)))) (sym (l .live)) ∙ sym (made (indexOf (jobOf (f .draft))) (served .serves .holds)))
 
     pub seals-reaches : refusal f Seal ≡ 0 → Tidy (m .figures) (m .cursors) → m .gcds ≡ k .gcds → m .search ≡ k .search → m .answers ≡ k .answers
         → (o : Reached) → o .rings ≡ rings → o .last ≡ step → o .refused ≡ 0 → (from : Standing) → from ≡ standing f → o .standing ≡ stood from step (from .answers)

@@ -11,6 +11,7 @@ use Rattle.memory.specs.Buffers.{Built, Kept}
 use Rattle.base.specs.Columns.{column}
 use Rattle.base.specs.Laid.{over, pairs, quads}
 use Rattle.numeric.specs.Threshold.{Job}
+use Rattle.numeric.specs.Area.{jobOf}
 use Rattle.state.specs.declared.Step.{Step}
 use Rattle.state.specs.declared.Step.the-variants.{Unchanged}
 use Rattle.state.specs.Step.{contradicts}
@@ -65,11 +66,11 @@ pub record Lies (base : List (List ℕ)) (f : File) (k : Kept) (rings : Rings) :
 -- A job whose seal comes next: what `build` made of it is lent on, and memory can be sealed.
 pub record Seals (bs : List ℤ) (b : Built) (f : File) : Type 0 where
   pub good : Good f
-  pub light : Light rawLimit (f .job)
+  pub light : Light rawLimit (jobOf (f .draft))
   pub from : Built
   pub lendable : Lendable from
-  pub built : b ≡ lentOf (f .job) (builtOf (f .job) from)
-  pub bounds : bs ≡ boundsOf (f .job)
+  pub built : b ≡ lentOf (jobOf (f .draft)) (builtOf (jobOf (f .draft)) from)
+  pub bounds : bs ≡ boundsOf (jobOf (f .draft))
   pub fresh : Fresh b (f .live)
 
 abbrev pub noRings : Rings
@@ -137,6 +138,7 @@ stood s k answers =
       «last_node» = s .«last_node»;
       «last_terms» = s .«last_terms»;
       terms = s .terms;
+      «raw_terms» = s .«raw_terms»;
       answers = answers;
     }
 

@@ -12,8 +12,8 @@ use borrow.Author.Tests.{leb-false}
 use Rattle.memory.specs.Limits.{maxNodes}
 use Rattle.memory.specs.Buffers.{Built, Kept}
 use Rattle.base.specs.Laid.{over, pairs}
-use Rattle.numeric.specs.Area.{weightOfArea}
-use Rattle.numeric.specs.Threshold.{term, Job}
+use Rattle.numeric.specs.Area as Area
+use Rattle.numeric.specs.Threshold.{Job}
 use Rattle.state.specs.declared.Step.{Step}
 use Rattle.queues.specs.declared.Rings.{Rings}
 use Rattle.queues.specs.Queue.{oldest}
@@ -83,14 +83,14 @@ module _ (bs : List ℤ) (b : Built) (f : File) (l : Lent bs b f) where
   }
 
   pub mark-small : (n v : ℕ) → refusal f (Mark n v) ≡ 0 → n < maxNodes
-  mark-small n v h = omega (arith, leb-false (f .job .nodes) n (taken f (Mark n v) h .nodes), l .serving .good .job .nodes)
+  mark-small n v h = omega (arith, leb-false (f .draft .nodes) n (taken f (Mark n v) h .nodes), l .serving .good .draft .nodes)
 
   -- NO OTHER RECORD PASSES THE CHECKS, one of an unknown kind left aside.
   pub only-asks : (r : Record) → (r ≡ Unknown → ⊥) → refusal f r ≡ 0 → Asks r
   only-asks (Header n) u h = both (l .serving .sealed) (l .serving .good .unstarted (taken f (Header n) h .turn))
   only-asks (Opens n z) u h = both (l .serving .sealed) (building-turn f (taken f (Opens n z) h .turn) .1)
-  only-asks (Adds c w) u h = both (l .serving .sealed) (change-turn f (adds (term c w)) (taken f (Adds c w) h) .1)
-  only-asks (Areas c a) u h = both (l .serving .sealed) (change-turn f (adds (term c (weightOfArea a))) (taken f (Areas c a) h) .1)
+  only-asks (Adds c w) u h = both (l .serving .sealed) (change-turn f (adds (Area.plain c w)) (taken f (Adds c w) h) .1)
+  only-asks (Areas c a) u h = both (l .serving .sealed) (change-turn f (adds (Area.area c a)) (taken f (Areas c a) h) .1)
   only-asks Seal u h = both (l .serving .sealed) (building-turn f (taken f Seal h .turn) .1)
   only-asks (Mark n v) u h = tt
   only-asks Settle u h = tt

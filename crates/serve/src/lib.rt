@@ -181,6 +181,7 @@ fn stood(standing: Standing, step: Step, answers: usize) -> Standing
         last_node: standing.last_node,
         last_terms: standing.last_terms,
         terms: standing.terms,
+        raw_terms: standing.raw_terms,
         answers: answers,
     }
 }

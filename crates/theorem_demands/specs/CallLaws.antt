@@ -15,6 +15,7 @@ use Rattle.base.specs.TestLaws.{true-false}
 use Rattle.state.specs.StepLaws.{contradiction-is}
 use Rattle.base.specs.Laid.{over}
 use Rattle.numeric.specs.Layout.{Layout, IsLayout}
+use Rattle.numeric.specs.Area.{jobOf}
 use Rattle.state.specs.declared.Step.{Step}
 use Rattle.state.specs.declared.Step.the-variants.{Unchanged, Changed, Contradiction}
 use Rattle.state.specs.declared.State.{State}
@@ -155,7 +156,7 @@ ended-in input before r e = taken input ∙ ap (after begun) e ∙ after-snoc be
 
 module _ (input : List ℕ) (w : Work) (before : List Record) where
   pub seals : planned input .records ≡ before ++ (Seal ∷ []) → whole input w .given .last ≡ Contradiction
-      → let f = after begun before in ReachesConflict (rowsOf (f .job)) (decidedIn f)
+      → let f = after begun before in ReachesConflict (rowsOf (jobOf (f .draft))) (decidedIn f)
   seals e c = Settles.seals input before [] e (ap (λ (f : File). contradicted f) (sym (ended-in input before Seal e)) ∙ broke input w c)
 
   pub marks : (n v : ℕ) → planned input .records ≡ before ++ (Mark n v ∷ []) → whole input w .given .last ≡ Contradiction
@@ -241,7 +242,7 @@ pub order-does-not-matter : (x y : List ℕ) (v w : Work) → fits x v ≡ true 
     → decoded x ≡ records (rs ++ (Settle ∷ [])) → decoded y ≡ records (qs ++ (Settle ∷ []))
     → Passes begun (rs ++ (Settle ∷ [])) → Passes begun (qs ++ (Settle ∷ []))
     → (whole x v .given .refused ≡ 0) ⊎ (whole x v .given .refused ≡ 9) → (whole y w .given .refused ≡ 0) ⊎ (whole y w .given .refused ≡ 9)
-    → plainlyAll begun rs .job ≡ plainlyAll begun qs .job → SameMarks rs qs → NoSift rs → NoSift qs
+    → jobOf (plainlyAll begun rs .draft) ≡ jobOf (plainlyAll begun qs .draft) → SameMarks rs qs → NoSift rs → NoSift qs
     → ((whole x v .given .last ≡ Contradiction) × (whole y w .given .last ≡ Contradiction)) ⊎ SaysSame (whole x v) (whole y w)
 order-does-not-matter x y v w h k rs qs d g p q a b j m u n =
     ⊎-elim

@@ -1,4 +1,5 @@
--- The cases P1 to P12 of document 01, rows of one table under one theorem, proved by computing the definitions.
+-- The cases P1 to P12 of document 01 and those of joined areas (document 02, section 1), rows of tables under one theorem each, proved by computing
+-- the definitions.
 use Prim.Native.Nat.{ℕ, zero, suc, _+_, _-_, _/_, _%_, _^_, _≤_}
 use Prim.Native.String.{String}
 use native.Mathlib.Omega.{arith}
@@ -7,7 +8,8 @@ use mathlib.Core.Bool.{Bool, true, false, cond}
 use mathlib.Core.List.{List, [], _∷_, _++_, List·Memᴰ, List·Memᴰ·cases-cons, List·Memᴰ·not-nil}
 use mathlib.Core.Logic.{⊎-elim}
 use lib.IntN.{ℤ, pos, negsuc}
-use Rattle.numeric.specs.Area.{weightOfArea}
+use Rattle.numeric.specs.Area.{area, weighed}
+use Rattle.numeric.specs.Area as Area
 use Rattle.numeric.specs.Threshold.{Term, term}
 use Rattle.state.specs.declared.Step.{Step}
 use Rattle.state.specs.declared.Step.the-variants.{Unchanged, Changed, Contradiction}
@@ -70,7 +72,7 @@ pub data Case : Type 0 where
   lists : (file : List Record) (listing : String) → Case
   conflicts : State → Bool → Case
   divides : (a b gcd : ℕ) → Case
-  weighs : (area weight : ℕ) → Case
+  weighs : (hundredths weight : ℕ) → Case
   merges : (raw row : List Term) → Case
   searches : (row : List Term) → State → Search → Case
   misses : (row : List Term) → State → Case
@@ -84,7 +86,7 @@ abbrev pub Right : Case → Type 0
 Right (lists f t) = listing (File.planned (writtenAll f)) ≡ text t
 Right (conflicts s b) = States.conflict s ≡ b
 Right (divides a b g) = Gcd.gcd a b ≡ g
-Right (weighs a w) = weightOfArea a ≡ w
+Right (weighs a w) = weighed (area 0 a ∷ []) ≡ term 0 w ∷ []
 Right (merges raw row) = Terms.rowTerms raw ≡ row
 Right (searches row s r) = Searches.search row s (λ n. false) ≡ r
 Right (misses row s) = (choice : ℕ → Bool) → Searches.Lands (Searches.window row s) (λ n. false) row choice → ⊥
@@ -167,11 +169,23 @@ between false true false h k = omega arith
 between false false true h k = omega arith
 between false false false h k = omega arith
 
-computed : Every cases × Every shown
-unfolding States.firstState States.noState States.withKnown States.withPossible States.withLower States.withUpper States.withGuards States.withTerms States.drained States.conflict States.hasResidualInterval Mask.setBit Mask.learn Mask.count Shift.shiftWord Shift.wordHits Shift.shiftFrom Shift.unionShifted Queues.push Queues.popped Queues.queueRow Queues.nextRow Marks.decide Terms.merge Terms.merged Terms.insert Terms.sorted Terms.total Terms.sameTerms Rows.insertGuard Rows.place Rows.placeAll Rows.rowNumber Rows.hasNonunit Rows.edgesIn Rows.edgesFrom Links.notAfter Links.insertRow Links.orderFrom Links.common Links.ancestors Links.stacked Links.linked Links.linksFrom Links.links Links.neighbours Gcd.gcdIn Gcd.gcd Gcd.misses Gcd.branchMisses Residuals.checkFrom Residuals.residualCheck Residuals.fitsFrom Residuals.suffixFrom Residuals.forceTerm Residuals.forceFrom Residuals.thresholdResidual Searches.plan Searches.chosen Searches.searchFrom Searches.search Scan.scan Row.thresholdGuards Row.trueTerms Row.falseTerms Row.scans Row.thresholdRow Row.wantsResidual Between.runWith Between.runRow Between.bounded Between.thresholdGuard Between.conditionFrom Between.thresholdCondition Between.prefixesFrom Between.thresholdPrefixes Between.firstStates Between.seedFrom Between.guardOf Drain.seal Drain.mark Drain.takeNode Drain.takeRow Drain.drain Sift.tryRow Sift.siftFrom File.begun Job.lastNode Job.lastTerms Job.allTerms Checks.first File.refusal Job.addTerm File.sealedFile File.markedFile File.settledFile File.siftedFile File.act File.apply File.readFrom File.fileOf File.planned File.after Listing.text Listing.digits Listing.answerLines Listing.nodeLines Listing.rowLines Listing.listing littleEndian bytes twos written writtenAll
+-- Areas of one condition are added first (document 02, section 1): across a term; in a threshold of their own; at the first one's place, so that the
+-- row is shared with a plain list; beyond 32 bits; and a sum that rounds to 0 is listed.
+abbrev pub joining : List Case
+joining =
+    lists (Header 3 ∷ Opens 0 (pos 0) ∷ Areas 2 30 ∷ Adds 1 7 ∷ Areas 2 30 ∷ Seal ∷ []) "node 0 sure\nrow 0 0 8 0 -\nend 1 0\n"
+    ∷ lists (Header 4 ∷ Opens 2 (pos 1) ∷ Areas 0 30 ∷ Opens 3 (pos 1) ∷ Areas 0 30 ∷ Seal ∷ []) "node 2 never\nnode 3 never\nrow 0 0 0 0 -\nend 0 2\n"
+    ∷ lists (Header 4 ∷ Opens 2 (pos 1) ∷ Areas 0 60 ∷ Adds 1 1 ∷ Areas 0 60 ∷ Opens 3 (pos 2) ∷ Adds 0 1 ∷ Adds 1 1 ∷ Seal ∷ []) "row 0 0 2 0 -\nend 0 0\n"
+    ∷ lists (Header 2 ∷ Opens 1 (pos 0) ∷ Areas 0 4294967295 ∷ Areas 0 4294967295 ∷ Seal ∷ []) "node 1 sure\nrow 0 0 85899346 0 -\nend 1 0\n"
+    ∷ lists (Header 4 ∷ Opens 2 (pos 1) ∷ Areas 0 20 ∷ Areas 0 29 ∷ Adds 1 1 ∷ Opens 3 (pos 1) ∷ Adds 1 1 ∷ Seal ∷ []) "row 0 0 1 0 -\nrow 1 0 1 0 -\nend 0 0\n"
+    ∷ []
+
+computed : Every cases × Every shown × Every joining
+unfolding States.firstState States.noState States.withKnown States.withPossible States.withLower States.withUpper States.withGuards States.withTerms States.drained States.conflict States.hasResidualInterval Mask.setBit Mask.learn Mask.count Shift.shiftWord Shift.wordHits Shift.shiftFrom Shift.unionShifted Queues.push Queues.popped Queues.queueRow Queues.nextRow Marks.decide Terms.merge Terms.merged Terms.insert Terms.sorted Terms.total Terms.sameTerms Rows.insertGuard Rows.place Rows.placeAll Rows.rowNumber Rows.hasNonunit Rows.edgesIn Rows.edgesFrom Links.notAfter Links.insertRow Links.orderFrom Links.common Links.ancestors Links.stacked Links.linked Links.linksFrom Links.links Links.neighbours Gcd.gcdIn Gcd.gcd Gcd.misses Gcd.branchMisses Residuals.checkFrom Residuals.residualCheck Residuals.fitsFrom Residuals.suffixFrom Residuals.forceTerm Residuals.forceFrom Residuals.thresholdResidual Searches.plan Searches.chosen Searches.searchFrom Searches.search Scan.scan Row.thresholdGuards Row.trueTerms Row.falseTerms Row.scans Row.thresholdRow Row.wantsResidual Between.runWith Between.runRow Between.bounded Between.thresholdGuard Between.conditionFrom Between.thresholdCondition Between.prefixesFrom Between.thresholdPrefixes Between.firstStates Between.seedFrom Between.guardOf Drain.seal Drain.mark Drain.takeNode Drain.takeRow Drain.drain Sift.tryRow Sift.siftFrom File.begun Job.lastNode Job.lastList Job.allTerms Checks.first File.refusal Job.onLast Area.hundredths Area.without Area.joined File.sealedFile File.markedFile File.settledFile File.siftedFile File.act File.apply File.readFrom File.fileOf File.planned File.after Listing.text Listing.digits Listing.answerLines Listing.nodeLines Listing.rowLines Listing.listing littleEndian bytes twos written writtenAll
 computed = (
   (refl, (refl, (refl, (refl, (refl, (refl, (refl, (refl, (refl, (refl, (refl, (nothing-fits, (refl, (refl, (refl, (refl, (refl, (refl, tt)))))))))))))))))),
   ((refl, refl, refl, refl), ((refl, refl, refl, refl), (refl, ((refl, refl, refl), tt)))),
+  (refl, (refl, (refl, (refl, (refl, tt))))),
 )
   where
     nothing-fits : Right (misses (term 0 301 ∷ term 1 299 ∷ term 2 200 ∷ []) (fresh 800 400 431))
@@ -183,3 +197,6 @@ worked c m = lift cases (computed .0) c m
 
 pub shown-right : (c : Case) → List·Memᴰ c shown → Right c
 shown-right c m = lift shown (computed .1) c m
+
+pub joining-right : (c : Case) → List·Memᴰ c joining → Right c
+joining-right c m = lift joining (computed .2) c m

@@ -1,6 +1,6 @@
--- THE DEMANDS of the mission, and the clauses a and c of document 01, as statements over the definitions.
+-- THE DEMANDS of the mission, the clauses a and c of document 01 and what document 02 asks for, as statements over the definitions.
 -- They are what the proofs of this repository are for. A statement is met when a term of its type stands in a crate.
-use Prim.Native.Nat.{ℕ, _*_, _≤_, _<_}
+use Prim.Native.Nat.{ℕ, _+_, _*_, _≤_, _<_}
 use mathlib.Core.Path.{_≡_}
 use mathlib.Core.Bool.{Bool, true, false, cond}
 use mathlib.Core.List.{List, [], _∷_, _++_, List·Memᴰ}
@@ -9,6 +9,7 @@ use lib.ListN.{length, getD, take, drop}
 use lib.IntN.{ℤ}
 use lib.Dec.{eqb}
 use Rattle.numeric.specs.Threshold.{Term}
+use Rattle.numeric.specs.Area.{Entry, area, hundredths, joined, Single, jobOf}
 use Rattle.numeric.specs.Layout.{Layout, IsLayout}
 use Rattle.state.specs.declared.Step.{Step}
 use Rattle.state.specs.declared.Step.the-variants.{Unchanged, Contradiction}
@@ -27,7 +28,8 @@ use Rattle.theorem_table.specs.Table.{Table, knownOf, possibleOf, Conflict, Run
 use Rattle.files.specs.Drain.{atRest}
 use Rattle.records.specs.declared.Record.{Record}
 use Rattle.records.specs.declared.Record.the-variants.{Seal, Mark, Settle, Sift}
-use Rattle.files.specs.File.{File, contradicted, sifted, begun, apply, after, refusalAt, planned, Passed}
+use Rattle.records.specs.Facts.{changes, adds}
+use Rattle.files.specs.File.{File, contradicted, sifted, begun, standing, act, apply, after, refusalAt, planned, Passed}
 use Rattle.memory.specs.Buffers.{Work, lengths, fits}
 use Rattle.files.specs.Contents.{Out, out, served, whole}
 use Rattle.theorem_demands.specs.Reading.{Marked, SameMarks, Agrees, NoSift, lastSearch, decidedIn, decidedAnd, marksOnly, SameEnd, SameFigures, records, decoded, plainlyAll, Passes}
@@ -68,7 +70,7 @@ pub record Demand1 : Type 0 where
 -- (That the figures are the Rust's is tried by running both.)
 pub record Demand2 : Type 0 where
   -- what is decided is decided of the job that the last seal closed, which is the file's
-  pub closed-job : (input : List ℕ) → planned input .file .sealed ≡ true → planned input .file .closed ≡ planned input .file .job
+  pub closed-job : (input : List ℕ) → planned input .file .sealed ≡ true → planned input .file .closed ≡ jobOf (planned input .file .draft)
   -- every layout that agrees with the marks agrees with each forced node
   pub forced-sure : (input : List ℕ) (v : Layout) → IsLayout (planned input .file .closed) v → Agrees (planned input .records) v
       → (n : ℕ) → bit (planned input .file .live .marks .sure) n ≡ true → v n ≡ true
@@ -102,7 +104,7 @@ pub record ExactlyTheTable (rows : List Row) (s : Table) (f : File) : Type 0 whe
 pub record Demand3 : Type 0 where
   -- a seal contradicts only if the table, started from the nodes decided before it, reaches a conflict
   pub seals : (input : List ℕ) (before later : List Record) → planned input .records ≡ before ++ (Seal ∷ later)
-      → let f = after begun before in contradicted (apply f Seal) ≡ true → ReachesConflict (rowsOf (f .job)) (decidedIn f)
+      → let f = after begun before in contradicted (apply f Seal) ≡ true → ReachesConflict (rowsOf (jobOf (f .draft))) (decidedIn f)
   -- a mark only if the table does, started from those nodes and the mark's own
   pub marks : (input : List ℕ) (before later : List Record) (n v : ℕ) → planned input .records ≡ before ++ (Mark n v ∷ later)
       → let f = after begun before in
@@ -119,8 +121,22 @@ pub record Demand3 : Type 0 where
       → decoded x ≡ records (rs ++ (Settle ∷ [])) → decoded y ≡ records (qs ++ (Settle ∷ []))
       → Passes begun (rs ++ (Settle ∷ [])) → Passes begun (qs ++ (Settle ∷ []))
       → (planned x .refused ≡ 0) ⊎ (planned x .refused ≡ 9) → (planned y .refused ≡ 0) ⊎ (planned y .refused ≡ 9)
-      → plainlyAll begun rs .job ≡ plainlyAll begun qs .job → SameMarks rs qs → NoSift rs → NoSift qs
+      → jobOf (plainlyAll begun rs .draft) ≡ jobOf (plainlyAll begun qs .draft) → SameMarks rs qs → NoSift rs → NoSift qs
       → ((contradicted (planned x .file) ≡ true) × (contradicted (planned y .file) ≡ true)) ⊎ SameFigures (planned x .file) (planned y .file)
+
+-- AREAS OF ONE TILE ARE ADDED FIRST (document 02, section 1): what joining does to the list that the records gave one threshold.
+pub record AreasAdded : Type 0 where
+  -- an area that comes behind another of its condition is added to it in hundredths, where that stands, whatever stands between
+  pub added : (before : List Entry) (c g : ℕ) (middle : List Entry) (h : ℕ) (behind : List Entry)
+      → joined (before ++ (area c g ∷ (middle ++ (area c h ∷ behind)))) ≡ joined (before ++ (area c (g + h) ∷ (middle ++ behind)))
+  -- nothing else is done: a list in which no condition has two areas stays as it is
+  pub nothing-else : (es : List Entry) → Single es → joined es ≡ es
+  -- so no condition has two areas then, and the one has the sum
+  pub once : (es : List Entry) → Single (joined es)
+  pub sums : (c : ℕ) (es : List Entry) → hundredths c (joined es) ≡ hundredths c es
+  -- the limits count each record
+  pub counted : (f : File) (x : Entry) → 0 < length (f .draft .thresholds) → let s = standing f in let t = standing (act f (changes (adds x))) in
+      (t .«last_terms» ≡ s .«last_terms» + 1) × (t .terms ≡ s .terms + 1)
 
 -- DEMANDS 2 AND 3 ONCE MORE, as the caller meets them: of what the call gives back and of the words in its buffers.
 
@@ -160,7 +176,7 @@ pub record Call : Type 0 where
       → (v : Layout) → IsLayout (planned input .file .closed) v → Agrees (planned input .records) v → ⊥
   -- demand 3, of a file whose last record is a seal, a mark or a settle
   pub seals : (input : List ℕ) (w : Work) (before : List Record) → planned input .records ≡ before ++ (Seal ∷ [])
-      → whole input w .given .last ≡ Contradiction → let f = after begun before in ReachesConflict (rowsOf (f .job)) (decidedIn f)
+      → whole input w .given .last ≡ Contradiction → let f = after begun before in ReachesConflict (rowsOf (jobOf (f .draft))) (decidedIn f)
   pub marks : (input : List ℕ) (w : Work) (before : List Record) (n v : ℕ) → planned input .records ≡ before ++ (Mark n v ∷ [])
       → whole input w .given .last ≡ Contradiction → let f = after begun before in ReachesConflict (rowsOf (f .closed)) (decidedAnd f n (eqb v 1))
   pub settles : (input : List ℕ) (w : Work) → fits input w ≡ true → (before : List Record) → planned input .records ≡ before ++ (Settle ∷ [])
@@ -172,7 +188,7 @@ pub record Call : Type 0 where
       → decoded x ≡ records (rs ++ (Settle ∷ [])) → decoded y ≡ records (qs ++ (Settle ∷ []))
       → Passes begun (rs ++ (Settle ∷ [])) → Passes begun (qs ++ (Settle ∷ []))
       → (whole x v .given .refused ≡ 0) ⊎ (whole x v .given .refused ≡ 9) → (whole y w .given .refused ≡ 0) ⊎ (whole y w .given .refused ≡ 9)
-      → plainlyAll begun rs .job ≡ plainlyAll begun qs .job → SameMarks rs qs → NoSift rs → NoSift qs
+      → jobOf (plainlyAll begun rs .draft) ≡ jobOf (plainlyAll begun qs .draft) → SameMarks rs qs → NoSift rs → NoSift qs
       → ((whole x v .given .last ≡ Contradiction) × (whole y w .given .last ≡ Contradiction)) ⊎ SaysSame (whole x v) (whole y w)
 
 -- CLAUSE A. For every input definitions fix each answer, offset, visit count and buffer word, refusals too. `whole` is that

@@ -7,6 +7,7 @@ use mathlib.Core.List.{List, [], _∷_, _++_}
 use lib.ListN.{length, length-append, getD, set, length-set, length-replicate}
 use lib.Dec.{eqb, leb}
 use borrow.Author.Tests.{leb-false}
+use Rattle.numeric.specs.Area.{jobOf}
 use Rattle.memory.specs.Limits.{listTerms, maxGcds, maxNodes, maxThresholds}
 use Rattle.state.specs.declared.Step.{Step}
 use Rattle.state.specs.declared.Step.the-variants.{Unchanged, Changed, Contradiction}
@@ -144,7 +145,7 @@ module _ (f : File) (k : Kept f) where
   kept-by (changes c) h g = record { good = g; live = k .live; gcds = k .gcds; answers = k .answers }
   kept-by closes h g = record {
     good = g;
-    live = long-seal (indexOf (f .job)) (f .live) (k .live);
+    live = long-seal (indexOf (jobOf (f .draft))) (f .live) (k .live);
     gcds = k .gcds;
     answers = k .answers;
   }

@@ -11,6 +11,7 @@ use lib.Dec.{eqb, ltb}
 use borrow.Author.Tests.{eqb-true, eqb-false, ltb-false}
 use Rattle.memory.specs.Limits.{maxNodes}
 use Rattle.numeric.specs.Threshold.{Job}
+use Rattle.numeric.specs.Area.{jobOf}
 use Rattle.numeric.specs.Layout.{Layout, IsLayout}
 use Rattle.queues.specs.Marks.{Marks, decide}
 use Rattle.thresholds.specs.Rows.{noRow, rowsOf}
@@ -21,7 +22,7 @@ use Rattle.records.specs.declared.Record.{Record}
 use Rattle.records.specs.Facts.{Action, begins, changes, closes, decides, settles, sifts, idles, action, facts}
 use Rattle.files.specs.File.{File, contradicted, begun, sealedFile, markedFile, settledFile, siftedFile, act, apply, planned, after, Passed}
 use Rattle.theorem_table.specs.Table.{IsRow}
-use Rattle.theorem_ends.specs.BuiltLaws.{fits-node, fits-condition, rows-few, indexed}
+use Rattle.theorem_ends.specs.BuiltLaws.{fits-of, fits-node, fits-condition, rows-few, indexed}
 use Rattle.theorem_ends.specs.Good.{Fits as JobFits, Good}
 use Rattle.theorem_ends.specs.BlankLaws.{blank-begun}
 use Rattle.theorem_ends.specs.FilesLaws.{good-begun, both, Taken, taken, building-turn, change-turn, serving-turn, node-small, good-apply, planned-passed}
@@ -101,8 +102,9 @@ module _ (w : Layout) (f : File) (g : Good f) where
   opened o (changes c) t is = inl (record { sealed = o .sealed; fine = o .fine; undrained = o .undrained; fits = o .fits })
   opened o closes t is =
       let started = building-turn f (t .turn) .0 in
-      let d = seal-fine (f .job) (indexOf (f .job)) (builds (f .job)) (orders (f .job) (g .job)) w (is started refl) (f .live)
-      (undrained-from 0 (length (rowsOf (f .job))) (f .live) (omega arith) (o .undrained)) (o .fits) (g .live) (rows-few (f .job) (g .job)) in
+      let j = jobOf (f .draft) in
+      let d = seal-fine j (indexOf j) (builds j) (orders j (fits-of (g .draft))) w (is started refl) (f .live)
+      (undrained-from 0 (length (rowsOf j)) (f .live) (omega arith) (o .undrained)) (o .fits) (g .live) (rows-few j (fits-of (g .draft))) in
       inr (record { started = started; sealed = refl; fine = d .0; between = d .1 })
   opened o (decides n v) t is = absurd (both (serving-turn f (t .turn)) (o .sealed))
   opened o settles t is = absurd (both (serving-turn f (t .turn)) (o .sealed))

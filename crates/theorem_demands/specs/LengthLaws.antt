@@ -10,6 +10,7 @@ use lib.IntN.{pos}
 use Rattle.base.specs.TestLaws.{true-false}
 use Rattle.base.specs.Laid.{over, joinAll, ends, pairs, triples, quads, numbers}
 use Rattle.numeric.specs.Threshold.{Term, Threshold}
+use Rattle.numeric.specs.Area.{jobOf}
 use Rattle.thresholds.specs.Rows.{Row, Guard, rowsOf}
 use Rattle.thresholds.specs.Laid.{conditions, weights, termLists, guardLists, guardBounds, guardNodes, thresholdOf, rowOfNode, edgeLists, edgeRow}
 use Rattle.prefixes.specs.Links.{neighbourLists}
@@ -23,7 +24,7 @@ use Rattle.job.specs.Job.{allTerms}
 use Rattle.files.specs.File.{File, fileOf}
 use Rattle.prepare.specs.JobBuffers.{listsOf, rawOf, builtWith, builtOf}
 use Rattle.files.specs.Contents.{answerNumber, answerVisits, keptOf, laid, Out, whole}
-use Rattle.theorem_ends.specs.BuiltLaws.{rows-few}
+use Rattle.theorem_ends.specs.BuiltLaws.{fits-of, rows-few}
 use Rattle.theorem_ends.specs.SizeLaws.{zeros-long, terms-few, guards-few, edges-most, links-most, pairs-few, triples-few, quads-few}
 use Rattle.theorem_demands.specs.MemoryLaws.{SameLengths}
 use Rattle.theorem_demands.specs.RefusalLaws.{served-when, untouched-when}
@@ -42,18 +43,20 @@ raw-terms [] = refl
 raw-terms (t ∷ ts) = omega (arith, length-append (t .terms) (joinAll (map (λ (u : Threshold). u .terms) ts)), raw-terms ts)
 
 module _ (f : File) (k : Kept f) (w : Work) (s : Sized w) where
-  raw-long : rawLengths (rawOf (f .job) (clearRaw (w .raw))) ≡ rawLengths (w .raw)
+  raw-long : rawLengths (rawOf (jobOf (f .draft)) (clearRaw (w .raw))) ≡ rawLengths (w .raw)
   unfolding rawOf clearRaw
   raw-long =
       let b = w .raw .lists in
-      let ts = f .job .thresholds in
-      let l = joinAll (listsOf (f .job)) in
+      let j = jobOf (f .draft) in
+      let fits = fits-of (k .good .draft) in
+      let ts = j .thresholds in
+      let l = joinAll (listsOf j) in
       let nodes = map (λ (t : Threshold). t .node) ts in
-      let few = k .good .job .few in
-      let p0 = laid-long 0 (conditions l) (b .raw-conditions) maxTerms (omega (arith, length-map l (λ (t : Term). t .condition), raw-terms ts, k .good .job .terms)) (s 0) in
-      let p1 = laid-long 0 (weights l) (b .raw-weights) maxTerms (omega (arith, length-map l (λ (t : Term). t .weight), raw-terms ts, k .good .job .terms)) (s 1) in
-      let p2 = laid-long (replicate 2 0) (pairs nodes (ends 0 (listsOf (f .job)))) (b .thresholds) maxThresholds
-      (omega (arith, pairs-few nodes (ends 0 (listsOf (f .job))), length-map ts (λ (t : Threshold). t .node), few)) (s 2) in
+      let few = fits .few in
+      let p0 = laid-long 0 (conditions l) (b .raw-conditions) maxTerms (omega (arith, length-map l (λ (t : Term). t .condition), raw-terms ts, fits .terms)) (s 0) in
+      let p1 = laid-long 0 (weights l) (b .raw-weights) maxTerms (omega (arith, length-map l (λ (t : Term). t .weight), raw-terms ts, fits .terms)) (s 1) in
+      let p2 = laid-long (replicate 2 0) (pairs nodes (ends 0 (listsOf j))) (b .thresholds) maxThresholds
+      (omega (arith, pairs-few nodes (ends 0 (listsOf j)), length-map ts (λ (t : Threshold). t .node), few)) (s 2) in
       let p3 = laid-long (pos 0) (map (λ (t : Threshold). t .bound) ts) (w .raw .bounds) maxThresholds (omega (arith, length-map ts (λ (t : Threshold). t .bound), few)) (s 3) in
       λ i. p0 i ∷ p1 i ∷ p2 i ∷ p3 i ∷ []
 

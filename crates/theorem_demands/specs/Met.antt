@@ -1,7 +1,10 @@
 -- WHICH DEMANDS ARE MET: a value of the type that states each. The proofs stand in the files named `Laws` beside this one, and in `theorem_ends`.
+use Rattle.numeric.specs.AreaLaws as AreaLaws
 use Rattle.possible_sums.specs.SearchLaws as SearchLaws
+use Rattle.job.specs.JobLaws.{last-added, all-added}
+use Rattle.files.specs.File.{act}
 use Rattle.theorem_ends.specs.FilesLaws as Files
-use Rattle.theorem_demands.specs.Demands.{Demand1, Demand2, Demand3, Call, ClauseA, ClauseC}
+use Rattle.theorem_demands.specs.Demands.{Demand1, Demand2, Demand3, AreasAdded, Call, ClauseA, ClauseC}
 use Rattle.theorem_demands.specs.RefusalLaws as Refusals
 use Rattle.theorem_demands.specs.ReadLaws as Reads
 use Rattle.theorem_demands.specs.ForcedLaws as Forced
@@ -50,7 +53,18 @@ demand3 = record {
   order-does-not-matter = Order.order-does-not-matter;
 }
 
--- BOTH, of the call and the words in its buffers
+-- AREAS, whole
+pub areas-added : AreasAdded
+unfolding act
+areas-added = record {
+  added = AreaLaws.joined-adds;
+  nothing-else = AreaLaws.joined-single;
+  once = AreaLaws.single-joined;
+  sums = AreaLaws.sum-stays;
+  counted = λ f x h. let d = f .draft in (last-added x (d .thresholds) h, all-added x (d .thresholds) h);
+}
+
+-- BOTH DEMANDS, of the call and the words in its buffers
 pub call : Call
 call = record {
   forced-sure = Calls.forced-sure;

@@ -13,6 +13,7 @@ use lib.Signed.{≤ℤ-refl}
 use borrow.Author.Tests.{eq-eqb, eqb-true}
 use Rattle.base.specs.TestLaws.{or-left, or-right, same-bool, true-false, and-left, and-right, or-true, unequal}
 use Rattle.numeric.specs.Threshold.{Job}
+use Rattle.numeric.specs.Area.{jobOf}
 use Rattle.thresholds.specs.Rows.{Row, rowsOf}
 use Rattle.records.specs.declared.Record.{Record}
 use Rattle.records.specs.declared.Record.the-variants.{Settle}
@@ -29,7 +30,7 @@ use Rattle.theorem_demands.specs.Reading.{Marked, SameMarks, NoSift, mar
 use Rattle.theorem_demands.specs.RefusalLaws.{taken}
 use Rattle.theorem_demands.specs.SettleLaws.{passed-here, start-same}
 use Rattle.theorem_demands.specs.MarksLaws.{marked-append, marks-same, marking}
-use Rattle.theorem_demands.specs.ReadOnLaws.{Over, planned-over, level-same, level-after, job-stays, plainly-append, passes-split}
+use Rattle.theorem_demands.specs.ReadOnLaws.{Over, planned-over, level-same, level-after, draft-stays, plainly-append, passes-split}
 
 -- ---- THE TABLE KNOWS ONLY THE SET OF MARKS
 
@@ -109,7 +110,7 @@ module _ (rs : List Record) (passes : Passes begun (rs ++ (Settle ∷ []))) (uns
   all = rs ++ (Settle ∷ [])
 
   abbrev job : Job
-  job = plainlyAll begun rs .job
+  job = jobOf (plainlyAll begun rs .draft)
 
   no-sift : NoSift all
   no-sift m =
@@ -120,9 +121,9 @@ module _ (rs : List Record) (passes : Passes begun (rs ++ (Settle ∷ []))) (uns
   all-marks = sym (marks-same rs Settle (λ b n. refl))
 
   -- the last settle leaves the job
-  last-job : plainlyAll begun all .job ≡ job
+  last-job : jobOf (plainlyAll begun all .draft) ≡ job
   unfolding plainlyAll plainly plain
-  last-job = ap (λ (f : File). f .job) (plainly-append begun rs (Settle ∷ []))
+  last-job = ap (λ (f : File). jobOf (f .draft)) (plainly-append begun rs (Settle ∷ []))
 
   -- A RECORD CONTRADICTED
   broke : (p rest : List Record) → all ≡ p ++ rest → Passed begun p → contradicted (after begun p) ≡ true → Broken (rowsOf job) (marksOnly rs)
@@ -135,8 +136,8 @@ module _ (rs : List Record) (passes : Passes begun (rs ++ (Settle ∷ []))) (uns
       let l = level-after begun begun p (level-same begun) (a .0) in
       let started : f .started ≡ true = ⊎-elim (λ (o : f .started ≡ true). o) (λ (o : f .started ≡ false). absurd (both s (k .good .unstarted o))) (true-false (f .started)) in
       let q : f .closed ≡ job =
-      k .good .same s ∙ l .job ∙ sym (job-stays (plainlyAll begun p) rest (sym (l .started) ∙ started) (sym (l .sealed) ∙ s) (a .1))
-      ∙ ap (λ (y : File). y .job) (sym (plainly-append begun p rest)) ∙ ap (λ (y : List Record). plainlyAll begun y .job) (sym e) ∙ last-job in
+      k .good .same s ∙ ap jobOf (l .draft) ∙ ap jobOf (sym (draft-stays (plainlyAll begun p) rest (sym (l .started) ∙ started) (sym (l .sealed) ∙ s) (a .1)))
+      ∙ ap (λ (y : File). jobOf (y .draft)) (sym (plainly-append begun p rest)) ∙ ap (λ (y : List Record). jobOf (plainlyAll begun y .draft)) (sym e) ∙ last-job in
       subst (Broken (rowsOf job)) (ap marksOnly (sym e) ∙ all-marks) (more-marks (rowsOf job) p rest (subst (λ (y : Job). Broken (rowsOf y) (marksOnly p)) q (m .breaks c)))
 
   -- NONE DID
@@ -147,7 +148,7 @@ module _ (rs : List Record) (passes : Passes begun (rs ++ (Settle ∷ []))) (uns
       let b = passed-here begun rs Settle [] h in
       let e = after-snoc begun rs Settle in
       let k = keeps-after begun rs keeps-begun (b .0) in
-      let q : f .closed ≡ job = k .good .same (serving-turn f (accepts f Settle (b .1) .turn)) ∙ level-after begun begun rs (level-same begun) (passes-split begun rs (Settle ∷ []) passes .0) .job in
+      let q : f .closed ≡ job = k .good .same (serving-turn f (accepts f Settle (b .1) .turn)) ∙ ap jobOf (level-after begun begun rs (level-same begun) (passes-split begun rs (Settle ∷ []) passes .0) .draft) in
       subst (λ (y : File). Rested y job (marksOnly rs)) (sym e) (
         refl,
         q,
@@ -180,12 +181,12 @@ pub order-does-not-matter : (x y : List ℕ) (rs qs : List Record)
     → decoded x ≡ records (rs ++ (Settle ∷ [])) → decoded y ≡ records (qs ++ (Settle ∷ []))
     → Passes begun (rs ++ (Settle ∷ [])) → Passes begun (qs ++ (Settle ∷ []))
     → (planned x .refused ≡ 0) ⊎ (planned x .refused ≡ 9) → (planned y .refused ≡ 0) ⊎ (planned y .refused ≡ 9)
-    → plainlyAll begun rs .job ≡ plainlyAll begun qs .job → SameMarks rs qs → NoSift rs → NoSift qs
+    → jobOf (plainlyAll begun rs .draft) ≡ jobOf (plainlyAll begun qs .draft) → SameMarks rs qs → NoSift rs → NoSift qs
     → ((contradicted (planned x .file) ≡ true) × (contradicted (planned y .file) ≡ true)) ⊎ SameFigures (planned x .file) (planned y .file)
 order-does-not-matter x y rs qs d g p q u w e m a b = by (side rs p a x d u) there
   where
     j : Job
-    j = plainlyAll begun rs .job
+    j = jobOf (plainlyAll begun rs .draft)
 
     s : Table
     s = marksOnly rs
@@ -198,7 +199,7 @@ order-does-not-matter x y rs qs d g p q u w e m a b = by (side rs p a x d u) the
 
     there : Side h j s
     there =
-        subst (λ (z : Job). Side h z s) (sym e) (subst (λ (t : Table). Side h (plainlyAll begun qs .job) t) (sym (marks-set rs qs m)) (side qs q b y g w))
+        subst (λ (z : Job). Side h z s) (sym e) (subst (λ (t : Table). Side h (jobOf (plainlyAll begun qs .draft)) t) (sym (marks-set rs qs m)) (side qs q b y g w))
 
     by : Side f j s → Side h j s → ((contradicted f ≡ true) × (contradicted h ≡ true)) ⊎ SameFigures f h
     by (inl k) (inl l) = inl (k .0, l .0)

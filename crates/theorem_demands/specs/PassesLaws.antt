@@ -23,7 +23,7 @@ pub record Alike (f g : File) : Type 0 where
   pub answers : length (f .answers) ≡ length (g .answers)
 
 alike-standing : (f g : File) → Alike f g → standing f ≡ standing g
-alike-standing f g a = λ i. standingOf (a .level .started i) (a .level .sealed i) (a .contradicted i) (a .level .job i) (a .answers i)
+alike-standing f g a = λ i. standingOf (a .level .started i) (a .level .sealed i) (a .contradicted i) (a .level .draft i) (a .answers i)
 
 alike-refusal : (f g : File) (r : Record) → Alike f g → refusal f r ≡ refusal g r
 unfolding refusal

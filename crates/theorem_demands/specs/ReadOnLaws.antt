@@ -10,12 +10,12 @@ use lib.ListN.{length, drop}
 use lib.Dec.{eqb, leb, ltb}
 use borrow.Author.Tests.{eqb-false}
 use Rattle.base.specs.TestLaws.{clash}
-use Rattle.numeric.specs.Threshold.{Job}
+use Rattle.numeric.specs.Area.{Draft}
 use Rattle.records.specs.declared.Record.{Record}
 use Rattle.records.specs.Record.{kindOf, bodyLength}
 use Rattle.records.specs.Facts.{Action, begins, changes, closes, decides, settles, sifts, idles, action, facts}
 use Rattle.records.specs.Checks.{anyOf, wrongTurn, notRising, badBound, tooMany, Check, check, first}
-use Rattle.job.specs.Job.{changed}
+use Rattle.job.specs.Job.{withChange}
 use Rattle.files.specs.File.{File, contradicted, begun, standing, refusal, sealedFile, markedFile, settledFile, siftedFile, act, apply, Outcome, outcome, recordAt, unknownKind, cutBody, refusalAt, readFrom, fileOf, planned, after}
 use Rattle.theorem_ends.specs.FilesLaws.{both, Taken, taken, building-turn, change-turn, serving-turn, refused-by}
 use Rattle.theorem_demands.specs.Reading.{Decoded, records, damaged, decodeFrom, decoded, plain, plainly, plainlyAll, Passes}
@@ -131,28 +131,28 @@ planned-over input all e h = by (ltb 65536 (length input)) h
 
 -- ---- THE JOB
 
--- Two files with one job that are as far as each other.
+-- Two files of the same records so far, that are as far as each other.
 pub record Level (f g : File) : Type 0 where
-  pub job : f .job ≡ g .job
+  pub draft : f .draft ≡ g .draft
   pub started : f .started ≡ g .started
   pub sealed : f .sealed ≡ g .sealed
 
 pub level-same : (f : File) → Level f f
-level-same f = record { job = refl; started = refl; sealed = refl }
+level-same f = record { draft = refl; started = refl; sealed = refl }
 
 module _ (f g : File) (l : Level f g) where
   level-act : (a : Action) → Taken g (facts a) → Level (act f a) (plain g a)
   unfolding act sealedFile markedFile settledFile siftedFile plain
-  level-act (begins n) t = record { job = refl; started = refl; sealed = l .sealed }
+  level-act (begins n) t = record { draft = refl; started = refl; sealed = l .sealed }
   level-act (changes c) t = record {
-    job = ap (λ (j : Job). record { nodes = j .nodes; thresholds = changed c (j .thresholds) }) (l .job);
+    draft = ap (λ (d : Draft). withChange d c) (l .draft);
     started = refl;
     sealed = l .sealed;
   }
-  level-act closes t = record { job = l .job; started = l .started; sealed = refl }
-  level-act (decides n v) t = record { job = l .job; started = l .started; sealed = sym (serving-turn g (t .turn)) }
-  level-act settles t = record { job = l .job; started = l .started; sealed = refl }
-  level-act sifts t = record { job = l .job; started = l .started; sealed = refl }
+  level-act closes t = record { draft = l .draft; started = l .started; sealed = refl }
+  level-act (decides n v) t = record { draft = l .draft; started = l .started; sealed = sym (serving-turn g (t .turn)) }
+  level-act settles t = record { draft = l .draft; started = l .started; sealed = refl }
+  level-act sifts t = record { draft = l .draft; started = l .started; sealed = refl }
   level-act (idles x) t = l
 
   pub level-apply : (r : Record) → Taken g (facts (action r)) → Level (apply f r) (plainly g r)
@@ -164,9 +164,9 @@ unfolding after plainlyAll Passes
 level-after f g [] l p = l
 level-after f g (r ∷ rs) l p = level-after (apply f r) (plainly g r) rs (level-apply f g l r (taken g r (p .0))) (p .1)
 
--- behind the seal the job stays
+-- behind the seal the draft stays
 record Closed (f g : File) : Type 0 where
-  pub job : g .job ≡ f .job
+  pub draft : g .draft ≡ f .draft
   pub started : g .started ≡ true
   pub sealed : g .sealed ≡ true
 
@@ -175,15 +175,15 @@ unfolding plain
 closed-plain f s k (begins n) t = absurd (both s (t .turn))
 closed-plain f s k (changes c) t = absurd (both k (change-turn f c t .1))
 closed-plain f s k closes t = absurd (both k (building-turn f (t .turn) .1))
-closed-plain f s k (decides n v) t = record { job = refl; started = s; sealed = k }
-closed-plain f s k settles t = record { job = refl; started = s; sealed = refl }
-closed-plain f s k sifts t = record { job = refl; started = s; sealed = refl }
-closed-plain f s k (idles x) t = record { job = refl; started = s; sealed = k }
+closed-plain f s k (decides n v) t = record { draft = refl; started = s; sealed = k }
+closed-plain f s k settles t = record { draft = refl; started = s; sealed = refl }
+closed-plain f s k sifts t = record { draft = refl; started = s; sealed = refl }
+closed-plain f s k (idles x) t = record { draft = refl; started = s; sealed = k }
 
-pub job-stays : (f : File) (rs : List Record) → f .started ≡ true → f .sealed ≡ true → Passes f rs → plainlyAll f rs .job ≡ f .job
+pub draft-stays : (f : File) (rs : List Record) → f .started ≡ true → f .sealed ≡ true → Passes f rs → plainlyAll f rs .draft ≡ f .draft
 unfolding plainlyAll plainly Passes
-job-stays f [] s k p = refl
-job-stays f (r ∷ rs) s k p = let c = closed-plain f s k (action r) (taken f r (p .0)) in job-stays (plainly f r) rs (c .started) (c .sealed) (p .1) ∙ c .job
+draft-stays f [] s k p = refl
+draft-stays f (r ∷ rs) s k p = let c = closed-plain f s k (action r) (taken f r (p .0)) in draft-stays (plainly f r) rs (c .started) (c .sealed) (p .1) ∙ c .draft
 
 -- lists of records one behind the other
 pub plainly-append : (f : File) (rs qs : List Record) → plainlyAll f (rs ++ qs) ≡ plainlyAll (plainlyAll f rs) qs

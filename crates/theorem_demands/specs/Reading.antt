@@ -7,6 +7,7 @@ use mathlib.Core.Logic.{_↔_}
 use lib.ListN.{length, getD, drop}
 use lib.Dec.{eqb}
 use Rattle.numeric.specs.Layout.{Layout}
+use Rattle.numeric.specs.Area.{jobOf}
 use Rattle.state.specs.declared.Step.the-variants.{Unchanged}
 use Rattle.state.specs.State.{noState}
 use Rattle.words.specs.Mask.{bit}
@@ -147,7 +148,7 @@ decoded bytes = decodeFrom (length bytes) bytes []
 unfoldable pub plain : File → Action → File
 plain f (begins n) = act f (begins n)
 plain f (changes c) = act f (changes c)
-plain f closes = told f (f .job) Unchanged (f .live) (f .gcds) (f .answers)
+plain f closes = told f (jobOf (f .draft)) Unchanged (f .live) (f .gcds) (f .answers)
 plain f (decides n v) = f
 plain f settles = told f (f .closed) Unchanged (f .live) (f .gcds) (f .answers ++ (settled Unchanged ∷ []))
 plain f sifts = told f (f .closed) Unchanged (f .live) (f .gcds) (f .answers ++ (settled Unchanged ∷ []))

@@ -10,6 +10,7 @@ use mathlib.Core.Logic.{⊎-elim, _≢_, _↔_}
 use lib.ListN.{length, take, length-take}
 use lib.Dec.{ltb}
 use borrow.Author.Tests.{le-ltb}
+use Rattle.numeric.specs.Area.{jobOf}
 use Rattle.base.specs.TestLaws.{true-false, unequal}
 use Rattle.memory.specs.Buffers.{Work, fits}
 use Rattle.files.specs.File.{Outcome, outcome, fileOf, begun, after, planned, readFrom}
@@ -40,7 +41,7 @@ taken input = by (ltb 65536 (length input))
 pub good : (input : List ℕ) → Good (planned input .file)
 good input = subst Good (sym (taken input)) (good-before input (planned input .records) [] (sym (append-nil (planned input .records))))
 
-pub closed-job : (input : List ℕ) → planned input .file .sealed ≡ true → planned input .file .closed ≡ planned input .file .job
+pub closed-job : (input : List ℕ) → planned input .file .sealed ≡ true → planned input .file .closed ≡ jobOf (planned input .file .draft)
 closed-job input e = good input .same e
 
 pub ten-touches-nothing : (input : List ℕ) (w : Work) → whole input w .given .refused ≡ 10 → (whole input w .given .at ≡ 0) × (whole input w .work ≡ w)

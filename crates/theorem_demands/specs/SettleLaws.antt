@@ -9,6 +9,7 @@ use mathlib.Core.Logic.{⊎-elim}
 use lib.ListN.{length}
 use lib.Dec.{eqb}
 use borrow.Author.Tests.{ne-eqb}
+use Rattle.numeric.specs.Area.{jobOf}
 use Rattle.base.specs.TestLaws.{true-false}
 use Rattle.words.specs.Mask.{bit}
 use Rattle.thresholds.specs.Rows.{Row, rowsOf}
@@ -132,12 +133,12 @@ exactly f k h sure never end from = record {
 -- ---- THE CLAIMS
 
 pub seals : (input : List ℕ) (before later : List Record) → planned input .records ≡ before ++ (Seal ∷ later)
-    → let f = after begun before in contradicted (apply f Seal) ≡ true → ReachesConflict (rowsOf (f .job)) (decidedIn f)
+    → let f = after begun before in contradicted (apply f Seal) ≡ true → ReachesConflict (rowsOf (jobOf (f .draft))) (decidedIn f)
 unfolding apply act sealedFile
 seals input before later e c =
     let h = stood input before later Seal e in
     let v = after begun before .live in
-    reached (rowsOf (after begun before .job)) (bit (v .marks .sure)) (bit (v .marks .never)) (64 * length (v .marks .sure), λ m l. bit-behind (v .marks .sure) m l)
+    reached (rowsOf (jobOf (after begun before .draft))) (bit (v .marks .sure)) (bit (v .marks .never)) (64 * length (v .marks .sure), λ m l. bit-behind (v .marks .sure) m l)
     (seal-from (after begun before) (h .keeps) (taken (after begun before) Seal (h .accepted)) .1 c)
 
 pub marks : (input : List ℕ) (before later : List Record) (n v : ℕ) → planned input .records ≡ before ++ (Mark n v ∷ later)

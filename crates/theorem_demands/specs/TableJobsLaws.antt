@@ -5,17 +5,19 @@ use native.Mathlib.Nat.{le-refl}
 use native.Mathlib.Omega.{arith}
 use mathlib.Core.Path.{_≡_, refl, sym, ap, _∙_}
 use mathlib.Core.Bool.{Bool, false, not, _&&_}
-use mathlib.Core.List.{List, [], _∷_, _++_, List·Memᴰ, List·Memᴰ·cases-cons, List·Memᴰ·not-nil}
+use mathlib.Core.List.{List, [], _∷_, _++_, map, List·Memᴰ, List·Memᴰ·cases-cons, List·Memᴰ·not-nil}
 use mathlib.Core.Logic.{_⊎_, inl, inr}
 use lib.ListN.{length, getD}
 use lib.Dec.{eqb, leb}
 use borrow.Author.Tests.{leb-false, ne-eqb}
 use Rattle.base.specs.All.{All}
-use Rattle.numeric.specs.Threshold.{Term, Threshold, Job}
+use Rattle.numeric.specs.Threshold.{ThresholdOf, Threshold, Job}
+use Rattle.numeric.specs.Area.{Entry, weighedThreshold}
 use Rattle.row.specs.TermsLaws.{all-map}
 use Rattle.thresholds.specs.Rows.{noRow, rowsOf}
 use Rattle.files.specs.Drain.{indexOf}
-use Rattle.job.specs.Job.{lastNode, addTerm}
+use Rattle.job.specs.Job.{lastNode, onLast}
+use Rattle.job.specs.JobLaws.{every-on}
 use Rattle.theorem_ends.specs.BuiltLaws.{every-last, every-each, fits-node, fits-condition}
 use Rattle.theorem_ends.specs.Good.{Fits}
 use Rattle.theorem_table.specs.Table.{IsRow}
@@ -25,9 +27,9 @@ use Rattle.theorem_follows.specs.ToldLaws.{Single, rows-single}
 
 -- ---- nodes that rise
 
-abbrev pub Rises : List Threshold → Type 0
+abbrev pub Rises : {X : Type 0} → List (ThresholdOf X) → Type 0
 Rises [] = Unit {0}
-Rises (t ∷ ts) = All (λ (u : Threshold). t .node < u .node) ts × Rises ts
+Rises (t ∷ ts) = All (λ u. t .node < u .node) ts × Rises ts
 
 rises-unique : (ts : List Threshold) → Rises ts → (t u : Threshold) → List·Memᴰ t ts → List·Memᴰ u ts → t .node ≡ u .node → t ≡ u
 rises-unique [] h t u m n e = absurd (List·Memᴰ·not-nil m)
@@ -43,35 +45,39 @@ rises-unique (y ∷ ys) h t u m n e = by (λ a b. rises-unique ys (h .1) t u a b
     by ih (inr a) (inr b) = ih a b
 
 -- the last is the highest
-below-last : (t : Threshold) (ts : List Threshold) → Rises (t ∷ ts) → All (λ (u : Threshold). u .node ≤ lastNode (t ∷ ts)) (t ∷ ts)
-unfolding lastNode
-below-last t [] h = (le-refl (t .node), tt)
-below-last t (u ∷ us) h = let k = below-last u us (h .1) in (let a = h .0 .0 in let c = k .0 in omega arith, k)
+module _ {X : Type 0} where
+  below-last : (t : ThresholdOf X) (ts : List (ThresholdOf X)) → Rises (t ∷ ts) → All (λ (u : ThresholdOf X). u .node ≤ lastNode (t ∷ ts)) (t ∷ ts)
+  unfolding lastNode
+  below-last t [] h = (le-refl (t .node), tt)
+  below-last t (u ∷ us) h = let k = below-last u us (h .1) in (let a = h .0 .0 in let c = k .0 in omega arith, k)
 
-rises-last : (ts : List Threshold) (x : Threshold) → Rises ts → All (λ (u : Threshold). u .node < x .node) ts → Rises (ts ++ (x ∷ []))
-rises-last [] x h e = (tt, tt)
-rises-last (t ∷ ts) x h e = (every-last (λ (u : Threshold). t .node < u .node) ts x (h .0) (e .0), rises-last ts x (h .1) (e .1))
+  rises-last : (ts : List (ThresholdOf X)) (x : ThresholdOf X) → Rises ts → All (λ (u : ThresholdOf X). u .node < x .node) ts → Rises (ts ++ (x ∷ []))
+  rises-last [] x h e = (tt, tt)
+  rises-last (t ∷ ts) x h e = (every-last (λ (u : ThresholdOf X). t .node < u .node) ts x (h .0) (e .0), rises-last ts x (h .1) (e .1))
 
-pub rises-opens : (ts : List Threshold) (x : Threshold) → Rises ts → (not (eqb (length ts) 0) && leb (x .node) (lastNode ts)) ≡ false → Rises (ts ++ (x ∷ []))
-rises-opens [] x h e = (tt, tt)
-rises-opens (t ∷ ts) x h e =
-    let some = ne-eqb (length (t ∷ ts)) 0 (λ (z : suc (length ts) ≡ 0). omega arith) in
-    let k = leb-false (x .node) (lastNode (t ∷ ts)) (sym (ap (λ (b : Bool). not b && leb (x .node) (lastNode (t ∷ ts))) some) ∙ e) in
-    rises-last (t ∷ ts) x h
-    (all-map (λ (u : Threshold). u .node ≤ lastNode (t ∷ ts)) (λ (u : Threshold). u .node < x .node) (t ∷ ts) (λ u l. omega arith) (below-last t ts h))
+  pub rises-opens : (ts : List (ThresholdOf X)) (x : ThresholdOf X) → Rises ts → (not (eqb (length ts) 0) && leb (x .node) (lastNode ts)) ≡ false → Rises (ts ++ (x ∷ []))
+  rises-opens [] x h e = (tt, tt)
+  rises-opens (t ∷ ts) x h e =
+      let some = ne-eqb (length (t ∷ ts)) 0 (λ (z : suc (length ts) ≡ 0). omega arith) in
+      let k = leb-false (x .node) (lastNode (t ∷ ts)) (sym (ap (λ (b : Bool). not b && leb (x .node) (lastNode (t ∷ ts))) some) ∙ e) in
+      rises-last (t ∷ ts) x h
+      (all-map (λ (u : ThresholdOf X). u .node ≤ lastNode (t ∷ ts)) (λ (u : ThresholdOf X). u .node < x .node) (t ∷ ts) (λ u l. omega arith) (below-last t ts h))
 
--- a term leaves all nodes as they were
-every-term : (P : ℕ → Type 0) (x : Term) (ts : List Threshold) → All (λ (u : Threshold). P (u .node)) ts → All (λ (u : Threshold). P (u .node)) (addTerm x ts)
-unfolding addTerm
-every-term P x [] h = tt
-every-term P x (t ∷ []) h = (h .0, tt)
-every-term P x (t ∷ u ∷ us) h = (h .0, every-term P x (u ∷ us) (h .1))
+  -- another list leaves all nodes as they were
+  pub rises-on : (g : List X → List X) (ts : List (ThresholdOf X)) → Rises ts → Rises (onLast g ts)
+  unfolding onLast
+  rises-on g [] h = tt
+  rises-on g (t ∷ []) h = (tt, tt)
+  rises-on g (t ∷ u ∷ us) h = (every-on (λ (y : ThresholdOf X). t .node < y .node) g (u ∷ us) (h .0) (λ y e q. q), rises-on g (u ∷ us) (h .1))
 
-pub rises-term : (x : Term) (ts : List Threshold) → Rises ts → Rises (addTerm x ts)
-unfolding addTerm
-rises-term x [] h = tt
-rises-term x (t ∷ []) h = (tt, tt)
-rises-term x (t ∷ u ∷ us) h = (every-term (λ (n : ℕ). t .node < n) x (u ∷ us) (h .0), rises-term x (u ∷ us) (h .1))
+-- and so does weighing what was listed
+pub rises-weighed : (ds : List (ThresholdOf Entry)) → Rises ds → Rises (map weighedThreshold ds)
+rises-weighed [] h = tt
+rises-weighed (t ∷ ds) h = (above ds (h .0), rises-weighed ds (h .1))
+  where
+    above : (us : List (ThresholdOf Entry)) → All (λ (u : ThresholdOf Entry). t .node < u .node) us → All (λ (u : Threshold). t .node < u .node) (map weighedThreshold us)
+    above [] a = tt
+    above (u ∷ us) a = (a .0, above us (a .1))
 
 -- ---- what the invariant asks
 

@@ -4,10 +4,11 @@ use Prim.Native.Nat.{ℕ}
 use native.Mathlib.Omega.{arith}
 use mathlib.Core.Path.{_≡_, refl, sym, subst}
 use mathlib.Core.Bool.{Bool, true, false}
-use mathlib.Core.List.{List, [], _∷_}
+use mathlib.Core.List.{List, [], _∷_, _++_}
 use lib.ListN.{length}
 use lib.Dec.{eqb}
 use Rattle.numeric.specs.Threshold.{Job}
+use Rattle.numeric.specs.Area.{Draft, jobOf}
 use Rattle.thresholds.specs.Rows.{rowsOf}
 use Rattle.between.specs.Between.{Live}
 use Rattle.files.specs.Drain as Drain
@@ -17,12 +18,13 @@ use Rattle.records.specs.Facts.{Change, opens, adds, Action, begins, changes, c
 use Rattle.job.specs.Job.{changed}
 use Rattle.files.specs.File.{File, contradicted, begun, refusal, sealedFile, markedFile, settledFile, siftedFile, act, apply, after, Passed}
 use Rattle.theorem_ends.specs.BlankLaws.{blank-begun}
+use Rattle.theorem_ends.specs.BuiltLaws.{fits-of}
 use Rattle.theorem_ends.specs.FilesLaws.{good-begun, both, Taken, taken, building-turn, change-turn, serving-turn, node-small, good-apply}
 use Rattle.theorem_ends.specs.Good.{Good}
 use Rattle.theorem_table.specs.Table.{Table}
 use Rattle.theorem_follows.specs.DecideLaws.{Broken, decideAs}
 use Rattle.theorem_follows.specs.FirstLaws.{Undrained, undrained-from, undrained-none}
-use Rattle.theorem_demands.specs.TableJobsLaws.{Rises, rises-opens, rises-term, job-built, job-ordered, job-single}
+use Rattle.theorem_demands.specs.TableJobsLaws.{Rises, rises-opens, rises-on, rises-weighed, job-built, job-ordered, job-single}
 use Rattle.theorem_demands.specs.TableTurnsLaws.{Steady, settle-goes}
 use Rattle.theorem_demands.specs.TableSealsLaws.{ownStart, seal-goes}
 use Rattle.theorem_demands.specs.TableSiftsLaws.{mark-goes, steady-own, sift-keeps}
@@ -39,7 +41,7 @@ Breaks f s = contradicted f ≡ true → Broken (rowsOf (f .closed)) s
 
 pub record Keeps (f : File) : Type 0 where
   pub good : Good f
-  pub rises : Rises (f .job .thresholds)
+  pub rises : Rises (f .draft .thresholds)
   pub closed : Rises (f .closed .thresholds)
   pub undrained : f .sealed ≡ false → Undrained 0 (f .live)
   pub late : contradicted f ≡ true → f .sealed ≡ true
@@ -61,7 +63,8 @@ module _ (f : File) (k : Keeps f) where
   pub seal-from : Taken f (facts closes) → From (act f closes) (ownStart (f .live)) × Breaks (act f closes) (ownStart (f .live))
   unfolding act sealedFile
   seal-from t =
-      let a = seal-goes (f .job) (k .good .job) (k .rises) (f .live) (k .good .live) (undrained-from 0 (length (rowsOf (f .job))) (f .live) (omega arith) (k .undrained (building-turn f (t .turn) .1))) in
+      let j = jobOf (f .draft) in
+      let a = seal-goes j (fits-of (k .good .draft)) (rises-weighed (f .draft .thresholds) (k .rises)) (f .live) (k .good .live) (undrained-from 0 (length (rowsOf j)) (f .live) (omega arith) (k .undrained (building-turn f (t .turn) .1))) in
       (λ e c. a .0 c, a .1)
 
   -- A MARK
@@ -85,12 +88,12 @@ module _ (f : File) (k : Keeps f) where
   own-marked true n v w h = steady-own (indexOf (f .closed)) _ _ w h
   own-marked false n v w h = steady-own (indexOf (f .closed)) _ _ w h
 
-  rises-changed : (c : Change) → Taken f (facts (changes c)) → Rises (changed c (f .job .thresholds))
-  rises-changed (opens n b) t = rises-opens (f .job .thresholds) (record { node = n; bound = b; terms = [] }) (k .rises) (t .rising)
-  rises-changed (adds x) t = rises-term x (f .job .thresholds) (k .rises)
+  rises-changed : (c : Change) → Taken f (facts (changes c)) → Rises (changed c (f .draft .thresholds))
+  rises-changed (opens n b) t = rises-opens (f .draft .thresholds) (record { node = n; bound = b; terms = [] }) (k .rises) (t .rising)
+  rises-changed (adds x) t = rises-on (λ l. l ++ (x ∷ [])) (f .draft .thresholds) (k .rises)
 
   -- before the seal; behind it
-  early : (h : File) → Good h → Rises (h .job .thresholds) → h .closed ≡ f .closed → h .live ≡ f .live → h .sealed ≡ false → f .sealed ≡ false → contradicted h ≡ false → Keeps h
+  early : (h : File) → Good h → Rises (h .draft .thresholds) → h .closed ≡ f .closed → h .live ≡ f .live → h .sealed ≡ false → f .sealed ≡ false → contradicted h ≡ false → Keeps h
   early h g r j l e q c = record {
     good = g;
     rises = r;
@@ -100,10 +103,10 @@ module _ (f : File) (k : Keeps f) where
     steady = λ z. absurd (both z e);
   }
 
-  later : (h : File) → Good h → h .job ≡ f .job → Rises (h .closed .thresholds) → h .sealed ≡ true → From h (ownStart (h .live)) → Keeps h
+  later : (h : File) → Good h → h .draft ≡ f .draft → Rises (h .closed .thresholds) → h .sealed ≡ true → From h (ownStart (h .live)) → Keeps h
   later h g j r e from = record {
     good = g;
-    rises = subst (λ (y : Job). Rises (y .thresholds)) (sym j) (k .rises);
+    rises = subst (λ (y : Draft). Rises (y .thresholds)) (sym j) (k .rises);
     closed = r;
     undrained = λ z. absurd (both e z);
     late = λ z. e;
@@ -115,7 +118,7 @@ module _ (f : File) (k : Keeps f) where
   kept (begins n) t g = let q = k .good .unstarted (t .turn) in early (act f (begins n)) g tt refl refl q q (t .fine)
   kept (changes c) t g = let q = change-turn f c t .1 in early (act f (changes c)) g (rises-changed c t) refl refl q q (t .fine)
   kept closes t g =
-      later (act f closes) g refl (k .rises) refl (λ e c. steady-own (indexOf (f .job)) _ _ (act f closes .live) (seal-from t .0 e c))
+      later (act f closes) g refl (rises-weighed (f .draft .thresholds) (k .rises)) refl (λ e c. steady-own (indexOf (jobOf (f .draft))) _ _ (act f closes .live) (seal-from t .0 e c))
   kept (decides n v) t g =
       later (act f (decides n v)) g refl (k .closed) refl
       (λ e c. own-marked (eqb v 1) n (f .live) (act f (decides n v) .live) (mark-from n v (ownStart (f .live)) t (k .steady) .0 e c))

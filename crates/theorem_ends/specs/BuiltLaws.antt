@@ -4,14 +4,16 @@ use native.Mathlib.Nat.{not-suc-le-zero}
 use native.Mathlib.Omega.{arith}
 use mathlib.Core.Path.{_≡_, refl, sym, ap, _∙_, subst}
 use mathlib.Core.Bool.{Bool, true, false}
-use mathlib.Core.List.{List, [], _∷_, _++_, List·Memᴰ, List·Memᴰ·head, List·Memᴰ·tail, List·Memᴰ·cases-cons, List·Memᴰ·not-nil}
+use mathlib.Core.List.{List, [], _∷_, _++_, map, List·Memᴰ, List·Memᴰ·head, List·Memᴰ·tail, List·Memᴰ·cases-cons, List·Memᴰ·not-nil}
 use mathlib.Core.Logic.{⊎-elim}
-use lib.ListN.{length, getD, set, length-set, length-append}
+use lib.ListN.{length, getD, set, length-set, length-append, length-map}
 use lib.IntN.{ℤ}
 use lib.Dec.{eqb}
 use Rattle.base.specs.All.{All}
 use Rattle.memory.specs.Limits.{maxNodes, maxTerms, maxThresholds, listTerms}
-use Rattle.numeric.specs.Threshold.{Term, Threshold, Job}
+use Rattle.numeric.specs.Threshold.{Term, ThresholdOf, Threshold, Job}
+use Rattle.numeric.specs.Area.{Entry, conditionOf, joined, rounded, weighedThreshold, Draft, jobOf}
+use Rattle.numeric.specs.AreaLaws.{joined-long, weighed-conditions}
 use Rattle.state.specs.declared.State.{State}
 use Rattle.row.specs.Terms.{rowTerms, merged, sameTerms, total}
 use Rattle.row.specs.TermsLaws.{all-map, conditions-merged, all-sorted}
@@ -24,10 +26,11 @@ use Rattle.propagate.specs.Guards.{Node, Condition}
 use Rattle.between.specs.Between.{Index, Live, firstStates}
 use Rattle.files.specs.Drain.{indexOf, seal}
 use Rattle.files.specs.DrainLaws.{seal-keeps}
-use Rattle.job.specs.Job.{lastTerms, allTerms, addTerm}
+use Rattle.job.specs.Job.{lastList, allTerms, onLast, addTerm}
+use Rattle.job.specs.JobLaws.{all-more, length-on, every-on}
 use Rattle.job.specs.Taken.{withThreshold, withTerm}
 use Rattle.theorem_ends.specs.RoomsLaws.{set-bounded, first-bounded}
-use Rattle.theorem_ends.specs.Good.{AllBounded, Indexed, Sound, Fit, Fits}
+use Rattle.theorem_ends.specs.Good.{AllBounded, Indexed, Sound, FitBy, Fit, Fits, Drafted}
 use Rattle.theorem_ends.specs.TurnsLaws.{run-row}
 
 -- ---- lists
@@ -64,68 +67,70 @@ every-all : {X : Type 0} (P : X → Type 0) (xs : List X) → All P xs → All P
 every-all P [] a = tt
 every-all P (x ∷ xs) a = (a .0, every-all P xs (a .1))
 
--- ---- A JOB THAT GROWS within the limits: by a threshold, by a term of its last threshold
+-- ---- A DRAFT THAT GROWS within the limits: by a threshold, by an entry of its last threshold
 
-fit-term : (n : ℕ) (x : Term) (ts : List Threshold) → x .condition < n → lastTerms ts < listTerms → All (Fit n) ts → All (Fit n) (addTerm x ts)
-unfolding addTerm lastTerms
-fit-term n x [] h k a = tt
-fit-term n x (t ∷ []) h k a = (
-  record {
-    node = a .0 .node;
-    bound = a .0 .bound;
-    conditions = every-last (λ (u : Term). u .condition < n) (t .terms) x (a .0 .conditions) h;
-    short = omega (arith, length-append (t .terms) (x ∷ []));
-  },
-  tt,
-)
-fit-term n x (t ∷ u ∷ us) h k a = (a .0, fit-term n x (u ∷ us) h k (a .1))
-
-length-term : (x : Term) (ts : List Threshold) → length (addTerm x ts) ≡ length ts
-unfolding addTerm
-length-term x [] = refl
-length-term x (t ∷ []) = refl
-length-term x (t ∷ u ∷ us) = ap suc (length-term x (u ∷ us))
-
-all-term : (x : Term) (ts : List Threshold) → allTerms (addTerm x ts) ≤ allTerms ts + 1
-unfolding allTerms addTerm
+all-term : (x : Entry) (ts : List (ThresholdOf Entry)) → allTerms (addTerm x ts) ≤ allTerms ts + 1
+unfolding allTerms onLast
 all-term x [] = omega arith
 all-term x (t ∷ []) = omega (arith, length-append (t .terms) (x ∷ []))
 all-term x (t ∷ u ∷ us) = omega (arith, all-term x (u ∷ us))
 
-all-open : (t : Threshold) (ts : List Threshold) → t .terms ≡ [] → allTerms (ts ++ (t ∷ [])) ≡ allTerms ts
+pub drafted-none : (n : ℕ) → n ≤ maxNodes → Drafted (record { nodes = n; thresholds = [] })
 unfolding allTerms
-all-open t [] e = omega (arith, ap length e)
-all-open t (u ∷ ts) e = omega (arith, all-open t ts e)
+drafted-none n h = record { nodes = h; few = omega arith; terms = omega arith; each = tt }
 
+pub drafted-threshold : (d : Draft) → Drafted d → (n : ℕ) (b : ℤ) → n < d .nodes → Bound b → length (d .thresholds) < maxThresholds → Drafted (withThreshold d n b)
+drafted-threshold d f n b h k l =
+    let t : ThresholdOf Entry = record { node = n; bound = b; terms = [] } in
+    record {
+      nodes = f .nodes;
+      few = omega (arith, length-append (d .thresholds) (t ∷ []));
+      terms = omega (arith, all-more t (d .thresholds), f .terms);
+      each = every-last (FitBy (λ (e : Entry). conditionOf e) (d .nodes)) (d .thresholds) t (f .each) (record { node = h; bound = k; conditions = tt; short = omega arith });
+    }
+
+pub drafted-term : (d : Draft) → Drafted d → (x : Entry) → conditionOf x < d .nodes → length (lastList (d .thresholds)) < listTerms → allTerms (d .thresholds) < maxTerms → Drafted (withTerm d x)
+drafted-term d f x h k l = record {
+  nodes = f .nodes;
+  few = omega (arith, length-on (λ l. l ++ (x ∷ [])) (d .thresholds), f .few);
+  terms = omega (arith, all-term x (d .thresholds));
+  each = every-on (FitBy (λ (e : Entry). conditionOf e) (d .nodes)) (λ l. l ++ (x ∷ [])) (d .thresholds) (f .each) (λ t e q. record {
+    node = q .node;
+    bound = q .bound;
+    conditions = every-last (λ (e : Entry). conditionOf e < d .nodes) (t .terms) x (q .conditions) h;
+    short = omega (arith, length-append (t .terms) (x ∷ []), ap length e, k);
+  });
+}
+
+-- ITS JOB IS within them too: joining leaves no more entries, and no other conditions.
 pub fits-none : (n : ℕ) → n ≤ maxNodes → Fits (record { nodes = n; thresholds = [] })
 unfolding allTerms
 fits-none n h = record { nodes = h; few = omega arith; terms = omega arith; each = tt }
 
-pub fits-threshold : (j : Job) → Fits j → (n : ℕ) (b : ℤ) → n < j .nodes → Bound b → length (j .thresholds) < maxThresholds → Fits (withThreshold j n b)
-fits-threshold j f n b h k l =
-    let t : Threshold = record { node = n; bound = b; terms = [] } in
-    record {
-      nodes = f .nodes;
-      few = omega (arith, length-append (j .thresholds) (t ∷ []));
-      terms = omega (arith, all-open t (j .thresholds) refl, f .terms);
-      each = every-last (Fit (j .nodes)) (j .thresholds) t (f .each) (record { node = h; bound = k; conditions = tt; short = omega arith });
-    }
+weighed-few : (ts : List (ThresholdOf Entry)) → allTerms (map weighedThreshold ts) ≤ allTerms ts
+unfolding allTerms
+weighed-few [] = omega arith
+weighed-few (t ∷ ts) = omega (arith, weighed-few ts, length-map (joined (t .terms)) rounded, joined-long (t .terms))
 
-pub fits-term : (j : Job) → Fits j → (x : Term) → x .condition < j .nodes → lastTerms (j .thresholds) < listTerms → allTerms (j .thresholds) < maxTerms → Fits (withTerm j x)
-fits-term j f x h k l = record {
+weighed-each : (n : ℕ) (ts : List (ThresholdOf Entry)) → All (FitBy (λ (e : Entry). conditionOf e) n) ts → All (Fit n) (map weighedThreshold ts)
+weighed-each n [] a = tt
+weighed-each n (t ∷ ts) a = (
+  record {
+    node = a .0 .node;
+    bound = a .0 .bound;
+    conditions = weighed-conditions (λ (c : ℕ). c < n) (t .terms) (a .0 .conditions);
+    short = omega (arith, a .0 .short, length-map (joined (t .terms)) rounded, joined-long (t .terms));
+  },
+  weighed-each n ts (a .1),
+)
+
+pub fits-of : {d : Draft} → Drafted d → Fits (jobOf d)
+fits-of {d} f = record {
   nodes = f .nodes;
-  few = omega (arith, length-term x (j .thresholds), f .few);
-  terms = omega (arith, all-term x (j .thresholds));
-  each = fit-term (j .nodes) x (j .thresholds) h k (f .each);
+  few = omega (arith, length-map (d .thresholds) weighedThreshold, f .few);
+  terms = omega (arith, weighed-few (d .thresholds), f .terms);
+  each = weighed-each (d .nodes) (d .thresholds) (f .each);
 }
-
-pub light-term : (limit : ℕ) (x : Term) (ts : List Threshold) → x .weight < limit
-    → All (λ (t : Threshold). All (λ (u : Term). u .weight < limit) (t .terms)) ts
-    → All (λ (t : Threshold). All (λ (u : Term). u .weight < limit) (t .terms)) (addTerm x ts)
-unfolding addTerm
-light-term limit x [] h a = tt
-light-term limit x (t ∷ []) h a = (every-last (λ (u : Term). u .weight < limit) (t .terms) x (a .0) h, tt)
-light-term limit x (t ∷ u ∷ us) h a = (a .0, light-term limit x (u ∷ us) h (a .1))
 
 -- ---- WHAT EVERY ROW HAS: what a threshold's new row has, and what a row keeps that gets one more guard
 

@@ -29,13 +29,14 @@ use Rattle.records.specs.Record.{kindOf, bodyLength}
 use Rattle.records.specs.Facts.{building, within, serving, Facts, Change, opens, adds, Action, begins, changes, closes, decides, settles, sifts, idles, action, facts}
 use Rattle.records.specs.Checks.{noThreshold, wrongTurn}
 use Rattle.records.specs.CheckLaws.{Passes, passes}
-use Rattle.job.specs.Job.{changed, lastTerms, allTerms}
+use Rattle.numeric.specs.Area.{conditionOf, jobOf}
+use Rattle.job.specs.Job.{lastList, allTerms, withChange}
 use Rattle.files.specs.File.{File, contradicted, begun, standing, refusal, sealedFile, markedFile, settledFile, siftedFile, act, apply, Outcome, outcome, recordAt, unknownKind, cutBody, refusalAt, readFrom, fileOf, planned, after, Passed}
 use Rattle.files.specs.FileLaws.{checked, after-snoc}
 use Rattle.theorem_ends.specs.RoomsLaws.{none-bounded}
-use Rattle.theorem_ends.specs.Good.{Bounded, Sound, Fits, Good}
+use Rattle.theorem_ends.specs.Good.{Bounded, Sound, Fits, Drafted, Good}
 use Rattle.theorem_ends.specs.SettlesLaws.{settle-stays, settle-ends, sift-sound, sift-ends as sift-rests}
-use Rattle.theorem_ends.specs.BuiltLaws.{fits-none, fits-threshold, fits-term, indexed, seal-sound}
+use Rattle.theorem_ends.specs.BuiltLaws.{drafted-none, drafted-threshold, drafted-term, fits-none, fits-of, indexed, seal-sound}
 use Rattle.theorem_ends.specs.BlankLaws.{same-at}
 
 pub both : {b : Bool} → b ≡ true → b ≡ false → ⊥
@@ -44,7 +45,7 @@ both h k = unequal cc
 pub good-begun : Good begun
 unfolding begun
 good-begun = record {
-  job = fits-none 0 (omega arith);
+  draft = drafted-none 0 (omega arith);
   closed = fits-none 0 (omega arith);
   live = record {
     long = length-replicate {A = State} maxThresholds noState;
@@ -111,32 +112,32 @@ bound-of b h = record {
 -- ---- EVERY RECORD KEEPS A FILE GOOD
 
 module _ (f : File) (g : Good f) where
-  pub node-small : (c : ℕ) → leb (f .job .nodes) c ≡ false → c < maxNodes
-  node-small c h = let k = leb-false (f .job .nodes) c h in omega (arith, g .job .nodes)
+  pub node-small : (c : ℕ) → leb (f .draft .nodes) c ≡ false → c < maxNodes
+  node-small c h = let k = leb-false (f .draft .nodes) c h in omega (arith, g .draft .nodes)
 
   -- what a seal, a mark, a settle or a sift leaves of the rest
-  closed-good : (h : File) → f .sealed ≡ true → h .started ≡ f .started → h .sealed ≡ true → h .job ≡ f .job → h .closed ≡ f .closed → Sound (h .live) → Good h
+  closed-good : (h : File) → f .sealed ≡ true → h .started ≡ f .started → h .sealed ≡ true → h .draft ≡ f .draft → h .closed ≡ f .closed → Sound (h .live) → Good h
   closed-good h e s k j c v = record {
-    job = subst Fits (sym j) (g .job);
+    draft = subst Drafted (sym j) (g .draft);
     closed = subst Fits (sym c) (g .closed);
     live = v;
     unstarted = λ q. absurd (both e (g .unstarted (sym s ∙ q)));
-    same = λ q. c ∙ g .same e ∙ sym j;
+    same = λ q. c ∙ g .same e ∙ ap jobOf (sym j);
   }
 
-  changed-fits : (c : Change) → Taken f (facts (changes c)) → Fits (record { nodes = f .job .nodes; thresholds = changed c (f .job .thresholds) })
-  changed-fits (opens n b) t =
-      fits-threshold (f .job) (g .job) n b (leb-false (f .job .nodes) n (t .nodes)) (bound-of b (t .bounds)) (leb-false maxThresholds (length (f .job .thresholds)) (t .room))
-  changed-fits (adds x) t =
-      let ts = f .job .thresholds in
-      fits-term (f .job) (g .job) x (leb-false (f .job .nodes) (x .condition) (t .nodes))
-      (leb-false listTerms (lastTerms ts) (or-left (leb listTerms (lastTerms ts)) (leb maxTerms (allTerms ts)) (t .room)))
-      (leb-false maxTerms (allTerms ts) (or-right (leb listTerms (lastTerms ts)) (leb maxTerms (allTerms ts)) (t .room)))
+  changed-drafted : (c : Change) → Taken f (facts (changes c)) → Drafted (withChange (f .draft) c)
+  changed-drafted (opens n b) t =
+      drafted-threshold (f .draft) (g .draft) n b (leb-false (f .draft .nodes) n (t .nodes)) (bound-of b (t .bounds)) (leb-false maxThresholds (length (f .draft .thresholds)) (t .room))
+  changed-drafted (adds x) t =
+      let ts = f .draft .thresholds in
+      drafted-term (f .draft) (g .draft) x (leb-false (f .draft .nodes) (conditionOf x) (t .nodes))
+      (leb-false listTerms (length (lastList ts)) (or-left (leb listTerms (length (lastList ts))) (leb maxTerms (allTerms ts)) (t .room)))
+      (leb-false maxTerms (allTerms ts) (or-right (leb listTerms (length (lastList ts))) (leb maxTerms (allTerms ts)) (t .room)))
 
   kept : (a : Action) → Taken f (facts a) → Good (act f a)
   unfolding act sealedFile markedFile settledFile siftedFile Drain.mark
   kept (begins n) t = record {
-    job = fits-none n (ltb-false maxNodes n (t .room));
+    draft = drafted-none n (ltb-false maxNodes n (t .room));
     closed = g .closed;
     live = g .live;
     unstarted = λ e. g .unstarted (t .turn);
@@ -144,11 +145,11 @@ module _ (f : File) (g : Good f) where
   }
   kept (changes c) t =
       let e = change-turn f c t in
-      record { job = changed-fits c t; closed = g .closed; live = g .live; unstarted = λ q. e .1; same = λ q. absurd (both q (e .1)) }
+      record { draft = changed-drafted c t; closed = g .closed; live = g .live; unstarted = λ q. e .1; same = λ q. absurd (both q (e .1)) }
   kept closes t = record {
-    job = g .job;
-    closed = g .job;
-    live = seal-sound (f .job) (g .job) (f .live) (g .live);
+    draft = g .draft;
+    closed = fits-of (g .draft);
+    live = seal-sound (jobOf (f .draft)) (fits-of (g .draft)) (f .live) (g .live);
     unstarted = λ q. absurd (both (building-turn f (t .turn) .0) q);
     same = λ q. refl;
   }

@@ -11,6 +11,7 @@ use borrow.Author.Tests.{leb-false}
 use Rattle.memory.specs.Ranges.{rawLimit}
 use Rattle.memory.specs.Buffers.{Built}
 use Rattle.numeric.specs.Threshold.{Job}
+use Rattle.numeric.specs.Area.{jobOf}
 use Rattle.files.specs.Drain as Drain
 use Rattle.files.specs.Drain.{indexOf}
 use Rattle.files.specs.Sift as Sift
@@ -19,6 +20,7 @@ use Rattle.records.specs.declared.Record.the-variants.{Seal}
 use Rattle.records.specs.Facts.{Action, begins, changes, closes, decides, settles, sifts, idles, action, facts}
 use Rattle.files.specs.File.{File, begun, refusal, sealedFile, markedFile, settledFile, siftedFile, act, apply, after, Passed}
 use Rattle.prepare.specs.JobBuffers.{builtOf}
+use Rattle.theorem_ends.specs.BuiltLaws.{fits-of}
 use Rattle.theorem_ends.specs.Good.{Fits, Light, Good}
 use Rattle.theorem_ends.specs.FilesLaws.{good-begun, both, Taken, taken, building-turn, change-turn, good-apply, good-after}
 use Rattle.settle.specs.Serves.{Serves, Going, Fresh}
@@ -37,7 +39,7 @@ module _ (j : Job) (fits : Fits j) (light : Light rawLimit j) (w : Built) (p : L
   serves = served-built j fits light w p .serves
 
   -- BEHIND THE SEAL
-  pub serving-seal : (f : File) → Good f → f .job ≡ j → Fresh b (f .live) → refusal f Seal ≡ 0 → Serving j w (apply f Seal)
+  pub serving-seal : (f : File) → Good f → jobOf (f .draft) ≡ j → Fresh b (f .live) → refusal f Seal ≡ 0 → Serving j w (apply f Seal)
   unfolding apply act sealedFile
   serving-seal f g e v h = record {
     good = good-apply f g Seal h;
@@ -49,7 +51,7 @@ module _ (j : Job) (fits : Fits j) (light : Light rawLimit j) (w : Built) (p : L
 
   -- BEHIND EACH RECORD THAT IS TAKEN
   module _ (f : File) (s : Serving j w f) where
-    there : (n : ℕ) → n < f .job .nodes → n < length (b .nodes)
+    there : (n : ℕ) → n < f .draft .nodes → n < length (b .nodes)
     there n h = omega (arith, served-built j fits light w p .many, ap (λ (i : Job). i .nodes) (sym (s .good .same (s .sealed)) ∙ s .closed))
 
     kept : (a : Action) → Taken f (facts a) → Good (act f a) → Serving j w (act f a)
@@ -58,12 +60,12 @@ module _ (j : Job) (fits : Fits j) (light : Light rawLimit j) (w : Built) (p : L
     kept (changes c) t g = absurd (both (s .sealed) (change-turn f c t .1))
     kept closes t g = absurd (both (s .sealed) (building-turn f (t .turn) .1))
     kept (decides n v) t g =
-        let h = leb-false (f .job .nodes) n (t .nodes) in
+        let h = leb-false (f .draft .nodes) n (t .nodes) in
         record {
           good = g;
           sealed = refl;
           closed = s .closed;
-          going = going-mark b (f .live) (eqb v 1) n (omega (arith, s .good .job .nodes)) (there n h) (s .going);
+          going = going-mark b (f .live) (eqb v 1) n (omega (arith, s .good .draft .nodes)) (there n h) (s .going);
         }
     kept settles t g = record {
       good = g;
@@ -111,10 +113,10 @@ unsealed-after f [] u = u
 unsealed-after f (r ∷ rs) u = unsealed-after (act f (action r)) rs (unsealed-act f u (action r))
 
 -- A WHOLE FILE: records up to a seal that is taken, whose job has light weights, and any records taken behind it.
-pub file-serves : (rs more : List Record) → let f = after begun rs in (p : Passed begun rs) → refusal f Seal ≡ 0 → (light : Light rawLimit (f .job)) (w : Built) (q : Lendable w)
-    → Passed (apply f Seal) more → Serving (f .job) w (after (apply f Seal) more)
+pub file-serves : (rs more : List Record) → let f = after begun rs in (p : Passed begun rs) → refusal f Seal ≡ 0 → (light : Light rawLimit (jobOf (f .draft))) (w : Built) (q : Lendable w)
+    → Passed (apply f Seal) more → Serving (jobOf (f .draft)) w (after (apply f Seal) more)
 file-serves rs more p h light w q m =
     let f = after begun rs in
     let g = good-after begun rs good-begun p in
-    let fresh = unsealed-after begun rs (λ e. fresh-begun) (building-turn f (taken f Seal h .turn) .1) (lentOf (f .job) (builtOf (f .job) w)) in
-    serving-after (f .job) (g .job) light w q (apply f Seal) more (serving-seal (f .job) (g .job) light w q f g refl fresh h) m
+    let fresh = unsealed-after begun rs (λ e. fresh-begun) (building-turn f (taken f Seal h .turn) .1) (lentOf (jobOf (f .draft)) (builtOf (jobOf (f .draft)) w)) in
+    serving-after (jobOf (f .draft)) (fits-of (g .draft)) light w q (apply f Seal) more (serving-seal (jobOf (f .draft)) (fits-of (g .draft)) light w q f g refl fresh h) m

@@ -1,198 +1,20 @@
--- `files::read_job` meets its contract: every record that is taken keeps the invariant.
-use mathlib.Core.Path.{_≡_, refl, _∙_}
-use Prim.Native.Nat.{_-_}
-use native.Mathlib.Omega.{arith}
-use lib.ListN.{length}
-use Rattle.memory.specs.Buffers.{rawLists, raw}
-use Rattle.files.specs.Held.{Going}
-use Rattle.files.specs.HeldLaws.{going-begun, going-unsealed, going-ends, going-stops, going-farther, going-on, goes}
+-- `files::read_job` meets its contract: nothing is noted before the first record.
+use Rattle.files.specs.NotedLaws.{zeros-unnoted}
 use borrow.Author.Needs.{needs}
 use Rattle.files.proofs.read_job.Statement.{statement}
 use Rattle.files.proofs.read_job.Tie as tie
 
-abbrev Inv-loop : tie.InvT-loop
-Inv-loop input raw-conditions₀ raw-weights₀ thresholds₀ bounds₀ read₀ raw-conditions raw-weights thresholds bounds read =
-    Going input (raw (rawLists raw-conditions₀ raw-weights₀ thresholds₀) bounds₀) read raw-conditions raw-weights thresholds bounds × (length raw-conditions ≡ length raw-conditions₀)
-    × (length raw-weights ≡ length raw-weights₀) × (length thresholds ≡ length thresholds₀) × (length bounds ≡ length bounds₀)
+-- The way back to the start.
+abbrev start-of : tie.After-sums → tie.Start
+start-of p = p .before .before .before .before .before .before .before .before .before
 
-abbrev μ-loop : tie.MeasureT-loop
-μ-loop input raw-conditions₀ raw-weights₀ thresholds₀ bounds₀ read₀ raw-conditions raw-weights thresholds bounds read = length input - read .at
-
--- Ways back to earlier places: to the read that was just made, and to the test that there is more to read.
-
-abbrev term-of : tie.After-thresholds Inv-loop μ-loop → tie.After-read-term Inv-loop μ-loop
-term-of p = p .before .before .before .before .before
-
-abbrev test-of-term : tie.After-read-term Inv-loop μ-loop → tie.Then1 Inv-loop μ-loop
-test-of-term p = p .before .before .before .before .before .before .before
-
-abbrev test-of-arg : tie.After-read-record-arg4 Inv-loop μ-loop → tie.Then1 Inv-loop μ-loop
-test-of-arg p = p .before .before .before .before .before .before .before .before
-
-abbrev record-of : tie.Then3 Inv-loop μ-loop → tie.After-read-record Inv-loop μ-loop
-record-of p = p .before .before .before .before .before .before .before .before .before
-
-abbrev record-of-left : tie.Else3 Inv-loop μ-loop → tie.After-read-record Inv-loop μ-loop
-record-of-left p = p .before .before .before .before .before .before .before .before .before
-
-abbrev test-of-record : tie.After-read-record Inv-loop μ-loop → tie.Then1 Inv-loop μ-loop
-test-of-record p = p .before .before .before .before .before .before .before .before .before
-
-loop-holds : tie.Need-loop-holds Inv-loop μ-loop
-loop-holds c =
-    let g = c .before .before .before .args in
-    (going-begun (g .input .now) (g .raw-conditions .now) (g .raw-weights .now) (g .thresholds .now) (g .bounds .now) (c .before .before .before .pre), refl, refl, refl, refl)
-
-term-comes-requires : tie.Need-term-comes-requires Inv-loop μ-loop
-term-comes-requires c κs = c .before .if1 .taken
-
-read-term-requires : tie.Need-read-term-requires Inv-loop μ-loop
-read-term-requires c κs =
-    let at-if = c .before .before .before in
-    let v = at-if .before .before .before .before .before .loop in
-    (at-if .before .term-comes .ensures (at-if .if2 .taken), v .inv .0 .held .gathered .listed, v .inv .0 .held .gathered .termed)
-
-loop-less : tie.Need-loop-less Inv-loop μ-loop
-loop-less c =
-    let at-read = term-of c in
-    let at-test = test-of-term at-read in
-    let at-loop = at-test .before .before in
-    let s = at-loop .before .before .before .before in
-    let g = s .args in
-    let v = at-loop .loop in
-    let w = raw (rawLists (g .raw-conditions .now) (g .raw-weights .now) (g .thresholds .now)) (g .bounds .now) in
-    let n = at-read .read-term in
-    let p = n .ensures .0 (v .bounds) .part (v .inv .0 .file) w (s .pre) (v .inv .0 .held) in
-    let e = goes (n .result) (n .ensures .1) (n .ensures .2) in
-    omega (arith, at-test .if1 .taken, going-farther (g .input .now) w (v .read) (v .raw-conditions) (v .raw-weights) (v .thresholds) (v .bounds) (v .inv .0) (at-test .if1 .taken) (n .result) _ _ _ _ p e)
-
-loop-again : tie.Need-loop-again Inv-loop μ-loop
-loop-again c =
-    let at-read = term-of c in
-    let at-test = test-of-term at-read in
-    let at-loop = at-test .before .before in
-    let s = at-loop .before .before .before .before in
-    let g = s .args in
-    let v = at-loop .loop in
-    let w = raw (rawLists (g .raw-conditions .now) (g .raw-weights .now) (g .thresholds .now)) (g .bounds .now) in
-    let n = at-read .read-term in
-    let p = n .ensures .0 (v .bounds) .part (v .inv .0 .file) w (s .pre) (v .inv .0 .held) in
-    let e = goes (n .result) (n .ensures .1) (n .ensures .2) in (
-      going-on (g .input .now) w (v .read) (v .raw-conditions) (v .raw-weights) (v .thresholds) (v .bounds) (v .inv .0) (at-test .if1 .taken) (n .result) _ _ _ _ p e,
-      n .kept .1 .1 .1 .0 ∙ v .inv .1,
-      n .kept .1 .1 .1 .1 .0 ∙ v .inv .2,
-      n .kept .1 .1 .1 .1 .1 .0 ∙ v .inv .3,
-      v .inv .4,
-    )
-
-read-record-requires : tie.Need-read-record-requires Inv-loop μ-loop
-read-record-requires c κs =
-    let at-test = test-of-arg c in
-    let at-loop = at-test .before .before in
-    let s = at-loop .before .before .before .before in
-    let g = s .args in
-    let v = at-loop .loop in
-    let w = raw (rawLists (g .raw-conditions .now) (g .raw-weights .now) (g .thresholds .now)) (g .bounds .now) in
-    (at-test .if1 .taken, going-unsealed (g .input .now) w (v .read) (v .raw-conditions) (v .raw-weights) (v .thresholds) (v .bounds) (v .inv .0), v .inv .0 .held .gathered)
-
-same-length : tie.Need-same-length Inv-loop μ-loop
-same-length c = let at-read = record-of c in at-read .read-record .kept .1 .1 .1 .0 ∙ test-of-record at-read .before .before .loop .inv .1
-
-same-length-2 : tie.Need-same-length-2 Inv-loop μ-loop
-same-length-2 c = let at-read = record-of c in at-read .read-record .kept .1 .1 .1 .1 .0 ∙ test-of-record at-read .before .before .loop .inv .2
-
-same-length-3 : tie.Need-same-length-3 Inv-loop μ-loop
-same-length-3 c = let at-read = record-of c in at-read .read-record .kept .1 .1 .1 .1 .1 .0 ∙ test-of-record at-read .before .before .loop .inv .3
-
-same-length-4 : tie.Need-same-length-4 Inv-loop μ-loop
-same-length-4 c = let at-read = record-of c in at-read .read-record .kept .1 .1 .1 .1 .1 .1 .0 ∙ test-of-record at-read .before .before .loop .inv .4
-
-returns : tie.Need-returns Inv-loop μ-loop
-returns c =
-    let at-read = record-of c in
-    let at-test = test-of-record at-read in
-    let at-loop = at-test .before .before in
-    let s = at-loop .before .before .before .before in
-    let g = s .args in
-    let v = at-loop .loop in
-    let w = raw (rawLists (g .raw-conditions .now) (g .raw-weights .now) (g .thresholds .now)) (g .bounds .now) in
-    let n = at-read .read-record in
-    let p = n .ensures .part (v .inv .0 .file) w (s .pre) (v .inv .0 .held) in
-    going-stops (g .input .now) w (v .read) (v .raw-conditions) (v .raw-weights) (v .thresholds) (v .bounds) (v .inv .0) (at-test .if1 .taken) (n .result) _ _ _ _ p (c .if3 .taken)
-
-loop-less-2 : tie.Need-loop-less-2 Inv-loop μ-loop
-loop-less-2 c =
-    let at-read = record-of-left c in
-    let at-test = test-of-record at-read in
-    let at-loop = at-test .before .before in
-    let s = at-loop .before .before .before .before in
-    let g = s .args in
-    let v = at-loop .loop in
-    let w = raw (rawLists (g .raw-conditions .now) (g .raw-weights .now) (g .thresholds .now)) (g .bounds .now) in
-    let n = at-read .read-record in
-    let p = n .ensures .part (v .inv .0 .file) w (s .pre) (v .inv .0 .held) in
-    omega (arith, at-test .if1 .taken, going-farther (g .input .now) w (v .read) (v .raw-conditions) (v .raw-weights) (v .thresholds) (v .bounds) (v .inv .0) (at-test .if1 .taken) (n .result) _ _ _ _ p (c .if3 .left))
-
-loop-again-2 : tie.Need-loop-again-2 Inv-loop μ-loop
-loop-again-2 c =
-    let at-read = record-of-left c in
-    let at-test = test-of-record at-read in
-    let at-loop = at-test .before .before in
-    let s = at-loop .before .before .before .before in
-    let g = s .args in
-    let v = at-loop .loop in
-    let w = raw (rawLists (g .raw-conditions .now) (g .raw-weights .now) (g .thresholds .now)) (g .bounds .now) in
-    let n = at-read .read-record in
-    let p = n .ensures .part (v .inv .0 .file) w (s .pre) (v .inv .0 .held) in (
-      going-on (g .input .now) w (v .read) (v .raw-conditions) (v .raw-weights) (v .thresholds) (v .bounds) (v .inv .0) (at-test .if1 .taken) (n .result) _ _ _ _ p (c .if3 .left),
-      n .kept .1 .1 .1 .0 ∙ v .inv .1,
-      n .kept .1 .1 .1 .1 .0 ∙ v .inv .2,
-      n .kept .1 .1 .1 .1 .1 .0 ∙ v .inv .3,
-      n .kept .1 .1 .1 .1 .1 .1 .0 ∙ v .inv .4,
-    )
-
-same-length-5 : tie.Need-same-length-5 Inv-loop μ-loop
-same-length-5 c = search needs
-
-same-length-6 : tie.Need-same-length-6 Inv-loop μ-loop
-same-length-6 c = search needs
-
-same-length-7 : tie.Need-same-length-7 Inv-loop μ-loop
-same-length-7 c = search needs
-
-same-length-8 : tie.Need-same-length-8 Inv-loop μ-loop
-same-length-8 c = search needs
-
-returns-2 : tie.Need-returns-2 Inv-loop μ-loop
-returns-2 c =
-    let at-loop = c .before .before in
-    let s = at-loop .before .before .before .before in
-    let g = s .args in
-    let v = at-loop .loop in
-    let w = raw (rawLists (g .raw-conditions .now) (g .raw-weights .now) (g .thresholds .now)) (g .bounds .now) in
-    going-ends (g .input .now) w (v .read) (v .raw-conditions) (v .raw-weights) (v .thresholds) (v .bounds) (v .inv .0) (c .if1 .left)
+read-records-requires : tie.Need-read-records-requires
+read-records-requires c κs = (start-of c .pre, zeros-unnoted)
 
 pub read-job-spec : {M : Type 1} → statement M
 read-job-spec =
     tie.close
     (tie.spec
-    Inv-loop
-    μ-loop
-    loop-holds
-    term-comes-requires
-    read-term-requires
-    loop-less
-    loop-again
-    read-record-requires
-    same-length
-    same-length-2
-    same-length-3
-    same-length-4
-    returns
-    loop-less-2
-    loop-again-2
-    same-length-5
-    same-length-6
-    same-length-7
-    same-length-8
-    returns-2)
+    (λ c. search needs) (λ c. search needs)
+    read-records-requires
+    (λ c. search needs) (λ c. search needs) (λ c. search needs) (λ c. search needs) (λ c. search needs))

@@ -1,7 +1,7 @@
 -- `job::add_term` meets its contract: the term is the last of the open threshold.
 use mathlib.Core.Path.{sym, subst}
 use mathlib.Core.List.{List}
-use Prim.Native.Nat.{ℕ}
+use Prim.Native.Nat.{ℕ, _+_}
 use native.Mathlib.Omega.{arith}
 use lib.ListN.{set}
 use Rattle.job.specs.Taken.{addedTo}
@@ -36,14 +36,24 @@ add-t9 c =
     let g = s .args in
     record { fits = omega (arith, counts-left (g .standing) (g .condition) (g .weight) (g .raw-conditions .now) (g .raw-weights .now) (g .thresholds .now) (s .pre .0) (s .pre .1) (s .pre .3) .0) }
 
+-- The way back to the start.
+abbrev start-of : tie.After-struct-known2 → tie.Start
+start-of p = p .before .before .before .before .before .before .before
+
+add-t15 : tie.Need-add-t15
+add-t15 c =
+    let s = start-of c in
+    let g = s .args in
+    record { fits = omega (arith, counts-left (g .standing) (g .condition) (g .weight) (g .raw-conditions .now) (g .raw-weights .now) (g .thresholds .now) (s .pre .0) (s .pre .1) (s .pre .3) .1) }
+
 returns : tie.Need-returns
 returns c =
-    let s = c .before .before .before .before .before .before in
+    let s = start-of c in
     let g = s .args in
-    let at = g .standing .terms in
+    let at = g .standing .«raw_terms» in
     subst
-    (λ (l : List (List ℕ)). Added (g .standing) (g .condition) (g .weight) (g .raw-conditions .now) (g .raw-weights .now) (g .thresholds .now) (addedTo (g .standing)) (set (g .raw-conditions .now) at (g .condition)) (set (g .raw-weights .now) at (g .weight)) l)
-    (sym (c .before .before .set-end .ensures)) (added (g .standing) (g .condition) (g .weight) (g .raw-conditions .now) (g .raw-weights .now) (g .thresholds .now) (s .pre .0) (s .pre .1) (s .pre .3) (s .pre .2))
+    (λ (l : List (List ℕ)). Added (g .standing) (g .condition) (g .weight) (g .raw-conditions .now) (g .raw-weights .now) (g .thresholds .now) (addedTo (g .standing) (at + 1)) (set (g .raw-conditions .now) at (g .condition)) (set (g .raw-weights .now) at (g .weight)) l)
+    (sym (c .before .before .before .set-end .ensures)) (added (g .standing) (g .condition) (g .weight) (g .raw-conditions .now) (g .raw-weights .now) (g .thresholds .now) (s .pre .0) (s .pre .1) (s .pre .3) (s .pre .2))
 
 pub add-term-spec : {M : Type 1} → statement M
 add-term-spec =
@@ -56,5 +66,6 @@ add-term-spec =
     sub-set-end
     (λ c. search needs) (λ c κs. search needs)
     add-t9
+    add-t15
     (λ c. search needs) (λ c. search needs) (λ c. search needs) (λ c. search needs)
     returns)

@@ -25,7 +25,7 @@ returns c =
     let same : toZ w64 (ofZ w64 (g .bound)) ≡ g .bound = search needs in
     let at = g .standing .thresholds in
     subst
-    (λ (z : ℤ). Opened (g .standing) (g .node) (g .bound) (g .thresholds .now) (g .bounds .now) (openedBy (g .standing) (g .node)) (set (g .thresholds .now) at (g .node ∷ g .standing .terms ∷ [])) (set (g .bounds .now) at z))
+    (λ (z : ℤ). Opened (g .standing) (g .node) (g .bound) (g .thresholds .now) (g .bounds .now) (openedBy (g .standing) (g .node)) (set (g .thresholds .now) at (g .node ∷ g .standing .«raw_terms» ∷ [])) (set (g .bounds .now) at z))
     (sym same) (opened (g .standing) (g .node) (g .bound) (g .thresholds .now) (g .bounds .now) (c .pre .0) (c .pre .1) (c .pre .2))
 
 pub open-threshold-spec : {M : Type 1} → statement M

@@ -21,6 +21,7 @@ returns c =
       «last_node» = s .«last_node»;
       «last_terms» = s .«last_terms»;
       terms = s .terms;
+      «raw_terms» = s .«raw_terms»;
       answers = n;
     } in
     y) (c .contradicts .ensures)

@@ -19,6 +19,7 @@ pub fn list() -> Named {
     orders_at_limits(&mut all);
     limits(&mut all);
     queues(&mut all);
+    slivers(&mut all);
     all
 }
 
@@ -160,4 +161,65 @@ fn queues(all: &mut Named) {
         &format!("{} mark 3 1; mark 1026 0; settle; sift", chain([5, 5, 5])),
     );
     add(all, "limit row queue 1,024 waiting", &format!("{} {sure} settle", chain([5, 4, 3])));
+}
+
+/// Areas of one condition up to the limits, which count each of them.
+fn slivers(all: &mut Named) {
+    let areas = |condition: usize, area: u32, count: usize| -> String {
+        format!("area {condition} {area};").repeat(count)
+    };
+    let most = u32::MAX;
+    let full = format!("header 3; threshold 2 43980465101; {}", areas(0, most, 1_024));
+    let thresholds = |counts: &[usize]| -> String {
+        let counts = counts.iter().enumerate();
+        counts
+            .map(|(node, &count)| format!("threshold {node} 5;") + &areas(node, 1, count))
+            .collect()
+    };
+    let four = format!("header 6; {}", thresholds(&[1_024; 4]));
+    // The last threshold is not full when the file is.
+    let five = format!("header 6; {}", thresholds(&[1_024, 1_024, 1_024, 512, 512]));
+    let each_in_four = |node: usize| -> String {
+        let turn: String = (4..260).map(|tile| format!("area {tile} 30;")).collect();
+        format!("threshold {node} {};", 250 + 2 * node) + &turn.repeat(4)
+    };
+    let tiles: String = (0..4).map(each_in_four).collect();
+    let different: String = (1..1_025).map(|tile| format!("area {tile} 149;")).collect();
+    let small = |node: usize| format!("threshold {node} 1;") + &areas(node, 30, 4);
+    let small: String = (0..1_024).map(small).collect();
+    each(
+        all,
+        &[
+            (
+                "100 areas weigh 2^32 - 1",
+                format!("header 4; threshold 2 4294967295; {}", areas(0, most, 100))
+                    + "threshold 3 1; term 0 4294967295; seal; mark 2 1; settle",
+            ),
+            (
+                "101 areas weigh more than 2^32",
+                format!("header 3; threshold 2 4337916968; {}", areas(0, most, 100))
+                    + "term 1 1; area 0 4294967295; seal; mark 2 1; settle; mark 1 0; settle",
+            ),
+            ("limit areas of one 1,024 joined", format!("{full} seal; mark 2 1; settle")),
+            ("limit areas of one 1,025 passed, joined", format!("{full} area 0 1; seal")),
+            ("limit areas of one 1,025 passed by another", format!("{full} area 1 1; seal")),
+            ("limit areas of one 1,025 passed by a term", format!("{full} term 0 1; seal")),
+            ("limit areas 4,096 joined", format!("{four} threshold 4 0; seal; mark 0 1; settle")),
+            ("limit areas 4,097 passed", format!("{four} threshold 4 0; area 3 1; seal")),
+            ("limit areas 4,097 passed, joined", format!("{five} area 4 1; seal")),
+            ("limit areas 4,097 passed by a term", format!("{five} term 4 1; seal")),
+            (
+                "1,024 areas, each tile in 4 slivers",
+                format!("header 260; {tiles} seal; mark 2 1; mark 4 0; mark 5 0; settle"),
+            ),
+            (
+                "1,024 areas of different tiles",
+                format!("header 1025; threshold 0 1024; {different} seal; mark 0 1; settle"),
+            ),
+            (
+                "1,024 thresholds of 4 slivers",
+                format!("header 1024; {small} seal; mark 0 1; settle; mark 1 0; sift"),
+            ),
+        ],
+    );
 }

@@ -11,18 +11,20 @@ use std::process::ExitCode;
 use random::Random;
 
 const HELP: &str = "\
-usage: generate SEED COUNT [--small | --medium | --large | --sums | --damaged | --limits]
+usage: generate SEED COUNT [--small | --medium | --large | --sums | --damaged | --limits] [--whole]
        generate --fixed      the fixed list: every refusal, order, answer and limit
        generate --names      the names of the fixed list, a line each
 Without a kind the files are of all kinds in turn. `--small` stays below 150
-bytes, 8 nodes, 4 thresholds of 5 terms.
+bytes, 8 nodes, 4 thresholds of 5 terms. One list in three has most of its terms
+as areas in slivers, `--whole` leaves this out.
 ";
 
 const KINDS: [&str; 6] = ["--small", "--medium", "--large", "--sums", "--damaged", "--limits"];
 
 fn main() -> ExitCode {
     let args: Vec<String> = std::env::args().skip(1).collect();
-    let args: Vec<&str> = args.iter().map(String::as_str).collect();
+    let mut args: Vec<&str> = args.iter().map(String::as_str).collect();
+    let slivers = args.pop_if(|last| *last == "--whole").is_none();
     match args[..] {
         ["--fixed"] => frames(fixed::list().into_iter().map(|(_, file)| file)),
         ["--names"] => fixed::list().iter().for_each(|(name, _)| println!("{name}")),
@@ -36,7 +38,8 @@ fn main() -> ExitCode {
             }
             // Each file has a seed of its own, so that one can be made again alone.
             frames((0..count).map(|place| {
-                let mut random = Random::new(seed.wrapping_mul(1_000_003).wrapping_add(place));
+                let seed = seed.wrapping_mul(1_000_003).wrapping_add(place);
+                let mut random = Random::new(seed, slivers);
                 file(&mut random, kind.unwrap_or(KINDS[place as usize % KINDS.len()]))
             }));
         }

@@ -3,12 +3,16 @@
 use crate::records::File;
 
 /// Xorshift with a multiplier at the end.
-pub struct Random(u64);
+pub struct Random {
+    state: u64,
+    /// Whether lists may be written in slivers.
+    slivers: bool,
+}
 
 impl Random {
-    pub fn new(seed: u64) -> Self {
-        let mut random = Self(seed.wrapping_mul(0x9e37_79b9_7f4a_7c15) ^ 0x5851_f42d_4c95_7f2d);
-        random.0 |= 1;
+    pub fn new(seed: u64, slivers: bool) -> Self {
+        let state = seed.wrapping_mul(0x9e37_79b9_7f4a_7c15) ^ 0x5851_f42d_4c95_7f2d;
+        let mut random = Self { state: state | 1, slivers };
         for _ in 0..8 {
             random.next();
         }
@@ -16,10 +20,10 @@ impl Random {
     }
 
     pub fn next(&mut self) -> u64 {
-        self.0 ^= self.0 >> 12;
-        self.0 ^= self.0 << 25;
-        self.0 ^= self.0 >> 27;
-        self.0.wrapping_mul(0x2545_f491_4f6c_dd1d) >> 11
+        self.state ^= self.state >> 12;
+        self.state ^= self.state << 25;
+        self.state ^= self.state >> 27;
+        self.state.wrapping_mul(0x2545_f491_4f6c_dd1d) >> 11
     }
 
     /// From 0 to below `end`.
@@ -38,6 +42,11 @@ impl Random {
 
     pub fn pick<T: Copy>(&mut self, list: &[T]) -> T {
         list[self.below(list.len())]
+    }
+
+    /// A source of its own for one threshold; this one does not move.
+    fn apart(&self, node: usize) -> Self {
+        Self::new(self.state.wrapping_add(node as u64), self.slivers)
     }
 }
 
@@ -177,8 +186,8 @@ fn job(random: &mut Random, file: &mut File, shape: Shape) -> (usize, Vec<Thresh
         }
         let near = lists.last().filter(|last| **last == list).and(thresholds.last());
         let bound = bound(random, &list, near.map(|threshold| threshold.bound));
-        write_threshold(random, file, node, bound, &list);
-        terms += list.len();
+        let spare = shape.all_terms - terms - list.len();
+        terms += list.len() + write_threshold(random, file, node, bound, &list, spare);
         lists.push(list.clone());
         thresholds.push(Threshold { node, bound, list });
         node += if random.chance(4) { 1 + random.below(3) } else { 1 };
@@ -186,8 +195,20 @@ fn job(random: &mut Random, file: &mut File, shape: Shape) -> (usize, Vec<Thresh
     (nodes, thresholds)
 }
 
-fn write_threshold(random: &mut Random, file: &mut File, node: usize, bound: i64, list: &List) {
+/// A threshold with terms and areas; how many slivers it has beyond one for each term of the list, at most `spare`.
+fn write_threshold(
+    random: &mut Random,
+    file: &mut File,
+    node: usize,
+    bound: i64,
+    list: &List,
+    spare: usize,
+) -> usize {
     file.threshold(node, bound);
+    if let Some((slivers, more)) = in_slivers(random.apart(node), list, spare) {
+        file.0.extend(slivers);
+        return more;
+    }
     let areas = random.chance(6);
     for &(condition, weight) in list {
         if areas && weight < 42_949_000 && random.chance(2) {
@@ -197,6 +218,66 @@ fn write_threshold(random: &mut Random, file: &mut File, node: usize, bound: i64
             file.term(condition, weight);
         }
     }
+    0
+}
+
+/// A threshold with the terms of a list, or sometimes with slivers in their place.
+fn write_terms(random: &Random, file: &mut File, node: usize, bound: i64, list: &List) {
+    file.threshold(node, bound);
+    match in_slivers(random.apart(node), list, list.len()) {
+        Some((slivers, _)) => file.0.extend(slivers),
+        None => list.iter().for_each(|&(condition, weight)| file.term(condition, weight)),
+    }
+}
+
+/// One time in three a list as records, most of its terms as areas in slivers; and how many records more than terms. The
+/// first sliver stands in the term's place and the others anywhere behind it, so that a list without repeated conditions
+/// joins to what it was; but now and then a part of the weight is left a term.
+fn in_slivers(mut random: Random, list: &List, spare: usize) -> Option<(Vec<u8>, usize)> {
+    if !random.slivers || !random.chance(3) {
+        return None;
+    }
+    let mut spare = spare.min(1_024 - list.len());
+    let before = spare;
+    let mut places = vec![File::default(); list.len()];
+    for (place, &(condition, weight)) in list.iter().enumerate() {
+        let behind = |random: &mut Random| place + random.below(list.len() - place);
+        let term =
+            if spare > 0 && random.chance(8) { random.below(weight as usize + 1) } else { 0 };
+        let edge = random.range(-50, 49);
+        let rest = (i64::from(weight) - term as i64) * 100;
+        let sum = (rest + random.pick(&[-50, -1, 0, 49, edge, edge])).max(0);
+        let fewest = (sum / i64::from(u32::MAX)) as usize + usize::from(term > 0);
+        // What takes many slivers is seldom cut.
+        let whole = if fewest > 8 { !random.chance(20) } else { random.chance(5) };
+        if fewest > spare || whole {
+            places[place].term(condition, weight);
+            continue;
+        }
+        let more = fewest + random.below((spare - fewest).min(3) + 1);
+        spare -= more;
+        if term > 0 {
+            places[behind(&mut random)].term(condition, term as u32);
+        }
+        let slivers = cut(&mut random, sum, more + 1 - usize::from(term > 0));
+        for (turn, sliver) in slivers.into_iter().enumerate() {
+            let at = if turn == 0 { place } else { behind(&mut random) };
+            places[at].area(condition, sliver);
+        }
+    }
+    Some((places.into_iter().flat_map(|records| records.0).collect(), before - spare))
+}
+
+/// A sum in parts, as even as they must be to fit their fields.
+fn cut(random: &mut Random, sum: i64, parts: usize) -> Vec<u32> {
+    let even = sum > i64::from(u32::MAX);
+    let mut ends: Vec<i64> = (1..parts as i64)
+        .map(|part| if even { sum * part / parts as i64 } else { random.range(0, sum) })
+        .collect();
+    ends.push(sum);
+    ends.sort_unstable();
+    let mut from = 0;
+    ends.iter().map(|&end| (end - std::mem::replace(&mut from, end)) as u32).collect()
 }
 
 /// Two thresholds over one list, one marked sure and one never, give a window.
@@ -284,7 +365,7 @@ fn windows(random: &mut Random) -> Vec<u8> {
         let list: List = weights.enumerate().map(|(at, one)| ((first + at) % nodes, one)).collect();
         let low = (random.range(1, count as i64) * middle + random.range(-2, 3)).max(1);
         for (side, bound) in [low, low + random.range(1, 1 + middle / 2)].into_iter().enumerate() {
-            write_threshold(random, &mut file, nodes + 2 * row + side, bound, &list);
+            write_threshold(random, &mut file, nodes + 2 * row + side, bound, &list, list.len());
         }
     }
     file.seal();
@@ -353,10 +434,7 @@ pub fn sums(random: &mut Random, most: usize) -> Vec<u8> {
     };
     let high = low + if factors { random.range(1, 2) } else { random.range(1, 3 + middle / 3) };
     for (node, bound) in [(count, low), (count + 1, high)] {
-        file.threshold(node, bound);
-        for &(condition, weight) in &list {
-            file.term(condition, weight);
-        }
+        write_terms(random, &mut file, node, bound, &list);
     }
     file.seal();
     for _ in 0..random.below(4) {
@@ -395,8 +473,7 @@ fn two_rows(random: &mut Random) -> Vec<u8> {
     let turned = random.chance(2);
     for (place, list) in [terms, long].iter().enumerate() {
         let bound = if (place == 0) != turned { low } else { high };
-        file.threshold(4 + place, bound);
-        list.iter().for_each(|&(condition, weight)| file.term(condition, weight));
+        write_terms(random, &mut file, 4 + place, bound, list);
     }
     file.seal();
     if random.chance(3) {
@@ -504,7 +581,7 @@ fn damage(random: &mut Random, file: &mut Vec<u8>) {
 /// Files that come near a limit, meet it or pass it.
 pub fn limits(random: &mut Random) -> Vec<u8> {
     let mut file = File::default();
-    match random.below(8) {
+    match random.below(8 + usize::from(random.slivers)) {
         0 => many_thresholds(random, &mut file),
         1 => long_thresholds(random, &mut file),
         2 => many_answers(random, &mut file),
@@ -512,7 +589,8 @@ pub fn limits(random: &mut Random) -> Vec<u8> {
         4 => many_nodes(random, &mut file),
         5 => far_bounds(random, &mut file),
         6 => wide_search(random, &mut file),
-        _ => equal_chain(random, &mut file),
+        7 => equal_chain(random, &mut file),
+        _ => many_slivers(random, &mut file),
     }
     if random.chance(6) {
         damage(random, &mut file.0);
@@ -557,6 +635,34 @@ fn long_thresholds(random: &mut Random, file: &mut File) {
     }
     file.seal();
     file.mark(0, u8::from(random.chance(2)));
+    file.sift();
+}
+
+/// Thresholds of about 1,024 areas, of few conditions or of many, with a term now and then.
+fn many_slivers(random: &mut Random, file: &mut File) {
+    let nodes = random.pick(&[6, 7, 40, 300, 4_096]);
+    file.header(nodes);
+    let most = random.pick(&[30, 149, 5_000, u32::MAX]);
+    let tiles = random.pick(&[1, 2, nodes]);
+    let terms = random.pick(&[9, 200, 2_000]);
+    let count = random.range(1, 5) as usize;
+    for node in 0..count {
+        let full = random.pick(&[1_022, 1_023, 1_024, 1_024, 1_024, 1_024, 1_024, 1_025]);
+        let bound = random.range(0, 1 + i64::from(most) * 5);
+        file.threshold(node, bound);
+        for _ in 0..if node < 4 { full } else { random.below(3) } {
+            let (tile, area) =
+                (random.below(tiles), most - random.below(1 + most as usize / 3) as u32);
+            if random.chance(terms) {
+                file.term(tile, area);
+            } else {
+                file.area(tile, area);
+            }
+        }
+    }
+    file.seal();
+    file.mark(0, u8::from(random.chance(2)));
+    file.mark(random.below(nodes), u8::from(random.chance(2)));
     file.sift();
 }
 

@@ -1,13 +1,13 @@
--- `records::term_comes` meets its contract: kind, body, then the number that would refuse it.
+-- `records::entry_comes` meets its contract: kind, body, then the number that would refuse it.
 use borrow.Author.Tests.{eqb-true}
 use Rattle.base.specs.TestLaws.{unequal}
-use Rattle.records.specs.CheckLaws.{term-next}
+use Rattle.records.specs.CheckLaws.{either-kind, entry-next}
 use borrow.Author.Needs.{needs}
-use Rattle.records.proofs.term_comes.Statement.{statement}
-use Rattle.records.proofs.term_comes.Tie as tie
+use Rattle.records.proofs.entry_comes.Statement.{statement}
+use Rattle.records.proofs.entry_comes.Tie as tie
 
-shared-slice-read-if1 : tie.Need-shared-slice-read-if1
-shared-slice-read-if1 c = search needs
+shared-slice-read-kind : tie.Need-shared-slice-read-kind
+shared-slice-read-kind c = search needs
 
 returns : tie.Need-returns
 returns c e = absurd (unequal cc)
@@ -29,18 +29,19 @@ term-refusal-requires c κs = search needs
 
 returns-3 : tie.Need-returns-3
 returns-3 c e =
-    let s = c .before .before .before .before .before .before in
+    let at-kind = c .before .before .before in
+    let s = at-kind .before .before .before in
     let a = s .args in
     let u = c .before .u16-at in
     let n = c .term-refusal in
-    term-next (a .standing) (a .input .now) (a .at) (c .before .before .before .if1 .left) (s .pre) (c .before .before .if2 .left) (u .result) (n .result) (u .ensures) (n .ensures)
+    entry-next (a .standing) (a .input .now) (a .at) (either-kind _ (at-kind .if1 .left)) (s .pre) (c .before .before .if2 .left) (u .result) (n .result) (u .ensures) (n .ensures)
     (eqb-true (n .result) 0 e)
 
-pub term-comes-spec : {M : Type 1} → statement M
-term-comes-spec =
+pub entry-comes-spec : {M : Type 1} → statement M
+entry-comes-spec =
     tie.close
     (tie.spec
-    shared-slice-read-if1
+    shared-slice-read-kind
     returns
     sub-if2
     returns-2
