@@ -9,5 +9,6 @@ pub mod ColumnsLaws
 pub mod TallyLaws
 pub mod IndexLaws
 pub mod All
+pub mod AllLaws
 pub mod SignedLaws
 pub mod Signed

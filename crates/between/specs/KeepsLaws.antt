@@ -11,6 +11,7 @@ use lib.ListN.{length, getD, take, drop, List·getD-eq-default}
 use lib.IntN.{pos, _-ℤ_}
 use lib.Signed.{leZ, ltZ}
 use Rattle.base.specs.All.{All}
+use Rattle.base.specs.AllLaws.{all-each}
 use Rattle.memory.specs.Limits.{maxNodes}
 use Rattle.numeric.specs.Threshold.{Term, Threshold}
 use Rattle.state.specs.declared.Step.the-variants.{Unchanged, Contradiction}
@@ -24,14 +25,14 @@ use Rattle.propagate.specs.ScanLaws.{all-drop, all-take, all-reverse, scan-keep
 use Rattle.propagate.specs.Row.{Ran, ran, sureWaits, decides, sureGuards, neverWaits, neverGuards, thresholdGuards, termWaits, forces, forced, trueTerms, falseTerms, thresholdRow}
 use Rattle.between.specs.Between.{Index, Live, stateAt, runRow, runWith, thresholdGuard, thresholdCondition, thresholdPrefixes}
 use Rattle.between.specs.RunsLaws.{guardsRun, trueRun, run-ends}
-use Rattle.between.specs.WalkLaws.{Moves, all-member, keep-guard, keep-condition, keep-prefixes}
+use Rattle.between.specs.WalkLaws.{Moves, keep-guard, keep-condition, keep-prefixes}
 use Rattle.between.specs.Ready.{Names}
 
 abbrev pub Small : ℕ → Type 0
 Small n = n < maxNodes
 
 pub names-all : (Ok : ℕ → Type 0) (row : Row) → All (λ (g : Guard). Ok (g .node)) (row .guards) → All (λ (t : Term). Ok (t .condition)) (row .terms) → Names Ok row
-names-all Ok row gs ts = record { guards = all-member (λ (g : Guard). Ok (g .node)) (row .guards) gs; terms = all-member (λ (t : Term). Ok (t .condition)) (row .terms) ts }
+names-all Ok row gs ts = record { guards = all-each (λ (g : Guard). Ok (g .node)) (row .guards) gs; terms = all-each (λ (t : Term). Ok (t .condition)) (row .terms) ts }
 
 pub member-all : {X : Type 0} (P : X → Type 0) (xs : List X) → ((a : X) → List·Memᴰ a xs → P a) → All P xs
 member-all P [] f = Prim.tt

@@ -8,6 +8,7 @@ use lib.Dec.{eqb}
 use lib.ListN.{length, set}
 use lib.Signed.{mag}
 use Rattle.base.specs.All.{All}
+use Rattle.base.specs.AllLaws.{all-each}
 use Rattle.memory.specs.Buffers.{HeldRows}
 use Rattle.numeric.specs.Threshold.{Threshold}
 use Rattle.state.specs.declared.State.{State}
@@ -26,7 +27,7 @@ use Rattle.between.specs.HeldLaws.{run-held}
 use Rattle.between.specs.Ready.{Fit, Runnable}
 use Rattle.between.specs.ReadyLaws.{ready-more, ready-set, ready-run, ready-by, fit-drained, fit-guard, fit-prefix}
 use Rattle.between.specs.LoopLaws.{edgeRun, condition-walk}
-use Rattle.between.specs.WalkLaws.{walks, guardRow, guardTold, guard-ends, all-member, prefix-keeps}
+use Rattle.between.specs.WalkLaws.{walks, guardRow, guardTold, guard-ends, prefix-keeps}
 
 pub runnable-by : (h : HeldRows) (n : ℕ) (c d : Did) → c ≡ d → Runnable h n (d .live) → Runnable h n (c .live)
 runnable-by h n c d e a = rw e a
@@ -66,7 +67,7 @@ module _ (x : Index) (h : HeldRows) (z : Holds x h) (y : Shaped h) where
 
       one : (e : Edge) → List·Memᴰ e es → (k : ℕ) (u : Live) → Runnable h k u → Runnable h (k + drainLimit) (edgeRun x value e u .live)
       one e m k u b =
-          let i = all-member (Light h) es l e m in
+          let i = all-each (Light h) es l e m in
           let s = drained value (e .weight) (stateAt u (e .row)) in
           let f = fit-drained h k (e .row) (stateAt u (e .row)) value (e .weight) (i .weight) (b .ready .fit (e .row) (i .row)) in
           kept-run (k + drainLimit) (withState u (e .row) s) (e .row) (i .row) (kept-store (k + drainLimit) u (e .row) s f (runnable-more h k (k + drainLimit) u (omega arith) b))
@@ -100,6 +101,6 @@ module _ (x : Index) (h : HeldRows) (z : Holds x h) (y : Shaped h) where
   kept-row-prefixes n v row k l a =
       prefix-keeps x (Runnable h n) row (stateAt v row) (neighbours row (x .links))
       (λ r u m e b.
-      let i = all-member (λ (q : ℕ). q < length (h .rows)) (neighbours row (x .links)) l r m in
+      let i = all-each (λ (q : ℕ). q < length (h .rows)) (neighbours row (x .links)) l r m in
       let f = fit-prefix h n r (stateAt v row) (stateAt u r) (termCount x row) (termCount x r) (a .ready .fit row k .lower) (a .ready .fit row k .upper) (b .ready .fit r i) in
       kept-told n u r _ (queueRow (u .dirty) r) i f (flags-queue (u .dirty) (b .dirty) r (omega (arith, y .few))) b) v a

@@ -9,7 +9,6 @@ use mathlib.Core.Logic.{⊎-elim, _≢_}
 use lib.Dec.{eqb}
 use lib.ListN.{length}
 use borrow.Author.Tests.{eqb-true, eqb-false}
-use Rattle.base.specs.All.{All}
 use Rattle.state.specs.StepLaws.{joined-fine, contradiction-is}
 use Rattle.numeric.specs.Threshold.{Threshold}
 use Rattle.state.specs.declared.Step.{Step}
@@ -150,14 +149,6 @@ module _ (x : Index) (P : ℕ → Live → Type 0) (G : Did → Type 0)
   seed-walks v p = seed-from (x .rows) 0 v Unchanged (omega arith) refl p
 
 -- ---- WHAT EVERY MOVE KEEPS the walks keep, whatever they answer
-
-pub all-member : {X : Type 0} (P : X → Type 0) (xs : List X) → All P xs → (a : X) → List·Memᴰ a xs → P a
-all-member P [] h a m = absurd (List·Memᴰ·not-nil m)
-all-member P (y ∷ ys) h a m = ⊎-elim (λ (e : a ≡ y). subst P (sym e) (h .0)) (all-member P ys (h .1) a) (List·Memᴰ·cases-cons m)
-
-pub every-member : {X : Type 0} (P : X → Type 0) (xs : List X) → All P xs → (a : X) → List·Memᴰ a xs → P a
-every-member P [] h a m = absurd (List·Memᴰ·not-nil m)
-every-member P (y ∷ ys) h a m = ⊎-elim (λ (e : a ≡ y). subst P (sym e) (h .0)) (every-member P ys (h .1) a) (List·Memᴰ·cases-cons m)
 
 module _ (x : Index) (Q : Live → Type 0) where
   pub condition-keeps : (value : Bool) (es : List Edge) → ((e : Edge) (v : Live) → List·Memᴰ e es → Q v → Q (edgeRun x value e v .live)) → (v : Live) → Q v → Q (conditionFrom x value es v .live)

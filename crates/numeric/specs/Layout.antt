@@ -1,7 +1,7 @@
 -- What is right: a weighted row as the OPB format of the Pseudo-Boolean Competition means it, and the layouts of a job.
 use Prim.Native.Nat.{ℕ}
 use mathlib.Core.Path.{_≡_}
-use mathlib.Core.Bool.{Bool, true, false, cond}
+use mathlib.Core.Bool.{Bool, cond}
 use mathlib.Core.List.{List, [], _∷_, map, List·Memᴰ}
 use lib.IntN.{ℤ, pos, _+ℤ_}
 use lib.Signed.{leZ}
@@ -36,6 +36,10 @@ weighted t = record { coefficient = pos (t .weight); variable = t .condition }
 abbrev pub constraint : Threshold → Constraint
 constraint t = record { sum = map weighted (t .terms); degree = t .bound }
 
--- A layout of the job: each threshold's node is true exactly if its sum reaches its bound.
+-- What a threshold asks of its node: true exactly if its sum reaches its bound.
+abbrev pub asked : Layout → Threshold → Bool
+asked v t = satisfied v (constraint t)
+
+-- A layout of the job: each threshold's node has the value that is asked of it.
 abbrev pub IsLayout : Job → Layout → Type 0
-IsLayout j v = (t : Threshold) → List·Memᴰ t (j .thresholds) → v (t .node) ≡ satisfied v (constraint t)
+IsLayout j v = (t : Threshold) → List·Memᴰ t (j .thresholds) → v (t .node) ≡ asked v t

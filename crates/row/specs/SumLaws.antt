@@ -6,8 +6,7 @@ use native.Mathlib.Omega.{arith}
 use mathlib.Core.Path.{_≡_, refl, sym, ap, ap₂, _∙_}
 use mathlib.Core.Logic.{_≢_, inl, inr}
 use mathlib.Core.Bool.{Bool, true, false, cond}
-use mathlib.Core.List.{List, [], _∷_, map}
-use lib.IntN.{ℤ, pos, _+ℤ_}
+use mathlib.Core.List.{List, [], _∷_}
 use lib.Dec.{eqb}
 use lib.ListN.{length}
 use borrow.Author.Tests.{eqb-true, eq-eqb, ne-eqb}
@@ -15,14 +14,9 @@ use Rattle.base.specs.All.{All}
 use Rattle.memory.specs.Limits.{listTerms}
 use Rattle.memory.specs.Ranges.{rawLimit, weightLimit}
 use Rattle.numeric.specs.Threshold.{Term, term}
-use Rattle.numeric.specs.Layout.{value, weighted}
+use Rattle.numeric.specs.LayoutLaws.{sumOf}
 use Rattle.row.specs.Terms.{before, merge, merged, insert, sorted, rowTerms, total}
 use Rattle.row.specs.TermsLaws.{Distinct, Positive, Ordered, either, before-true, Before}
-
--- The sum of the weights whose condition a layout makes true.
-unfoldable pub sumOf : (ℕ → Bool) → List Term → ℕ
-sumOf v [] = 0
-sumOf v (t ∷ ts) = cond (v (t .condition)) (t .weight) 0 + sumOf v ts
 
 -- What a term adds.
 abbrev pub share : (ℕ → Bool) → Term → ℕ
@@ -72,16 +66,6 @@ sum-sorted v (t ∷ ts) = omega (arith, sum-insert v t (sorted ts), sum-sorted v
 -- THE ROW COUNTS WHAT ITS RAW LIST COUNTS, UNDER EVERY LAYOUT
 pub row-sum : (v : ℕ → Bool) (raw : List Term) → sumOf v (rowTerms raw) ≡ sumOf v raw
 row-sum v raw = sum-sorted v (merged raw) ∙ sum-merged v raw
-
--- and that is the value of its line in OPB
-pub value-sum : (v : ℕ → Bool) (ts : List Term) → value v (map weighted ts) ≡ pos (sumOf v ts)
-unfolding value sumOf
-value-sum v [] = refl
-value-sum v (t ∷ ts) = ap (λ (z : ℤ). cond (v (t .condition)) (pos (t .weight)) (pos 0) +ℤ z) (value-sum v ts) ∙ by (v (t .condition))
-  where
-    by : (x : Bool) → cond x (pos (t .weight)) (pos 0) +ℤ pos (sumOf v ts) ≡ pos (cond x (t .weight) 0 + sumOf v ts)
-    by true = refl
-    by false = refl
 
 pub total-sum : (ts : List Term) → total ts ≡ sumOf (λ (c : ℕ). true) ts
 unfolding total sumOf

@@ -10,6 +10,7 @@ use lib.ListN.{length, getD, set}
 use lib.Seq.{getD-set-same, getD-set-other}
 use lib.IntN.{ℤ}
 use Rattle.base.specs.All.{All}
+use Rattle.base.specs.AllLaws.{all-each}
 use Rattle.memory.specs.Buffers.{HeldRows}
 use Rattle.state.specs.declared.State.{State}
 use Rattle.queues.specs.Queue.{Rows, oldest, queueRow, nextRow}
@@ -24,7 +25,7 @@ use Rattle.propagate.specs.Row.{wantsResidual}
 use Rattle.between.specs.Between.{Index, Live, Did, stateAt, residualQueued, runWith, runRow, guardOf, thresholdCondition, thresholdPrefixes}
 use Rattle.between.specs.Held.{GuardsShaped, LinksShaped, HoldsGuards, HoldsLinks}
 use Rattle.between.specs.GuardLaws.{guard-held}
-use Rattle.between.specs.WalkLaws.{Moves, all-member, keep-guard, keep-condition, keep-prefixes}
+use Rattle.between.specs.WalkLaws.{Moves, keep-guard, keep-condition, keep-prefixes}
 use Rattle.between.specs.KeptLaws.{Light}
 use Rattle.between.specs.KeptHeldLaws.{links-inside}
 use Rattle.theorem_follows.specs.WaitingLaws.{queued-decide}
@@ -44,10 +45,10 @@ module _ (x : Index) (h : HeldRows) (Q : Live → Type 0) (m : Moves x (Inside h
   keep-guard-of nodes bounds y z n k v q = guard-held x h nodes bounds y z n k v (λ (d : Did). Q (d .live)) q (λ t r c. keep-guard x (Inside h) Q m v t r q)
 
   pub keep-edges : (v : Live) (n : ℕ) → All (Light h) (edgesOf (x .rows) n) → Q v → Q (thresholdCondition x v n .live)
-  keep-edges v n l q = keep-condition x (Inside h) Q m v n (λ e i. all-member (Light h) (edgesOf (x .rows) n) l e i .row) q
+  keep-edges v n l q = keep-condition x (Inside h) Q m v n (λ e i. all-each (Light h) (edgesOf (x .rows) n) l e i .row) q
 
   pub keep-links : (links : List ℕ) → LinksShaped h links → HoldsLinks x h links → (r : ℕ) → r < length (h .rows) → (v : Live) → Q v → Q (thresholdPrefixes x v r .live)
-  keep-links links y z r k v q = keep-prefixes x (Inside h) Q m v r (all-member (Inside h) (neighbours r (x .links)) (links-inside x h links y z r k)) q
+  keep-links links y z r k v q = keep-prefixes x (Inside h) Q m v r (all-each (Inside h) (neighbours r (x .links)) (links-inside x h links y z r k)) q
 
 -- ---- rows that wait
 

@@ -1,15 +1,18 @@
--- The cases P1 to P12 of document 01 and those of joined areas (document 02, section 1), rows of tables under one theorem each, proved by computing
--- the definitions.
+-- The cases P1 to P12 of document 01 and those of joined areas and of unmarked jobs (document 02, sections 1 and 2), rows of tables under one theorem
+-- each, proved by computing the definitions.
 use Prim.Native.Nat.{ℕ, zero, suc, _+_, _-_, _/_, _%_, _^_, _≤_}
 use Prim.Native.String.{String}
 use native.Mathlib.Omega.{arith}
-use mathlib.Core.Path.{_≡_, refl, subst⁻¹}
+use mathlib.Core.Path.{_≡_, refl}
 use mathlib.Core.Bool.{Bool, true, false, cond}
-use mathlib.Core.List.{List, [], _∷_, _++_, List·Memᴰ, List·Memᴰ·cases-cons, List·Memᴰ·not-nil}
-use mathlib.Core.Logic.{⊎-elim}
+use mathlib.Core.List.{List, [], _∷_, _++_, List·Memᴰ}
 use lib.IntN.{ℤ, pos, negsuc}
+use Rattle.base.specs.All.{All}
+use Rattle.base.specs.AllLaws.{all-each}
 use Rattle.numeric.specs.Area.{area, weighed}
 use Rattle.numeric.specs.Area as Area
+use Rattle.numeric.specs.Layout as Layout
+use Rattle.numeric.specs.Least as Least
 use Rattle.numeric.specs.Threshold.{Term, term}
 use Rattle.state.specs.declared.Step.{Step}
 use Rattle.state.specs.declared.Step.the-variants.{Unchanged, Changed, Contradiction}
@@ -80,6 +83,7 @@ pub data Case : Type 0 where
   takes : (file : List Record) (answers : List File.Answer) (contradicted : Bool) → Case
   forces : (file : List Record) (node : ℕ) → Case
   drains : (file : List Record) (waiting : ℕ) → Case
+  exhibits : (file : List Record) (nodes : List ℕ) (listing : String) → Case
 
 -- What is claimed of a case: the definitions give it.
 abbrev pub Right : Case → Type 0
@@ -99,6 +103,7 @@ Right (drains f n) =
     let all = f ++ (Settle ∷ []) in
     (File.planned (writtenAll all) .records ≡ all) × (File.after File.begun f .live .marks .nodes .ring .count ≡ n)
     × (Queues.isEmpty (File.after File.begun all .live .marks .nodes) ≡ true)
+Right (exhibits f ns t) = let o = File.planned (writtenAll f) in (Least.leastNodes (o .file .closed) ≡ ns) × (listing o ≡ text t)
 
 -- A row state before its scans: known 0, possible, lower, upper.
 abbrev fresh : ℕ → ℕ → ℕ → State
@@ -149,16 +154,6 @@ shown =
     ∷ drains two-wait 2
     ∷ []
 
--- The claim at each row of a list.
-abbrev Every : List Case → Type 0
-Every [] = Unit {0}
-Every (c ∷ cs) = Right c × Every cs
-
-lift : (cs : List Case) → Every cs → (c : Case) → List·Memᴰ c cs → Right c
-lift [] h c m = absurd (List·Memᴰ·not-nil m)
-lift (d ∷ cs) h c m =
-    ⊎-elim (λ (e : c ≡ d). subst⁻¹ Right e (h .0)) (λ (n : List·Memᴰ c cs). lift cs (h .1) c n) (List·Memᴰ·cases-cons m)
-
 -- P9: no choice of 301, 299 and 200 lands in 400 to 430.
 between : (a b c : Bool) → 400 ≤ cond a 301 0 + (cond b 299 0 + (cond c 200 0 + 0)) → cond a 301 0 + (cond b 299 0 + (cond c 200 0 + 0)) ≤ 430 → ⊥
 between true true c h k = omega arith
@@ -180,12 +175,23 @@ joining =
     ∷ lists (Header 4 ∷ Opens 2 (pos 1) ∷ Areas 0 20 ∷ Areas 0 29 ∷ Adds 1 1 ∷ Opens 3 (pos 1) ∷ Adds 1 1 ∷ Seal ∷ []) "row 0 0 1 0 -\nrow 1 0 1 0 -\nend 0 0\n"
     ∷ []
 
-computed : Every cases × Every shown × Every joining
-unfolding States.firstState States.noState States.withKnown States.withPossible States.withLower States.withUpper States.withGuards States.withTerms States.drained States.conflict States.hasResidualInterval Mask.setBit Mask.learn Mask.count Shift.shiftWord Shift.wordHits Shift.shiftFrom Shift.unionShifted Queues.push Queues.popped Queues.queueRow Queues.nextRow Marks.decide Terms.merge Terms.merged Terms.insert Terms.sorted Terms.total Terms.sameTerms Rows.insertGuard Rows.place Rows.placeAll Rows.rowNumber Rows.hasNonunit Rows.edgesIn Rows.edgesFrom Links.notAfter Links.insertRow Links.orderFrom Links.common Links.ancestors Links.stacked Links.linked Links.linksFrom Links.links Links.neighbours Gcd.gcdIn Gcd.gcd Gcd.misses Gcd.branchMisses Residuals.checkFrom Residuals.residualCheck Residuals.fitsFrom Residuals.suffixFrom Residuals.forceTerm Residuals.forceFrom Residuals.thresholdResidual Searches.plan Searches.chosen Searches.searchFrom Searches.search Scan.scan Row.thresholdGuards Row.trueTerms Row.falseTerms Row.scans Row.thresholdRow Row.wantsResidual Between.runWith Between.runRow Between.bounded Between.thresholdGuard Between.conditionFrom Between.thresholdCondition Between.prefixesFrom Between.thresholdPrefixes Between.firstStates Between.seedFrom Between.guardOf Drain.seal Drain.mark Drain.takeNode Drain.takeRow Drain.drain Sift.tryRow Sift.siftFrom File.begun Job.lastNode Job.lastList Job.allTerms Checks.first File.refusal Job.onLast Area.hundredths Area.without Area.joined File.sealedFile File.markedFile File.settledFile File.siftedFile File.act File.apply File.readFrom File.fileOf File.planned File.after Listing.text Listing.digits Listing.answerLines Listing.nodeLines Listing.rowLines Listing.listing littleEndian bytes twos written writtenAll
+-- Unmarked jobs have a layout (document 02, section 2), in which these nodes are true: where two thresholds list each other and the bound of a third
+-- is 0; where one lists itself and one lists a later one.
+abbrev pub unmarked : List Case
+unmarked =
+    exhibits (Header 4 ∷ Opens 0 (pos 1) ∷ Adds 1 1 ∷ Opens 1 (pos 1) ∷ Adds 0 1 ∷ Opens 2 (pos 0) ∷ Adds 0 1 ∷ Seal ∷ Settle ∷ Sift ∷ []) (2 ∷ [])
+    "settle unchanged\nsift unchanged 0\nnode 2 sure\nrow 0 0 1 0 -\nrow 1 0 1 0 -\nend 1 0\n"
+    ∷ exhibits (Header 3 ∷ Opens 0 (pos 3) ∷ Adds 0 3 ∷ Opens 1 (pos 2) ∷ Adds 2 2 ∷ Opens 2 (negsuc 0) ∷ Adds 2 5 ∷ Seal ∷ Settle ∷ []) (1 ∷ 2 ∷ [])
+    "settle changed\nnode 1 sure\nnode 2 sure\nrow 0 0 3 0 -\nrow 1 2 2 2 -\nrow 2 5 5 0 -\nend 2 0\n"
+    ∷ []
+
+computed : All Right cases × All Right shown × All Right joining × All Right unmarked
+unfolding States.firstState States.noState States.withKnown States.withPossible States.withLower States.withUpper States.withGuards States.withTerms States.drained States.conflict States.hasResidualInterval Mask.setBit Mask.learn Mask.count Shift.shiftWord Shift.wordHits Shift.shiftFrom Shift.unionShifted Queues.push Queues.popped Queues.queueRow Queues.nextRow Marks.decide Terms.merge Terms.merged Terms.insert Terms.sorted Terms.total Terms.sameTerms Rows.insertGuard Rows.place Rows.placeAll Rows.rowNumber Rows.hasNonunit Rows.edgesIn Rows.edgesFrom Links.notAfter Links.insertRow Links.orderFrom Links.common Links.ancestors Links.stacked Links.linked Links.linksFrom Links.links Links.neighbours Gcd.gcdIn Gcd.gcd Gcd.misses Gcd.branchMisses Residuals.checkFrom Residuals.residualCheck Residuals.fitsFrom Residuals.suffixFrom Residuals.forceTerm Residuals.forceFrom Residuals.thresholdResidual Searches.plan Searches.chosen Searches.searchFrom Searches.search Scan.scan Row.thresholdGuards Row.trueTerms Row.falseTerms Row.scans Row.thresholdRow Row.wantsResidual Between.runWith Between.runRow Between.bounded Between.thresholdGuard Between.conditionFrom Between.thresholdCondition Between.prefixesFrom Between.thresholdPrefixes Between.firstStates Between.seedFrom Between.guardOf Drain.seal Drain.mark Drain.takeNode Drain.takeRow Drain.drain Sift.tryRow Sift.siftFrom File.begun Job.lastNode Job.lastList Job.allTerms Checks.first File.refusal Job.onLast Area.hundredths Area.without Area.joined Layout.value Least.among Least.askedNodes Least.grown File.sealedFile File.markedFile File.settledFile File.siftedFile File.act File.apply File.readFrom File.fileOf File.planned File.after Listing.text Listing.digits Listing.answerLines Listing.nodeLines Listing.rowLines Listing.listing littleEndian bytes twos written writtenAll
 computed = (
   (refl, (refl, (refl, (refl, (refl, (refl, (refl, (refl, (refl, (refl, (refl, (nothing-fits, (refl, (refl, (refl, (refl, (refl, (refl, tt)))))))))))))))))),
   ((refl, refl, refl, refl), ((refl, refl, refl, refl), (refl, ((refl, refl, refl), tt)))),
   (refl, (refl, (refl, (refl, (refl, tt))))),
+  ((refl, refl), ((refl, refl), tt)),
 )
   where
     nothing-fits : Right (misses (term 0 301 ∷ term 1 299 ∷ term 2 200 ∷ []) (fresh 800 400 431))
@@ -193,10 +199,13 @@ computed = (
 
 -- EVERY CASE OF THE TABLE
 pub worked : (c : Case) → List·Memᴰ c cases → Right c
-worked c m = lift cases (computed .0) c m
+worked c m = all-each Right cases (computed .0) c m
 
 pub shown-right : (c : Case) → List·Memᴰ c shown → Right c
-shown-right c m = lift shown (computed .1) c m
+shown-right c m = all-each Right shown (computed .1) c m
 
 pub joining-right : (c : Case) → List·Memᴰ c joining → Right c
-joining-right c m = lift joining (computed .2) c m
+joining-right c m = all-each Right joining (computed .2) c m
+
+pub unmarked-right : (c : Case) → List·Memᴰ c unmarked → Right c
+unmarked-right c m = all-each Right unmarked (computed .3) c m

@@ -8,9 +8,10 @@ use mathlib.Core.Logic.{_⊎_, _≢_, _↔_}
 use lib.ListN.{length, getD, take, drop}
 use lib.IntN.{ℤ}
 use lib.Dec.{eqb}
-use Rattle.numeric.specs.Threshold.{Term}
+use Rattle.numeric.specs.Threshold.{Term, Job}
 use Rattle.numeric.specs.Area.{Entry, area, hundredths, joined, Single, jobOf}
 use Rattle.numeric.specs.Layout.{Layout, IsLayout}
+use Rattle.numeric.specs.Least.{leastLayout, NodesRise}
 use Rattle.state.specs.declared.Step.{Step}
 use Rattle.state.specs.declared.Step.the-variants.{Unchanged, Contradiction}
 use Rattle.state.specs.declared.State.{State}
@@ -32,7 +33,7 @@ use Rattle.records.specs.Facts.{changes, adds}
 use Rattle.files.specs.File.{File, contradicted, sifted, begun, standing, act, apply, after, refusalAt, planned, Passed}
 use Rattle.memory.specs.Buffers.{Work, lengths, fits}
 use Rattle.files.specs.Contents.{Out, out, served, whole}
-use Rattle.theorem_demands.specs.Reading.{Marked, SameMarks, Agrees, NoSift, lastSearch, decidedIn, decidedAnd, marksOnly, SameEnd, SameFigures, records, decoded, plainlyAll, Passes}
+use Rattle.theorem_demands.specs.Reading.{Marked, SameMarks, Unmarked, Agrees, NoSift, lastSearch, decidedIn, decidedAnd, marksOnly, SameEnd, SameFigures, records, decoded, plainlyAll, Passes}
 
 -- What the call gave, but for its refusal.
 abbrev pub accepted : Out → Out
@@ -137,6 +138,22 @@ pub record AreasAdded : Type 0 where
   -- the limits count each record
   pub counted : (f : File) (x : Entry) → 0 < length (f .draft .thresholds) → let s = standing f in let t = standing (act f (changes (adds x))) in
       (t .«last_terms» ≡ s .«last_terms» + 1) × (t .terms ≡ s .terms + 1)
+
+-- AN UNMARKED JOB ALWAYS HAS A LAYOUT (document 02, section 2): `leastLayout` is one, and so there is no contradiction before a mark.
+pub record UnmarkedHasLayout : Type 0 where
+  -- it is a layout of every job whose thresholds have nodes that rise, whatever they list: themselves, or each other
+  pub layout : (j : Job) → NodesRise (j .thresholds) → IsLayout j (leastLayout j)
+  -- and the least: what is true in it is true in every layout of the job
+  pub least : (j : Job) (v : Layout) → IsLayout j v → (n : ℕ) → leastLayout j n ≡ true → v n ≡ true
+  -- the nodes of every file's thresholds rise, so it is one of the job that its records gave, and of the one that its last seal closed
+  pub files : (input : List ℕ) → let f = planned input .file in IsLayout (jobOf (f .draft)) (leastLayout (jobOf (f .draft))) × IsLayout (f .closed) (leastLayout (f .closed))
+  -- as long as no mark was taken no record contradicts, be it a seal, a settle or a sift
+  pub fine : (input : List ℕ) (before later : List Record) → planned input .records ≡ before ++ later → Unmarked before → contradicted (after begun before) ≡ false
+  -- so a file of which no mark was taken never meets refusal 9
+  pub not-nine : (input : List ℕ) → Unmarked (planned input .records) → planned input .refused ≢ 9
+  -- the same of what the call gives back, over all lent memory
+  pub call-fine : (input : List ℕ) (w : Work) → Unmarked (planned input .records) → whole input w .given .last ≢ Contradiction
+  pub call-not-nine : (input : List ℕ) (w : Work) → Unmarked (planned input .records) → whole input w .given .refused ≢ 9
 
 -- DEMANDS 2 AND 3 ONCE MORE, as the caller meets them: of what the call gives back and of the words in its buffers.
 

@@ -8,6 +8,7 @@ use Rattle.base.specs.TestLaws.{clash}
 use Rattle.numeric.specs.Layout.{Layout, IsLayout}
 use Rattle.words.specs.Mask.{bit}
 use Rattle.files.specs.File.{File, contradicted, planned}
+use Rattle.theorem_ends.specs.FilesLaws.{planned-passed}
 use Rattle.theorem_demands.specs.LayoutTurnsLaws.{Fits}
 use Rattle.theorem_demands.specs.LayoutFilesLaws.{file-layouts}
 use Rattle.theorem_demands.specs.Reading.{Agrees}
@@ -17,7 +18,7 @@ use Rattle.theorem_demands.specs.RefusalLaws.{taken}
 agreed : (input : List ℕ) (v : Layout) → IsLayout (planned input .file .closed) v → Agrees (planned input .records) v
     → Fits v (planned input .file .live .marks) × (contradicted (planned input .file) ≡ false)
 agreed input v is a =
-    subst (λ (f : File). IsLayout (f .closed) v → Fits v (f .live .marks) × (contradicted f ≡ false)) (sym (taken input)) (λ l. file-layouts input v l a) is
+    subst (λ (f : File). IsLayout (f .closed) v → Fits v (f .live .marks) × (contradicted f ≡ false)) (sym (taken input)) (λ l. file-layouts (planned input .records) (planned-passed input) v l a) is
 
 pub forced-sure : (input : List ℕ) (v : Layout) → IsLayout (planned input .file .closed) v → Agrees (planned input .records) v
     → (n : ℕ) → bit (planned input .file .live .marks .sure) n ≡ true → v n ≡ true

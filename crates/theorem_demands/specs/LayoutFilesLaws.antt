@@ -20,12 +20,12 @@ use Rattle.files.specs.Drain as Drain
 use Rattle.files.specs.Drain.{indexOf}
 use Rattle.records.specs.declared.Record.{Record}
 use Rattle.records.specs.Facts.{Action, begins, changes, closes, decides, settles, sifts, idles, action, facts}
-use Rattle.files.specs.File.{File, contradicted, begun, sealedFile, markedFile, settledFile, siftedFile, act, apply, planned, after, Passed}
+use Rattle.files.specs.File.{File, contradicted, begun, sealedFile, markedFile, settledFile, siftedFile, act, apply, after, Passed}
 use Rattle.theorem_table.specs.Table.{IsRow}
 use Rattle.theorem_ends.specs.BuiltLaws.{fits-of, fits-node, fits-condition, rows-few, indexed}
 use Rattle.theorem_ends.specs.Good.{Fits as JobFits, Good}
 use Rattle.theorem_ends.specs.BlankLaws.{blank-begun}
-use Rattle.theorem_ends.specs.FilesLaws.{good-begun, both, Taken, taken, building-turn, change-turn, serving-turn, node-small, good-apply, planned-passed}
+use Rattle.theorem_ends.specs.FilesLaws.{good-begun, both, Taken, taken, building-turn, change-turn, serving-turn, node-small, good-apply}
 use Rattle.theorem_follows.specs.Ordered.{Ordered}
 use Rattle.theorem_follows.specs.StandsLaws.{stay-same, stay-decide, apart-decide}
 use Rattle.theorem_follows.specs.BuiltLaws.{Built, built, rows-ordered}
@@ -182,9 +182,7 @@ stage-fits : (w : Layout) (f : File) → Stage w f → Fits w (f .live .marks) �
 stage-fits w f (inl o) = (o .fits, o .fine)
 stage-fits w f (inr c) = (agrees-fits (indexOf (f .closed)) w (f .live) (c .between .1 .agrees), c .fine)
 
--- EVERY LAYOUT OF THE JOB THAT AGREES WITH THE MARKS agrees with the nodes at the end of the file, which does not contradict
-pub file-layouts : (input : List ℕ) (w : Layout) → let f = after begun (planned input .records) in IsLayout (f .closed) w
-    → ((n : ℕ) (b : Bool) → List·Memᴰ (decides n (cond b 1 0)) (map action (planned input .records)) → w n ≡ b) → Fits w (f .live .marks) × (contradicted f ≡ false)
-file-layouts input w is a =
-    stage-fits w (after begun (planned input .records))
-    (stages w begun (planned input .records) good-begun (planned-passed input) is a (inl (begun-open w)))
+-- EVERY LAYOUT OF THE JOB THAT AGREES WITH THE MARKS agrees with the nodes that records leave, which do not contradict
+pub file-layouts : (rs : List Record) → Passed begun rs → (w : Layout) → let f = after begun rs in IsLayout (f .closed) w
+    → ((n : ℕ) (b : Bool) → List·Memᴰ (decides n (cond b 1 0)) (map action rs) → w n ≡ b) → Fits w (f .live .marks) × (contradicted f ≡ false)
+file-layouts rs p w is a = stage-fits w (after begun rs) (stages w begun rs good-begun p is a (inl (begun-open w)))

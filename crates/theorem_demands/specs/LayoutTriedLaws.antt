@@ -18,6 +18,7 @@ use Rattle.state.specs.StepLaws.{contradiction-is}
 use Rattle.base.specs.SignedLaws.{ltZ-pos, nle-ltZ}
 use Rattle.numeric.specs.Threshold.{Term, Job}
 use Rattle.numeric.specs.Layout.{Layout}
+use Rattle.numeric.specs.LayoutLaws.{sumOf}
 use Rattle.state.specs.declared.Step.{Step}
 use Rattle.state.specs.declared.Step.the-variants.{Unchanged, Changed, Contradiction}
 use Rattle.state.specs.declared.State.{State}
@@ -30,7 +31,6 @@ use Rattle.queues.specs.Queue.{isEmpty, oldest, nextRow}
 use Rattle.queues.specs.Marks.{Marks, isDecided, Decided, decide}
 use Rattle.queues.specs.MarksLaws.{mask, decide-there, decide-clash, decide-new}
 use Rattle.row.specs.Terms.{rowTerms}
-use Rattle.row.specs.SumLaws.{sumOf}
 use Rattle.row.specs.TermsLaws as TermsLaws
 use Rattle.thresholds.specs.Rows.{Row, noRow, rowsOf, hasNonunit}
 use Rattle.propagate.specs.Guards.{Condition}

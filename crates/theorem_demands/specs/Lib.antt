@@ -25,4 +25,5 @@ pub mod ReadOnLaws
 pub mod OrderLaws
 pub mod PassesLaws
 pub mod CallLaws
+pub mod UnmarkedLaws
 pub mod Met

@@ -1,10 +1,11 @@
 -- WHICH DEMANDS ARE MET: a value of the type that states each. The proofs stand in the files named `Laws` beside this one, and in `theorem_ends`.
 use Rattle.numeric.specs.AreaLaws as AreaLaws
+use Rattle.numeric.specs.LeastLaws as LeastLaws
 use Rattle.possible_sums.specs.SearchLaws as SearchLaws
 use Rattle.job.specs.JobLaws.{last-added, all-added}
 use Rattle.files.specs.File.{act}
 use Rattle.theorem_ends.specs.FilesLaws as Files
-use Rattle.theorem_demands.specs.Demands.{Demand1, Demand2, Demand3, AreasAdded, Call, ClauseA, ClauseC}
+use Rattle.theorem_demands.specs.Demands.{Demand1, Demand2, Demand3, AreasAdded, UnmarkedHasLayout, Call, ClauseA, ClauseC}
 use Rattle.theorem_demands.specs.RefusalLaws as Refusals
 use Rattle.theorem_demands.specs.ReadLaws as Reads
 use Rattle.theorem_demands.specs.ForcedLaws as Forced
@@ -12,6 +13,7 @@ use Rattle.theorem_demands.specs.SettleLaws as Settles
 use Rattle.theorem_demands.specs.MarksLaws as Marks
 use Rattle.theorem_demands.specs.OrderLaws as Order
 use Rattle.theorem_demands.specs.CallLaws as Calls
+use Rattle.theorem_demands.specs.UnmarkedLaws as Unmarked
 use Rattle.theorem_demands.specs.MemoryLaws as Memory
 use Rattle.theorem_demands.specs.LengthLaws as Lengths
 use Rattle.theorem_demands.specs.ShutOutLaws as ShutOut
@@ -62,6 +64,18 @@ areas-added = record {
   once = AreaLaws.single-joined;
   sums = AreaLaws.sum-stays;
   counted = λ f x h. let d = f .draft in (last-added x (d .thresholds) h, all-added x (d .thresholds) h);
+}
+
+-- UNMARKED JOBS, whole
+pub unmarked-has-layout : UnmarkedHasLayout
+unmarked-has-layout = record {
+  layout = LeastLaws.least-layout;
+  least = LeastLaws.least-below;
+  files = Unmarked.layouts;
+  fine = Unmarked.fine;
+  not-nine = Unmarked.not-nine;
+  call-fine = Unmarked.call-fine;
+  call-not-nine = Unmarked.call-not-nine;
 }
 
 -- BOTH DEMANDS, of the call and the words in its buffers

@@ -79,7 +79,7 @@ refusal-nine f r h =
     (skip (anyOf (leb (s .nodes)) (x .nodes)) 5 _ (λ q. omega arith) e)))))))
     (nine (contradicted f) _ (skip (wrongTurn s (x .turn)) 3 _ (λ q. omega arith) (skip false 1 _ (λ q. omega arith) (skip false 2 _ (λ q. omega arith) h))))
 
-refused-nine : (f : File) (kind : ℕ) (bytes : List ℕ) → refusalAt f kind bytes ≡ 9 → contradicted f ≡ true
+pub refused-nine : (f : File) (kind : ℕ) (bytes : List ℕ) → refusalAt f kind bytes ≡ 9 → contradicted f ≡ true
 refused-nine f kind bytes h = refusal-nine f (recordAt kind bytes) (refused-by 9 (λ q. omega arith) (λ q. omega arith) f kind bytes h)
 
 -- An outcome over all records of an input.

@@ -35,6 +35,10 @@ Marked rs n v = List·Memᴰ (decides n (cond v 1 0)) (map action rs)
 abbrev pub SameMarks : List Record → List Record → Type 0
 SameMarks rs qs = (n : ℕ) (v : Bool) → Marked rs n v ↔ Marked qs n v
 
+-- No node is marked.
+abbrev pub Unmarked : List Record → Type 0
+Unmarked rs = (n : ℕ) (v : Bool) → Marked rs n v → ⊥
+
 -- A layout agrees with the marks: it gives each marked node the mark's value.
 abbrev pub Agrees : List Record → Layout → Type 0
 Agrees rs v = (n : ℕ) (b : Bool) → Marked rs n b → v n ≡ b

@@ -11,14 +11,16 @@ use lib.ListN.{length, getD}
 use lib.Dec.{eqb, leb}
 use borrow.Author.Tests.{leb-false, ne-eqb}
 use Rattle.base.specs.All.{All}
+use Rattle.base.specs.AllLaws.{all-each}
 use Rattle.numeric.specs.Threshold.{ThresholdOf, Threshold, Job}
 use Rattle.numeric.specs.Area.{Entry, weighedThreshold}
+use Rattle.numeric.specs.Least.{NodesRise}
 use Rattle.row.specs.TermsLaws.{all-map}
 use Rattle.thresholds.specs.Rows.{noRow, rowsOf}
 use Rattle.files.specs.Drain.{indexOf}
 use Rattle.job.specs.Job.{lastNode, onLast}
 use Rattle.job.specs.JobLaws.{every-on}
-use Rattle.theorem_ends.specs.BuiltLaws.{every-last, every-each, fits-node, fits-condition}
+use Rattle.theorem_ends.specs.BuiltLaws.{every-last, fits-node, fits-condition}
 use Rattle.theorem_ends.specs.Good.{Fits}
 use Rattle.theorem_table.specs.Table.{IsRow}
 use Rattle.theorem_follows.specs.Ordered.{Ordered}
@@ -27,16 +29,12 @@ use Rattle.theorem_follows.specs.ToldLaws.{Single, rows-single}
 
 -- ---- nodes that rise
 
-abbrev pub Rises : {X : Type 0} → List (ThresholdOf X) → Type 0
-Rises [] = Unit {0}
-Rises (t ∷ ts) = All (λ u. t .node < u .node) ts × Rises ts
-
-rises-unique : (ts : List Threshold) → Rises ts → (t u : Threshold) → List·Memᴰ t ts → List·Memᴰ u ts → t .node ≡ u .node → t ≡ u
+rises-unique : (ts : List Threshold) → NodesRise ts → (t u : Threshold) → List·Memᴰ t ts → List·Memᴰ u ts → t .node ≡ u .node → t ≡ u
 rises-unique [] h t u m n e = absurd (List·Memᴰ·not-nil m)
 rises-unique (y ∷ ys) h t u m n e = by (λ a b. rises-unique ys (h .1) t u a b e) (List·Memᴰ·cases-cons m) (List·Memᴰ·cases-cons n)
   where
     above : (w : Threshold) → List·Memᴰ w ys → y .node < w .node
-    above w k = every-each (λ (z : Threshold). y .node < z .node) ys (h .0) w k
+    above w k = all-each (λ (z : Threshold). y .node < z .node) ys (h .0) w k
 
     by : (List·Memᴰ t ys → List·Memᴰ u ys → t ≡ u) → (t ≡ y) ⊎ List·Memᴰ t ys → (u ≡ y) ⊎ List·Memᴰ u ys → t ≡ u
     by ih (inl a) (inl b) = a ∙ sym b
@@ -46,16 +44,16 @@ rises-unique (y ∷ ys) h t u m n e = by (λ a b. rises-unique ys (h .1) t u a b
 
 -- the last is the highest
 module _ {X : Type 0} where
-  below-last : (t : ThresholdOf X) (ts : List (ThresholdOf X)) → Rises (t ∷ ts) → All (λ (u : ThresholdOf X). u .node ≤ lastNode (t ∷ ts)) (t ∷ ts)
+  below-last : (t : ThresholdOf X) (ts : List (ThresholdOf X)) → NodesRise (t ∷ ts) → All (λ (u : ThresholdOf X). u .node ≤ lastNode (t ∷ ts)) (t ∷ ts)
   unfolding lastNode
   below-last t [] h = (le-refl (t .node), tt)
   below-last t (u ∷ us) h = let k = below-last u us (h .1) in (let a = h .0 .0 in let c = k .0 in omega arith, k)
 
-  rises-last : (ts : List (ThresholdOf X)) (x : ThresholdOf X) → Rises ts → All (λ (u : ThresholdOf X). u .node < x .node) ts → Rises (ts ++ (x ∷ []))
+  rises-last : (ts : List (ThresholdOf X)) (x : ThresholdOf X) → NodesRise ts → All (λ (u : ThresholdOf X). u .node < x .node) ts → NodesRise (ts ++ (x ∷ []))
   rises-last [] x h e = (tt, tt)
   rises-last (t ∷ ts) x h e = (every-last (λ (u : ThresholdOf X). t .node < u .node) ts x (h .0) (e .0), rises-last ts x (h .1) (e .1))
 
-  pub rises-opens : (ts : List (ThresholdOf X)) (x : ThresholdOf X) → Rises ts → (not (eqb (length ts) 0) && leb (x .node) (lastNode ts)) ≡ false → Rises (ts ++ (x ∷ []))
+  pub rises-opens : (ts : List (ThresholdOf X)) (x : ThresholdOf X) → NodesRise ts → (not (eqb (length ts) 0) && leb (x .node) (lastNode ts)) ≡ false → NodesRise (ts ++ (x ∷ []))
   rises-opens [] x h e = (tt, tt)
   rises-opens (t ∷ ts) x h e =
       let some = ne-eqb (length (t ∷ ts)) 0 (λ (z : suc (length ts) ≡ 0). omega arith) in
@@ -64,14 +62,14 @@ module _ {X : Type 0} where
       (all-map (λ (u : ThresholdOf X). u .node ≤ lastNode (t ∷ ts)) (λ (u : ThresholdOf X). u .node < x .node) (t ∷ ts) (λ u l. omega arith) (below-last t ts h))
 
   -- another list leaves all nodes as they were
-  pub rises-on : (g : List X → List X) (ts : List (ThresholdOf X)) → Rises ts → Rises (onLast g ts)
+  pub rises-on : (g : List X → List X) (ts : List (ThresholdOf X)) → NodesRise ts → NodesRise (onLast g ts)
   unfolding onLast
   rises-on g [] h = tt
   rises-on g (t ∷ []) h = (tt, tt)
   rises-on g (t ∷ u ∷ us) h = (every-on (λ (y : ThresholdOf X). t .node < y .node) g (u ∷ us) (h .0) (λ y e q. q), rises-on g (u ∷ us) (h .1))
 
 -- and so does weighing what was listed
-pub rises-weighed : (ds : List (ThresholdOf Entry)) → Rises ds → Rises (map weighedThreshold ds)
+pub rises-weighed : (ds : List (ThresholdOf Entry)) → NodesRise ds → NodesRise (map weighedThreshold ds)
 rises-weighed [] h = tt
 rises-weighed (t ∷ ds) h = (above ds (h .0), rises-weighed ds (h .1))
   where
@@ -87,5 +85,5 @@ job-built j = built j (indexOf j) refl refl refl
 pub job-ordered : (j : Job) → Fits j → (r : ℕ) → IsRow (rowsOf j) r → Ordered (getD (rowsOf j) r noRow)
 job-ordered j f = rows-ordered j (record { nodes = fits-node j f; conditions = fits-condition j f })
 
-pub job-single : (j : Job) → Rises (j .thresholds) → Single (rowsOf j)
+pub job-single : (j : Job) → NodesRise (j .thresholds) → Single (rowsOf j)
 job-single j h = rows-single j (rises-unique (j .thresholds) h)

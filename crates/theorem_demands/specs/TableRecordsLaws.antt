@@ -9,6 +9,7 @@ use lib.ListN.{length}
 use lib.Dec.{eqb}
 use Rattle.numeric.specs.Threshold.{Job}
 use Rattle.numeric.specs.Area.{Draft, jobOf}
+use Rattle.numeric.specs.Least.{NodesRise}
 use Rattle.thresholds.specs.Rows.{rowsOf}
 use Rattle.between.specs.Between.{Live}
 use Rattle.files.specs.Drain as Drain
@@ -24,7 +25,7 @@ use Rattle.theorem_ends.specs.Good.{Good}
 use Rattle.theorem_table.specs.Table.{Table}
 use Rattle.theorem_follows.specs.DecideLaws.{Broken, decideAs}
 use Rattle.theorem_follows.specs.FirstLaws.{Undrained, undrained-from, undrained-none}
-use Rattle.theorem_demands.specs.TableJobsLaws.{Rises, rises-opens, rises-on, rises-weighed, job-built, job-ordered, job-single}
+use Rattle.theorem_demands.specs.TableJobsLaws.{rises-opens, rises-on, rises-weighed, job-built, job-ordered, job-single}
 use Rattle.theorem_demands.specs.TableTurnsLaws.{Steady, settle-goes}
 use Rattle.theorem_demands.specs.TableSealsLaws.{ownStart, seal-goes}
 use Rattle.theorem_demands.specs.TableSiftsLaws.{mark-goes, steady-own, sift-keeps}
@@ -41,8 +42,8 @@ Breaks f s = contradicted f ≡ true → Broken (rowsOf (f .closed)) s
 
 pub record Keeps (f : File) : Type 0 where
   pub good : Good f
-  pub rises : Rises (f .draft .thresholds)
-  pub closed : Rises (f .closed .thresholds)
+  pub rises : NodesRise (f .draft .thresholds)
+  pub closed : NodesRise (f .closed .thresholds)
   pub undrained : f .sealed ≡ false → Undrained 0 (f .live)
   pub late : contradicted f ≡ true → f .sealed ≡ true
   pub steady : From f (ownStart (f .live))
@@ -88,25 +89,25 @@ module _ (f : File) (k : Keeps f) where
   own-marked true n v w h = steady-own (indexOf (f .closed)) _ _ w h
   own-marked false n v w h = steady-own (indexOf (f .closed)) _ _ w h
 
-  rises-changed : (c : Change) → Taken f (facts (changes c)) → Rises (changed c (f .draft .thresholds))
+  rises-changed : (c : Change) → Taken f (facts (changes c)) → NodesRise (changed c (f .draft .thresholds))
   rises-changed (opens n b) t = rises-opens (f .draft .thresholds) (record { node = n; bound = b; terms = [] }) (k .rises) (t .rising)
   rises-changed (adds x) t = rises-on (λ l. l ++ (x ∷ [])) (f .draft .thresholds) (k .rises)
 
   -- before the seal; behind it
-  early : (h : File) → Good h → Rises (h .draft .thresholds) → h .closed ≡ f .closed → h .live ≡ f .live → h .sealed ≡ false → f .sealed ≡ false → contradicted h ≡ false → Keeps h
+  early : (h : File) → Good h → NodesRise (h .draft .thresholds) → h .closed ≡ f .closed → h .live ≡ f .live → h .sealed ≡ false → f .sealed ≡ false → contradicted h ≡ false → Keeps h
   early h g r j l e q c = record {
     good = g;
     rises = r;
-    closed = subst (λ (y : Job). Rises (y .thresholds)) (sym j) (k .closed);
+    closed = subst (λ (y : Job). NodesRise (y .thresholds)) (sym j) (k .closed);
     undrained = λ z. subst (Undrained 0) (sym l) (k .undrained q);
     late = λ z. absurd (both z c);
     steady = λ z. absurd (both z e);
   }
 
-  later : (h : File) → Good h → h .draft ≡ f .draft → Rises (h .closed .thresholds) → h .sealed ≡ true → From h (ownStart (h .live)) → Keeps h
+  later : (h : File) → Good h → h .draft ≡ f .draft → NodesRise (h .closed .thresholds) → h .sealed ≡ true → From h (ownStart (h .live)) → Keeps h
   later h g j r e from = record {
     good = g;
-    rises = subst (λ (y : Draft). Rises (y .thresholds)) (sym j) (k .rises);
+    rises = subst (λ (y : Draft). NodesRise (y .thresholds)) (sym j) (k .rises);
     closed = r;
     undrained = λ z. absurd (both e z);
     late = λ z. e;

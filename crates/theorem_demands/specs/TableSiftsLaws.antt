@@ -8,6 +8,7 @@ use mathlib.Core.Logic.{⊎-elim}
 use Rattle.base.specs.TestLaws.{true-false, clash}
 use Rattle.memory.specs.Limits.{maxNodes}
 use Rattle.numeric.specs.Threshold.{Job}
+use Rattle.numeric.specs.Least.{NodesRise}
 use Rattle.state.specs.Step.{contradicts}
 use Rattle.words.specs.Mask.{bit}
 use Rattle.queues.specs.Queue.{Rows, oldest, nextRow}
@@ -25,7 +26,7 @@ use Rattle.theorem_table.specs.Table.{Table, start}
 use Rattle.theorem_follows.specs.DecideLaws.{decideAs}
 use Rattle.theorem_follows.specs.StandsLaws.{decide-nothing, not-decided}
 use Rattle.theorem_follows.specs.StartLaws.{mark-leads, restarted}
-use Rattle.theorem_demands.specs.TableJobsLaws.{Rises, job-built, job-ordered, job-single}
+use Rattle.theorem_demands.specs.TableJobsLaws.{job-built, job-ordered, job-single}
 use Rattle.theorem_demands.specs.TableTurnsLaws.{Steady, Goes, settle-goes}
 use Rattle.theorem_demands.specs.TableSealsLaws.{ownStart}
 
@@ -91,7 +92,7 @@ try-keeps x ix v gcds visits h =
     (other-residuals x (ownStart (tryLive x v gcds)) (live (v .states) m (v .dirty) (v .residuals)) (nextRow (v .residuals)) own)
 
 -- A SIFTING
-module _ (j : Job) (f : Fits j) (rises : Rises (j .thresholds)) where
+module _ (j : Job) (f : Fits j) (rises : NodesRise (j .thresholds)) where
   abbrev x : Index
   x = indexOf j
 

@@ -5,6 +5,7 @@ use mathlib.Core.Path.{_≡_, refl}
 use mathlib.Core.Bool.{true, false}
 use lib.ListN.{length}
 use Rattle.numeric.specs.Threshold.{Job}
+use Rattle.numeric.specs.Least.{NodesRise}
 use Rattle.queues.specs.Waiting.{Flags}
 use Rattle.thresholds.specs.Rows.{rowsOf}
 use Rattle.between.specs.Between.{Live, stateAt}
@@ -17,14 +18,14 @@ use Rattle.theorem_table.specs.Table.{Table, knownOf, possibleOf, AtRest, Ended
 use Rattle.theorem_table.specs.TableLaws.{le-both, only-end, conflict-up}
 use Rattle.theorem_follows.specs.DecideLaws.{Broken}
 use Rattle.theorem_follows.specs.StandsLaws.{tableAt}
-use Rattle.theorem_demands.specs.TableJobsLaws.{Rises, job-built, job-ordered, job-single}
+use Rattle.theorem_demands.specs.TableJobsLaws.{job-built, job-ordered, job-single}
 use Rattle.theorem_demands.specs.TableTurnsLaws as Turned
 use Rattle.theorem_demands.specs.TableTurnsLaws.{Steady}
 use Rattle.theorem_demands.specs.TableRecordsLaws.{From, Keeps, settle-from}
 
 pub record Still (j : Job) (s : Table) (v : Live) : Type 0 where
   pub fits : Fits j
-  pub rises : Rises (j .thresholds)
+  pub rises : NodesRise (j .thresholds)
   pub steady : Steady (indexOf j) s v
   pub rest : atRest v ≡ true
   pub flags : Flags (v .dirty)

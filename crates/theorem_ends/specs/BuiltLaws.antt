@@ -2,14 +2,14 @@
 use Prim.Native.Nat.{ℕ, zero, suc, _+_, _≤_, _<_}
 use native.Mathlib.Nat.{not-suc-le-zero}
 use native.Mathlib.Omega.{arith}
-use mathlib.Core.Path.{_≡_, refl, sym, ap, _∙_, subst}
+use mathlib.Core.Path.{_≡_, refl, ap, _∙_}
 use mathlib.Core.Bool.{Bool, true, false}
-use mathlib.Core.List.{List, [], _∷_, _++_, map, List·Memᴰ, List·Memᴰ·head, List·Memᴰ·tail, List·Memᴰ·cases-cons, List·Memᴰ·not-nil}
-use mathlib.Core.Logic.{⊎-elim}
+use mathlib.Core.List.{List, [], _∷_, _++_, map, List·Memᴰ, List·Memᴰ·head, List·Memᴰ·tail}
 use lib.ListN.{length, getD, set, length-set, length-append, length-map}
 use lib.IntN.{ℤ}
 use lib.Dec.{eqb}
 use Rattle.base.specs.All.{All}
+use Rattle.base.specs.AllLaws.{all-each}
 use Rattle.memory.specs.Limits.{maxNodes, maxTerms, maxThresholds, listTerms}
 use Rattle.numeric.specs.Threshold.{Term, ThresholdOf, Threshold, Job}
 use Rattle.numeric.specs.Area.{Entry, conditionOf, joined, rounded, weighedThreshold, Draft, jobOf}
@@ -42,17 +42,13 @@ every-append P (x ∷ xs) ys a b = (a .0, every-append P xs ys (a .1) b)
 pub every-last : {X : Type 0} (P : X → Type 0) (xs : List X) (x : X) → All P xs → P x → All P (xs ++ (x ∷ []))
 every-last P xs x a p = every-append P xs (x ∷ []) a (p, tt)
 
-pub every-each : {X : Type 0} (P : X → Type 0) (xs : List X) → All P xs → (y : X) → List·Memᴰ y xs → P y
-every-each P [] a y m = absurd (List·Memᴰ·not-nil m)
-every-each P (x ∷ xs) a y m = ⊎-elim (λ (e : y ≡ x). subst P (sym e) (a .0)) (λ k. every-each P xs (a .1) y k) (List·Memᴰ·cases-cons m)
-
 -- what a job within the limits says of one threshold and of one term
 pub fits-node : (j : Job) → Fits j → (t : Threshold) → List·Memᴰ t (j .thresholds) → t .node < maxNodes
-fits-node j f t m = omega (arith, every-each (Fit (j .nodes)) (j .thresholds) (f .each) t m .node, f .nodes)
+fits-node j f t m = omega (arith, all-each (Fit (j .nodes)) (j .thresholds) (f .each) t m .node, f .nodes)
 
 pub fits-condition : (j : Job) → Fits j → (t : Threshold) → List·Memᴰ t (j .thresholds) → (u : Term) → List·Memᴰ u (t .terms) → u .condition < maxNodes
 fits-condition j f t m u i =
-    omega (arith, every-each (λ (v : Term). v .condition < j .nodes) (t .terms) (every-each (Fit (j .nodes)) (j .thresholds) (f .each) t m .conditions) u i, f .nodes)
+    omega (arith, all-each (λ (v : Term). v .condition < j .nodes) (t .terms) (all-each (Fit (j .nodes)) (j .thresholds) (f .each) t m .conditions) u i, f .nodes)
 
 pub every-mem : {X : Type 0} (P : X → Type 0) (xs : List X) → ((x : X) → List·Memᴰ x xs → P x) → All P xs
 every-mem P [] f = tt

@@ -189,7 +189,7 @@ unfolding after
 passed-snoc f [] r p h = (h, tt)
 passed-snoc f (x ∷ rs) r p h = (p .0, passed-snoc (apply f x) rs r (p .1) h)
 
-passed-before : (f : File) (rs qs : List Record) → Passed f (rs ++ qs) → Passed f rs
+pub passed-before : (f : File) (rs qs : List Record) → Passed f (rs ++ qs) → Passed f rs
 passed-before f [] qs p = tt
 passed-before f (x ∷ rs) qs p = (p .0, passed-before (apply f x) rs qs (p .1))
 

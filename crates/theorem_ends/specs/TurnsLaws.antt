@@ -9,6 +9,7 @@ use mathlib.Core.Bool.{Bool, true, false, cond}
 use mathlib.Core.List.{List, List·Memᴰ}
 use lib.ListN.{length, getD, set, length-set}
 use lib.Dec.{eqb}
+use Rattle.base.specs.AllLaws.{all-each}
 use Rattle.memory.specs.Limits.{maxNodes, maxThresholds}
 use Rattle.numeric.specs.Threshold.{Threshold}
 use Rattle.state.specs.declared.State.{State}
@@ -27,7 +28,7 @@ use Rattle.propagate.specs.Row.{Ran, thresholdRow, wantsResidual}
 use Rattle.propagate.specs.RowLaws.{Kept, kept-row}
 use Rattle.between.specs.Between.{Index, Live, live, Did, stateAt, withState, residualQueued, runWith, runRow, linkedQueued, thresholdGuard, guardOf, thresholdCondition, termCount, thresholdPrefixes}
 use Rattle.between.specs.LoopLaws.{drained-lower, drained-upper, edgeRun, moved, movedRun}
-use Rattle.between.specs.WalkLaws.{guardRow, guardTold, guard-ends, guard-of-ends, every-member, condition-keeps, prefix-keeps}
+use Rattle.between.specs.WalkLaws.{guardRow, guardTold, guard-ends, guard-of-ends, condition-keeps, prefix-keeps}
 use Rattle.between.specs.KeepsLaws.{Small, names-all, row-named}
 use Rattle.theorem_ends.specs.LeftLaws.{load, load-decide, load-most}
 use Rattle.theorem_ends.specs.RoomsLaws.{room, rooms, rooms-set, rooms-most, set-bounded, bounded-same, room-same, tells-guard, tells-moved}
@@ -182,7 +183,7 @@ module _ (x : Index) (ix : Indexed x) where
   pub run-guards : (v : Live) (n : ℕ) → Sound v → Then v (guardOf x v (x .thresholds) n .live)
   run-guards v n s =
       guard-of-ends x v n (λ (d : Did). Then v (d .live)) (x .thresholds)
-      (λ t m e. run-guard v t s (every-member (λ (u : Threshold). Bound (u .bound) × (rowNumber (x .rows) (u .terms) < maxThresholds)) (x .thresholds) (ix .thresholds) t m)) (λ f. same v s)
+      (λ t m e. run-guard v t s (all-each (λ (u : Threshold). Bound (u .bound) × (rowNumber (x .rows) (u .terms) < maxThresholds)) (x .thresholds) (ix .thresholds) t m)) (λ f. same v s)
 
   -- ---- a drained condition
 
@@ -213,7 +214,7 @@ module _ (x : Index) (ix : Indexed x) where
   run-condition v node s =
       let value = bit (v .marks .sure) node in
       condition-keeps x (Then v) value (edgesOf (x .rows) node)
-      (λ e u m p. then v u (edgeRun x value e u .live) p (run-edge u value e (p .sound) (every-member (λ (f : Edge). f .row < maxThresholds) (edgesOf (x .rows) node) (ix .edges node) e m))) v (same v s)
+      (λ e u m p. then v u (edgeRun x value e u .live) p (run-edge u value e (p .sound) (all-each (λ (f : Edge). f .row < maxThresholds) (edgesOf (x .rows) node) (ix .edges node) e m))) v (same v s)
 
   -- ---- bounds that a row hands on
 
@@ -227,7 +228,7 @@ module _ (x : Index) (ix : Indexed x) where
       one : (r : ℕ) (u : Live) → List·Memᴰ r (neighbours row (x .links)) → moved x row source r u .changed ≡ true → Sound u × (left u ≤ left v)
           → let w = movedRun x row source r u .live in Sound w × (left w ≤ left v)
       one r u m e p =
-          let h = every-member (λ (q : ℕ). q < maxThresholds) (neighbours row (x .links)) (ix .linked row) r m in
+          let h = all-each (λ (q : ℕ). q < maxThresholds) (neighbours row (x .links)) (ix .linked row) r m in
           let tells = tells-moved source (stateAt u r) (termCount x row) (termCount x r) (s .states row) (p .0 .states r) in
           let a = told-run u r (moved x row source r u .state) (queueRow (u .dirty) r) (p .0) h (tells .bounded) (tells .less e) (queued (u .dirty) r (p .0 .dirty) h) in
           (a .0 .sound, omega (arith, a .1, p .1))

@@ -10,6 +10,7 @@ use mathlib.Core.Logic.{_⊎_, inl, inr, ⊎-elim, _≢_}
 use lib.ListN.{length, getD}
 use lib.Signed.{leZ, ltZ}
 use Rattle.base.specs.All.{All}
+use Rattle.base.specs.AllLaws.{all-each}
 use Rattle.base.specs.TestLaws.{and-left, or-true, or-false}
 use Rattle.memory.specs.Limits.{maxNodes}
 use Rattle.base.specs.SignedLaws.{leZ-trans, ltZ-weaken, nlt-leZ}
@@ -224,17 +225,13 @@ rises-at (x ∷ xs) zero h k = h .0
 rises-at (x ∷ xs) (suc r) h k = rises-at xs r (h .1) (le-of-suc-le-suc k)
 
 -- a list's property, element by element
-each : (P : Term → Type 0) (ts : List Term) → All P ts → Each P ts
-each P [] a t m = absurd (List·Memᴰ·not-nil m)
-each P (x ∷ xs) a t m = ⊎-elim (λ (e : t ≡ x). subst P (sym e) (a .0)) (λ k. each P xs (a .1) t k) (List·Memᴰ·cases-cons m)
-
 together : (P : Term → Type 0) (ts : List Term) → Each P ts → All P ts
 together P [] a = tt
 together P (x ∷ xs) a = (a x (List·Memᴰ·head refl), together P xs (λ t m. a t (List·Memᴰ·tail m)))
 
 falls : (ts : List Term) → TermsLaws.Falling ts → Falling ts
 falls [] h = tt
-falls (t ∷ ts) h = (each (λ (u : Term). u .weight ≤ t .weight) ts (h .0), falls ts (h .1))
+falls (t ∷ ts) h = (all-each (λ (u : Term). u .weight ≤ t .weight) ts (h .0), falls ts (h .1))
 
 -- every row's raw list is that of a threshold
 abbrev From : List Threshold → Row → Type 0
@@ -279,7 +276,7 @@ rows-ordered j ok r i =
       falling = subst Falling (sym (m .terms)) (falls (rowTerms raw) (sorted-falling raw));
       guards = λ g k. let o = m .guards g k in subst (λ (y : Guard). y .node < maxNodes) (sym (o .3)) (ok .nodes (o .0) (o .1));
       terms = subst (Each (λ (u : Term). u .condition < maxNodes)) (sym (m .terms))
-          (each (λ (u : Term). u .condition < maxNodes) (rowTerms raw)
+          (all-each (λ (u : Term). u .condition < maxNodes) (rowTerms raw)
           (all-sorted (λ (u : Term). u .condition < maxNodes) (merged raw) (conditions-merged (λ (n : ℕ). n < maxNodes) raw
           (together (λ (u : Term). u .condition < maxNodes) raw (subst (Each (λ (u : Term). u .condition < maxNodes)) (from .2) (ok .conditions (from .0) (from .1)))))));
     }

@@ -13,6 +13,7 @@ use lib.Dec.{eqb}
 use lib.IntN.{ℤ, pos, _+ℤ_, _-ℤ_, pos-+ℤ-pos}
 use lib.Signed.{_≤ℤ_, ≤ℤ-refl}
 use borrow.Author.Tests.{eq-eqb, ne-eqb}
+use Rattle.base.specs.AllLaws.{all-each}
 use Rattle.base.specs.TestLaws.{true-false, clash}
 use Rattle.base.specs.SignedLaws.{pos-minus}
 use Rattle.numeric.specs.Threshold.{Term, term}
@@ -26,7 +27,7 @@ use Rattle.row.specs.TermsLaws.{Distinct}
 use Rattle.thresholds.specs.Rows.{Row, Edge, edgesOf}
 use Rattle.between.specs.Between.{Index, Live, stateAt, withState, Did, runRow, conditionFrom, thresholdCondition}
 use Rattle.between.specs.LoopLaws.{drained-lower, drained-upper, edgeRun, condition-walk}
-use Rattle.between.specs.WalkLaws.{walks, every-member}
+use Rattle.between.specs.WalkLaws.{walks}
 use Rattle.theorem_table.specs.Table.{Table, IsRow, termsOf, known, possible}
 use Rattle.theorem_table.specs.OrderLaws.{UpLe, up-refl}
 use Rattle.theorem_table.specs.TableLaws.{le-then}
@@ -48,11 +49,11 @@ module _ (f g : ℕ → Bool) (t : Term) (off : f (t .condition) ≡ false) (on 
           let a : cond (g (x .condition)) (x .weight) 0 ≡ x .weight = ap (λ (b : Bool). cond b (x .weight) 0) (ap (λ (y : Term). g (y .condition)) (sym e) ∙ on) in
           let b : cond (f (x .condition)) (x .weight) 0 ≡ 0 = ap (λ (b : Bool). cond b (x .weight) 0) (ap (λ (y : Term). f (y .condition)) (sym e) ∙ off) in
           let w : t .weight ≡ x .weight = ap (λ (y : Term). y .weight) e in
-          let r : known g xs ≡ known f xs = known-same g f xs (λ u k. same (u .condition) (λ q. every-member (λ (y : Term). y .condition ≢ x .condition) xs (d .0) u k (q ∙ ap (λ (y : Term). y .condition) e))) in
+          let r : known g xs ≡ known f xs = known-same g f xs (λ u k. same (u .condition) (λ q. all-each (λ (y : Term). y .condition ≢ x .condition) xs (d .0) u k (q ∙ ap (λ (y : Term). y .condition) e))) in
           omega arith
       by ih (inr k) =
           let a : cond (g (x .condition)) (x .weight) 0 ≡ cond (f (x .condition)) (x .weight) 0 =
-          ap (λ (b : Bool). cond b (x .weight) 0) (same (x .condition) (λ q. every-member (λ (y : Term). y .condition ≢ x .condition) xs (d .0) t k (sym q))) in
+          ap (λ (b : Bool). cond b (x .weight) 0) (same (x .condition) (λ q. all-each (λ (y : Term). y .condition ≢ x .condition) xs (d .0) t k (sym q))) in
           let r = ih k in
           omega arith
 
@@ -67,11 +68,11 @@ module _ (f g : ℕ → Bool) (t : Term) (off : f (t .condition) ≡ false) (on 
           let a : cond (g (x .condition)) 0 (x .weight) ≡ 0 = ap (λ (b : Bool). cond b 0 (x .weight)) (ap (λ (y : Term). g (y .condition)) (sym e) ∙ on) in
           let b : cond (f (x .condition)) 0 (x .weight) ≡ x .weight = ap (λ (b : Bool). cond b 0 (x .weight)) (ap (λ (y : Term). f (y .condition)) (sym e) ∙ off) in
           let w : t .weight ≡ x .weight = ap (λ (y : Term). y .weight) e in
-          let r : possible g xs ≡ possible f xs = possible-same g f xs (λ u k. same (u .condition) (λ q. every-member (λ (y : Term). y .condition ≢ x .condition) xs (d .0) u k (q ∙ ap (λ (y : Term). y .condition) e))) in
+          let r : possible g xs ≡ possible f xs = possible-same g f xs (λ u k. same (u .condition) (λ q. all-each (λ (y : Term). y .condition ≢ x .condition) xs (d .0) u k (q ∙ ap (λ (y : Term). y .condition) e))) in
           omega arith
       by ih (inr k) =
           let a : cond (g (x .condition)) 0 (x .weight) ≡ cond (f (x .condition)) 0 (x .weight) =
-          ap (λ (b : Bool). cond b 0 (x .weight)) (same (x .condition) (λ q. every-member (λ (y : Term). y .condition ≢ x .condition) xs (d .0) t k (sym q))) in
+          ap (λ (b : Bool). cond b 0 (x .weight)) (same (x .condition) (λ q. all-each (λ (y : Term). y .condition ≢ x .condition) xs (d .0) t k (sym q))) in
           let r = ih k in
           omega arith
 

@@ -10,10 +10,10 @@ use lib.Signed.{_≤ℤ_}
 use borrow.Author.Tests.{not-true}
 use Rattle.numeric.specs.Threshold.{Job}
 use Rattle.numeric.specs.Layout.{Layout, IsLayout}
+use Rattle.numeric.specs.LayoutLaws.{sumOf}
 use Rattle.state.specs.declared.Upper.the-variants.{Under}
 use Rattle.state.specs.Step.{contradicts}
 use Rattle.words.specs.Mask.{bit}
-use Rattle.row.specs.SumLaws.{sumOf}
 use Rattle.thresholds.specs.Rows.{Row}
 use Rattle.between.specs.Between.{Index, Live, stateAt, Did}
 use Rattle.theorem_table.specs.Table.{Table, start, termsOf}

@@ -12,6 +12,7 @@ use lib.IntN.{ℤ, pos, negsuc}
 use lib.Signed.{mag}
 use borrow.Author.Tests.{leb-true}
 use Rattle.base.specs.All.{All}
+use Rattle.base.specs.AllLaws.{all-each}
 use Rattle.memory.specs.Limits.{maxNodes, maxTerms}
 use Rattle.memory.specs.Ranges.{rawLimit, weightLimit, totalLimit, figureLimit}
 use Rattle.memory.specs.Buffers.{Built}
@@ -33,7 +34,7 @@ use Rattle.between.specs.Between.{Index}
 use Rattle.between.specs.Held.{startBy, endBy, edgeIn, Inside, Shaped, EdgesShaped, LinksShaped, GuardsShaped, Holds, noThreshold, rowAt, HoldsGuards}
 use Rattle.between.specs.Ready.{Totals, Names}
 use Rattle.files.specs.Drain.{indexOf}
-use Rattle.theorem_ends.specs.BuiltLaws.{every-append, every-each, every-at, rows-every, rows-few, There, all-there, edges-from, linked-rows, indexed, fits-node, fits-condition}
+use Rattle.theorem_ends.specs.BuiltLaws.{every-append, every-at, rows-every, rows-few, There, all-there, edges-from, linked-rows, indexed, fits-node, fits-condition}
 use Rattle.theorem_ends.specs.Good.{Fit, Fits, Light}
 use Rattle.theorem_ends.specs.SizeLaws.{row-terms-few}
 use Rattle.theorem_follows.specs.BuiltLaws.{built, guard-threshold, rows-ordered}
@@ -117,8 +118,8 @@ rows-names : (Ok : ℕ → Type 0) (j : Job) → All (Named Ok) (j .thresholds) 
 rows-names Ok j h r k = record {
   guards = λ g i.
       let o = guard-threshold j (indexOf j) (built j (indexOf j) refl refl refl) r g (k, i) in
-      subst Ok (sym (o .2)) (every-each (Named Ok) (j .thresholds) h (o .0) (o .1) .0);
-  terms = every-each (λ (u : Term). Ok (u .condition)) (getD (rowsOf j) r noRow .terms)
+      subst Ok (sym (o .2)) (all-each (Named Ok) (j .thresholds) h (o .0) (o .1) .0);
+  terms = all-each (λ (u : Term). Ok (u .condition)) (getD (rowsOf j) r noRow .terms)
       (rows-every (λ (y : Row). All (λ (u : Term). Ok (u .condition)) (y .terms)) (Named Ok)
       (λ t q. all-sorted (λ (u : Term). Ok (u .condition)) (merged (t .terms)) (conditions-merged Ok (t .terms) (q .1))) (λ t y q a. a) tt j h r);
 }

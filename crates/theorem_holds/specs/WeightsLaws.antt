@@ -7,6 +7,7 @@ use mathlib.Core.List.{List, [], _∷_}
 use lib.Dec.{eqb}
 use lib.ListN.{length}
 use Rattle.base.specs.All.{All}
+use Rattle.base.specs.AllLaws.{all-each}
 use Rattle.memory.specs.Limits.{listTerms}
 use Rattle.memory.specs.Ranges.{rawLimit, weightLimit}
 use Rattle.numeric.specs.Threshold.{Term, Threshold, Job}
@@ -14,7 +15,7 @@ use Rattle.row.specs.Terms.{rowTerms, total}
 use Rattle.row.specs.TermsLaws.{all-map}
 use Rattle.row.specs.SumLaws.{row-total}
 use Rattle.thresholds.specs.Rows.{Row, rowsOf, Edge, edge, edgesIn, edgesFrom}
-use Rattle.theorem_ends.specs.BuiltLaws.{every-append, every-each, every-mem, rows-all}
+use Rattle.theorem_ends.specs.BuiltLaws.{every-append, every-mem, rows-all}
 use Rattle.theorem_ends.specs.Good.{Fit, Fits, Light}
 
 total-most : (ts : List Term) → All (λ (u : Term). u .weight < rawLimit) ts → total ts + length ts ≤ length ts * rawLimit
@@ -39,7 +40,7 @@ pub totals : (j : Job) → Fits j → Light rawLimit j → All (λ (r : Row). to
 totals j f l =
     rows-all (λ (r : Row). total (r .terms) < weightLimit) Few row-most (λ t r q a. a) j
     (every-mem Few (j .thresholds)
-    (λ t m. (every-each (Fit (j .nodes)) (j .thresholds) (f .each) t m .short, every-each (λ (t : Threshold). All (λ (u : Term). u .weight < rawLimit) (t .terms)) (j .thresholds) l t m)))
+    (λ t m. (all-each (Fit (j .nodes)) (j .thresholds) (f .each) t m .short, all-each (λ (t : Threshold). All (λ (u : Term). u .weight < rawLimit) (t .terms)) (j .thresholds) l t m)))
 
 pub weights : (rs : List Row) → All (λ (r : Row). total (r .terms) < weightLimit) rs → All (λ (r : Row). All (λ (u : Term). u .weight < weightLimit) (r .terms)) rs
 weights rs a =

@@ -16,13 +16,14 @@ use Rattle.base.specs.TestLaws.{and-true, unequal}
 use Rattle.base.specs.SignedLaws.{leZ-pos, ltZ-pos, max-least}
 use Rattle.numeric.specs.Threshold.{Term, Threshold, Job}
 use Rattle.numeric.specs.Layout.{Layout, IsLayout, constraint, value}
+use Rattle.numeric.specs.LayoutLaws.{sumOf, value-sum}
 use Rattle.state.specs.declared.Upper.the-variants.{Under}
 use Rattle.row.specs.Terms.{rowTerms, sameTerms}
-use Rattle.row.specs.SumLaws.{row-sum, value-sum, sumOf}
+use Rattle.row.specs.SumLaws.{row-sum}
 use Rattle.thresholds.specs.Rows.{Row, rowOf, Guard, guard, noRow, insertGuard, below, place, placeAll, rowsOf}
-use Rattle.theorem_table.specs.Table.{Table, known, possible, termsOf, Guards, knownOf, possibleOf, reachedOf, Step, sure-guard, never-guard, bound-reached, bound-out-of-reach, term-needed, term-too-heavy, longer-lower, shorter-upper, Conflict, both, lower-above, upper-reached, AtRest}
+use Rattle.theorem_table.specs.Table.{Table, possible, termsOf, Guards, knownOf, possibleOf, reachedOf, Step, sure-guard, never-guard, bound-reached, bound-out-of-reach, term-needed, term-too-heavy, longer-lower, shorter-upper, Conflict, both, lower-above, upper-reached, AtRest}
 use Rattle.theorem_table.specs.OrderLaws.{le, lt, of-le, ≤ℤ-trans, pos-≤ℤ}
-use Rattle.theorem_table.specs.TableLaws.{Le, Follows, conflict-up}
+use Rattle.theorem_table.specs.TableLaws.{Le, known-sum, Follows, conflict-up}
 
 -- ROWS come from thresholds: a row's terms are those of its raw list, and each of its guards is a threshold with that list
 
@@ -93,11 +94,6 @@ pub row-made : (j : Job) (r : ℕ) → r < length (rowsOf j) → Made (j .thresh
 row-made j r h = made-at (j .thresholds) (rowsOf j) r (placed-all (j .thresholds) (j .thresholds) [] (λ t m. m) tt) h
 
 -- SUMS under a layout
-
-known-sum : (v : Layout) (ts : List Term) → known v ts ≡ sumOf v ts
-unfolding known sumOf
-known-sum v [] = refl
-known-sum v (t ∷ ts) = ap (λ (n : ℕ). cond (v (t .condition)) (t .weight) 0 + n) (known-sum v ts)
 
 flip : (b : Bool) (w : ℕ) → cond (not b) 0 w ≡ cond b w 0
 flip true w = refl

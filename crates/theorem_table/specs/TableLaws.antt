@@ -13,6 +13,7 @@ use lib.Signed.{_≤ℤ_, _<ℤ_, ≤ℤ-refl, <ℤ-≤ℤ-trans}
 use borrow.Author.Tests.{eqb-true}
 use Rattle.base.specs.TestLaws.{same-bool, true-false}
 use Rattle.numeric.specs.Threshold.{Term}
+use Rattle.numeric.specs.LayoutLaws.{sumOf, one-rises, sum-rises}
 use Rattle.state.specs.declared.Upper.{Upper}
 use Rattle.state.specs.declared.Upper.the-variants.{Open, Under}
 use Rattle.thresholds.specs.Rows.{Row}
@@ -47,9 +48,10 @@ le-both s t a b = λ i. record {
 
 -- SUMS OF THE MASKS
 
-one-known : (a b : Bool) (w : ℕ) → (a ≡ true → b ≡ true) → cond a w 0 ≤ cond b w 0
-one-known true b w h = subst (λ (c : Bool). w ≤ cond c w 0) (sym (h refl)) (le-refl w)
-one-known false b w h = omega arith
+pub known-sum : (v : ℕ → Bool) (ts : List Term) → known v ts ≡ sumOf v ts
+unfolding known sumOf
+known-sum v [] = refl
+known-sum v (t ∷ ts) = ap (λ (n : ℕ). cond (v (t .condition)) (t .weight) 0 + n) (known-sum v ts)
 
 one-possible : (a b : Bool) (w : ℕ) → (a ≡ true → b ≡ true) → cond b 0 w ≤ cond a 0 w
 one-possible true b w h = subst (λ (c : Bool). cond c 0 w ≤ 0) (sym (h refl)) (le-refl 0)
@@ -57,9 +59,7 @@ one-possible false true w h = omega arith
 one-possible false false w h = le-refl w
 
 pub known-up : (f g : ℕ → Bool) (ts : List Term) → ((n : ℕ) → f n ≡ true → g n ≡ true) → known f ts ≤ known g ts
-unfolding known
-known-up f g [] h = le-refl 0
-known-up f g (t ∷ ts) h = let a = known-up f g ts h in let b = one-known (f (t .condition)) (g (t .condition)) (t .weight) (h (t .condition)) in omega arith
+known-up f g ts h = omega (arith, known-sum f ts, known-sum g ts, sum-rises f g h ts)
 
 pub possible-down : (f g : ℕ → Bool) (ts : List Term) → ((n : ℕ) → f n ≡ true → g n ≡ true) → possible g ts ≤ possible f ts
 unfolding possible
@@ -81,7 +81,7 @@ known-rise f g (x ∷ xs) t h m e d =
     let z : t .weight ≡ x .weight = ap (λ (y : Term). y .weight) q in
     omega arith)
     (λ (n : List·Memᴰ t xs).
-    let a = known-rise f g xs t h n e d in let b = one-known (f (x .condition)) (g (x .condition)) (x .weight) (h (x .condition)) in omega arith)
+    let a = known-rise f g xs t h n e d in let b = one-rises (f (x .condition)) (g (x .condition)) (x .weight) (h (x .condition)) in omega arith)
     (List·Memᴰ·cases-cons m)
 
 pub possible-drop : (f g : ℕ → Bool) (ts : List Term) (t : Term) → ((n : ℕ) → f n ≡ true → g n ≡ true) → List·Memᴰ t ts → f (t .condition) ≡ false → g (t .condition) ≡ true
