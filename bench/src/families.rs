@@ -109,7 +109,7 @@ pub struct Family {
     pub grows: bool,
 }
 
-pub const FAMILIES: [Family; 19] = [
+pub const FAMILIES: [Family; 22] = [
     Family { name: "tiny jobs", make: tiny, grows: false },
     Family { name: "1,024 thresholds of 4 terms, sealed", make: many_sealed, grows: true },
     Family { name: "the same, some marked and settled", make: many_settled, grows: true },
@@ -126,6 +126,9 @@ pub const FAMILIES: [Family; 19] = [
     Family { name: "one mark decides 4,096 nodes, a tree", make: cascade_tree, grows: true },
     Family { name: "one mark decides 1,024 nodes, a line", make: cascade_line, grows: true },
     Family { name: "64 sifts with residual rows", make: residuals, grows: true },
+    Family { name: "the same, weights below 64", make: small_residuals, grows: true },
+    Family { name: "the same, these weights times 1,024", make: scaled_residuals, grows: true },
+    Family { name: "256 residual rows of 8 weights below 64", make: short_residuals, grows: true },
     Family { name: "searches over many words, cut short", make: searches_cut, grows: true },
     Family { name: "searches to their end", make: searches_whole, grows: true },
     Family { name: "refused files", make: refused, grows: false },
@@ -388,16 +391,68 @@ fn windows(
 
 /// Multiples of 5 against windows of three sums, of which one is a multiple of 5; too far up for a search.
 fn residuals(random: &mut Random, n: usize, of: usize) -> Vec<Vec<u8>> {
-    let rows = 16 * n / of;
     let middle = |row: usize| 5 * (50_000 + 10 * row as i64);
-    let mut file = windows(
-        rows,
-        128,
+    sifted(
+        n,
+        of,
         |row| (middle(row) - 1, middle(row) + 2),
-        |_, _| 5 * (1_000 + random.below(100) as u32),
-    );
+        || 5 * (1_000 + random.below(100) as u32),
+    )
+}
+
+/// Multiples of 6 below 64, which have their gcds in the planner's table; the lightest reach the window, so that each search is short.
+fn small_residuals(random: &mut Random, n: usize, of: usize) -> Vec<Vec<u8>> {
+    times(random, n, of, 1)
+}
+
+/// Every weight and bound 1,024 times as large: the same divisions, which no table has, and no search.
+fn scaled_residuals(random: &mut Random, n: usize, of: usize) -> Vec<Vec<u8>> {
+    times(random, n, of, 1_024)
+}
+
+fn times(random: &mut Random, n: usize, of: usize, unit: u32) -> Vec<Vec<u8>> {
+    let window = |row: usize| {
+        let middle = 6 * (20 + row as i64);
+        (i64::from(unit) * (middle - 1), i64::from(unit) * (middle + 2))
+    };
+    sifted(n, of, window, || unit * 6 * (1 + random.below(10) as u32))
+}
+
+/// Rows that a sift tries again whenever one of their terms was marked.
+fn sifted(
+    n: usize,
+    of: usize,
+    window: impl Fn(usize) -> (i64, i64),
+    mut weight: impl FnMut() -> u32,
+) -> Vec<Vec<u8>> {
+    let mut file = windows(16 * n / of, 128, window, |_, _| weight());
     for sift in 0..64 {
         file.mark(sift, false);
+        file.sift();
+    }
+    vec![file.0]
+}
+
+/// Short rows with windows around the sum of every other term. Marks follow that choice, so that no search contradicts.
+fn short_residuals(random: &mut Random, n: usize, of: usize) -> Vec<Vec<u8>> {
+    let rows = 256 * n / of;
+    let mut file = File::header(10 * rows);
+    for row in 0..rows {
+        let list: Vec<_> =
+            (0..8).map(|place| (8 * row + place, 1 + random.below(63) as u32)).collect();
+        let chosen: i64 = list.iter().step_by(2).map(|&(_, weight)| i64::from(weight)).sum();
+        for (guard, bound) in [chosen - 1, chosen + 2].into_iter().enumerate() {
+            file.threshold(8 * rows + 2 * row + guard, bound);
+            file.terms(list.iter().copied());
+        }
+    }
+    file.seal();
+    for row in 0..rows {
+        file.mark(8 * rows + 2 * row, true);
+        file.mark(8 * rows + 2 * row + 1, false);
+    }
+    for place in 0..6 {
+        (0..rows).for_each(|row| file.mark(8 * row + place, place % 2 == 0));
         file.sift();
     }
     vec![file.0]

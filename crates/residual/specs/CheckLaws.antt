@@ -19,7 +19,8 @@ use Rattle.state.specs.declared.State.{State}
 use Rattle.state.specs.State.{reached, upperAtMost, hasResidualInterval}
 use Rattle.thresholds.specs.Rows.{hasNonunit}
 use Rattle.residual.specs.declared.Interval.{Interval}
-use Rattle.residual.specs.Gcd.{gcd, misses}
+use Rattle.divisors.specs.Gcd.{gcd}
+use Rattle.residual.specs.Misses.{misses}
 use Rattle.residual.specs.Residual.{interval, stopsAt, checkFrom, residualCheck}
 
 module _ (i : Interval) (d : ℕ → Bool) (t : Term) (ts : List Term) (divisor : ℕ) where

@@ -9,7 +9,7 @@ use Rattle.state.specs.declared.State.{State}
 use Rattle.state.specs.State.{hasResidualInterval}
 use Rattle.thresholds.specs.Rows.{hasNonunit}
 use Rattle.residual.specs.declared.Interval.{Interval}
-use Rattle.residual.specs.Gcd.{gcd}
+use Rattle.divisors.specs.Gcd.{gcd}
 use Rattle.residual.specs.Residual.{interval, tooWide, bothFit, fitsFrom, nothingForced}
 use Rattle.numeric.specs.TermsLaws.{lastTerms, last-next, last-none}
 

@@ -22,7 +22,7 @@ use Rattle.queues.specs.MarksLaws.{waits-decide}
 use Rattle.queues.specs.Waiting.{Waits}
 use Rattle.queues.specs.Marks.{Marks, marks, isDecided, Decided, decided, decide}
 use Rattle.residual.specs.declared.Interval.{Interval}
-use Rattle.residual.specs.Gcd.{gcd}
+use Rattle.divisors.specs.Gcd.{gcd}
 use Rattle.residual.specs.MissesLaws.{clash}
 use Rattle.numeric.specs.Slices.{Below, terms}
 use Rattle.residual.specs.SuffixLaws.{length-suffix}

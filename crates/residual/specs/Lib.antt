@@ -1,5 +1,4 @@
-pub mod Gcd
-pub mod GcdLaws
+pub mod Misses
 pub mod MissesLaws
 pub mod Residual
 pub mod Shape

@@ -9,7 +9,7 @@ use lib.Dec.{ltb}
 use native.Mathlib.Decide.{decLt}
 use borrow.Author.Tests.{lt-ltb, le-ltb, ltb-true, ltb-false, eq-eqb, ne-eqb}
 use Rattle.base.specs.TestLaws.{unequal}
-use Rattle.residual.specs.Gcd.{distance, misses, branchMisses}
+use Rattle.residual.specs.Misses.{distance, misses, branchMisses}
 
 pub clash : true ≡ false → ⊥
 clash q = unequal cc

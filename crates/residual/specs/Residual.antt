@@ -15,7 +15,8 @@ use Rattle.state.specs.State.{natural, limit, reached, upperAtMost, hasResidual
 use Rattle.queues.specs.Marks.{Marks, isDecided, Decided, decided, decide}
 use Rattle.thresholds.specs.Rows.{hasNonunit}
 use Rattle.residual.specs.declared.Interval.{Interval}
-use Rattle.residual.specs.Gcd.{gcd, misses, branchMisses}
+use Rattle.divisors.specs.Gcd.{gcd}
+use Rattle.residual.specs.Misses.{misses, branchMisses}
 
 -- The figures of a row with a residual interval; none of them is negative. `upper` is the last sum allowed.
 abbrev pub interval : State → Interval

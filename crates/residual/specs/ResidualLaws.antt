@@ -24,8 +24,9 @@ use Rattle.state.specs.Step.{contradicts}
 use Rattle.state.specs.State.{limit, reached, upperAtMost, hasResidualInterval}
 use Rattle.thresholds.specs.Rows.{hasNonunit}
 use Rattle.residual.specs.declared.Interval.{Interval}
-use Rattle.residual.specs.Gcd.{gcd, misses}
-use Rattle.residual.specs.GcdLaws.{chosen, gcd-left, gcd-right}
+use Rattle.divisors.specs.Gcd.{gcd}
+use Rattle.residual.specs.Misses.{misses}
+use Rattle.divisors.specs.GcdLaws.{chosen, gcd-left, gcd-right}
 use Rattle.residual.specs.MissesLaws.{clash, misses-sum, branch-sum}
 use Rattle.residual.specs.Residual.{interval, stopsAt, checkFrom, residualCheck, offMisses, onMisses}
 use Rattle.residual.specs.Shape.{Window}

@@ -26,8 +26,8 @@ use Rattle.queues.specs.Marks.{Marks, isDecided, Decided, decide}
 use Rattle.queues.specs.MarksLaws.{mask, decide-there, decide-new, decide-other, decide-opposite}
 use Rattle.thresholds.specs.Rows.{hasNonunit}
 use Rattle.residual.specs.declared.Interval.{Interval}
-use Rattle.residual.specs.Gcd.{gcd}
-use Rattle.residual.specs.GcdLaws.{chosen, gcd-left, gcd-right}
+use Rattle.divisors.specs.Gcd.{gcd}
+use Rattle.divisors.specs.GcdLaws.{chosen, gcd-left, gcd-right}
 use Rattle.residual.specs.MissesLaws.{clash, branch-sum}
 use Rattle.residual.specs.Residual.{interval, residualCheck, fitsFrom, suffixFrom, suffixes, offMisses, onMisses, forceTerm, forceFrom, Residual, over, nothingForced, thresholdResidual}
 use Rattle.residual.specs.IntervalLaws.{natural-mono, natural-last, limit-above}

@@ -10,7 +10,7 @@ use lib.Seq.{sets, sets-eq, take-length}
 use Rattle.numeric.specs.Threshold.{Term}
 use Rattle.numeric.specs.Slices.{terms}
 use Rattle.numeric.specs.TermsLaws.{down-terms}
-use Rattle.residual.specs.Gcd.{gcd}
+use Rattle.divisors.specs.Gcd.{gcd}
 use Rattle.residual.specs.Residual.{suffixFrom, suffixes, over}
 
 pub length-suffix : (d : ℕ → Bool) (ts : List Term) (suffix : ℕ) → length (suffixFrom d ts suffix) ≡ suc (length ts)

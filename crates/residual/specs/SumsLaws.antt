@@ -6,7 +6,7 @@ use mathlib.Core.Path.{_≡_, refl, sym, ap, _∙_, subst}
 use mathlib.Core.Bool.{Bool, true, false, cond}
 use mathlib.Core.List.{List, [], _∷_, _++_, reverse, reverse-cons, reverse-reverse, append-nil}
 use Rattle.numeric.specs.Threshold.{Term}
-use Rattle.residual.specs.GcdLaws.{chosen, gcdAll, gcd-left, gcd-right}
+use Rattle.divisors.specs.GcdLaws.{chosen, gcdAll, gcd-left, gcd-right}
 
 -- The weights of the undecided terms, and what a layout chooses of them.
 unfoldable pub openWeights : (ℕ → Bool) → List Term → List ℕ

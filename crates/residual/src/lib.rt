@@ -16,7 +16,8 @@ ghost use Rattle.queues.specs.Shape.{Held};
 ghost use Rattle.state.specs.declared.Step.the-variants.{Unchanged};
 ghost use Rattle.queues.specs.Waiting.{Waits};
 ghost use Rattle.queues.specs.Marks.{marks, decided as decidedOf};
-ghost use Rattle.residual.specs.Gcd.{gcd, misses, branchMisses};
+ghost use Rattle.divisors.specs.Gcd.{gcd};
+ghost use Rattle.residual.specs.Misses.{misses, branchMisses};
 ghost use Rattle.residual.specs.Shape.{Window};
 ghost use Rattle.residual.specs.Residual.{
   interval,
@@ -52,7 +53,8 @@ pub struct Interval {
     pub width: u64,
 }
 
-// The greatest common divisor, 0 standing for no number. The right number falls at each turn.
+// The greatest common divisor, 0 standing for no number: of two numbers below 64 from a table, of others by a loop in which the right
+// number falls at each turn.
 fn gcd(left: u64, right: u64) -> u64
     ensures { λ r. ⌜ r ≡ gcd left right ⌝ }
 {
@@ -68,6 +70,15 @@ fn gcd(left: u64, right: u64) -> u64
     }
     if right == 1 {
         return 1;
+    }
+    // In a row most weights are multiples of what the others share.
+    if right % left == 0 {
+        return left;
+    }
+    if left < 64 {
+        if right < 64 {
+            return divisors::small_gcd(left, right);
+        }
     }
     let mut a = left;
     let mut b = right;

@@ -35,7 +35,7 @@ use Rattle.row.specs.TermsLaws as TermsLaws
 use Rattle.thresholds.specs.Rows.{Row, noRow, rowsOf, hasNonunit}
 use Rattle.propagate.specs.Guards.{Condition}
 use Rattle.residual.specs.declared.Interval.{Interval}
-use Rattle.residual.specs.Gcd.{gcd}
+use Rattle.divisors.specs.Gcd.{gcd}
 use Rattle.residual.specs.Residual.{interval, residualCheck, suffixes, forceTerm, forceFrom, Residual, residual, over, nothingForced, thresholdResidual}
 use Rattle.residual.specs.CheckLaws.{check-unit}
 use Rattle.residual.specs.ForceLaws.{force-cases, from-skip, from-stop, from-more, residual-none, residual-rest, residual-forced}

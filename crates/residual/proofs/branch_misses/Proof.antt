@@ -2,7 +2,7 @@
 use Prim.Native.Nat.{ℕ}
 use mathlib.Core.Path.{sym, ap₂, _∙_}
 use borrow.Author.Needs.{needs}
-use Rattle.residual.specs.Gcd.{misses}
+use Rattle.residual.specs.Misses.{misses}
 use Rattle.residual.specs.MissesLaws.{branch-empty, branch-open}
 use Rattle.residual.proofs.branch_misses.Statement.{statement}
 use Rattle.residual.proofs.branch_misses.Tie as tie

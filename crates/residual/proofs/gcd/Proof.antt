@@ -1,10 +1,12 @@
--- `residual::gcd` meets its contract: the loop keeps the gcd of its two numbers, and the right one falls.
+-- `residual::gcd` meets its contract: what is nothing to divide, the table, and the loop, which keeps the gcd of its two numbers while the
+-- right one falls.
 use Prim.Native.Nat.{ℕ}
 use native.Mathlib.Omega.{arith}
 use native.Mathlib.Nat.{mod-lt}
 use mathlib.Core.Path.{_≡_, refl, sym, ap, _∙_}
-use Rattle.residual.specs.Gcd.{gcd}
-use Rattle.residual.specs.GcdLaws.{gcd-none, gcd-same, gcd-zero, gcd-step, gcd-one, one-gcd}
+use borrow.Author.Needs.{needs}
+use Rattle.divisors.specs.Gcd.{gcd}
+use Rattle.divisors.specs.GcdLaws.{gcd-none, gcd-same, gcd-zero, gcd-step, gcd-one, one-gcd, gcd-multiple}
 use Rattle.residual.proofs.gcd.Statement.{statement}
 use Rattle.residual.proofs.gcd.Tie as tie
 
@@ -34,6 +36,14 @@ returns-4 c =
     let g = c .before .before .before .before .args in
     sym (ap (gcd (g .left)) (c .if4 .taken) ∙ gcd-one (g .left))
 
+rem-if5 : tie.Need-rem-if5 Inv-loop μ-loop
+rem-if5 c = omega arith
+
+returns-5 : tie.Need-returns-5 Inv-loop μ-loop
+returns-5 c =
+    let g = c .before .before .before .before .before .args in
+    sym (gcd-multiple (g .left) (g .right) (c .if5 .taken))
+
 loop-holds : tie.Need-loop-holds Inv-loop μ-loop
 loop-holds c = refl
 
@@ -48,8 +58,8 @@ loop-again c =
     let w = c .before .loop in
     sym (gcd-step (w .a) (w .b) (omega arith)) ∙ w .inv
 
-returns-5 : tie.Need-returns-5 Inv-loop μ-loop
-returns-5 c =
+returns-7 : tie.Need-returns-7 Inv-loop μ-loop
+returns-7 c =
     let w = c .before .loop in
     sym (gcd-zero (w .a)) ∙ ap (gcd (w .a)) (sym (c .loop-test .left)) ∙ w .inv
 
@@ -63,8 +73,11 @@ gcd-spec =
     returns-2
     returns-3
     returns-4
+    rem-if5
+    returns-5
+    (λ c κs. search needs) (λ c. search needs)
     loop-holds
     rem-remainder
     loop-less
     loop-again
-    returns-5)
+    returns-7)

@@ -4,7 +4,7 @@ use native.Mathlib.Omega.{arith}
 use native.Mathlib.Nat.{mod-lt}
 use borrow.Author.Needs.{needs}
 use borrow.Author.Tests.{lt-ltb, le-ltb, eq-eqb, ne-eqb}
-use Rattle.residual.specs.Gcd.{misses}
+use Rattle.residual.specs.Misses.{misses}
 use Rattle.residual.proofs.misses.Statement.{statement}
 use Rattle.residual.proofs.misses.Tie as tie
 

@@ -1,7 +1,7 @@
 -- `residual::off_misses` meets its contract.
 use Prim.Native.Nat.{ℕ}
 use mathlib.Core.Path.{ap, _∙_}
-use Rattle.residual.specs.Gcd.{branchMisses}
+use Rattle.residual.specs.Misses.{branchMisses}
 use borrow.Author.Needs.{needs}
 use Rattle.residual.proofs.off_misses.Statement.{statement}
 use Rattle.residual.proofs.off_misses.Tie as tie

@@ -8,7 +8,7 @@ use borrow.Author.Needs.{needs}
 use Rattle.numeric.specs.Slices.{terms}
 use Rattle.numeric.specs.TermsLaws.{length-terms}
 use Rattle.words.specs.Mask.{inEither}
-use Rattle.residual.specs.Gcd.{gcd}
+use Rattle.divisors.specs.Gcd.{gcd}
 use Rattle.residual.specs.Residual.{suffixes, over}
 use Rattle.residual.specs.SuffixLaws.{laid, laid-start, laid-next, laid-end}
 use Rattle.residual.proofs.prepare_suffix.Statement.{statement}

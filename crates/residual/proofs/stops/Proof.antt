@@ -2,7 +2,7 @@
 use Prim.Native.Nat.{ℕ}
 use mathlib.Core.Path.{sym, ap, _∙_}
 use mathlib.Core.Bool.{not}
-use Rattle.residual.specs.Gcd.{misses}
+use Rattle.residual.specs.Misses.{misses}
 use Rattle.residual.specs.CheckLaws.{stops-first, stops-one, stops-same, stops-new}
 use borrow.Author.Needs.{needs}
 use Rattle.residual.proofs.stops.Statement.{statement}

@@ -1,16 +1,7 @@
--- The greatest common divisor by remainders, and whether a lattice of sums misses an interval.
-use Prim.Native.Nat.{ℕ, zero, suc, _-_, _%_, min, max}
+-- Whether a lattice of sums misses an interval.
+use Prim.Native.Nat.{ℕ, _-_, _%_, min, max}
 use mathlib.Core.Bool.{Bool, true, cond, _||_}
 use lib.Dec.{eqb, ltb}
-
--- The second number falls at each step, so that it serves as the count of steps.
-unfoldable pub gcdIn : ℕ → ℕ → ℕ → ℕ
-gcdIn zero a b = a
-gcdIn (suc n) a zero = a
-gcdIn (suc n) a (suc b) = gcdIn n (suc b) (a % suc b)
-
-unfoldable pub gcd : ℕ → ℕ → ℕ
-gcd a b = gcdIn b a b
 
 -- From a number up to the next one that lies a multiple of the divisor away.
 abbrev pub distance : ℕ → ℕ → ℕ

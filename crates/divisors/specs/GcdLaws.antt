@@ -9,6 +9,7 @@ use native.Mathlib.Nat.{
   dvd-refl,
   dvd-zero,
   dvd-mod-iff,
+  dvd-of-mod-eq-zero,
   dvd-trans,
   dvd-antisymm,
   one-dvd,
@@ -18,7 +19,7 @@ use native.Mathlib.Omega.{arith}
 use mathlib.Core.Path.{_≡_, refl}
 use mathlib.Core.List.{List, [], _∷_}
 use mathlib.Core.Bool.{Bool, true, false}
-use Rattle.residual.specs.Gcd.{gcdIn, gcd}
+use Rattle.divisors.specs.Gcd.{gcdIn, gcd}
 
 -- Enough steps are enough.
 enough : (n m a b : ℕ) → b ≤ n → b ≤ m → gcdIn n a b ≡ gcdIn m a b
@@ -88,6 +89,9 @@ gcd-none b = gcd-only 0 b b (dvd-zero b) (dvd-refl b) (λ d p q. q)
 
 pub gcd-same : (a : ℕ) → gcd a a ≡ a
 gcd-same a = gcd-only a a a (dvd-refl a) (dvd-refl a) (λ d p q. p)
+
+pub gcd-multiple : (a b : ℕ) → b % a ≡ 0 → gcd a b ≡ a
+gcd-multiple a b h = gcd-only a b a (dvd-refl a) (dvd-of-mod-eq-zero a h) (λ d p q. p)
 
 pub gcd-comm : (a b : ℕ) → gcd a b ≡ gcd b a
 gcd-comm a b = gcd-only a b (gcd b a) (gcd-right b a) (gcd-left b a) (λ d p q. gcd-greatest b a d q p)

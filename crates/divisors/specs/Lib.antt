@@ -1,0 +1,4 @@
+pub mod Gcd
+pub mod GcdLaws
+pub mod Table
+pub mod TableLaws
