@@ -67,17 +67,5 @@ pub gcd-spec : {M : Type 1} → statement M
 gcd-spec =
     tie.close
     (tie.spec
-    Inv-loop
-    μ-loop
-    returns
-    returns-2
-    returns-3
-    returns-4
-    rem-if5
-    returns-5
-    (λ c κs. search needs) (λ c. search needs)
-    loop-holds
-    rem-remainder
-    loop-less
-    loop-again
-    returns-7)
+    Inv-loop μ-loop returns returns-2 returns-3 returns-4 rem-if5 returns-5 (λ c κs. search needs) (λ c. search needs) loop-holds rem-remainder
+    loop-less loop-again returns-7)
