@@ -22,6 +22,7 @@ use Rattle.queues.specs.Marks.{Marks, isDecided, decided, decide}
 use Rattle.thresholds.specs.Rows.{Row, noRow, Guard}
 use Rattle.propagate.specs.Scan.{Scanned, force}
 use Rattle.propagate.specs.ScanLaws.{all-drop, all-take, all-reverse, scan-keeps}
+use Rattle.propagate.specs.RowLaws.{decides-keeps}
 use Rattle.propagate.specs.Row.{Ran, ran, sureWaits, decides, sureGuards, neverWaits, neverGuards, thresholdGuards, termWaits, forces, forced, trueTerms, falseTerms, thresholdRow}
 use Rattle.between.specs.Between.{Index, Live, stateAt, runRow, runWith, thresholdGuard, thresholdCondition, thresholdPrefixes}
 use Rattle.between.specs.RunsLaws.{guardsRun, trueRun, run-ends}
@@ -56,7 +57,7 @@ module _ (P : Marks → Type 0) (Ok : ℕ → Type 0) (each : (value : Bool) (m 
       b = neverGuards gs s (a .marks) (a .step)
 
       pa : P (a .marks)
-      pa = scan-keeps (sureWaits s) (decides true) P Guarded (λ (g : Guard) k h q. each true k (g .node) h q) (drop (s .«sure_guard») gs) 0 m Unchanged (all-drop Guarded (s .«sure_guard») gs are) p
+      pa = scan-keeps (sureWaits s) (decides true) P Guarded (λ (g : Guard) k h q. decides-keeps P true g k q (each true k (g .node) h q)) (drop (s .«sure_guard») gs) 0 m Unchanged (all-drop Guarded (s .«sure_guard») gs are) p
 
       ends : Bool → Ran
       ends t = elim t [
@@ -66,7 +67,7 @@ module _ (P : Marks → Type 0) (Ok : ℕ → Type 0) (each : (value : Bool) (m 
 
       by : (t : Bool) → P (ends t .marks)
       by true = pa
-      by false = scan-keeps (neverWaits s) (decides false) P Guarded (λ (g : Guard) k h q. each false k (g .node) h q) (reverse (take (s .«never_guard») gs)) 0 (a .marks) (a .step)
+      by false = scan-keeps (neverWaits s) (decides false) P Guarded (λ (g : Guard) k h q. decides-keeps P false g k q (each false k (g .node) h q)) (reverse (take (s .«never_guard») gs)) 0 (a .marks) (a .step)
           (all-reverse Guarded (take (s .«never_guard») gs) (all-take Guarded (s .«never_guard») gs are)) pa
 
   module _ (ts : List Term) (are : All Stands ts) where

@@ -37,8 +37,8 @@ use Rattle.theorem_holds.specs.GatheredLaws.{gathered-light}
 use Rattle.serve.specs.declared.Reached.{Reached}
 use Rattle.serve.specs.Serve.{readAt}
 use Rattle.serve.specs.ReadLaws.{ended, taken-any, seal-goes}
-use Rattle.phases.specs.Phase.{BuiltRoom, KeptRoom, Blank, Stops, ending, Leaves}
-use Rattle.phases.specs.JobLaws.{job-ended, leaves-file}
+use Rattle.phases.specs.Phase.{BuiltRoom, KeptRoom, Blank, Stops, ending, Leaves, LeavesOn}
+use Rattle.phases.specs.JobLaws.{job-ended, job-blank, job-unsealed, leaves-file}
 use Rattle.files.specs.declared.Given.{Given}
 use Rattle.call.specs.Call.{Builds}
 use Rattle.call.specs.CallLaws.{cleared-room}
@@ -108,7 +108,7 @@ module _ (input : List ℕ) where
       let e = file-ends input q in
       record {
         job = ap (λ (p : Outcome). jobOf (p .file .draft)) e;
-        sealed = ap (λ (p : Outcome). p .file .sealed) e ∙ job-ended input .before .unsealed ∙ sym q;
+        sealed = ap (λ (p : Outcome). p .file .sealed) e ∙ job-unsealed input ∙ sym q;
         closed = λ z. absurd (both z q);
       }
 
@@ -184,7 +184,7 @@ module _ (input : List ℕ) (w : Work) (yes-fits : fits input w ≡ true) (r : J
       λ q.
           let e = job-ended input in
           let z = e .next (sym (h .sealing) ∙ q) in (
-            (file, stops q, e .before .blank, h .held .stands),
+            (file, stops q, job-blank input, h .held .stands),
             subst (λ (o : ℕ). o < length input) (sym (h .at)) (z .0),
             ap (λ (k : Standing). nextAt k input (r .at)) (h .held .stands) ∙ ap (nextAt (standing file) input) (h .at) ∙ z .1,
           ),
@@ -192,9 +192,9 @@ module _ (input : List ℕ) (w : Work) (yes-fits : fits input w ≡ true) (r : J
 
     -- AFTER THE LAST
     module _ (k : Kept) (e : Reached)
-        (left : (f : File) → Blank f → r .standing ≡ standing f → (r .sealing ≡ true → Stops bs b f n) → Leaves (w .kept) k e (ending input f r)) where
+        (left : (f : File) → Blank f → r .standing ≡ standing f → (r .sealing ≡ true → Stops bs b f n) → LeavesOn (w .kept) k e (ending input f r)) where
       leaves : Leaves (w .kept) k e (fileOf input)
-      leaves = leaves-file input r (h .refusal) (h .at) (h .sealing) (w .kept) k e (left file (job-ended input .before .blank) (h .held .stands) stops)
+      leaves = leaves-file input r (h .refusal) (h .at) (h .sealing) (w .kept) k e (left file (job-blank input) (h .held .stands) stops .leaves)
 
       abbrev last : File
       last = fileOf input .file

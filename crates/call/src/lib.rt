@@ -28,7 +28,16 @@ fn read(
         (now («raw_conditions» .exit)) (now («raw_weights» .exit)) (now (thresholds .exit)) (now (bounds .exit)) ⌝ }
 {
     memory::clear_raw(raw_conditions, raw_weights, thresholds, bounds);
-    files::read_job(input, raw_conditions, raw_weights, thresholds, bounds)
+    let standing = files::nothing_read();
+    files::read_job(
+        input,
+        0,
+        standing,
+        raw_conditions,
+        raw_weights,
+        thresholds,
+        bounds,
+    )
 }
 
 // THE SECOND PHASE: clears its buffers; if reading stopped at a seal, builds what it needs. How many rows there are then, else 0.

@@ -4,11 +4,11 @@ use native.Mathlib.Omega.{arith}
 use mathlib.Core.Path.{_≡_, refl, sym, ap, ap₂, _∙_, subst}
 use mathlib.Core.Bool.{Bool, true, false, not, _||_}
 use mathlib.Core.List.{List, [], _∷_, _++_, map}
-use lib.ListN.{length, getD, drop, set, drop-of-length-le, length-map, length-set}
+use lib.ListN.{length, getD, drop, set, drop-of-length-le, length-append, length-map, length-set}
 use lib.Seq.{drop-cons, drop-drop}
 use lib.IntN.{ℤ}
-use lib.Dec.{eqb}
-use borrow.Author.Tests.{ltb-false, ne-eqb, not-false}
+use lib.Dec.{eqb, ltb, leb}
+use borrow.Author.Tests.{lt-ltb, le-leb, ltb-false, ne-eqb, not-false}
 use mathlib.Core.Logic.{_⊎_, inl, inr, ⊎-elim, _≢_}
 use Rattle.base.specs.TestLaws.{or-false, true-false, unequal}
 use Rattle.numeric.specs.Threshold.{term, Threshold, Job}
@@ -22,17 +22,17 @@ use Rattle.thresholds.specs.Guards.{nodeAt}
 use Rattle.prepare.specs.JobBuffers.{rawOf}
 use Rattle.records.specs.declared.Standing.{Standing}
 use Rattle.records.specs.declared.Record.{Record}
-use Rattle.records.specs.declared.Record.the-variants.{Header, Opens, Adds, Areas, Seal, Unknown}
-use Rattle.records.specs.Record.{kindOf, bodyLength}
+use Rattle.records.specs.declared.Record.the-variants.{Header, Opens, Adds, Areas, Seal, Mark, Settle, Sift, Unknown}
+use Rattle.records.specs.Record.{kindOf, bodyLength, recordAt}
 use Rattle.records.specs.Next.{recordIn, closing, nextAt, entryCondition, entryFigure, EntryNext}
-use Rattle.records.specs.Facts.{serving, action, facts}
+use Rattle.records.specs.Facts.{within, serving, action, facts}
 use Rattle.records.specs.declared.Next.the-variants.{Refused, Taken}
-use Rattle.records.specs.Checks.{wrongTurn, refusedBy, refusedAt}
-use Rattle.records.specs.CheckLaws.{Passes, passes, was-refused, was-taken, taken-passes, taken-whole}
+use Rattle.records.specs.Checks.{wrongTurn, unknownKind, refusedBy, refusedAt}
+use Rattle.records.specs.CheckLaws.{Passes, passes, next-unknown, was-refused, was-taken, taken-passes, taken-whole}
 use Rattle.job.specs.Job.{lastNode, lastList, allTerms, standingOf}
 use Rattle.job.specs.Taken.{openedBy, addedTo, withThreshold, withTerm, weighing, withWeight}
-use Rattle.job.specs.Gathered.{Opened, Added, openStart, Joinable, FirstArea, MoreArea, AreaTaken, first, more}
-use Rattle.job.specs.JobLaws.{map-end, list-more, list-on, all-on, all-added, job-opened, last-weighed, node-weighed, job-added, standing-opened, standing-added}
+use Rattle.job.specs.Gathered.{Gathered, Opened, Added, openStart, Joinable, FirstArea, MoreArea, AreaTaken, first, more}
+use Rattle.job.specs.JobLaws.{map-end, list-more, length-on, list-on, all-on, all-added, job-opened, last-weighed, node-weighed, job-added, standing-opened, standing-added}
 use Rattle.job.specs.SoundLaws.{gathered-none}
 use Rattle.job.specs.TakenLaws.{opened-gathered, added-gathered, term-open, counts-left}
 use Rattle.job.specs.JoinLaws.{opened-joinable, added-joinable, area-named, reweighed-gathered}
@@ -40,9 +40,9 @@ use Rattle.job.specs.RawLaws.{raw-opened, raw-added, raw-weighed}
 use Rattle.files.specs.declared.JobRead.{JobRead}
 use Rattle.files.specs.File.{File, contradicted, standing, noJob, begun, withDraft, act, apply, refusalAt}
 use Rattle.files.specs.FileLaws.{zero-or}
-use Rattle.files.specs.JobPart.{JobPart, jobPart, readJob, jobPartOf}
+use Rattle.files.specs.JobPart.{JobPart, jobPart, readJob, jobPartFrom, jobPartOf}
 use Rattle.files.specs.JobPartLaws.{job-refused, job-sealing, job-next}
-use Rattle.files.specs.Held.{headed, blank, Room, Held, noEntry, Noted, Reading, Unnoted, Takes, HeldPart, ReadPart, Reads, Going}
+use Rattle.files.specs.Held.{headed, readTo, blank, Room, anyOpen, OfJob, Builds, Held, noEntry, Noted, Reading, Unnoted, Takes, HeldPart, ReadPart, Reads, Going, GoesFrom, ReadsOn, ReadsJob}
 use Rattle.files.specs.NotedLaws.{add-new, add-old, rounded-set, noted-none, unnoted-joinable, noted-plain, no-first, noted-first, stands-there, spot-inside, only-one, noted-more}
 
 -- ---- one record that is taken
@@ -86,17 +86,20 @@ module _ (f : File) (w : Raw) (room : Room w) (s : Standing) (cs ws : List ℕ) 
       words = h .words ∙ ap (λ (j : Job). rawOf j w) first-job ∙ first-words;
       job = refl;
       gathered = gathered-none (headed s n) cs ws ts bs (ltb-false maxNodes n (p .room)) refl refl (h .gathered .termed .conditions) (h .gathered .termed .weights) (h .gathered .listed .room) (h .gathered .bounded .room);
-      unsealed = h .unsealed;
       unstarted = λ q. refl;
+      unserved = λ q. absurd (unequal cc);
+      fewer = let l = h .fewer in let e = ap length no-thresholds in omega (arith, l, e);
+      opened = λ q. absurd (let b : _≡_ {A = Bool} true false = or-false (f .sealed) true q .1 in unequal cc);
     };
-    noted = noted-none (headed s n) ts ps ss (record { places = j .places; sums = j .sums; behind = λ c. clear c; small = λ c q. absurd (let z = clear c in omega (arith, z, q)) }) refl;
+    joinable = noting;
+    noted = λ q. noted-none (headed s n) ts ps ss noting refl;
   }
     where
       p : Passes s (facts (action (Header n)))
       p = passes s (facts (action (Header n))) e
 
       j : Joinable s ts ps ss
-      j = g .noted .joinable
+      j = g .joinable
 
       no-thresholds : f .draft .thresholds ≡ []
       no-thresholds = h .unstarted (sym (ap (λ (x : Standing). x .started) (h .stands)) ∙ p .turn)
@@ -111,6 +114,9 @@ module _ (f : File) (w : Raw) (room : Room w) (s : Standing) (cs ws : List ℕ) 
       clear c =
           let q = all ∙ ap (λ (i : Job). allTerms (i .thresholds)) first-job in
           let l = j .behind c in omega (arith, q, l)
+
+      noting : Joinable (headed s n) ts ps ss
+      noting = record { places = j .places; sums = j .sums; behind = λ c. clear c; small = λ c q. absurd (let z = clear c in omega (arith, z, q)) }
 
   -- The file was started.
   begun-by : (e : Bool) → not (s .started) || s .sealed || e ≡ false → f .started ≡ true
@@ -134,16 +140,22 @@ module _ (f : File) (w : Raw) (room : Room w) (s : Standing) (cs ws : List ℕ) 
           ∙ ap (λ (j : Job). rawOf j w) (sym (job-opened now n b));
       job = o .job cs ws ∙ ap (λ (j : Job). withThreshold j n b) (h .job) ∙ sym (job-opened now n b);
       gathered = opened-gathered s n b cs ws ts bs r ts′ bs′ (h .gathered) o;
-      unsealed = h .unsealed;
       unstarted = λ q. absurd (unequal cc);
+      unserved = λ q. absurd (unequal cc);
+      fewer = let l = longer in omega (arith, l);
+      opened = λ q. lt-ltb (length (f .closed .thresholds)) (length (withThreshold now n b .thresholds)) longer;
     };
-    noted =
+    joinable = opens-so .1 ps ss (g .joinable);
+    noted = λ q.
         subst (λ (l : List Entry). Noted (joined l) r ts′ ps ss) (sym (list-more (record { node = n; bound = b; terms = [] }) (now .thresholds)))
-        (noted-none r ts′ ps ss (opens-so .1 ps ss (g .noted .joinable)) (opens-so .0 ∙ sym (ap (λ (x : Standing). x .«raw_terms») (o .standing))));
+        (noted-none r ts′ ps ss (opens-so .1 ps ss (g .joinable)) (opens-so .0 ∙ sym (ap (λ (x : Standing). x .«raw_terms») (o .standing))));
   }
     where
       held-so : Raw
       held-so = rawOf (jobOf now) w
+
+      longer : length (f .closed .thresholds) < length (withThreshold now n b .thresholds)
+      longer = let l = length-append (now .thresholds) (record { node = n; bound = b; terms = [] } ∷ []) in omega (arith, l, h .fewer)
 
       started : f .started ≡ true
       started = begun-by false (open-turn (not (s .started) || s .sealed) (passes s (facts (action (Opens n b))) e .turn))
@@ -158,6 +170,22 @@ module _ (f : File) (w : Raw) (room : Room w) (s : Standing) (cs ws : List ℕ) 
   module _ (c v : ℕ) (e : refusedBy s (Adds c v) ≡ 0) where
     started : f .started ≡ true
     started = begun-by (eqb (s .thresholds) 0) (passes s (facts (action (Adds c v))) e .turn)
+
+    -- a threshold is open, and stays so
+    is-open : anyOpen f ≡ true
+    is-open = h .opened (sym (ap (λ (x : Standing). wrongTurn x within) (h .stands)) ∙ passes s (facts (action (Adds c v))) e .turn)
+
+    noted-so : Noted (joined open-list) s ts ps ss
+    noted-so = g .noted is-open
+
+    as-many : (x : Entry) → length (withTerm now x .thresholds) ≡ length (now .thresholds)
+    as-many x = length-on (λ l. l ++ (x ∷ [])) (now .thresholds)
+
+    still-fewer : (x : Entry) → length (f .closed .thresholds) ≤ length (withTerm now x .thresholds)
+    still-fewer x = let l = as-many x in omega (arith, l, h .fewer)
+
+    still-open : (x : Entry) → ltb (length (f .closed .thresholds)) (length (withTerm now x .thresholds)) ≡ true
+    still-open x = ap (ltb (length (f .closed .thresholds))) (as-many x) ∙ is-open
 
     open-one : s .thresholds ≡ s .thresholds - 1 + 1
     open-one = term-open s c v cs ws ts (h .gathered .listed) (h .gathered .termed) e
@@ -196,8 +224,10 @@ module _ (f : File) (w : Raw) (room : Room w) (s : Standing) (cs ws : List ℕ) 
             ∙ ap (λ (j : Job). rawOf j w) (sym job-so);
         job = o .job bs ∙ ap (λ (j : Job). withTerm j (term c u)) (h .job) ∙ sym job-so;
         gathered = added-gathered s c u cs ws ts bs r cs′ ws′ ts′ (h .gathered) o;
-        unsealed = h .unsealed;
         unstarted = λ q. absurd (unequal cc);
+        unserved = λ q. absurd (unequal cc);
+        fewer = still-fewer x;
+        opened = λ q. still-open x;
       }
 
     -- The list that is open then.
@@ -208,9 +238,10 @@ module _ (f : File) (w : Raw) (room : Room w) (s : Standing) (cs ws : List ℕ) 
     unfolding apply act
     held-adds r cs′ ws′ ts′ o = record {
       held = held-entry (plain c v) v (ap (map rounded) (joined-plain c v open-list) ∙ map-end rounded (joined open-list) (plain c v)) r cs′ ws′ ts′ o;
-      noted =
+      joinable = so .1 ps ss (g .joinable);
+      noted = λ q.
           subst (λ (l : List Entry). Noted l r ts′ ps ss) (sym (ap joined (open-then (plain c v)) ∙ joined-plain c v open-list))
-          (noted-plain (joined open-list) s ts ps ss (g .noted) r ts′ (so .1 ps ss (g .noted .joinable)) (so .0) (ap (λ (y : Standing). y .«raw_terms») (o .standing)) c v);
+          (noted-plain (joined open-list) s ts ps ss noted-so r ts′ (so .1 ps ss (g .joinable)) (so .0) (ap (λ (y : Standing). y .«raw_terms») (o .standing)) c v);
     }
       where
         so : (openStart r ts′ ≡ openStart s ts) × ((qs zs : List ℕ) → Joinable s ts qs zs → Joinable r ts′ qs zs)
@@ -224,29 +255,30 @@ module _ (f : File) (w : Raw) (room : Room w) (s : Standing) (cs ws : List ℕ) 
         let l = joined-long open-list in omega (arith, k, q, l)
 
     named : c < length ps
-    named = area-named s c v cs ws ts ps ss (h .gathered .listed) (h .gathered .termed) (g .noted .joinable) e
+    named = area-named s c v cs ws ts ps ss (h .gathered .listed) (h .gathered .termed) (g .joinable) e
 
     held-first : (a : ℕ) (r : Standing) (cs′ ws′ : List ℕ) (ts′ : List (List ℕ)) (ps′ ss′ : List ℕ) → FirstArea s c a cs ws ts ps ss r cs′ ws′ ts′ ps′ ss′
         → Reading (apply f (Areas c a)) w r cs′ ws′ ts′ bs ps′ ss′
     unfolding apply act
     held-first a r cs′ ws′ ts′ ps′ ss′ o = record {
       held = held-entry (area c a) (weightOfArea a) (ap (map rounded) one ∙ map-end rounded (joined open-list) (area c a)) r cs′ ws′ ts′ (o .added);
-      noted = subst (λ (l : List Entry). Noted l r ts′ ps′ ss′) (sym (ap joined (open-then (area c a)) ∙ one)) so;
+      joinable = so .joinable;
+      noted = λ q. subst (λ (l : List Entry). Noted l r ts′ ps′ ss′) (sym (ap joined (open-then (area c a)) ∙ one)) so;
     }
       where
         same : openStart r ts′ ≡ openStart s ts
         same = added-joinable s c v cs ws ts (h .gathered .listed) (h .gathered .termed) e (weightOfArea a) r cs′ ws′ ts′ (o .added) .0
 
         room-there : length (joined open-list) < length ss
-        room-there = let k = short-list in omega (arith, k, g .noted .joinable .sums)
+        room-there = let k = short-list in omega (arith, k, g .joinable .sums)
 
         so : Noted (joined open-list ++ (area c a ∷ [])) r ts′ ps′ ss′
-        so = noted-first (joined open-list) s c a cs ws ts ps ss (g .noted) r cs′ ws′ ts′ ps′ ss′ o named room-there same
+        so = noted-first (joined open-list) s c a cs ws ts ps ss noted-so r cs′ ws′ ts′ ps′ ss′ o named room-there same
 
         one : joined (open-list ++ (area c a ∷ [])) ≡ joined open-list ++ (area c a ∷ [])
         one =
             joined-area c a open-list
-            ∙ add-new c a (joined open-list) (no-first (joined open-list) s c a cs ws ts ps ss (g .noted) r cs′ ws′ ts′ ps′ ss′ o named room-there same)
+            ∙ add-new c a (joined open-list) (no-first (joined open-list) s c a cs ws ts ps ss noted-so r cs′ ws′ ts′ ps′ ss′ o named room-there same)
 
     held-more : (a : ℕ) (r : Standing) (ws′ ss′ : List ℕ) → MoreArea s c a cs ws ts ps ss r ws′ ss′ → Reading (apply f (Areas c a)) w r cs ws′ ts bs ps ss′
     unfolding apply act
@@ -261,17 +293,20 @@ module _ (f : File) (w : Raw) (room : Room w) (s : Standing) (cs ws : List ℕ) 
             ∙ ap (λ (j : Job). rawOf j w) (sym job-so);
         job = o .reweighed .job bs ∙ ap (λ (j : Job). withWeight j spot weight) (h .job) ∙ sym job-so;
         gathered = reweighed-gathered s at weight cs ws ts bs r ws′ (h .gathered) (o .reweighed);
-        unsealed = h .unsealed;
         unstarted = λ q. absurd (unequal cc);
+        unserved = λ q. absurd (unequal cc);
+        fewer = still-fewer (area c a);
+        opened = λ q. still-open (area c a);
       };
-      noted = subst (λ (l : List Entry). Noted l r ts ps ss′) (sym (ap joined (open-then (area c a)) ∙ one)) (noted-more (joined open-list) s c a cs ws ts ps ss n r ws′ ss′ o wide);
+      joinable = o .joinable;
+      noted = λ q. subst (λ (l : List Entry). Noted l r ts ps ss′) (sym (ap joined (open-then (area c a)) ∙ one)) (noted-more (joined open-list) s c a cs ws ts ps ss n r ws′ ss′ o wide);
     }
       where
         n : Noted (joined open-list) s ts ps ss
-        n = g .noted
+        n = noted-so
 
         wide : length (joined open-list) ≤ length ss
-        wide = let k = short-list in omega (arith, k, g .noted .joinable .sums)
+        wide = let k = short-list in omega (arith, k, g .joinable .sums)
 
         at : ℕ
         at = getD ps c 0 - 1
@@ -318,6 +353,16 @@ module _ (f : File) (w : Raw) (room : Room w) (s : Standing) (cs ws : List ℕ) 
         (subst (λ (l : List (List ℕ)). Reading (apply f (Areas c a)) w r cs ws′ l bs ps′ ss′) (sym et)
         (subst (λ (l : List ℕ). Reading (apply f (Areas c a)) w r cs ws′ ts bs l ss′) (sym ep) (held-more a r ws′ ss′ o)))
 
+-- Behind an entry marks, settles and sifts are not in their turn.
+
+within-unsealed : (s : Standing) → wrongTurn s within ≡ false → wrongTurn s serving ≡ true
+within-unsealed s e = ap not (or-false (not (s .started)) (s .sealed) (or-false (not (s .started) || s .sealed) (eqb (s .thresholds) 0) e .0) .1)
+
+area-kept : (s : Standing) (c a : ℕ) (cs ws : List ℕ) (ts : List (List ℕ)) (ps ss : List ℕ) (r : Standing) (cs′ ws′ : List ℕ) (ts′ : List (List ℕ)) (ps′ ss′ : List ℕ)
+    → AreaTaken s c a cs ws ts ps ss r cs′ ws′ ts′ ps′ ss′ → wrongTurn r serving ≡ wrongTurn s serving
+area-kept s c a cs ws ts ps ss r cs′ ws′ ts′ ps′ ss′ (first o) = ap (λ (t : Standing). wrongTurn t serving) (o .added .standing)
+area-kept s c a cs ws ts ps ss r cs′ ws′ ts′ ps′ ss′ (more o ec et ep) = ap (λ (t : Standing). wrongTurn t serving) (o .reweighed .standing)
+
 -- THE RECORD TAKEN, by what it was found to be
 module _ (x : Record) (s : Standing) (cs ws : List ℕ) (ts : List (List ℕ)) (bs : List ℤ) (ps ss : List ℕ) (none : refusedBy s x ≡ 0) where
   pub takes-header : (n : ℕ) → x ≡ Header n → (r : Standing) → r ≡ headed s n → Takes x s cs ws ts bs ps ss r cs ws ts bs ps ss
@@ -325,6 +370,9 @@ module _ (x : Record) (s : Standing) (cs ws : List ℕ) (ts : List (List ℕ)) (
     done = λ f w room h.
         subst (λ (y : Record). Reading (apply f y) w r cs ws ts bs ps ss) (sym e)
         (subst (λ (t : Standing). Reading (apply f (Header n)) w t cs ws ts bs ps ss) (sym q) (held-header f w room s cs ws ts bs ps ss h n (sym (ap (refusedBy s) e) ∙ none)));
+    building = λ f w h.
+        ap (λ (t : Standing). wrongTurn t serving) (q ∙ ap (λ (t : Standing). headed t n) (h .held .stands))
+        ∙ h .held .unserved (sym (ap (λ (t : Standing). t .started) (h .held .stands)) ∙ passes s (facts (action (Header n))) (sym (ap (refusedBy s) e) ∙ none) .turn);
   }
 
   pub takes-opens : (n : ℕ) (b z : ℤ) → x ≡ Opens n b → z ≡ b → (r : Standing) (ts′ : List (List ℕ)) (bs′ : List ℤ) → Opened s n z ts bs r ts′ bs′
@@ -333,6 +381,9 @@ module _ (x : Record) (s : Standing) (cs ws : List ℕ) (ts : List (List ℕ)) (
     done = λ f w room h.
         subst (λ (y : Record). Reading (apply f y) w r cs ws ts′ bs′ ps ss) (sym e)
         (held-opens f w room s cs ws ts bs ps ss h n b (sym (ap (refusedBy s) e) ∙ none) r ts′ bs′ (subst (λ (y : ℤ). Opened s n y ts bs r ts′ bs′) q o));
+    building = λ f w h.
+        ap (λ (t : Standing). wrongTurn t serving) (o .standing)
+        ∙ ap not (or-false (not (s .started)) (s .sealed) (passes s (facts (action (Opens n b))) (sym (ap (refusedBy s) e) ∙ none) .turn) .1);
   }
 
   pub takes-adds : (c v : ℕ) → x ≡ Adds c v → (r : Standing) (cs′ ws′ : List ℕ) (ts′ : List (List ℕ)) → Added s c v cs ws ts r cs′ ws′ ts′
@@ -341,6 +392,8 @@ module _ (x : Record) (s : Standing) (cs ws : List ℕ) (ts : List (List ℕ)) (
     done = λ f w room h.
         subst (λ (y : Record). Reading (apply f y) w r cs′ ws′ ts′ bs ps ss) (sym e)
         (held-adds f w room s cs ws ts bs ps ss h c v (sym (ap (refusedBy s) e) ∙ none) r cs′ ws′ ts′ o);
+    building = λ f w h.
+        ap (λ (t : Standing). wrongTurn t serving) (o .standing) ∙ within-unsealed s (passes s (facts (action (Adds c v))) (sym (ap (refusedBy s) e) ∙ none) .turn);
   }
 
   pub takes-areas : (c a v : ℕ) → x ≡ Areas c a → v ≡ a → (r : Standing) (cs′ ws′ : List ℕ) (ts′ : List (List ℕ)) (ps′ ss′ : List ℕ) → AreaTaken s c v cs ws ts ps ss r cs′ ws′ ts′ ps′ ss′
@@ -349,23 +402,73 @@ module _ (x : Record) (s : Standing) (cs ws : List ℕ) (ts : List (List ℕ)) (
     done = λ f w room h.
         subst (λ (y : Record). Reading (apply f y) w r cs′ ws′ ts′ bs ps′ ss′) (sym e)
         (held-area f w room s cs ws ts bs ps ss h c a (sym (ap (refusedBy s) e) ∙ none) a r cs′ ws′ ts′ ps′ ss′ (subst (λ (y : ℕ). AreaTaken s c y cs ws ts ps ss r cs′ ws′ ts′ ps′ ss′) q o));
+    building = λ f w h. area-kept s c v cs ws ts ps ss r cs′ ws′ ts′ ps′ ss′ o ∙ within-unsealed s (passes s (facts (action (Areas c a))) (sym (ap (refusedBy s) e) ∙ none) .turn);
   }
 
-  -- No other record comes here: a seal closes, and before it marks, settles and sifts are refused.
+  -- No other record comes here: a seal closes, and the others are of no job.
   pub takes-seal : x ≡ Seal → closing (action x) ≡ false → Takes x s cs ws ts bs ps ss s cs ws ts bs ps ss
   takes-seal e c =
       let b : _≡_ {A = Bool} true false = sym (ap (λ (y : Record). closing (action y)) e) ∙ c in
       absurd (unequal cc)
 
-  pub takes-serving : (y : Record) → x ≡ y → facts (action y) .turn ≡ serving → s .sealed ≡ false → Takes x s cs ws ts bs ps ss s cs ws ts bs ps ss
-  takes-serving y e t u =
-      let p = passes s (facts (action y)) (sym (ap (refusedBy s) e) ∙ none) in
-      let b : _≡_ {A = Bool} true false = sym (ap not u) ∙ sym (ap (wrongTurn s) t) ∙ p .turn in
-      absurd (unequal cc)
+  pub takes-other : (y : Record) → x ≡ y → OfJob x → (OfJob y → ⊥) → Takes x s cs ws ts bs ps ss s cs ws ts bs ps ss
+  takes-other y e t u = absurd (u (subst (λ (z : Record). OfJob z) e t))
 
-  pub takes-unknown : x ≡ Unknown → Takes x s cs ws ts bs ps ss s cs ws ts bs ps ss
-  unfolding apply act
-  takes-unknown e = record { done = λ f w room h. subst (λ (y : Record). Reading (apply f y) w s cs ws ts bs ps ss) (sym e) h }
+-- A known kind makes a record.
+
+differ : _≡_ {A = Bool} true false → ⊥
+differ e = unequal cc
+
+isUnknown : Record → Bool
+isUnknown (Header n) = false
+isUnknown (Opens n z) = false
+isUnknown (Adds c w) = false
+isUnknown (Areas c a) = false
+isUnknown Seal = false
+isUnknown (Mark n v) = false
+isUnknown Settle = false
+isUnknown Sift = false
+isUnknown Unknown = true
+
+pub known-record : (kind : ℕ) (rest : List ℕ) → unknownKind kind ≡ false → recordAt kind rest ≡ Unknown → ⊥
+unfolding isUnknown
+known-record zero rest e q = differ e
+known-record (suc zero) rest e q = differ (sym (ap isUnknown q))
+known-record (suc (suc zero)) rest e q = differ (sym (ap isUnknown q))
+known-record (suc (suc (suc zero))) rest e q = differ (sym (ap isUnknown q))
+known-record (suc (suc (suc (suc zero)))) rest e q = differ (sym (ap isUnknown q))
+known-record (suc (suc (suc (suc (suc zero))))) rest e q = differ (sym (ap isUnknown q))
+known-record (suc (suc (suc (suc (suc (suc zero)))))) rest e q = differ (sym (ap isUnknown q))
+known-record (suc (suc (suc (suc (suc (suc (suc zero))))))) rest e q = differ (sym (ap isUnknown q))
+known-record (suc (suc (suc (suc (suc (suc (suc (suc zero)))))))) rest e q = differ (sym (ap isUnknown q))
+known-record (suc (suc (suc (suc (suc (suc (suc (suc (suc k))))))))) rest e q =
+    let n : ℕ = suc (suc (suc (suc (suc (suc (suc (suc (suc k)))))))) in
+    let b : _≡_ {A = Bool} true false = sym (le-leb 9 n (omega arith)) ∙ or-false (eqb n 0) (leb 9 n) e .1 in
+    unequal cc
+
+-- WHERE MARKS, SETTLES AND SIFTS ARE NOT IN THEIR TURN, what comes next is of a job.
+module _ (s : Standing) (bytes : List ℕ) (o : ℕ) (u : wrongTurn s serving ≡ true) where
+  not-serving : (y : Record) → Taken y ≡ nextAt s bytes o → facts (action y) .turn ≡ serving → ⊥
+  not-serving y e t =
+      let q = was-taken s bytes o y e in
+      let p = passes s (facts (action y)) (ap (refusedBy s) (q .1) ∙ taken-passes s bytes o (q .0)) in
+      let b : _≡_ {A = Bool} true false = sym u ∙ sym (ap (wrongTurn s) t) ∙ p .turn in
+      unequal cc
+
+  is-known : (b : Bool) → unknownKind (getD bytes o 0) ≡ b → (y : Record) → Taken y ≡ nextAt s bytes o → y ≡ Unknown → ⊥
+  is-known true k y e q = let p = e ∙ sym (next-unknown s bytes o k) in unequal cc
+  is-known false k y e q = known-record (getD bytes o 0) (drop (o + 1) bytes) k (sym (was-taken s bytes o y e .1) ∙ q)
+
+  pub builds-on : Builds bytes o s
+  builds-on (Header n) e = tt
+  builds-on (Opens n b) e = tt
+  builds-on (Adds c w) e = tt
+  builds-on (Areas c a) e = tt
+  builds-on Seal e = tt
+  builds-on (Mark n v) e = not-serving (Mark n v) e refl
+  builds-on Settle e = not-serving Settle e refl
+  builds-on Sift e = not-serving Sift e refl
+  builds-on Unknown e = is-known (unknownKind (getD bytes o 0)) refl Unknown e refl
 
 -- What the next record says, if it is taken.
 module _ (s : Standing) (bytes : List ℕ) (o : ℕ) (x : Record) (e : Taken x ≡ nextAt s bytes o) where
@@ -374,32 +477,6 @@ module _ (s : Standing) (bytes : List ℕ) (o : ℕ) (x : Record) (e : Taken x �
 
   pub next-whole : o < length bytes → o + 1 + bodyLength (kindOf (getD bytes o 0)) ≤ length bytes
   next-whole h = taken-whole s bytes o (was-taken s bytes o x e .0) h
-
--- NOTHING READ YET
-
-pub going-begun : (bytes cs ws : List ℕ) (ts : List (List ℕ)) (bs : List ℤ) (ps ss : List ℕ) → Room (raw (rawLists cs ws ts) bs) → Unnoted ps ss
-    → Going bytes (raw (rawLists cs ws ts) bs) blank cs ws ts bs ps ss
-unfolding begun lastNode lastList allTerms rawOf numbers jobPartOf joinAll ends pairs joined startBy
-going-begun bytes cs ws ts bs ps ss h u = record {
-  file = begun;
-  taken = [];
-  left = length bytes;
-  enough = omega arith;
-  same = refl;
-  reading = record {
-    held = record {
-      stands = refl;
-      words = refl;
-      job = refl;
-      gathered = gathered-none (blank .standing) cs ws ts bs (omega arith) refl refl (h .conditions) (h .weights) (h .thresholds) (h .bounds);
-      unsealed = refl;
-      unstarted = λ q. refl;
-    };
-    noted = noted-none (blank .standing) ts ps ss (unnoted-joinable (blank .standing) ts ps ss u) refl;
-  };
-  refusal = refl;
-  sealing = refl;
-}
 
 -- ONE RECORD
 
@@ -447,7 +524,7 @@ module _ (bytes : List ℕ) (o : ℕ) (inside : o < length bytes) where
         let q = was-refused s bytes o x e in
         let v = by-file x (q .0) in
         subst (λ (j : JobPart). ReadPart j w (record { at = o; refusal = x; sealing = false; standing = s }) cs ws ts bs ps ss)
-        (sym (at-refused 0 f [] (λ z. q .1 (sym v ∙ z)) ∙ ap (λ (y : ℕ). jobPart f [] y o false) v)) (record { part = record { refusal = refl; at = refl; sealing = refl; held = h .held }; noted = h .noted })
+        (sym (at-refused 0 f [] (λ z. q .1 (sym v ∙ z)) ∙ ap (λ (y : ℕ). jobPart f [] y o false) v)) (record { part = record { refusal = refl; at = refl; sealing = refl; held = h .held }; joinable = h .joinable; noted = h .noted; building = λ z y. absurd (q .1 z) })
 
     module _ (x : Record) (e : Taken x ≡ nextAt s bytes o) where
       same-record : x ≡ recordIn bytes o
@@ -457,15 +534,15 @@ module _ (bytes : List ℕ) (o : ℕ) (inside : o < length bytes) where
       read-sealing c =
           subst (λ (j : JobPart). ReadPart j w (record { at = o; refusal = 0; sealing = true; standing = s }) cs ws ts bs ps ss)
           (sym (at-sealing 0 f [] (by-file 0 (was-taken s bytes o x e .0)) (sym (ap (λ (y : Record). closing (action y)) same-record) ∙ c)))
-          (record { part = record { refusal = refl; at = refl; sealing = refl; held = h .held }; noted = h .noted })
+          (record { part = record { refusal = refl; at = refl; sealing = refl; held = h .held }; joinable = h .joinable; noted = h .noted; building = λ z y. absurd (differ y) })
 
       pub read-next : closing (action x) ≡ false → (n : ℕ) → n ≡ size → (s′ : Standing) (cs′ ws′ : List ℕ) (ts′ : List (List ℕ)) (bs′ : List ℤ) (ps′ ss′ : List ℕ) → Reading (apply f x) w s′ cs′ ws′ ts′ bs′ ps′ ss′
-          → ReadPart part w (record { at = o + 1 + n; refusal = 0; sealing = false; standing = s′ }) cs′ ws′ ts′ bs′ ps′ ss′
-      read-next c n en s′ cs′ ws′ ts′ bs′ ps′ ss′ a =
+          → wrongTurn s′ serving ≡ true → ReadPart part w (record { at = o + 1 + n; refusal = 0; sealing = false; standing = s′ }) cs′ ws′ ts′ bs′ ps′ ss′
+      read-next c n en s′ cs′ ws′ ts′ bs′ ps′ ss′ a t =
           subst (λ (j : JobPart). ReadPart j w (record { at = o + 1 + n; refusal = 0; sealing = false; standing = s′ }) cs′ ws′ ts′ bs′ ps′ ss′)
           (sym (one-next f (by-file 0 (was-taken s bytes o x e .0)) (sym (ap (λ (y : Record). closing (action y)) same-record) ∙ c)))
           (let b = subst (λ (y : Record). Reading (apply f y) w s′ cs′ ws′ ts′ bs′ ps′ ss′) same-record a in
-          record { part = record { refusal = refl; at = ap (λ (k : ℕ). o + 1 + k) en; sealing = refl; held = b .held }; noted = b .noted })
+          record { part = record { refusal = refl; at = ap (λ (k : ℕ). o + 1 + k) en; sealing = refl; held = b .held }; joinable = b .joinable; noted = b .noted; building = λ z y. t })
 
 -- A term or an area that comes next, by the numbers that were read of it.
 module _ (bytes : List ℕ) (o : ℕ) (s : Standing) (t : EntryNext s bytes o) (c v : ℕ) (ec : c ≡ entryCondition bytes o) (ev : v ≡ entryFigure bytes o) where
@@ -480,7 +557,7 @@ module _ (bytes : List ℕ) (o : ℕ) (s : Standing) (t : EntryNext s bytes o) (
     read-one : Reads bytes o s cs ws ts bs ps ss (record { at = o + 1 + 6; refusal = 0; sealing = false; standing = r }) cs′ ws′ ts′ bs ps′ ss′
     read-one = record {
       part = λ f w room h.
-          read-next bytes o (let q = t .whole in omega (arith, q)) f w s cs ws ts bs ps ss h x next goes 6 long r cs′ ws′ ts′ bs ps′ ss′ (k .done f w room h);
+          read-next bytes o (let q = t .whole in omega (arith, q)) f w s cs ws ts bs ps ss h x next goes 6 long r cs′ ws′ ts′ bs ps′ ss′ (k .done f w room h) (k .building f w h);
     }
 
   module _ (other : getD bytes o 0 ≢ 8) where
@@ -584,11 +661,8 @@ stopping r = not (eqb (r .refusal) 0) || r .sealing
 pub goes : (r : JobRead) → r .refusal ≡ 0 → r .sealing ≡ false → stopping r ≡ false
 goes r e q = ap₂ (λ (n : ℕ) (b : Bool). not (eqb n 0) || b) e q
 
-module _ (bytes : List ℕ) (w : Raw) (r : JobRead) (cs ws : List ℕ) (ts : List (List ℕ)) (bs : List ℤ) (ps ss : List ℕ) (g : Going bytes w r cs ws ts bs ps ss) where
-  pub going-unsealed : r .standing .sealed ≡ false
-  going-unsealed = ap (λ (x : Standing). x .sealed) (g .reading .held .stands) ∙ g .reading .held .unsealed
-
-  pub going-ends : length bytes ≤ r .at → HeldPart (jobPartOf bytes) w r cs ws ts bs
+module _ (bytes : List ℕ) (whole : JobPart) (w : Raw) (r : JobRead) (cs ws : List ℕ) (ts : List (List ℕ)) (bs : List ℤ) (ps ss : List ℕ) (g : Going bytes whole w r cs ws ts bs ps ss) where
+  going-ends : length bytes ≤ r .at → HeldPart whole w r cs ws ts bs
   going-ends h =
       subst (λ (j : JobPart). HeldPart j w r cs ws ts bs) (sym (nothing (g .left)) ∙ ap (λ (l : List ℕ). readJob (g .left) (r .at) l (g .file) (g .taken)) (sym (drop-of-length-le bytes h)) ∙ g .same)
       (record { refusal = g .refusal; at = refl; sealing = g .sealing; held = g .reading .held })
@@ -604,38 +678,38 @@ module _ (bytes : List ℕ) (w : Raw) (r : JobRead) (cs ws : List ℕ) (ts : Lis
     by-part : stopping r′ ≡ (not (eqb (one .refused) 0) || one .sealing)
     by-part = ap₂ (λ (n : ℕ) (b : Bool). not (eqb n 0) || b) (p .part .refusal) (p .part .sealing)
 
-    either : Stops one (jobPartOf bytes) ⊎ Goes bytes (r .at) one (jobPartOf bytes)
-    either = one-record (g .left) (r .at) bytes (g .file) (g .taken) (jobPartOf bytes) inside (g .enough) (g .same)
+    either : Stops one whole ⊎ Goes bytes (r .at) one whole
+    either = one-record (g .left) (r .at) bytes (g .file) (g .taken) whole inside (g .enough) (g .same)
 
-    no-goes : stopping r′ ≡ true → Goes bytes (r .at) one (jobPartOf bytes) → ⊥
+    no-goes : stopping r′ ≡ true → Goes bytes (r .at) one whole → ⊥
     no-goes e q =
         let a = ap₂ (λ (n : ℕ) (b : Bool). not (eqb n 0) || b) (q .refused) (q .sealing) in
         let b : _≡_ {A = Bool} true false = sym e ∙ by-part ∙ a in
         unequal cc
 
-    no-stops : stopping r′ ≡ false → Stops one (jobPartOf bytes) → ⊥
+    no-stops : stopping r′ ≡ false → Stops one whole → ⊥
     no-stops e q =
         let b : _≡_ {A = Bool} true false = sym (q .stopped) ∙ sym by-part ∙ e in
         unequal cc
 
-    pub going-stops : stopping r′ ≡ true → HeldPart (jobPartOf bytes) w r′ cs′ ws′ ts′ bs′
+    going-stops : stopping r′ ≡ true → HeldPart whole w r′ cs′ ws′ ts′ bs′
     going-stops e =
         ⊎-elim
-        (λ (q : Stops one (jobPartOf bytes)). record {
+        (λ (q : Stops one whole). record {
           refusal = p .part .refusal ∙ q .refused;
           at = p .part .at ∙ q .at;
           sealing = p .part .sealing ∙ q .sealing;
           held = subst (λ (f : File). Held f w (r′ .standing) cs′ ws′ ts′ bs′) (q .file) (p .part .held);
         })
-        (λ (q : Goes bytes (r .at) one (jobPartOf bytes)). absurd (no-goes e q)) either
+        (λ (q : Goes bytes (r .at) one whole). absurd (no-goes e q)) either
 
-    goes-one : stopping r′ ≡ false → Goes bytes (r .at) one (jobPartOf bytes)
-    goes-one e = ⊎-elim (λ (q : Stops one (jobPartOf bytes)). absurd (no-stops e q)) (λ (q : Goes bytes (r .at) one (jobPartOf bytes)). q) either
+    goes-one : stopping r′ ≡ false → Goes bytes (r .at) one whole
+    goes-one e = ⊎-elim (λ (q : Stops one whole). absurd (no-stops e q)) (λ (q : Goes bytes (r .at) one whole). q) either
 
-    pub going-farther : stopping r′ ≡ false → r .at < r′ .at
+    going-farther : stopping r′ ≡ false → r .at < r′ .at
     going-farther e = let a = p .part .at in let b = goes-one e .farther in omega (arith, a, b)
 
-    pub going-on : stopping r′ ≡ false → Going bytes w r′ cs′ ws′ ts′ bs′ ps′ ss′
+    going-on : stopping r′ ≡ false → Going bytes whole w r′ cs′ ws′ ts′ bs′ ps′ ss′
     going-on e =
         let q = goes-one e in
         let a = p .part .at in
@@ -646,7 +720,94 @@ module _ (bytes : List ℕ) (w : Raw) (r : JobRead) (cs ws : List ℕ) (ts : Lis
           left = q .left;
           enough = omega (arith, a, b);
           same = ap (λ (k : ℕ). readJob (q .left) k (drop k bytes) (one .file) (q .taken)) (p .part .at) ∙ q .same;
-          reading = record { held = p .part .held; noted = p .noted };
+          reading = record { held = p .part .held; joinable = p .joinable; noted = p .noted };
+          builds = builds-on (r′ .standing) bytes (r′ .at) (p .building (p .part .refusal ∙ q .refused) (p .part .sealing ∙ q .sealing));
           refusal = p .part .refusal ∙ q .refused;
           sealing = p .part .sealing ∙ q .sealing;
         }
+
+-- ---- FROM AN OFFSET ON, whatever file the buffers held there
+
+module _ (bytes : List ℕ) (o : ℕ) (s : Standing) (cs ws : List ℕ) (ts : List (List ℕ)) (bs : List ℤ) (ps ss : List ℕ) where
+  pub from-here : Builds bytes o s → GoesFrom bytes o s cs ws ts bs ps ss (readTo o s) cs ws ts bs ps ss
+  from-here b = record {
+    going = λ f w room h. record { file = f; taken = []; left = length bytes; enough = omega arith; same = refl; reading = h; builds = b; refusal = refl; sealing = refl };
+  }
+
+  module _ (r : JobRead) (cs₁ ws₁ : List ℕ) (ts₁ : List (List ℕ)) (bs₁ : List ℤ) (ps₁ ss₁ : List ℕ) (g : GoesFrom bytes o s cs ws ts bs ps ss r cs₁ ws₁ ts₁ bs₁ ps₁ ss₁) where
+    -- What a record asks there.
+    pub from-asks : (f : File) (w : Raw) → Room w → Reading f w s cs ws ts bs ps ss
+        → Builds bytes (r .at) (r .standing) × Gathered (r .standing) cs₁ ws₁ ts₁ bs₁ × Joinable (r .standing) ts₁ ps₁ ss₁
+    from-asks f w room h =
+        let q = g .going f w room h in
+        (q .builds, q .reading .held .gathered, q .reading .joinable)
+
+    pub from-ends : length bytes ≤ r .at → ReadsOn bytes o s cs ws ts bs ps ss r cs₁ ws₁ ts₁ bs₁
+    from-ends l = record { part = λ f w room h. going-ends bytes (jobPartFrom bytes o f []) w r cs₁ ws₁ ts₁ bs₁ ps₁ ss₁ (g .going f w room h) l }
+
+    module _ (inside : r .at < length bytes) (r′ : JobRead) (cs′ ws′ : List ℕ) (ts′ : List (List ℕ)) (bs′ : List ℤ) (ps′ ss′ : List ℕ)
+        (p : Reads bytes (r .at) (r .standing) cs₁ ws₁ ts₁ bs₁ ps₁ ss₁ r′ cs′ ws′ ts′ bs′ ps′ ss′) where
+      pub from-stops : stopping r′ ≡ true → ReadsOn bytes o s cs ws ts bs ps ss r′ cs′ ws′ ts′ bs′
+      from-stops e = record {
+        part = λ f w room h.
+            let q = g .going f w room h in
+            going-stops bytes (jobPartFrom bytes o f []) w r cs₁ ws₁ ts₁ bs₁ ps₁ ss₁ q inside r′ cs′ ws′ ts′ bs′ ps′ ss′ (p .part (q .file) w room (q .reading)) e;
+      }
+
+      pub from-farther : (f : File) (w : Raw) → Room w → Reading f w s cs ws ts bs ps ss → stopping r′ ≡ false → r .at < r′ .at
+      from-farther f w room h e =
+          let q = g .going f w room h in
+          going-farther bytes (jobPartFrom bytes o f []) w r cs₁ ws₁ ts₁ bs₁ ps₁ ss₁ q inside r′ cs′ ws′ ts′ bs′ ps′ ss′ (p .part (q .file) w room (q .reading)) e
+
+      pub from-on : stopping r′ ≡ false → GoesFrom bytes o s cs ws ts bs ps ss r′ cs′ ws′ ts′ bs′ ps′ ss′
+      from-on e = record {
+        going = λ f w room h.
+            let q = g .going f w room h in
+            going-on bytes (jobPartFrom bytes o f []) w r cs₁ ws₁ ts₁ bs₁ ps₁ ss₁ q inside r′ cs′ ws′ ts′ bs′ ps′ ss′ (p .part (q .file) w room (q .reading)) e;
+      }
+
+-- NO THRESHOLD IS OPEN: nothing noted is right.
+module _ (cs ws : List ℕ) (ts : List (List ℕ)) (bs : List ℤ) (ps ss : List ℕ) (u : Unnoted ps ss) (s : Standing) where
+  anew : (f : File) (w : Raw) → Held f w s cs ws ts bs → anyOpen f ≡ false → Reading f w s cs ws ts bs ps ss
+  anew f w h e = record {
+    held = h;
+    joinable = unnoted-joinable s ts ps ss u;
+    noted = λ q. absurd (let b : _≡_ {A = Bool} true false = sym q ∙ e in unequal cc);
+  }
+
+  pub anew-asks : ((f : File) × (w : Raw) × Room w × Held f w s cs ws ts bs × (anyOpen f ≡ false)) → (f : File) × (w : Raw) × Room w × Reading f w s cs ws ts bs ps ss
+  anew-asks (f, w, room, h, e) = (f, w, room, anew f w h e)
+
+  pub anew-reads : (bytes : List ℕ) (o : ℕ) (r : JobRead) (cs′ ws′ : List ℕ) (ts′ : List (List ℕ)) (bs′ : List ℤ) → ReadsOn bytes o s cs ws ts bs ps ss r cs′ ws′ ts′ bs′
+      → ReadsJob bytes o s cs ws ts bs r cs′ ws′ ts′ bs′
+  anew-reads bytes o r cs′ ws′ ts′ bs′ p = record { part = λ f w room h e. p .part f w room (anew f w h e) }
+
+-- FROM THE START: what is asked, and what is given.
+held-begun : (cs ws : List ℕ) (ts : List (List ℕ)) (bs : List ℤ) → Room (raw (rawLists cs ws ts) bs) → Held begun (raw (rawLists cs ws ts) bs) blank cs ws ts bs
+unfolding begun lastNode lastList allTerms rawOf numbers joinAll ends pairs
+held-begun cs ws ts bs h = record {
+  stands = refl;
+  words = refl;
+  job = refl;
+  gathered = gathered-none blank cs ws ts bs (omega arith) refl refl (h .conditions) (h .weights) (h .thresholds) (h .bounds);
+  unstarted = λ q. refl;
+  unserved = λ q. refl;
+  fewer = omega arith;
+  opened = λ q. absurd (unequal cc);
+}
+
+none-open : anyOpen begun ≡ false
+unfolding begun
+none-open = refl
+
+module _ (cs ws : List ℕ) (ts : List (List ℕ)) (bs : List ℤ) (room : Room (raw (rawLists cs ws ts) bs)) (s : Standing) (none : s ≡ blank) where
+  begun-so : Held begun (raw (rawLists cs ws ts) bs) s cs ws ts bs
+  begun-so = subst (λ (z : Standing). Held begun (raw (rawLists cs ws ts) bs) z cs ws ts bs) (sym none) (held-begun cs ws ts bs room)
+
+  pub begun-asks : (bytes : List ℕ) → ((f : File) × (w : Raw) × Room w × Held f w s cs ws ts bs × (anyOpen f ≡ false)) × Builds bytes 0 s
+  begun-asks bytes = ((begun, raw (rawLists cs ws ts) bs, room, begun-so, none-open), builds-on s bytes 0 (ap (λ (z : Standing). wrongTurn z serving) none))
+
+  pub begun-held : (bytes : List ℕ) (r : JobRead) (cs′ ws′ : List ℕ) (ts′ : List (List ℕ)) (bs′ : List ℤ) → ReadsJob bytes 0 s cs ws ts bs r cs′ ws′ ts′ bs′
+      → HeldPart (jobPartOf bytes) (raw (rawLists cs ws ts) bs) r cs′ ws′ ts′ bs′
+  unfolding jobPartOf
+  begun-held bytes r cs′ ws′ ts′ bs′ p = p .part begun (raw (rawLists cs ws ts) bs) room begun-so none-open

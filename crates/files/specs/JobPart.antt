@@ -1,4 +1,4 @@
--- The records of a file up to its seal: what they leave and where reading them ends.
+-- The records of a file up to its next seal: what they leave and where reading them ends.
 use Prim.Native.Nat.{ℕ, zero, suc, _+_}
 use mathlib.Core.Bool.{Bool, true, false}
 use mathlib.Core.List.{List, [], _∷_, _++_}
@@ -34,5 +34,10 @@ readJob (suc n) o (kind ∷ rest) f taken =
       | false ↦ jobPart f taken (refusalAt f kind rest) o false
     ]
 
+-- The records of an input from an offset on, behind records that left a file.
+abbrev pub jobPartFrom : List ℕ → ℕ → File → List Record → JobPart
+jobPartFrom bytes o f taken = readJob (length bytes) o (drop o bytes) f taken
+
+-- From the start.
 unfoldable pub jobPartOf : List ℕ → JobPart
-jobPartOf bytes = readJob (length bytes) 0 bytes begun []
+jobPartOf bytes = jobPartFrom bytes 0 begun []

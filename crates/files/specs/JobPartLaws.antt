@@ -16,7 +16,7 @@ use Rattle.records.specs.Facts.{action}
 use Rattle.records.specs.Next.{closing}
 use Rattle.files.specs.File.{File, begun, apply, refusalAt, outcome, readFrom, fileOf}
 use Rattle.files.specs.FileLaws.{zero-or, read-on, read-stop, read-enough}
-use Rattle.files.specs.JobPart.{JobPart, jobPart, readJob, jobPartOf}
+use Rattle.files.specs.JobPart.{JobPart, jobPart, readJob, jobPartFrom, jobPartOf}
 
 -- ---- one record: it is refused, a seal, or taken
 module _ (n o kind : ℕ) (rest : List ℕ) (f : File) (taken : List Record) where
@@ -86,12 +86,20 @@ goes-on (suc n) o (kind ∷ rest) f taken h =
               ∙ read-enough n (suc n) (j .at) (drop (j .at - o) (kind ∷ rest)) (j .file) (j .records) (let q : length (kind ∷ rest) ≤ suc n = h in omega (arith, d, q, a)) (let q : length (kind ∷ rest) ≤ suc n = h in omega (arith, d, q)),
         )
 
+-- From any file and offset.
+pub part-goes-on : (bytes : List ℕ) (o : ℕ) (f : File) (taken : List Record) → let j = jobPartFrom bytes o f taken in
+    (o ≤ j .at) × (readFrom (length bytes) o (drop o bytes) f taken ≡ readFrom (length bytes) (j .at) (drop (j .at) bytes) (j .file) (j .records))
+part-goes-on bytes o f taken =
+    let j = jobPartFrom bytes o f taken in
+    let g = goes-on (length bytes) o (drop o bytes) f taken (let d = length-drop o bytes in omega (arith, d)) in
+    let b = g .0 in (
+      b,
+      g .1 ∙ ap (λ (l : List ℕ). readFrom (length bytes) (j .at) l (j .file) (j .records)) (drop-drop (j .at - o) o bytes ∙ ap (λ (k : ℕ). drop k bytes) {x = o + (j .at - o)} {y = j .at} (omega (arith, b))),
+    )
+
 pub file-goes-on : (bytes : List ℕ) → let j = jobPartOf bytes in fileOf bytes ≡ readFrom (length bytes) (j .at) (drop (j .at) bytes) (j .file) (j .records)
 unfolding fileOf jobPartOf
-file-goes-on bytes =
-    let j = readJob (length bytes) 0 bytes begun [] in
-    goes-on (length bytes) 0 bytes begun [] (le-refl (length bytes)) .1
-    ∙ ap (λ (k : ℕ). readFrom (length bytes) (j .at) (drop k bytes) (j .file) (j .records)) {x = j .at - 0} {y = j .at} (omega arith)
+file-goes-on bytes = part-goes-on bytes 0 begun [] .1
 
 -- Where no seal is next, the file ends there: with the input, or refused.
 
@@ -121,6 +129,10 @@ ends-there (suc n) o (kind ∷ rest) f taken =
     x : Record
     x = recordAt kind rest
 
+pub part-ends : (bytes : List ℕ) (o : ℕ) (f : File) (taken : List Record) → let j = jobPartFrom bytes o f taken in
+    j .sealing ≡ false → readFrom (length bytes) o (drop o bytes) f taken ≡ outcome (j .file) (j .records) (j .refused) (j .at)
+part-ends bytes o f taken q = ends-there (length bytes) o (drop o bytes) f taken q
+
 pub file-ends : (bytes : List ℕ) → let j = jobPartOf bytes in j .sealing ≡ false → fileOf bytes ≡ outcome (j .file) (j .records) (j .refused) (j .at)
 unfolding fileOf jobPartOf
-file-ends bytes q = ends-there (length bytes) 0 bytes begun [] q
+file-ends bytes q = part-ends bytes 0 begun [] q

@@ -5,13 +5,13 @@ ghost use Prim.Native.Nat.{_<_};
 ghost use mathlib.Core.List.{List};
 ghost use lib.ListN.{length};
 ghost use lib.IntN.{ℤ};
-ghost use Rattle.memory.specs.Buffers.{rawLists, raw};
+ghost use Rattle.memory.specs.Buffers.{Raw};
 ghost use Rattle.records.specs.Facts.{action};
 ghost use Rattle.records.specs.Next.{closing, EntryNext};
 ghost use Rattle.records.specs.Checks.{refusedBy};
 ghost use Rattle.job.specs.Gathered.{Listed, Termed, Gathered, Joinable};
-ghost use Rattle.files.specs.JobPart.{jobPartOf};
-ghost use Rattle.files.specs.Held.{headed, blank, Room, Unnoted, Takes, HeldPart, Reads};
+ghost use Rattle.files.specs.File.{File};
+ghost use Rattle.files.specs.Held.{headed, blank, Room, anyOpen, OfJob, Builds, Held, Reading, Takes, Reads, ReadsOn, ReadsJob};
 use records::Next;
 use records::Record;
 use records::Standing;
@@ -67,7 +67,7 @@ fn take_record(
     sums: &mut [u64],
 ) -> Standing
     requires { ⌜ Gathered standing (now «raw_conditions») (now «raw_weights») (now thresholds) (now bounds) × Joinable standing (now thresholds) (now places) (now sums)
-        × (refusedBy standing entry ≡ 0) × (standing .sealed ≡ false) × (closing (action entry) ≡ false) ⌝ }
+        × (refusedBy standing entry ≡ 0) × OfJob entry × (closing (action entry) ≡ false) ⌝ }
     ensures { λ r. ⌜ Takes entry standing (now («raw_conditions» .entry)) (now («raw_weights» .entry)) (now (thresholds .entry)) (now (bounds .entry)) (now (places .entry)) (now (sums .entry))
         r (now («raw_conditions» .exit)) (now («raw_weights» .exit)) (now (thresholds .exit)) (now (bounds .exit)) (now (places .exit)) (now (sums .exit)) ⌝ }
 {
@@ -118,7 +118,7 @@ fn read_record(
     places: &mut [u16],
     sums: &mut [u64],
 ) -> JobRead
-    requires { ⌜ (at < length (now input)) × (standing .sealed ≡ false)
+    requires { ⌜ (at < length (now input)) × Builds (now input) at standing
         × Gathered standing (now «raw_conditions») (now «raw_weights») (now thresholds) (now bounds) × Joinable standing (now thresholds) (now places) (now sums) ⌝ }
     ensures { λ r. ⌜ Reads (now (input .entry)) at standing
         (now («raw_conditions» .entry)) (now («raw_weights» .entry)) (now (thresholds .entry)) (now (bounds .entry)) (now (places .entry)) (now (sums .entry))
@@ -216,10 +216,11 @@ fn read_entry(
     }
 }
 
-fn nothing_read() -> JobRead
+// What the checks read before any record.
+pub fn nothing_read() -> Standing
     ensures { λ r. ⌜ r ≡ blank ⌝ }
 {
-    let standing = Standing {
+    Standing {
         started: false,
         sealed: false,
         contradicted: false,
@@ -230,19 +231,15 @@ fn nothing_read() -> JobRead
         terms: 0,
         raw_terms: 0,
         answers: 0,
-    };
-    JobRead {
-        at: 0,
-        refusal: 0,
-        sealing: false,
-        standing: standing,
     }
 }
 
-// The records of an input up to its seal, into buffers for the job that they give. Where areas stand and what they add up to is noted while
-// their threshold is open.
+// The records of an input from an offset on up to its next seal, into buffers for the job that they give. Where areas stand and what they add
+// up to is noted while their threshold is open.
 fn read_records(
     input: &[u8],
+    at: usize,
+    standing: Standing,
     raw_conditions: &mut [u16],
     raw_weights: &mut [u64],
     thresholds: &mut [[u16; 2]],
@@ -250,12 +247,17 @@ fn read_records(
     places: &mut [u16],
     sums: &mut [u64],
 ) -> JobRead
-    requires { ⌜ Room (raw (rawLists (now «raw_conditions») (now «raw_weights») (now thresholds)) (now bounds)) × Unnoted (now places) (now sums) ⌝ }
-    ensures { λ r. ⌜ HeldPart (jobPartOf (now (input .entry)))
-        (raw (rawLists (now («raw_conditions» .entry)) (now («raw_weights» .entry)) (now (thresholds .entry))) (now (bounds .entry))) r
+    requires { ⌜ ((f : File) × (w : Raw) × Room w × Reading f w standing (now «raw_conditions») (now «raw_weights») (now thresholds) (now bounds) (now places) (now sums)) × Builds (now input) at standing ⌝ }
+    ensures { λ r. ⌜ ReadsOn (now (input .entry)) at standing
+        (now («raw_conditions» .entry)) (now («raw_weights» .entry)) (now (thresholds .entry)) (now (bounds .entry)) (now (places .entry)) (now (sums .entry)) r
         (now («raw_conditions» .exit)) (now («raw_weights» .exit)) (now (thresholds .exit)) (now (bounds .exit)) ⌝ }
 {
-    let mut read = nothing_read();
+    let mut read = JobRead {
+        at: at,
+        refusal: 0,
+        sealing: false,
+        standing: standing,
+    };
     while read.at < input.len() {
         let from = read.at;
         let stands = read.standing;
@@ -292,23 +294,27 @@ fn read_records(
     read
 }
 
-// The same with notes of its own.
+// The same with notes of its own, where no threshold is open.
 pub fn read_job(
     input: &[u8],
+    at: usize,
+    standing: Standing,
     raw_conditions: &mut [u16],
     raw_weights: &mut [u64],
     thresholds: &mut [[u16; 2]],
     bounds: &mut [i64],
 ) -> JobRead
-    requires { ⌜ Room (raw (rawLists (now «raw_conditions») (now «raw_weights») (now thresholds)) (now bounds)) ⌝ }
-    ensures { λ r. ⌜ HeldPart (jobPartOf (now (input .entry)))
-        (raw (rawLists (now («raw_conditions» .entry)) (now («raw_weights» .entry)) (now (thresholds .entry))) (now (bounds .entry))) r
+    requires { ⌜ ((f : File) × (w : Raw) × Room w × Held f w standing (now «raw_conditions») (now «raw_weights») (now thresholds) (now bounds) × (anyOpen f ≡ false)) × Builds (now input) at standing ⌝ }
+    ensures { λ r. ⌜ ReadsJob (now (input .entry)) at standing
+        (now («raw_conditions» .entry)) (now («raw_weights» .entry)) (now (thresholds .entry)) (now (bounds .entry)) r
         (now («raw_conditions» .exit)) (now («raw_weights» .exit)) (now (thresholds .exit)) (now (bounds .exit)) ⌝ }
 {
     let mut places = [0u16; 4096];
     let mut sums = [0u64; 1024];
     read_records(
         input,
+        at,
+        standing,
         raw_conditions,
         raw_weights,
         thresholds,

@@ -7,3 +7,5 @@ pub mod Least
 pub mod LeastLaws
 pub mod Slices
 pub mod TermsLaws
+pub mod Rewrite
+pub mod RewriteLaws

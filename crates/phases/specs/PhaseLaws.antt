@@ -39,7 +39,7 @@ use Rattle.theorem_holds.specs.LentLaws.{lendable-clear, bounds-lent}
 use Rattle.theorem_holds.specs.GoesLaws.{fresh-begun}
 use Rattle.serve.specs.declared.Reached.{Reached}
 use Rattle.serve.specs.Serve.{liveIn, answersOf, Lies, Seals, noRings, Reaches, readAt, Same, fourfold}
-use Rattle.phases.specs.Phase.{BuiltRoom, KeptRoom, cutBuilt, cutKept, Blank, Stops, ending, Leaves}
+use Rattle.phases.specs.Phase.{BuiltRoom, KeptRoom, cutBuilt, cutKept, putBack, Blank, Stops, Sealable, Begins, ending, Leaves, LeavesOn}
 
 -- ---- lists that are cut
 
@@ -113,8 +113,9 @@ room-clear w r = record {
   edges = omega (arith, zeros-length (replicate 2 0) (w .edges), r .edges);
 }
 
-pub phase-seals : (bs : List ℤ) (b : Built) (f : File) (n : ℕ) → Stops bs b f n → Blank f → Seals (take (length (f .draft .thresholds)) bs) (cutBuilt n (f .draft .nodes) b) f
-phase-seals bs b f n s z =
+phase-seals : (bs : List ℤ) (b : Built) (f : File) (n : ℕ) → Sealable bs b f n → Seals (take (length (f .draft .thresholds)) bs) (cutBuilt n (f .draft .nodes) b) f
+phase-seals bs b f n z =
+    let s = z .stops in
     let w = s .from in
     let j = jobOf (f .draft) in
     let r : BuiltRoom (clearBuilt w) = room-clear w (s .room) in
@@ -129,8 +130,14 @@ phase-seals bs b f n s z =
       built = ap₂ (λ (i : ℕ) (y : Built). cutBuilt i (j .nodes) y) (s .counted) (s .built) ∙ cut-built j (fits-of (s .good .draft)) (clearBuilt w) r
           ∙ ap (λ (y : Built). lentOf j (builtOf j y)) (narrow-clear w);
       bounds = ap₂ take (sym (length-map (f .draft .thresholds) weighedThreshold)) (s .bounds) ∙ bounds-lent j (s .raw);
-      fresh = subst (Fresh (cutBuilt n (j .nodes) b)) (sym (z .live)) (fresh-begun (cutBuilt n (j .nodes) b));
+      fresh = z .fresh;
     }
+
+-- Cleared memory can be sealed.
+pub sealable-blank : (bs : List ℤ) (b : Built) (f : File) (n : ℕ) → Stops bs b f n → Blank f → Sealable bs b f n
+sealable-blank bs b f n s z =
+    let c = cutBuilt n (f .draft .nodes) b in
+    record { stops = s; fresh = subst (Fresh c) (sym (z .live)) (fresh-begun c) }
 
 -- ---- cleared memory holds a blank file
 
@@ -213,13 +220,6 @@ pub record Listed (m : Kept) : Type 0 where
   pub node-queue : length (m .node-queue) ≡ maxNodes
   pub row-queues : length (m .row-queues) ≡ maxThresholds
 
--- Put back in front of the buffers that they were cut from.
-abbrev pub putBack : Kept → Kept → Kept
-putBack m k =
-    kept (m .figures ++ drop maxThresholds (k .figures)) (m .cursors ++ drop maxThresholds (k .cursors)) (m .sure ++ drop 64 (k .sure)) (m .never ++ drop 64 (k .never))
-    (m .search ++ drop searchWords (k .search)) (m .gcds ++ drop maxGcds (k .gcds)) (m .node-queue ++ drop maxNodes (k .node-queue)) (m .row-queues ++ drop maxThresholds (k .row-queues))
-    (m .answers)
-
 part : {X : Type 0} (x y b : List X) (n : ℕ) → length x ≡ n → x ≡ y → x ++ drop n b ≡ over y b
 part x y b n h e = ap (λ (k : ℕ). x ++ drop k b) (sym h) ∙ ap (λ (t : List _). t ++ drop (length t) b) e
 
@@ -253,7 +253,7 @@ phase-words k r g m rings l n four =
     λ i. kept (e1 i) (e2 i) (e3 i) (e4 i) (e5 i) (e6 i) (e7 i) (e8 i) (l .answers i)
 
 -- WHAT THE PHASE LEAVES
-pub phase-leaves : (bs : List ℤ) (b : Built) (k : Kept) → KeptRoom k → (o : Outcome) (m : Kept) (r : Reached) → Reaches bs b (zeros (replicate 2 0) (k .answers)) m r o → Listed m
+phase-leaves : (bs : List ℤ) (b : Built) (k : Kept) → KeptRoom k → (o : Outcome) (m : Kept) (r : Reached) → Reaches bs b (zeros (replicate 2 0) (k .answers)) m r o → Listed m
     → fourfold (m .row-queues) ≡ m .row-queues → Leaves k (putBack m (clearKept k)) r o
 phase-leaves bs b k h o m r z n four = record {
   words = phase-words k h (o .file) m (r .rings) (z .lies) n four;
@@ -263,43 +263,10 @@ phase-leaves bs b k h o m r z n four = record {
   at = z .at;
 }
 
--- WHERE NO SEAL COMES, cleared memory is that of the file.
-cleared-back : (k : Kept) → KeptRoom k → putBack (cutKept (clearKept k)) (clearKept k) ≡ clearKept k
-unfolding clearKept
-cleared-back k r =
-    let e1 = take-append-drop maxThresholds (zeros (replicate 4 (pos 0)) (k .figures)) in
-    let e2 = take-append-drop maxThresholds (zeros (replicate 5 0) (k .cursors)) in
-    let e3 = take-append-drop 64 (zeros 0 (k .sure)) in
-    let e4 = take-append-drop 64 (zeros 0 (k .never)) in
-    let e5 = take-append-drop searchWords (zeros 0 (k .search)) in
-    let e6 = take-append-drop maxGcds (zeros 0 (k .gcds)) in
-    let e7 = take-append-drop maxNodes (zeros 0 (k .node-queue)) in
-    let e8 = take-append-drop maxThresholds (zeros (replicate 4 0) (k .row-queues)) in
-    λ i. kept (e1 i) (e2 i) (e3 i) (e4 i) (e5 i) (e6 i) (e7 i) (e8 i) (zeros (replicate 2 0) (k .answers))
-
 fourfold-same : (n : ℕ) → fourfold (replicate n (replicate 4 0)) ≡ replicate n (replicate 4 0)
 unfolding quads
 fourfold-same zero = refl
 fourfold-same (suc n) = ap (λ (t : List (List ℕ)). replicate 4 0 ∷ t) (fourfold-same n)
-
-listed-clear : (k : Kept) → KeptRoom k → Listed (cutKept (clearKept k))
-unfolding clearKept
-listed-clear k r = record {
-  figures = length-take-le maxThresholds (zeros (replicate 4 (pos 0)) (k .figures)) (omega (arith, zeros-length (replicate 4 (pos 0)) (k .figures), r .figures));
-  cursors = length-take-le maxThresholds (zeros (replicate 5 0) (k .cursors)) (omega (arith, zeros-length (replicate 5 0) (k .cursors), r .cursors));
-  sure = length-take-le 64 (zeros 0 (k .sure)) (omega (arith, zeros-length 0 (k .sure), r .sure));
-  never = length-take-le 64 (zeros 0 (k .never)) (omega (arith, zeros-length 0 (k .never), r .never));
-  search = length-take-le searchWords (zeros 0 (k .search)) (omega (arith, zeros-length 0 (k .search), r .search));
-  gcds = length-take-le maxGcds (zeros 0 (k .gcds)) (omega (arith, zeros-length 0 (k .gcds), r .gcds));
-  node-queue = length-take-le maxNodes (zeros 0 (k .node-queue)) (omega (arith, zeros-length 0 (k .node-queue), r .node-queue));
-  row-queues = length-take-le maxThresholds (zeros (replicate 4 0) (k .row-queues)) (omega (arith, zeros-length (replicate 4 0) (k .row-queues), r .row-queues));
-}
-
-pub phase-none : (f : File) → Blank f → (k : Kept) → KeptRoom k → clearKept k ≡ keptOf f (clearKept k)
-phase-none f z k r =
-    let four = ap (λ (m : Kept). m .row-queues) (cut-clear k r) in
-    sym (cleared-back k r)
-    ∙ phase-words k r f (cutKept (clearKept k)) noRings (phase-lies f z k r) (listed-clear k r) (ap fourfold four ∙ fourfold-same maxThresholds ∙ sym four)
 
 over-room : {X : Type 0} (l b : List X) (n : ℕ) → n ≤ length b → n ≤ length (over l b)
 over-room l b n h = omega (arith, length-append l (drop (length l) b), length-drop (length l) b)
@@ -353,20 +320,67 @@ module _ (bs : List ℤ) (b : Built) (f : File) (n : ℕ) (s : Stops bs b f n) w
     pub phase-bounds : at .thresholds ≤ length bs
     phase-bounds = omega (arith, ap (λ (z : Standing). z .thresholds) e, s .good .draft .few, bounds-room (jobOf (f .draft)) (s .raw) (s .many), ap (λ (l : List ℤ). length l) (s .bounds))
 
-    pub phase-lent : Blank f → Seals (take (at .thresholds) bs) (cutBuilt n (at .nodes) b) f
-    phase-lent z = subst (λ (y : Standing). Seals (take (y .thresholds) bs) (cutBuilt n (y .nodes) b) f) (sym e) (phase-seals bs b f n s z)
+    pub phase-lent : Fresh (cutBuilt n (f .draft .nodes) b) (f .live) → Seals (take (at .thresholds) bs) (cutBuilt n (at .nodes) b) f
+    phase-lent z =
+        subst (λ (y : Standing). Seals (take (y .thresholds) bs) (cutBuilt n (y .nodes) b) f) (sym e) (phase-seals bs b f n (record { stops = s; fresh = z }))
 
 module _ (k : Kept) (r : KeptRoom k) (now : Kept) (e : now ≡ clearKept k) where
-  pub kept-room : KeptRoom now
-  kept-room = subst KeptRoom (sym e) (clear-room k r)
+  -- MEMORY BEGINS CLEARED
+  pub begins-clear : (f : File) → Blank f → Begins k f now noRings
+  begins-clear f z = record {
+    whole = r;
+    room = subst KeptRoom (sym e) (clear-room k r);
+    lies = subst (λ (m : Kept). Lies (zeros (replicate 2 0) (k .answers)) f (cutKept m) noRings) (sym e) (phase-lies f z k r);
+    fours = let q = ap (λ (m : Kept). cutKept m .row-queues) e ∙ ap (λ (m : Kept). m .row-queues) (cut-clear k r) in ap fourfold q ∙ fourfold-same maxThresholds ∙ sym q;
+    behind = λ m. ap (putBack m) e;
+  }
 
-  pub kept-lies : (f : File) → Blank f → Lies (zeros (replicate 2 0) (k .answers)) f (cutKept now) noRings
-  kept-lies f z = subst (λ (m : Kept). Lies (zeros (replicate 2 0) (k .answers)) f (cutKept m) noRings) (sym e) (phase-lies f z k r)
+-- ---- AND GOES ON as it was left
 
+take-front : {X : Type 0} (x y : List X) (n : ℕ) → length x ≡ n → take n (x ++ y) ≡ x
+take-front [] y zero h = refl
+take-front [] y (suc n) h = absurd (omega arith)
+take-front (a ∷ x) y zero h = absurd (omega arith)
+take-front (a ∷ x) y (suc n) h = ap (λ (t : List _). a ∷ t) (take-front x y n (omega arith))
+
+drop-front : {X : Type 0} (x y : List X) (n : ℕ) → length x ≡ n → drop n (x ++ y) ≡ y
+drop-front [] y zero h = refl
+drop-front [] y (suc n) h = absurd (omega arith)
+drop-front (a ∷ x) y zero h = absurd (omega arith)
+drop-front (a ∷ x) y (suc n) h = drop-front x y n (omega arith)
+
+front-room : {X : Type 0} (x y : List X) (n : ℕ) → length x ≡ n → n ≤ length (x ++ y)
+front-room x y n h = omega (arith, length-append x y, h)
+
+cut-back : (m k : Kept) → Listed m → cutKept (putBack m k) ≡ m
+cut-back m k n =
+    let e1 = take-front (m .figures) (drop maxThresholds (k .figures)) maxThresholds (n .figures) in
+    let e2 = take-front (m .cursors) (drop maxThresholds (k .cursors)) maxThresholds (n .cursors) in
+    let e3 = take-front (m .sure) (drop 64 (k .sure)) 64 (n .sure) in
+    let e4 = take-front (m .never) (drop 64 (k .never)) 64 (n .never) in
+    let e5 = take-front (m .search) (drop searchWords (k .search)) searchWords (n .search) in
+    let e6 = take-front (m .gcds) (drop maxGcds (k .gcds)) maxGcds (n .gcds) in
+    let e7 = take-front (m .node-queue) (drop maxNodes (k .node-queue)) maxNodes (n .node-queue) in
+    let e8 = take-front (m .row-queues) (drop maxThresholds (k .row-queues)) maxThresholds (n .row-queues) in
+    λ i. kept (e1 i) (e2 i) (e3 i) (e4 i) (e5 i) (e6 i) (e7 i) (e8 i) (m .answers)
+
+back-twice : (l m k : Kept) → Listed m → putBack l (putBack m k) ≡ putBack l k
+back-twice l m k n =
+    let e1 = drop-front (m .figures) (drop maxThresholds (k .figures)) maxThresholds (n .figures) in
+    let e2 = drop-front (m .cursors) (drop maxThresholds (k .cursors)) maxThresholds (n .cursors) in
+    let e3 = drop-front (m .sure) (drop 64 (k .sure)) 64 (n .sure) in
+    let e4 = drop-front (m .never) (drop 64 (k .never)) 64 (n .never) in
+    let e5 = drop-front (m .search) (drop searchWords (k .search)) searchWords (n .search) in
+    let e6 = drop-front (m .gcds) (drop maxGcds (k .gcds)) maxGcds (n .gcds) in
+    let e7 = drop-front (m .node-queue) (drop maxNodes (k .node-queue)) maxNodes (n .node-queue) in
+    let e8 = drop-front (m .row-queues) (drop maxThresholds (k .row-queues)) maxThresholds (n .row-queues) in
+    λ i. kept (l .figures ++ e1 i) (l .cursors ++ e2 i) (l .sure ++ e3 i) (l .never ++ e4 i) (l .search ++ e5 i) (l .gcds ++ e6 i) (l .node-queue ++ e7 i) (l .row-queues ++ e8 i) (l .answers)
+
+module _ (k : Kept) (f : File) (now : Kept) (rings : Rings) (g : Begins k f now rings) (m : Kept) (s : Same (cutKept now) m) where
   -- What comes back is as long as what was lent.
-  pub kept-listed : (m : Kept) → Same (cutKept now) m → Listed m
-  kept-listed m s =
-      let h = kept-room in record {
+  begins-listed : Listed m
+  begins-listed =
+      let h = g .room in record {
         figures = s .figures ∙ length-take-le maxThresholds (now .figures) (h .figures);
         cursors = s .cursors ∙ length-take-le maxThresholds (now .cursors) (h .cursors);
         sure = s .sure ∙ length-take-le 64 (now .sure) (h .sure);
@@ -377,13 +391,33 @@ module _ (k : Kept) (r : KeptRoom k) (now : Kept) (e : now ≡ clearKept k) wher
         row-queues = s .row-queues ∙ length-take-le maxThresholds (now .row-queues) (h .row-queues);
       }
 
-  pub kept-leaves : (bs : List ℤ) (b : Built) (o : Outcome) (m : Kept) (at : Reached) → Reaches bs b (zeros (replicate 2 0) (k .answers)) m at o → Same (cutKept now) m
-      → fourfold (m .row-queues) ≡ m .row-queues → Leaves k (putBack m now) at o
-  kept-leaves bs b o m at z s four = subst (λ (y : Kept). Leaves k (putBack m y) at o) (sym e) (phase-leaves bs b k r o m at z (kept-listed m s) four)
+  back-room : KeptRoom (putBack m now)
+  back-room =
+      let n = begins-listed in record {
+        figures = front-room (m .figures) (drop maxThresholds (now .figures)) maxThresholds (n .figures);
+        cursors = front-room (m .cursors) (drop maxThresholds (now .cursors)) maxThresholds (n .cursors);
+        sure = front-room (m .sure) (drop 64 (now .sure)) 64 (n .sure);
+        never = front-room (m .never) (drop 64 (now .never)) 64 (n .never);
+        search = front-room (m .search) (drop searchWords (now .search)) searchWords (n .search);
+        gcds = front-room (m .gcds) (drop maxGcds (now .gcds)) maxGcds (n .gcds);
+        node-queue = front-room (m .node-queue) (drop maxNodes (now .node-queue)) maxNodes (n .node-queue);
+        row-queues = front-room (m .row-queues) (drop maxThresholds (now .row-queues)) maxThresholds (n .row-queues);
+        answers = omega (arith, s .answers, g .room .answers);
+      }
 
-  -- No seal came.
-  pub kept-none : (f : File) → Blank f → now ≡ keptOf f (clearKept k)
-  kept-none f z = e ∙ phase-none f z k r
+  module _ (bs : List ℤ) (b : Built) (o : Outcome) (at : Reached) (z : Reaches bs b (zeros (replicate 2 0) (k .answers)) m at o) where
+    -- WHAT A PHASE LEAVES, however its memory began, and what the next one can begin with
+    pub begins-leaves : fourfold (m .row-queues) ≡ m .row-queues → LeavesOn k (putBack m now) at o
+    begins-leaves four = record {
+      leaves = subst (λ (y : Kept). Leaves k y at o) (sym (g .behind m)) (phase-leaves bs b k (g .whole) o m at z begins-listed four);
+      begins = record {
+        whole = g .whole;
+        room = back-room;
+        lies = subst (λ (y : Kept). Lies (zeros (replicate 2 0) (k .answers)) (o .file) y (at .rings)) (sym (cut-back m now begins-listed)) (z .lies);
+        fours = let q = ap (λ (y : Kept). y .row-queues) (cut-back m now begins-listed) in ap fourfold q ∙ four ∙ sym q;
+        behind = λ l. back-twice l m now begins-listed ∙ g .behind l;
+      };
+    }
 
 -- The file ends behind its seal, or where its job ended.
 module _ (input : List ℕ) (f : File) (j : JobRead) where
@@ -398,8 +432,35 @@ module _ (input : List ℕ) (f : File) (j : JobRead) where
   unfolding ends-by
   ending-none e = ap ends-by e
 
--- Of a file whose seal did not come.
+-- WHERE NO SEAL COMES, memory is that of the file, however it began.
+whole-back : (k : Kept) → putBack (cutKept k) k ≡ k
+whole-back k =
+    let e1 = take-append-drop maxThresholds (k .figures) in
+    let e2 = take-append-drop maxThresholds (k .cursors) in
+    let e3 = take-append-drop 64 (k .sure) in
+    let e4 = take-append-drop 64 (k .never) in
+    let e5 = take-append-drop searchWords (k .search) in
+    let e6 = take-append-drop maxGcds (k .gcds) in
+    let e7 = take-append-drop maxNodes (k .node-queue) in
+    let e8 = take-append-drop maxThresholds (k .row-queues) in
+    λ i. kept (e1 i) (e2 i) (e3 i) (e4 i) (e5 i) (e6 i) (e7 i) (e8 i) (k .answers)
+
+module _ (k : Kept) (f : File) (now : Kept) (rings : Rings) (g : Begins k f now rings) where
+  begins-none : now ≡ keptOf f (clearKept k)
+  begins-none =
+      let same : Same (cutKept now) (cutKept now) = record { figures = refl; cursors = refl; sure = refl; never = refl; search = refl; gcds = refl; node-queue = refl; row-queues = refl; answers = refl } in
+      sym (whole-back now) ∙ g .behind (cutKept now)
+      ∙ phase-words k (g .whole) f (cutKept now) rings (g .lies) (begins-listed k f now rings g (cutKept now) same) (g .fours)
+
+  pub leaves-begun : (j : JobRead) → j .standing ≡ standing f → (r : Reached) → r .standing ≡ j .standing → r .last ≡ f .last → r .refused ≡ j .refusal → r .at ≡ j .at → r .rings ≡ rings
+      → LeavesOn k now r (outcome f [] (j .refusal) (j .at))
+  leaves-begun j d r es el en ea er = record {
+    leaves = record { words = begins-none; standing = es ∙ d; last = el; refused = en; at = ea };
+    begins = subst (Begins k f now) (sym er) g;
+  }
+
+-- Of a file whose first seal did not come.
 pub leaves-none : (k : Kept) → KeptRoom k → (now : Kept) → now ≡ clearKept k → (f : File) → Blank f → (j : JobRead) → j .standing ≡ standing f → (r : Reached)
-    → r .standing ≡ j .standing → r .last ≡ Unchanged → r .refused ≡ j .refusal → r .at ≡ j .at → Leaves k now r (outcome f [] (j .refusal) (j .at))
-leaves-none k room now e f z j d r es el en ea =
-    record { words = kept-none k room now e f z; standing = es ∙ d; last = el ∙ sym (z .last); refused = en; at = ea }
+    → r .standing ≡ j .standing → r .last ≡ Unchanged → r .refused ≡ j .refusal → r .at ≡ j .at → r .rings ≡ noRings → LeavesOn k now r (outcome f [] (j .refusal) (j .at))
+leaves-none k room now e f z j d r es el en ea er =
+    leaves-begun k f now noRings (begins-clear k room now e f z) j d r es (el ∙ sym (z .last)) en ea er

@@ -3,13 +3,13 @@ ghost use mathlib.Core.Path.{_≡_};
 ghost use mathlib.Core.Bool.{true};
 ghost use Prim.Native.Nat.{_<_, _≤_};
 ghost use lib.ListN.{length};
-ghost use Rattle.memory.specs.Buffers.{heldRows, built, Kept, kept, longestInput, clearKept};
+ghost use Rattle.memory.specs.Buffers.{heldRows, built, Kept, kept, longestInput};
 ghost use Rattle.files.specs.File.{File, standing as standingOf};
 ghost use Rattle.records.specs.declared.Record.the-variants.{Seal};
 ghost use Rattle.records.specs.declared.Next.the-variants.{Taken};
 ghost use Rattle.records.specs.Next.{nextAt};
 ghost use Rattle.serve.specs.Serve.{readAt};
-ghost use Rattle.phases.specs.Phase.{KeptRoom, Blank, Stops, ending, Leaves};
+ghost use Rattle.phases.specs.Phase.{KeptRoom, Blank, Stops, Sealable, Begins, ending, LeavesOn};
 use files::JobRead;
 use queues::Ring;
 use queues::Rings;
@@ -42,15 +42,16 @@ fn lend(
     at: usize,
     standing: Standing,
     row_count: usize,
+    rings: Rings,
 ) -> Reached
-    requires { ⌜ ((f : File) × (k : Kept) × Stops (now bounds) (built (heldRows (now «row_conditions») (now «row_weights») (now rows) (now «guard_bounds») (now «guard_nodes»)) (now nodes) (now edges) (now links))
-        f «row_count» × Blank f × KeptRoom k × ((kept (now figures) (now cursors) (now sure) (now never) (now search) (now gcds) (now «node_queue») (now «row_queues») (now answers)) ≡ clearKept k) × (standing ≡ standingOf f))
+    requires { ⌜ ((f : File) × (k : Kept) × Sealable (now bounds) (built (heldRows (now «row_conditions») (now «row_weights») (now rows) (now «guard_bounds») (now «guard_nodes»)) (now nodes) (now edges) (now links))
+        f «row_count» × Begins k f (kept (now figures) (now cursors) (now sure) (now never) (now search) (now gcds) (now «node_queue») (now «row_queues») (now answers)) rings × (standing ≡ standingOf f))
         × (at < length (now input)) × (nextAt standing (now input) at ≡ Taken Seal) × (length (now input) ≤ longestInput) ⌝ }
-    ensures { λ r. ⌜ ((f : File) (k : Kept) → Stops (now (bounds .entry)) (built (heldRows (now («row_conditions» .entry)) (now («row_weights» .entry)) (now (rows .entry)) (now («guard_bounds» .entry))
+    ensures { λ r. ⌜ ((f : File) (k : Kept) → Sealable (now (bounds .entry)) (built (heldRows (now («row_conditions» .entry)) (now («row_weights» .entry)) (now (rows .entry)) (now («guard_bounds» .entry))
         (now («guard_nodes» .entry))) (now (nodes .entry)) (now (edges .entry)) (now (links .entry)))
-        f «row_count» → Blank f → KeptRoom k → (kept (now (figures .entry)) (now (cursors .entry)) (now (sure .entry)) (now (never .entry)) (now (search .entry)) (now (gcds .entry)) (now («node_queue» .entry))
-        (now («row_queues» .entry)) (now (answers .entry))) ≡ clearKept k → standing ≡ standingOf f
-        → Leaves k (kept (now (figures .exit)) (now (cursors .exit)) (now (sure .exit)) (now (never .exit)) (now (search .exit)) (now (gcds .exit)) (now («node_queue» .exit)) (now («row_queues» .exit))
+        f «row_count» → Begins k f (kept (now (figures .entry)) (now (cursors .entry)) (now (sure .entry)) (now (never .entry)) (now (search .entry)) (now (gcds .entry)) (now («node_queue» .entry))
+        (now («row_queues» .entry)) (now (answers .entry))) rings → standing ≡ standingOf f
+        → LeavesOn k (kept (now (figures .exit)) (now (cursors .exit)) (now (sure .exit)) (now (never .exit)) (now (search .exit)) (now (gcds .exit)) (now («node_queue» .exit)) (now («row_queues» .exit))
         (now (answers .exit))) r (readAt (length (now (input .entry))) (now (input .entry)) at f)) ⌝ }
 {
     let node_count = standing.nodes;
@@ -77,6 +78,7 @@ fn lend(
         answers,
         at,
         standing,
+        rings,
     )
 }
 
@@ -109,7 +111,7 @@ pub fn serve(
         f «row_count» × Blank f × (read .standing ≡ standingOf f)) × (read .at < length (now input)) × (nextAt (read .standing) (now input) (read .at) ≡ Taken Seal)) ⌝ }
     ensures { λ r. ⌜ ((f : File) → Blank f → read .standing ≡ standingOf f → (read .sealing ≡ true → Stops (now (bounds .entry)) (built (heldRows (now («row_conditions» .entry)) (now («row_weights» .entry))
         (now (rows .entry)) (now («guard_bounds» .entry)) (now («guard_nodes» .entry))) (now (nodes .entry)) (now (edges .entry)) (now (links .entry)))
-        f «row_count») → Leaves (kept (now (figures .entry)) (now (cursors .entry)) (now (sure .entry)) (now (never .entry)) (now (search .entry)) (now (gcds .entry)) (now («node_queue» .entry)) (now («row_queues» .entry))
+        f «row_count») → LeavesOn (kept (now (figures .entry)) (now (cursors .entry)) (now (sure .entry)) (now (never .entry)) (now (search .entry)) (now (gcds .entry)) (now («node_queue» .entry)) (now («row_queues» .entry))
         (now (answers .entry))) (kept (now (figures .exit)) (now (cursors .exit)) (now (sure .exit)) (now (never .exit)) (now (search .exit)) (now (gcds .exit)) (now («node_queue» .exit)) (now («row_queues» .exit))
         (now (answers .exit))) r (ending (now (input .entry)) f read)) ⌝ }
 {
@@ -126,6 +128,12 @@ pub fn serve(
     );
     let at = read.at;
     let standing = read.standing;
+    let none = Ring { head: 0, count: 0 };
+    let rings = Rings {
+        nodes: none,
+        rows: none,
+        residuals: none,
+    };
     if read.sealing {
         return lend(
             input,
@@ -150,14 +158,9 @@ pub fn serve(
             at,
             standing,
             row_count,
+            rings,
         );
     }
-    let none = Ring { head: 0, count: 0 };
-    let rings = Rings {
-        nodes: none,
-        rows: none,
-        residuals: none,
-    };
     let number = read.refusal;
     Reached {
         at: at,

@@ -20,7 +20,7 @@ use Rattle.files.specs.File.{Answer, Outcome, begun, fileOf, planned}
 use Rattle.files.specs.Contents.{answerNumber, answerVisits, keptOf, laid, served, untouched, givenOf}
 use Rattle.theorem_ends.specs.BuiltLaws.{rows-few}
 use Rattle.theorem_demands.specs.RefusalLaws.{planned-file}
-use Rattle.theorem_demands.specs.KeptLaws as Fit
+use Rattle.theorem_ends.specs.KeptLaws as Fit
 use Rattle.memory.specs.LengthsLaws.{fits-input}
 use Rattle.planner.specs.Planner.{Left, left, fitsAll, plan}
 use Rattle.listing.specs.Shows.{Inside, Held, ten, Shows}

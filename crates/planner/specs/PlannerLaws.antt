@@ -21,7 +21,7 @@ use Rattle.states.specs.States.{shown}
 use Rattle.files.specs.File.{File, fileOf}
 use Rattle.files.specs.Contents.{Out, served, untouched, whole, keptOf, laid}
 use Rattle.theorem_demands.specs.RefusalLaws.{ten, served-when, untouched-when}
-use Rattle.theorem_demands.specs.KeptLaws.{kept-file}
+use Rattle.theorem_ends.specs.KeptLaws.{kept-file}
 use Rattle.planner.specs.Planner.{Left, left, fitsAll, plan}
 
 -- ---- the states that the rows of numbers hold

@@ -1,6 +1,6 @@
 -- One row, run once: `threshold_row` of propagate.rs on values, with its guards, its terms and its four cursors.
 use Prim.Native.Nat.{ℕ, _+_, _-_}
-use mathlib.Core.Bool.{Bool, true, false, cond, _&&_, not}
+use mathlib.Core.Bool.{Bool, true, false, cond, _&&_, _||_, not}
 use mathlib.Core.List.{List, reverse}
 use lib.ListN.{take, drop}
 use lib.IntN.{ℤ, pos, _-ℤ_}
@@ -11,8 +11,8 @@ use Rattle.state.specs.declared.Step.the-variants.{Unchanged, Contradiction}
 use Rattle.state.specs.declared.State.{State}
 use Rattle.state.specs.Step.{joined, contradicts}
 use Rattle.state.specs.State.{reached, upperAtMost, limited, limit, conflict, hasResidualInterval, withGuards, withTerms}
-use Rattle.queues.specs.Marks.{Marks, isDecided, Decided, decide}
-use Rattle.thresholds.specs.Rows.{Row, Guard, hasNonunit}
+use Rattle.queues.specs.Marks.{Marks, isDecided, Decided, decided, decide}
+use Rattle.thresholds.specs.Rows.{Row, Guard, isAlone, hasNonunit}
 use Rattle.propagate.specs.Scan.{scan, Scanned, force}
 
 -- A row's state and the marks after some of its scans, and their answer.
@@ -24,8 +24,12 @@ pub record Ran : Type 0 where
 abbrev pub ran : State → Marks → Step → Ran
 ran s m k = record { state = s; marks = m; step = k }
 
+-- Passing a guard decides its node if it may; a sure one only if nothing else is asked of the node.
+abbrev pub deciding : Bool → Guard → Bool
+deciding value g = g .may && (isAlone (g .other) || not value)
+
 abbrev pub decides : Bool → Guard → Marks → Decided
-decides value g m = decide value m (g .node)
+decides value g m = cond (deciding value g) (decide value m (g .node)) (decided m Unchanged)
 
 -- Guards whose bound is reached are sure; they are passed from the lowest bound up.
 abbrev pub sureWaits : State → Guard → Marks → Bool

@@ -2,7 +2,7 @@
 use Prim.Native.Nat.{ℕ, _+_, _-_, _≤_, _<_, _^_}
 use native.Mathlib.Omega.{arith}
 use mathlib.Core.Path.{_≡_, refl, sym, ap, _∙_}
-use mathlib.Core.Bool.{Bool, true, false}
+use mathlib.Core.Bool.{Bool, true, false, cond}
 use mathlib.Core.List.{List, reverse}
 use lib.ListN.{length, take, drop, length-take, length-drop, length-reverse}
 use lib.IntN.{ℤ, _-ℤ_}
@@ -18,15 +18,23 @@ use Rattle.state.specs.declared.State.{State}
 use Rattle.state.specs.Step.{joined, contradicts}
 use Rattle.state.specs.State.{limit, limited, conflict, hasResidualInterval, withGuards, withTerms}
 use Rattle.state.specs.Shape.{Figures}
-use Rattle.queues.specs.Marks.{Marks}
+use Rattle.queues.specs.Marks.{Marks, decided, decide}
 use Rattle.queues.specs.MarksLaws.{waits-decide}
 use Rattle.queues.specs.Waiting.{Waits}
 use Rattle.thresholds.specs.Rows.{Row, rowOf, Guard, hasNonunit}
 use Rattle.propagate.specs.Scan.{Scanned}
 use Rattle.propagate.specs.ScanLaws.{all-drop, all-take, all-reverse, scan-keeps, scan-within, force-keeps}
 use Rattle.propagate.specs.Guards.{Node, Condition}
-use Rattle.propagate.specs.Row.{Ran, ran, decides, sureWaits, sureGuards, neverWaits, neverGuards, thresholdGuards, termWaits, forces, forced, trueTerms, falseTerms, rowTerms, scans, thresholdRow, wantsResidual}
+use Rattle.propagate.specs.Row.{Ran, ran, deciding, decides, sureWaits, sureGuards, neverWaits, neverGuards, thresholdGuards, termWaits, forces, forced, trueTerms, falseTerms, rowTerms, scans, thresholdRow, wantsResidual}
 use Rattle.propagate.specs.Turns.{light, cut}
+
+-- What a decision of its node keeps, passing a guard keeps.
+pub decides-keeps : (P : Marks → Type 0) (value : Bool) (g : Guard) (m : Marks) → P m → P (decide value m (g .node) .marks) → P (decides value g m .marks)
+decides-keeps P value g m p q = by (deciding value g)
+  where
+    by : (b : Bool) → P (cond b (decide value m (g .node)) (decided m Unchanged) .marks)
+    by true = q
+    by false = p
 
 module _ (gs : List Guard) (s : State) (m : Marks) where
   -- The cursors stay within the list.
@@ -42,12 +50,12 @@ module _ (gs : List Guard) (s : State) (m : Marks) where
   module _ (nodes : All Node gs) (w : Waits m) where
     pub sure-keeps : Waits (sureGuards gs s m .marks)
     sure-keeps =
-        scan-keeps (sureWaits s) (decides true) Waits Node (λ (g : Guard) (k : Marks) h v. waits-decide k v true (g .node) h)
+        scan-keeps (sureWaits s) (decides true) Waits Node (λ (g : Guard) (k : Marks) h v. decides-keeps Waits true g k v (waits-decide k v true (g .node) h))
         (drop (s .«sure_guard») gs) 0 m Unchanged (all-drop Node (s .«sure_guard») gs nodes) w
 
     pub never-keeps : (k : Step) → Waits (neverGuards gs s m k .marks)
     never-keeps k =
-        scan-keeps (neverWaits s) (decides false) Waits Node (λ (g : Guard) (n : Marks) h v. waits-decide n v false (g .node) h)
+        scan-keeps (neverWaits s) (decides false) Waits Node (λ (g : Guard) (n : Marks) h v. decides-keeps Waits false g n v (waits-decide n v false (g .node) h))
         (reverse (take (s .«never_guard») gs)) 0 m k (all-reverse Node (take (s .«never_guard») gs) (all-take Node (s .«never_guard») gs nodes)) w
 
   -- The scan up contradicts, or the scan down follows.

@@ -8,3 +8,5 @@ pub mod SlotLaws
 pub mod Marks
 pub mod MarksLaws
 pub mod Waiting
+pub mod Requeue
+pub mod RequeueLaws

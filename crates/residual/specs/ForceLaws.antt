@@ -30,6 +30,7 @@ use Rattle.residual.specs.Residual.{
   interval,
   residualCheck,
   suffixes,
+  placed,
   offMisses,
   onMisses,
   forceTerm,
@@ -85,56 +86,56 @@ waits-force i m t divisor h w =
     force-cases (λ (x : Decided). Waits (x .marks)) i m t divisor w (λ f g. w) (λ f. waits-decide m w true (t .condition) h)
     (λ g. waits-decide m w false (t .condition) h)
 
-module _ (i : Interval) (suf : List ℕ) (t : Term) (ts : List Term) (prefix : ℕ) (m : Marks) (step : Step) where
-  pub from-skip : isDecided m (t .condition) ≡ true → forceFrom i suf (t ∷ ts) prefix m step ≡ forceFrom i suf ts prefix m step
+module _ (i : Interval) (behind : ℕ → ℕ) (t : Term) (ts : List Term) (prefix : ℕ) (m : Marks) (step : Step) where
+  pub from-skip : isDecided m (t .condition) ≡ true → forceFrom i behind (t ∷ ts) prefix m step ≡ forceFrom i behind ts prefix m step
   unfolding forceFrom
   from-skip h = rw (h, forceFrom)
 
   module _ (h : isDecided m (t .condition) ≡ false) where
-    pub from-stop : (d : Decided) → d ≡ forceTerm i m t (gcd prefix (getD suf (length ts) 0)) → contradicts (d .step) ≡ true
-        → forceFrom i suf (t ∷ ts) prefix m step ≡ decided (d .marks) Contradiction
+    pub from-stop : (d : Decided) → d ≡ forceTerm i m t (gcd prefix (behind (length ts))) → contradicts (d .step) ≡ true
+        → forceFrom i behind (t ∷ ts) prefix m step ≡ decided (d .marks) Contradiction
     unfolding forceFrom
     from-stop d e k =
         let l = rw e at k in
         rw (h, l, forceFrom) (ap (λ (x : Decided). decided (x .marks) Contradiction) (sym e))
 
-    pub from-more : (d : Decided) → d ≡ forceTerm i m t (gcd prefix (getD suf (length ts) 0)) → contradicts (d .step) ≡ false
-        → forceFrom i suf (t ∷ ts) prefix m step ≡ forceFrom i suf ts (gcd prefix (t .weight)) (d .marks) (joined step (d .step))
+    pub from-more : (d : Decided) → d ≡ forceTerm i m t (gcd prefix (behind (length ts))) → contradicts (d .step) ≡ false
+        → forceFrom i behind (t ∷ ts) prefix m step ≡ forceFrom i behind ts (gcd prefix (t .weight)) (d .marks) (joined step (d .step))
     unfolding forceFrom
     from-more d e k =
         let l = rw e at k in
-        rw (h, l, forceFrom) (ap (λ (x : Decided). forceFrom i suf ts (gcd prefix (t .weight)) (x .marks) (joined step (x .step))) (sym e))
+        rw (h, l, forceFrom) (ap (λ (x : Decided). forceFrom i behind ts (gcd prefix (t .weight)) (x .marks) (joined step (x .step))) (sym e))
 
 -- The same at a place of the two slices; the terms behind it are as many as the suffix's place says.
-module _ (i : Interval) (suf cs ws : List ℕ) (p prefix : ℕ) (m : Marks) (step : Step) (f : p < length cs) (g : p < length ws) where
-  here : forceFrom i suf (drop p (terms cs ws)) prefix m step
-      ≡ forceFrom i suf (term (getD cs p 0) (getD ws p 0) ∷ drop (p + 1) (terms cs ws)) prefix m step
+module _ (i : Interval) (behind : ℕ → ℕ) (cs ws : List ℕ) (p prefix : ℕ) (m : Marks) (step : Step) (f : p < length cs) (g : p < length ws) where
+  here : forceFrom i behind (drop p (terms cs ws)) prefix m step
+      ≡ forceFrom i behind (term (getD cs p 0) (getD ws p 0) ∷ drop (p + 1) (terms cs ws)) prefix m step
   here =
-      ap (λ (l : List Term). forceFrom i suf l prefix m step) (up-terms cs ws p f g)
-      ∙ ap (λ (k : ℕ). forceFrom i suf (term (getD cs p 0) (getD ws p 0) ∷ drop k (terms cs ws)) prefix m step) (sym (add-one p))
+      ap (λ (l : List Term). forceFrom i behind l prefix m step) (up-terms cs ws p f g)
+      ∙ ap (λ (k : ℕ). forceFrom i behind (term (getD cs p 0) (getD ws p 0) ∷ drop k (terms cs ws)) prefix m step) (sym (add-one p))
 
-  pub force-skip : isDecided m (getD cs p 0) ≡ true → forceFrom i suf (drop p (terms cs ws)) prefix m step ≡ forceFrom i suf (drop (p + 1) (terms cs ws)) prefix m step
-  force-skip h = here ∙ from-skip i suf (term (getD cs p 0) (getD ws p 0)) (drop (p + 1) (terms cs ws)) prefix m step h
+  pub force-skip : isDecided m (getD cs p 0) ≡ true → forceFrom i behind (drop p (terms cs ws)) prefix m step ≡ forceFrom i behind (drop (p + 1) (terms cs ws)) prefix m step
+  force-skip h = here ∙ from-skip i behind (term (getD cs p 0) (getD ws p 0)) (drop (p + 1) (terms cs ws)) prefix m step h
 
-  module _ (same : length cs ≡ length ws) (h : isDecided m (getD cs p 0) ≡ false) (divisor : ℕ) (v : divisor ≡ gcd prefix (getD suf (length ws - p - 1) 0))
+  module _ (same : length cs ≡ length ws) (h : isDecided m (getD cs p 0) ≡ false) (divisor : ℕ) (v : divisor ≡ gcd prefix (behind (length ws - p - 1)))
       (d : Decided) (e : d ≡ forceTerm i m (term (getD cs p 0) (getD ws p 0)) divisor) where
-    behind : d ≡ forceTerm i m (term (getD cs p 0) (getD ws p 0)) (gcd prefix (getD suf (length (drop (p + 1) (terms cs ws))) 0))
-    behind =
+    as-behind : d ≡ forceTerm i m (term (getD cs p 0) (getD ws p 0)) (gcd prefix (behind (length (drop (p + 1) (terms cs ws)))))
+    as-behind =
         e ∙ ap (forceTerm i m (term (getD cs p 0) (getD ws p 0)))
-        (v ∙ ap (λ (k : ℕ). gcd prefix (getD suf k 0))
+        (v ∙ ap (λ (k : ℕ). gcd prefix (behind k))
         (sym (length-drop (p + 1) (terms cs ws) ∙ omega (arith, length-terms cs ws))))
 
-    pub force-stop : contradicts (d .step) ≡ true → forceFrom i suf (drop p (terms cs ws)) prefix m step ≡ decided (d .marks) Contradiction
-    force-stop k = here ∙ from-stop i suf (term (getD cs p 0) (getD ws p 0)) (drop (p + 1) (terms cs ws)) prefix m step h d behind k
+    pub force-stop : contradicts (d .step) ≡ true → forceFrom i behind (drop p (terms cs ws)) prefix m step ≡ decided (d .marks) Contradiction
+    force-stop k = here ∙ from-stop i behind (term (getD cs p 0) (getD ws p 0)) (drop (p + 1) (terms cs ws)) prefix m step h d as-behind k
 
     pub force-more : contradicts (d .step) ≡ false
-        → forceFrom i suf (drop p (terms cs ws)) prefix m step
-        ≡ forceFrom i suf (drop (p + 1) (terms cs ws)) (gcd prefix (getD ws p 0)) (d .marks) (joined step (d .step))
-    force-more k = here ∙ from-more i suf (term (getD cs p 0) (getD ws p 0)) (drop (p + 1) (terms cs ws)) prefix m step h d behind k
+        → forceFrom i behind (drop p (terms cs ws)) prefix m step
+        ≡ forceFrom i behind (drop (p + 1) (terms cs ws)) (gcd prefix (getD ws p 0)) (d .marks) (joined step (d .step))
+    force-more k = here ∙ from-more i behind (term (getD cs p 0) (getD ws p 0)) (drop (p + 1) (terms cs ws)) prefix m step h d as-behind k
 
 -- One turn of the loop: the marks, the queue and the joined answer that it leaves.
-module _ (i : Interval) (suf cs ws : List ℕ) (p prefix : ℕ) (m : Marks) (step : Step) (f : p < length cs) (g : p < length ws)
-    (same : length cs ≡ length ws) (h : isDecided m (getD cs p 0) ≡ false) (divisor : ℕ) (v : divisor ≡ gcd prefix (getD suf (length ws - p - 1) 0))
+module _ (i : Interval) (behind : ℕ → ℕ) (cs ws : List ℕ) (p prefix : ℕ) (m : Marks) (step : Step) (f : p < length cs) (g : p < length ws)
+    (same : length cs ≡ length ws) (h : isDecided m (getD cs p 0) ≡ false) (divisor : ℕ) (v : divisor ≡ gcd prefix (behind (length ws - p - 1)))
     (s n l : List ℕ) (r r′ : Ring) (k k′ : Step) (e : decided (marks s n (queue l r)) k ≡ forceTerm i m (term (getD cs p 0) (getD ws p 0)) divisor)
     (a : r′ ≡ r) (j : k′ ≡ joined step k) where
   pub turn-waits : getD cs p 0 < maxNodes → Waits m → Waits (marks s n (queue l r′))
@@ -143,11 +144,11 @@ module _ (i : Interval) (suf cs ws : List ℕ) (p prefix : ℕ) (m : Marks) (ste
       = ap (λ (x : Ring). marks s n (queue l x)) a ∙ ap (λ (d : Decided). d .marks) e in
       rw y (waits-force i m (term (getD cs p 0) (getD ws p 0)) divisor b w)
 
-  pub turn-stops : contradicts k ≡ true → decided (marks s n (queue l r′)) k′ ≡ forceFrom i suf (drop p (terms cs ws)) prefix m step
+  pub turn-stops : contradicts k ≡ true → decided (marks s n (queue l r′)) k′ ≡ forceFrom i behind (drop p (terms cs ws)) prefix m step
   turn-stops u =
       ap (λ (x : Ring). decided (marks s n (queue l x)) k′) a
       ∙ ap (decided (marks s n (queue l r))) (j ∙ last step k u)
-      ∙ sym (force-stop i suf cs ws p prefix m step f g same h divisor v (decided (marks s n (queue l r)) k) e u)
+      ∙ sym (force-stop i behind cs ws p prefix m step f g same h divisor v (decided (marks s n (queue l r)) k) e u)
     where
       last : (x y : Step) → contradicts y ≡ true → joined x y ≡ Contradiction
       last x Unchanged u = absurd (clash (sym u))
@@ -157,44 +158,50 @@ module _ (i : Interval) (suf cs ws : List ℕ) (p prefix : ℕ) (m : Marks) (ste
       last Contradiction Contradiction u = refl
 
   pub turn-goes-on : (next : ℕ) → next ≡ gcd prefix (getD ws p 0) → contradicts k ≡ false
-      → forceFrom i suf (drop (p + 1) (terms cs ws)) next (marks s n (queue l r′)) k′ ≡ forceFrom i suf (drop p (terms cs ws)) prefix m step
+      → forceFrom i behind (drop (p + 1) (terms cs ws)) next (marks s n (queue l r′)) k′ ≡ forceFrom i behind (drop p (terms cs ws)) prefix m step
   turn-goes-on next w u =
-      ap (λ (x : ℕ). forceFrom i suf (drop (p + 1) (terms cs ws)) x (marks s n (queue l r′)) k′) w
-      ∙ ap (λ (x : Ring). forceFrom i suf (drop (p + 1) (terms cs ws)) (gcd prefix (getD ws p 0)) (marks s n (queue l x)) k′) a
-      ∙ ap (forceFrom i suf (drop (p + 1) (terms cs ws)) (gcd prefix (getD ws p 0)) (marks s n (queue l r))) j
-      ∙ sym (force-more i suf cs ws p prefix m step f g same h divisor v (decided (marks s n (queue l r)) k) e u)
+      ap (λ (x : ℕ). forceFrom i behind (drop (p + 1) (terms cs ws)) x (marks s n (queue l r′)) k′) w
+      ∙ ap (λ (x : Ring). forceFrom i behind (drop (p + 1) (terms cs ws)) (gcd prefix (getD ws p 0)) (marks s n (queue l x)) k′) a
+      ∙ ap (forceFrom i behind (drop (p + 1) (terms cs ws)) (gcd prefix (getD ws p 0)) (marks s n (queue l r))) j
+      ∙ sym (force-more i behind cs ws p prefix m step f g same h divisor v (decided (marks s n (queue l r)) k) e u)
 
--- At the end, and from a buffer that begins with the suffixes.
-pub force-end : (i : Interval) (suf cs ws : List ℕ) (p prefix : ℕ) (m : Marks) (step : Step) → length ws ≤ p
-    → forceFrom i suf (drop p (terms cs ws)) prefix m step ≡ decided m step
+-- At the end, and by another function that agrees on as many as there are terms.
+pub force-end : (i : Interval) (behind : ℕ → ℕ) (cs ws : List ℕ) (p prefix : ℕ) (m : Marks) (step : Step) → length ws ≤ p
+    → forceFrom i behind (drop p (terms cs ws)) prefix m step ≡ decided m step
 unfolding forceFrom
-force-end i suf cs ws p prefix m step h =
-    ap (λ (l : List Term). forceFrom i suf l prefix m step) (drop-of-length-le (terms cs ws) {i = p} (omega (arith, length-terms cs ws)))
+force-end i behind cs ws p prefix m step h =
+    ap (λ (l : List Term). forceFrom i behind l prefix m step) (drop-of-length-le (terms cs ws) {i = p} (omega (arith, length-terms cs ws)))
 
-pub force-over : (i : Interval) (suf b : List ℕ) (ts : List Term) (prefix : ℕ) (m : Marks) (step : Step) → length ts ≤ length suf
-    → forceFrom i (over suf b) ts prefix m step ≡ forceFrom i suf ts prefix m step
+pub force-alike : (i : Interval) (f g : ℕ → ℕ) (ts : List Term) → ((n : ℕ) → n < length ts → f n ≡ g n) → (prefix : ℕ) (m : Marks) (step : Step)
+    → forceFrom i f ts prefix m step ≡ forceFrom i g ts prefix m step
 unfolding forceFrom
-force-over i suf b [] prefix m step h = refl
-force-over i suf b (t ∷ ts) prefix m step h =
-    by (λ (p : ℕ) (n : Marks) (s : Step). force-over i suf b ts p n s (omega arith)) (isDecided m (t .condition)) refl
+force-alike i f g [] h prefix m step = refl
+force-alike i f g (t ∷ ts) h prefix m step =
+    by (force-alike i f g ts (λ (n : ℕ) (k : n < length ts). h n (omega arith))) (isDecided m (t .condition)) refl
   where
-    by : ((p : ℕ) (n : Marks) (s : Step) → forceFrom i (over suf b) ts p n s ≡ forceFrom i suf ts p n s)
-        → (u : Bool) → isDecided m (t .condition) ≡ u → forceFrom i (over suf b) (t ∷ ts) prefix m step ≡ forceFrom i suf (t ∷ ts) prefix m step
-    by rest true e =
-        from-skip i (over suf b) t ts prefix m step e ∙ rest prefix m step ∙ sym (from-skip i suf t ts prefix m step e)
+    by : ((p : ℕ) (n : Marks) (s : Step) → forceFrom i f ts p n s ≡ forceFrom i g ts p n s)
+        → (u : Bool) → isDecided m (t .condition) ≡ u → forceFrom i f (t ∷ ts) prefix m step ≡ forceFrom i g (t ∷ ts) prefix m step
+    by rest true e = from-skip i f t ts prefix m step e ∙ rest prefix m step ∙ sym (from-skip i g t ts prefix m step e)
     by rest false e = turn (contradicts (d .step)) refl
       where
         d : Decided
-        d = forceTerm i m t (gcd prefix (getD suf (length ts) 0))
+        d = forceTerm i m t (gcd prefix (g (length ts)))
 
-        q : d ≡ forceTerm i m t (gcd prefix (getD (over suf b) (length ts) 0))
-        q = ap (λ (k : ℕ). forceTerm i m t (gcd prefix k)) (sym (List·getD-append suf (drop (length suf) b) 0 (length ts) (omega arith)))
+        q : d ≡ forceTerm i m t (gcd prefix (f (length ts)))
+        q = ap (λ (k : ℕ). forceTerm i m t (gcd prefix k)) (sym (h (length ts) (omega arith)))
 
-        turn : (v : Bool) → contradicts (d .step) ≡ v → forceFrom i (over suf b) (t ∷ ts) prefix m step ≡ forceFrom i suf (t ∷ ts) prefix m step
-        turn true k = from-stop i (over suf b) t ts prefix m step e d q k ∙ sym (from-stop i suf t ts prefix m step e d refl k)
+        turn : (v : Bool) → contradicts (d .step) ≡ v → forceFrom i f (t ∷ ts) prefix m step ≡ forceFrom i g (t ∷ ts) prefix m step
+        turn true k = from-stop i f t ts prefix m step e d q k ∙ sym (from-stop i g t ts prefix m step e d refl k)
         turn false k =
-            from-more i (over suf b) t ts prefix m step e d q k ∙ rest (gcd prefix (t .weight)) (d .marks) (joined step (d .step))
-            ∙ sym (from-more i suf t ts prefix m step e d refl k)
+            from-more i f t ts prefix m step e d q k ∙ rest (gcd prefix (t .weight)) (d .marks) (joined step (d .step))
+            ∙ sym (from-more i g t ts prefix m step e d refl k)
+
+-- From a buffer that begins with the suffixes.
+pub force-over : (i : Interval) (suf b : List ℕ) (ts : List Term) (prefix : ℕ) (m : Marks) (step : Step) → length ts ≤ length suf
+    → forceFrom i (placed (over suf b)) ts prefix m step ≡ forceFrom i (placed suf) ts prefix m step
+force-over i suf b ts prefix m step h =
+    force-alike i (placed (over suf b)) (placed suf) ts
+    (λ (n : ℕ) (k : n < length ts). List·getD-append suf (drop (length suf) b) 0 n (omega arith)) prefix m step
 
 -- The whole of it: a contradiction of the row, nothing to force, or what forcing did.
 module _ (ts : List Term) (s : State) (m : Marks) (gcds : List ℕ) where
@@ -208,7 +215,7 @@ module _ (ts : List Term) (s : State) (m : Marks) (gcds : List ℕ) where
     residual-rest k = rw (h, k, thresholdResidual)
 
     pub residual-forced : nothingForced ts s (isDecided m) ≡ false → (d : Decided) (g : List ℕ) → g ≡ over (suffixes (isDecided m) ts) gcds
-        → d ≡ forceFrom (interval s) g ts 0 m Unchanged → residual (d .marks) (d .step) g ≡ thresholdResidual ts s m gcds
+        → d ≡ forceFrom (interval s) (placed g) ts 0 m Unchanged → residual (d .marks) (d .step) g ≡ thresholdResidual ts s m gcds
     unfolding thresholdResidual
     residual-forced k d g e f =
         let l = length-suffix (isDecided m) (reverse ts) 0 in
@@ -216,7 +223,7 @@ module _ (ts : List Term) (s : State) (m : Marks) (gcds : List ℕ) where
         let w = force-over (interval s) (suffixes (isDecided m) ts) gcds ts 0 m Unchanged (omega arith) in
         ap (residual (d .marks) (d .step)) e
         ∙ ap (λ (x : Decided). residual (x .marks) (x .step) (over (suffixes (isDecided m) ts) gcds))
-        (f ∙ ap (λ (y : List ℕ). forceFrom (interval s) y ts 0 m Unchanged) e ∙ w)
+        (f ∙ ap (λ (y : List ℕ). forceFrom (interval s) (placed y) ts 0 m Unchanged) e ∙ w)
         ∙ rw (h, k, thresholdResidual)
 
 -- What forcing each of the terms keeps, the residual of the row keeps.
@@ -226,27 +233,27 @@ Each Q (t ∷ ts) = Q t × Each Q ts
 
 module _ (Q : Term → Type 0) (P : Marks → Type 0)
     (one : (i : Interval) (m : Marks) (t : Term) (divisor : ℕ) → Q t → P m → P (forceTerm i m t divisor .marks)) where
-  from-keeping : (i : Interval) (suf : List ℕ) (ts : List Term) (prefix : ℕ) (m : Marks) (step : Step) → Each Q ts → P m
-      → P (forceFrom i suf ts prefix m step .marks)
+  from-keeping : (i : Interval) (behind : ℕ → ℕ) (ts : List Term) (prefix : ℕ) (m : Marks) (step : Step) → Each Q ts → P m
+      → P (forceFrom i behind ts prefix m step .marks)
   unfolding forceFrom
-  from-keeping i suf [] prefix m step h w = w
-  from-keeping i suf (t ∷ ts) prefix m step h w =
-      by (λ (p : ℕ) (n : Marks) (s : Step) (v : P n). from-keeping i suf ts p n s (h .1) v) (isDecided m (t .condition)) refl
+  from-keeping i behind [] prefix m step h w = w
+  from-keeping i behind (t ∷ ts) prefix m step h w =
+      by (λ (p : ℕ) (n : Marks) (s : Step) (v : P n). from-keeping i behind ts p n s (h .1) v) (isDecided m (t .condition)) refl
     where
       d : Decided
-      d = forceTerm i m t (gcd prefix (getD suf (length ts) 0))
+      d = forceTerm i m t (gcd prefix (behind (length ts)))
 
       after : P (d .marks)
-      after = one i m t (gcd prefix (getD suf (length ts) 0)) (h .0) w
+      after = one i m t (gcd prefix (behind (length ts))) (h .0) w
 
-      turn : ((p : ℕ) (n : Marks) (s : Step) → P n → P (forceFrom i suf ts p n s .marks)) → isDecided m (t .condition) ≡ false
-          → (b : Bool) → contradicts (d .step) ≡ b → P (forceFrom i suf (t ∷ ts) prefix m step .marks)
-      turn ih e true k = rw (from-stop i suf t ts prefix m step e d refl k) after
-      turn ih e false k = rw (from-more i suf t ts prefix m step e d refl k) (ih (gcd prefix (t .weight)) (d .marks) (joined step (d .step)) after)
+      turn : ((p : ℕ) (n : Marks) (s : Step) → P n → P (forceFrom i behind ts p n s .marks)) → isDecided m (t .condition) ≡ false
+          → (b : Bool) → contradicts (d .step) ≡ b → P (forceFrom i behind (t ∷ ts) prefix m step .marks)
+      turn ih e true k = rw (from-stop i behind t ts prefix m step e d refl k) after
+      turn ih e false k = rw (from-more i behind t ts prefix m step e d refl k) (ih (gcd prefix (t .weight)) (d .marks) (joined step (d .step)) after)
 
-      by : ((p : ℕ) (n : Marks) (s : Step) → P n → P (forceFrom i suf ts p n s .marks)) → (u : Bool) → isDecided m (t .condition) ≡ u
-          → P (forceFrom i suf (t ∷ ts) prefix m step .marks)
-      by ih true e = rw (from-skip i suf t ts prefix m step e) (ih prefix m step w)
+      by : ((p : ℕ) (n : Marks) (s : Step) → P n → P (forceFrom i behind ts p n s .marks)) → (u : Bool) → isDecided m (t .condition) ≡ u
+          → P (forceFrom i behind (t ∷ ts) prefix m step .marks)
+      by ih true e = rw (from-skip i behind t ts prefix m step e) (ih prefix m step w)
       by ih false e = turn ih e (contradicts (d .step)) refl
 
   pub residual-keeping : (ts : List Term) (s : State) (m : Marks) (gcds : List ℕ) → Each Q ts → P m → P (thresholdResidual ts s m gcds .marks)
@@ -260,8 +267,8 @@ module _ (Q : Term → Type 0) (P : Marks → Type 0)
       by true c n q = rw (residual-none ts s m gcds c) w
       by false c true q = rw (residual-rest ts s m gcds c q) w
       by false c false q =
-          subst (λ (r : Residual). P (r .marks)) (residual-forced ts s m gcds c q (forceFrom (interval s) l ts 0 m Unchanged) l refl refl)
-          (from-keeping (interval s) l ts 0 m Unchanged h w)
+          subst (λ (r : Residual). P (r .marks)) (residual-forced ts s m gcds c q (forceFrom (interval s) (placed l) ts 0 m Unchanged) l refl refl)
+          (from-keeping (interval s) (placed l) ts 0 m Unchanged h w)
 
 -- Nodes wait at most once after it, too.
 abbrev pub Inside : List Term → Type 0
@@ -294,5 +301,5 @@ gcds-length ts s m gcds h = by (contradicts (residualCheck ts s (isDecided m))) 
     by false c true q = ap (λ (r : Residual). length (r .gcds)) (residual-rest ts s m gcds c q)
     by false c false q =
         ap (λ (r : Residual). length (r .gcds))
-        (sym (residual-forced ts s m gcds c q (forceFrom (interval s) (over l gcds) ts 0 m Unchanged) (over l gcds) refl refl))
+        (sym (residual-forced ts s m gcds c q (forceFrom (interval s) (placed (over l gcds)) ts 0 m Unchanged) (over l gcds) refl refl))
         ∙ laid

@@ -85,6 +85,10 @@ suffixFrom d (t ∷ ts) suffix = suffix ∷ suffixFrom d ts (cond (d (t .conditi
 abbrev pub suffixes : (ℕ → Bool) → List Term → List ℕ
 suffixes d ts = suffixFrom d (reverse ts) 0
 
+-- The gcd of the undecided weights among the last n terms, of a list that begins with the suffixes.
+abbrev pub placed : List ℕ → ℕ → ℕ
+placed suf n = getD suf n 0
+
 -- By the gcd of the other undecided weights no sum is allowed where this one is left out; or where it is taken.
 abbrev pub offMisses : Interval → ℕ → ℕ → Bool
 offMisses i weight divisor = branchMisses (i .known) (i .possible - weight) (i .lower) (i .upper) divisor
@@ -104,17 +108,17 @@ forceTerm i m t divisor =
           ]
     ]
 
--- Terms from the heavy end, with the gcd of the undecided weights before.
-unfoldable pub forceFrom : Interval → List ℕ → List Term → ℕ → Marks → Step → Decided
-forceFrom i suf [] prefix m step = decided m step
-forceFrom i suf (t ∷ ts) prefix m step =
+-- Terms from the heavy end, with the gcd of the undecided weights before; `behind` tells that of the last 0, 1, 2 .. terms.
+unfoldable pub forceFrom : Interval → (ℕ → ℕ) → List Term → ℕ → Marks → Step → Decided
+forceFrom i behind [] prefix m step = decided m step
+forceFrom i behind (t ∷ ts) prefix m step =
     elim (isDecided m (t .condition)) [
-      | true ↦ forceFrom i suf ts prefix m step
+      | true ↦ forceFrom i behind ts prefix m step
       | false ↦
-          let d = forceTerm i m t (gcd prefix (getD suf (length ts) 0)) in
+          let d = forceTerm i m t (gcd prefix (behind (length ts))) in
           elim (contradicts (d .step)) [
             | true ↦ decided (d .marks) Contradiction
-            | false ↦ forceFrom i suf ts (gcd prefix (t .weight)) (d .marks) (joined step (d .step))
+            | false ↦ forceFrom i behind ts (gcd prefix (t .weight)) (d .marks) (joined step (d .step))
           ]
     ]
 
@@ -140,7 +144,7 @@ thresholdResidual ts s m gcds =
           elim (nothingForced ts s (isDecided m)) [
             | true ↦ residual m Unchanged gcds
             | false ↦
-                let f = forceFrom (interval s) (suffixes (isDecided m) ts) ts 0 m Unchanged in
+                let f = forceFrom (interval s) (placed (suffixes (isDecided m) ts)) ts 0 m Unchanged in
                 residual (f .marks) (f .step) (over (suffixes (isDecided m) ts) gcds)
           ]
     ]

@@ -29,7 +29,7 @@ use Rattle.residual.specs.declared.Interval.{Interval}
 use Rattle.divisors.specs.Gcd.{gcd}
 use Rattle.divisors.specs.GcdLaws.{chosen, gcd-left, gcd-right}
 use Rattle.residual.specs.MissesLaws.{clash, branch-sum}
-use Rattle.residual.specs.Residual.{interval, residualCheck, fitsFrom, suffixFrom, suffixes, offMisses, onMisses, forceTerm, forceFrom, Residual, over, nothingForced, thresholdResidual}
+use Rattle.residual.specs.Residual.{interval, residualCheck, fitsFrom, suffixFrom, suffixes, placed, offMisses, onMisses, forceTerm, forceFrom, Residual, over, nothingForced, thresholdResidual}
 use Rattle.residual.specs.IntervalLaws.{natural-mono, natural-last, limit-above}
 use Rattle.residual.specs.ForceLaws.{force-cases, Each, residual-keeping, from-skip, from-more, force-over, residual-rest, residual-forced}
 use Rattle.residual.specs.SuffixLaws.{length-suffix}
@@ -79,13 +79,13 @@ folded-divides d (t ∷ ts) s = by (λ (x : ℕ). folded-divides d ts x) (d (t .
         let r = ih (gcd s (t .weight)) in
         rw (e, folded, openWeights) (dvd-trans g (r .0) (gcd-left s (t .weight)), (dvd-trans g (r .0) (gcd-right s (t .weight)), r .1))
 
--- Each place of the buffer divides the undecided weights of the terms that it stands for.
-abbrev Suffixed : List ℕ → (ℕ → Bool) → List Term → Type 0
-Suffixed suf d [] = Unit {0}
-Suffixed suf d (t ∷ ts) = Divides (getD suf (length ts) 0) (openWeights d ts) × Suffixed suf d ts
+-- What stands for the terms behind a term divides their undecided weights.
+abbrev Suffixed : (ℕ → ℕ) → (ℕ → Bool) → List Term → Type 0
+Suffixed behind d [] = Unit {0}
+Suffixed behind d (t ∷ ts) = Divides (behind (length ts)) (openWeights d ts) × Suffixed behind d ts
 
-behind : (d : ℕ → Bool) (zs ts : List Term) → Divides (getD (suffixes d (zs ++ ts)) (length ts) 0) (openWeights d ts)
-behind d zs ts =
+behind-divides : (d : ℕ → Bool) (zs ts : List Term) → Divides (getD (suffixes d (zs ++ ts)) (length ts) 0) (openWeights d ts)
+behind-divides d zs ts =
     let e : getD (suffixes d (zs ++ ts)) (length ts) 0 ≡ folded d (reverse ts) 0 =
     ap₂ (λ (l : List Term) (k : ℕ). getD (suffixFrom d l 0) k 0) (reverse-append zs ts) (sym (length-reverse ts)) ∙ suffix-at d (reverse ts) (reverse zs) 0
     in
@@ -93,11 +93,11 @@ behind d zs ts =
     (divides-reverse (folded d (reverse ts) 0) (openWeights d ts)
     (subst (Divides (folded d (reverse ts) 0)) (open-reverse d ts) (folded-divides d (reverse ts) 0 .1)))
 
-suffixed : (d : ℕ → Bool) (all zs ts : List Term) → zs ++ ts ≡ all → Suffixed (suffixes d all) d ts
+suffixed : (d : ℕ → Bool) (all zs ts : List Term) → zs ++ ts ≡ all → Suffixed (placed (suffixes d all)) d ts
 suffixed d all zs [] e = tt
 suffixed d all zs (t ∷ ts) e =
     let q : (zs ++ (t ∷ [])) ++ ts ≡ all = append-assoc zs (t ∷ []) ts ∙ e in (
-      subst (λ (l : List Term). Divides (getD (suffixes d l) (length ts) 0) (openWeights d ts)) q (behind d (zs ++ (t ∷ [])) ts),
+      subst (λ (l : List Term). Divides (getD (suffixes d l) (length ts) 0) (openWeights d ts)) q (behind-divides d (zs ++ (t ∷ [])) ts),
       suffixed d all (zs ++ (t ∷ [])) ts q,
     )
 
@@ -200,7 +200,7 @@ same-forced i m t divisor d [] f s = tt
 same-forced i m t divisor d (u ∷ ts) f s =
     (force-rest i m t divisor (u .condition) (f .0) ∙ s .0, same-forced i m t divisor d ts (f .1) (s .1))
 
-module _ (i : Interval) (suf : List ℕ) (d v : ℕ → Bool) where
+module _ (i : Interval) (behind : ℕ → ℕ) (d v : ℕ → Bool) where
   -- x is what the layout takes of the undecided weights before, y all of them. The sum of the row is allowed.
   pub record Allowed (ts : List Term) (prefix x y : ℕ) : Type 0 where
     pub multiple : prefix ∣ x
@@ -210,15 +210,15 @@ module _ (i : Interval) (suf : List ℕ) (d v : ℕ → Bool) where
     pub upper : i .known + (x + openSum d v ts) ≤ i .upper
 
   abbrev Sound : List Term → Type 0
-  Sound ts = (prefix x y : ℕ) (m : Marks) (step : Step) → Distinct ts → Same m d ts → Suffixed suf d ts → Allowed ts prefix x y → Agrees v m
-      → contradicts step ≡ false → Kept v (forceFrom i suf ts prefix m step)
+  Sound ts = (prefix x y : ℕ) (m : Marks) (step : Step) → Distinct ts → Same m d ts → Suffixed behind d ts → Allowed ts prefix x y → Agrees v m
+      → contradicts step ≡ false → Kept v (forceFrom i behind ts prefix m step)
 
   sound-turn : (t : Term) (ts : List Term) → Sound ts → Sound (t ∷ ts)
   unfolding sum
   sound-turn t ts ih prefix x y m step u s f a g c = by (d (t .condition)) refl
     where
       divisor : ℕ
-      divisor = gcd prefix (getD suf (length ts) 0)
+      divisor = gcd prefix (behind (length ts))
 
       taken : ℕ
       taken = openSum d v ts
@@ -228,16 +228,16 @@ module _ (i : Interval) (suf : List ℕ) (d v : ℕ → Bool) where
 
       divides-rest : divisor ∣ x + taken
       divides-rest =
-          dvd-add divisor (dvd-trans divisor (gcd-left prefix (getD suf (length ts) 0)) (a .multiple))
+          dvd-add divisor (dvd-trans divisor (gcd-left prefix (behind (length ts))) (a .multiple))
           (subst (λ (n : ℕ). divisor ∣ n) (choices-sum d v ts)
           (divides-chosen divisor (choices d v ts) (openWeights d ts)
-          (divides-less divisor (getD suf (length ts) 0) (openWeights d ts) (gcd-right prefix (getD suf (length ts) 0)) (f .0))))
+          (divides-less divisor (behind (length ts)) (openWeights d ts) (gcd-right prefix (behind (length ts))) (f .0))))
 
-      skipped : d (t .condition) ≡ true → Kept v (forceFrom i suf (t ∷ ts) prefix m step)
+      skipped : d (t .condition) ≡ true → Kept v (forceFrom i behind (t ∷ ts) prefix m step)
       skipped k =
           let o = open-skip d t ts k in
           let n = sum-skip d t ts v k in
-          rw (from-skip i suf t ts prefix m step (s .0 ∙ k))
+          rw (from-skip i behind t ts prefix m step (s .0 ∙ k))
           (ih prefix x y m step (u .1) (s .1) (f .1)
           (record {
             multiple = a .multiple;
@@ -280,15 +280,15 @@ module _ (i : Interval) (suf : List ℕ) (d v : ℕ → Bool) where
         upper = omega (arith, a .upper, sum-off d t ts v k z);
       }
 
-      forced : d (t .condition) ≡ false → Kept v (forceFrom i suf (t ∷ ts) prefix m step)
+      forced : d (t .condition) ≡ false → Kept v (forceFrom i behind (t ∷ ts) prefix m step)
       forced k =
           let r = force-kept v i m t divisor g (off k) (on k) in
           let b = v (t .condition) in
-          rw (from-more i suf t ts prefix m step (s .0 ∙ k) (forceTerm i m t divisor) refl (r .1))
+          rw (from-more i behind t ts prefix m step (s .0 ∙ k) (forceTerm i m t divisor) refl (r .1))
           (ih (gcd prefix (t .weight)) (x + cond b (t .weight) 0) (y + t .weight) (forceTerm i m t divisor .marks) (joined step (forceTerm i m t divisor .step))
           (u .1) (same-forced i m t divisor d ts (u .0) (s .1)) (f .1) (next k b refl) (r .0) (joined-fine step (forceTerm i m t divisor .step) c (r .1)))
 
-      by : (b : Bool) → d (t .condition) ≡ b → Kept v (forceFrom i suf (t ∷ ts) prefix m step)
+      by : (b : Bool) → d (t .condition) ≡ b → Kept v (forceFrom i behind (t ∷ ts) prefix m step)
       by true k = skipped k
       by false k = forced k
 
@@ -333,7 +333,7 @@ residual-sound ts s m gcds v k u g e p l h = by (contradicts (residualCheck ts s
     split true b q = refl
     split false b q = absurd (clash q)
 
-    allowed : nothingForced ts s d ≡ false → Allowed (interval s) (suffixes d ts) d v ts 0 0 0
+    allowed : nothingForced ts s d ≡ false → Allowed (interval s) (placed (suffixes d ts)) d v ts 0 0 0
     allowed q =
         let r = and-right (hasNonunit ts) (hasResidualInterval s) (split (hasNonunit ts && hasResidualInterval s) (fitsFrom (interval s) d (reverse ts) false 0) q) in
         let lim = limit-above (s .upper) (s .possible) (pos σ) (and-right (ltZ (s .known) (s .lower)) (upperAtMost (s .upper) (s .possible)) r) h in
@@ -351,8 +351,8 @@ residual-sound ts s m gcds v k u g e p l h = by (contradicts (residualCheck ts s
         → Agrees v (thresholdResidual ts s m gcds .marks) × (contradicts (thresholdResidual ts s m gcds .step) ≡ false)
     forced c true q = rw (residual-rest ts s m gcds c q) (g, refl)
     forced c false q =
-        let f = forceFrom (interval s) (suffixes d ts) ts 0 m Unchanged in
-        let w = force-sound (interval s) (suffixes d ts) d v ts 0 0 0 m Unchanged u (same-start m ts) (suffixed d ts [] ts refl) (allowed q) g refl in
+        let f = forceFrom (interval s) (placed (suffixes d ts)) ts 0 m Unchanged in
+        let w = force-sound (interval s) (placed (suffixes d ts)) d v ts 0 0 0 m Unchanged u (same-start m ts) (suffixed d ts [] ts refl) (allowed q) g refl in
         let n = length-suffix d (reverse ts) 0 in
         let r = length-reverse ts in
         let o = force-over (interval s) (suffixes d ts) gcds ts 0 m Unchanged (omega arith) in

@@ -28,6 +28,7 @@ ghost use Rattle.residual.specs.Residual.{
   bothFit,
   fitsFrom,
   suffixes,
+  placed,
   over,
   offMisses,
   onMisses,
@@ -442,7 +443,7 @@ fn force_from(
 ) -> Decision
     requires { ⌜ Shape (now conditions) (now weights) (now sure) (now never) ⌝ }
     requires { ⌜ (length (now weights) < length (now gcds)) × (i .known < 2 ^ 63) × Below (2 ^ 63) (now weights) × Waits (marks (now sure) (now never) (queue (now «node_queue») ring)) ⌝ }
-    ensures { λ r. ⌜ decidedOf (marks (now (sure .exit)) (now (never .exit)) (queue (now («node_queue» .exit)) (r .ring))) (r .step) ≡ forceFrom i (now (gcds .entry)) (terms (now (conditions .entry)) (now (weights .entry))) 0 (marks (now (sure .entry)) (now (never .entry)) (queue (now («node_queue» .entry)) ring)) Unchanged ⌝ }
+    ensures { λ r. ⌜ decidedOf (marks (now (sure .exit)) (now (never .exit)) (queue (now («node_queue» .exit)) (r .ring))) (r .step) ≡ forceFrom i (placed (now (gcds .entry))) (terms (now (conditions .entry)) (now (weights .entry))) 0 (marks (now (sure .entry)) (now (never .entry)) (queue (now («node_queue» .entry)) ring)) Unchanged ⌝ }
 {
     let mut position: usize = 0;
     let mut prefix: u64 = 0;

@@ -6,9 +6,8 @@ use mathlib.Core.Bool.{Bool, true, false, cond}
 use mathlib.Core.List.{List, [], _∷_, _++_}
 use lib.ListN.{length, getD, drop, length-drop, drop-of-length-le}
 use lib.Seq.{drop-cons, drop-drop}
-use lib.Dec.{eqb, leb}
-use borrow.Author.Tests.{eqb-true, eqb-false, le-leb}
-use Rattle.base.specs.TestLaws.{or-right}
+use lib.Dec.{eqb}
+use borrow.Author.Tests.{eqb-true, eqb-false}
 use Rattle.records.specs.declared.Record.{Record}
 use Rattle.records.specs.declared.Next.{Next}
 use Rattle.records.specs.declared.Next.the-variants.{Refused, Taken}
@@ -18,6 +17,7 @@ use Rattle.records.specs.declared.Record.the-variants.{Header, Opens, Adds, Are
 use Rattle.records.specs.Checks.{unknownKind, cutBody}
 use Rattle.files.specs.File.{File, standing, refusal, apply, Outcome, outcome, recordAt, refusalAt, readFrom}
 use Rattle.files.specs.FileLaws.{read-enough, checked}
+use Rattle.files.specs.HeldLaws.{known-record}
 use Rattle.theorem_ends.specs.FilesLaws.{refused-by, both}
 use Rattle.serve.specs.Serve.{readAt}
 
@@ -50,34 +50,6 @@ taken-any (suc n) o (kind ∷ rest) f t u = by (λ a b g v w. taken-any n a b g 
         → ended (goes n o kind rest f t b) ≡ ended (goes n o kind rest f u b)
     by ih true = ih _ _ _ _ _
     by ih false = refl
-
--- ---- a known kind makes a record
-
-isUnknown : Record → Bool
-isUnknown (Header n) = false
-isUnknown (Opens n z) = false
-isUnknown (Adds c w) = false
-isUnknown (Areas c a) = false
-isUnknown Seal = false
-isUnknown (Mark n v) = false
-isUnknown Settle = false
-isUnknown Sift = false
-isUnknown Unknown = true
-
-known : (kind : ℕ) (rest : List ℕ) → unknownKind kind ≡ false → recordAt kind rest ≡ Unknown → ⊥
-unfolding isUnknown
-known zero rest e q = both refl e
-known (suc zero) rest e q = both refl (sym (ap isUnknown q))
-known (suc (suc zero)) rest e q = both refl (sym (ap isUnknown q))
-known (suc (suc (suc zero))) rest e q = both refl (sym (ap isUnknown q))
-known (suc (suc (suc (suc zero)))) rest e q = both refl (sym (ap isUnknown q))
-known (suc (suc (suc (suc (suc zero))))) rest e q = both refl (sym (ap isUnknown q))
-known (suc (suc (suc (suc (suc (suc zero)))))) rest e q = both refl (sym (ap isUnknown q))
-known (suc (suc (suc (suc (suc (suc (suc zero))))))) rest e q = both refl (sym (ap isUnknown q))
-known (suc (suc (suc (suc (suc (suc (suc (suc zero)))))))) rest e q = both refl (sym (ap isUnknown q))
-known (suc (suc (suc (suc (suc (suc (suc (suc (suc k))))))))) rest e q =
-    let n : ℕ = suc (suc (suc (suc (suc (suc (suc (suc (suc k)))))))) in
-    both (or-right (eqb n 0) (leb 9 n) (le-leb 9 n (omega arith))) e
 
 pub body-small : (kind : ℕ) → bodyLength (kindOf kind) ≤ 10
 body-small zero = omega arith
@@ -184,7 +156,7 @@ module _ (input : List ℕ) (at : ℕ) (f : File) (h : at < length input) where
       is false q z = q
 
       by : (b : Bool) → eqb number 0 ≡ b → ⊥
-      by true q = known kind rest (is (unknownKind kind) refl (eqb-true number 0 q)) (taken-next r e .1 ∙ u)
+      by true q = known-record kind rest (is (unknownKind kind) refl (eqb-true number 0 q)) (taken-next r e .1 ∙ u)
       by false q = both refl (sym (ap isTaken e) ∙ ap isTaken (asked false q))
 
   -- ---- THE RECORDS FROM THERE ON, by the first

@@ -1,4 +1,4 @@
--- THE SEAL of cleared memory, and the records behind it: what the code requires and what it leaves. Assumes nothing.
+-- THE SEAL of memory that can be sealed, and the records behind it: what the code requires and what it leaves. Assumes nothing.
 use Prim.Native.Nat.{ℕ, _+_, _<_, _≤_}
 use native.Mathlib.Omega.{arith}
 use mathlib.Core.Path.{_≡_, refl, sym, ap, subst, _∙_}
@@ -30,11 +30,11 @@ use Rattle.theorem_holds.specs.ServedLaws.{Served}
 use Rattle.theorem_holds.specs.LentLaws.{served-built}
 use Rattle.theorem_holds.specs.FilesLaws.{serving-seal}
 use Rattle.serve.specs.declared.Reached.{Reached}
-use Rattle.serve.specs.Serve.{Lent, liveIn, answersOf, Lies, Seals, noRings, stood, Reaches, readAt}
+use Rattle.serve.specs.Serve.{Lent, liveIn, answersOf, Lies, Seals, stood, Reaches, readAt}
 use Rattle.serve.specs.ReadLaws.{seal-goes}
 use Rattle.serve.specs.ServeLaws.{reaches-ended}
 
-module _ (bs : List ℤ) (b : Built) (base : List (List ℕ)) (f : File) (k : Kept) (s : Seals bs b f) (l : Lies base f k noRings) where
+module _ (bs : List ℤ) (b : Built) (base : List (List ℕ)) (f : File) (k : Kept) (first : Rings) (s : Seals bs b f) (l : Lies base f k first) where
   served : Served (jobOf (f .draft)) b
   served = subst (Served (jobOf (f .draft))) (sym (s .built)) (served-built (jobOf (f .draft)) (fits-of (s .good .draft)) (s .light) (s .from) (s .lendable))
 
@@ -48,13 +48,13 @@ module _ (bs : List ℤ) (b : Built) (base : List (List ℕ)) (f : File) (k : Ke
   pub seals-totals : Totals totalLimit (b .held .row-conditions) (b .held .row-weights) (b .held .rows)
   seals-totals = served .totals
 
-  pub seals-room : length (b .held .rows) ≤ length (liveIn k noRings .states)
+  pub seals-room : length (b .held .rows) ≤ length (liveIn k first .states)
   seals-room = omega (arith, seals-shaped .few, s .fresh .sound .long, ap (λ (v : Live). length (v .states)) (l .live))
 
-  pub seals-waits : Waits (liveIn k noRings .marks)
+  pub seals-waits : Waits (liveIn k first .marks)
   seals-waits = subst (λ (v : Live). Waits (v .marks)) (sym (l .live)) (s .fresh .sound .waits)
 
-  pub seals-flags : Flags (liveIn k noRings .residuals)
+  pub seals-flags : Flags (liveIn k first .residuals)
   seals-flags = subst (λ (v : Live). Flags (v .residuals)) (sym (l .live)) (s .fresh .sound .residuals)
 
   lent : refusal f Seal ≡ 0 → Lent bs b (apply f Seal)
@@ -70,7 +70,7 @@ module _ (bs : List ℤ) (b : Built) (base : List (List ℕ)) (f : File) (k : Ke
   }
 
   -- WHAT IT LEAVES
-  module _ (m : Kept) (rings : Rings) (step : Step) (made : (x : Index) → Holds x (b .held) → did (liveIn m rings) step ≡ Drain.seal x (liveIn k noRings)) where
+  module _ (m : Kept) (rings : Rings) (step : Step) (made : (x : Index) → Holds x (b .held) → did (liveIn m rings) step ≡ Drain.seal x (liveIn k first)) where
     whole : apply f Seal ≡ told f (jobOf (f .draft)) step (liveIn m rings) (f .gcds) (f .answers)
     unfolding apply act sealedFile
     whole =

@@ -13,8 +13,7 @@ ghost use Rattle.files.specs.File.{File, Answer, refusal, outcome, apply, stand
 ghost use Rattle.records.specs.declared.Record.the-variants.{Seal};
 ghost use Rattle.records.specs.declared.Next.the-variants.{Taken};
 ghost use Rattle.records.specs.Next.{nextAt};
-ghost use Rattle.serve.specs.Serve.{answersOf, Lies, Seals, noRings, Asks, came, answered, Takes, stood as stands, Reaches, readAt, fourfold};
-use queues::Ring;
+ghost use Rattle.serve.specs.Serve.{answersOf, Lies, Seals, Asks, came, answered, Takes, stood as stands, Reaches, readAt, fourfold};
 use queues::Rings;
 use records::Next;
 use records::Record;
@@ -419,7 +418,7 @@ fn fours(row_queues: &[[u16; 4]])
     }
 }
 
-// The seal of a job over cleared memory, then the records behind it.
+// The seal of a job over memory that can be sealed, cleared or as records before left it, then the records behind it.
 pub fn seal_and_serve(
     input: &[u8],
     row_conditions: &[u16],
@@ -442,24 +441,19 @@ pub fn seal_and_serve(
     answers: &mut [[u16; 2]],
     at: usize,
     standing: Standing,
+    rings: Rings,
 ) -> Reached
     requires { ⌜ ((f : File) × (base : List (List ℕ)) × Seals (now bounds) (built (heldRows (now «row_conditions») (now «row_weights») (now rows) (now «guard_bounds») (now «guard_nodes»)) (now nodes) (now edges) (now links))
-        f × Lies base f (kept (now figures) (now cursors) (now sure) (now never) (now search) (now gcds) (now «node_queue») (now «row_queues») (now answers)) noRings × (standing ≡ standingOf f))
+        f × Lies base f (kept (now figures) (now cursors) (now sure) (now never) (now search) (now gcds) (now «node_queue») (now «row_queues») (now answers)) rings × (standing ≡ standingOf f))
         × (at < length (now input)) × (nextAt standing (now input) at ≡ Taken Seal) × (length (now input) ≤ longestInput) ⌝ }
     ensures { λ r. ⌜ ((f : File) (base : List (List ℕ)) → Seals (now (bounds .entry)) (built (heldRows (now («row_conditions» .entry)) (now («row_weights» .entry)) (now (rows .entry)) (now («guard_bounds» .entry))
         (now («guard_nodes» .entry))) (now (nodes .entry)) (now (edges .entry)) (now (links .entry)))
-        f → Lies base f (kept (now (figures .entry)) (now (cursors .entry)) (now (sure .entry)) (now (never .entry)) (now (search .entry)) (now (gcds .entry)) (now («node_queue» .entry)) (now («row_queues» .entry)) (now (answers .entry))) noRings → standing ≡ standingOf f
+        f → Lies base f (kept (now (figures .entry)) (now (cursors .entry)) (now (sure .entry)) (now (never .entry)) (now (search .entry)) (now (gcds .entry)) (now («node_queue» .entry)) (now («row_queues» .entry)) (now (answers .entry))) rings → standing ≡ standingOf f
         → Reaches (now (bounds .entry)) (built (heldRows (now («row_conditions» .entry)) (now («row_weights» .entry)) (now (rows .entry)) (now («guard_bounds» .entry)) (now («guard_nodes» .entry))) (now (nodes .entry)) (now (edges .entry)) (now (links .entry)))
         base (kept (now (figures .exit)) (now (cursors .exit)) (now (sure .exit)) (now (never .exit)) (now (search .exit)) (now (gcds .exit)) (now («node_queue» .exit)) (now («row_queues» .exit))
         (now (answers .exit))) r (readAt (length (now (input .entry))) (now (input .entry)) at f))
         × (fourfold (now («row_queues» .exit)) ≡ now («row_queues» .exit)) ⌝ }
 {
-    let none = Ring { head: 0, count: 0 };
-    let rings = Rings {
-        nodes: none,
-        rows: none,
-        residuals: none,
-    };
     let did = settle::seal(
         row_conditions,
         row_weights,

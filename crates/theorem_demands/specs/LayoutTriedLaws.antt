@@ -36,7 +36,7 @@ use Rattle.thresholds.specs.Rows.{Row, noRow, rowsOf, hasNonunit}
 use Rattle.propagate.specs.Guards.{Condition}
 use Rattle.residual.specs.declared.Interval.{Interval}
 use Rattle.divisors.specs.Gcd.{gcd}
-use Rattle.residual.specs.Residual.{interval, residualCheck, suffixes, forceTerm, forceFrom, Residual, residual, over, nothingForced, thresholdResidual}
+use Rattle.residual.specs.Residual.{interval, residualCheck, suffixes, placed, forceTerm, forceFrom, Residual, residual, over, nothingForced, thresholdResidual}
 use Rattle.residual.specs.CheckLaws.{check-unit}
 use Rattle.residual.specs.ForceLaws.{force-cases, from-skip, from-stop, from-more, residual-none, residual-rest, residual-forced}
 use Rattle.residual.specs.SumsLaws.{openWeights, openSum, sum, open-skip, open-more}
@@ -142,32 +142,32 @@ force-none i m t divisor =
     force-cases (λ (d : Decided). d .step ≡ Unchanged → d .marks ≡ m) i m t divisor (λ e. refl) (λ f g e. refl) (λ f. decide-none true m (t .condition))
     (λ g. decide-none false m (t .condition))
 
-from-none : (i : Interval) (suf : List ℕ) (ts : List Term) (prefix : ℕ) (m : Marks) (step : Step) → forceFrom i suf ts prefix m step .step ≡ Unchanged
-    → (step ≡ Unchanged) × (forceFrom i suf ts prefix m step .marks ≡ m)
+from-none : (i : Interval) (behind : ℕ → ℕ) (ts : List Term) (prefix : ℕ) (m : Marks) (step : Step) → forceFrom i behind ts prefix m step .step ≡ Unchanged
+    → (step ≡ Unchanged) × (forceFrom i behind ts prefix m step .marks ≡ m)
 unfolding forceFrom
-from-none i suf [] prefix m step h = (h, refl)
-from-none i suf (t ∷ ts) prefix m step h = by (λ p n s k. from-none i suf ts p n s k) (isDecided m (t .condition)) refl h
+from-none i behind [] prefix m step h = (h, refl)
+from-none i behind (t ∷ ts) prefix m step h = by (λ p n s k. from-none i behind ts p n s k) (isDecided m (t .condition)) refl h
   where
     d : Decided
-    d = forceTerm i m t (gcd prefix (getD suf (length ts) 0))
+    d = forceTerm i m t (gcd prefix (behind (length ts)))
 
     Whole : Type 0
-    Whole = (step ≡ Unchanged) × (forceFrom i suf (t ∷ ts) prefix m step .marks ≡ m)
+    Whole = (step ≡ Unchanged) × (forceFrom i behind (t ∷ ts) prefix m step .marks ≡ m)
 
     Later : Type 0
-    Later = (p : ℕ) (n : Marks) (s : Step) → forceFrom i suf ts p n s .step ≡ Unchanged → (s ≡ Unchanged) × (forceFrom i suf ts p n s .marks ≡ n)
+    Later = (p : ℕ) (n : Marks) (s : Step) → forceFrom i behind ts p n s .step ≡ Unchanged → (s ≡ Unchanged) × (forceFrom i behind ts p n s .marks ≡ n)
 
-    turn : Later → isDecided m (t .condition) ≡ false → (c : Bool) → contradicts (d .step) ≡ c → forceFrom i suf (t ∷ ts) prefix m step .step ≡ Unchanged → Whole
-    turn ih e true k g = absurd (not-at-all (sym (ap (λ (y : Decided). y .step) (from-stop i suf t ts prefix m step e d refl k)) ∙ g))
+    turn : Later → isDecided m (t .condition) ≡ false → (c : Bool) → contradicts (d .step) ≡ c → forceFrom i behind (t ∷ ts) prefix m step .step ≡ Unchanged → Whole
+    turn ih e true k g = absurd (not-at-all (sym (ap (λ (y : Decided). y .step) (from-stop i behind t ts prefix m step e d refl k)) ∙ g))
     turn ih e false k g =
-        let q = from-more i suf t ts prefix m step e d refl k in
+        let q = from-more i behind t ts prefix m step e d refl k in
         let r = ih (gcd prefix (t .weight)) (d .marks) (joined step (d .step)) (sym (ap (λ (y : Decided). y .step) q) ∙ g) in
         let s = joined-none step (d .step) (r .0) in
-        (s .0, ap (λ (y : Decided). y .marks) q ∙ r .1 ∙ force-none i m t (gcd prefix (getD suf (length ts) 0)) (s .1))
+        (s .0, ap (λ (y : Decided). y .marks) q ∙ r .1 ∙ force-none i m t (gcd prefix (behind (length ts))) (s .1))
 
-    by : Later → (c : Bool) → isDecided m (t .condition) ≡ c → forceFrom i suf (t ∷ ts) prefix m step .step ≡ Unchanged → Whole
+    by : Later → (c : Bool) → isDecided m (t .condition) ≡ c → forceFrom i behind (t ∷ ts) prefix m step .step ≡ Unchanged → Whole
     by ih true e g =
-        let q = from-skip i suf t ts prefix m step e in
+        let q = from-skip i behind t ts prefix m step e in
         let r = ih prefix m step (sym (ap (λ (y : Decided). y .step) q) ∙ g) in
         (r .0, ap (λ (y : Decided). y .marks) q ∙ r .1)
     by ih false e g = turn ih e (contradicts (d .step)) refl g
@@ -182,8 +182,8 @@ residual-none-marks ts s m gcds h = by (contradicts (residualCheck ts s (isDecid
     by true c n q = ap (λ (r : Residual). r .marks) (residual-none ts s m gcds c)
     by false c true q = ap (λ (r : Residual). r .marks) (residual-rest ts s m gcds c q)
     by false c false q =
-        let e = residual-forced ts s m gcds c q (forceFrom (interval s) l ts 0 m Unchanged) l refl refl in
-        sym (ap (λ (r : Residual). r .marks) e) ∙ from-none (interval s) l ts 0 m Unchanged (ap (λ (r : Residual). r .step) e ∙ h) .1
+        let e = residual-forced ts s m gcds c q (forceFrom (interval s) (placed l) ts 0 m Unchanged) l refl refl in
+        sym (ap (λ (r : Residual). r .marks) e) ∙ from-none (interval s) (placed l) ts 0 m Unchanged (ap (λ (r : Residual). r .step) e ∙ h) .1
 
 unchanged-is : (k : Step) → isUnchanged k ≡ true → k ≡ Unchanged
 unchanged-is Unchanged h = refl

@@ -28,7 +28,7 @@ use Rattle.theorem_ends.specs.BuiltLaws.{fits-of, rows-few}
 use Rattle.theorem_ends.specs.SizeLaws.{zeros-long, terms-few, guards-few, edges-most, links-most, pairs-few, triples-few, quads-few}
 use Rattle.theorem_demands.specs.MemoryLaws.{SameLengths}
 use Rattle.theorem_demands.specs.RefusalLaws.{served-when, untouched-when}
-use Rattle.theorem_demands.specs.KeptLaws.{Kept, kept-file}
+use Rattle.theorem_ends.specs.KeptLaws.{Kept, kept-file}
 
 -- A list that fits, laid into a cleared buffer.
 laid-long : {X : Type 0} (z : X) (l b : List X) (n : ℕ) → length l ≤ n → n ≤ length b → length (over l (zeros z b)) ≡ length b

@@ -16,7 +16,6 @@ pub mod RefusalLaws
 pub mod ReadLaws
 pub mod ShutOutLaws
 pub mod MemoryLaws
-pub mod KeptLaws
 pub mod LengthLaws
 pub mod ForcedLaws
 pub mod SettleLaws

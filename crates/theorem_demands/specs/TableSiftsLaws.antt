@@ -54,7 +54,7 @@ other-residuals x s v q (l, e, h) = (
       known = h .stands .known;
       possible = h .stands .possible;
     };
-    done = record { sized = h .done .sized; passed = h .done .passed; complete = h .done .complete; free = h .done .free };
+    done = record { sized = h .done .sized; passed = h .done .passed; complete = h .done .complete; free = h .done .free; met = h .done .met };
     told = record { decided = h .told .decided; sure = h .told .sure; never = h .told .never };
     handed = record { sized = h .handed .sized; flags = h .handed .flags; handed = h .handed .handed };
     queued = h .queued;

@@ -7,4 +7,5 @@ pub mod BuiltLaws
 pub mod SizeLaws
 pub mod BlankLaws
 pub mod FilesLaws
+pub mod KeptLaws
 pub mod Good

@@ -18,7 +18,7 @@ use Rattle.numeric.specs.Threshold.{Term, Threshold, Job}
 use Rattle.row.specs.Terms.{rowTerms, merged, sameTerms}
 use Rattle.row.specs.TermsLaws as TermsLaws
 use Rattle.row.specs.TermsLaws.{Distinct, distinct, sorted-falling, conditions-merged, all-sorted}
-use Rattle.thresholds.specs.Rows.{Row, rowOf, noRow, Guard, guard, below, insertGuard, place, placeAll, rowsOf, rowNumber}
+use Rattle.thresholds.specs.Rows.{Row, rowOf, noRow, linkedBy, Linked, Guard, alone, guard, below, insertGuard, place, placeAll, rowsOf, rowNumber}
 use Rattle.thresholds.specs.RawLaws.{same-refl}
 use Rattle.prefixes.specs.Links.{Link, links, neighbours}
 use Rattle.prefixes.specs.LinksLaws.{link, link-starts, links-range, links-apart, Joined, downward, upward, neighbours-joined}
@@ -30,7 +30,7 @@ use Rattle.theorem_follows.specs.Ordered.{Each, Rising, Falling, Ordered
 pub record Built (j : Job) (x : Index) : Type 0 where
   pub thresholds : x .thresholds ≡ j .thresholds
   pub rows : x .rows ≡ rowsOf j
-  pub links : x .links ≡ links (x .rows)
+  pub links : (r : ℕ) → IsRow (x .rows) r → Linked (getD (x .rows) r noRow) → x .links ≡ links (x .rows)
   pub guards : (t : Threshold) → List·Memᴰ t (x .thresholds) → Guards (x .rows) (rowNumber (x .rows) (t .terms)) (guard (t .bound) (t .node))
   pub linked : (r q : ℕ) → List·Memᴰ q (neighbours r (x .links)) → IsPrefix (x .rows) r q ⊎ IsPrefix (x .rows) q r
   pub distinct : (r : ℕ) → IsRow (x .rows) r → Distinct (termsOf (x .rows) r)
@@ -138,12 +138,20 @@ all-has (y ∷ ts) rs t m =
 pub guard-placed : (j : Job) (t : Threshold) → List·Memᴰ t (j .thresholds) → Guards (rowsOf j) (rowNumber (rowsOf j) (t .terms)) (guard (t .bound) (t .node))
 guard-placed j t m = all-has (j .thresholds) [] t m
 
+-- ROWS ARE LINKED
+pub rows-linked : (j : Job) (r : ℕ) → IsRow (rowsOf j) r → Linked (getD (rowsOf j) r noRow)
+rows-linked j r i = by (getD (rowsOf j) r noRow .guards) (λ g m. ap (λ (y : Guard). y .linked) (row-made j r i .guards g m .3))
+  where
+    by : (gs : List Guard) → Each (λ (g : Guard). g .linked ≡ true) gs → linkedBy gs ≡ true
+    by [] h = refl
+    by (g ∷ gs) h = h g (List·Memᴰ·head refl)
+
 -- NEIGHBOURS: one starts the other
-pub neighbours-prefix : (rs : List Row) (r q : ℕ) → List·Memᴰ q (neighbours r (links rs)) → IsPrefix rs r q ⊎ IsPrefix rs q r
-neighbours-prefix rs r q m = let a = neighbours-joined r q (links rs) m in by (a .0) (a .1) (a .2)
+pub neighbours-prefix : (rs : List Row) → ((r : ℕ) → IsRow rs r → Linked (getD rs r noRow)) → (r q : ℕ) → List·Memᴰ q (neighbours r (links rs)) → IsPrefix rs r q ⊎ IsPrefix rs q r
+neighbours-prefix rs linked r q m = let a = neighbours-joined r q (links rs) m in by (a .0) (a .1) (a .2)
   where
     ends : (p e : ℕ) → List·Memᴰ (link p e) (links rs) → IsPrefix rs p e
-    ends p e i = (links-range rs p e i .0, links-range rs p e i .1, link-starts rs p e i)
+    ends p e i = let o = links-range rs p e i in let t = link-starts rs p e i in (o .0, o .1, (t .0, t .1, linked p (o .0), linked e (o .1)))
 
     by : (l : Link) → List·Memᴰ l (links rs) → Joined r q l → IsPrefix rs r q ⊎ IsPrefix rs q r
     by l i (downward e f) = inl (subst (λ (y : ℕ). IsPrefix rs r y) f (subst (λ (y : ℕ). IsPrefix rs y (l .extension)) e (ends (l .prefix) (l .extension) i)))
@@ -162,9 +170,9 @@ pub built : (j : Job) (x : Index) → x .thresholds ≡ j .thresholds → x .row
 built j x e f g = record {
   thresholds = e;
   rows = f;
-  links = g ∙ ap links (sym f);
+  links = λ r i h. g ∙ ap links (sym f);
   guards = λ t m. subst (λ (rs : List Row). Guards rs (rowNumber rs (t .terms)) (guard (t .bound) (t .node))) (sym f) (guard-placed j t (subst (λ (l : List Threshold). List·Memᴰ t l) e m));
-  linked = λ r q m. subst (λ (rs : List Row). IsPrefix rs r q ⊎ IsPrefix rs q r) (sym f) (neighbours-prefix (rowsOf j) r q (subst (λ (l : List Link). List·Memᴰ q (neighbours r l)) g m));
+  linked = λ r q m. subst (λ (rs : List Row). IsPrefix rs r q ⊎ IsPrefix rs q r) (sym f) (neighbours-prefix (rowsOf j) (rows-linked j) r q (subst (λ (l : List Link). List·Memᴰ q (neighbours r l)) g m));
   distinct = λ r i. subst (λ (rs : List Row). IsRow rs r → Distinct (termsOf rs r)) (sym f)
       (λ k. let m = row-made j r k in subst Distinct (sym (m .terms)) (distinct (getD (rowsOf j) r noRow .raw))) i;
 }
@@ -175,6 +183,10 @@ guard-threshold j x b r g i =
     let k = subst (λ (rs : List Row). Guards rs r g) (b .rows) i in
     let o = row-made j r (k .0) .guards g (k .1) in
     (o .0, subst (λ (l : List Threshold). List·Memᴰ (o .0) l) (sym (b .thresholds)) (o .1), ap (λ (y : Guard). y .node) (o .3))
+
+-- AND IS ALONE
+pub guard-alone : (j : Job) (x : Index) → Built j x → (r : ℕ) (g : Guard) → Guards (x .rows) r g → g .other ≡ alone
+guard-alone j x b r g i = let k = subst (λ (rs : List Row). Guards rs r g) (b .rows) i in ap (λ (y : Guard). y .other) (row-made j r (k .0) .guards g (k .1) .3)
 
 -- ROWS ARE ORDERED: guards by rising bounds, terms by falling weights, all nodes in range
 

@@ -7,13 +7,13 @@ use mathlib.Core.Bool.{Bool, true, false, not, cond, _&&_, _||_}
 use mathlib.Core.List.{List, [], _∷_, _++_, append-assoc, reverse, reverse-cons, reverse-append, reverse-reverse, List·Memᴰ, List·Memᴰ·head, List·Memᴰ·tail, List·Memᴰ·cases-cons, List·Memᴰ·not-nil, List·Memᴰ·append-cases}
 use mathlib.Core.Logic.{_⊎_, inl, inr, ⊎-elim}
 use lib.ListN.{length, take, drop, take-append-drop, length-take, length-append, length-reverse}
-use lib.Seq.{take-add, take-append-seam, drop-append-seam}
+use lib.Seq.{take-add, drop-drop, take-append-seam, drop-append-seam}
 use lib.IntN.{ℤ, pos}
 use lib.Signed.{leZ}
-use Rattle.base.specs.TestLaws.{and-left, and-right, or-true, unequal}
+use Rattle.base.specs.TestLaws.{true-false, and-left, and-right, or-true, unequal}
 use Rattle.state.specs.StepLaws.{joined-fine}
 use Rattle.memory.specs.Limits.{maxNodes}
-use Rattle.base.specs.SignedLaws.{leZ-refl, leZ-trans, leZ-nlt}
+use Rattle.base.specs.SignedLaws.{leZ-refl, leZ-trans, leZ-nlt, nlt-leZ}
 use Rattle.numeric.specs.Threshold.{Term}
 use Rattle.state.specs.declared.Step.{Step}
 use Rattle.state.specs.declared.Step.the-variants.{Unchanged, Contradiction}
@@ -27,7 +27,8 @@ use Rattle.state.specs.declared.Upper.{Upper}
 use Rattle.state.specs.declared.Upper.the-variants.{Open, Under}
 use Rattle.thresholds.specs.Rows.{Guard}
 use Rattle.propagate.specs.Scan.{scan, Scanned, scanned, force}
-use Rattle.propagate.specs.Row.{sureWaits, decides, sureGuards, reachable, neverWaits, neverGuards, termWaits, forces, forced}
+use Rattle.propagate.specs.Row.{sureWaits, deciding, decides, sureGuards, reachable, neverWaits, neverGuards, termWaits, forces, forced}
+use Rattle.propagate.specs.RowLaws.{decides-keeps}
 use Rattle.theorem_follows.specs.DecideLaws.{scan-keeps}
 use Rattle.theorem_follows.specs.RowLaws.{decide-grows, mem-drop, mem-take, mem-reverse}
 use Rattle.theorem_follows.specs.Ordered.{Each, Rising, Falling}
@@ -140,13 +141,32 @@ module _ {X : Type 0} where
       (List·Memᴰ·append-cases (take n xs) (subst (λ (l : List X). List·Memᴰ x l) (sym (take-append-drop n xs)) m))
 
   -- the cursor behind the front
+  front-is : (xs front back : List X) (n k : ℕ) → drop n xs ≡ front ++ back → k ≡ 0 + length front → take (n + k) xs ≡ take n xs ++ front
+  front-is xs front back n k e q =
+      let h : k ≡ length front = omega arith in
+      take-add n k xs ∙ ap (λ (l : List X). take n xs ++ l) (ap₂ (λ (i : ℕ) (l : List X). take i l) h e ∙ take-append-seam front back)
+
   front-cases : (xs front back : List X) (n k : ℕ) → drop n xs ≡ front ++ back → k ≡ 0 + length front → (x : X) → List·Memᴰ x (take (n + k) xs)
       → List·Memᴰ x (take n xs) ⊎ List·Memᴰ x front
-  front-cases xs front back n k e q x m =
+  front-cases xs front back n k e q x m = List·Memᴰ·append-cases (take n xs) (subst (λ (l : List X). List·Memᴰ x l) (front-is xs front back n k e q) m)
+
+  -- what a cursor passed on its way, and what stands behind it
+  drop-take : (n k m : ℕ) (xs : List X) → m ≡ n + k → drop n (take m xs) ≡ take k (drop n xs)
+  drop-take zero k m xs e = let h : m ≡ k = omega arith in ap (λ (i : ℕ). take i xs) h
+  drop-take (suc n) k zero xs e = absurd (omega arith)
+  drop-take (suc n) zero (suc m) [] e = refl
+  drop-take (suc n) (suc k) (suc m) [] e = refl
+  drop-take (suc n) k (suc m) (x ∷ xs) e = drop-take n k m xs (omega arith)
+
+  front-now : (xs front back : List X) (n k : ℕ) → drop n xs ≡ front ++ back → k ≡ 0 + length front → drop n (take (n + k) xs) ≡ front
+  front-now xs front back n k e q =
       let h : k ≡ length front = omega arith in
-      let p : take (n + k) xs ≡ take n xs ++ front =
-      take-add n k xs ∙ ap (λ (l : List X). take n xs ++ l) (ap₂ (λ (i : ℕ) (l : List X). take i l) h e ∙ take-append-seam front back) in
-      List·Memᴰ·append-cases (take n xs) (subst (λ (l : List X). List·Memᴰ x l) p m)
+      drop-take n k (n + k) xs refl ∙ ap₂ (λ (i : ℕ) (l : List X). take i l) h e ∙ take-append-seam front back
+
+  back-now : (xs front back : List X) (n k : ℕ) → drop n xs ≡ front ++ back → k ≡ 0 + length front → drop (n + k) xs ≡ back
+  back-now xs front back n k e q =
+      let h : k ≡ length front = omega arith in
+      sym (drop-drop k n xs) ∙ ap₂ (λ (i : ℕ) (l : List X). drop i l) h e ∙ drop-append-seam front back
 
 rising-back : (xs ys : List Guard) → Rising (xs ++ ys) → Rising ys
 rising-back [] ys h = h
@@ -157,24 +177,56 @@ rising-drop zero xs h = h
 rising-drop (suc n) [] h = h
 rising-drop (suc n) (x ∷ xs) h = rising-drop n xs (h .1)
 
--- RULE 2 IS DONE: every guard whose bound is reached is sure, and so is every guard that the cursor passed.
-pub sure-complete : (gs : List Guard) (st : State) (m : Marks) → Rising gs → Each (λ (g : Guard). g .node < maxNodes) gs → Wide m
-    → Each (λ (g : Guard). Has true (g .node) m) (take (st .«sure_guard») gs) → contradicts (sureGuards gs st m .step) ≡ false
-    → let a = sureGuards gs st m in
-    Each (λ (g : Guard). Has true (g .node) (a .marks)) (take (st .«sure_guard» + a .passed) gs)
-    × Each (λ (g : Guard). leZ (g .bound) (reached st) ≡ true → Has true (g .node) (a .marks)) gs
-sure-complete gs st m up small w old c =
-    let o = scan-stops (sureWaits st) (decides true) Wide (λ (g : Guard). Has true (g .node)) (λ g k p. wide-decide true k (g .node) p)
-    (λ g h k p. has-stays true (g .node) true k (h .node) p) (drop (st .«sure_guard») gs)
-    (λ g k i p v d. has-after true k (g .node) (small g (mem-drop (st .«sure_guard») gs g i)) p d) 0 m Unchanged w refl c in
-    let before : Each (λ (g : Guard). Has true (g .node) (sureGuards gs st m .marks)) (take (st .«sure_guard») gs) =
-    λ g i. scan-keeps (Has true (g .node)) (Unit {0}) (sureWaits st) (decides true) (drop (st .«sure_guard») gs)
-    (λ h k j p v. (has-stays true (g .node) true k (h .node) p, λ _. tt)) 0 m Unchanged (old g i) refl .0 in (
-      λ g i. ⊎-elim (before g) (o .done g) (front-cases gs (o .front) (o .back) (st .«sure_guard») (sureGuards gs st m .passed) (o .split) (o .passed) g i),
-      λ g i h. ⊎-elim (before g) (λ j. ⊎-elim (o .done g) (λ b. absurd (waits-on g h o b)) j) (split-cases gs (o .front) (o .back) (st .«sure_guard») (o .split) g i),
-    )
+-- PASSING A GUARD keeps what deciding its node keeps, and its node is decided where it decides.
+abbrev pub Meets : Bool → Guard → Marks → Type 0
+Meets v g m = deciding v g ≡ true → Has v (g .node) m
+
+pub wide-decides : (value : Bool) (g : Guard) (m : Marks) → Wide m → Wide (decides value g m .marks)
+wide-decides value g m w = decides-keeps Wide value g m w (wide-decide value m (g .node) w)
+
+pub decides-stays : (v : Bool) (k : ℕ) (value : Bool) (g : Guard) (m : Marks) → Has v k m → Has v k (decides value g m .marks)
+decides-stays v k value g m h = decides-keeps (Has v k) value g m h (has-stays v k value m (g .node) h)
+
+meets-after : (v : Bool) (g : Guard) (m : Marks) → g .node < maxNodes → Wide m → contradicts (decides v g m .step) ≡ false → Meets v g (decides v g m .marks)
+meets-after v g m h w c e = by (deciding v g) e c
   where
-    waits-on : (g : Guard) → leZ (g .bound) (reached st) ≡ true → (o : Stopped (sureWaits st) (λ (g : Guard). Has true (g .node)) (drop (st .«sure_guard») gs) 0 (sureGuards gs st m)) → List·Memᴰ g (o .back) → ⊥
+    by : (b : Bool) → b ≡ true → contradicts (cond b (decide v m (g .node)) (decided m Unchanged) .step) ≡ false
+        → Has v (g .node) (cond b (decide v m (g .node)) (decided m Unchanged) .marks)
+    by true f d = has-after v m (g .node) h w d
+    by false f d = absurd (unequal cc)
+
+-- RULE 2 IS DONE: the cursor passes just the guards whose bounds are reached, and those that it passes now and that decide are sure.
+pub record SurePassed (gs : List Guard) (st : State) (n : ℕ) (m : Marks) : Type 0 where
+  pub inside : Each (λ (g : Guard). leZ (g .bound) (reached st) ≡ true) (take (st .«sure_guard») gs) → Each (λ (g : Guard). leZ (g .bound) (reached st) ≡ true) (take n gs)
+  pub all : Each (λ (g : Guard). leZ (g .bound) (reached st) ≡ false) (drop n gs)
+  pub fresh : Each (λ (g : Guard). Meets true g m) (drop (st .«sure_guard») (take n gs))
+
+pub sure-complete : (gs : List Guard) (st : State) (m : Marks) → Rising gs → Each (λ (g : Guard). g .node < maxNodes) gs → Wide m
+    → contradicts (sureGuards gs st m .step) ≡ false
+    → let a = sureGuards gs st m in SurePassed gs st (st .«sure_guard» + a .passed) (a .marks)
+sure-complete gs st m up small w c =
+    let o : Ends = scan-stops (sureWaits st) (decides true) Wide Reached (λ g k p. wide-decides true g k p)
+    (λ g h k p. (p .0, λ e. decides-stays true (g .node) true h k (p .1 e))) (drop (st .«sure_guard») gs)
+    (λ g k i p v d. (nlt-leZ (reached st) (g .bound) v, meets-after true g k (small g (mem-drop (st .«sure_guard») gs g i)) p d)) 0 m Unchanged w refl c in
+    record {
+      inside = λ old g i. ⊎-elim (old g) (λ j. o .done g j .0) (front-cases gs (o .front) (o .back) (st .«sure_guard») (a .passed) (o .split) (o .passed) g i);
+      all = λ g i. ⊎-elim
+          (λ (h : leZ (g .bound) (reached st) ≡ true).
+          absurd (waits-on g h o (subst (λ (l : List Guard). List·Memᴰ g l) (back-now gs (o .front) (o .back) (st .«sure_guard») (a .passed) (o .split) (o .passed)) i)))
+          (λ h. h) (true-false (leZ (g .bound) (reached st)));
+      fresh = λ g i. o .done g (subst (λ (l : List Guard). List·Memᴰ g l) (front-now gs (o .front) (o .back) (st .«sure_guard») (a .passed) (o .split) (o .passed)) i) .1;
+    }
+  where
+    a : Scanned
+    a = sureGuards gs st m
+
+    Reached : Guard → Marks → Type 0
+    Reached g k = (leZ (g .bound) (reached st) ≡ true) × Meets true g k
+
+    Ends : Type 0
+    Ends = Stopped (sureWaits st) Reached (drop (st .«sure_guard») gs) 0 a
+
+    waits-on : (g : Guard) → leZ (g .bound) (reached st) ≡ true → (o : Ends) → List·Memᴰ g (o .back) → ⊥
     waits-on g h o b =
         ⊎-elim (λ (e : o .back ≡ []). List·Memᴰ·not-nil (subst (λ (l : List Guard). List·Memᴰ g l) e b))
         (λ n.
@@ -298,17 +350,17 @@ reach-down st a b h k = both-true (leZ-trans a b (st .possible) h (and-left (leZ
 
 -- RULE 3 IS DONE: every guard whose bound is out of reach is never, and so is every guard behind the cursor.
 pub never-complete : (gs : List Guard) (st : State) (m : Marks) (k : Step) → Rising gs → Each (λ (g : Guard). g .node < maxNodes) gs → Wide m → st .«never_guard» ≤ length gs
-    → Each (λ (g : Guard). Has false (g .node) m) (drop (st .«never_guard») gs) → contradicts k ≡ false → contradicts (neverGuards gs st m k .step) ≡ false
+    → Each (λ (g : Guard). Meets false g m) (drop (st .«never_guard») gs) → contradicts k ≡ false → contradicts (neverGuards gs st m k .step) ≡ false
     → let a = neverGuards gs st m k in
-    Each (λ (g : Guard). Has false (g .node) (a .marks)) (drop (st .«never_guard» - a .passed) gs)
-    × Each (λ (g : Guard). reachable st (g .bound) ≡ false → Has false (g .node) (a .marks)) gs
+    Each (λ (g : Guard). Meets false g (a .marks)) (drop (st .«never_guard» - a .passed) gs)
+    × Each (λ (g : Guard). reachable st (g .bound) ≡ false → Meets false g (a .marks)) gs
 never-complete gs st m k up small w fits old ck c =
-    let o = scan-stops (neverWaits st) (decides false) Wide (λ (g : Guard). Has false (g .node)) (λ g n p. wide-decide false n (g .node) p)
-    (λ g h n p. has-stays false (g .node) false n (h .node) p) rs
-    (λ g n i p v d. has-after false n (g .node) (small g (mem-take (st .«never_guard») gs g (mem-reverse (take (st .«never_guard») gs) g i))) p d) 0 m k w ck c in
-    let before : Each (λ (g : Guard). Has false (g .node) (neverGuards gs st m k .marks)) (drop (st .«never_guard») gs) =
-    λ g i. scan-keeps (Has false (g .node)) (Unit {0}) (neverWaits st) (decides false) rs
-    (λ h n j p v. (has-stays false (g .node) false n (h .node) p, λ _. tt)) 0 m k (old g i) ck .0 in (
+    let o = scan-stops (neverWaits st) (decides false) Wide (Meets false) (λ g n p. wide-decides false g n p)
+    (λ g h n p e. decides-stays false (g .node) false h n (p e)) rs
+    (λ g n i p v d. meets-after false g n (small g (mem-take (st .«never_guard») gs g (mem-reverse (take (st .«never_guard») gs) g i))) p d) 0 m k w ck c in
+    let before : Each (λ (g : Guard). Meets false g (neverGuards gs st m k .marks)) (drop (st .«never_guard») gs) =
+    λ g i e. scan-keeps (Has false (g .node)) (Unit {0}) (neverWaits st) (decides false) rs
+    (λ h n j p v. (decides-stays false (g .node) false h n p, λ _. tt)) 0 m k (old g i e) ck .0 in (
       λ g i. ⊎-elim (λ j. o .done g (mem-reverse (o .front) g j)) (before g)
           (List·Memᴰ·append-cases (reverse (o .front)) (subst (λ (l : List Guard). List·Memᴰ g l) (cursor o) i)),
       λ g i h. ⊎-elim
@@ -321,7 +373,7 @@ never-complete gs st m k up small w fits old ck c =
     rs = reverse (take (st .«never_guard») gs)
 
     Ends : Type 0
-    Ends = Stopped (neverWaits st) (λ (g : Guard). Has false (g .node)) rs 0 (neverGuards gs st m k)
+    Ends = Stopped (neverWaits st) (Meets false) rs 0 (neverGuards gs st m k)
 
     in-reverse : (xs : List Guard) (g : Guard) → List·Memᴰ g xs → List·Memᴰ g (reverse xs)
     in-reverse xs g i = mem-reverse (reverse xs) g (subst (λ (l : List Guard). List·Memᴰ g l) (sym (reverse-reverse xs)) i)

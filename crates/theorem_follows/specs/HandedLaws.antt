@@ -367,4 +367,4 @@ module _ (x : Index) where
         (≤ℤ-trans (a .0) (b .0), up-trans (stateAt v r .upper) (stateAt v q .upper) (stateAt v s .upper) (a .1) (b .1))
 
     pub all-handed : (r q : ℕ) → IsPrefix (x .rows) r q → (stateAt v r .lower ≤ℤ stateAt v q .lower) × UpLe (stateAt v r .upper) (stateAt v q .upper)
-    all-handed r q i = climbed (climbs-exactly (x .rows) r q (i .0) (i .1) .0 (i .2))
+    all-handed r q i = climbed (climbs-exactly (x .rows) r q (i .0) (i .1) .0 (i .2 .0, i .2 .1))

@@ -21,3 +21,5 @@ pub mod StartLaws
 pub mod FirstLaws
 pub mod EndsLaws
 pub mod Ordered
+pub mod PairsLaws
+pub mod LeansLaws

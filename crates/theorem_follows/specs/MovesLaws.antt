@@ -23,7 +23,7 @@ use Rattle.state.specs.State.{upperAtMost, withLower, withUpper}
 use Rattle.words.specs.Mask.{bit}
 use Rattle.queues.specs.Marks.{Marks, isDecided, decide}
 use Rattle.queues.specs.Queue.{Rows}
-use Rattle.thresholds.specs.Rows.{Row, noRow, Guard, guard, rowNumber}
+use Rattle.thresholds.specs.Rows.{Row, noRow, Guard, guard, alone, rowNumber}
 use Rattle.prefixes.specs.Links.{neighbours}
 use Rattle.propagate.specs.declared.Tightened.{Tightened}
 use Rattle.propagate.specs.Row.{Ran, thresholdRow}
@@ -32,9 +32,10 @@ use Rattle.propagate.specs.ToldLaws.{guard-cases, lower-cases, upper-cases}
 use Rattle.between.specs.Between.{Index, Live, live, stateAt, withState, withDirty, Did, runRow, runWith, thresholdGuard, termCount, thresholdPrefixes}
 use Rattle.between.specs.LoopLaws.{movedRun}
 use Rattle.between.specs.WalkLaws.{guardRow, guardTold, guard-ends, prefix-walks}
-use Rattle.theorem_table.specs.Table.{Table, IsRow, termsOf, Guards, IsPrefix, raiseLower, lowerUpper, AtRest, sure-guard, never-guard, longer-lower, shorter-upper}
-use Rattle.theorem_table.specs.OrderLaws.{lt, ≤ℤ-trans, <ℤ-≤ℤ, ≤ℤ-or-<ℤ, UpLe, up-refl, up-trans, le-or-below}
-use Rattle.theorem_table.specs.TableLaws.{Le}
+use Rattle.theorem_table.specs.Table.{Table, IsRow, termsOf, Guards, IsPrefix, AtRest}
+use Rattle.theorem_table.specs.OrderLaws.{lt, ≤ℤ-trans, <ℤ-≤ℤ, UpLe, up-refl, up-trans}
+use Rattle.theorem_table.specs.TableLaws.{Le, alone-reached}
+use Rattle.theorem_table.specs.JudgedLaws.{rest-calm, calm-sure, calm-never, calm-longer, calm-shorter}
 use Rattle.theorem_follows.specs.DecideLaws.{tableOf, Broken, follows-below}
 use Rattle.theorem_follows.specs.RowLaws.{Fine, row-fine}
 use Rattle.theorem_follows.specs.CursorsLaws.{row-goes}
@@ -52,28 +53,10 @@ guard-tightens st b value =
     guard-cases st value b (λ (o : Tightened). (st .lower ≤ℤ o .state .lower) × UpLe (o .state .upper) (st .upper)) (λ e. (≤ℤ-refl (st .lower), up-refl (st .upper)))
     (λ e f. (<ℤ-≤ℤ (lt (nle-ltZ (st .lower) b f)), up-refl (st .upper))) (λ e f. (≤ℤ-refl (st .lower), not-above b (st .upper) f))
 
--- WHAT EVERY REST HAS by rules 1 and 6
-module _ (rows : List Row) (u : Table) (rest : AtRest rows u) where
-  pub rest-sure : (r : ℕ) (g : Guard) → Guards rows r g → u .sure (g .node) ≡ true → g .bound ≤ℤ u .lower r
-  rest-sure r g i e =
-      ⊎-elim (λ (k : g .bound ≤ℤ u .lower r). k) (λ (k : u .lower r <ℤ g .bound). absurd (rest .1 (raiseLower u r (g .bound)) (sure-guard r g i e k))) (≤ℤ-or-<ℤ (g .bound) (u .lower r))
-
-  pub rest-never : (r : ℕ) (g : Guard) → Guards rows r g → u .never (g .node) ≡ true → UpLe (u .upper r) (Under (g .bound))
-  rest-never r g i e =
-      ⊎-elim (λ (k : UpLe (u .upper r) (Under (g .bound))). k) (λ k. absurd (rest .1 (lowerUpper u r (Under (g .bound))) (never-guard r g i e k))) (le-or-below (u .upper r) (Under (g .bound)))
-
-  pub rest-longer : (r q : ℕ) → IsPrefix rows r q → u .lower r ≤ℤ u .lower q
-  rest-longer r q i =
-      ⊎-elim (λ (k : u .lower r ≤ℤ u .lower q). k) (λ (k : u .lower q <ℤ u .lower r). absurd (rest .1 (raiseLower u q (u .lower r)) (longer-lower r q i k))) (≤ℤ-or-<ℤ (u .lower r) (u .lower q))
-
-  pub rest-shorter : (r q : ℕ) → IsPrefix rows r q → UpLe (u .upper r) (u .upper q)
-  rest-shorter r q i =
-      ⊎-elim (λ (k : UpLe (u .upper r) (u .upper q)). k) (λ k. absurd (rest .1 (lowerUpper u r (u .upper q)) (shorter-upper r q i k))) (le-or-below (u .upper r) (u .upper q))
-
 -- of two rows of which one starts the other, the shorter starts the longer; equal rows start each other
 pub prefix-by : (rows : List Row) (r q : ℕ) → IsPrefix rows r q ⊎ IsPrefix rows q r → length (termsOf rows r) ≤ length (termsOf rows q) → IsPrefix rows r q
 prefix-by rows r q (inl i) h = i
-prefix-by rows r q (inr i) h = (i .1, i .0, ([], same (i .2 .0) (i .2 .1)))
+prefix-by rows r q (inr i) h = (i .1, i .0, ([], same (i .2 .0) (i .2 .1), i .2 .3, i .2 .2))
   where
     none : (xs : List Term) → length xs ≤ 0 → xs ≡ []
     none [] k = refl
@@ -143,11 +126,13 @@ module _ (x : Index) (drained : ℕ → ℕ → Bool) where
       keeps value m n k = (stay-decide (v .marks) value m n (k .0), apart-decide value m n (k .1))
 
       f : Fine (x .rows) s l u r i More keeps a
-      f = row-fine (x .rows) s l u r i More keeps (stateAt v r) (v .marks) (
-        h .follows,
-        record { known = known-inside (x .rows) s drained v h r i; possible = possible-inside (x .rows) s drained v h r i; lower = refl; upper = refl },
-        (stay-same (v .marks), h .apart),
-      )
+      f = row-fine (x .rows) s l u r i More keeps (row .raw) (row .guards)
+          (λ y m. record { guard = y; there = (i, m); bound = refl; node = refl; may = refl; other = λ e k h. alone-reached (x .rows) (tableOf k l u) (y .other) e })
+          (stateAt v r) (v .marks) (
+            h .follows,
+            record { known = known-inside (x .rows) s drained v h r i; possible = possible-inside (x .rows) s drained v h r i; lower = refl; upper = refl },
+            (stay-same (v .marks), h .apart),
+          )
 
   -- A ROW'S BOUNDS PUT ANEW, as every rest has them
   abbrev pub Tighter : Table → ℕ → State → State → Type 0
@@ -202,14 +187,14 @@ module _ (x : Index) (drained : ℕ → ℕ → Bool) where
             refl,
             <ℤ-≤ℤ (lt (nle-ltZ (stateAt v r .lower) (t .bound) f)),
             up-refl (stateAt v r .upper),
-            λ u a rest. (rest-sure (x .rows) u rest r g i (h .follows u a rest .sure (t .node) e), h .follows u a rest .upper r),
+            λ u a rest. (calm-sure (x .rows) u (rest-calm (x .rows) u rest) r g i (h .follows u a rest .sure (t .node) e), h .follows u a rest .upper r),
           ))
           (λ e f. (
             refl,
             refl,
             ≤ℤ-refl (stateAt v r .lower),
             not-above (t .bound) (stateAt v r .upper) f,
-            λ u a rest. (h .follows u a rest .lower r, rest-never (x .rows) u rest r g i (h .follows u a rest .never (t .node) (is-never e))),
+            λ u a rest. (h .follows u a rest .lower r, calm-never (x .rows) u (rest-calm (x .rows) u rest) r g i (h .follows u a rest .never (t .node) (is-never e), alone-reached (x .rows) u alone refl)),
           ))
 
   -- BOUNDS HANDED ON: rule 6, first the lower, then the upper
@@ -225,7 +210,7 @@ module _ (x : Index) (drained : ℕ → ℕ → Bool) where
           up-refl (stateAt v r .upper),
           λ u a rest. (
             ≤ℤ-trans low (≤ℤ-trans (h .follows u a rest .lower row)
-                (rest-longer (x .rows) u rest row r (prefix-by (x .rows) row r link (leb-true (termCount x row) (termCount x r) (and-left (leb (termCount x row) (termCount x r)) _ e))))),
+                (calm-longer (x .rows) u (rest-calm (x .rows) u rest) row r (prefix-by (x .rows) row r link (leb-true (termCount x row) (termCount x r) (and-left (leb (termCount x row) (termCount x r)) _ e))))),
             h .follows u a rest .upper r,
           ),
         )) (λ e. tighter-same s v r h)
@@ -254,7 +239,7 @@ module _ (x : Index) (drained : ℕ → ℕ → Bool) where
           λ u a rest. (
             k .4 u a rest .0,
             up-trans (u .upper r) (u .upper row) (source .upper)
-                (rest-shorter (x .rows) u rest r row (prefix-by (x .rows) r row (turned link) (leb-true (termCount x r) (termCount x row) (and-left (leb (termCount x r) (termCount x row)) _ e))))
+                (calm-shorter (x .rows) u (rest-calm (x .rows) u rest) r row (prefix-by (x .rows) r row (turned link) (leb-true (termCount x r) (termCount x row) (and-left (leb (termCount x r) (termCount x row)) _ e))))
                 (up-trans (u .upper row) (stateAt v row .upper) (source .upper) (h .follows u a rest .upper row) high),
           ),
         )) (λ e. k)

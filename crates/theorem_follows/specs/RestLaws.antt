@@ -5,9 +5,9 @@ use native.Mathlib.Omega.{arith}
 use mathlib.Core.Path.{_≡_, refl, sym, ap, ap₂, _∙_, subst}
 use mathlib.Core.Bool as B
 use mathlib.Core.Bool.{Bool, true, false, not, cond, _&&_, _||_}
-use mathlib.Core.List.{List, [], _∷_, List·Memᴰ, List·Memᴰ·cases-cons, List·Memᴰ·not-nil}
-use mathlib.Core.Logic.{_⊎_, inl, inr}
-use lib.ListN.{getD}
+use mathlib.Core.List.{List, [], _∷_, List·Memᴰ, List·Memᴰ·cases-cons, List·Memᴰ·not-nil, List·Memᴰ·append-cases}
+use mathlib.Core.Logic.{_⊎_, inl, inr, ⊎-elim}
+use lib.ListN.{getD, take, take-append-drop}
 use lib.IntN.{ℤ, pos, _-ℤ_}
 use lib.Signed.{leZ, ltZ, _≤ℤ_, _<ℤ_, ≤ℤ-refl, clashℤ}
 use Rattle.base.specs.TestLaws.{true-false, clash, or-false}
@@ -18,18 +18,19 @@ use Rattle.state.specs.declared.Upper.the-variants.{Open, Under}
 use Rattle.state.specs.State.{maxZ, reached, upperAtMost, conflict}
 use Rattle.words.specs.Mask.{bit}
 use Rattle.queues.specs.Marks.{isDecided}
-use Rattle.thresholds.specs.Rows.{Row, noRow, Guard}
+use Rattle.thresholds.specs.Rows.{Row, noRow, Guard, Other, alone, isAlone, MayDecide}
 use Rattle.propagate.specs.Row.{reachable}
 use Rattle.between.specs.Between.{Live, stateAt}
 use Rattle.theorem_table.specs.Table.{Table, IsRow, termsOf, known, possible, Guards, HasTerm, knownOf, possibleOf, reachedOf, Undecided, AtMost, IsPrefix, Step, sure-guard, never-guard, bound-reached, bound-out-of-reach, term-needed, term-too-heavy, longer-lower, shorter-upper, Conflict, both, lower-above, upper-reached, AtRest, Below}
 use Rattle.theorem_table.specs.OrderLaws.{le, of-le, of-lt, ≤ℤ-trans, pos-≤ℤ, sub-up, UpLe}
 use Rattle.theorem_follows.specs.RowCompleteLaws.{Complete}
+use Rattle.theorem_follows.specs.DoneLaws.{Met}
 use Rattle.theorem_follows.specs.StandsLaws.{tableAt, Stands, AllDrained, known-exact, possible-exact}
 
 -- No rule of 2 to 5, and no conflict, is left for the row.
 pub record RowRests (rows : List Row) (t : Table) (r : ℕ) : Type 0 where
-  pub reached : (g : Guard) → Guards rows r g → g .bound ≤ℤ reachedOf rows t r → t .sure (g .node) ≡ true
-  pub out-of-reach : (g : Guard) → Guards rows r g → (possibleOf rows t r <ℤ g .bound) ⊎ AtMost (t .upper r) (g .bound) → t .never (g .node) ≡ true
+  pub reached : (g : Guard) → Guards rows r g → MayDecide g → g .other ≡ alone → g .bound ≤ℤ reachedOf rows t r → t .sure (g .node) ≡ true
+  pub out-of-reach : (g : Guard) → Guards rows r g → MayDecide g → (possibleOf rows t r <ℤ g .bound) ⊎ AtMost (t .upper r) (g .bound) → t .never (g .node) ≡ true
   pub needed : (u : Term) → HasTerm rows r u → Undecided rows t (u .condition) → (possibleOf rows t r -ℤ t .lower r) <ℤ pos (u .weight) → ⊥
   pub too-heavy : (u : Term) (b : ℤ) → HasTerm rows r u → Undecided rows t (u .condition) → t .upper r ≡ Under b → (b -ℤ knownOf rows t r) ≤ℤ pos (u .weight) → ⊥
   pub in-reach : possibleOf rows t r <ℤ t .lower r → ⊥
@@ -66,7 +67,7 @@ at-most Open z h = absurd h
 at-most (Under b) z h = of-le h
 
 module _ (rows : List Row) (s : Table) (drained : ℕ → ℕ → Bool) (v : Live) (h : Stands rows s drained v) (r : ℕ) (is : IsRow rows r) (all : AllDrained rows s drained v h r)
-    (done : Complete (getD rows r noRow) (stateAt v r) (v .marks)) (free : conflict (stateAt v r) ≡ false) where
+    (done : Complete (getD rows r noRow) (stateAt v r) (v .marks)) (met : Met rows v) (free : conflict (stateAt v r) ≡ false) where
   is-known : stateAt v r .known ≡ knownOf rows (tableAt v) r
   is-known = known-exact rows s drained v h r is all
 
@@ -102,11 +103,18 @@ module _ (rows : List Row) (s : Table) (drained : ℕ → ℕ → Bool) (v : Liv
           let fits : pos (u .weight) ≤ℤ (pos b -ℤ pos a) = subst (λ (z : ℤ). pos (u .weight) ≤ℤ z) (sym (pos-minus b a (omega arith))) (pos-≤ℤ {a = u .weight} {b = b - a} (omega arith)) in
           clashℤ k (≤ℤ-trans fits (sub-up (≤ℤ-refl (pos b)) (subst (λ (z : ℤ). stateAt v r .lower ≤ℤ z) is-known (le e))))
 
+  -- a guard that the figures reach was passed
+  passed : (g : Guard) → List·Memᴰ g (getD rows r noRow .guards) → leZ (g .bound) (reached (stateAt v r)) ≡ true → List·Memᴰ g (take (stateAt v r .«sure_guard») (getD rows r noRow .guards))
+  passed g i k =
+      ⊎-elim (λ j. j) (λ j. absurd (clash (leZ (g .bound) (reached (stateAt v r))) k (done .all g j)))
+      (List·Memᴰ·append-cases (take (stateAt v r .«sure_guard») (getD rows r noRow .guards))
+      (subst (λ (l : List Guard). List·Memᴰ g l) (sym (take-append-drop (stateAt v r .«sure_guard») (getD rows r noRow .guards))) i))
+
   -- A ROW AT REST
   pub row-rests : RowRests rows (tableAt v) r
   row-rests = record {
-    reached = λ g i k. done .reached g (i .1) (ap (leZ (g .bound)) is-reached ∙ of-le k);
-    out-of-reach = λ g i k. done .out-of-reach g (i .1) (unreachable (g .bound) k);
+    reached = λ g i p o k. met r is g (passed g (i .1) (ap (leZ (g .bound)) is-reached ∙ of-le k)) (ap₂ (λ (x : Bool) (o : Other). x && (isAlone o || false)) p o);
+    out-of-reach = λ g i p k. done .out-of-reach g (i .1) (unreachable (g .bound) k) (ap₂ (λ (x y : Bool). x && y) p (B.or-true (isAlone (g .other))));
     needed = is-needed;
     too-heavy = λ u b t n e k. undecided (u .condition) n (done .too-heavy b e u (t .1)
         (leZ-nlt (pos (u .weight)) (b -ℤ stateAt v r .known) (ap (λ (z : ℤ). leZ (b -ℤ z) (pos (u .weight))) is-known ∙ of-le k)));
@@ -118,8 +126,8 @@ module _ (rows : List Row) (s : Table) (drained : ℕ → ℕ → Bool) (v : Liv
 -- ALL ROWS AT REST, rules 1 and 6 done: the table is
 pub at-rest : (rows : List Row) (t : Table) → ((n : ℕ) → t .sure n ≡ true → t .never n ≡ true → ⊥) → ((r : ℕ) → IsRow rows r → RowRests rows t r)
     → ((r : ℕ) (g : Guard) → Guards rows r g → (t .sure (g .node) ≡ true → g .bound ≤ℤ t .lower r) × (t .never (g .node) ≡ true → UpLe (t .upper r) (Under (g .bound))))
-    → ((r q : ℕ) → IsPrefix rows r q → (t .lower r ≤ℤ t .lower q) × UpLe (t .upper r) (t .upper q)) → AtRest rows t
-at-rest rows t apart rest guards prefixes = (no-conflict, no-step)
+    → ((r q : ℕ) → IsPrefix rows r q → (t .lower r ≤ℤ t .lower q) × UpLe (t .upper r) (t .upper q)) → ((r : ℕ) (g : Guard) → Guards rows r g → g .other ≡ alone) → AtRest rows t
+at-rest rows t apart rest guards prefixes single = (no-conflict, no-step)
   where
     no-conflict : Conflict rows t → ⊥
     no-conflict (both n a b) = apart n a b
@@ -133,9 +141,9 @@ at-rest rows t apart rest guards prefixes = (no-conflict, no-step)
 
     no-step : (u : Table) → Step rows t u → ⊥
     no-step u (sure-guard r g i e k) = clashℤ k (guards r g i .0 e)
-    no-step u (never-guard r g i e k) = not-below (t .upper r) (Under (g .bound)) (guards r g i .1 e) k
-    no-step u (bound-reached r g i k e) = clash (t .sure (g .node)) (rest r (i .0) .reached g i k) e
-    no-step u (bound-out-of-reach r g i k e) = clash (t .never (g .node)) (rest r (i .0) .out-of-reach g i k) e
+    no-step u (never-guard r g i e k) = not-below (t .upper r) (Under (g .bound)) (guards r g i .1 (e .0)) k
+    no-step u (bound-reached r g i k e) = clash (t .sure (g .node)) (rest r (i .0) .reached g i (k .0) (single r g i) (k .1)) e
+    no-step u (bound-out-of-reach r g i k e) = clash (t .never (g .node)) (rest r (i .0) .out-of-reach g i (k .0) (k .1)) e
     no-step u (term-needed r x i d k) = rest r (i .0) .needed x i d k
     no-step u (term-too-heavy r x b i d e k) = rest r (i .0) .too-heavy x b i d e k
     no-step u (longer-lower r q i k) = clashℤ k (prefixes r q i .0)

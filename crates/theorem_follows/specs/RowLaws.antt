@@ -3,14 +3,15 @@
 use Prim.Native.Nat.{ℕ, zero, suc, _+_, _-_}
 use native.Mathlib.Decide.{ℕ-discrete}
 use mathlib.Core.Path.{_≡_, refl, sym, ap, _∙_, subst}
-use mathlib.Core.Bool.{Bool, true, false, not, cond, _&&_}
+use mathlib.Core.Bool as B
+use mathlib.Core.Bool.{Bool, true, false, not, cond, _&&_, _||_}
 use mathlib.Core.List.{List, [], _∷_, reverse, reverseAux, List·Memᴰ, List·Memᴰ·head, List·Memᴰ·tail, List·Memᴰ·cases-cons, List·Memᴰ·not-nil}
 use mathlib.Core.Logic.{_⊎_, inl, inr, ⊎-elim}
 use lib.ListN.{getD, take, drop}
 use lib.IntN.{ℤ, pos, _-ℤ_}
 use lib.Signed.{leZ, ltZ, _≤ℤ_, _<ℤ_, ≤ℤ-refl}
 use borrow.Author.Tests.{not-false}
-use Rattle.base.specs.TestLaws.{and-false, or-true, or-false, unequal}
+use Rattle.base.specs.TestLaws.{and-left, and-right, and-false, or-true, or-false, unequal}
 use Rattle.state.specs.StepLaws.{joined-fine, joined-which}
 use Rattle.base.specs.SignedLaws.{nlt-leZ, nle-ltZ}
 use Rattle.numeric.specs.Threshold.{Term}
@@ -24,13 +25,15 @@ use Rattle.state.specs.State.{reached, upperAtMost, limited, limit, conflict, w
 use Rattle.words.specs.Mask.{bit, learn, Learned}
 use Rattle.words.specs.MaskLaws.{learn-there, learn-other}
 use Rattle.queues.specs.Marks.{Marks, isDecided, decided, decide}
-use Rattle.thresholds.specs.Rows.{Row, Guard, noRow}
+use Rattle.thresholds.specs.Rows.{Row, rowOf, Guard, Other, alone, beside, isAlone, MayDecide, noRow}
 use Rattle.propagate.specs.Scan.{Scanned}
-use Rattle.propagate.specs.Row.{Ran, ran, sureGuards, neverGuards, thresholdGuards, forced, trueTerms, falseTerms, thresholdRow}
-use Rattle.theorem_table.specs.Table.{Table, IsRow, termsOf, knownOf, possibleOf, reachedOf, AtMost, Conflict, lower-above, upper-reached, bound-reached, bound-out-of-reach, term-needed, term-too-heavy}
+use Rattle.propagate.specs.Row.{Ran, ran, deciding, decides, sureGuards, neverGuards, thresholdGuards, forced, trueTerms, falseTerms, thresholdRow}
+use Rattle.theorem_table.specs.Table as T
+use Rattle.theorem_table.specs.Table.{Table, decideSure, decideNever, IsRow, Guards, termsOf, knownOf, possibleOf, reachedOf, OtherReached, AtMost, Conflict, lower-above, upper-reached, bound-reached, bound-out-of-reach, term-needed, term-too-heavy}
 use Rattle.theorem_table.specs.OrderLaws.{le, lt, ≤ℤ-trans, ≤ℤ-<ℤ-trans, pos-≤ℤ, max-up, sub-up, up-refl, at-most-up}
 use Rattle.theorem_table.specs.TableLaws.{Le, known-up, possible-down}
 use Rattle.between.specs.RunsLaws.{guardsRun, trueRun, falseRun, run-ends}
+use Rattle.theorem_follows.specs.Ordered.{Each}
 use Rattle.theorem_follows.specs.DecideLaws.{tableOf, Broken, Kept, decide-follows, scan-keeps}
 
 -- LISTS
@@ -57,6 +60,13 @@ mem-reverse xs x m = ⊎-elim (λ k. k) (λ k. absurd (List·Memᴰ·not-nil k))
 at-most : (x : Upper) (z : ℤ) → upperAtMost x z ≡ true → AtMost x z
 at-most Open z h = absurd (unequal cc)
 at-most (Under a) z h = le h
+
+-- WHAT A GUARD THAT DECIDES IS LIKE: it may, and to be sure it is alone
+pub deciding-may : (value : Bool) (g : Guard) → deciding value g ≡ true → MayDecide g
+deciding-may value g d = and-left (g .may) (isAlone (g .other) || not value) d
+
+pub deciding-alone : (g : Guard) → deciding true g ≡ true → isAlone (g .other) ≡ true
+deciding-alone g d = sym (B.or-false (isAlone (g .other))) ∙ and-right (g .may) (isAlone (g .other) || false) d
 
 -- DECIDING only adds
 learn-grows : (mask opposite : List ℕ) (n k : ℕ) → bit mask k ≡ true → bit (learn mask opposite n .mask) k ≡ true
@@ -121,13 +131,39 @@ module _ (rows : List Row) (s : Table) (l : ℕ → ℤ) (u : ℕ → Upper) (r 
       → Along st (decide value m n .marks) × (contradicts (decide value m n .step) ≡ true → Broken rows s)
   along-decide value st m n h k = ((k .0, inside-up rows l u r st m (decide value m n .marks) (decide-grows value m n l u) (h .1), keeps value m n (h .2)), k .1)
 
+  -- passing a guard: its decision follows, where it decides
+  along-decides : (value : Bool) (st : State) (m : Marks) (g : Guard) → Along st m
+      → (deciding value g ≡ true → Kept rows s l u (decide value m (g .node) .marks) × (contradicts (decide value m (g .node) .step) ≡ true → Broken rows s))
+      → Along st (decides value g m .marks) × (contradicts (decides value g m .step) ≡ true → Broken rows s)
+  along-decides value st m g h k = by (deciding value g) refl
+    where
+      by : (b : Bool) → deciding value g ≡ b
+          → let a = cond b (decide value m (g .node)) (decided m Unchanged) in Along st (a .marks) × (contradicts (a .step) ≡ true → Broken rows s)
+      by true e = along-decide value st m (g .node) h (k e)
+      by false e = (h, λ c. absurd (unequal cc))
+
+  -- A guard that stands for one of the row: its bound, its node and its leave, and alone only where the other measure is reached.
+  pub record StandsFor (y : Guard) : Type 0 where
+    pub guard : Guard
+    pub there : Guards rows r guard
+    pub bound : guard .bound ≡ y .bound
+    pub node : guard .node ≡ y .node
+    pub may : guard .may ≡ y .may
+    pub other : isAlone (y .other) ≡ true → (k : Marks) → More k → OtherReached rows (tableOf k l u) (guard .other)
+
   -- RULE 2
-  sure-along : (st : State) (m : Marks) → Along st m → let a = sureGuards (getD rows r noRow .guards) st m in Along st (a .marks) × (contradicts (a .step) ≡ true → Broken rows s)
-  sure-along st m h =
-      scan-keeps (Along st) (Broken rows s) _ _ (drop (st .«sure_guard») (getD rows r noRow .guards))
-      (λ (g : Guard) k x p w. along-decide true st k (g .node) p (decide-follows rows s l u true k (g .node) (p .0)
-      (λ e. bound-reached r g (is, mem-drop (st .«sure_guard») (getD rows r noRow .guards) g x)
-      (≤ℤ-trans (le (nlt-leZ (reached st) (g .bound) w)) (reached-inside st k (p .1))) e)))
+  sure-along : (gs : List Guard) → Each StandsFor gs → (st : State) (m : Marks) → Along st m → let a = sureGuards gs st m in Along st (a .marks) × (contradicts (a .step) ≡ true → Broken rows s)
+  sure-along gs are st m h =
+      scan-keeps (Along st) (Broken rows s) _ _ (drop (st .«sure_guard») gs)
+      (λ (y : Guard) k x p w. along-decides true st k y p (λ d.
+      let o = are y (mem-drop (st .«sure_guard») gs y x) in
+      decide-follows rows s l u true k (y .node) (p .0)
+      (λ e. subst (λ (n : ℕ). T.Step rows (tableOf k l u) (decideSure (tableOf k l u) n)) (o .node)
+      (bound-reached r (o .guard) (o .there) (
+        o .may ∙ deciding-may true y d,
+        subst (λ (z : ℤ). z ≤ℤ reachedOf rows (tableOf k l u) r) (sym (o .bound)) (≤ℤ-trans (le (nlt-leZ (reached st) (y .bound) w)) (reached-inside st k (p .1))),
+        o .other (deciding-alone y d) k (p .2),
+      ) (ap (bit (k .sure)) (o .node) ∙ e)))))
       0 m Unchanged h refl
 
   -- RULE 3
@@ -138,13 +174,18 @@ module _ (rows : List Row) (s : Table) (l : ℕ → ℤ) (u : ℕ → Upper) (r 
       (λ (e : not (upperAtMost (st .upper) b) ≡ false). inr (subst (λ (x : Upper). AtMost x b) (i .upper) (at-most (st .upper) b (not-false (upperAtMost (st .upper) b) e))))
       (and-false (leZ b (st .possible)) (not (upperAtMost (st .upper) b)) w)
 
-  never-along : (st : State) (m : Marks) (k : Step) → Along st m → contradicts k ≡ false
-      → let a = neverGuards (getD rows r noRow .guards) st m k in Along st (a .marks) × (contradicts (a .step) ≡ true → Broken rows s)
-  never-along st m k h c =
-      scan-keeps (Along st) (Broken rows s) _ _ (reverse (take (st .«never_guard») (getD rows r noRow .guards)))
-      (λ (g : Guard) n x p w. along-decide false st n (g .node) p (decide-follows rows s l u false n (g .node) (p .0)
-      (λ e. bound-out-of-reach r g (is, mem-take (st .«never_guard») (getD rows r noRow .guards) g (mem-reverse (take (st .«never_guard») (getD rows r noRow .guards)) g x))
-      (out-of-reach st n (g .bound) (p .1) w) e)))
+  never-along : (gs : List Guard) → Each StandsFor gs → (st : State) (m : Marks) (k : Step) → Along st m → contradicts k ≡ false
+      → let a = neverGuards gs st m k in Along st (a .marks) × (contradicts (a .step) ≡ true → Broken rows s)
+  never-along gs are st m k h c =
+      scan-keeps (Along st) (Broken rows s) _ _ (reverse (take (st .«never_guard») gs))
+      (λ (y : Guard) n x p w. along-decides false st n y p (λ d.
+      let o = are y (mem-take (st .«never_guard») gs y (mem-reverse (take (st .«never_guard») gs) y x)) in
+      decide-follows rows s l u false n (y .node) (p .0)
+      (λ e. subst (λ (i : ℕ). T.Step rows (tableOf n l u) (decideNever (tableOf n l u) i)) (o .node)
+      (bound-out-of-reach r (o .guard) (o .there) (
+        o .may ∙ deciding-may false y d,
+        subst (λ (z : ℤ). (possibleOf rows (tableOf n l u) r <ℤ z) ⊎ AtMost (u r) z) (sym (o .bound)) (out-of-reach st n (y .bound) (p .1) w),
+      ) (ap (bit (n .never)) (o .node) ∙ e)))))
       0 m k h c
 
   -- RULES 4 AND 5: a term that is decided is passed; an undecided one is forced
@@ -210,18 +251,15 @@ module _ (rows : List Row) (s : Table) (l : ℕ → ℤ) (u : ℕ → Upper) (r 
           (sym (p .1 .upper) ∙ e) (≤ℤ-trans (sub-up (≤ℤ-refl b) (p .1 .known)) (le (nlt-leZ (pos (t .weight)) (b -ℤ st .known) w))))) in
           ((a .0 .0, inside-terms st _ _ _ (a .0 .1), a .0 .2), a .1)
 
-  pub guards-fine : (st : State) (m : Marks) → Along st m → Fine (thresholdGuards (getD rows r noRow .guards) st m)
+  pub guards-fine : (gs : List Guard) → Each StandsFor gs → (st : State) (m : Marks) → Along st m → Fine (thresholdGuards gs st m)
   unfolding thresholdGuards
-  guards-fine st m h = by (contradicts (a .step)) refl
+  guards-fine gs are st m h = by (contradicts (a .step)) refl
     where
-      gs : List Guard
-      gs = getD rows r noRow .guards
-
       a : Scanned
       a = sureGuards gs st m
 
       f : Along st (a .marks) × (contradicts (a .step) ≡ true → Broken rows s)
-      f = sure-along st m h
+      f = sure-along gs are st m h
 
       up : State
       up = withGuards st (st .«sure_guard» + a .passed) (st .«never_guard»)
@@ -233,18 +271,18 @@ module _ (rows : List Row) (s : Table) (l : ℕ → ℤ) (u : ℕ → Upper) (r 
           ])
       by true e = ((f .0 .0, inside-guards st _ _ _ (f .0 .1), f .0 .2), λ c. f .1 e)
       by false e =
-          let n = never-along st (a .marks) (a .step) (f .0) e in
+          let n = never-along gs are st (a .marks) (a .step) (f .0) e in
           ((n .0 .0, inside-guards up _ _ _ (inside-guards st _ _ _ (n .0 .1)), n .0 .2), n .1)
 
   -- A ROW RUN ONCE
-  pub row-fine : (st : State) (m : Marks) → Along st m → Fine (thresholdRow (getD rows r noRow) st m)
+  pub row-fine : (raw : List Term) (gs : List Guard) → Each StandsFor gs → (st : State) (m : Marks) → Along st m → Fine (thresholdRow (rowOf raw (termsOf rows r) gs) st m)
   unfolding conflict
-  row-fine st m h =
+  row-fine raw gs are st m h =
       run-ends row st m Fine (λ e. (h, λ x. (tableOf m l u, h .0, broken e))) (λ e. fa) (λ e f. fb)
       (λ e f. (fc .0, λ x. fc .1 (joined-which (joined (a .step) (b .step)) (c .step) (joined-fine (a .step) (b .step) e f) x)))
     where
       row : Row
-      row = getD rows r noRow
+      row = rowOf raw (termsOf rows r) gs
 
       a : Ran
       a = guardsRun row st m
@@ -256,7 +294,7 @@ module _ (rows : List Row) (s : Table) (l : ℕ → ℤ) (u : ℕ → Upper) (r 
       c = falseRun row st m
 
       fa : Fine a
-      fa = guards-fine st m h
+      fa = guards-fine gs are st m h
 
       fb : Fine b
       fb = true-fine (a .state) (a .marks) (fa .0)

@@ -13,6 +13,7 @@ use Rattle.words.specs.Mask.{bit}
 use Rattle.queues.specs.Queue.{isEmpty}
 use Rattle.queues.specs.Marks.{isDecided}
 use Rattle.thresholds.specs.Rows.{Row, noRow, guard, rowNumber}
+use Rattle.prefixes.specs.Links as L
 use Rattle.prefixes.specs.Links.{Link, neighbours}
 use Rattle.between.specs.Between.{Index, Live, stateAt, Did, runRow, thresholdGuard, thresholdCondition, thresholdPrefixes}
 use Rattle.theorem_table.specs.Table.{Table, IsRow, IsPrefix, Guards, knownOf, possibleOf, Conflict, ReachesConflict, AtRest, Ended}
@@ -22,7 +23,7 @@ use Rattle.theorem_follows.specs.Ordered.{Ordered}
 use Rattle.theorem_follows.specs.StandsLaws.{tableAt, also, also-this, Stands, AllDrained, known-exact, possible-exact, restart}
 use Rattle.theorem_follows.specs.MovesLaws.{Kept, run-stands, guard-stands, prefixes-stand}
 use Rattle.theorem_follows.specs.DrainedLaws.{drainedAll, condition-stands}
-use Rattle.theorem_follows.specs.BuiltLaws.{Built, neighbours-apart, guard-threshold}
+use Rattle.theorem_follows.specs.BuiltLaws.{Built, neighbours-apart, guard-threshold, guard-alone}
 use Rattle.theorem_follows.specs.KeepsLaws.{run-keeps, guard-keeps, condition-keeps, prefixes-keeps}
 use Rattle.theorem_follows.specs.RestLaws.{RowRests, row-rests, at-rest}
 use Rattle.theorem_follows.specs.DoneLaws.{Done, run-done, guard-done, condition-done, prefixes-done}
@@ -142,7 +143,10 @@ module _ (j : Job) (x : Index) (b : Built j x) (ordered : (r : ℕ) → IsRow (x
       rows-of r i = ⊎-elim (λ (p : IsPrefix (x .rows) row r). p .1) (λ (p : IsPrefix (x .rows) r row). p .0) i
 
       apart : (r : ℕ) → List·Memᴰ r (neighbours row (x .links)) → r ≢ row
-      apart r m = neighbours-apart (x .rows) row r (subst (λ (ls : List Link). List·Memᴰ r (neighbours row ls)) (b .links) m)
+      apart r m = neighbours-apart (x .rows) row r (subst (λ (ls : List Link). List·Memᴰ r (neighbours row ls)) (links r (b .linked row r m)) m)
+        where
+          links : (r : ℕ) → IsPrefix (x .rows) row r ⊎ IsPrefix (x .rows) r row → x .links ≡ L.links (x .rows)
+          links r i = ⊎-elim (λ (p : IsPrefix (x .rows) row r). b .links row (p .0) (p .2 .2)) (λ (p : IsPrefix (x .rows) r row). b .links row (p .1) (p .2 .3)) i
 
   -- NOTHING WAITS: every taken node is drained into every row and told, every row was run, none is handing on
   module _ (empty : isEmpty (v .marks .nodes) ≡ true) (idle : (r : ℕ) → waiting v r ≡ false)
@@ -165,9 +169,9 @@ module _ (j : Job) (x : Index) (b : Built j x) (ordered : (r : ℕ) → IsRow (x
     pub rests : AtRest (x .rows) (tableAt v)
     rests =
         at-rest (x .rows) (tableAt v) (h .stands .apart)
-        (λ r i. row-rests (x .rows) s (l .drained) v (h .stands) r i (λ t m d. all-drained r (t .condition) (taken (t .condition) d)) (h .done .complete r i (all-ran r i)) (h .done .free r i (all-ran r i)))
+        (λ r i. row-rests (x .rows) s (l .drained) v (h .stands) r i (λ t m d. all-drained r (t .condition) (taken (t .condition) d)) (h .done .complete r i (all-ran r i)) (h .done .met) (h .done .free r i (all-ran r i)))
         (λ r g i. ((λ e. h .told .sure r g i (sure-told (g .node) e) e), λ e. h .told .never r g i (never-told (g .node) e) e))
-        (all-handed x (b .links) v (subst (λ (f : ℕ → Bool). Handed x f v) none (h .handed)) idle)
+        (λ r q i. all-handed x (b .links r (i .0) (i .2 .2)) v (subst (λ (f : ℕ → Bool). Handed x f v) none (h .handed)) idle r q i) (guard-alone j x b)
 
     -- EVERY RUN FROM THE START THAT WENT ON TO ITS END ENDED HERE, and the sums are those of the masks
     pub every-end : {u : Table} → Ended (x .rows) s u → u ≡ tableAt v
@@ -189,7 +193,7 @@ pub run-rests : (x : Index) → ((r : ℕ) → IsRow (x .rows) r → Ordered (ge
     → AllDrained (x .rows) s drained (runRow x v r .live) (run-stands x drained s v r i h .0) r → RowRests (x .rows) (tableAt (runRow x v r .live)) r
 run-rests x ordered s drained ran v r i h d c all =
     let k = run-done x ordered ran v r i d c in
-    row-rests (x .rows) s drained (runRow x v r .live) (run-stands x drained s v r i h .0) r i all (k .complete r i (also-this r ran r refl)) (k .free r i (also-this r ran r refl))
+    row-rests (x .rows) s drained (runRow x v r .live) (run-stands x drained s v r i h .0) r i all (k .complete r i (also-this r ran r refl)) (k .met) (k .free r i (also-this r ran r refl))
 
 -- WHERE A CONFLICT FOLLOWS every run that went on to its end ended in one
 pub every-conflict : (rows : List Row) (s : Table) → Broken rows s → {u : Table} → Ended rows s u → Conflict rows u

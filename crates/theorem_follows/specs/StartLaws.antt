@@ -7,7 +7,7 @@ use mathlib.Core.Path.{_≡_, refl, sym, ap, _∙_, subst}
 use mathlib.Core.Bool.{Bool, true, false, not}
 use mathlib.Core.List.{List, [], _∷_, List·Memᴰ, List·Memᴰ·not-nil}
 use mathlib.Core.Logic.{⊎-elim}
-use lib.ListN.{length, getD, drop-of-length-le}
+use lib.ListN.{length, getD, take, drop-of-length-le}
 use lib.Dec.{eqb}
 use lib.IntN.{ℤ, pos}
 use lib.Signed.{_≤ℤ_, ≤ℤ-refl}
@@ -30,7 +30,7 @@ use Rattle.between.specs.Between.{Index, Live, live, stateAt, did}
 use Rattle.theorem_table.specs.Table.{Table, start, IsRow, termsOf, known, possible}
 use Rattle.theorem_table.specs.OrderLaws.{UpLe, up-refl}
 use Rattle.theorem_table.specs.TableLaws.{Le, le-then, Follows, follows-more}
-use Rattle.theorem_follows.specs.DecideLaws.{tableOf, decideAs, decided-below, against}
+use Rattle.theorem_follows.specs.DecideLaws.{tableOf, Broken, decideAs, decided-below, against}
 use Rattle.theorem_follows.specs.RowLaws.{decide-grows}
 use Rattle.theorem_follows.specs.CompleteLaws.{Wide, wide-decide}
 use Rattle.theorem_follows.specs.RowCompleteLaws.{Passed}
@@ -70,6 +70,7 @@ module _ (x : Index) (v : Live) (m : Marks) (d q : Rows) (stay : Stay (v .marks)
     passed = λ r i. passed-up (getD (x .rows) r noRow) (stateAt v r) (v .marks) m grows wide (h .passed r i);
     complete = λ r i e. complete-up (getD (x .rows) r noRow) (stateAt v r) (v .marks) m grows (h .complete r i e);
     free = h .free;
+    met = λ r i g m′ d. grows true (g .node) (h .met r i g m′ d);
   }
 
   marked-told : (told : ℕ → Bool) → Told (x .rows) told v → Told (x .rows) told now
@@ -256,6 +257,10 @@ first-passed row n m w = record {
   false-terms = λ t i. absurd (List·Memᴰ·not-nil i);
 }
 
+first-none : (n : ℕ) (gs : List Guard) (g : Guard) → List·Memᴰ g (take (firstState n (length gs) .«sure_guard») gs) → ⊥
+unfolding firstState
+first-none n gs g m = List·Memᴰ·not-nil m
+
 first-figures : (n g : ℕ) → (firstState n g .known ≡ pos 0) × (firstState n g .possible ≡ pos n) × (firstState n g .lower ≡ pos 0) × (firstState n g .upper ≡ Open)
 unfolding firstState
 first-figures n g = (refl, refl, refl, refl)
@@ -309,6 +314,7 @@ module _ (x : Index) (v : Live) (sized : length (x .rows) ≤ length (v .states)
       passed = λ r i. subst (λ (t : State). Passed (getD (x .rows) r noRow) t (v .marks)) (sym (firsts r i)) (first-passed (getD (x .rows) r noRow) (total (termsOf (x .rows) r)) (v .marks) (wide-of (v .marks) (waits .queue)));
       complete = λ r i e. absurd (clash false e refl);
       free = λ r i e. absurd (clash false e refl);
+      met = λ r i g m. absurd (first-none (total (termsOf (x .rows) r)) (getD (x .rows) r noRow .guards) g (subst (λ (t : State). List·Memᴰ g (take (t .«sure_guard») (getD (x .rows) r noRow .guards))) (firsts r i) m));
     };
     told = record { decided = λ n e. absurd (clash false e refl); sure = λ r g i e k. absurd (clash false e refl); never = λ r g i e k. absurd (clash false e refl) };
     handed = record {
@@ -321,3 +327,27 @@ module _ (x : Index) (v : Live) (sized : length (x .rows) ≤ length (v .states)
     };
     queued = waits;
   }
+
+-- AN EARLIER START that leads to another: what stands by the other stands by it, and what breaks by the other breaks by it
+pub backed : (x : Index) (s o : Table) (l : Ledger) (v : Live) → Le s o → Follows (x .rows) s o → Sound x o l v → Sound x s l v
+backed x s o l v up from h = record {
+  stands = record {
+    sized = k .sized;
+    above = le-then s o (tableAt v) up (k .above);
+    follows = λ u a rest. k .follows u (from u a rest) rest;
+    apart = k .apart;
+    decided = k .decided;
+    known = k .known;
+    possible = k .possible;
+  };
+  done = h .done;
+  told = h .told;
+  handed = h .handed;
+  queued = h .queued;
+}
+  where
+    k : Stands (x .rows) o (l .drained) v
+    k = h .stands
+
+pub broken-back : (rows : List Row) (s o : Table) → Follows rows s o → Broken rows o → Broken rows s
+broken-back rows s o from (t, f, c) = (t, (λ u a rest. f u (from u a rest) rest), c)

@@ -5,7 +5,7 @@ use native.Mathlib.Nat.{not-suc-le-zero}
 use native.Mathlib.Omega.{arith}
 use mathlib.Core.Path.{_≡_, refl, sym, ap, ap₂, _∙_}
 use mathlib.Core.Bool.{Bool, true, false}
-use mathlib.Core.List.{List, [], _∷_, _++_, map, append-nil}
+use mathlib.Core.List.{List, [], _∷_, _++_, map, append-nil, List·Memᴰ, List·Memᴰ·head, List·Memᴰ·tail}
 use lib.Dec.{eqb}
 use lib.ListN.{length, getD, length-append, length-map, List·getD-map}
 use lib.IntN.{ℤ}
@@ -16,7 +16,7 @@ use Rattle.base.specs.Columns.{column}
 use Rattle.base.specs.ColumnsLaws.{column-at}
 use Rattle.numeric.specs.Threshold.{Term, Threshold}
 use Rattle.numeric.specs.Slices.{Below, terms}
-use Rattle.thresholds.specs.Rows.{Row, noRow, Guard, edgesOf, rowNumber}
+use Rattle.thresholds.specs.Rows.{Row, noRow, Guard, guard, edgesOf, rowNumber}
 use Rattle.thresholds.specs.Laid.{conditions, weights, termLists, guardLists, guardBounds, guardNodes, edgeLists, edgeRow, thresholdOf, rowOfNode}
 use Rattle.prefixes.specs.Links.{links, neighbours, neighbourLists}
 use Rattle.propagate.specs.Guards.{guards}
@@ -25,10 +25,14 @@ use Rattle.prepare.specs.RowsGivenHeldLaws.{terms-back}
 use Rattle.between.specs.Between.{Index}
 use Rattle.between.specs.Held.{endBy, stretchBy, heldTerms, heldGuards, Inside, Shaped, Holds, HoldsEdges, HoldsLinks, noThreshold, HoldsGuards}
 
-guards-back : (gs : List Guard) → guards (map (λ (g : Guard). g .bound) gs) (map (λ (g : Guard). g .node) gs) ≡ gs
+-- The buffers hold a guard's bound and node; all else is as every guard has it.
+abbrev pub Plain : List Guard → Type 0
+Plain gs = (g : Guard) → List·Memᴰ g gs → g ≡ guard (g .bound) (g .node)
+
+guards-back : (gs : List Guard) → Plain gs → guards (map (λ (g : Guard). g .bound) gs) (map (λ (g : Guard). g .node) gs) ≡ gs
 unfolding guards
-guards-back [] = refl
-guards-back (g ∷ gs) = ap (λ (l : List Guard). g ∷ l) (guards-back gs)
+guards-back [] h = refl
+guards-back (g ∷ gs) h = ap₂ (λ (y : Guard) (l : List Guard). y ∷ l) (sym (h g (List·Memᴰ·head refl))) (guards-back gs (λ y i. h y (List·Memᴰ·tail i)))
 
 -- What is made of the numbers stands at its own.
 at-numbers : {X : Type 0} (f : ℕ → X) (d : X) (s many n : ℕ) → n < many → getD (map f (numbers s many)) n d ≡ f (s + n)
@@ -74,9 +78,12 @@ pub record LaidRows (rs : List Row) (h : HeldRows) : Type 0 where
   pub terms-end : column 0 (h .rows) ≡ ends 0 (termLists rs)
   pub guards-end : column 1 (h .rows) ≡ ends 0 (guardLists rs)
 
-pub holds-rows : (x : Index) (h : HeldRows) → LaidRows (x .rows) h → Holds x h
-holds-rows x h l = record { many = sym (long 0 (h .rows) (termLists (x .rows)) (l .terms-end) ∙ length-map (x .rows) (λ (r : Row). r .terms)); terms = ts; guards = gs }
+pub holds-rows : (x : Index) (h : HeldRows) → ((r : ℕ) → r < length (x .rows) → Plain (getD (x .rows) r noRow .guards)) → LaidRows (x .rows) h → Holds x h
+holds-rows x h plain l = record { many = many; terms = ts; guards = gs }
   where
+    many : length (x .rows) ≡ length (h .rows)
+    many = sym (long 0 (h .rows) (termLists (x .rows)) (l .terms-end) ∙ length-map (x .rows) (λ (r : Row). r .terms))
+
     ts : (r : ℕ) → r < length (h .rows) → getD (x .rows) r noRow .terms ≡ heldTerms h r
     ts r k =
         let ls = termLists (x .rows) in
@@ -90,7 +97,8 @@ holds-rows x h l = record { many = sym (long 0 (h .rows) (termLists (x .rows)) (
         let ls = guardLists (x .rows) in
         let b = stretch-is 1 (h .rows) ls (l .guards-end) (λ (g : Guard). g .bound) (l .more-bounds) r k in
         let n = stretch-is 1 (h .rows) ls (l .guards-end) (λ (g : Guard). g .node) (l .more-nodes) r k in
-        sym (List·getD-map (λ (y : Row). y .guards) (x .rows) r noRow) ∙ sym (guards-back (getD ls r []))
+        sym (guards-back (getD (x .rows) r noRow .guards) (plain r (omega (arith, many))))
+        ∙ ap (λ (y : List Guard). guards (map (λ (g : Guard). g .bound) y) (map (λ (g : Guard). g .node) y)) (sym (List·getD-map (λ (y : Row). y .guards) (x .rows) r noRow))
         ∙ ap₂ guards (sym b ∙ ap (stretchBy 1 (h .rows) r) (sym (l .bounds))) (sym n ∙ ap (stretchBy 1 (h .rows) r) (sym (l .nodes)))
 
 -- A list in front of a buffer is no longer than it.

@@ -26,7 +26,8 @@ use Rattle.row.specs.TermsLaws.{all-map, all-sorted, conditions-merged}
 use Rattle.thresholds.specs.Guards.{Bound}
 use Rattle.thresholds.specs.Raw.{stretch}
 use Rattle.thresholds.specs.RawLaws.{stretch-length, length-terms}
-use Rattle.thresholds.specs.Rows.{Row, noRow, rowsOf, Edge, edgesOf}
+use Rattle.thresholds.specs.Rows.{Row, noRow, Guard, guard, rowsOf, Edge, edgesOf}
+use Rattle.theorem_table.specs.LayoutLaws.{row-made}
 use Rattle.thresholds.specs.Laid.{thresholdOf, rowOfNode, edgeLists, edgeRow}
 use Rattle.prefixes.specs.Links.{links, neighbours, neighbourLists}
 use Rattle.prefixes.specs.HeldLaws.{length-numbers}
@@ -143,7 +144,8 @@ module _ (j : Job) (f : Fits j) (light : Light rawLimit j) (b : Built) (y : Laid
       ∙ length-numbers 0 (j .nodes)
 
   holds : Holds x (b .held)
-  holds = holds-rows x (b .held) (y .rows)
+  holds = holds-rows x (b .held)
+      (λ r k g i. let o = row-made j r k .guards g i in o .3 ∙ ap (λ (z : Guard). guard (z .bound) (z .node)) (sym (o .3))) (y .rows)
 
   guarded-by : HoldsGuards x (b .nodes) (boundsOf j)
   guarded-by =

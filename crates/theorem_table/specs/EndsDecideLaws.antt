@@ -15,8 +15,8 @@ use Rattle.base.specs.TestLaws.{unequal}
 use Rattle.numeric.specs.Threshold.{Term}
 use Rattle.state.specs.declared.Upper.{Upper}
 use Rattle.state.specs.declared.Upper.the-variants.{Open, Under}
-use Rattle.thresholds.specs.Rows.{Row, Guard, noRow}
-use Rattle.theorem_table.specs.Table.{Table, AtMost, Below, decideSure, decideNever, raiseLower, lowerUpper, IsRow, termsOf, Guards, HasTerm, knownOf, possibleOf, reachedOf, Undecided, Step, sure-guard, never-guard, bound-reached, bound-out-of-reach, term-needed, term-too-heavy, longer-lower, shorter-upper, Conflict, both, lower-above, upper-reached}
+use Rattle.thresholds.specs.Rows.{Row, Guard, Other, alone, beside, MayDecide, linkedBy, Linked, noRow}
+use Rattle.theorem_table.specs.Table.{Table, AtMost, Below, decideSure, decideNever, raiseLower, lowerUpper, IsRow, termsOf, Guards, HasTerm, knownOf, possibleOf, reachedOf, OtherReached, Undecided, Step, sure-guard, never-guard, bound-reached, bound-out-of-reach, term-needed, term-too-heavy, longer-lower, shorter-upper, Conflict, both, lower-above, upper-reached, FallsShort, Reached, OutOfReach, Begins}
 use Rattle.theorem_table.specs.OrderLaws.{≤ℤ-or-<ℤ, UpLe, le-or-below}
 use Rattle.theorem_table.specs.Ends.{nodesOf, Finite}
 
@@ -77,6 +77,18 @@ and : {A B : Type 0} → Decided A → Decided B → Decided (A × B)
 and (inl a) (inl b) = inl (a, b)
 and (inl a) (inr m) = inr (λ h. m (h .1))
 and (inr n) d = inr (λ h. n (h .0))
+
+and-three : {A B C : Type 0} → Decided A → Decided B → Decided C → Decided (A × B × C)
+and-three (inl a) (inl b) (inl c) = inl (a, b, c)
+and-three (inl a) (inl b) (inr n) = inr (λ h. n (h .2))
+and-three (inl a) (inr n) c = inr (λ h. n (h .1))
+and-three (inr n) b c = inr (λ h. n (h .0))
+
+and-two : {A C D : Type 0} {B : A → Type 0} → Decided ((a : A) × B a) → Decided C → Decided D → Decided ((a : A) × B a × C × D)
+and-two (inl p) (inl c) (inl d) = inl (p .0, p .1, c, d)
+and-two (inl p) (inl c) (inr n) = inr (λ h. n (h .3))
+and-two (inl p) (inr n) d = inr (λ h. n (h .2))
+and-two (inr n) c d = inr (λ h. n (h .0, h .1))
 
 -- two terms, and whether one list of terms stands at the start of another
 same-term : (t u : Term) → Decided (t ≡ u)
@@ -150,29 +162,29 @@ module _ (rows : List Row) where
   -- no rule has its premises at a guard, at a term, at a pair of rows
   abbrev StillGuard : Table → ℕ → Guard → Type 0
   StillGuard s r g =
-      ((s .sure (g .node) ≡ true → s .lower r <ℤ g .bound → ⊥) × (s .never (g .node) ≡ true → Below (Under (g .bound)) (s .upper r) → ⊥))
-      × ((g .bound ≤ℤ reachedOf rows s r → s .sure (g .node) ≡ false → ⊥)
-      × ((possibleOf rows s r <ℤ g .bound) ⊎ AtMost (s .upper r) (g .bound) → s .never (g .node) ≡ false → ⊥))
+      ((s .sure (g .node) ≡ true → s .lower r <ℤ g .bound → ⊥) × (FallsShort rows s g → Below (Under (g .bound)) (s .upper r) → ⊥))
+      × ((Reached rows s r g → s .sure (g .node) ≡ false → ⊥) × (OutOfReach rows s r g → s .never (g .node) ≡ false → ⊥))
 
   abbrev StillTerm : Table → ℕ → Term → Type 0
   StillTerm s r t =
       (Undecided rows s (t .condition) → (possibleOf rows s r -ℤ s .lower r) <ℤ pos (t .weight) → ⊥)
       × (Undecided rows s (t .condition) → ((u : ℤ) × (s .upper r ≡ Under u) × ((u -ℤ knownOf rows s r) ≤ℤ pos (t .weight))) → ⊥)
 
-  abbrev Starts : ℕ → ℕ → Type 0
-  Starts r q = (rest : List Term) × (termsOf rows q ≡ termsOf rows r ++ rest)
-
   abbrev StillPair : Table → ℕ → ℕ → Type 0
-  StillPair s r q = (Starts r q → s .lower q <ℤ s .lower r → ⊥) × (Starts r q → Below (s .upper q) (s .upper r) → ⊥)
+  StillPair s r q = (Begins rows r q → s .lower q <ℤ s .lower r → ⊥) × (Begins rows r q → Below (s .upper q) (s .upper r) → ⊥)
+
+  other : (s : Table) (o : Other) → Decided (OtherReached rows s o)
+  unfolding OtherReached
+  other s alone = inl tt
+  other s (beside q b) = at-most b (reachedOf rows s q)
 
   at-guard : (s : Table) (r : ℕ) (g : Guard) → Guards rows r g → SomeStep s ⊎ StillGuard s r g
   at-guard s r g i =
       also
       (also (rule (is (s .sure (g .node)) true) (less (s .lower r) (g .bound)) (λ e h. (raiseLower s r (g .bound), sure-guard r g i e h)))
-      (rule (is (s .never (g .node)) true) (lies-below (Under (g .bound)) (s .upper r)) (λ e h. (lowerUpper s r (Under (g .bound)), never-guard r g i e h))))
-      (also (rule (at-most (g .bound) (reachedOf rows s r)) (is (s .sure (g .node)) false) (λ h e. (decideSure s (g .node), bound-reached r g i h e)))
-      (rule (either (less (possibleOf rows s r) (g .bound)) (upper-at-most (s .upper r) (g .bound))) (is (s .never (g .node)) false)
-      (λ h e. (decideNever s (g .node), bound-out-of-reach r g i h e))))
+      (rule (and (is _ true) (other s _)) (lies-below (Under (g .bound)) (s .upper r)) (λ e h. (lowerUpper s r (Under (g .bound)), never-guard r g i e h))))
+      (also (rule (and-three (is _ true) (at-most _ _) (other s _)) (is (s .sure (g .node)) false) (λ h e. (decideSure s (g .node), bound-reached r g i h e)))
+      (rule (and (is _ true) (either (less _ _) (upper-at-most (s .upper r) (g .bound)))) (is (s .never (g .node)) false) (λ h e. (decideNever s (g .node), bound-out-of-reach r g i h e))))
 
   -- a row's upper and the weight that it leaves
   too-heavy : (s : Table) (r w : ℕ) (c : Upper) → s .upper r ≡ c → Decided ((u : ℤ) × (s .upper r ≡ Under u) × ((u -ℤ knownOf rows s r) ≤ℤ pos w))
@@ -198,8 +210,8 @@ module _ (rows : List Row) where
       (rule prefix (less (s .lower q) (s .lower r)) (λ p h. (raiseLower s q (s .lower r), longer-lower r q (i, j, p) h)))
       (rule prefix (lies-below (s .upper q) (s .upper r)) (λ p h. (lowerUpper s r (s .upper q), shorter-upper r q (i, j, p) h)))
     where
-      prefix : Decided (Starts r q)
-      prefix = starts (termsOf rows r) (termsOf rows q)
+      prefix : Decided (Begins rows r q)
+      prefix = and-two (starts (termsOf rows r) (termsOf rows q)) (is _ true) (is _ true)
 
   abbrev StillGuards : Table → Type 0
   StillGuards s = (r : ℕ) → IsRow rows r → (g : Guard) → List·Memᴰ g (getD rows r noRow .guards) → StillGuard s r g
@@ -248,19 +260,19 @@ module _ (rows : List Row) where
   abbrev Apart : Table → ℕ → Type 0
   Apart s n = s .sure n ≡ true → s .never n ≡ true → ⊥
 
-  abbrev Calm : Table → ℕ → Type 0
-  Calm s r = (possibleOf rows s r <ℤ s .lower r → ⊥) × (AtMost (s .upper r) (reachedOf rows s r) → ⊥)
+  abbrev Unbroken : Table → ℕ → Type 0
+  Unbroken s r = (possibleOf rows s r <ℤ s .lower r → ⊥) × (AtMost (s .upper r) (reachedOf rows s r) → ⊥)
 
   at-node : (s : Table) (n : ℕ) → Conflict rows s ⊎ Apart s n
   at-node s n = rule (is (s .sure n) true) (is (s .never n) true) (λ e d. both n e d)
 
-  at-row : (s : Table) (r : ℕ) → IsRow rows r → Conflict rows s ⊎ Calm s r
+  at-row : (s : Table) (r : ℕ) → IsRow rows r → Conflict rows s ⊎ Unbroken s r
   at-row s r i =
       also (premise (less (possibleOf rows s r) (s .lower r)) (λ h. lower-above r i h))
       (premise (upper-at-most (s .upper r) (reachedOf rows s r)) (λ h. upper-reached r i h))
 
   no-conflict : (n : ℕ) (s : Table) → Finite rows n s → ((m : ℕ) → m < n → Apart s m) → ((m : ℕ) → List·Memᴰ m (nodesOf rows) → Apart s m)
-      → ((r : ℕ) → IsRow rows r → Calm s r) → Conflict rows s → ⊥
+      → ((r : ℕ) → IsRow rows r → Unbroken s r) → Conflict rows s → ⊥
   no-conflict n s f ns ms rs (both m h k) = ⊎-elim (λ (l : m < n). ns m l h k) (λ (l : List·Memᴰ m (nodesOf rows)). ms m l h k) (f .sure m h)
   no-conflict n s f ns ms rs (lower-above r i h) = rs r i .0 h
   no-conflict n s f ns ms rs (upper-reached r i h) = rs r i .1 h
@@ -270,9 +282,9 @@ module _ (rows : List Row) where
   conflict-or-none n s f =
       by (also
       (also (each-below (Apart s) n (λ m h. at-node s m)) (each-of (Apart s) (nodesOf rows) (λ m h. at-node s m)))
-      (each-below (Calm s) (length rows) (at-row s)))
+      (each-below (Unbroken s) (length rows) (at-row s)))
     where
-      by : Conflict rows s ⊎ ((((m : ℕ) → m < n → Apart s m) × ((m : ℕ) → List·Memᴰ m (nodesOf rows) → Apart s m)) × ((r : ℕ) → IsRow rows r → Calm s r))
+      by : Conflict rows s ⊎ ((((m : ℕ) → m < n → Apart s m) × ((m : ℕ) → List·Memᴰ m (nodesOf rows) → Apart s m)) × ((r : ℕ) → IsRow rows r → Unbroken s r))
           → Conflict rows s ⊎ (Conflict rows s → ⊥)
       by (inl a) = inl a
       by (inr k) = inr (no-conflict n s f (k .0 .0) (k .0 .1) (k .1))

@@ -153,13 +153,13 @@ module _ (j : Job) (v : Layout) (is : IsLayout j v) where
 
   no-step : (t : Table) → Step (rowsOf j) (ofLayout (rowsOf j) v) t → ⊥
   no-step t (sure-guard r g i e h) = clashℤ h (le (sym (guard-value r g i) ∙ e))
-  no-step t (never-guard r g i e h) = clashℤ h (above-sum (sumOf v (termsOf (rowsOf j) r)) (g .bound) (sym (guard-value r g i) ∙ not-true (v (g .node)) e))
-  no-step t (bound-reached r g i h e) = not-both (v (g .node)) (guard-value r g i ∙ of-le (≤ℤ-trans h (reached-sum r))) (ap not e)
+  no-step t (never-guard r g i e h) = clashℤ h (above-sum (sumOf v (termsOf (rowsOf j) r)) (g .bound) (sym (guard-value r g i) ∙ not-true (v (g .node)) (e .0)))
+  no-step t (bound-reached r g i h e) = not-both (v (g .node)) (guard-value r g i ∙ of-le (≤ℤ-trans (h .1) (reached-sum r))) (ap not e)
   no-step t (bound-out-of-reach r g i h e) =
       ⊎-elim
       (λ (x : possibleOf (rowsOf j) (ofLayout (rowsOf j) v) r <ℤ g .bound).
       clashℤ (subst (λ (z : ℕ). pos z <ℤ g .bound) (possible-sum v (termsOf (rowsOf j) r)) x) reaches)
-      (λ (x : pos (suc n) ≤ℤ g .bound). clashℤ (lt (ltZ-pos n (suc n) ∙ lt-ltb n (suc n) (le-refl (suc n)))) (≤ℤ-trans x reaches)) h
+      (λ (x : pos (suc n) ≤ℤ g .bound). clashℤ (lt (ltZ-pos n (suc n) ∙ lt-ltb n (suc n) (le-refl (suc n)))) (≤ℤ-trans x reaches)) (h .1)
     where
       n : ℕ
       n = sumOf v (termsOf (rowsOf j) r)

@@ -53,6 +53,9 @@ pub ≤ℤ-or-<ℤ : (a b : ℤ) → (a ≤ℤ b) ⊎ (b <ℤ a)
 pub pos-≤ℤ : {a b : ℕ} → a ≤ b → pos a ≤ℤ pos b
 pos-≤ℤ {a} {b} h = le (leZ-pos a b ∙ le-leb a b h)
 
+pub zero-le : (n : ℕ) → pos 0 ≤ℤ pos n
+zero-le n = pos-≤ℤ {a = 0} {b = n} (omega arith)
+
 -- the maximum
 pub max-up : {a b c d : ℤ} → a ≤ℤ c → b ≤ℤ d → maxZ a b ≤ℤ maxZ c d
 max-up {a} {b} {c} {d} h k =

@@ -12,7 +12,7 @@ use Rattle.numeric.specs.Threshold.{Term}
 use Rattle.state.specs.declared.Upper.{Upper}
 use Rattle.state.specs.declared.Upper.the-variants.{Open, Under}
 use Rattle.state.specs.State.{maxZ}
-use Rattle.thresholds.specs.Rows.{Row, Guard, noRow}
+use Rattle.thresholds.specs.Rows.{Row, Guard, Other, alone, beside, MayDecide, Linked, noRow}
 
 -- A state of the table: which nodes are sure and which never, and for each row its lower and its upper.
 pub record Table : Type 0 where
@@ -84,22 +84,40 @@ module _ (rows : List Row) where
   abbrev pub reachedOf : Table → ℕ → ℤ
   reachedOf s r = maxZ (knownOf s r) (s .lower r)
 
+  -- The other measure of a guard's node is reached, if it has one.
+  unfoldable pub OtherReached : Table → Other → Type 0
+  OtherReached s alone = Unit {0}
+  OtherReached s (beside q b) = b ≤ℤ reachedOf s q
+
   abbrev pub Undecided : Table → ℕ → Type 0
   Undecided s n = (s .sure n ≡ false) × (s .never n ≡ false)
 
-  -- The terms of row r stand at the start of row q's; two rows with equal terms are prefixes of each other.
+  -- The three things that rules 1 to 3 ask of a guard of row r. It falls short: its node is never, though the other measure is reached.
+  -- It is reached, or out of reach: so its node is decided, if it may be.
+  abbrev pub FallsShort : Table → Guard → Type 0
+  FallsShort s g = (s .never (g .node) ≡ true) × OtherReached s (g .other)
+
+  abbrev pub Reached : Table → ℕ → Guard → Type 0
+  Reached s r g = MayDecide g × (g .bound ≤ℤ reachedOf s r) × OtherReached s (g .other)
+
+  abbrev pub OutOfReach : Table → ℕ → Guard → Type 0
+  OutOfReach s r g = MayDecide g × ((possibleOf s r <ℤ g .bound) ⊎ AtMost (s .upper r) (g .bound))
+
+  -- The terms of row r stand at the start of row q's, and both rows are linked; two rows with equal terms are prefixes of each other.
+  abbrev pub Begins : ℕ → ℕ → Type 0
+  Begins r q = (rest : List Term) × (termsOf q ≡ termsOf r ++ rest) × Linked (getD rows r noRow) × Linked (getD rows q noRow)
+
   abbrev pub IsPrefix : ℕ → ℕ → Type 0
-  IsPrefix r q = IsRow r × IsRow q × ((rest : List Term) × (termsOf q ≡ termsOf r ++ rest))
+  IsPrefix r q = IsRow r × IsRow q × Begins r q
 
   pub data Step (s : Table) : Table → Type 0 where
     -- 1. Guard sure: lower is at least its bound. Guard never: upper is at most its bound.
     sure-guard : (r : ℕ) (g : Guard) → Guards r g → s .sure (g .node) ≡ true → s .lower r <ℤ g .bound → Step s (raiseLower s r (g .bound))
-    never-guard : (r : ℕ) (g : Guard) → Guards r g → s .never (g .node) ≡ true → Below (Under (g .bound)) (s .upper r) → Step s (lowerUpper s r (Under (g .bound)))
+    never-guard : (r : ℕ) (g : Guard) → Guards r g → FallsShort s g → Below (Under (g .bound)) (s .upper r) → Step s (lowerUpper s r (Under (g .bound)))
     -- 2. Bound at most max(known, lower): guard sure.
-    bound-reached : (r : ℕ) (g : Guard) → Guards r g → g .bound ≤ℤ reachedOf s r → s .sure (g .node) ≡ false → Step s (decideSure s (g .node))
+    bound-reached : (r : ℕ) (g : Guard) → Guards r g → Reached s r g → s .sure (g .node) ≡ false → Step s (decideSure s (g .node))
     -- 3. Bound above possible, or at least upper: guard never.
-    bound-out-of-reach : (r : ℕ) (g : Guard) → Guards r g → (possibleOf s r <ℤ g .bound) ⊎ AtMost (s .upper r) (g .bound) → s .never (g .node) ≡ false
-        → Step s (decideNever s (g .node))
+    bound-out-of-reach : (r : ℕ) (g : Guard) → Guards r g → OutOfReach s r g → s .never (g .node) ≡ false → Step s (decideNever s (g .node))
     -- 4. Undecided weight above possible - lower: term sure.
     term-needed : (r : ℕ) (t : Term) → HasTerm r t → Undecided s (t .condition) → (possibleOf s r -ℤ s .lower r) <ℤ pos (t .weight)
         → Step s (decideSure s (t .condition))

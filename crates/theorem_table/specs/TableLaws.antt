@@ -11,13 +11,13 @@ use lib.Dec.{eqb}
 use lib.IntN.{ℤ, pos, _-ℤ_}
 use lib.Signed.{_≤ℤ_, _<ℤ_, ≤ℤ-refl, <ℤ-≤ℤ-trans}
 use borrow.Author.Tests.{eqb-true}
-use Rattle.base.specs.TestLaws.{same-bool, true-false}
+use Rattle.base.specs.TestLaws.{same-bool, true-false, unequal}
 use Rattle.numeric.specs.Threshold.{Term}
 use Rattle.numeric.specs.LayoutLaws.{sumOf, one-rises, sum-rises}
 use Rattle.state.specs.declared.Upper.{Upper}
 use Rattle.state.specs.declared.Upper.the-variants.{Open, Under}
-use Rattle.thresholds.specs.Rows.{Row}
-use Rattle.theorem_table.specs.Table.{Table, known, possible, AtMost, Below, at, decideSure, decideNever, raiseLower, lowerUpper, termsOf, HasTerm, knownOf, possibleOf, reachedOf, Undecided, Step, sure-guard, never-guard, bound-reached, bound-out-of-reach, term-needed, term-too-heavy, longer-lower, shorter-upper, Conflict, both, lower-above, upper-reached, Run, done, more, AtRest, Ended}
+use Rattle.thresholds.specs.Rows.{Row, Other, alone, beside, isAlone}
+use Rattle.theorem_table.specs.Table.{Table, known, possible, AtMost, Below, at, decideSure, decideNever, raiseLower, lowerUpper, termsOf, HasTerm, knownOf, possibleOf, reachedOf, OtherReached, Undecided, Step, sure-guard, never-guard, bound-reached, bound-out-of-reach, term-needed, term-too-heavy, longer-lower, shorter-upper, Conflict, both, lower-above, upper-reached, Run, done, more, AtRest, Ended}
 use Rattle.theorem_table.specs.OrderLaws.{≤ℤ-trans, ≤ℤ-<ℤ-trans, ≤ℤ-anti, <ℤ-≤ℤ, ≤ℤ-or-<ℤ, pos-≤ℤ, max-up, max-above, sub-up, needed-clash, heavy-clash, UpLe, up-refl, up-trans, up-anti, below-le, le-or-below, at-most-up}
 
 -- THE ORDER: more nodes decided, lowers higher, uppers lower
@@ -183,6 +183,17 @@ module _ (rows : List Row) where
   possible-up : (s u : Table) (r : ℕ) → Le s u → possibleOf rows u r ≤ℤ possibleOf rows s r
   possible-up s u r a = pos-≤ℤ (possible-down (s .never) (u .never) (termsOf rows r) (a .never))
 
+  -- what stands alone asks nothing more; what is reached stays reached
+  pub alone-reached : (s : Table) (o : Other) → isAlone o ≡ true → OtherReached rows s o
+  unfolding OtherReached
+  alone-reached s alone e = tt
+  alone-reached s (beside q b) e = absurd (unequal cc)
+
+  pub other-up : (s u : Table) (o : Other) → Le s u → OtherReached rows s o → OtherReached rows u o
+  unfolding OtherReached
+  other-up s u alone a h = h
+  other-up s u (beside q b) a h = ≤ℤ-trans h (reached-up s u q a)
+
   -- a conflict stays one
   pub conflict-up : (s u : Table) → Le s u → Conflict rows s → Conflict rows u
   conflict-up s u a (both n h k) = both n (a .sure n h) (a .never n k)
@@ -228,20 +239,22 @@ module _ (rows : List Row) where
   kept s t u (never-guard r g i e h) a rest =
       upper-below s u r (Under (g .bound)) a
       (⊎-elim (λ (k : UpLe (u .upper r) (Under (g .bound))). k)
-      (λ (k : Below (Under (g .bound)) (u .upper r)). absurd (rest .1 (lowerUpper u r (Under (g .bound))) (never-guard r g i (a .never (g .node) e) k)))
+      (λ (k : Below (Under (g .bound)) (u .upper r)). absurd (rest .1 (lowerUpper u r (Under (g .bound))) (never-guard r g i (a .never (g .node) (e .0), other-up s u _ a (e .1)) k)))
       (le-or-below (u .upper r) (Under (g .bound))))
   kept s t u (bound-reached r g i h e) a rest =
       sure-below s u (g .node) a
       (⊎-elim (λ (k : u .sure (g .node) ≡ true). k)
-      (λ (k : u .sure (g .node) ≡ false). absurd (rest .1 (decideSure u (g .node)) (bound-reached r g i (≤ℤ-trans h (reached-up s u r a)) k)))
+      (λ (k : u .sure (g .node) ≡ false). absurd (rest .1 (decideSure u (g .node)) (bound-reached r g i (h .0, ≤ℤ-trans (h .1) (reached-up s u r a), other-up s u _ a (h .2)) k)))
       (true-false (u .sure (g .node))))
   kept s t u (bound-out-of-reach r g i h e) a rest =
       never-below s u (g .node) a
       (⊎-elim (λ (k : u .never (g .node) ≡ true). k)
       (λ (k : u .never (g .node) ≡ false).
-      absurd (rest .1 (decideNever u (g .node)) (bound-out-of-reach r g i
-      (⊎-elim (λ (x : possibleOf rows s r <ℤ g .bound). inl (≤ℤ-<ℤ-trans (possible-up s u r a) x))
-      (λ (x : AtMost (s .upper r) (g .bound)). inr (at-most-up (u .upper r) (s .upper r) (a .upper r) (≤ℤ-refl (g .bound)) x)) h) k)))
+      absurd (rest .1 (decideNever u (g .node)) (bound-out-of-reach r g i (
+        h .0,
+        ⊎-elim (λ (x : possibleOf rows s r <ℤ g .bound). inl (≤ℤ-<ℤ-trans (possible-up s u r a) x))
+            (λ (x : AtMost (s .upper r) (g .bound)). inr (at-most-up (u .upper r) (s .upper r) (a .upper r) (≤ℤ-refl (g .bound)) x)) (h .1),
+      ) k)))
       (true-false (u .never (g .node))))
   kept s t u (term-needed r x i d h) a rest =
       sure-below s u (x .condition) a

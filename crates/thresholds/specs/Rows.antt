@@ -1,5 +1,6 @@
 -- The rows of a job: thresholds with the same raw list share one. The grouping of `prepare` on values.
 use Prim.Native.Nat.{ℕ, _+_}
+use mathlib.Core.Path.{_≡_}
 use mathlib.Core.Bool.{Bool, true, false, _&&_, _||_, not, cond}
 use mathlib.Core.List.{List, [], _∷_, _++_}
 use lib.ListN.{length, getD}
@@ -11,13 +12,29 @@ use Rattle.state.specs.declared.State.{State}
 use Rattle.state.specs.State.{firstState}
 use Rattle.row.specs.Terms.{rowTerms, sameTerms, total}
 
--- A guard of a row: a threshold that compares its bound with the row's sum.
+-- What a guard's node asks besides: nothing, or that another row reaches a bound as well.
+pub data Other : Type 0 where
+  alone : Other
+  beside : (row : ℕ) (bound : ℤ) → Other
+
+abbrev pub isAlone : Other → Bool
+isAlone alone = true
+isAlone (beside r b) = false
+
+-- A guard of a row: a threshold that compares its bound with the row's sum. One that may not decide its node still bounds its row
+-- where the node is decided; a row whose guards are not linked hands nothing on.
 pub record Guard : Type 0 where
   pub bound : ℤ
   pub node : ℕ
+  pub may : Bool
+  pub linked : Bool
+  pub other : Other
 
 abbrev pub guard : ℤ → ℕ → Guard
-guard b n = record { bound = b; node = n }
+guard b n = record { bound = b; node = n; may = true; linked = true; other = alone }
+
+abbrev pub MayDecide : Guard → Type 0
+MayDecide g = g .may ≡ true
 
 pub record Row : Type 0 where
   pub raw : List Term
@@ -26,6 +43,14 @@ pub record Row : Type 0 where
 
 abbrev pub rowOf : List Term → List Term → List Guard → Row
 rowOf raw ts gs = record { raw = raw; terms = ts; guards = gs }
+
+-- Guards of one job are linked or not all alike, so the first tells it of its row.
+abbrev pub linkedBy : List Guard → Bool
+linkedBy [] = true
+linkedBy (g ∷ gs) = g .linked
+
+abbrev pub Linked : Row → Type 0
+Linked r = linkedBy (r .guards) ≡ true
 
 -- Guards stand by bound, then node, rising.
 abbrev pub below : Guard → Guard → Bool

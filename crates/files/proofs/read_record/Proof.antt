@@ -37,7 +37,7 @@ take-record-requires c κs =
     let s = start-of at-next in
     let g = s .args in
     let e = sym (else1-of c .before .before .before .next2 .given .1) ∙ at-next .next-record .ensures in
-    (s .pre .2, s .pre .3, next-passes (g .standing) (g .input .now) (g .at) _ e, s .pre .1, sym (else1-of c .before .closes .ensures) ∙ else1-of c .if1 .left)
+    (s .pre .2, s .pre .3, next-passes (g .standing) (g .input .now) (g .at) _ e, s .pre .1 _ e, sym (else1-of c .before .closes .ensures) ∙ else1-of c .if1 .left)
 
 add-t31 : tie.Need-add-t31
 add-t31 c =
@@ -71,7 +71,7 @@ returns-3 c =
     let e = sym (at-size .before .before .before .before .before .next2 .given .1) ∙ at-next .next-record .ensures in
     let goes = sym (at-size .before .before .before .closes .ensures) ∙ at-size .before .before .if1 .left in
     let t = take-record-of c .take-record in
-    record { part = λ f w room h. read-next (g .input .now) (g .at) (s .pre .0) f w (g .standing) (g .raw-conditions .now) (g .raw-weights .now) (g .thresholds .now) (g .bounds .now) (g .places .now) (g .sums .now) h _ e goes _ (at-size .body-length .ensures) (t .result) _ _ _ _ _ _ (t .ensures .done f w room h) }
+    record { part = λ f w room h. read-next (g .input .now) (g .at) (s .pre .0) f w (g .standing) (g .raw-conditions .now) (g .raw-weights .now) (g .thresholds .now) (g .bounds .now) (g .places .now) (g .sums .now) h _ e goes _ (at-size .body-length .ensures) (t .result) _ _ _ _ _ _ (t .ensures .done f w room h) (t .ensures .building f w h) }
 
 pub read-record-spec : {M : Type 1} → statement M
 read-record-spec =

@@ -1,28 +1,28 @@
 -- `files::read_records` meets its contract: every record that is taken keeps the invariant.
-use mathlib.Core.Path.{_≡_, refl, sym, _∙_, subst}
+use mathlib.Core.Path.{_≡_, refl, _∙_}
 use Prim.Native.Nat.{_-_}
 use native.Mathlib.Omega.{arith}
 use lib.ListN.{length}
-use Rattle.memory.specs.Buffers.{rawLists, raw}
-use Rattle.files.specs.declared.JobRead.{JobRead}
-use Rattle.files.specs.Held.{Going}
-use Rattle.files.specs.HeldLaws.{going-begun, going-unsealed, going-ends, going-stops, going-farther, going-on, goes}
+use Rattle.job.specs.Gathered.{Gathered, Joinable}
+use Rattle.files.specs.Held.{Builds, GoesFrom}
+use Rattle.files.specs.HeldLaws.{goes, from-here, from-asks, from-ends, from-stops, from-farther, from-on}
 use borrow.Author.Needs.{needs}
 use Rattle.files.proofs.read_records.Statement.{statement}
 use Rattle.files.proofs.read_records.Tie as tie
 
 abbrev Inv-loop : tie.InvT-loop
-Inv-loop input raw-conditions₀ raw-weights₀ thresholds₀ bounds₀ places₀ sums₀ read₀ raw-conditions raw-weights thresholds bounds places sums read =
-    Going input (raw (rawLists raw-conditions₀ raw-weights₀ thresholds₀) bounds₀) read raw-conditions raw-weights thresholds bounds places sums × (length raw-conditions ≡ length raw-conditions₀)
+Inv-loop input at raw-conditions₀ raw-weights₀ thresholds₀ bounds₀ places₀ sums₀ read₀ raw-conditions raw-weights thresholds bounds places sums read =
+    GoesFrom input (read₀ .at) (read₀ .standing) raw-conditions₀ raw-weights₀ thresholds₀ bounds₀ places₀ sums₀ read raw-conditions raw-weights thresholds bounds places sums
+    × (length raw-conditions ≡ length raw-conditions₀)
     × (length raw-weights ≡ length raw-weights₀) × (length thresholds ≡ length thresholds₀) × (length bounds ≡ length bounds₀) × (length places ≡ length places₀) × (length sums ≡ length sums₀)
 
 abbrev μ-loop : tie.MeasureT-loop
-μ-loop input raw-conditions₀ raw-weights₀ thresholds₀ bounds₀ places₀ sums₀ read₀ raw-conditions raw-weights thresholds bounds places sums read = length input - read .at
+μ-loop input at raw-conditions₀ raw-weights₀ thresholds₀ bounds₀ places₀ sums₀ read₀ raw-conditions raw-weights thresholds bounds places sums read = length input - read .at
 
 -- Ways back to earlier places: to the start, to the read that was just made, and to the test that there is more to read.
 
 abbrev start-of : tie.At-loop Inv-loop μ-loop → tie.Start Inv-loop μ-loop
-start-of p = p .before .before .before .before .before .before .before
+start-of p = p .before .before .before .before .before .before
 
 abbrev entry-of : tie.After-slice-known8 Inv-loop μ-loop → tie.After-read-entry Inv-loop μ-loop
 entry-of p = p .before .before .before .before .before .before .before .before .before
@@ -44,27 +44,27 @@ test-of-record p = p .before .before .before .before .before .before .before .be
 
 loop-holds : tie.Need-loop-holds Inv-loop μ-loop
 loop-holds c =
-    let s = c .before .before .before .before .before .before in
+    let s = c .before .before .before .before .before in
     let g = s .args in
-    let w = raw (rawLists (g .raw-conditions .now) (g .raw-weights .now) (g .thresholds .now)) (g .bounds .now) in (
-      subst (λ (r : JobRead). Going (g .input .now) w r (g .raw-conditions .now) (g .raw-weights .now) (g .thresholds .now) (g .bounds .now) (g .places .now) (g .sums .now)) (sym (c .nothing-read .ensures))
-          (going-begun (g .input .now) (g .raw-conditions .now) (g .raw-weights .now) (g .thresholds .now) (g .bounds .now) (g .places .now) (g .sums .now) (s .pre .0) (s .pre .1)),
-      refl,
-      refl,
-      refl,
-      refl,
-      refl,
-      refl,
-    )
+    (from-here (g .input .now) (g .at) (g .standing) (g .raw-conditions .now) (g .raw-weights .now) (g .thresholds .now) (g .bounds .now) (g .places .now) (g .sums .now) (s .pre .1), refl, refl, refl, refl, refl, refl)
 
 entry-comes-requires : tie.Need-entry-comes-requires Inv-loop μ-loop
 entry-comes-requires c κs = c .before .if1 .taken
 
+-- What a record asks of the buffers before it.
+asks : (p : tie.At-loop Inv-loop μ-loop) → let v = p .loop in
+    Builds (start-of p .args .input .now) (v .read .at) (v .read .standing) × Gathered (v .read .standing) (v .raw-conditions) (v .raw-weights) (v .thresholds) (v .bounds) × Joinable (v .read .standing) (v .thresholds) (v .places) (v .sums)
+asks p =
+    let s = start-of p in
+    let g = s .args in
+    let v = p .loop in
+    from-asks (g .input .now) (g .at) (g .standing) (g .raw-conditions .now) (g .raw-weights .now) (g .thresholds .now) (g .bounds .now) (g .places .now) (g .sums .now) (v .read) (v .raw-conditions) (v .raw-weights) (v .thresholds) (v .bounds) (v .places) (v .sums) (v .inv .0) (s .pre .0 .0) (s .pre .0 .1) (s .pre .0 .2) (s .pre .0 .3)
+
 read-entry-requires : tie.Need-read-entry-requires Inv-loop μ-loop
 read-entry-requires c κs =
     let at-if = c .before .before .before .before .before in
-    let r = at-if .before .before .before .before .before .loop .inv .0 .reading in
-    (at-if .before .entry-comes .ensures (at-if .if2 .taken), r .held .gathered .listed, r .held .gathered .termed, r .noted .joinable)
+    let r = asks (at-if .before .before .before .before .before) in
+    (at-if .before .entry-comes .ensures (at-if .if2 .taken), r .1 .listed, r .1 .termed, r .2)
 
 loop-less : tie.Need-loop-less Inv-loop μ-loop
 loop-less c =
@@ -74,11 +74,9 @@ loop-less c =
     let s = start-of at-loop in
     let g = s .args in
     let v = at-loop .loop in
-    let w = raw (rawLists (g .raw-conditions .now) (g .raw-weights .now) (g .thresholds .now)) (g .bounds .now) in
     let n = at-read .read-entry in
-    let p = n .ensures .0 (v .bounds) .part (v .inv .0 .file) w (s .pre .0) (v .inv .0 .reading) in
     let e = goes (n .result) (n .ensures .1) (n .ensures .2) in
-    omega (arith, at-test .if1 .taken, going-farther (g .input .now) w (v .read) (v .raw-conditions) (v .raw-weights) (v .thresholds) (v .bounds) (v .places) (v .sums) (v .inv .0) (at-test .if1 .taken) (n .result) _ _ _ _ _ _ p e)
+    omega (arith, at-test .if1 .taken, from-farther (g .input .now) (g .at) (g .standing) (g .raw-conditions .now) (g .raw-weights .now) (g .thresholds .now) (g .bounds .now) (g .places .now) (g .sums .now) (v .read) (v .raw-conditions) (v .raw-weights) (v .thresholds) (v .bounds) (v .places) (v .sums) (v .inv .0) (at-test .if1 .taken) (n .result) _ _ _ _ _ _ (n .ensures .0 (v .bounds)) (s .pre .0 .0) (s .pre .0 .1) (s .pre .0 .2) (s .pre .0 .3) e)
 
 loop-again : tie.Need-loop-again Inv-loop μ-loop
 loop-again c =
@@ -88,11 +86,9 @@ loop-again c =
     let s = start-of at-loop in
     let g = s .args in
     let v = at-loop .loop in
-    let w = raw (rawLists (g .raw-conditions .now) (g .raw-weights .now) (g .thresholds .now)) (g .bounds .now) in
     let n = at-read .read-entry in
-    let p = n .ensures .0 (v .bounds) .part (v .inv .0 .file) w (s .pre .0) (v .inv .0 .reading) in
     let e = goes (n .result) (n .ensures .1) (n .ensures .2) in (
-      going-on (g .input .now) w (v .read) (v .raw-conditions) (v .raw-weights) (v .thresholds) (v .bounds) (v .places) (v .sums) (v .inv .0) (at-test .if1 .taken) (n .result) _ _ _ _ _ _ p e,
+      from-on (g .input .now) (g .at) (g .standing) (g .raw-conditions .now) (g .raw-weights .now) (g .thresholds .now) (g .bounds .now) (g .places .now) (g .sums .now) (v .read) (v .raw-conditions) (v .raw-weights) (v .thresholds) (v .bounds) (v .places) (v .sums) (v .inv .0) (at-test .if1 .taken) (n .result) _ _ _ _ _ _ (n .ensures .0 (v .bounds)) e,
       n .kept .1 .1 .1 .0 ∙ v .inv .1,
       n .kept .1 .1 .1 .1 .0 ∙ v .inv .2,
       n .kept .1 .1 .1 .1 .1 .0 ∙ v .inv .3,
@@ -104,12 +100,8 @@ loop-again c =
 read-record-requires : tie.Need-read-record-requires Inv-loop μ-loop
 read-record-requires c κs =
     let at-test = test-of-arg c in
-    let at-loop = at-test .before .before in
-    let s = start-of at-loop in
-    let g = s .args in
-    let v = at-loop .loop in
-    let w = raw (rawLists (g .raw-conditions .now) (g .raw-weights .now) (g .thresholds .now)) (g .bounds .now) in
-    (at-test .if1 .taken, going-unsealed (g .input .now) w (v .read) (v .raw-conditions) (v .raw-weights) (v .thresholds) (v .bounds) (v .places) (v .sums) (v .inv .0), v .inv .0 .reading .held .gathered, v .inv .0 .reading .noted .joinable)
+    let r = asks (at-test .before .before) in
+    (at-test .if1 .taken, r .0, r .1, r .2)
 
 same-length : tie.Need-same-length Inv-loop μ-loop
 same-length c = let at-read = record-of c in at-read .read-record .kept .1 .1 .1 .0 ∙ test-of-record at-read .before .before .loop .inv .1
@@ -137,10 +129,8 @@ returns c =
     let s = start-of at-loop in
     let g = s .args in
     let v = at-loop .loop in
-    let w = raw (rawLists (g .raw-conditions .now) (g .raw-weights .now) (g .thresholds .now)) (g .bounds .now) in
     let n = at-read .read-record in
-    let p = n .ensures .part (v .inv .0 .file) w (s .pre .0) (v .inv .0 .reading) in
-    going-stops (g .input .now) w (v .read) (v .raw-conditions) (v .raw-weights) (v .thresholds) (v .bounds) (v .places) (v .sums) (v .inv .0) (at-test .if1 .taken) (n .result) _ _ _ _ _ _ p (c .if3 .taken)
+    from-stops (g .input .now) (g .at) (g .standing) (g .raw-conditions .now) (g .raw-weights .now) (g .thresholds .now) (g .bounds .now) (g .places .now) (g .sums .now) (v .read) (v .raw-conditions) (v .raw-weights) (v .thresholds) (v .bounds) (v .places) (v .sums) (v .inv .0) (at-test .if1 .taken) (n .result) _ _ _ _ _ _ (n .ensures) (c .if3 .taken)
 
 loop-less-2 : tie.Need-loop-less-2 Inv-loop μ-loop
 loop-less-2 c =
@@ -150,10 +140,8 @@ loop-less-2 c =
     let s = start-of at-loop in
     let g = s .args in
     let v = at-loop .loop in
-    let w = raw (rawLists (g .raw-conditions .now) (g .raw-weights .now) (g .thresholds .now)) (g .bounds .now) in
     let n = at-read .read-record in
-    let p = n .ensures .part (v .inv .0 .file) w (s .pre .0) (v .inv .0 .reading) in
-    omega (arith, at-test .if1 .taken, going-farther (g .input .now) w (v .read) (v .raw-conditions) (v .raw-weights) (v .thresholds) (v .bounds) (v .places) (v .sums) (v .inv .0) (at-test .if1 .taken) (n .result) _ _ _ _ _ _ p (c .if3 .left))
+    omega (arith, at-test .if1 .taken, from-farther (g .input .now) (g .at) (g .standing) (g .raw-conditions .now) (g .raw-weights .now) (g .thresholds .now) (g .bounds .now) (g .places .now) (g .sums .now) (v .read) (v .raw-conditions) (v .raw-weights) (v .thresholds) (v .bounds) (v .places) (v .sums) (v .inv .0) (at-test .if1 .taken) (n .result) _ _ _ _ _ _ (n .ensures) (s .pre .0 .0) (s .pre .0 .1) (s .pre .0 .2) (s .pre .0 .3) (c .if3 .left))
 
 loop-again-2 : tie.Need-loop-again-2 Inv-loop μ-loop
 loop-again-2 c =
@@ -163,10 +151,8 @@ loop-again-2 c =
     let s = start-of at-loop in
     let g = s .args in
     let v = at-loop .loop in
-    let w = raw (rawLists (g .raw-conditions .now) (g .raw-weights .now) (g .thresholds .now)) (g .bounds .now) in
-    let n = at-read .read-record in
-    let p = n .ensures .part (v .inv .0 .file) w (s .pre .0) (v .inv .0 .reading) in (
-      going-on (g .input .now) w (v .read) (v .raw-conditions) (v .raw-weights) (v .thresholds) (v .bounds) (v .places) (v .sums) (v .inv .0) (at-test .if1 .taken) (n .result) _ _ _ _ _ _ p (c .if3 .left),
+    let n = at-read .read-record in (
+      from-on (g .input .now) (g .at) (g .standing) (g .raw-conditions .now) (g .raw-weights .now) (g .thresholds .now) (g .bounds .now) (g .places .now) (g .sums .now) (v .read) (v .raw-conditions) (v .raw-weights) (v .thresholds) (v .bounds) (v .places) (v .sums) (v .inv .0) (at-test .if1 .taken) (n .result) _ _ _ _ _ _ (n .ensures) (c .if3 .left),
       n .kept .1 .1 .1 .0 ∙ v .inv .1,
       n .kept .1 .1 .1 .1 .0 ∙ v .inv .2,
       n .kept .1 .1 .1 .1 .1 .0 ∙ v .inv .3,
@@ -181,8 +167,7 @@ returns-2 c =
     let s = start-of at-loop in
     let g = s .args in
     let v = at-loop .loop in
-    let w = raw (rawLists (g .raw-conditions .now) (g .raw-weights .now) (g .thresholds .now)) (g .bounds .now) in
-    going-ends (g .input .now) w (v .read) (v .raw-conditions) (v .raw-weights) (v .thresholds) (v .bounds) (v .places) (v .sums) (v .inv .0) (c .if1 .left)
+    from-ends (g .input .now) (g .at) (g .standing) (g .raw-conditions .now) (g .raw-weights .now) (g .thresholds .now) (g .bounds .now) (g .places .now) (g .sums .now) (v .read) (v .raw-conditions) (v .raw-weights) (v .thresholds) (v .bounds) (v .places) (v .sums) (v .inv .0) (c .if1 .left)
 
 pub read-records-spec : {M : Type 1} → statement M
 read-records-spec =
@@ -190,7 +175,6 @@ read-records-spec =
     (tie.spec
     Inv-loop
     μ-loop
-    (λ c κs. search needs)
     loop-holds
     entry-comes-requires
     read-entry-requires

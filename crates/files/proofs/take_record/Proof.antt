@@ -5,7 +5,7 @@ use mir.Syntax.{w64}
 use mir.Val.{toZ, ofZ}
 use Rattle.records.specs.declared.Record.the-variants.{Opens}
 use Rattle.records.specs.Checks.{refusedBy}
-use Rattle.files.specs.HeldLaws.{takes-header, takes-opens, takes-adds, takes-areas, takes-seal, takes-serving, takes-unknown}
+use Rattle.files.specs.HeldLaws.{takes-header, takes-opens, takes-adds, takes-areas, takes-seal, takes-other}
 use borrow.Author.Needs.{needs}
 use Rattle.files.proofs.take_record.Statement.{statement}
 use Rattle.files.proofs.take_record.Tie as tie
@@ -91,25 +91,25 @@ returns-6 : tie.Need-returns-6
 returns-6 c =
     let s = c .before .before .before .before .before .before in
     let g = s .args in
-    takes-serving (g .entry) (g .standing) (g .raw-conditions .now) (g .raw-weights .now) (g .thresholds .now) (g .bounds .now) (g .places .now) (g .sums .now) (s .pre .2) _ (c .enum-told2 .given .1) refl (s .pre .3)
+    takes-other (g .entry) (g .standing) (g .raw-conditions .now) (g .raw-weights .now) (g .thresholds .now) (g .bounds .now) (g .places .now) (g .sums .now) (s .pre .2) _ (c .enum-told2 .given .1) (s .pre .3) (λ z. z)
 
 returns-7 : tie.Need-returns-7
 returns-7 c =
     let s = c .before .before .before .before .before .before in
     let g = s .args in
-    takes-serving (g .entry) (g .standing) (g .raw-conditions .now) (g .raw-weights .now) (g .thresholds .now) (g .bounds .now) (g .places .now) (g .sums .now) (s .pre .2) _ (c .enum-told3 .given .1) refl (s .pre .3)
+    takes-other (g .entry) (g .standing) (g .raw-conditions .now) (g .raw-weights .now) (g .thresholds .now) (g .bounds .now) (g .places .now) (g .sums .now) (s .pre .2) _ (c .enum-told3 .given .1) (s .pre .3) (λ z. z)
 
 returns-8 : tie.Need-returns-8
 returns-8 c =
     let s = c .before .before .before .before .before .before in
     let g = s .args in
-    takes-serving (g .entry) (g .standing) (g .raw-conditions .now) (g .raw-weights .now) (g .thresholds .now) (g .bounds .now) (g .places .now) (g .sums .now) (s .pre .2) _ (c .enum-told4 .given .1) refl (s .pre .3)
+    takes-other (g .entry) (g .standing) (g .raw-conditions .now) (g .raw-weights .now) (g .thresholds .now) (g .bounds .now) (g .places .now) (g .sums .now) (s .pre .2) _ (c .enum-told4 .given .1) (s .pre .3) (λ z. z)
 
 returns-9 : tie.Need-returns-9
 returns-9 c =
     let s = c .before .before .before .before .before .before in
     let g = s .args in
-    takes-unknown (g .entry) (g .standing) (g .raw-conditions .now) (g .raw-weights .now) (g .thresholds .now) (g .bounds .now) (g .places .now) (g .sums .now) (s .pre .2) (c .enum-told5 .given .1)
+    takes-other (g .entry) (g .standing) (g .raw-conditions .now) (g .raw-weights .now) (g .thresholds .now) (g .bounds .now) (g .places .now) (g .sums .now) (s .pre .2) _ (c .enum-told5 .given .1) (s .pre .3) (λ z. z)
 
 pub take-record-spec : {M : Type 1} → statement M
 take-record-spec =

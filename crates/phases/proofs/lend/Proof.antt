@@ -5,7 +5,7 @@ use lib.Seq.{length-take-le}
 use Rattle.memory.specs.Buffers.{heldRows, Built, built, Kept, kept, zeros}
 use Rattle.serve.specs.Serve.{readAt, Same}
 use Rattle.phases.specs.Phase.{cutBuilt, cutKept}
-use Rattle.phases.specs.PhaseLaws.{phase-room, phase-rows, phase-nodes, phase-bounds, phase-lent, kept-room, kept-lies, kept-leaves}
+use Rattle.phases.specs.PhaseLaws.{phase-room, phase-rows, phase-nodes, phase-bounds, phase-lent, begins-leaves}
 use borrow.Author.Needs.{needs}
 use Rattle.phases.proofs.lend.Statement.{statement}
 use Rattle.phases.proofs.lend.Tie as tie
@@ -44,168 +44,168 @@ slice-aggregate-seal-and-serve c =
     let start = start-of c in
     let a = start .args in
     let p = start .pre .0 in
-    sym (length-take-le 4096 (a .row-conditions .now) (phase-room (a .bounds .now) (buffers start) (p .0) (a .row-count) (p .2) .conditions))
+    sym (length-take-le 4096 (a .row-conditions .now) (phase-room (a .bounds .now) (buffers start) (p .0) (a .row-count) (p .2 .stops) .conditions))
 
 slice-aggregate-seal-and-serve-2 : tie.Need-slice-aggregate-seal-and-serve-2
 slice-aggregate-seal-and-serve-2 c =
     let start = start-of (c .before) in
     let a = start .args in
     let p = start .pre .0 in
-    sym (length-take-le 4096 (a .row-weights .now) (phase-room (a .bounds .now) (buffers start) (p .0) (a .row-count) (p .2) .weights))
+    sym (length-take-le 4096 (a .row-weights .now) (phase-room (a .bounds .now) (buffers start) (p .0) (a .row-count) (p .2 .stops) .weights))
 
 slice-aggregate-seal-and-serve-3 : tie.Need-slice-aggregate-seal-and-serve-3
 slice-aggregate-seal-and-serve-3 c =
     let start = start-of (c .before .before) in
     let a = start .args in
     let p = start .pre .0 in
-    sym (length-take-le (a .row-count) (a .rows .now) (phase-rows (a .bounds .now) (buffers start) (p .0) (a .row-count) (p .2)))
+    sym (length-take-le (a .row-count) (a .rows .now) (phase-rows (a .bounds .now) (buffers start) (p .0) (a .row-count) (p .2 .stops)))
 
 slice-aggregate-seal-and-serve-4 : tie.Need-slice-aggregate-seal-and-serve-4
 slice-aggregate-seal-and-serve-4 c =
     let start = start-of (c .before .before .before) in
     let a = start .args in
     let p = start .pre .0 in
-    sym (length-take-le 1024 (a .guard-bounds .now) (phase-room (a .bounds .now) (buffers start) (p .0) (a .row-count) (p .2) .bounds))
+    sym (length-take-le 1024 (a .guard-bounds .now) (phase-room (a .bounds .now) (buffers start) (p .0) (a .row-count) (p .2 .stops) .bounds))
 
 slice-aggregate-seal-and-serve-5 : tie.Need-slice-aggregate-seal-and-serve-5
 slice-aggregate-seal-and-serve-5 c =
     let start = start-of (c .before .before .before .before) in
     let a = start .args in
     let p = start .pre .0 in
-    sym (length-take-le 1024 (a .guard-nodes .now) (phase-room (a .bounds .now) (buffers start) (p .0) (a .row-count) (p .2) .guards))
+    sym (length-take-le 1024 (a .guard-nodes .now) (phase-room (a .bounds .now) (buffers start) (p .0) (a .row-count) (p .2 .stops) .guards))
 
 slice-aggregate-seal-and-serve-6 : tie.Need-slice-aggregate-seal-and-serve-6
 slice-aggregate-seal-and-serve-6 c =
     let start = start-of (c .before .before .before .before .before) in
     let a = start .args in
     let p = start .pre .0 in
-    sym (length-take-le (a .standing .nodes) (a .nodes .now) (phase-nodes (a .bounds .now) (buffers start) (p .0) (a .row-count) (p .2) (a .standing) (p .6)))
+    sym (length-take-le (a .standing .nodes) (a .nodes .now) (phase-nodes (a .bounds .now) (buffers start) (p .0) (a .row-count) (p .2 .stops) (a .standing) (p .4)))
 
 slice-aggregate-seal-and-serve-7 : tie.Need-slice-aggregate-seal-and-serve-7
 slice-aggregate-seal-and-serve-7 c =
     let start = start-of (c .before .before .before .before .before .before) in
     let a = start .args in
     let p = start .pre .0 in
-    sym (length-take-le (a .standing .thresholds) (a .bounds .now) (phase-bounds (a .bounds .now) (buffers start) (p .0) (a .row-count) (p .2) (a .standing) (p .6)))
+    sym (length-take-le (a .standing .thresholds) (a .bounds .now) (phase-bounds (a .bounds .now) (buffers start) (p .0) (a .row-count) (p .2 .stops) (a .standing) (p .4)))
 
 slice-aggregate-seal-and-serve-8 : tie.Need-slice-aggregate-seal-and-serve-8
 slice-aggregate-seal-and-serve-8 c =
     let start = start-of-seal-and-serve-arg8 c in
     let a = start .args in
     let p = start .pre .0 in
-    sym (length-take-le 4096 (a .edges .now) (phase-room (a .bounds .now) (buffers start) (p .0) (a .row-count) (p .2) .edges))
+    sym (length-take-le 4096 (a .edges .now) (phase-room (a .bounds .now) (buffers start) (p .0) (a .row-count) (p .2 .stops) .edges))
 
 slice-relend-prefix-seal-and-serve : tie.Need-slice-relend-prefix-seal-and-serve
 slice-relend-prefix-seal-and-serve c =
     let start = start-of-seal-and-serve-arg8 c in
     let a = start .args in
     let p = start .pre .0 in
-    kept-room (p .1) (p .4) (entry start) (p .5) .figures
+    p .3 .room .figures
 
 slice-aggregate-seal-and-serve-9 : tie.Need-slice-aggregate-seal-and-serve-9
 slice-aggregate-seal-and-serve-9 c =
     let start = start-of-seal-and-serve-arg8 (c .before) in
     let a = start .args in
     let p = start .pre .0 in
-    sym (length-take-le 1024 (a .figures .now) (kept-room (p .1) (p .4) (entry start) (p .5) .figures))
+    sym (length-take-le 1024 (a .figures .now) (p .3 .room .figures))
 
 slice-relend-prefix-seal-and-serve-2 : tie.Need-slice-relend-prefix-seal-and-serve-2
 slice-relend-prefix-seal-and-serve-2 c =
     let start = start-of-seal-and-serve-arg8 (c .before) in
     let a = start .args in
     let p = start .pre .0 in
-    kept-room (p .1) (p .4) (entry start) (p .5) .cursors
+    p .3 .room .cursors
 
 slice-aggregate-seal-and-serve-10 : tie.Need-slice-aggregate-seal-and-serve-10
 slice-aggregate-seal-and-serve-10 c =
     let start = start-of-seal-and-serve-arg8 (c .before .before) in
     let a = start .args in
     let p = start .pre .0 in
-    sym (length-take-le 1024 (a .cursors .now) (kept-room (p .1) (p .4) (entry start) (p .5) .cursors))
+    sym (length-take-le 1024 (a .cursors .now) (p .3 .room .cursors))
 
 slice-relend-prefix-seal-and-serve-3 : tie.Need-slice-relend-prefix-seal-and-serve-3
 slice-relend-prefix-seal-and-serve-3 c =
     let start = start-of-seal-and-serve-arg8 (c .before .before) in
     let a = start .args in
     let p = start .pre .0 in
-    kept-room (p .1) (p .4) (entry start) (p .5) .sure
+    p .3 .room .sure
 
 slice-aggregate-seal-and-serve-11 : tie.Need-slice-aggregate-seal-and-serve-11
 slice-aggregate-seal-and-serve-11 c =
     let start = start-of-seal-and-serve-arg8 (c .before .before .before) in
     let a = start .args in
     let p = start .pre .0 in
-    sym (length-take-le 64 (a .sure .now) (kept-room (p .1) (p .4) (entry start) (p .5) .sure))
+    sym (length-take-le 64 (a .sure .now) (p .3 .room .sure))
 
 slice-relend-prefix-seal-and-serve-4 : tie.Need-slice-relend-prefix-seal-and-serve-4
 slice-relend-prefix-seal-and-serve-4 c =
     let start = start-of-seal-and-serve-arg8 (c .before .before .before) in
     let a = start .args in
     let p = start .pre .0 in
-    kept-room (p .1) (p .4) (entry start) (p .5) .never
+    p .3 .room .never
 
 slice-aggregate-seal-and-serve-12 : tie.Need-slice-aggregate-seal-and-serve-12
 slice-aggregate-seal-and-serve-12 c =
     let start = start-of-seal-and-serve-arg8 (c .before .before .before .before) in
     let a = start .args in
     let p = start .pre .0 in
-    sym (length-take-le 64 (a .never .now) (kept-room (p .1) (p .4) (entry start) (p .5) .never))
+    sym (length-take-le 64 (a .never .now) (p .3 .room .never))
 
 slice-relend-prefix-seal-and-serve-5 : tie.Need-slice-relend-prefix-seal-and-serve-5
 slice-relend-prefix-seal-and-serve-5 c =
     let start = start-of-seal-and-serve-arg8 (c .before .before .before .before) in
     let a = start .args in
     let p = start .pre .0 in
-    kept-room (p .1) (p .4) (entry start) (p .5) .node-queue
+    p .3 .room .node-queue
 
 slice-aggregate-seal-and-serve-13 : tie.Need-slice-aggregate-seal-and-serve-13
 slice-aggregate-seal-and-serve-13 c =
     let start = start-of-seal-and-serve-arg13 c in
     let a = start .args in
     let p = start .pre .0 in
-    sym (length-take-le 4096 (a .node-queue .now) (kept-room (p .1) (p .4) (entry start) (p .5) .node-queue))
+    sym (length-take-le 4096 (a .node-queue .now) (p .3 .room .node-queue))
 
 slice-relend-prefix-seal-and-serve-6 : tie.Need-slice-relend-prefix-seal-and-serve-6
 slice-relend-prefix-seal-and-serve-6 c =
     let start = start-of-seal-and-serve-arg13 c in
     let a = start .args in
     let p = start .pre .0 in
-    kept-room (p .1) (p .4) (entry start) (p .5) .row-queues
+    p .3 .room .row-queues
 
 slice-aggregate-seal-and-serve-14 : tie.Need-slice-aggregate-seal-and-serve-14
 slice-aggregate-seal-and-serve-14 c =
     let start = start-of-seal-and-serve-arg13 (c .before) in
     let a = start .args in
     let p = start .pre .0 in
-    sym (length-take-le 1024 (a .row-queues .now) (kept-room (p .1) (p .4) (entry start) (p .5) .row-queues))
+    sym (length-take-le 1024 (a .row-queues .now) (p .3 .room .row-queues))
 
 slice-relend-prefix-seal-and-serve-7 : tie.Need-slice-relend-prefix-seal-and-serve-7
 slice-relend-prefix-seal-and-serve-7 c =
     let start = start-of-seal-and-serve-arg13 (c .before) in
     let a = start .args in
     let p = start .pre .0 in
-    kept-room (p .1) (p .4) (entry start) (p .5) .gcds
+    p .3 .room .gcds
 
 slice-aggregate-seal-and-serve-15 : tie.Need-slice-aggregate-seal-and-serve-15
 slice-aggregate-seal-and-serve-15 c =
     let start = start-of-seal-and-serve-arg13 (c .before .before) in
     let a = start .args in
     let p = start .pre .0 in
-    sym (length-take-le 1025 (a .gcds .now) (kept-room (p .1) (p .4) (entry start) (p .5) .gcds))
+    sym (length-take-le 1025 (a .gcds .now) (p .3 .room .gcds))
 
 slice-relend-prefix-seal-and-serve-8 : tie.Need-slice-relend-prefix-seal-and-serve-8
 slice-relend-prefix-seal-and-serve-8 c =
     let start = start-of-seal-and-serve-arg13 (c .before .before) in
     let a = start .args in
     let p = start .pre .0 in
-    kept-room (p .1) (p .4) (entry start) (p .5) .search
+    p .3 .room .search
 
 slice-aggregate-seal-and-serve-16 : tie.Need-slice-aggregate-seal-and-serve-16
 slice-aggregate-seal-and-serve-16 c =
     let start = start-of-seal-and-serve-arg13 (c .before .before .before) in
     let a = start .args in
     let p = start .pre .0 in
-    sym (length-take-le 4096 (a .search .now) (kept-room (p .1) (p .4) (entry start) (p .5) .search))
+    sym (length-take-le 4096 (a .search .now) (p .3 .room .search))
 
 seal-and-serve-requires : tie.Need-seal-and-serve-requires
 seal-and-serve-requires c κs =
@@ -213,7 +213,7 @@ seal-and-serve-requires c κs =
     let a = start .args in
     let w = start .pre in
     let p = w .0 in (
-      (p .0, zeros (replicate 2 0) (p .1 .answers), phase-lent (a .bounds .now) (buffers start) (p .0) (a .row-count) (p .2) (a .standing) (p .6) (p .3), kept-lies (p .1) (p .4) (entry start) (p .5) (p .0) (p .3), p .6),
+      (p .0, zeros (replicate 2 0) (p .1 .answers), phase-lent (a .bounds .now) (buffers start) (p .0) (a .row-count) (p .2 .stops) (a .standing) (p .4) (p .2 .fresh), p .3 .lies, p .4),
       w .1,
       w .2,
       w .3,
@@ -228,11 +228,10 @@ returns c =
     let k = t .kept .1 .1 .1 .1 .1 .1 .1 .1 .1 .1 in
     let same : Same (cutKept (entry start)) (after after-seal-and-serve) =
     record { figures = k .0; cursors = k .1 .0; sure = k .1 .1 .0; never = k .1 .1 .1 .0; node-queue = k .1 .1 .1 .1 .0; row-queues = k .1 .1 .1 .1 .1 .0; gcds = k .1 .1 .1 .1 .1 .1 .0; search = k .1 .1 .1 .1 .1 .1 .1 .0; answers = k .1 .1 .1 .1 .1 .1 .1 .1 .0 } in
-    λ f k₀ s z r e d.
-    let lies = kept-lies k₀ r (entry start) e f z in
-    let lent = phase-lent (a .bounds .now) (buffers start) f (a .row-count) s (a .standing) d z in
-    kept-leaves k₀ r (entry start) e (take (a .standing .thresholds) (a .bounds .now)) (cutBuilt (a .row-count) (a .standing .nodes) (buffers start)) (readAt (length (a .input .now)) (a .input .now) (a .at) f) (after after-seal-and-serve) (t .result)
-    (t .ensures .0 f (zeros (replicate 2 0) (k₀ .answers)) lent lies d) same (t .ensures .1)
+    λ f k₀ s g d.
+    let lent = phase-lent (a .bounds .now) (buffers start) f (a .row-count) (s .stops) (a .standing) d (s .fresh) in
+    begins-leaves k₀ f (entry start) (a .rings) g (after after-seal-and-serve) same (take (a .standing .thresholds) (a .bounds .now)) (cutBuilt (a .row-count) (a .standing .nodes) (buffers start)) (readAt (length (a .input .now)) (a .input .now) (a .at) f) (t .result)
+    (t .ensures .0 f (zeros (replicate 2 0) (k₀ .answers)) lent (g .lies) d) (t .ensures .1)
 
 pub lend-spec : {M : Type 1} → statement M
 lend-spec =

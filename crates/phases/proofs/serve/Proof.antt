@@ -2,8 +2,8 @@
 use mathlib.Core.Path.{refl, sym, subst, _∙_}
 use Rattle.memory.specs.Buffers.{Kept, kept}
 use Rattle.serve.specs.Serve.{Same}
-use Rattle.phases.specs.Phase.{Leaves}
-use Rattle.phases.specs.PhaseLaws.{ending-seals, ending-none, leaves-none}
+use Rattle.phases.specs.Phase.{LeavesOn}
+use Rattle.phases.specs.PhaseLaws.{sealable-blank, begins-clear, ending-seals, ending-none, leaves-none}
 use borrow.Author.Needs.{needs}
 use Rattle.phases.proofs.serve.Statement.{statement}
 use Rattle.phases.proofs.serve.Tie as tie
@@ -80,7 +80,7 @@ lend-requires c κs =
     let start = start-of after-clear-kept in
     let p = start .pre in
     let w = p .2 (then1 .if1 .taken) in
-    ((w .0 .0, entry start, w .0 .1, w .0 .2, p .0, after-clear-kept .clear-kept .ensures, w .0 .3), w .1, w .2, p .1)
+    ((w .0 .0, entry start, sealable-blank _ _ (w .0 .0) _ (w .0 .1) (w .0 .2), begins-clear (entry start) (p .0) (cleared after-clear-kept) (after-clear-kept .clear-kept .ensures) (w .0 .0) (w .0 .2), w .0 .3), w .1, w .2, p .1)
 
 returns : tie.Need-returns
 returns c =
@@ -92,8 +92,8 @@ returns c =
     let t = after-lend .lend in
     let yes-seal = then1 .if1 .taken in
     λ f z d s.
-    subst (Leaves (entry start) (after after-lend) (t .result)) (sym (ending-seals (a .input .now) f (a .read) yes-seal))
-    (t .ensures f (entry start) (s yes-seal) z (start .pre .0) (after-clear-kept .clear-kept .ensures) d)
+    subst (LeavesOn (entry start) (after after-lend) (t .result)) (sym (ending-seals (a .input .now) f (a .read) yes-seal))
+    (t .ensures f (entry start) (sealable-blank _ _ f _ (s yes-seal) z) (begins-clear (entry start) (start .pre .0) (cleared after-clear-kept) (after-clear-kept .clear-kept .ensures) f z) d)
 
 returns-2 : tie.Need-returns-2
 returns-2 c =
@@ -102,8 +102,8 @@ returns-2 c =
     let start = start-of after-clear-kept in
     let a = start .args in
     λ f z d s.
-    subst (Leaves (entry start) (cleared after-clear-kept) _) (sym (ending-none (a .input .now) f (a .read) (else1 .if1 .left)))
-    (leaves-none (entry start) (start .pre .0) (cleared after-clear-kept) (after-clear-kept .clear-kept .ensures) f z (a .read) d _ refl refl refl refl)
+    subst (LeavesOn (entry start) (cleared after-clear-kept) _) (sym (ending-none (a .input .now) f (a .read) (else1 .if1 .left)))
+    (leaves-none (entry start) (start .pre .0) (cleared after-clear-kept) (after-clear-kept .clear-kept .ensures) f z (a .read) d _ refl refl refl refl refl)
 
 pub serve-spec : {M : Type 1} → statement M
 serve-spec =

@@ -8,7 +8,7 @@ use Rattle.state.specs.declared.Step.the-variants.{Unchanged}
 use Rattle.queues.specs.Queue.{queue}
 use Rattle.queues.specs.Marks.{Marks, marks}
 use Rattle.queues.specs.Waiting.{Waits}
-use Rattle.residual.specs.Residual.{forceFrom}
+use Rattle.residual.specs.Residual.{placed, forceFrom}
 use Rattle.residual.specs.ForceLaws.{force-skip, turn-waits, turn-stops, turn-goes-on, force-end}
 use Rattle.residual.proofs.force_from.Statement.{statement}
 use Rattle.residual.proofs.force_from.Tie as tie
@@ -17,8 +17,8 @@ abbrev Inv-loop : tie.InvT-loop
 Inv-loop conditions weights gcds i sure₀ never₀ nodes₀ position₀ prefix₀ so-far₀ sure never nodes position prefix so-far =
     (position ≤ length weights) × (length sure ≡ length sure₀) × (length never ≡ length never₀) × (length nodes ≡ length nodes₀)
     × Waits (marks sure never (queue nodes (so-far .ring)))
-    × (forceFrom i gcds (drop position (terms conditions weights)) prefix (marks sure never (queue nodes (so-far .ring))) (so-far .step)
-    ≡ forceFrom i gcds (terms conditions weights) 0 (marks sure₀ never₀ (queue nodes₀ (so-far₀ .ring))) Unchanged)
+    × (forceFrom i (placed gcds) (drop position (terms conditions weights)) prefix (marks sure never (queue nodes (so-far .ring))) (so-far .step)
+    ≡ forceFrom i (placed gcds) (terms conditions weights) 0 (marks sure₀ never₀ (queue nodes₀ (so-far₀ .ring))) Unchanged)
 
 abbrev μ-loop : tie.MeasureT-loop
 μ-loop conditions weights gcds i sure₀ never₀ nodes₀ position₀ prefix₀ so-far₀ sure never nodes position prefix so-far = length weights - position
@@ -81,7 +81,7 @@ loop-again c =
       w .inv .3,
       w .inv .4,
       sym
-          (force-skip (g .i) (g .gcds .now) (g .conditions .now) (g .weights .now) (w .position) (w .prefix) (here at-loop) (w .so-far .step) (omega arith) (omega arith)
+          (force-skip (g .i) (placed (g .gcds .now)) (g .conditions .now) (g .weights .now) (w .position) (w .prefix) (here at-loop) (w .so-far .step) (omega arith) (omega arith)
           (sym (c .before .decided .ensures) ∙ c .if1 .taken))
           ∙ w .inv .5,
     )
@@ -107,7 +107,7 @@ returns c =
     let t = in-loop-of (gcd-of b) .loop-test .taken in
     let j = b .before .joined-decision in
     let f = force-term-of b .force-term in
-    (turn-stops (g .i) (g .gcds .now) (g .conditions .now) (g .weights .now) (w .position) (w .prefix) (here at-loop) (w .so-far .step) (omega (arith, t, p .same)) (omega (arith, t)) (p .same)
+    (turn-stops (g .i) (placed (g .gcds .now)) (g .conditions .now) (g .weights .now) (w .position) (w .prefix) (here at-loop) (w .so-far .step) (omega (arith, t, p .same)) (omega (arith, t)) (p .same)
     (sym (else1-of b .before .decided .ensures) ∙ else1-of b .if1 .left) (gcd-of b .gcd .result) (gcd-of b .gcd .ensures)
     (f .last .1 .1 .1 .1 .0) (f .last .1 .1 .1 .1 .1 .0) (f .last .1 .1 .1 .1 .1 .1 .0) (f .result .ring) (j .result .ring) (f .result .step) (j .result .step)
     (f .ensures) (j .ensures .1) (j .ensures .0) (sym (b .contradicts .ensures) ∙ c .if2 .taken))
@@ -127,11 +127,11 @@ loop-again-2 c =
       kept-lengths b .0,
       kept-lengths b .1,
       kept-lengths b .2,
-      turn-waits (g .i) (g .gcds .now) (g .conditions .now) (g .weights .now) (w .position) (w .prefix) (here at-loop) (w .so-far .step) (omega (arith, t, p .same)) (omega (arith, t)) (p .same)
+      turn-waits (g .i) (placed (g .gcds .now)) (g .conditions .now) (g .weights .now) (w .position) (w .prefix) (here at-loop) (w .so-far .step) (omega (arith, t, p .same)) (omega (arith, t)) (p .same)
           (sym (else1-of b .before .decided .ensures) ∙ else1-of b .if1 .left) (gcd-of b .gcd .result) (gcd-of b .gcd .ensures)
           (f .last .1 .1 .1 .1 .0) (f .last .1 .1 .1 .1 .1 .0) (f .last .1 .1 .1 .1 .1 .1 .0) (f .result .ring) (j .result .ring) (f .result .step) (j .result .step)
           (f .ensures) (j .ensures .1) (j .ensures .0) (p .below (w .position) (omega (arith, t, p .same))) (w .inv .4),
-      (turn-goes-on (g .i) (g .gcds .now) (g .conditions .now) (g .weights .now) (w .position) (w .prefix) (here at-loop) (w .so-far .step) (omega (arith, t, p .same)) (omega (arith, t)) (p .same)
+      (turn-goes-on (g .i) (placed (g .gcds .now)) (g .conditions .now) (g .weights .now) (w .position) (w .prefix) (here at-loop) (w .so-far .step) (omega (arith, t, p .same)) (omega (arith, t)) (p .same)
           (sym (else1-of b .before .decided .ensures) ∙ else1-of b .if1 .left) (gcd-of b .gcd .result) (gcd-of b .gcd .ensures)
           (f .last .1 .1 .1 .1 .0) (f .last .1 .1 .1 .1 .1 .0) (f .last .1 .1 .1 .1 .1 .1 .0) (f .result .ring) (j .result .ring) (f .result .step) (j .result .step)
           (f .ensures) (j .ensures .1) (j .ensures .0) (c .gcd2 .result) (c .gcd2 .ensures) (sym (b .contradicts .ensures) ∙ c .before .if2 .left))
@@ -142,7 +142,7 @@ returns-2 : tie.Need-returns-2 Inv-loop μ-loop
 returns-2 c =
     let g = start-of (c .before) .args in
     let w = c .before .loop in
-    sym (force-end (g .i) (g .gcds .now) (g .conditions .now) (g .weights .now) (w .position) (w .prefix) (here (c .before)) (w .so-far .step) (c .loop-test .left)) ∙ w .inv .5
+    sym (force-end (g .i) (placed (g .gcds .now)) (g .conditions .now) (g .weights .now) (w .position) (w .prefix) (here (c .before)) (w .so-far .step) (c .loop-test .left)) ∙ w .inv .5
 
 pub force-from-spec : {M : Type 1} → statement M
 force-from-spec =

@@ -9,7 +9,7 @@ use Rattle.state.specs.declared.Step.the-variants.{Unchanged}
 use Rattle.queues.specs.Queue.{queue}
 use Rattle.queues.specs.Marks.{marks, decided}
 use Rattle.residual.specs.declared.Interval.{Interval}
-use Rattle.residual.specs.Residual.{forceFrom}
+use Rattle.residual.specs.Residual.{placed, forceFrom}
 use Rattle.residual.specs.IntervalLaws.{natural-small}
 use Rattle.residual.specs.ForceLaws.{residual-none, residual-rest, residual-forced}
 use borrow.Author.Needs.{needs}
@@ -98,7 +98,7 @@ returns-3 c =
     (sym (else2-of c .before .nothing-forced .ensures) ∙ else2-of c .if2 .left)
     (decided (marks (l .0) (l .1 .0) (queue (l .1 .1 .0) (f .result .ring))) (f .result .step)) (s .last .1 .1 .1 .1 .0) (s .ensures)
     (f .ensures
-    ∙ ap (λ (i : Interval). forceFrom i (s .last .1 .1 .1 .1 .0) (terms (g .conditions .now) (g .weights .now)) 0 (marks (g .sure .now) (g .never .now) (queue (g .node-queue .now) (g .ring))) Unchanged)
+    ∙ ap (λ (i : Interval). forceFrom i (placed (s .last .1 .1 .1 .1 .0)) (terms (g .conditions .now) (g .weights .now)) 0 (marks (g .sure .now) (g .never .now) (queue (g .node-queue .now) (g .ring))) Unchanged)
     (force-from-of c .before .before .before .before .interval-of .ensures))
 
 pub threshold-residual-spec : {M : Type 1} → statement M

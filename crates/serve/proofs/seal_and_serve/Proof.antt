@@ -7,7 +7,7 @@ use Rattle.memory.specs.Buffers.{heldRows, Built, built, Kept, kept}
 use Rattle.records.specs.declared.Record.the-variants.{Seal}
 use Rattle.files.specs.File.{File, standing, apply, outcome}
 use Rattle.serve.specs.declared.Reached.{Reached}
-use Rattle.serve.specs.Serve.{Lies, Seals, noRings, Reaches, Same}
+use Rattle.serve.specs.Serve.{Lies, Seals, Reaches, Same}
 use Rattle.serve.specs.SealLaws.{seals-holds, seals-shaped, seals-totals, seals-room, seals-waits, seals-flags, seals-reaches, seals-passed, seals-whole}
 use borrow.Author.Needs.{needs}
 use Rattle.serve.proofs.seal_and_serve.Statement.{statement}
@@ -57,7 +57,7 @@ first p =
 -- With the seal the records behind it have a beginning.
 reaches : (p : tie.After-stood) →
     let s = start-of (seal-of p .before) in
-    (f : File) (base : List (List ℕ)) → Seals (s .args .bounds .now) (buffers s) f → Lies base f (entry s) noRings → s .args .standing ≡ standing f
+    (f : File) (base : List (List ℕ)) → Seals (s .args .bounds .now) (buffers s) f → Lies base f (entry s) (s .args .rings) → s .args .standing ≡ standing f
     → Reaches (s .args .bounds .now) (buffers s) base (sealed (seal-of p)) (first p) (outcome (apply f Seal) [] 0 (first p .at))
 reaches p f base z l e =
     let q = seal-of p in
@@ -65,7 +65,7 @@ reaches p f base z l e =
     let a = s .args in
     let t = q .seal in
     let passed = seals-passed f (a .input .now) (a .at) (s .pre .1) (a .standing) e (s .pre .2) in
-    seals-reaches (a .bounds .now) (buffers s) base f (entry s) z l (sealed q) (t .result .rings) (t .result .step) (t .ensures .0) passed
+    seals-reaches (a .bounds .now) (buffers s) base f (entry s) (a .rings) z l (sealed q) (t .result .rings) (t .result .step) (t .ensures .0) passed
     (t .ensures .1 (l .tidy)) refl refl refl (first p) refl refl refl (a .standing) e (p .stood .ensures)
 
 -- Behind the records each buffer is as long as it was lent.
@@ -91,14 +91,14 @@ seal-requires c κs =
     let a = start .args in
     let p = start .pre .0 in (
       (
-        seals-holds (a .bounds .now) (buffers start) (p .1) (p .0) (entry start) (p .2) (p .3),
-        seals-shaped (a .bounds .now) (buffers start) (p .1) (p .0) (entry start) (p .2) (p .3),
-        seals-totals (a .bounds .now) (buffers start) (p .1) (p .0) (entry start) (p .2) (p .3),
-        seals-room (a .bounds .now) (buffers start) (p .1) (p .0) (entry start) (p .2) (p .3),
+        seals-holds (a .bounds .now) (buffers start) (p .1) (p .0) (entry start) (a .rings) (p .2) (p .3),
+        seals-shaped (a .bounds .now) (buffers start) (p .1) (p .0) (entry start) (a .rings) (p .2) (p .3),
+        seals-totals (a .bounds .now) (buffers start) (p .1) (p .0) (entry start) (a .rings) (p .2) (p .3),
+        seals-room (a .bounds .now) (buffers start) (p .1) (p .0) (entry start) (a .rings) (p .2) (p .3),
       ),
       (
-        seals-waits (a .bounds .now) (buffers start) (p .1) (p .0) (entry start) (p .2) (p .3),
-        seals-flags (a .bounds .now) (buffers start) (p .1) (p .0) (entry start) (p .2) (p .3),
+        seals-waits (a .bounds .now) (buffers start) (p .1) (p .0) (entry start) (a .rings) (p .2) (p .3),
+        seals-flags (a .bounds .now) (buffers start) (p .1) (p .0) (entry start) (a .rings) (p .2) (p .3),
       ),
     )
 

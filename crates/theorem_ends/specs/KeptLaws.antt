@@ -126,7 +126,7 @@ pub record Kept (f : File) : Type 0 where
   pub gcds : length (f .gcds) ≡ maxGcds
   pub answers : length (f .answers) ≤ 64
 
-kept-begun : Kept begun
+pub kept-begun : Kept begun
 unfolding begun
 kept-begun = record {
   good = good-begun;
@@ -170,18 +170,22 @@ module _ (f : File) (k : Kept f) where
       record { good = g; live = q .0; gcds = q .1; answers = one-more (sifted (s .step) (s .visits)) h }
   kept-by (idles x) h g = record { good = g; live = k .live; gcds = k .gcds; answers = k .answers }
 
-  kept-apply : (r : Record) → refusal f r ≡ 0 → Kept (apply f r)
+  pub kept-apply : (r : Record) → refusal f r ≡ 0 → Kept (apply f r)
   unfolding apply
   kept-apply r h = kept-by (action r) (taken f r h .room) (good-apply f (k .good) r h)
 
-kept-after : (f : File) (rs : List Record) → Kept f → Passed f rs → Kept (after f rs)
+pub kept-after : (f : File) (rs : List Record) → Kept f → Passed f rs → Kept (after f rs)
 unfolding after
 kept-after f [] k p = k
 kept-after f (r ∷ rs) k p = kept-after (apply f r) rs (kept-apply f k r (p .0)) (p .1)
 
+-- What the records from an offset on leave fits the buffers if the file before them does.
+pub kept-read : (n o : ℕ) (bytes : List ℕ) (f : File) → Kept f → Kept (readFrom n o bytes f [] .file)
+unfolding after
+kept-read n o bytes f k =
+    subst Kept (sym (read-taken n o bytes f f [] refl)) (kept-after f (readFrom n o bytes f [] .records) k (read-passed n o bytes f f [] refl tt))
+
 -- WHAT EVERY FILE LEAVES FITS THE BUFFERS
 pub kept-file : (input : List ℕ) → Kept (fileOf input .file)
-unfolding fileOf after
-kept-file input =
-    subst Kept (sym (read-taken (length input) 0 input begun begun [] refl))
-    (kept-after begun (readFrom (length input) 0 input begun [] .records) kept-begun (read-passed (length input) 0 input begun begun [] refl tt))
+unfolding fileOf
+kept-file input = kept-read (length input) 0 input begun kept-begun
