@@ -142,7 +142,7 @@ def store():
 # ---- every state, in a loop
 
 ROWS = '''use Rattle.memory.specs.Limits.{maxThresholds}
-use Rattle.between.specs.Numbers.{statesOf}
+use Rattle.row_moves.specs.Numbers.{statesOf}
 '''
 ARRAYS = '''abbrev Figures : RattleType
 Figures = Array i64 4
@@ -339,8 +339,8 @@ rest = seq (assign (place 0 []) (rvOpd opdUnit)) return
 
 # ---- the listing
 
-LISTING = '''use Rattle.listing.specs.Text.{Wrote, joined, Joins}
-use Rattle.listing.specs.TextLaws.{wrote-same, joins-none, joins-room, joins-next, joins-done}
+LISTING = '''use Rattle.text.specs.Text.{Wrote, joined, Joins}
+use Rattle.text.specs.TextLaws.{wrote-same, joins-none, joins-room, joins-next, joins-done}
 use Rattle.listing.specs.Lines.{maxRowLine, maxLastLine, maxFront, maxListing, rowLine, rowAt, frontText, rowCount, lastText, Listable}
 use Rattle.listing.specs.Shows.{Listed}
 use Rattle.listing.specs.ListLaws.{front-room, rows-room, last-room, list-all}
@@ -1069,22 +1069,22 @@ def plan_in():
     first = first_callee()
     core = Callee('core', 'Rattle.planner.proofs.run', 'planner·run')
     lines = Callee('lines', 'Rattle.listing.proofs.list', 'listing·list')
-    pair = Callee('pair', 'Rattle.plan.proofs.together', 'plan·together')
+    pair = Callee('pair', 'Rattle.report.proofs.together', 'report·together')
     all_ = buffers()
     numbers = [q for q in all_ if q.name not in ('input', 'states')]
-    p = Proof('plan', 'plan_in', 'The local array of states is lent to `planner::run`, then to `list`; what is listed is lent again to the first, every other buffer is given up to it.',
+    p = Proof('report', 'plan_in', 'The local array of states is lent to `planner::run`, then to `list`; what is listed is lent again to the first, every other buffer is given up to it.',
               [all_[0], Slice('out', 'u8', 'ℕ', True)] + numbers, [first, core, lines, pair], STATE + FIRST + ROWS + GIVEN + '''use Rattle.memory.specs.Buffers.{Work, rawLists, raw as rawOf, heldRows, built, kept, work}
 use Rattle.files.specs.Contents.{out}
 use Rattle.planner.specs.Planner.{left, plan}
 use Rattle.listing.specs.Lines.{maxListing, Listable}
 use Rattle.listing.specs.Shows.{Listed}
-use Rattle.plan.specs.declared.Planned.{Planned}
-use Rattle.plan.specs.Plan.{Plans}
-use Rattle.plan.specs.Ready.{Ready, planOf}
-use Rattle.plan.specs.PlanLaws.{ran-listable, ran-plans}
-use Rattle.plan.proofs.Planned as P
-use Rattle.plan.proofs.Planned.Laws as P′
-use Rattle.plan.proofs.Array.{arrayTy, lends-array, array-back}
+use Rattle.report.specs.declared.Planned.{Planned}
+use Rattle.report.specs.Plan.{Plans}
+use Rattle.report.specs.Ready.{Ready, planOf}
+use Rattle.report.specs.PlanLaws.{ran-listable, ran-plans}
+use Rattle.report.proofs.Planned as P
+use Rattle.report.proofs.Planned.Laws as P′
+use Rattle.report.proofs.Array.{arrayTy, lends-array, array-back}
 ''', 'Ready (a .0 .now) (a .1 .0 .now) (' + work([f'a{proj(2 + i)} .now' for i in range(21)]).replace('raw (', 'rawOf (', 1) + ')')
     by = {q.name: q for q in p.params}
     inp, out_, sure, never, answers = (by[x] for x in ('input', 'out', 'sure', 'never', 'answers'))
@@ -1313,7 +1313,7 @@ use Rattle.plan.proofs.Array.{arrayTy, lends-array, array-back}
 {p.ending('(𝓣 .C) (𝓣 .Λ) (fmOf 𝓤 H (W .laws) 𝓣)')}''')
 
 
-WALKS = {'states/load': load, 'states/store': store, 'states/show_states': show_states, 'listing/row_lines': row_lines, 'listing/list': lent_list, 'planner/run': planner_run, 'plan/plan_in': plan_in}
+WALKS = {'states/load': load, 'states/store': store, 'states/show_states': show_states, 'listing/row_lines': row_lines, 'listing/list': lent_list, 'planner/run': planner_run, 'report/plan_in': plan_in}
 
 
 def main():

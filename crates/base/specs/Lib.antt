@@ -12,3 +12,4 @@ pub mod All
 pub mod AllLaws
 pub mod SignedLaws
 pub mod Signed
+pub mod LaidLaws

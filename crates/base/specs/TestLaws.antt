@@ -62,3 +62,6 @@ pub same-bool : (a b : Bool) → (a ≡ true → b ≡ true) → (b ≡ true →
 same-bool true b f g = sym (f refl)
 same-bool false true f g = g refl
 same-bool false false f g = refl
+
+pub contrary : {A : Type 0} → true ≡ false → A
+contrary h = absurd (unequal cc)

@@ -14,34 +14,35 @@ use Rattle.memory.specs.Buffers.{rawLists, Raw, raw, Built, Kept, Work, work, f
 use Rattle.memory.specs.LengthsLaws.{Sized, fits-sized, fits-input}
 use Rattle.numeric.specs.Threshold.{Job}
 use Rattle.numeric.specs.Area.{jobOf}
-use Rattle.thresholds.specs.Rows.{rowsOf}
-use Rattle.prepare.specs.JobBuffers.{rawOf, builtOf}
+use Rattle.rows.specs.Rows.{rowsOf}
+use Rattle.job.specs.JobBuffers.{rawOf, builtOf}
 use Rattle.records.specs.declared.Standing.{Standing}
 use Rattle.records.specs.declared.Record.{Record}
 use Rattle.records.specs.declared.Record.the-variants.{Seal}
-use Rattle.records.specs.declared.Next.the-variants.{Taken}
+use Rattle.checks.specs.declared.Next.the-variants.{Taken}
 use Rattle.records.specs.Record.{recordAt}
 use Rattle.records.specs.Facts.{Action, begins, changes, closes, decides, settles, sifts, idles, action, facts}
-use Rattle.records.specs.Next.{nextAt}
-use Rattle.job.specs.Gathered.{jobIn}
+use Rattle.checks.specs.Next.{nextAt}
+use Rattle.gather.specs.Gathered.{jobIn}
 use Rattle.files.specs.declared.JobRead.{JobRead}
 use Rattle.files.specs.File.{File, standing, refusal, sealedFile, markedFile, settledFile, siftedFile, act, apply, Outcome, refusalAt, readFrom, fileOf}
 use Rattle.files.specs.FileLaws.{zero-or, read-on, read-stop}
 use Rattle.files.specs.Contents.{laid, served, untouched, whole, out, nothing}
 use Rattle.files.specs.JobPart.{JobPart, jobPartOf}
 use Rattle.files.specs.JobPartLaws.{file-goes-on, file-ends}
-use Rattle.files.specs.Held.{Room, HeldPart}
-use Rattle.theorem_ends.specs.Good.{Light, Good}
-use Rattle.theorem_ends.specs.FilesLaws.{good-apply, both, Taken as Passes, taken, building-turn, change-turn, refused-by}
+use Rattle.reading.specs.Held.{Room, HeldPart}
+use Rattle.theorem_limits.specs.Good.{Light, Good}
+use Rattle.theorem_limits.specs.FilesLaws.{good-apply, both, Taken as Passes, taken, building-turn, change-turn, refused-by}
 use Rattle.theorem_holds.specs.GatheredLaws.{gathered-light}
 use Rattle.serve.specs.declared.Reached.{Reached}
 use Rattle.serve.specs.Serve.{readAt}
 use Rattle.serve.specs.ReadLaws.{ended, taken-any, seal-goes}
-use Rattle.phases.specs.Phase.{BuiltRoom, KeptRoom, Blank, Stops, ending, Leaves, LeavesOn}
-use Rattle.phases.specs.JobLaws.{job-ended, job-blank, job-unsealed, leaves-file}
+use Rattle.serve_phase.specs.Phase.{KeptRoom, Blank, Stops, ending, Leaves, LeavesOn}
+use Rattle.build.specs.Built.{Builds}
+use Rattle.job.specs.Rooms.{BuiltRoom}
+use Rattle.serve_phase.specs.JobLaws.{job-ended, job-blank, job-unsealed, leaves-file}
 use Rattle.files.specs.declared.Given.{Given}
-use Rattle.call.specs.Call.{Builds}
-use Rattle.call.specs.CallLaws.{cleared-room}
+use Rattle.reading.specs.ClearedLaws.{cleared-room}
 
 -- ---- a file from its seal on
 

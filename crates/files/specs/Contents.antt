@@ -6,9 +6,9 @@ use lib.ListN.{length}
 use Rattle.base.specs.Laid.{over, pairs, quads}
 use Rattle.state.specs.declared.Step.the-variants.{Unchanged}
 use Rattle.state.specs.Step.{stepNumber}
-use Rattle.thresholds.specs.Rows.{rowsOf}
+use Rattle.rows.specs.Rows.{rowsOf}
 use Rattle.numeric.specs.Area.{jobOf}
-use Rattle.prepare.specs.JobBuffers.{rawOf, builtOf}
+use Rattle.job.specs.JobBuffers.{rawOf, builtOf}
 use Rattle.state.specs.State.{figuresOf, cursorsOf}
 use Rattle.memory.specs.Buffers.{Kept, Work, kept, work, fits, cleared}
 use Rattle.files.specs.declared.Given.{Given}

@@ -14,18 +14,18 @@ use Rattle.state.specs.Step.{contradicts}
 use Rattle.state.specs.State.{noState}
 use Rattle.queues.specs.Queue.{queue, ring, rows}
 use Rattle.queues.specs.Marks.{marks}
-use Rattle.between.specs.Between.{Live, live}
-use Rattle.files.specs.Drain as Drain
-use Rattle.files.specs.Drain.{indexOf}
-use Rattle.files.specs.Sift as Sift
+use Rattle.row_moves.specs.Between.{Live, live}
+use Rattle.drain.specs.Drain as Drain
+use Rattle.drain.specs.Drain.{indexOf}
+use Rattle.drain.specs.Sift as Sift
 use Rattle.job.specs.Job.{standingOf, withChange}
 use Rattle.records.specs.declared.Record.{Record}
 use Rattle.records.specs.declared.Standing.{Standing}
 use Rattle.records.specs.Record.{kindOf, bodyLength}
 use Rattle.records.specs.Facts.{Action, begins, changes, closes, decides, settles, sifts, idles, action}
-use Rattle.records.specs.Checks.{refusedBy, refusedAt}
+use Rattle.checks.specs.Checks.{refusedBy, refusedAt}
 pub use Rattle.records.specs.Record.{bodyOf, recordAt}
-pub use Rattle.records.specs.Checks.{unknownKind, cutBody}
+pub use Rattle.checks.specs.Checks.{unknownKind, cutBody}
 
 -- The answer of a settle or of a sift, a sift's with its visits.
 pub data Answer : Type 0 where

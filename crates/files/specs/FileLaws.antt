@@ -14,7 +14,7 @@ use borrow.Author.Tests.{eq-eqb, ne-eqb}
 use Rattle.records.specs.declared.Record.{Record}
 use Rattle.records.specs.Record.{kindOf, bodyLength}
 use Rattle.records.specs.Facts.{action, facts}
-use Rattle.records.specs.Checks.{Check, first, checks}
+use Rattle.checks.specs.Checks.{Check, first, checks}
 use Rattle.files.specs.File.{File, standing, refusal, apply, Outcome, outcome, bodyOf, recordAt, unknownKind, cutBody, refusalAt, readFrom, after}
 
 -- ONE OF TEN NUMBERS

@@ -7,7 +7,7 @@ use lib.Dec.{eqb}
 use Rattle.records.specs.declared.Record.{Record}
 use Rattle.records.specs.Record.{kindOf, bodyLength, recordAt}
 use Rattle.records.specs.Facts.{action}
-use Rattle.records.specs.Next.{closing}
+use Rattle.checks.specs.Next.{closing}
 use Rattle.files.specs.File.{File, begun, apply, refusalAt}
 
 -- The file then, the records that were taken, the refusal with its offset (number 0 is none), and whether the record there is a seal that

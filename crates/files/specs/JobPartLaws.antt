@@ -13,7 +13,7 @@ use Rattle.base.specs.TestLaws.{true-false, unequal}
 use Rattle.records.specs.declared.Record.{Record}
 use Rattle.records.specs.Record.{kindOf, bodyLength, recordAt}
 use Rattle.records.specs.Facts.{action}
-use Rattle.records.specs.Next.{closing}
+use Rattle.checks.specs.Next.{closing}
 use Rattle.files.specs.File.{File, begun, apply, refusalAt, outcome, readFrom, fileOf}
 use Rattle.files.specs.FileLaws.{zero-or, read-on, read-stop, read-enough}
 use Rattle.files.specs.JobPart.{JobPart, jobPart, readJob, jobPartFrom, jobPartOf}

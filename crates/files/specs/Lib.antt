@@ -1,13 +1,6 @@
-pub mod Drain
-pub mod Sift
-pub mod DrainLaws
-pub mod SiftLaws
 pub mod File
 pub mod Listing
 pub mod Contents
 pub mod FileLaws
 pub mod JobPart
 pub mod JobPartLaws
-pub mod Held
-pub mod NotedLaws
-pub mod HeldLaws

@@ -1,10 +1,9 @@
 -- What the program prints, as bytes.
-use Prim.Native.Nat.{ℕ, zero, suc, _+_, _/_, _%_}
+use Prim.Native.Nat.{ℕ, zero, suc, _+_}
 use mathlib.Core.Bool.{true, false, cond}
 use mathlib.Core.List.{List, [], _∷_, _++_}
 use lib.ListN.{getD}
-use lib.Dec.{eqb, ltb}
-use lib.IntN.{ℤ, pos, negsuc}
+use lib.Dec.{eqb}
 use Prim.Native.Char.{code}
 use Prim.Native.String.{String}
 use Rattle.state.specs.declared.Step.{Step}
@@ -14,8 +13,9 @@ use Rattle.state.specs.declared.Upper.{Upper}
 use Rattle.state.specs.declared.Upper.the-variants.{Open, Under}
 use Rattle.state.specs.State.{noState}
 use Rattle.words.specs.Mask.{bit, count}
-use Rattle.thresholds.specs.Rows.{Row, rowsOf}
+use Rattle.rows.specs.Rows.{Row, rowsOf}
 use Rattle.files.specs.File.{File, Answer, settled, sifted, Outcome}
+use Rattle.text.specs.Decimal.{decimal, decimalZ}
 
 -- The bytes of a text.
 unfoldable pub text : String → List ℕ
@@ -26,18 +26,6 @@ abbrev pub stepWord : Step → List ℕ
 stepWord Unchanged = text "unchanged"
 stepWord Changed = text "changed"
 stepWord Contradiction = text "contradiction"
-
--- A number in decimal: the digits before those of the last argument. No number here has more than 20.
-unfoldable pub digits : ℕ → ℕ → List ℕ → List ℕ
-digits zero n after = after
-digits (suc k) n after = elim (ltb n 10) [ true ↦ (48 + n) ∷ after | false ↦ digits k (n / 10) ((48 + n % 10) ∷ after) ]
-
-abbrev pub decimal : ℕ → List ℕ
-decimal n = digits 20 n []
-
-abbrev pub decimalZ : ℤ → List ℕ
-decimalZ (pos n) = decimal n
-decimalZ (negsuc n) = 45 ∷ decimal (suc n)
 
 -- `-` for no upper limit.
 abbrev pub upperText : Upper → List ℕ

@@ -13,7 +13,7 @@ use Rattle.base.specs.Laid.{numbers}
 use Rattle.numeric.specs.Threshold.{Term, term, ThresholdOf, Threshold, Job}
 use Rattle.numeric.specs.Area.{Entry, joined, weighed, weighedThreshold, Draft, jobOf}
 use Rattle.numeric.specs.Slices.{terms}
-use Rattle.thresholds.specs.Raw.{stretch}
+use Rattle.base.specs.Parts.{stretch}
 use Rattle.job.specs.Job.{lastNode, lastList, allTerms, standingOf, onLast, addTerm}
 use Rattle.job.specs.Taken.{openedBy, addedTo, withThreshold, withTerm}
 

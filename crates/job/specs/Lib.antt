@@ -1,11 +1,6 @@
 pub mod Job
 pub mod Taken
-pub mod Gathered
 pub mod JobLaws
-pub mod GatheredLaws
-pub mod TakenLaws
-pub mod JoinLaws
-pub mod RawLaws
-pub mod Built
-pub mod SoundLaws
-pub mod BuiltLaws
+pub mod JobBuffers
+pub mod Given
+pub mod Rooms

@@ -109,6 +109,6 @@ pub extern "C" fn planner_list(input: &[u8], out: &mut [u8]) -> usize
     if out.len() < 262144 {
         return 0;
     }
-    let planned = plan::plan(input, out);
+    let planned = report::plan(input, out);
     planned.length
 }

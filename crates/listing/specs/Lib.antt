@@ -1,9 +1,5 @@
-pub mod Text
-pub mod TextLaws
-pub mod NumberLaws
 pub mod Lines
 pub mod LinesLaws
 pub mod Shows
 pub mod ShowsLaws
 pub mod ListLaws
-pub mod Numbers

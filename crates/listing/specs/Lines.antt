@@ -12,16 +12,10 @@ use Rattle.state.specs.State.{noState}
 use Rattle.words.specs.Mask.{bit, count}
 use Rattle.memory.specs.Limits.{maxNodes, maxThresholds}
 use Rattle.files.specs.File.{Answer, settled, sifted}
-use Rattle.files.specs.Listing.{text, decimal, figures, answerLine}
+use Rattle.files.specs.Listing.{text, figures, answerLine}
+use Rattle.text.specs.Decimal.{decimal}
 use Rattle.files.specs.declared.Given.{Given}
-use Rattle.listing.specs.Text.{joined}
-
--- THE LENGTH: the most bytes that a number, a step's word, the figures of a row and each line take.
-abbrev pub maxDecimal : ℕ
-maxDecimal = 20
-
-abbrev pub maxSigned : ℕ
-maxSigned = 21
+use Rattle.text.specs.Text.{joined}
 
 abbrev pub maxStep : ℕ
 maxStep = 13

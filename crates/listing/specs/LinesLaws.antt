@@ -10,9 +10,10 @@ use Rattle.state.specs.declared.Step.the-variants.{Contradiction}
 use Rattle.words.specs.Mask.{bit, count}
 use Rattle.memory.specs.Limits.{maxNodes}
 use Rattle.files.specs.File.{settled, sifted}
-use Rattle.files.specs.Listing.{text, decimal}
+use Rattle.files.specs.Listing.{text}
+use Rattle.text.specs.Decimal.{decimal}
 use Rattle.files.specs.declared.Given.{Given}
-use Rattle.listing.specs.Text.{joined}
+use Rattle.text.specs.Text.{joined}
 use Rattle.listing.specs.Lines.{stepOf, answerOf, nodeAt, endLine, refusedLine, decided, nodeText, lastText}
 
 pub step-other : (n : ℕ) → (n ≡ 0 → ⊥) → (n ≡ 1 → ⊥) → stepOf n ≡ Contradiction

@@ -14,13 +14,14 @@ use Rattle.state.specs.declared.State.{State}
 use Rattle.state.specs.State.{noState}
 use Rattle.words.specs.Mask.{digit, bit, count}
 use Rattle.words.specs.CountLaws.{count-above}
-use Rattle.thresholds.specs.Rows.{Row, rowsOf}
+use Rattle.rows.specs.Rows.{Row, rowsOf}
 use Rattle.memory.specs.Limits.{maxNodes}
 use Rattle.files.specs.File.{File, Answer, settled, sifted, Outcome, begun}
 use Rattle.files.specs.Contents.{answerNumber, answerVisits, givenOf}
-use Rattle.files.specs.Listing.{text, digits, decimal, answerLine, answerLines, nodeLines, rowLines, stateLines, lastLine, listing}
+use Rattle.files.specs.Listing.{text, answerLine, answerLines, nodeLines, rowLines, stateLines, lastLine, listing}
+use Rattle.text.specs.Decimal.{digits, decimal}
 use Rattle.files.specs.declared.Given.{Given}
-use Rattle.listing.specs.Text.{joined}
+use Rattle.text.specs.Text.{joined}
 use Rattle.listing.specs.Lines.{stepOf, answerOf, answerAt, nodeAt, rowLine, rowAt, endLine, refusedLine, decided, nodeText, rowCount, lastText, listed, Listable}
 use Rattle.listing.specs.Shows.{Inside, Held, ten, Shows, untouched, held}
 

@@ -1,168 +1,30 @@
 // The listing of document 01: what the call gave back and what it left in its buffers, as bytes in a lent buffer of fixed length.
 ghost use mathlib.Core.Path.{_≡_};
 ghost use mathlib.Core.Bool.{true};
-ghost use mathlib.Core.List.{[], _∷_, _++_};
-ghost use Prim.Native.Nat.{_+_, _*_, _<_, _≤_, _%_};
-ghost use lib.ListN.{length, drop};
-ghost use lib.IntN.{natAbs};
-ghost use Rattle.files.specs.Listing.{text as textOf, decimal as decimalOf, decimalZ, upperText, stepWord, figures as figuresText, answerLine};
-ghost use Rattle.listing.specs.Text.{Wrote, joined};
-ghost use Rattle.listing.specs.Numbers.{unit, pair, four as fourOf};
-ghost use Rattle.listing.specs.Lines.{maxDecimal, maxSigned, maxStep, maxFigures, maxAnswerLine, maxNodeLine, maxRowLine, maxLastLine, maxNodeLines, maxFront, maxListing};
-ghost use Rattle.listing.specs.Lines.{stepOf, answerOf, answerAt, nodeAt, rowLine, rowAt, endLine, refusedLine, decided, nodeText, frontText, rowCount, lastText, InMasks, Answered, Listable};
+ghost use mathlib.Core.List.{_++_};
+ghost use Prim.Native.Nat.{_+_, _*_, _<_, _≤_};
+ghost use lib.ListN.{length};
+ghost use Rattle.files.specs.Listing.{text as textOf, upperText, stepWord, figures as figuresText, answerLine};
+ghost use Rattle.text.specs.Decimal.{decimal as decimalOf, decimalZ};
+ghost use Rattle.text.specs.Text.{Wrote, joined};
+ghost use Rattle.text.specs.Numbers.{maxSigned};
+ghost use Rattle.listing.specs.Lines.{maxStep, maxFigures, maxAnswerLine, maxNodeLine, maxRowLine, maxLastLine, maxNodeLines, maxFront, maxListing, stepOf, answerOf, answerAt, nodeAt, rowLine, rowAt, endLine, refusedLine, decided, nodeText, frontText, rowCount, lastText, InMasks, Answered, Listable};
 ghost use Rattle.listing.specs.Shows.{Listed};
 use files::Given;
 use state::State;
 use state::Upper;
-
-// A byte string at a place. This and every function below that writes gives back where its text ends.
-pub fn put(out: &mut [u8], at: usize, text: &[u8]) -> usize
-    requires { ⌜ at + length (now text) ≤ length (now out) ⌝ }
-    ensures { λ r. ⌜ Wrote (length (now (text .entry))) (now (out .entry)) (now (out .exit)) at r (now (text .entry)) ⌝ }
-{
-    let mut i = 0;
-    while i < text.len() {
-        out[at + i] = text[i];
-        i += 1;
-    }
-    at + i
-}
-
-// ---- numbers
-
-fn digit(n: u64) -> u8
-    ensures { λ r. ⌜ r ≡ 48 + n % 10 ⌝ }
-{
-    b'0' + (n % 10) as u8
-}
-
-// The digits of a number, the last one at the end; where the first one stands.
-fn digits(into: &mut [u8], n: u64) -> usize
-    requires { ⌜ length (now into) ≡ 20 ⌝ }
-    ensures { λ r. ⌜ (r < 20) × (drop r (now (into .exit)) ≡ decimalOf n) ⌝ }
-{
-    let mut first = 19;
-    let mut rest = n;
-    into[first] = digit(rest);
-    while rest >= 10 {
-        rest = rest / 10;
-        first -= 1;
-        into[first] = digit(rest);
-    }
-    first
-}
-
-// A number by way of a buffer of its own.
-fn long(out: &mut [u8], at: usize, n: u64) -> usize
-    requires { ⌜ at + maxDecimal ≤ length (now out) ⌝ }
-    ensures { λ r. ⌜ Wrote maxDecimal (now (out .entry)) (now (out .exit)) at r (decimalOf n) ⌝ }
-{
-    let mut buffer = [0; 20];
-    let first = digits(&mut buffer, n);
-    put(out, at, &buffer[first..])
-}
-
-// The last digit of a number, the last two, the last four.
-fn one(out: &mut [u8], at: usize, n: u64) -> usize
-    requires { ⌜ at < length (now out) ⌝ }
-    ensures { λ r. ⌜ Wrote 1 (now (out .entry)) (now (out .exit)) at r (unit n ∷ []) ⌝ }
-{
-    out[at] = digit(n);
-    at + 1
-}
-
-fn two(out: &mut [u8], at: usize, n: u64) -> usize
-    requires { ⌜ at + 2 ≤ length (now out) ⌝ }
-    ensures { λ r. ⌜ Wrote 2 (now (out .entry)) (now (out .exit)) at r (pair n) ⌝ }
-{
-    let next = one(out, at, n / 10);
-    one(out, next, n)
-}
-
-fn four(out: &mut [u8], at: usize, n: u64) -> usize
-    requires { ⌜ at + 4 ≤ length (now out) ⌝ }
-    ensures { λ r. ⌜ Wrote 4 (now (out .entry)) (now (out .exit)) at r (fourOf n) ⌝ }
-{
-    let next = two(out, at, n / 100);
-    two(out, next, n)
-}
-
-// A number of at most four digits.
-fn short(out: &mut [u8], at: usize, n: u64) -> usize
-    requires { ⌜ (n < 10000) × (at + 4 ≤ length (now out)) ⌝ }
-    ensures { λ r. ⌜ Wrote 4 (now (out .entry)) (now (out .exit)) at r (decimalOf n) ⌝ }
-{
-    if n < 10 {
-        return one(out, at, n);
-    }
-    if n < 100 {
-        return two(out, at, n);
-    }
-    if n < 1000 {
-        let next = one(out, at, n / 100);
-        return two(out, next, n);
-    }
-    four(out, at, n)
-}
-
-// Most numbers have at most eight digits, and are written where they stand.
-fn decimal(out: &mut [u8], at: usize, n: u64) -> usize
-    requires { ⌜ at + maxDecimal ≤ length (now out) ⌝ }
-    ensures { λ r. ⌜ Wrote maxDecimal (now (out .entry)) (now (out .exit)) at r (decimalOf n) ⌝ }
-{
-    if n < 10000 {
-        return short(out, at, n);
-    }
-    if n < 100000000 {
-        let next = short(out, at, n / 10000);
-        return four(out, next, n);
-    }
-    long(out, at, n)
-}
-
-// A byte string and a number behind it.
-pub fn labelled(out: &mut [u8], at: usize, label: &[u8], n: u64) -> usize
-    requires { ⌜ at + (length (now label) + maxDecimal) ≤ length (now out) ⌝ }
-    ensures { λ r. ⌜ Wrote (length (now (label .entry)) + maxDecimal) (now (out .entry)) (now (out .exit)) at r (now (label .entry) ++ decimalOf n) ⌝ }
-{
-    let next = put(out, at, label);
-    decimal(out, next, n)
-}
-
-fn magnitude(z: i64) -> u64
-    ensures { λ r. ⌜ r ≡ natAbs z ⌝ }
-{
-    if z < 0 {
-        return (-1 - z) as u64 + 1;
-    }
-    z as u64
-}
-
-fn signed(out: &mut [u8], at: usize, z: i64) -> usize
-    requires { ⌜ at + maxSigned ≤ length (now out) ⌝ }
-    ensures { λ r. ⌜ Wrote maxSigned (now (out .entry)) (now (out .exit)) at r (decimalZ z) ⌝ }
-{
-    let n = magnitude(z);
-    if z < 0 {
-        let next = put(out, at, b"-");
-        return decimal(out, next, n);
-    }
-    decimal(out, at, n)
-}
-
-// ---- answers
 
 fn step(out: &mut [u8], at: usize, number: u16) -> usize
     requires { ⌜ at + maxStep ≤ length (now out) ⌝ }
     ensures { λ r. ⌜ Wrote maxStep (now (out .entry)) (now (out .exit)) at r (stepWord (stepOf number)) ⌝ }
 {
     if number == 0 {
-        return put(out, at, b"unchanged");
+        return text::put(out, at, b"unchanged");
     }
     if number == 1 {
-        return put(out, at, b"changed");
+        return text::put(out, at, b"changed");
     }
-    put(out, at, b"contradiction")
+    text::put(out, at, b"contradiction")
 }
 
 fn answer(out: &mut [u8], at: usize, number: u16, visits: u16) -> usize
@@ -170,14 +32,14 @@ fn answer(out: &mut [u8], at: usize, number: u16, visits: u16) -> usize
     ensures { λ r. ⌜ Wrote maxAnswerLine (now (out .entry)) (now (out .exit)) at r (answerLine (answerOf number visits)) ⌝ }
 {
     if number < 4 {
-        let a = put(out, at, b"settle ");
+        let a = text::put(out, at, b"settle ");
         let b = step(out, a, number);
-        return put(out, b, b"\n");
+        return text::put(out, b, b"\n");
     }
-    let a = put(out, at, b"sift ");
+    let a = text::put(out, at, b"sift ");
     let b = step(out, a, number - 4);
-    let c = labelled(out, b, b" ", visits as u64);
-    put(out, c, b"\n")
+    let c = text::labelled(out, b, b" ", visits as u64);
+    text::put(out, c, b"\n")
 }
 
 fn answer_lines(out: &mut [u8], at: usize, answers: &[[u16; 2]], count: usize) -> usize
@@ -201,8 +63,8 @@ fn node(out: &mut [u8], at: usize, n: usize, value: &[u8]) -> usize
     requires { ⌜ at + (25 + length (now value)) ≤ length (now out) ⌝ }
     ensures { λ r. ⌜ Wrote (25 + length (now (value .entry))) (now (out .entry)) (now (out .exit)) at r (textOf "node " ++ decimalOf n ++ now (value .entry)) ⌝ }
 {
-    let a = labelled(out, at, b"node ", n as u64);
-    put(out, a, value)
+    let a = text::labelled(out, at, b"node ", n as u64);
+    text::put(out, a, value)
 }
 
 // Nothing for a node that is undecided.
@@ -239,8 +101,8 @@ fn upper(out: &mut [u8], at: usize, limit: Upper) -> usize
     ensures { λ r. ⌜ Wrote maxSigned (now (out .entry)) (now (out .exit)) at r (upperText limit) ⌝ }
 {
     match limit {
-        Upper::Open => put(out, at, b"-"),
-        Upper::Under(z) => signed(out, at, z),
+        Upper::Open => text::put(out, at, b"-"),
+        Upper::Under(z) => text::signed(out, at, z),
     }
 }
 
@@ -249,8 +111,8 @@ fn figure(out: &mut [u8], at: usize, z: i64) -> usize
     requires { ⌜ at + (maxSigned + 1) ≤ length (now out) ⌝ }
     ensures { λ r. ⌜ Wrote (maxSigned + 1) (now (out .entry)) (now (out .exit)) at r (decimalZ z ++ textOf " ") ⌝ }
 {
-    let end = signed(out, at, z);
-    put(out, end, b" ")
+    let end = text::signed(out, at, z);
+    text::put(out, end, b" ")
 }
 
 fn figures(out: &mut [u8], at: usize, state: State) -> usize
@@ -268,10 +130,10 @@ fn row_line(out: &mut [u8], at: usize, r: usize, state: State) -> usize
     requires { ⌜ at + maxRowLine ≤ length (now out) ⌝ }
     ensures { λ end. ⌜ Wrote maxRowLine (now (out .entry)) (now (out .exit)) at end (rowLine r state) ⌝ }
 {
-    let a = labelled(out, at, b"row ", r as u64);
-    let b = put(out, a, b" ");
+    let a = text::labelled(out, at, b"row ", r as u64);
+    let b = text::put(out, a, b" ");
     let c = figures(out, b, state);
-    put(out, c, b"\n")
+    text::put(out, c, b"\n")
 }
 
 fn row_lines(out: &mut [u8], at: usize, count: usize, states: &[State]) -> usize
@@ -296,18 +158,18 @@ fn end_line(out: &mut [u8], at: usize, sure: &[u64], never: &[u64]) -> usize
 {
     let sures = words::count(&sure[..64]);
     let nevers = words::count(&never[..64]);
-    let a = labelled(out, at, b"end ", sures as u64);
-    let b = labelled(out, a, b" ", nevers as u64);
-    put(out, b, b"\n")
+    let a = text::labelled(out, at, b"end ", sures as u64);
+    let b = text::labelled(out, a, b" ", nevers as u64);
+    text::put(out, b, b"\n")
 }
 
 fn refused_line(out: &mut [u8], at: usize, number: u8, offset: usize) -> usize
     requires { ⌜ at + maxLastLine ≤ length (now out) ⌝ }
     ensures { λ r. ⌜ Wrote maxLastLine (now (out .entry)) (now (out .exit)) at r (refusedLine number offset) ⌝ }
 {
-    let a = labelled(out, at, b"refused ", number as u64);
-    let b = labelled(out, a, b" at ", offset as u64);
-    put(out, b, b"\n")
+    let a = text::labelled(out, at, b"refused ", number as u64);
+    let b = text::labelled(out, a, b" at ", offset as u64);
+    text::put(out, b, b"\n")
 }
 
 // ---- the whole

@@ -15,13 +15,13 @@ use Rattle.memory.specs.Limits.{maxThresholds}
 use Rattle.memory.specs.Buffers.{Work, Kept, fits, zeros, cleared}
 use Rattle.state.specs.declared.State.{State}
 use Rattle.state.specs.State.{noState, figuresOf, cursorsOf}
-use Rattle.between.specs.NumbersLaws.{stored-read}
-use Rattle.between.specs.Numbers.{statesOf}
+use Rattle.row_moves.specs.NumbersLaws.{stored-read}
+use Rattle.row_moves.specs.Numbers.{statesOf}
 use Rattle.states.specs.States.{shown}
 use Rattle.files.specs.File.{File, fileOf}
 use Rattle.files.specs.Contents.{Out, served, untouched, whole, keptOf, laid}
 use Rattle.theorem_demands.specs.RefusalLaws.{ten, served-when, untouched-when}
-use Rattle.theorem_ends.specs.KeptLaws.{kept-file}
+use Rattle.theorem_limits.specs.KeptLaws.{kept-file}
 use Rattle.planner.specs.Planner.{Left, left, fitsAll, plan}
 
 -- ---- the states that the rows of numbers hold

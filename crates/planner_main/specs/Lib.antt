@@ -1,4 +1,2 @@
-pub mod Notice
-pub mod NoticeLaws
 pub mod Reads
 pub mod ReadsLaws

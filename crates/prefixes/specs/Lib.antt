@@ -1,14 +1,2 @@
-pub mod Links
-pub mod WordsLaws
-pub mod OrderLaws
-pub mod LinksLaws
-pub mod Held
-pub mod HeldLaws
-pub mod Merge
-pub mod MergeLaws
-pub mod SortLaws
 pub mod Pass
 pub mod PassLaws
-pub mod Neighbours
-pub mod NeighboursLaws
-pub mod ChainLaws

@@ -1,12 +1,11 @@
 -- The one pass over the order: the ancestors as a chain through words. Below row a on the stack stands the row that word a names, its number and 1; 0 ends the chain.
-use Prim.Native.Nat.{ℕ, zero, suc, _+_, _-_, _%_, _<_, _≤_}
+use Prim.Native.Nat.{ℕ, zero, suc, _+_, _-_, _<_, _≤_}
 use mathlib.Core.Path.{_≡_}
 use mathlib.Core.Bool.{true, false}
-use mathlib.Core.List.{List, [], _∷_, map}
+use mathlib.Core.List.{List, [], _∷_}
 use lib.Dec.{eqb, ltb}
 use lib.ListN.{length, getD}
 use Rattle.base.specs.Parts.{endBy, startBy}
-use Rattle.memory.specs.Limits.{maxThresholds}
 use Rattle.numeric.specs.Threshold.{Term}
 
 -- The stack that begins at word t.
@@ -61,7 +60,3 @@ pub record Under (rows : List (List ℕ)) (s : List ℕ) (t r u : ℕ) : Type 0 
 -- Words of which as many are zero as there are rows.
 abbrev pub Fresh : ℕ → List ℕ → Type 0
 Fresh n s = (n ≤ length s) × ((a : ℕ) → a < n → getD s a 0 ≡ 0)
-
--- The rows that words name: their numbers are what is left over of 1,024.
-abbrev pub rowsIn : List ℕ → List ℕ
-rowsIn ws = map (λ (w : ℕ). w % maxThresholds) ws

@@ -14,15 +14,16 @@ use lib.Seq.{drop-cons, take-all, take-suc-set, getD-set-same, getD-set-other}
 use Rattle.base.specs.Parts.{endBy, startBy}
 use Rattle.memory.specs.Limits.{maxThresholds}
 use Rattle.numeric.specs.Threshold.{Term}
-use Rattle.thresholds.specs.Rows.{Row}
-use Rattle.prefixes.specs.Links.{Link, termsAt, common, orderFrom, ancestors, stacked, linked, linksFrom, links}
-use Rattle.prefixes.specs.WordsLaws.{common-right}
-use Rattle.prefixes.specs.OrderLaws.{Distinct, order-distinct, order-length, order-range}
-use Rattle.prefixes.specs.Held.{heldTerms, rowsHeld, Held}
-use Rattle.prefixes.specs.HeldLaws.{held-terms, held-length, stretch-length}
-use Rattle.prefixes.specs.Neighbours.{wordLink, linksIn}
-use Rattle.prefixes.specs.NeighboursLaws.{links-append}
-use Rattle.prefixes.specs.Pass.{Chain, lengthAt, keptBy, underBy, depth, Falling, named, headWord, Popped, Under, Fresh, rowsIn}
+use Rattle.rows.specs.Rows.{Row}
+use Rattle.links.specs.Links.{Link, termsAt, common, orderFrom, ancestors, stacked, linked, linksFrom, links}
+use Rattle.links.specs.WordsLaws.{common-right}
+use Rattle.links.specs.OrderLaws.{Distinct, order-distinct, order-length, order-range}
+use Rattle.row_order.specs.Held.{heldTerms, rowsHeld, Held}
+use Rattle.row_order.specs.HeldLaws.{held-terms, held-length, stretch-length}
+use Rattle.row_order.specs.Neighbours.{wordLink, linksIn}
+use Rattle.row_order.specs.NeighboursLaws.{links-append}
+use Rattle.prefixes.specs.Pass.{Chain, lengthAt, keptBy, underBy, depth, Falling, named, headWord, Popped, Under, Fresh}
+use Rattle.row_order.specs.Merge.{rowsIn}
 
 -- ---- popping
 

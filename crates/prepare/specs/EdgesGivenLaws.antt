@@ -5,10 +5,10 @@ use mathlib.Core.List.{List, map}
 use Rattle.base.specs.Laid.{joinAll, ends}
 use Rattle.base.specs.Deal.{Keyed, grouped}
 use Rattle.base.specs.Columns.{column}
-use Rattle.thresholds.specs.Rows.{Row, Edge}
-use Rattle.thresholds.specs.Laid.{conditions, weights, termLists, edgeLists, edgeRow}
-use Rattle.thresholds.specs.Incidents.{heldItems}
-use Rattle.thresholds.specs.IncidentsLaws.{grouped-edges, grouped-joined, grouped-ends}
+use Rattle.rows.specs.Rows.{Row, Edge}
+use Rattle.rows.specs.Laid.{conditions, weights, termLists, edgeLists, edgeRow}
+use Rattle.incidents.specs.Incidents.{heldItems}
+use Rattle.incidents.specs.IncidentsLaws.{grouped-edges, grouped-joined, grouped-ends}
 use Rattle.prepare.specs.RowsGivenHeldLaws.{held-items}
 
 module _ (m : ℕ) (cs ws : List ℕ) (rows : List (List ℕ)) (rs : List Row)

@@ -17,9 +17,9 @@ use Rattle.base.specs.Laid.{numbers}
 use Rattle.base.specs.SignedLaws.{ltZ-add}
 use Rattle.sort.specs.Sorted.{put}
 use Rattle.sort.specs.SortedLaws.{put-before, put-behind}
-use Rattle.thresholds.specs.Rows.{Guard, guard, below, insertGuard}
-use Rattle.thresholds.specs.Guards.{Bound, Bounds, raised, guardKey, guardKeys, nodeAt}
-use Rattle.thresholds.specs.GuardsLaws.{raised-pos}
+use Rattle.rows.specs.Rows.{Guard, guard, below, insertGuard}
+use Rattle.rows.specs.Guards.{Bound, Bounds, raised, guardKey, guardKeys, nodeAt}
+use Rattle.rows.specs.GuardsLaws.{raised-pos}
 use Rattle.prepare.specs.GuardOrderPickedLaws.{picked, picked-same, picked-other}
 
 -- ---- keys as numbers

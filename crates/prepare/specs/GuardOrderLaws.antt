@@ -13,12 +13,12 @@ use Rattle.base.specs.Deal.{Keyed, keyed, those, grouped}
 use Rattle.sort.specs.Sorted.{sorted}
 use Rattle.sort.specs.SortedLaws.{all-sorted, length-sorted}
 use Rattle.memory.specs.Buffers.{RawLists}
-use Rattle.thresholds.specs.Raw.{listAt}
-use Rattle.thresholds.specs.Rows.{Row, Guard, rowNumber, noRow}
-use Rattle.thresholds.specs.Laid.{guardLists, guardBounds, guardNodes}
-use Rattle.thresholds.specs.Guards.{Bounds, raised, guardKeys, nodeAt, rowAt, keyRow, boundItems, nodeItems}
-use Rattle.thresholds.specs.GuardsLaws.{length-keys}
-use Rattle.prepare.specs.Given.{givenRows}
+use Rattle.rows.specs.Lists.{listAt}
+use Rattle.rows.specs.Rows.{Row, Guard, rowNumber, noRow}
+use Rattle.rows.specs.Laid.{guardLists, guardBounds, guardNodes}
+use Rattle.rows.specs.Guards.{Bounds, raised, guardKeys, nodeAt, rowAt, keyRow, boundItems, nodeItems}
+use Rattle.rows.specs.GuardsLaws.{length-keys}
+use Rattle.job.specs.Given.{givenRows}
 use Rattle.prepare.specs.GuardOrderPickedLaws.{those-picked}
 use Rattle.prepare.specs.GuardOrderKeysLaws.{keyAt, keyGuard, key-number, keys-are}
 use Rattle.prepare.specs.GuardOrderRowsLaws.{guardsAt, row-there, row-guards}

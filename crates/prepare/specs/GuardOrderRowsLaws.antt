@@ -17,12 +17,12 @@ use Rattle.row.specs.Terms.{sameTerms}
 use Rattle.sort.specs.Sorted.{put, sorted}
 use Rattle.sort.specs.SortedLaws.{all-map}
 use Rattle.memory.specs.Buffers.{RawLists}
-use Rattle.thresholds.specs.Raw.{listAt}
-use Rattle.thresholds.specs.RawLaws.{same-refl}
-use Rattle.thresholds.specs.Rows.{Row, Guard, guard, insertGuard, place, placeAll, rowNumber, noRow}
+use Rattle.rows.specs.Lists.{listAt}
+use Rattle.rows.specs.ListsLaws.{same-refl}
+use Rattle.rows.specs.Rows.{Row, Guard, guard, insertGuard, place, placeAll, rowNumber, noRow}
 use Rattle.thresholds.specs.RowsLaws.{number-all}
-use Rattle.thresholds.specs.Guards.{Bounds, guardKeys, nodeAt}
-use Rattle.prepare.specs.Given.{thresholdAt, givenRows}
+use Rattle.rows.specs.Guards.{Bounds, guardKeys, nodeAt}
+use Rattle.job.specs.Given.{thresholdAt, givenRows}
 use Rattle.prepare.specs.GuardOrderPickedLaws.{picked, picked-same, picked-other, picked-sorted, putAll, put-sorted, all-put}
 use Rattle.prepare.specs.GuardOrderKeysLaws.{guardAt, keyAt, keyGuard, Before, keys-are, picked-keys, insert-key}
 

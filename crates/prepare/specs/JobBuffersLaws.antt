@@ -7,13 +7,13 @@ use Rattle.base.specs.Laid.{over, ends, triples, numbers}
 use Rattle.base.specs.Columns.{column}
 use Rattle.base.specs.ColumnsLaws.{length-column}
 use Rattle.numeric.specs.Threshold.{Job}
-use Rattle.thresholds.specs.Rows.{Row, rowsOf, edgesOf}
-use Rattle.thresholds.specs.Laid.{termLists, guardLists, thresholdOf, rowOfNode, edgeLists}
-use Rattle.prefixes.specs.HeldLaws.{length-numbers}
-use Rattle.prefixes.specs.Links.{neighbourLists}
-use Rattle.prepare.specs.RowsGivenLaidLaws.{length-ends}
+use Rattle.rows.specs.Rows.{Row, rowsOf, edgesOf}
+use Rattle.rows.specs.Laid.{termLists, guardLists, thresholdOf, rowOfNode, edgeLists}
+use Rattle.base.specs.LaidLaws.{length-numbers}
+use Rattle.links.specs.Links.{neighbourLists}
+use Rattle.placing.specs.RowsGivenLaidLaws.{length-ends}
 use Rattle.prepare.specs.NodesGivenLaws.{triples-columns}
-use Rattle.prepare.specs.JobBuffers.{rowEntries, nodeEntries}
+use Rattle.job.specs.JobBuffers.{rowEntries, nodeEntries}
 
 -- Lists over the first numbers, and triples, have their lengths.
 pub length-first : {X : Type 0} (f : ℕ → X) (n : ℕ) → length (map f (numbers 0 n)) ≡ n

@@ -1,15 +1,8 @@
-pub mod Given
-pub mod JobBuffers
-pub mod Place
-pub mod PlaceLaws
 pub mod Prepare
 pub mod PreparePartsLaws
 pub mod PrepareLaws
-pub mod RowsGivenLaws
-pub mod RowsGivenLaidLaws
 pub mod RowsGivenHeldLaws
 pub mod EdgesGivenLaws
-pub mod RowsGivenTermsLaws
 pub mod NodesGivenLaws
 pub mod RowsGivenLinksLaws
 pub mod JobBuffersLaws

@@ -18,15 +18,15 @@ use Rattle.base.specs.Columns.{column, Wide}
 use Rattle.numeric.specs.Threshold.{Threshold}
 use Rattle.row.specs.TermsLaws.{either}
 use Rattle.memory.specs.Buffers.{RawLists}
-use Rattle.thresholds.specs.Raw.{listAt}
-use Rattle.thresholds.specs.Rows.{Row, rowNumber}
-use Rattle.thresholds.specs.Laid.{thresholdOf, rowOfNode}
-use Rattle.thresholds.specs.Guards.{nodeAt, rowAt}
+use Rattle.rows.specs.Lists.{listAt}
+use Rattle.rows.specs.Rows.{Row, rowNumber}
+use Rattle.rows.specs.Laid.{thresholdOf, rowOfNode}
+use Rattle.rows.specs.Guards.{nodeAt, rowAt}
 use Rattle.thresholds.specs.Placed.{nodesTo, nodeEntry, rowTo}
-use Rattle.prefixes.specs.HeldLaws.{length-numbers}
-use Rattle.prepare.specs.Given.{thresholdAt, given, givenRows}
-use Rattle.prepare.specs.RowsGivenLaws.{row-given}
-use Rattle.prepare.specs.Place.{NodesRise}
+use Rattle.base.specs.LaidLaws.{length-numbers}
+use Rattle.job.specs.Given.{thresholdAt, given, givenRows}
+use Rattle.placing.specs.RowsGivenLaws.{row-given}
+use Rattle.placing.specs.Place.{NodesRise}
 
 -- ---- the first threshold of a node among thresholds k, k + 1 .. of which there are so many
 

@@ -13,16 +13,16 @@ use Rattle.base.specs.Columns.{column, withColumn, Wide}
 use Rattle.row.specs.Keys.{conditionsOf, weightsOf}
 use Rattle.memory.specs.Buffers.{RawLists, Built}
 use Rattle.numeric.specs.Threshold.{Job}
-use Rattle.thresholds.specs.Raw.{Lists}
-use Rattle.thresholds.specs.Guards.{Bounds, nodeAt, rowAt, NodesIn, boundItems, nodeItems}
+use Rattle.rows.specs.Lists.{Lists}
+use Rattle.rows.specs.Guards.{Bounds, nodeAt, rowAt, NodesIn, boundItems, nodeItems}
 use Rattle.thresholds.specs.Placed.{rawsTo, termsTo, nodesTo}
-use Rattle.thresholds.specs.Incidents.{heldItems}
-use Rattle.thresholds.specs.Laid.{termLists}
-use Rattle.thresholds.specs.Rows.{rowsOf}
-use Rattle.prepare.specs.declared.Extent.{Extent}
-use Rattle.prepare.specs.Given.{givenRows, givenJob}
-use Rattle.prepare.specs.JobBuffers.{builtWith}
-use Rattle.prepare.specs.Place.{Blank, rowEnds, NodesRise}
+use Rattle.incidents.specs.Incidents.{heldItems}
+use Rattle.rows.specs.Laid.{termLists}
+use Rattle.rows.specs.Rows.{rowsOf}
+use Rattle.placing.specs.declared.Extent.{Extent}
+use Rattle.job.specs.Given.{givenRows, givenJob}
+use Rattle.job.specs.JobBuffers.{builtWith}
+use Rattle.placing.specs.Place.{Blank, rowEnds, NodesRise}
 
 -- What the buffers hold before the links are found.
 abbrev pub unlinkedOf : Job → Built → Built

@@ -14,7 +14,7 @@ use Rattle.row.specs.Keys.{laid}
 use Rattle.sort.specs.Runs.{cleared}
 use Rattle.sort.specs.FillLaws.{cleared-zeros}
 use Rattle.thresholds.specs.PlacedLaws.{drop-replicate}
-use Rattle.prepare.specs.Place.{Blank}
+use Rattle.placing.specs.Place.{Blank}
 
 -- ---- zeros
 

@@ -1,28 +1,26 @@
-// Propagation on one row: propagate.rs on the state of a row, and what a state takes from a guard or another row.
+// One row run once: propagate.rs on the state of a row, its guards and its terms.
 ghost use mathlib.Core.Path.{_≡_};
-ghost use mathlib.Core.Bool.{cond, true, false, not, _&&_};
-ghost use Prim.Native.Nat.{ℕ, _+_, _-_, _<_, _≤_, _^_};
+ghost use mathlib.Core.Bool.{true, false, not, _&&_};
+ghost use Prim.Native.Nat.{_+_, _-_, _<_, _≤_, _^_};
 ghost use lib.ListN.{length, drop};
-ghost use mathlib.Core.List.{List, []};
-ghost use lib.Signed.{ltZ};
+ghost use mathlib.Core.List.{List};
 ghost use Rattle.numeric.specs.Threshold.{Term};
 ghost use Rattle.numeric.specs.Slices.{terms};
-ghost use Rattle.state.specs.State.{reached, limit, withLower, withUpper, withTerms};
+ghost use Rattle.state.specs.State.{limit, withTerms};
 ghost use Rattle.state.specs.Shape.{Figures};
-ghost use Rattle.queues.specs.Queue.{Queue, queue};
+ghost use Rattle.queues.specs.Queue.{queue};
 ghost use Rattle.queues.specs.Marks.{Marks, marks, isDecided, decided, decide};
 ghost use Rattle.queues.specs.Waiting.{Waits};
-ghost use Rattle.thresholds.specs.Rows.{Guard, rowOf};
+ghost use Rattle.rows.specs.Rows.{rowOf};
 ghost use Rattle.state.specs.declared.Step.the-variants.{Unchanged};
-ghost use Rattle.propagate.specs.Scan.{scanned, force};
-ghost use Rattle.propagate.specs.Turns.{turn as turnOf, turned, light};
-ghost use Rattle.propagate.specs.Told.{guardState, movedLower, movedUpper, movedState};
-ghost use Rattle.propagate.specs.Shape.{TermSlices, GuardSlices};
-ghost use Rattle.propagate.specs.Guards.{guards};
-ghost use Rattle.propagate.specs.Rest.{Rests, UpRests, DownRests, TrueRests};
-ghost use Rattle.propagate.specs.Row.{ran as ranOf, reachable, sureGuards, neverGuards, thresholdGuards, forced, trueTerms, falseTerms, rowTerms, thresholdRow, wantsResidual};
+ghost use Rattle.row_runs.specs.Scan.{scanned, force};
+ghost use Rattle.row_runs.specs.Turns.{turn as turnOf, turned, light};
+ghost use Rattle.row_runs.specs.Shape.{TermSlices, GuardSlices};
+ghost use Rattle.row_runs.specs.Guards.{guards};
+ghost use Rattle.row_runs.specs.Row.{ran as ranOf, sureGuards, neverGuards, thresholdGuards, forced, trueTerms, falseTerms, rowTerms, thresholdRow};
 use queues::Decision;
 use queues::Ring;
+use row_runs::Cutoff;
 use state::State;
 use state::Step;
 use state::Upper;
@@ -133,25 +131,6 @@ fn term_turn(
     guard_turn(value, waits, node, sure, never, node_queue, scan)
 }
 
-// The bound is above what is reached.
-fn sure_waits(state: State, bound: i64) -> bool
-    ensures { λ r. ⌜ r ≡ ltZ (reached state) bound ⌝ }
-{
-    let reached = state.reached();
-    reached < bound
-}
-
-// The bound can still be reached: it is possible, and the limit is above it.
-fn never_waits(state: State, bound: i64) -> bool
-    ensures { λ r. ⌜ r ≡ reachable state bound ⌝ }
-{
-    let possible = state.possible;
-    if possible < bound {
-        return false;
-    }
-    !state.upper_at_most(bound)
-}
-
 // Guards from the cursor up: those whose bound is reached are sure.
 fn sure_guards(
     bounds: &[i64],
@@ -175,7 +154,7 @@ fn sure_guards(
     while at < bounds.len() {
         let bound = bounds[at];
         let node = names[at];
-        let waits = sure_waits(state, bound);
+        let waits = row_runs::sure_waits(state, bound);
         let turn = guard_turn(true, waits, node, sure, never, node_queue, so_far);
         let next = turn.scan;
         so_far = next;
@@ -211,7 +190,7 @@ fn never_guards(
     while at > 0 {
         let bound = bounds[at - 1];
         let node = names[at - 1];
-        let waits = never_waits(state, bound);
+        let waits = row_runs::never_waits(state, bound);
         let turn = guard_turn(false, waits, node, sure, never, node_queue, so_far);
         let next = turn.scan;
         so_far = next;
@@ -258,26 +237,6 @@ fn threshold_guards(
         state: moved,
         step: last,
         ring: left,
-    }
-}
-
-// A weight of this much waits: up to it where sure terms are sought, below it where never ones are.
-struct Cutoff {
-    value: bool,
-    weight: i64,
-}
-
-impl Cutoff {
-    fn waits(self, weight: u64) -> bool
-        requires { ⌜ weight < 2 ^ 63 ⌝ }
-        ensures { λ r. ⌜ r ≡ light self weight ⌝ }
-    {
-        let cut = self.weight;
-        let own = weight as i64;
-        if self.value {
-            return own <= cut;
-        }
-        own < cut
     }
 }
 
@@ -403,8 +362,8 @@ fn false_terms(
     }
 }
 
-// Terms behind the guards: those that must be sure, then those that must not.
-fn row_terms(
+// `threshold_terms`: after the guards the terms, those that must be sure, then those that must not.
+fn threshold_terms(
     conditions: &[u16],
     weights: &[u64],
     before: Ran,
@@ -472,243 +431,5 @@ pub fn threshold_row(
     if step.contradicts() {
         return first;
     }
-    row_terms(conditions, weights, first, sure, never, node_queue)
-}
-
-// A row in no conflict with a weight above 1 waits for a residual when both its limits cut.
-pub fn wants_residual(conditions: &[u16], weights: &[u64], state: State) -> bool
-    requires { ⌜ length (now conditions) ≡ length (now weights) ⌝ }
-    ensures { λ r. ⌜ ((raw : List Term) (gs : List Guard) → r ≡ wantsResidual (rowOf raw (terms (now (conditions .entry)) (now (weights .entry))) gs) state) ⌝ }
-{
-    if state.conflict() {
-        return false;
-    }
-    if !thresholds::has_nonunit(conditions, weights) {
-        return false;
-    }
-    state.has_residual_interval()
-}
-
-// ---- a row that rests
-
-// The next guard from below waits, or none is left.
-fn up_rests(bounds: &[i64], state: State) -> bool
-    ensures { λ r. ⌜ (r ≡ true → UpRests (now (bounds .entry)) state) ⌝ }
-{
-    let at = state.sure_guard;
-    if at < bounds.len() {
-        let bound = bounds[at];
-        return sure_waits(state, bound);
-    }
-    true
-}
-
-// The next guard from above waits, or none is left.
-fn down_rests(bounds: &[i64], state: State) -> bool
-    requires { ⌜ state .«never_guard» ≤ length (now bounds) ⌝ }
-    ensures { λ r. ⌜ (r ≡ true → DownRests (now (bounds .entry)) state) ⌝ }
-{
-    let at = state.never_guard;
-    if at > 0 {
-        let bound = bounds[at - 1];
-        return never_waits(state, bound);
-    }
-    true
-}
-
-// The term at the cursor waits, or none is left.
-fn term_rests(
-    conditions: &[u16],
-    weights: &[u64],
-    at: usize,
-    cutoff: Cutoff,
-    sure: &[u64],
-    never: &[u64],
-) -> bool
-    requires { ⌜ TermSlices (now conditions) (now weights) × (64 ≤ length (now sure)) × (64 ≤ length (now never)) ⌝ }
-    ensures { λ r. ⌜ (r ≡ true → (q : Queue) → forced (cutoff .value) (light cutoff) (drop at (terms (now (conditions .entry)) (now (weights .entry)))) (marks (now (sure .entry)) (now (never .entry)) q)
-        ≡ scanned 0 (marks (now (sure .entry)) (now (never .entry)) q) Unchanged) ⌝ }
-{
-    if at < weights.len() {
-        let weight = weights[at];
-        let node = conditions[at];
-        if words::decided(sure, never, node) {
-            return false;
-        }
-        return cutoff.waits(weight);
-    }
-    true
-}
-
-// No term must be sure that is not yet.
-fn true_rests(
-    conditions: &[u16],
-    weights: &[u64],
-    state: State,
-    sure: &[u64],
-    never: &[u64],
-) -> bool
-    requires { ⌜ TermSlices (now conditions) (now weights) × Figures state × (64 ≤ length (now sure)) × (64 ≤ length (now never)) ⌝ }
-    ensures { λ r. ⌜ (r ≡ true → (q : Queue) → TrueRests (terms (now (conditions .entry)) (now (weights .entry))) state (marks (now (sure .entry)) (now (never .entry)) q)) ⌝ }
-{
-    let known = state.known;
-    let lower = state.lower;
-    let possible = state.possible;
-    if known >= lower {
-        return true;
-    }
-    let cutoff = Cutoff {
-        value: true,
-        weight: possible - lower,
-    };
-    let at = state.true_term;
-    term_rests(conditions, weights, at, cutoff, sure, never)
-}
-
-// No scan of a row with no upper would pass a place.
-fn scans_rest(
-    conditions: &[u16],
-    weights: &[u64],
-    bounds: &[i64],
-    state: State,
-    sure: &[u64],
-    never: &[u64],
-) -> bool
-    requires { ⌜ TermSlices (now conditions) (now weights) × Figures state × (state .«never_guard» ≤ length (now bounds)) × (64 ≤ length (now sure)) × (64 ≤ length (now never)) ⌝ }
-    ensures { λ r. ⌜ (r ≡ true → UpRests (now (bounds .entry)) state × DownRests (now (bounds .entry)) state
-        × ((q : Queue) → TrueRests (terms (now (conditions .entry)) (now (weights .entry))) state (marks (now (sure .entry)) (now (never .entry)) q))) ⌝ }
-{
-    if up_rests(bounds, state) {
-        if down_rests(bounds, state) {
-            return true_rests(conditions, weights, state, sure, never);
-        }
-    }
-    false
-}
-
-// Whether one look at each cursor tells that the row's run would change nothing; of a row with an upper that is not asked.
-pub fn rests(
-    conditions: &[u16],
-    weights: &[u64],
-    bounds: &[i64],
-    state: State,
-    sure: &[u64],
-    never: &[u64],
-) -> bool
-    requires { ⌜ TermSlices (now conditions) (now weights) × Figures state × (state .«never_guard» ≤ length (now bounds)) × (64 ≤ length (now sure)) × (64 ≤ length (now never)) ⌝ }
-    ensures { λ r. ⌜ (r ≡ true → (ns : List ℕ) (q : Queue) → length (now (bounds .entry)) ≡ length ns
-        → Rests (rowOf [] (terms (now (conditions .entry)) (now (weights .entry))) (guards (now (bounds .entry)) ns)) state (marks (now (sure .entry)) (now (never .entry)) q)) ⌝ }
-{
-    let lower = state.lower;
-    let possible = state.possible;
-    let upper = state.upper;
-    match upper {
-        Upper::Under(_) => false,
-        Upper::Open => {
-            if possible < lower {
-                return false;
-            }
-            scans_rest(conditions, weights, bounds, state, sure, never)
-        }
-    }
-}
-
-// A row's state after a bound from outside, and whether the bound was new.
-pub struct Tightened {
-    pub state: State,
-    pub changed: bool,
-}
-
-// One state is lent and altered: its lower becomes the bound, or its upper.
-fn tighten(mut state: State, value: bool, bound: i64) -> State
-    ensures { λ r. ⌜ r ≡ cond value (withLower state bound) (withUpper state (Upper.Under bound)) ⌝ }
-{
-    if value {
-        state::raise_lower(&mut state, bound);
-    } else {
-        state::lower_upper(&mut state, bound);
-    }
-    state
-}
-
-// `threshold_guard` on its row's state: a sure guard raises lower to its bound, a never one lowers upper.
-pub fn guard_state(state: State, value: bool, bound: i64) -> Tightened
-    ensures { λ r. ⌜ r ≡ guardState state value bound ⌝ }
-{
-    if value {
-        if state.needs_lower(bound) {
-            let raised = tighten(state, true, bound);
-            return Tightened {
-                state: raised,
-                changed: true,
-            };
-        }
-        return Tightened {
-            state: state,
-            changed: false,
-        };
-    }
-    if state.upper_at_most(bound) {
-        return Tightened {
-            state: state,
-            changed: false,
-        };
-    }
-    let lowered = tighten(state, false, bound);
-    Tightened {
-        state: lowered,
-        changed: true,
-    }
-}
-
-// The longer of two rows with equal first terms has at least the shorter's lower.
-fn moved_lower(source: State, state: State, from: usize, to: usize) -> Tightened
-    ensures { λ r. ⌜ r ≡ movedLower source state from to ⌝ }
-{
-    let lower = source.lower;
-    if from <= to {
-        if state.needs_lower(lower) {
-            let raised = tighten(state, true, lower);
-            return Tightened {
-                state: raised,
-                changed: true,
-            };
-        }
-    }
-    Tightened {
-        state: state,
-        changed: false,
-    }
-}
-
-// The shorter has at most the longer's upper.
-fn moved_upper(source: State, before: Tightened, from: usize, to: usize) -> Tightened
-    ensures { λ r. ⌜ r ≡ movedUpper source before from to ⌝ }
-{
-    let upper = source.upper;
-    if from < to {
-        return before;
-    }
-    match upper {
-        Upper::Open => before,
-        Upper::Under(limit) => {
-            let state = before.state;
-            if state.upper_at_most(limit) {
-                return before;
-            }
-            let lowered = tighten(state, false, limit);
-            Tightened {
-                state: lowered,
-                changed: true,
-            }
-        }
-    }
-}
-
-// `threshold_prefixes` on one neighbour's state; `from` and `to` are the terms of the two rows.
-pub fn moved_state(source: State, state: State, from: usize, to: usize) -> Tightened
-    ensures { λ r. ⌜ r ≡ movedState source state from to ⌝ }
-{
-    let raised = moved_lower(source, state, from, to);
-    moved_upper(source, raised, from, to)
+    threshold_terms(conditions, weights, first, sure, never, node_queue)
 }

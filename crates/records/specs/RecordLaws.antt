@@ -14,7 +14,7 @@ use borrow.Author.Tests.{lt-ltb, le-ltb}
 use Rattle.records.specs.declared.Record.{Record}
 use Rattle.records.specs.declared.Record.the-variants.{Unknown}
 use Rattle.records.specs.Record.{Kind, kind, noKind, kinds, kindOf, bodyLength, littleEndian, front, behind, signed}
-use Rattle.records.specs.Next.{kindAt, recordIn}
+use Rattle.records.specs.At.{kindAt, recordIn}
 
 little-append : (xs ys : List ℕ) → littleEndian (xs ++ ys) ≡ littleEndian xs + 256 ^ length xs * littleEndian ys
 unfolding littleEndian

@@ -1,14 +1,11 @@
 // Residual divisibility of a drained row: residual.rs.
 ghost use mathlib.Core.Path.{_≡_};
-ghost use Prim.Native.Nat.{_+_, _-_, _^_, _<_, _≤_, min, max};
-ghost use mathlib.Core.Bool.{false, cond, _&&_};
+ghost use Prim.Native.Nat.{_+_, _-_, _^_, _<_, _≤_};
+ghost use mathlib.Core.Bool.{false};
 ghost use mathlib.Core.List.{reverse};
 ghost use lib.ListN.{length};
-ghost use lib.Dec.{eqb, leb};
 ghost use Rattle.numeric.specs.Threshold.{term};
 ghost use Rattle.numeric.specs.Slices.{Below, Shape, terms};
-ghost use Rattle.base.specs.Signed.{natural as naturalOf};
-ghost use Rattle.state.specs.State.{limit};
 ghost use Rattle.state.specs.Step.{joined};
 ghost use Rattle.words.specs.Mask.{inEither};
 ghost use Rattle.queues.specs.Queue.{queue};
@@ -17,138 +14,26 @@ ghost use Rattle.state.specs.declared.Step.the-variants.{Unchanged};
 ghost use Rattle.queues.specs.Waiting.{Waits};
 ghost use Rattle.queues.specs.Marks.{marks, decided as decidedOf};
 ghost use Rattle.divisors.specs.Gcd.{gcd};
-ghost use Rattle.residual.specs.Misses.{misses, branchMisses};
-ghost use Rattle.residual.specs.Shape.{Window};
-ghost use Rattle.residual.specs.Residual.{
-  interval,
-  stopsAt,
+ghost use Rattle.misses.specs.Misses.{misses};
+ghost use Rattle.intervals.specs.Shape.{Window};
+ghost use Rattle.intervals.specs.Residual.{
   checkFrom,
   residualCheck,
-  tooWide,
-  bothFit,
   fitsFrom,
   suffixes,
   placed,
   over,
-  offMisses,
-  onMisses,
   forceTerm,
   forceFrom,
   nothingForced,
   residual,
   thresholdResidual,
 };
+use intervals::Interval;
 use queues::Decision;
 use queues::Ring;
 use state::State;
 use state::Step;
-use state::Upper;
-
-// The figures of a row with a residual interval, none of them negative. `upper` is the last sum allowed, `width` the number
-// of sums allowed.
-pub struct Interval {
-    pub known: u64,
-    pub possible: u64,
-    pub lower: u64,
-    pub upper: u64,
-    pub width: u64,
-}
-
-// The greatest common divisor, 0 standing for no number: of two numbers below 64 from a table, of others by a loop in which the right
-// number falls at each turn.
-fn gcd(left: u64, right: u64) -> u64
-    ensures { λ r. ⌜ r ≡ gcd left right ⌝ }
-{
-    if left == 0 {
-        return right;
-    }
-    if left == right {
-        return right;
-    }
-    // Many rows come down to 1 soon, and then there is nothing to divide.
-    if left == 1 {
-        return 1;
-    }
-    if right == 1 {
-        return 1;
-    }
-    // In a row most weights are multiples of what the others share.
-    if right % left == 0 {
-        return left;
-    }
-    if left < 64 {
-        if right < 64 {
-            return divisors::small_gcd(left, right);
-        }
-    }
-    let mut a = left;
-    let mut b = right;
-    while b != 0 {
-        let remainder = a % b;
-        a = b;
-        b = remainder;
-    }
-    a
-}
-
-// No sum base, base + divisor, base + 2 divisor .. lies from lower to upper. The distance to the next one is held against
-// the width, so that nothing is added to an extreme bound.
-fn misses(base: u64, lower: u64, upper: u64, divisor: u64) -> bool
-    requires { ⌜ (base ≤ lower) × (lower ≤ upper) ⌝ }
-    ensures { λ r. ⌜ r ≡ misses base lower upper divisor ⌝ }
-{
-    if divisor == 0 {
-        return base < lower || base > upper;
-    }
-    let offset = lower - base;
-    let remainder = offset % divisor;
-    if remainder == 0 {
-        return false;
-    }
-    let distance = divisor - remainder;
-    let width = upper - lower;
-    distance > width
-}
-
-// The same of the sums from base to maximum alone; where none of these is from lower to upper there is nothing to divide.
-fn branch_misses(base: u64, maximum: u64, lower: u64, upper: u64, divisor: u64) -> bool
-    ensures { λ r. ⌜ r ≡ branchMisses base maximum lower upper divisor ⌝ }
-{
-    let from = larger(base, lower);
-    let to = smaller(maximum, upper);
-    if from > to {
-        return true;
-    }
-    misses(base, from, to, divisor)
-}
-
-fn larger(a: u64, b: u64) -> u64
-    ensures { λ r. ⌜ r ≡ max a b ⌝ }
-{
-    if a < b {
-        return b;
-    }
-    a
-}
-
-fn smaller(a: u64, b: u64) -> u64
-    ensures { λ r. ⌜ r ≡ min a b ⌝ }
-{
-    if a < b {
-        return a;
-    }
-    b
-}
-
-// The gcd with one weight more, which a decided term leaves out.
-fn reduce(skip: bool, divisor: u64, weight: u64) -> u64
-    ensures { λ r. ⌜ r ≡ cond skip divisor (gcd divisor weight) ⌝ }
-{
-    if skip {
-        return divisor;
-    }
-    gcd(divisor, weight)
-}
 
 // The gcd of the undecided weights among the last 0, 1, 2 .. terms, from the start of the buffer on.
 fn prepare_suffix(
@@ -170,73 +55,9 @@ fn prepare_suffix(
         gcds[count - left] = suffix;
         left -= 1;
         let skip = words::decided(sure, never, conditions[left]);
-        suffix = reduce(skip, suffix, weights[left]);
+        suffix = misses::reduce(skip, suffix, weights[left]);
     }
     gcds[count] = suffix;
-}
-
-// A difference, 0 where it would be negative.
-fn minus(a: u64, b: u64) -> u64
-    ensures { λ r. ⌜ r ≡ a - b ⌝ }
-{
-    if a < b {
-        return 0;
-    }
-    a - b
-}
-
-fn limit_of(upper: Upper) -> u64
-    ensures { λ r. ⌜ r ≡ naturalOf (limit upper) ⌝ }
-{
-    match upper {
-        Upper::Open => 0,
-        Upper::Under(bound) => base::natural(bound),
-    }
-}
-
-// The interval of a state's figures.
-fn interval_of(state: State) -> Interval
-    ensures { λ r. ⌜ r ≡ interval state ⌝ }
-{
-    let upper = state.upper;
-    let limit = limit_of(upper);
-    let lower = base::natural(state.lower);
-    Interval {
-        known: base::natural(state.known),
-        possible: base::natural(state.possible),
-        lower: lower,
-        upper: minus(limit, 1),
-        width: minus(limit, lower),
-    }
-}
-
-// The first undecided weight is no wider than the interval: then some multiple of any of its divisors lies there.
-fn first_fits(i: Interval, divisor: u64, weight: u64) -> bool
-    ensures { λ r. ⌜ r ≡ (eqb divisor 0 && leb weight (i .width)) ⌝ }
-{
-    if divisor != 0 {
-        return false;
-    }
-    let width = i.width;
-    weight <= width
-}
-
-// With this weight a sum is allowed for sure, whatever the weights above it.
-fn stops(i: Interval, divisor: u64, weight: u64, next: u64) -> bool
-    requires { ⌜ Window i ⌝ }
-    ensures { λ r. ⌜ r ≡ stopsAt i divisor weight next ⌝ }
-{
-    if first_fits(i, divisor, weight) {
-        return true;
-    }
-    if next == 1 {
-        return true;
-    }
-    if next == divisor {
-        return false;
-    }
-    let upper = smaller(i.possible, i.upper);
-    !misses(i.known, i.lower, upper, next)
 }
 
 // Terms from the light end: does the lattice of all undecided weights miss the interval? A gcd that allows a sum ends the
@@ -255,8 +76,8 @@ fn check_from(conditions: &[u16], weights: &[u64], i: Interval, sure: &[u64], ne
             continue;
         }
         let weight = weights[remaining];
-        let next = gcd(divisor, weight);
-        if stops(i, divisor, weight, next) {
+        let next = misses::gcd(divisor, weight);
+        if intervals::stops(i, divisor, weight, next) {
             return Step::Unchanged;
         }
         divisor = next;
@@ -265,8 +86,8 @@ fn check_from(conditions: &[u16], weights: &[u64], i: Interval, sure: &[u64], ne
     if divisor != 0 {
         return Step::Contradiction;
     }
-    let upper = smaller(i.possible, i.upper);
-    if misses(i.known, i.lower, upper, 0) {
+    let upper = misses::smaller(i.possible, i.upper);
+    if misses::misses(i.known, i.lower, upper, 0) {
         return Step::Contradiction;
     }
     Step::Unchanged
@@ -284,7 +105,7 @@ fn threshold_residual_check(
     ensures { λ r. ⌜ r
         ≡ residualCheck (terms (now (conditions .entry)) (now (weights .entry))) state (inEither (now (sure .entry)) (now (never .entry))) ⌝ }
 {
-    if !thresholds::has_nonunit(conditions, weights) {
+    if !rows::has_nonunit(conditions, weights) {
         return Step::Unchanged;
     }
     if !state.has_residual_interval() {
@@ -298,32 +119,13 @@ fn threshold_residual_check(
     if possible < reached {
         return Step::Contradiction;
     }
-    check_from(conditions, weights, interval_of(state), sure, never)
-}
-
-// No weight fits yet, and this one does not.
-fn too_wide(i: Interval, fitting: bool, weight: u64) -> bool
-    ensures { λ r. ⌜ r ≡ tooWide i fitting weight ⌝ }
-{
-    if fitting {
-        return false;
-    }
-    let width = i.width;
-    weight > width
-}
-
-// Beside a weight that fits, another one or the gcd of the others fits. No gcd, 0, is no witness.
-fn both_fit(i: Interval, weight: u64, next: u64) -> bool
-    ensures { λ r. ⌜ r ≡ bothFit i weight next ⌝ }
-{
-    let width = i.width;
-    if weight <= width {
-        return true;
-    }
-    if next == 0 {
-        return false;
-    }
-    next <= width
+    check_from(
+        conditions,
+        weights,
+        intervals::interval_of(state),
+        sure,
+        never,
+    )
 }
 
 // Terms from the light end: one undecided weight fits, and so does another or the gcd of the others. Then every gcd of all
@@ -339,15 +141,15 @@ fn fits_from(conditions: &[u16], weights: &[u64], i: Interval, sure: &[u64], nev
     while unread > 0 {
         unread -= 1;
         let weight = weights[unread];
-        if too_wide(i, fitting, weight) {
+        if intervals::too_wide(i, fitting, weight) {
             return false;
         }
         if words::decided(sure, never, conditions[unread]) {
             continue;
         }
         if fitting {
-            complement = gcd(complement, weight);
-            if both_fit(i, weight, complement) {
+            complement = misses::gcd(complement, weight);
+            if intervals::both_fit(i, weight, complement) {
                 return true;
             }
         } else {
@@ -355,23 +157,6 @@ fn fits_from(conditions: &[u16], weights: &[u64], i: Interval, sure: &[u64], nev
         }
     }
     false
-}
-
-// No sum is allowed where a term of this weight is left out.
-fn off_misses(i: Interval, weight: u64, divisor: u64) -> bool
-    ensures { λ r. ⌜ r ≡ offMisses i weight divisor ⌝ }
-{
-    let maximum = minus(i.possible, weight);
-    branch_misses(i.known, maximum, i.lower, i.upper, divisor)
-}
-
-// No sum is allowed where it is taken.
-fn on_misses(i: Interval, weight: u64, divisor: u64) -> bool
-    requires { ⌜ i .known + weight < 2 ^ 64 ⌝ }
-    ensures { λ r. ⌜ r ≡ onMisses i weight divisor ⌝ }
-{
-    let known = i.known;
-    branch_misses(known + weight, i.possible, i.lower, i.upper, divisor)
 }
 
 // What one undecided term is forced to, by the gcd of the other undecided weights. A gcd of 1 shows no more than the bounds.
@@ -397,8 +182,8 @@ fn force_term(
     if divisor == 1 {
         return same;
     }
-    let off = off_misses(i, weight, divisor);
-    let on = on_misses(i, weight, divisor);
+    let off = intervals::off_misses(i, weight, divisor);
+    let on = intervals::on_misses(i, weight, divisor);
     let n = node as usize;
     if off {
         if on {
@@ -458,7 +243,7 @@ fn force_from(
             continue;
         }
         let weight = weights[position];
-        let divisor = gcd(prefix, gcds[weights.len() - position - 1]);
+        let divisor = misses::gcd(prefix, gcds[weights.len() - position - 1]);
         let forced = force_term(
             i,
             node,
@@ -474,7 +259,7 @@ fn force_from(
         if step.contradicts() {
             return so_far;
         }
-        prefix = gcd(prefix, weight);
+        prefix = misses::gcd(prefix, weight);
         position += 1;
     }
     so_far
@@ -492,13 +277,19 @@ fn nothing_forced(
     ensures { λ r. ⌜ r
         ≡ nothingForced (terms (now (conditions .entry)) (now (weights .entry))) state (inEither (now (sure .entry)) (now (never .entry))) ⌝ }
 {
-    if !thresholds::has_nonunit(conditions, weights) {
+    if !rows::has_nonunit(conditions, weights) {
         return true;
     }
     if !state.has_residual_interval() {
         return true;
     }
-    fits_from(conditions, weights, interval_of(state), sure, never)
+    fits_from(
+        conditions,
+        weights,
+        intervals::interval_of(state),
+        sure,
+        never,
+    )
 }
 
 // What divisibility shows of a drained row: that no sum is allowed, or which of its terms are forced. `gcds` holds the suffixes
@@ -535,7 +326,7 @@ pub fn threshold_residual(
         conditions,
         weights,
         gcds,
-        interval_of(state),
+        intervals::interval_of(state),
         sure,
         never,
         node_queue,

@@ -9,16 +9,17 @@ use lib.Seq.{drop-cons, drop-drop}
 use lib.Dec.{eqb}
 use borrow.Author.Tests.{eqb-true, eqb-false}
 use Rattle.records.specs.declared.Record.{Record}
-use Rattle.records.specs.declared.Next.{Next}
-use Rattle.records.specs.declared.Next.the-variants.{Refused, Taken}
+use Rattle.checks.specs.declared.Next.{Next}
+use Rattle.checks.specs.declared.Next.the-variants.{Refused, Taken}
 use Rattle.records.specs.Record.{kindOf, bodyLength}
-use Rattle.records.specs.Next.{kindAt, recordIn, nextAt}
+use Rattle.checks.specs.Next.{nextAt}
+use Rattle.records.specs.At.{kindAt, recordIn}
 use Rattle.records.specs.declared.Record.the-variants.{Header, Opens, Adds, Areas, Seal, Mark, Settle, Sift, Unknown}
-use Rattle.records.specs.Checks.{unknownKind, cutBody}
+use Rattle.checks.specs.Checks.{unknownKind, cutBody}
 use Rattle.files.specs.File.{File, standing, refusal, apply, Outcome, outcome, recordAt, refusalAt, readFrom}
 use Rattle.files.specs.FileLaws.{read-enough, checked}
-use Rattle.files.specs.HeldLaws.{known-record}
-use Rattle.theorem_ends.specs.FilesLaws.{refused-by, both}
+use Rattle.checks.specs.CheckLaws.{known-record}
+use Rattle.theorem_limits.specs.FilesLaws.{refused-by, both}
 use Rattle.serve.specs.Serve.{readAt}
 
 -- What is left of an outcome, its records not told.

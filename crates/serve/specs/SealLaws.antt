@@ -12,25 +12,26 @@ use Rattle.base.specs.Laid.{over}
 use Rattle.state.specs.declared.Step.{Step}
 use Rattle.queues.specs.declared.Rings.{Rings}
 use Rattle.queues.specs.Waiting.{Waits, Flags}
-use Rattle.between.specs.Between.{Index, Live, Did, did}
-use Rattle.between.specs.Held.{Shaped, Holds}
-use Rattle.between.specs.Ready.{Totals}
-use Rattle.between.specs.Numbers.{Tidy}
-use Rattle.files.specs.Drain as Drain
-use Rattle.files.specs.Drain.{indexOf}
+use Rattle.row_moves.specs.Between.{Index, Live, Did, did}
+use Rattle.row_moves.specs.Held.{Shaped, Holds}
+use Rattle.row_moves.specs.Ready.{Totals}
+use Rattle.row_moves.specs.Numbers.{Tidy}
+use Rattle.drain.specs.Drain as Drain
+use Rattle.drain.specs.Drain.{indexOf}
 use Rattle.records.specs.declared.Record.the-variants.{Seal}
 use Rattle.records.specs.declared.Standing.{Standing}
-use Rattle.records.specs.declared.Next.the-variants.{Taken}
-use Rattle.records.specs.Next.{nextAt}
+use Rattle.checks.specs.declared.Next.the-variants.{Taken}
+use Rattle.checks.specs.Next.{nextAt}
 use Rattle.files.specs.File.{File, standing, refusal, told, sealedFile, act, apply, outcome}
-use Rattle.theorem_ends.specs.BuiltLaws.{fits-of}
+use Rattle.theorem_limits.specs.BuiltLaws.{fits-of}
 use Rattle.settle.specs.Serves.{Fresh}
 use Rattle.sift.specs.Tries.{Scratch}
 use Rattle.theorem_holds.specs.ServedLaws.{Served}
 use Rattle.theorem_holds.specs.LentLaws.{served-built}
 use Rattle.theorem_holds.specs.FilesLaws.{serving-seal}
 use Rattle.serve.specs.declared.Reached.{Reached}
-use Rattle.serve.specs.Serve.{Lent, liveIn, answersOf, Lies, Seals, stood, Reaches, readAt}
+use Rattle.serve.specs.Serve.{Lent, liveIn, Lies, Seals, stood, Reaches, readAt}
+use Rattle.answers.specs.Answers.{answersOf}
 use Rattle.serve.specs.ReadLaws.{seal-goes}
 use Rattle.serve.specs.ServeLaws.{reaches-ended}
 

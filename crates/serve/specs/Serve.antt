@@ -2,14 +2,14 @@
 use Prim.Native.Nat.{ℕ, _≤_}
 use mathlib.Core.Path.{_≡_}
 use mathlib.Core.Bool.{true}
-use mathlib.Core.List.{List, [], _∷_, map}
+use mathlib.Core.List.{List, []}
 use lib.ListN.{length, drop}
 use lib.Dec.{eqb}
 use lib.IntN.{ℤ}
 use Rattle.memory.specs.Ranges.{rawLimit}
 use Rattle.memory.specs.Buffers.{Built, Kept}
 use Rattle.base.specs.Columns.{column}
-use Rattle.base.specs.Laid.{over, pairs, quads}
+use Rattle.base.specs.Laid.{over, quads}
 use Rattle.numeric.specs.Threshold.{Job}
 use Rattle.numeric.specs.Area.{jobOf}
 use Rattle.state.specs.declared.Step.{Step}
@@ -17,23 +17,23 @@ use Rattle.state.specs.declared.Step.the-variants.{Unchanged}
 use Rattle.state.specs.Step.{contradicts}
 use Rattle.queues.specs.declared.Rings.{Rings}
 use Rattle.queues.specs.Queue.{ring}
-use Rattle.between.specs.Between.{Live, Did}
-use Rattle.between.specs.Numbers.{liveOf, Tidy}
-use Rattle.files.specs.Drain as Drain
-use Rattle.files.specs.Drain.{indexOf}
-use Rattle.files.specs.Sift as Sift
-use Rattle.files.specs.Sift.{Sifted}
+use Rattle.row_moves.specs.Between.{Live, Did}
+use Rattle.row_moves.specs.Numbers.{liveOf, Tidy}
+use Rattle.drain.specs.Drain as Drain
+use Rattle.drain.specs.Drain.{indexOf}
+use Rattle.drain.specs.Sift as Sift
+use Rattle.drain.specs.Sift.{Sifted}
 use Rattle.records.specs.declared.Record.{Record}
 use Rattle.records.specs.declared.Record.the-variants.{Header, Opens, Adds, Areas, Seal, Mark, Settle, Sift, Unknown}
 use Rattle.records.specs.declared.Standing.{Standing}
-use Rattle.prepare.specs.JobBuffers.{builtOf}
-use Rattle.files.specs.File.{File, Answer, settled, sifted, standing, refusal, Outcome, readFrom}
-use Rattle.files.specs.Contents.{answerNumber, answerVisits}
-use Rattle.theorem_ends.specs.Good.{Fits, Light, Good}
+use Rattle.job.specs.JobBuffers.{builtOf}
+use Rattle.files.specs.File.{File, sifted, standing, refusal, Outcome, readFrom}
+use Rattle.theorem_limits.specs.Good.{Fits, Light, Good}
 use Rattle.settle.specs.Serves.{Fresh}
 use Rattle.sift.specs.Tries.{Scratch}
 use Rattle.theorem_holds.specs.Lent.{boundsOf, lentOf, Lendable, Serving}
 use Rattle.serve.specs.declared.Reached.{Reached}
+use Rattle.answers.specs.Answers.{answersOf}
 
 -- THE BUFFERS OF A FILE
 
@@ -50,9 +50,6 @@ pub record Lent (bs : List ℤ) (b : Built) (f : File) : Type 0 where
 
 abbrev pub liveIn : Kept → Rings → Live
 liveIn k rings = liveOf (k .figures) (k .cursors) (k .sure) (k .never) (k .node-queue) (k .row-queues) rings
-
-abbrev pub answersOf : List Answer → List (List ℕ)
-answersOf as′ = pairs (map answerNumber as′) (map answerVisits as′)
 
 -- The live state, the gcds and the answers, these laid over what stood in their buffer; the search's words are clear.
 pub record Lies (base : List (List ℕ)) (f : File) (k : Kept) (rings : Rings) : Type 0 where
@@ -104,18 +101,6 @@ came f (Mark n v) = plain (Drain.mark (f .live) n (eqb v 1)) (f .gcds)
 came f Settle = plain (Drain.settle (indexOf (f .closed)) (f .live)) (f .gcds)
 came f Sift = Sift.sift (indexOf (f .closed)) (f .live) (f .gcds)
 came f Unknown = Sift.sifted (f .live) (f .gcds) Unchanged 0
-
--- The answer that it adds.
-abbrev pub answered : Record → Step → ℕ → List Answer
-answered (Header n) k visits = []
-answered (Opens n z) k visits = []
-answered (Adds c w) k visits = []
-answered (Areas c a) k visits = []
-answered Seal k visits = []
-answered (Mark n v) k visits = []
-answered Settle k visits = settled k ∷ []
-answered Sift k visits = sifted k visits ∷ []
-answered Unknown k visits = []
 
 -- A record that can be taken, over the buffers that it changes.
 pub record Takes (bounds : List ℤ) (b : Built) (f : File) (r : Record) (v : Live) (gs words : List ℕ) : Type 0 where

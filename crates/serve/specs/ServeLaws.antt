@@ -1,47 +1,47 @@
 -- A record behind the seal: what the code makes of it is the definition's, and the buffers are those of the file behind it.
 -- Assumes nothing.
-use Prim.Native.Nat.{ℕ, suc, _+_, _-_, _<_, _≤_}
-use native.Mathlib.Nat.{not-suc-le-zero, le-of-suc-le-suc}
+use Prim.Native.Nat.{ℕ, _+_, _-_, _<_, _≤_}
+use native.Mathlib.Nat.{not-suc-le-zero}
 use native.Mathlib.Omega.{arith}
 use mathlib.Core.Path.{_≡_, refl, sym, ap, ap₂, subst, _∙_}
-use mathlib.Core.List.{List, [], _∷_, _++_, append-nil}
-use lib.ListN.{length, getD, set, drop, length-append, length-drop}
+use mathlib.Core.List.{List, [], _++_, append-nil}
+use lib.ListN.{length, getD, drop, length-append, length-drop}
 use lib.Dec.{eqb}
 use lib.IntN.{ℤ}
 use borrow.Author.Tests.{leb-false}
 use Rattle.memory.specs.Limits.{maxNodes}
 use Rattle.memory.specs.Buffers.{Built, Kept}
-use Rattle.base.specs.Laid.{over, pairs}
+use Rattle.base.specs.Laid.{over}
 use Rattle.numeric.specs.Area as Area
 use Rattle.numeric.specs.Threshold.{Job}
 use Rattle.state.specs.declared.Step.{Step}
 use Rattle.queues.specs.declared.Rings.{Rings}
 use Rattle.queues.specs.Queue.{oldest}
 use Rattle.queues.specs.Marks.{isDecided}
-use Rattle.thresholds.specs.Rows.{noRow}
-use Rattle.possible_sums.specs.declared.Search.{Search}
-use Rattle.possible_sums.specs.declared.Search.the-variants.{Skipped, Fits, Nothing, Cut}
-use Rattle.possible_sums.specs.Search.{search, searchVisits}
-use Rattle.possible_sums.specs.SearchLaws.{search-visits}
-use Rattle.between.specs.Between.{Index, Live, live, Did, stateAt}
-use Rattle.between.specs.Numbers.{Tidy}
-use Rattle.files.specs.Drain as Drain
-use Rattle.files.specs.Drain.{indexOf}
-use Rattle.files.specs.Sift as Sift
-use Rattle.files.specs.Sift.{Sifted, tryRow}
-use Rattle.files.specs.SiftLaws.{tryTerms, tryResidual, trySearch, try-ends, sift-keeps}
+use Rattle.rows.specs.Rows.{noRow}
+use Rattle.searches.specs.declared.Search.{Search}
+use Rattle.searches.specs.declared.Search.the-variants.{Skipped, Fits, Nothing, Cut}
+use Rattle.searches.specs.Search.{search, searchVisits}
+use Rattle.searches.specs.SearchLaws.{search-visits}
+use Rattle.row_moves.specs.Between.{Index, Live, live, Did, stateAt}
+use Rattle.row_moves.specs.Numbers.{Tidy}
+use Rattle.drain.specs.Drain as Drain
+use Rattle.drain.specs.Drain.{indexOf}
+use Rattle.drain.specs.Sift as Sift
+use Rattle.drain.specs.Sift.{Sifted, tryRow}
+use Rattle.drain.specs.SiftLaws.{tryTerms, tryResidual, trySearch, try-ends, sift-keeps}
 use Rattle.records.specs.declared.Record.{Record}
 use Rattle.records.specs.declared.Record.the-variants.{Header, Opens, Adds, Areas, Seal, Mark, Settle, Sift, Unknown}
 use Rattle.records.specs.declared.Standing.{Standing}
-use Rattle.records.specs.declared.Next.{Next}
-use Rattle.records.specs.declared.Next.the-variants.{Refused, Taken}
+use Rattle.checks.specs.declared.Next.{Next}
+use Rattle.checks.specs.declared.Next.the-variants.{Refused, Taken}
 use Rattle.records.specs.Record.{bodyLength}
-use Rattle.records.specs.Next.{kindAt, nextAt}
+use Rattle.checks.specs.Next.{nextAt}
+use Rattle.records.specs.At.{kindAt}
 use Rattle.records.specs.Facts.{adds}
 use Rattle.files.specs.File.{File, Answer, sifted, standing, refusal, told, markedFile, settledFile, siftedFile, act, apply, Outcome, outcome}
-use Rattle.files.specs.Contents.{answerNumber, answerVisits}
-use Rattle.theorem_ends.specs.FilesLaws.{both, taken, building-turn, change-turn}
-use Rattle.theorem_ends.specs.SizeLaws.{row-terms-few}
+use Rattle.theorem_limits.specs.FilesLaws.{both, taken, building-turn, change-turn}
+use Rattle.theorem_limits.specs.SizeLaws.{row-terms-few}
 use Rattle.settle.specs.Serves.{Serves, Going}
 use Rattle.sift.specs.Tries.{Short}
 use Rattle.sift.specs.SiftingLaws.{scratch-next}
@@ -49,7 +49,8 @@ use Rattle.theorem_holds.specs.ServedLaws.{Served}
 use Rattle.theorem_holds.specs.LentLaws.{served-built}
 use Rattle.theorem_holds.specs.FilesLaws.{serving-apply}
 use Rattle.serve.specs.declared.Reached.{Reached}
-use Rattle.serve.specs.Serve.{Lent, liveIn, answersOf, Lies, Asks, plain, came, answered, Takes, stood, Reaches, readAt}
+use Rattle.serve.specs.Serve.{Lent, liveIn, Lies, Asks, plain, came, Takes, stood, Reaches, readAt}
+use Rattle.answers.specs.Answers.{answersOf, answered}
 use Rattle.serve.specs.ReadLaws.{ended, refused-next, taken-next, known-next, read-goes, read-stops, read-none}
 
 -- ---- what the seal built serves
@@ -166,40 +167,6 @@ came-visits bs b f l Sift = sift-visits (indexOf (f .closed)) (row-terms-few (f 
 came-visits bs b f l Unknown = omega arith
 
 -- ---- answers in their places
-
-over-put : {X : Type 0} (l base : List X) (x : X) → length l < length base → set (over l base) (length l) x ≡ over (l ++ (x ∷ [])) base
-over-put [] [] x h = absurd (not-suc-le-zero h)
-over-put [] (y ∷ base) x h = refl
-over-put (z ∷ l) [] x h = absurd (not-suc-le-zero h)
-over-put (z ∷ l) (y ∷ base) x h = ap (λ (t : List _). z ∷ t) (over-put l base x (le-of-suc-le-suc h))
-
-pairs-more : (as′ : List Answer) (a : Answer) → answersOf (as′ ++ (a ∷ [])) ≡ answersOf as′ ++ ((answerNumber a ∷ answerVisits a ∷ []) ∷ [])
-unfolding pairs
-pairs-more [] a = refl
-pairs-more (x ∷ as′) a = ap (λ (t : List (List ℕ)). (answerNumber x ∷ answerVisits x ∷ []) ∷ t) (pairs-more as′ a)
-
-pairs-long : (as′ : List Answer) → length (answersOf as′) ≡ length as′
-unfolding pairs
-pairs-long [] = refl
-pairs-long (x ∷ as′) = ap suc (pairs-long as′)
-
--- An answer is put behind those that are there.
-module _ (as′ : List Answer) (base l : List (List ℕ)) (e : l ≡ over (answersOf as′) base) (n : ℕ) (long : n ≡ length as′) (room : n < length base) where
-  pub answer-put : (a : Answer) (i j : ℕ) → i ≡ answerNumber a → j ≡ answerVisits a → (m : List (List ℕ)) → m ≡ set l n (i ∷ j ∷ []) → m ≡ over (answersOf (as′ ++ (a ∷ []))) base
-  answer-put a i j p q m made =
-      let x : List ℕ = answerNumber a ∷ answerVisits a ∷ [] in
-      made ∙ ap₂ (λ (y z : ℕ). set l n (y ∷ z ∷ [])) p q ∙ ap₂ (λ (y : List (List ℕ)) (i : ℕ). set y i x) e (long ∙ sym (pairs-long as′))
-      ∙ over-put (answersOf as′) base x (omega (arith, pairs-long as′)) ∙ ap (λ (t : List (List ℕ)). over t base) (sym (pairs-more as′ a))
-
-pub answer-more : (as′ : List Answer) (a : Answer) (n m : ℕ) → n ≡ length as′ → m ≡ n + 1 → m ≡ length (as′ ++ (a ∷ []))
-answer-more as′ a n m e f = omega (arith, length-append as′ (a ∷ []))
-
--- None is put.
-pub answer-none : (as′ : List Answer) (base l : List (List ℕ)) → l ≡ over (answersOf as′) base → l ≡ over (answersOf (as′ ++ [])) base
-answer-none as′ base l e = e ∙ ap (λ (t : List Answer). over (answersOf t) base) (sym (append-nil as′))
-
-pub answer-same : (as′ : List Answer) (n : ℕ) → n ≡ length as′ → n ≡ length (as′ ++ [])
-answer-same as′ n e = e ∙ ap (λ (t : List Answer). length t) (sym (append-nil as′))
 
 -- ---- THE FILE BEHIND THE RECORD
 

@@ -1,21 +1,20 @@
-// The records behind the seal: marks, settles and sifts over the buffers of Kept, up to the end of the input or the first that is
-// refused. The buffers are then those of the file that the definition of whole files gives.
+// The records after the seal: marks, settles and sifts over the buffers of Kept, up to the end of the input or the first that is
+// refused.
 ghost use mathlib.Core.Path.{_≡_};
 ghost use mathlib.Core.Bool.{true};
-ghost use mathlib.Core.List.{List, [], _∷_, _++_};
+ghost use mathlib.Core.List.{List, []};
 ghost use Prim.Native.Nat.{ℕ, _+_, _<_, _≤_};
-ghost use lib.ListN.{length, set};
+ghost use lib.ListN.{length};
 ghost use Rattle.memory.specs.Buffers.{heldRows, built, kept, longestInput};
-ghost use Rattle.base.specs.Laid.{over};
-ghost use Rattle.between.specs.Numbers.{liveOf, Tidy};
-ghost use Rattle.files.specs.Sift.{sifted};
-ghost use Rattle.files.specs.File.{File, Answer, refusal, outcome, apply, standing as standingOf};
+ghost use Rattle.row_moves.specs.Numbers.{liveOf, Tidy};
+ghost use Rattle.drain.specs.Sift.{sifted};
+ghost use Rattle.files.specs.File.{File, refusal, outcome, apply, standing as standingOf};
 ghost use Rattle.records.specs.declared.Record.the-variants.{Seal};
-ghost use Rattle.records.specs.declared.Next.the-variants.{Taken};
-ghost use Rattle.records.specs.Next.{nextAt};
-ghost use Rattle.serve.specs.Serve.{answersOf, Lies, Seals, Asks, came, answered, Takes, stood as stands, Reaches, readAt, fourfold};
+ghost use Rattle.checks.specs.declared.Next.the-variants.{Taken};
+ghost use Rattle.checks.specs.Next.{nextAt};
+ghost use Rattle.serve.specs.Serve.{Lies, Seals, Asks, came, Takes, stood as stands, Reaches, readAt, fourfold};
+use checks::Next;
 use queues::Rings;
-use records::Next;
 use records::Record;
 use records::Standing;
 use sift::Sifted;
@@ -65,7 +64,7 @@ fn take(
         Record::Mark(node, value) => {
             let place = node as usize;
             let sure_of = value == 1;
-            let did = settle::mark(
+            let did = seal::mark(
                 figures,
                 cursors,
                 sure,
@@ -136,34 +135,6 @@ fn take(
             rings: rings,
             visits: 0,
         },
-    }
-}
-
-// An answer is put behind those that are there; how many there are then.
-fn put(answers: &mut [[u16; 2]], count: usize, number: u16, visits: u16) -> usize
-    requires { ⌜ (count < length (now answers)) × (count < 64) ⌝ }
-    ensures { λ r. ⌜ (now (answers .exit) ≡ set (now (answers .entry)) count (number ∷ visits ∷ [])) × (r ≡ count + 1) ⌝ }
-{
-    let pair: [u16; 2] = [number, visits];
-    answers[count] = pair;
-    count + 1
-}
-
-// The answer of a settle or of a sift, a sift's with its visits and its number from 4 on; other records have none.
-fn store(answers: &mut [[u16; 2]], count: usize, given: Record, step: Step, visits: usize) -> usize
-    requires { ⌜ (0 < length (answered given step visits) → count < 64) × (64 ≤ length (now answers)) × (visits ≤ 4096) ⌝ }
-    ensures { λ r. ⌜ ((before : List Answer) (base : List (List ℕ)) → 64 ≤ length base → count ≡ length before → now (answers .entry) ≡ over (answersOf before) base
-        → (now (answers .exit) ≡ over (answersOf (before ++ answered given step visits)) base) × (r ≡ length (before ++ answered given step visits))) ⌝ }
-{
-    let number = step.number();
-    match given {
-        Record::Settle => put(answers, count, number as u16, 0),
-        Record::Sift => {
-            let used = visits as u16;
-            let tagged = number as u16 + 4;
-            put(answers, count, tagged, used)
-        }
-        _ => count,
     }
 }
 
@@ -246,7 +217,7 @@ fn take_record(
     let visits = came.visits;
     let standing = reached.standing;
     let before = standing.answers;
-    let count = store(answers, before, given, step, visits);
+    let count = answers::store(answers, before, given, step, visits);
     let next = stood(standing, step, count);
     Reached {
         at: behind,
@@ -291,7 +262,7 @@ fn serve_record(
 {
     let at = reached.at;
     let standing = reached.standing;
-    let found = records::next_record(input, at, standing);
+    let found = checks::next_record(input, at, standing);
     match found {
         Next::Refused(number) => {
             let last = reached.last;
@@ -454,7 +425,7 @@ pub fn seal_and_serve(
         (now (answers .exit))) r (readAt (length (now (input .entry))) (now (input .entry)) at f))
         × (fourfold (now («row_queues» .exit)) ≡ now («row_queues» .exit)) ⌝ }
 {
-    let did = settle::seal(
+    let did = seal::seal(
         row_conditions,
         row_weights,
         rows,

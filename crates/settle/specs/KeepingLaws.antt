@@ -19,18 +19,18 @@ use Rattle.queues.specs.RowsLaws.{flags-oldest, oldest-row}
 use Rattle.queues.specs.Waiting.{Flags, Queued}
 use Rattle.queues.specs.Marks.{Marks, decide}
 use Rattle.queues.specs.MarksLaws.{decide-other}
-use Rattle.thresholds.specs.Rows.{Row, noRow, edgesOf}
-use Rattle.prefixes.specs.Links.{neighbours}
-use Rattle.propagate.specs.Row.{wantsResidual}
-use Rattle.between.specs.Between.{Index, Live, Did, stateAt, residualQueued, runWith, runRow, guardOf, thresholdCondition, thresholdPrefixes}
-use Rattle.between.specs.Held.{GuardsShaped, LinksShaped, HoldsGuards, HoldsLinks}
-use Rattle.between.specs.GuardLaws.{guard-held}
-use Rattle.between.specs.WalkLaws.{Moves, keep-guard, keep-condition, keep-prefixes}
-use Rattle.between.specs.KeptLaws.{Light}
-use Rattle.between.specs.KeptHeldLaws.{links-inside}
+use Rattle.rows.specs.Rows.{Row, noRow, edgesOf}
+use Rattle.links.specs.Links.{neighbours}
+use Rattle.row_runs.specs.Row.{wantsResidual}
+use Rattle.row_moves.specs.Between.{Index, Live, Did, stateAt, residualQueued, runWith, runRow, guardOf, thresholdCondition, thresholdPrefixes}
+use Rattle.row_moves.specs.Held.{GuardsShaped, LinksShaped, HoldsGuards, HoldsLinks}
+use Rattle.row_moves.specs.GuardLaws.{guard-held}
+use Rattle.row_moves.specs.WalkLaws.{Moves, keep-guard, keep-condition, keep-prefixes}
+use Rattle.row_moves.specs.KeptLaws.{Light}
+use Rattle.row_moves.specs.KeptHeldLaws.{links-inside}
 use Rattle.theorem_follows.specs.WaitingLaws.{queued-decide}
-use Rattle.between.specs.KeepsLaws.{run-named}
-use Rattle.between.specs.Ready.{Names}
+use Rattle.row_moves.specs.KeepsLaws.{run-named}
+use Rattle.row_moves.specs.Ready.{Names}
 use Rattle.theorem_follows.specs.KeepsLaws.{run-keeps}
 use Rattle.theorem_follows.specs.Ordered.{Ordered}
 use Rattle.settle.specs.Serves.{Among, Low, Tracked}

@@ -2,4 +2,3 @@ pub mod Serves
 pub mod KeepingLaws
 pub mod TurnLaws
 pub mod SettlingLaws
-pub mod BeginsLaws

@@ -8,11 +8,11 @@ use lib.IntN.{ℤ}
 use Rattle.memory.specs.Ranges.{drainLimit, roomLimit}
 use Rattle.memory.specs.Buffers.{HeldRows, Built}
 use Rattle.queues.specs.Queue.{Rows}
-use Rattle.thresholds.specs.Rows.{noRow}
-use Rattle.between.specs.Between.{Index, Live}
-use Rattle.between.specs.Held.{startBy, endBy, Shaped, EdgesShaped, LinksShaped, GuardsShaped, Holds, HoldsEdges, HoldsLinks, HoldsGuards}
-use Rattle.between.specs.Ready.{Runnable, Names}
-use Rattle.theorem_ends.specs.Good.{Indexed, Sound}
+use Rattle.rows.specs.Rows.{noRow}
+use Rattle.row_moves.specs.Between.{Index, Live}
+use Rattle.row_moves.specs.Held.{startBy, endBy, Shaped, EdgesShaped, LinksShaped, GuardsShaped, Holds, HoldsEdges, HoldsLinks, HoldsGuards}
+use Rattle.row_moves.specs.Ready.{Runnable, Names}
+use Rattle.theorem_ends.specs.Sound.{Indexed, Sound}
 use Rattle.queues.specs.Marks.{Marks, isDecided}
 use Rattle.theorem_follows.specs.Ordered.{Ordered}
 use Rattle.queues.specs.Waiting.{Queued}

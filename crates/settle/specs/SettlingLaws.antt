@@ -13,9 +13,9 @@ use Rattle.memory.specs.Buffers.{Built}
 use Rattle.state.specs.declared.Step.{Step}
 use Rattle.state.specs.declared.Step.the-variants.{Unchanged}
 use Rattle.state.specs.Step.{joined, contradicts}
-use Rattle.between.specs.Between.{Index, Live, Did, did}
-use Rattle.files.specs.Drain.{turn, atRest, drain, turns, settle}
-use Rattle.files.specs.DrainLaws.{drain-goes, settle-keeps}
+use Rattle.row_moves.specs.Between.{Index, Live, Did, did}
+use Rattle.drain.specs.Drain.{turn, atRest, drain, turns, settle}
+use Rattle.drain.specs.DrainLaws.{drain-goes, settle-keeps}
 use Rattle.theorem_ends.specs.TurnsLaws.{left, left-most}
 use Rattle.theorem_ends.specs.SettlesLaws.{fall-turn}
 use Rattle.settle.specs.Serves.{Serves, Going}

@@ -27,15 +27,15 @@ use Rattle.queues.specs.RowsLaws.{flags-next, oldest-row}
 use Rattle.queues.specs.Marks.{Marks, marks, isDecided}
 use Rattle.queues.specs.MarksLaws.{waits-popped}
 use Rattle.queues.specs.Waiting.{Waits, Flags}
-use Rattle.between.specs.Between.{Index, Live, live, Did, did, guardOf, thresholdCondition, thresholdPrefixes}
-use Rattle.between.specs.Handing.{after}
-use Rattle.between.specs.Held.{startBy, endBy}
-use Rattle.between.specs.WalkLaws.{Moves}
-use Rattle.between.specs.Ready.{Ready, Runnable}
-use Rattle.between.specs.KeptLaws.{runnable-more, runnable-by}
-use Rattle.between.specs.KeptHeldLaws.{edges-light, edges-many, kept-node, kept-links, kept-guard-of}
-use Rattle.files.specs.Drain.{takeNode, takeRow, turn, atRest}
-use Rattle.files.specs.DrainLaws.{untaken, unrowed, nodeTold, nodeDrained, node-ends, row-ends, turn-ends}
+use Rattle.row_moves.specs.Between.{Index, Live, live, Did, did, guardOf, thresholdCondition, thresholdPrefixes}
+use Rattle.row_moves.specs.Handing.{after}
+use Rattle.row_moves.specs.Held.{startBy, endBy}
+use Rattle.row_moves.specs.WalkLaws.{Moves}
+use Rattle.row_moves.specs.Ready.{Ready, Runnable}
+use Rattle.row_moves.specs.KeptLaws.{runnable-more, runnable-by}
+use Rattle.row_moves.specs.KeptHeldLaws.{edges-light, edges-many, kept-node, kept-links, kept-guard-of}
+use Rattle.drain.specs.Drain.{takeNode, takeRow, turn, atRest}
+use Rattle.drain.specs.DrainLaws.{untaken, unrowed, nodeTold, nodeDrained, node-ends, row-ends, turn-ends}
 use Rattle.theorem_ends.specs.SettlesLaws.{fall-turn}
 use Rattle.theorem_follows.specs.StandsLaws.{also, also-other, also-this}
 use Rattle.theorem_follows.specs.WaitingLaws.{first-decided, first-fresh, queued-taken}

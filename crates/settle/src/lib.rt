@@ -1,103 +1,24 @@
-// Sealing, marking and draining over the buffers: `settle` of regions.rs with its turns. Nodes come before rows, each in the order in
-// which it came to wait.
+// Draining over the buffers: `settle` of regions.rs with its turns. Nodes come before rows, each in the order in which they were queued.
 ghost use mathlib.Core.Path.{_≡_};
 ghost use mathlib.Core.Bool.{not, _&&_};
 ghost use mathlib.Core.List.{List};
-ghost use Prim.Native.Nat.{ℕ, _<_, _≤_};
+ghost use Prim.Native.Nat.{ℕ, _<_};
 ghost use lib.Dec.{eqb};
 ghost use lib.ListN.{length};
-ghost use Rattle.memory.specs.Limits.{maxNodes};
-ghost use Rattle.memory.specs.Ranges.{totalLimit, figureLimit};
+ghost use Rattle.memory.specs.Ranges.{figureLimit};
 ghost use Rattle.memory.specs.Buffers.{heldRows, built};
 ghost use Rattle.queues.specs.Queue.{queue, oldest};
 ghost use Rattle.queues.specs.Slot.{rowsIn};
-ghost use Rattle.queues.specs.Marks.{marks};
-ghost use Rattle.queues.specs.Waiting.{Waits, Flags};
-ghost use Rattle.between.specs.Between.{Index, did};
-ghost use Rattle.between.specs.Numbers.{statesOf, Tidy, liveOf};
-ghost use Rattle.between.specs.Held.{Shaped, LinksShaped, Holds, HoldsLinks};
-ghost use Rattle.between.specs.Ready.{Runnable, Totals};
-ghost use Rattle.files.specs.Drain.{mark as marked, seal as seals, takeNode, takeRow, turn as turns, settle as settles};
+ghost use Rattle.row_moves.specs.Between.{Index, did};
+ghost use Rattle.row_moves.specs.Numbers.{Tidy, liveOf};
+ghost use Rattle.row_moves.specs.Held.{Shaped, LinksShaped, Holds, HoldsLinks};
+ghost use Rattle.row_moves.specs.Ready.{Runnable};
+ghost use Rattle.drain.specs.Drain.{takeNode, takeRow, turn as turns, settle as settles};
 ghost use Rattle.settle.specs.Serves.{Serves, Among, Going};
-use between::Did;
 use queues::Ring;
 use queues::Rings;
+use row_moves::Did;
 use state::Step;
-
-// A mark decides its node, which then waits.
-pub fn mark(
-    figures: &mut [[i64; 4]],
-    cursors: &mut [[usize; 5]],
-    sure: &mut [u64],
-    never: &mut [u64],
-    node_queue: &mut [u16],
-    row_queues: &mut [[u16; 4]],
-    rings: Rings,
-    node: usize,
-    value: bool,
-) -> Did
-    requires { ⌜ Waits (marks (now sure) (now never) (queue (now «node_queue») (rings .nodes))) × (node < maxNodes) ⌝ }
-    ensures { λ r. ⌜ (did (liveOf (now (figures .exit)) (now (cursors .exit)) (now (sure .exit)) (now (never .exit)) (now («node_queue» .exit)) (now («row_queues» .exit)) (r .rings)) (r .step)
-        ≡ marked (liveOf (now (figures .entry)) (now (cursors .entry)) (now (sure .entry)) (now (never .entry)) (now («node_queue» .entry)) (now («row_queues» .entry)) rings) node value)
-        × (Tidy (now (figures .entry)) (now (cursors .entry)) → Tidy (now (figures .exit)) (now (cursors .exit))) ⌝ }
-{
-    let ring = rings.nodes;
-    let made = queues::decide(value, sure, never, node_queue, ring, node);
-    let step = made.step;
-    let next = made.ring;
-    let rows = rings.rows;
-    let residuals = rings.residuals;
-    let stand = Rings {
-        nodes: next,
-        rows: rows,
-        residuals: residuals,
-    };
-    Did {
-        step: step,
-        rings: stand,
-    }
-}
-
-// A seal gives every row its first state and runs each once.
-pub fn seal(
-    row_conditions: &[u16],
-    row_weights: &[u64],
-    rows: &[[u16; 3]],
-    guard_bounds: &[i64],
-    guard_nodes: &[u16],
-    figures: &mut [[i64; 4]],
-    cursors: &mut [[usize; 5]],
-    sure: &mut [u64],
-    never: &mut [u64],
-    node_queue: &mut [u16],
-    row_queues: &mut [[u16; 4]],
-    rings: Rings,
-) -> Did
-    requires { ⌜ ((x : Index) × Holds x (heldRows (now «row_conditions») (now «row_weights») (now rows) (now «guard_bounds») (now «guard_nodes»)))
-        × Shaped (heldRows (now «row_conditions») (now «row_weights») (now rows) (now «guard_bounds») (now «guard_nodes»))
-        × Totals totalLimit (now «row_conditions») (now «row_weights») (now rows) × (length (now rows) ≤ length (statesOf (now figures) (now cursors))) ⌝ }
-    requires { ⌜ Waits (marks (now sure) (now never) (queue (now «node_queue») (rings .nodes))) × Flags (rowsIn 2 (now «row_queues») (rings .residuals)) ⌝ }
-    ensures { λ r. ⌜ ((x : Index) → Holds x (heldRows (now («row_conditions» .entry)) (now («row_weights» .entry)) (now (rows .entry)) (now («guard_bounds» .entry)) (now («guard_nodes» .entry)))
-        → did (liveOf (now (figures .exit)) (now (cursors .exit)) (now (sure .exit)) (now (never .exit)) (now («node_queue» .exit)) (now («row_queues» .exit)) (r .rings)) (r .step)
-        ≡ seals x (liveOf (now (figures .entry)) (now (cursors .entry)) (now (sure .entry)) (now (never .entry)) (now («node_queue» .entry)) (now («row_queues» .entry)) rings))
-        × (Tidy (now (figures .entry)) (now (cursors .entry)) → Tidy (now (figures .exit)) (now (cursors .exit))) ⌝ }
-{
-    between::first_states(row_conditions, row_weights, rows, figures, cursors);
-    between::seed_thresholds(
-        row_conditions,
-        row_weights,
-        rows,
-        guard_bounds,
-        guard_nodes,
-        figures,
-        cursors,
-        sure,
-        never,
-        node_queue,
-        row_queues,
-        rings,
-    )
-}
 
 // The node that has waited longest.
 fn oldest_node(node_queue: &[u16], ring: Ring) -> usize
@@ -105,7 +26,7 @@ fn oldest_node(node_queue: &[u16], ring: Ring) -> usize
     ensures { λ r. ⌜ r ≡ oldest (queue (now («node_queue» .entry)) ring) ⌝ }
 {
     let head = ring.head;
-    thresholds::place(node_queue[head])
+    rows::place(node_queue[head])
 }
 
 // The row that has waited longest in the queue whose columns begin at k.
@@ -115,7 +36,7 @@ pub fn oldest_row(row_queues: &[[u16; 4]], k: usize, ring: Ring) -> usize
 {
     let head = ring.head;
     let slot = row_queues[head];
-    thresholds::place(slot[k])
+    rows::place(slot[k])
 }
 
 // The oldest node is taken: its guard, then, unless that contradicts, its condition.
@@ -156,7 +77,7 @@ fn take_node(
         rows: waiting,
         residuals: residuals,
     };
-    let told = handing::guard_at(
+    let told = bound_moves::guard_at(
         row_conditions,
         row_weights,
         rows,
@@ -178,7 +99,7 @@ fn take_node(
         return told;
     }
     let later = told.rings;
-    let ran = between::threshold_condition(
+    let ran = conditions::threshold_condition(
         row_conditions,
         row_weights,
         rows,
@@ -240,7 +161,7 @@ fn take_row(
         rows: next,
         residuals: residuals,
     };
-    handing::threshold_prefixes(
+    bound_moves::threshold_prefixes(
         row_conditions,
         row_weights,
         rows,

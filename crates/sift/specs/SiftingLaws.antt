@@ -15,12 +15,12 @@ use Rattle.state.specs.declared.Step.{Step}
 use Rattle.state.specs.declared.Step.the-variants.{Unchanged, Changed, Contradiction}
 use Rattle.state.specs.Step.{joined, contradicts}
 use Rattle.queues.specs.Queue.{isEmpty}
-use Rattle.between.specs.Between.{Index, Live, Did}
-use Rattle.between.specs.LoopLaws.{joined-assoc}
-use Rattle.between.specs.KeptLaws.{runnable-more}
-use Rattle.files.specs.Drain.{turns, settle}
-use Rattle.files.specs.Sift.{Sifted, sifted, tryRow, siftFrom, sift}
-use Rattle.files.specs.SiftLaws.{tries, sift-tries, sift-keeps}
+use Rattle.row_moves.specs.Between.{Index, Live, Did}
+use Rattle.row_moves.specs.LoopLaws.{joined-assoc}
+use Rattle.row_moves.specs.KeptLaws.{runnable-more}
+use Rattle.drain.specs.Drain.{turns, settle}
+use Rattle.drain.specs.Sift.{Sifted, sifted, tryRow, siftFrom, sift}
+use Rattle.drain.specs.SiftLaws.{tries, sift-tries, sift-keeps}
 use Rattle.theorem_ends.specs.TurnsLaws.{left, left-most}
 use Rattle.theorem_ends.specs.SettlesLaws.{settle-stays, fall-try}
 use Rattle.settle.specs.Serves.{Serves, Going}

@@ -12,14 +12,14 @@ use Rattle.state.specs.declared.Step.the-variants.{Contradiction}
 use Rattle.state.specs.Step.{joined, contradicts, isUnchanged}
 use Rattle.queues.specs.Queue.{isEmpty}
 use Rattle.queues.specs.Marks.{isDecided}
-use Rattle.residual.specs.Residual.{thresholdResidual}
-use Rattle.possible_sums.specs.Shape.{Zeros}
-use Rattle.possible_sums.specs.Search.{search, searchStep, searchVisits}
-use Rattle.between.specs.Between.{Index, Live}
-use Rattle.between.specs.Held.{startBy, endBy, Shaped}
-use Rattle.between.specs.Ready.{ReadyLive}
-use Rattle.files.specs.Drain.{withMarks, settle}
-use Rattle.files.specs.Sift.{Sifted, sifted, tryRow}
+use Rattle.intervals.specs.Residual.{thresholdResidual}
+use Rattle.searches.specs.Shape.{Zeros}
+use Rattle.searches.specs.Search.{search, searchStep, searchVisits}
+use Rattle.row_moves.specs.Between.{Index, Live}
+use Rattle.row_moves.specs.Held.{startBy, endBy, Shaped}
+use Rattle.row_moves.specs.Ready.{ReadyLive}
+use Rattle.drain.specs.Drain.{withMarks, settle}
+use Rattle.drain.specs.Sift.{Sifted, sifted, tryRow}
 use Rattle.settle.specs.Serves.{Among}
 
 -- The gcds of the longest row and one more have room, as do the words of a search, which are zero before and after.

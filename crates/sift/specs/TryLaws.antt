@@ -19,18 +19,18 @@ use Rattle.state.specs.Shape.{Figures}
 use Rattle.queues.specs.Queue.{Rows, isEmpty, oldest, nextRow}
 use Rattle.queues.specs.RowsLaws.{flags-next}
 use Rattle.queues.specs.Marks.{isDecided}
-use Rattle.thresholds.specs.Rows.{noRow}
-use Rattle.thresholds.specs.Raw.{stretch}
-use Rattle.thresholds.specs.RawLaws.{stretch-length}
-use Rattle.residual.specs.Residual.{Residual, thresholdResidual}
-use Rattle.possible_sums.specs.declared.Search.{Search}
-use Rattle.possible_sums.specs.Search.{search, searchStep, searchVisits}
-use Rattle.between.specs.Between.{Index, Live, live, stateAt}
-use Rattle.between.specs.Held.{startBy, endBy, heldTerms}
-use Rattle.between.specs.KeepsLaws.{Small, member-all}
-use Rattle.files.specs.Drain.{withMarks}
-use Rattle.files.specs.Sift.{Sifted, sifted, tryRow}
-use Rattle.files.specs.SiftLaws.{tryTerms, tryResidual, tryLive, try-row, try-leaves}
+use Rattle.rows.specs.Rows.{noRow}
+use Rattle.base.specs.Parts.{stretch}
+use Rattle.rows.specs.ListsLaws.{stretch-length}
+use Rattle.intervals.specs.Residual.{Residual, thresholdResidual}
+use Rattle.searches.specs.declared.Search.{Search}
+use Rattle.searches.specs.Search.{search, searchStep, searchVisits}
+use Rattle.row_moves.specs.Between.{Index, Live, live, stateAt}
+use Rattle.row_moves.specs.Held.{startBy, endBy, heldTerms}
+use Rattle.row_moves.specs.KeepsLaws.{Small, member-all}
+use Rattle.drain.specs.Drain.{withMarks}
+use Rattle.drain.specs.Sift.{Sifted, sifted, tryRow}
+use Rattle.drain.specs.SiftLaws.{tryTerms, tryResidual, tryLive, try-row, try-leaves}
 use Rattle.theorem_ends.specs.KeepsLaws.{residual-named}
 use Rattle.theorem_ends.specs.SettlesLaws.{fall-try}
 use Rattle.theorem_follows.specs.WaitingLaws.{queued-decide}

@@ -11,12 +11,12 @@ ghost use Rattle.state.specs.Shape.{Figures};
 ghost use Rattle.queues.specs.Queue.{queue};
 ghost use Rattle.queues.specs.Marks.{marks};
 ghost use Rattle.queues.specs.Waiting.{Waits};
-ghost use Rattle.propagate.specs.Shape.{TermSlices};
-ghost use Rattle.between.specs.Between.{Index, Live};
-ghost use Rattle.between.specs.Numbers.{liveOf, Tidy};
-ghost use Rattle.between.specs.Held.{Holds};
-ghost use Rattle.files.specs.Drain.{withMarks};
-ghost use Rattle.files.specs.Sift.{sifted, tryRow, sift as sifts};
+ghost use Rattle.row_runs.specs.Shape.{TermSlices};
+ghost use Rattle.row_moves.specs.Between.{Index, Live};
+ghost use Rattle.row_moves.specs.Numbers.{liveOf, Tidy};
+ghost use Rattle.row_moves.specs.Held.{Holds};
+ghost use Rattle.drain.specs.Drain.{withMarks};
+ghost use Rattle.drain.specs.Sift.{sifted, tryRow, sift as sifts};
 ghost use Rattle.settle.specs.Serves.{Serves, Going};
 ghost use Rattle.sift.specs.Tries.{Scratch, Short, Tries, tried, round, once};
 use queues::Ring;
@@ -119,9 +119,9 @@ fn try_row(
     let residuals = rings.residuals;
     let row = settle::oldest_row(row_queues, 2, residuals);
     let left = queues::next_row(row_queues, 2, residuals);
-    let a = between::start_by(rows, 0, row);
-    let e = between::end_by(rows, 0, row);
-    let state = between::load(figures, cursors, row);
+    let a = rows::terms_start(rows, row);
+    let e = rows::terms_end(rows, row);
+    let state = row_moves::load(figures, cursors, row);
     let ring = rings.nodes;
     let tried = try_terms(
         &row_conditions[a..e],

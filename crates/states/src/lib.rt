@@ -4,7 +4,7 @@ ghost use Prim.Native.Nat.{_<_, _≤_};
 ghost use lib.ListN.{length, getD, set, take};
 ghost use Rattle.memory.specs.Limits.{maxThresholds};
 ghost use Rattle.state.specs.State.{noState};
-ghost use Rattle.between.specs.Numbers.{statesOf};
+ghost use Rattle.row_moves.specs.Numbers.{statesOf};
 ghost use Rattle.states.specs.States.{shown};
 use state::State;
 
@@ -29,7 +29,7 @@ fn row_state(figures: &[[i64; 4]], cursors: &[[usize; 5]], row: usize) -> State
     ensures { λ r. ⌜ r ≡ getD (take maxThresholds (statesOf (now (figures .entry)) (now (cursors .entry)))) row noState ⌝ }
 {
     if row < 1024 {
-        return between::load(figures, cursors, row);
+        return row_moves::load(figures, cursors, row);
     }
     State::first(0, 0)
 }

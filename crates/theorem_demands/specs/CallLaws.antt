@@ -23,7 +23,7 @@ use Rattle.state.specs.declared.Upper.{Upper}
 use Rattle.state.specs.Step.{contradicts}
 use Rattle.state.specs.State.{noState, limit, limited, figuresOf, cursorsOf}
 use Rattle.words.specs.Mask.{bit, digit}
-use Rattle.thresholds.specs.Rows.{Row, rowsOf}
+use Rattle.rows.specs.Rows.{Row, rowsOf}
 use Rattle.memory.specs.Buffers.{Work, fits, zeros, cleared, clearKept}
 use Rattle.records.specs.declared.Record.{Record}
 use Rattle.records.specs.declared.Record.the-variants.{Seal, Mark, Settle}
@@ -31,8 +31,8 @@ use Rattle.files.specs.File.{File, contradicted, begun, settledFile, act, apply
 use Rattle.files.specs.FileLaws.{after-snoc}
 use Rattle.files.specs.Contents.{Out, served, whole, laid, keptOf}
 use Rattle.theorem_table.specs.Table.{Table, ReachesConflict}
-use Rattle.theorem_ends.specs.BuiltLaws.{rows-few}
-use Rattle.theorem_ends.specs.FilesLaws.{both}
+use Rattle.theorem_limits.specs.BuiltLaws.{rows-few}
+use Rattle.theorem_limits.specs.FilesLaws.{both}
 use Rattle.theorem_demands.specs.Reading.{Agrees, SameMarks, NoSift, decidedIn, decidedAnd, marksOnly, SameEnd, SameFigures, records, decoded, plainlyAll, Passes}
 use Rattle.theorem_demands.specs.Demands.{ExactlyTheTable, SaysTable, SaysSame, CallIsTheTable}
 use Rattle.theorem_demands.specs.RefusalLaws.{taken, good, untouched-when, files}

@@ -24,26 +24,27 @@ use Rattle.words.specs.Shift as Shift
 use Rattle.queues.specs.Queue as Queues
 use Rattle.queues.specs.Marks as Marks
 use Rattle.row.specs.Terms as Terms
-use Rattle.thresholds.specs.Rows as Rows
-use Rattle.prefixes.specs.Links as Links
+use Rattle.rows.specs.Rows as Rows
+use Rattle.links.specs.Links as Links
 use Rattle.divisors.specs.Gcd as Gcd
-use Rattle.residual.specs.Misses as Misses
-use Rattle.residual.specs.Residual as Residuals
-use Rattle.possible_sums.specs.declared.Search.{Search}
-use Rattle.possible_sums.specs.declared.Search.the-variants.{Cut}
-use Rattle.possible_sums.specs.Search as Searches
-use Rattle.propagate.specs.Scan as Scan
-use Rattle.propagate.specs.Row as Row
-use Rattle.between.specs.Between as Between
-use Rattle.files.specs.Drain as Drain
-use Rattle.files.specs.Sift as Sift
+use Rattle.misses.specs.Misses as Misses
+use Rattle.intervals.specs.Residual as Residuals
+use Rattle.searches.specs.declared.Search.{Search}
+use Rattle.searches.specs.declared.Search.the-variants.{Cut}
+use Rattle.searches.specs.Search as Searches
+use Rattle.row_runs.specs.Scan as Scan
+use Rattle.row_runs.specs.Row as Row
+use Rattle.row_moves.specs.Between as Between
+use Rattle.drain.specs.Drain as Drain
+use Rattle.drain.specs.Sift as Sift
 use Rattle.records.specs.declared.Record.{Record}
 use Rattle.records.specs.declared.Record.the-variants.{Header, Opens, Adds, Areas, Seal, Mark, Settle, Sift, Unknown}
 use Rattle.records.specs.Record.{littleEndian}
-use Rattle.records.specs.Checks as Checks
+use Rattle.checks.specs.Checks as Checks
 use Rattle.job.specs.Job as Job
 use Rattle.files.specs.File as File
 use Rattle.files.specs.Listing.{text, listing}
+use Rattle.text.specs.Decimal as Decimal
 use Rattle.files.specs.Listing as Listing
 
 -- A number as so many bytes, the lowest first.
@@ -187,7 +188,7 @@ unmarked =
     ∷ []
 
 computed : All Right cases × All Right shown × All Right joining × All Right unmarked
-unfolding States.firstState States.noState States.withKnown States.withPossible States.withLower States.withUpper States.withGuards States.withTerms States.drained States.conflict States.hasResidualInterval Mask.setBit Mask.learn Mask.count Shift.shiftWord Shift.wordHits Shift.shiftFrom Shift.unionShifted Queues.push Queues.popped Queues.queueRow Queues.nextRow Marks.decide Terms.merge Terms.merged Terms.insert Terms.sorted Terms.total Terms.sameTerms Rows.insertGuard Rows.place Rows.placeAll Rows.rowNumber Rows.hasNonunit Rows.edgesIn Rows.edgesFrom Links.notAfter Links.insertRow Links.orderFrom Links.common Links.ancestors Links.stacked Links.linked Links.linksFrom Links.links Links.neighbours Gcd.gcdIn Gcd.gcd Misses.misses Misses.branchMisses Residuals.checkFrom Residuals.residualCheck Residuals.fitsFrom Residuals.suffixFrom Residuals.forceTerm Residuals.forceFrom Residuals.thresholdResidual Searches.plan Searches.chosen Searches.searchFrom Searches.search Scan.scan Row.thresholdGuards Row.trueTerms Row.falseTerms Row.scans Row.thresholdRow Row.wantsResidual Between.runWith Between.runRow Between.bounded Between.thresholdGuard Between.conditionFrom Between.thresholdCondition Between.prefixesFrom Between.thresholdPrefixes Between.firstStates Between.seedFrom Between.guardOf Drain.seal Drain.mark Drain.takeNode Drain.takeRow Drain.drain Sift.tryRow Sift.siftFrom File.begun Job.lastNode Job.lastList Job.allTerms Checks.first File.refusal Job.onLast Area.hundredths Area.without Area.joined Layout.value Least.among Least.askedNodes Least.grown File.sealedFile File.markedFile File.settledFile File.siftedFile File.act File.apply File.readFrom File.fileOf File.planned File.after Listing.text Listing.digits Listing.answerLines Listing.nodeLines Listing.rowLines Listing.listing littleEndian bytes twos written writtenAll
+unfolding States.firstState States.noState States.withKnown States.withPossible States.withLower States.withUpper States.withGuards States.withTerms States.drained States.conflict States.hasResidualInterval Mask.setBit Mask.learn Mask.count Shift.shiftWord Shift.wordHits Shift.shiftFrom Shift.unionShifted Queues.push Queues.popped Queues.queueRow Queues.nextRow Marks.decide Terms.merge Terms.merged Terms.insert Terms.sorted Terms.total Terms.sameTerms Rows.insertGuard Rows.place Rows.placeAll Rows.rowNumber Rows.hasNonunit Rows.edgesIn Rows.edgesFrom Links.notAfter Links.insertRow Links.orderFrom Links.common Links.ancestors Links.stacked Links.linked Links.linksFrom Links.links Links.neighbours Gcd.gcdIn Gcd.gcd Misses.misses Misses.branchMisses Residuals.checkFrom Residuals.residualCheck Residuals.fitsFrom Residuals.suffixFrom Residuals.forceTerm Residuals.forceFrom Residuals.thresholdResidual Searches.plan Searches.chosen Searches.searchFrom Searches.search Scan.scan Row.thresholdGuards Row.trueTerms Row.falseTerms Row.scans Row.thresholdRow Row.wantsResidual Between.runWith Between.runRow Between.bounded Between.thresholdGuard Between.conditionFrom Between.thresholdCondition Between.prefixesFrom Between.thresholdPrefixes Between.firstStates Between.seedFrom Between.guardOf Drain.seal Drain.mark Drain.takeNode Drain.takeRow Drain.drain Sift.tryRow Sift.siftFrom File.begun Job.lastNode Job.lastList Job.allTerms Checks.first File.refusal Job.onLast Area.hundredths Area.without Area.joined Layout.value Least.among Least.askedNodes Least.grown File.sealedFile File.markedFile File.settledFile File.siftedFile File.act File.apply File.readFrom File.fileOf File.planned File.after Listing.text Decimal.digits Listing.answerLines Listing.nodeLines Listing.rowLines Listing.listing littleEndian bytes twos written writtenAll
 computed = (
   (refl, (refl, (refl, (refl, (refl, (refl, (refl, (refl, (refl, (refl, (refl, (nothing-fits, (refl, (refl, (refl, (refl, (refl, (refl, tt)))))))))))))))))),
   ((refl, refl, refl, refl), ((refl, refl, refl, refl), (refl, ((refl, refl, refl), tt)))),

@@ -20,13 +20,13 @@ use Rattle.state.specs.State.{limit, limited}
 use Rattle.words.specs.Mask.{bit}
 use Rattle.queues.specs.Queue.{isEmpty}
 use Rattle.row.specs.Terms.{rowTerms}
-use Rattle.thresholds.specs.Rows.{Row, rowsOf}
-use Rattle.possible_sums.specs.declared.Window.{Window}
-use Rattle.possible_sums.specs.declared.Plan.the-variants.{Planned}
-use Rattle.possible_sums.specs.declared.Search.the-variants.{Cut}
-use Rattle.possible_sums.specs.Search.{plan, search, searchStep, searchVisits, Lands}
+use Rattle.rows.specs.Rows.{Row, rowsOf}
+use Rattle.searches.specs.declared.Window.{Window}
+use Rattle.searches.specs.declared.Plan.the-variants.{Planned}
+use Rattle.searches.specs.declared.Search.the-variants.{Cut}
+use Rattle.searches.specs.Search.{plan, search, searchStep, searchVisits, Lands}
 use Rattle.theorem_table.specs.Table.{Table, knownOf, possibleOf, Conflict, Run, steps, ReachesConflict, AtRest, Ended}
-use Rattle.files.specs.Drain.{atRest}
+use Rattle.drain.specs.Drain.{atRest}
 use Rattle.records.specs.declared.Record.{Record}
 use Rattle.records.specs.declared.Record.the-variants.{Seal, Mark, Settle, Sift}
 use Rattle.records.specs.Facts.{changes, adds}

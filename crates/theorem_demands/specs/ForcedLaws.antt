@@ -8,7 +8,7 @@ use Rattle.base.specs.TestLaws.{clash}
 use Rattle.numeric.specs.Layout.{Layout, IsLayout}
 use Rattle.words.specs.Mask.{bit}
 use Rattle.files.specs.File.{File, contradicted, planned}
-use Rattle.theorem_ends.specs.FilesLaws.{planned-passed}
+use Rattle.theorem_limits.specs.FilesLaws.{planned-passed}
 use Rattle.theorem_demands.specs.LayoutTurnsLaws.{Fits}
 use Rattle.theorem_demands.specs.LayoutFilesLaws.{file-layouts}
 use Rattle.theorem_demands.specs.Reading.{Agrees}

@@ -14,18 +14,18 @@ use Rattle.numeric.specs.Threshold.{Job}
 use Rattle.numeric.specs.Area.{jobOf}
 use Rattle.numeric.specs.Layout.{Layout, IsLayout}
 use Rattle.queues.specs.Marks.{Marks, decide}
-use Rattle.thresholds.specs.Rows.{noRow, rowsOf}
-use Rattle.residual.specs.SoundLaws.{Kept, decide-kept}
-use Rattle.files.specs.Drain as Drain
-use Rattle.files.specs.Drain.{indexOf}
+use Rattle.rows.specs.Rows.{noRow, rowsOf}
+use Rattle.intervals.specs.SoundLaws.{Kept, decide-kept}
+use Rattle.drain.specs.Drain as Drain
+use Rattle.drain.specs.Drain.{indexOf}
 use Rattle.records.specs.declared.Record.{Record}
 use Rattle.records.specs.Facts.{Action, begins, changes, closes, decides, settles, sifts, idles, action, facts}
 use Rattle.files.specs.File.{File, contradicted, begun, sealedFile, markedFile, settledFile, siftedFile, act, apply, after, Passed}
 use Rattle.theorem_table.specs.Table.{IsRow}
-use Rattle.theorem_ends.specs.BuiltLaws.{fits-of, fits-node, fits-condition, rows-few, indexed}
-use Rattle.theorem_ends.specs.Good.{Fits as JobFits, Good}
-use Rattle.theorem_ends.specs.BlankLaws.{blank-begun}
-use Rattle.theorem_ends.specs.FilesLaws.{good-begun, both, Taken, taken, building-turn, change-turn, serving-turn, node-small, good-apply}
+use Rattle.theorem_limits.specs.BuiltLaws.{fits-of, fits-node, fits-condition, rows-few, indexed}
+use Rattle.theorem_limits.specs.Good.{Fits as JobFits, Good}
+use Rattle.theorem_limits.specs.BlankLaws.{blank-begun}
+use Rattle.theorem_limits.specs.FilesLaws.{good-begun, both, Taken, taken, building-turn, change-turn, serving-turn, node-small, good-apply}
 use Rattle.theorem_follows.specs.Ordered.{Ordered}
 use Rattle.theorem_follows.specs.StandsLaws.{stay-same, stay-decide, apart-decide}
 use Rattle.theorem_follows.specs.BuiltLaws.{Built, built, rows-ordered}

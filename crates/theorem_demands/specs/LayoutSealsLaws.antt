@@ -8,13 +8,13 @@ use Rattle.memory.specs.Limits.{maxThresholds}
 use Rattle.numeric.specs.Threshold.{Job}
 use Rattle.numeric.specs.Layout.{Layout, IsLayout}
 use Rattle.words.specs.Mask.{bit}
-use Rattle.thresholds.specs.Rows.{noRow}
-use Rattle.between.specs.Between.{Index, Live, runRow}
-use Rattle.files.specs.Drain.{seal}
-use Rattle.files.specs.DrainLaws.{begun, seal-walks}
+use Rattle.rows.specs.Rows.{noRow}
+use Rattle.row_moves.specs.Between.{Index, Live, runRow}
+use Rattle.drain.specs.Drain.{seal}
+use Rattle.drain.specs.DrainLaws.{begun, seal-walks}
 use Rattle.theorem_table.specs.Table.{IsRow, start}
-use Rattle.theorem_ends.specs.Good.{Sound}
-use Rattle.theorem_ends.specs.BuiltLaws.{first-long}
+use Rattle.theorem_ends.specs.Sound.{Sound}
+use Rattle.theorem_ends.specs.SealsLaws.{first-long}
 use Rattle.theorem_follows.specs.Ordered.{Ordered}
 use Rattle.theorem_follows.specs.StandsLaws.{restart}
 use Rattle.theorem_follows.specs.BuiltLaws.{Built}

@@ -8,13 +8,13 @@ use Rattle.base.specs.TestLaws.{clash, and-left}
 use Rattle.numeric.specs.Threshold.{Job}
 use Rattle.numeric.specs.Layout.{Layout, IsLayout}
 use Rattle.state.specs.Step.{contradicts}
-use Rattle.thresholds.specs.Rows.{noRow}
-use Rattle.between.specs.Between.{Index, Live}
-use Rattle.files.specs.Drain.{settle}
-use Rattle.files.specs.Sift.{Sifted, tryRow, sift}
-use Rattle.files.specs.SiftLaws.{sift-walks}
+use Rattle.rows.specs.Rows.{noRow}
+use Rattle.row_moves.specs.Between.{Index, Live}
+use Rattle.drain.specs.Drain.{settle}
+use Rattle.drain.specs.Sift.{Sifted, tryRow, sift}
+use Rattle.drain.specs.SiftLaws.{sift-walks}
 use Rattle.theorem_table.specs.Table.{IsRow}
-use Rattle.theorem_ends.specs.Good.{Indexed, Sound}
+use Rattle.theorem_ends.specs.Sound.{Indexed, Sound}
 use Rattle.theorem_ends.specs.SettlesLaws.{settle-stays, settle-ends, fall-try}
 use Rattle.theorem_follows.specs.Ordered.{Ordered}
 use Rattle.theorem_follows.specs.BuiltLaws.{Built}

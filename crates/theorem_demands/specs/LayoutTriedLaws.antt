@@ -32,21 +32,21 @@ use Rattle.queues.specs.Marks.{Marks, isDecided, Decided, decide}
 use Rattle.queues.specs.MarksLaws.{mask, decide-there, decide-clash, decide-new}
 use Rattle.row.specs.Terms.{rowTerms}
 use Rattle.row.specs.TermsLaws as TermsLaws
-use Rattle.thresholds.specs.Rows.{Row, noRow, rowsOf, hasNonunit}
-use Rattle.propagate.specs.Guards.{Condition}
-use Rattle.residual.specs.declared.Interval.{Interval}
+use Rattle.rows.specs.Rows.{Row, noRow, rowsOf, hasNonunit}
+use Rattle.row_runs.specs.Guards.{Condition}
+use Rattle.intervals.specs.declared.Interval.{Interval}
 use Rattle.divisors.specs.Gcd.{gcd}
-use Rattle.residual.specs.Residual.{interval, residualCheck, suffixes, placed, forceTerm, forceFrom, Residual, residual, over, nothingForced, thresholdResidual}
-use Rattle.residual.specs.CheckLaws.{check-unit}
-use Rattle.residual.specs.ForceLaws.{force-cases, from-skip, from-stop, from-more, residual-none, residual-rest, residual-forced}
-use Rattle.residual.specs.SumsLaws.{openWeights, openSum, sum, open-skip, open-more}
-use Rattle.residual.specs.SoundLaws.{Fresh, Distinct, residual-sound}
-use Rattle.possible_sums.specs.Search.{plan, search, searchStep, chosen}
-use Rattle.possible_sums.specs.SearchLaws.{search-refutes}
-use Rattle.between.specs.Between.{Index, Live, stateAt}
-use Rattle.between.specs.KeepsLaws.{Small}
-use Rattle.files.specs.Sift.{Sifted, tryRow}
-use Rattle.files.specs.SiftLaws.{tryTerms, tryResidual, tryLive, try-ends}
+use Rattle.intervals.specs.Residual.{interval, residualCheck, suffixes, placed, forceTerm, forceFrom, Residual, residual, over, nothingForced, thresholdResidual}
+use Rattle.intervals.specs.CheckLaws.{check-unit}
+use Rattle.intervals.specs.ForceLaws.{force-cases, from-skip, from-stop, from-more, residual-none, residual-rest, residual-forced}
+use Rattle.intervals.specs.SumsLaws.{openWeights, openSum, sum, open-skip, open-more}
+use Rattle.intervals.specs.SoundLaws.{Fresh, Distinct, residual-sound}
+use Rattle.searches.specs.Search.{plan, search, searchStep, chosen}
+use Rattle.searches.specs.SearchLaws.{search-refutes}
+use Rattle.row_moves.specs.Between.{Index, Live, stateAt}
+use Rattle.row_moves.specs.KeepsLaws.{Small}
+use Rattle.drain.specs.Sift.{Sifted, tryRow}
+use Rattle.drain.specs.SiftLaws.{tryTerms, tryResidual, tryLive, try-ends}
 use Rattle.theorem_table.specs.Table.{IsRow, termsOf, known, possible}
 use Rattle.theorem_table.specs.OrderLaws.{UpLe, le, lt, of-le, ≤ℤ-trans}
 use Rattle.theorem_table.specs.LayoutLaws.{row-made}

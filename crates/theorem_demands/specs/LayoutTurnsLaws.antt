@@ -14,11 +14,11 @@ use Rattle.words.specs.Mask.{bit}
 use Rattle.queues.specs.Queue.{Rows, oldest, nextRow}
 use Rattle.queues.specs.Marks.{Marks, isDecided}
 use Rattle.queues.specs.MarksLaws.{mask}
-use Rattle.thresholds.specs.Rows.{noRow}
-use Rattle.between.specs.Between.{Index, Live, live, Did, runRow, thresholdGuard, thresholdCondition, thresholdPrefixes}
-use Rattle.between.specs.WalkLaws.{guard-of-ends}
-use Rattle.files.specs.Drain.{takeNode, takeRow, turn, atRest, settle}
-use Rattle.files.specs.DrainLaws.{untaken, unrowed, nodeTold, nodeDrained, node-ends, row-ends, turn-ends, settle-walks}
+use Rattle.rows.specs.Rows.{noRow}
+use Rattle.row_moves.specs.Between.{Index, Live, live, Did, runRow, thresholdGuard, thresholdCondition, thresholdPrefixes}
+use Rattle.row_moves.specs.WalkLaws.{guard-of-ends}
+use Rattle.drain.specs.Drain.{takeNode, takeRow, turn, atRest, settle}
+use Rattle.drain.specs.DrainLaws.{untaken, unrowed, nodeTold, nodeDrained, node-ends, row-ends, turn-ends, settle-walks}
 use Rattle.theorem_table.specs.Table.{IsRow}
 use Rattle.theorem_table.specs.TableLaws.{le-same, follows-start}
 use Rattle.theorem_follows.specs.Ordered.{Ordered}

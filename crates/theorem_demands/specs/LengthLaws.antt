@@ -11,24 +11,24 @@ use Rattle.base.specs.TestLaws.{true-false}
 use Rattle.base.specs.Laid.{over, joinAll, ends, pairs, triples, quads, numbers}
 use Rattle.numeric.specs.Threshold.{Term, Threshold}
 use Rattle.numeric.specs.Area.{jobOf}
-use Rattle.thresholds.specs.Rows.{Row, Guard, rowsOf}
-use Rattle.thresholds.specs.Laid.{conditions, weights, termLists, guardLists, guardBounds, guardNodes, thresholdOf, rowOfNode, edgeLists, edgeRow}
-use Rattle.prefixes.specs.Links.{neighbourLists}
-use Rattle.prefixes.specs.HeldLaws.{length-numbers}
-use Rattle.prepare.specs.RowsGivenLaidLaws.{length-ends}
+use Rattle.rows.specs.Rows.{Row, Guard, rowsOf}
+use Rattle.rows.specs.Laid.{conditions, weights, termLists, guardLists, guardBounds, guardNodes, thresholdOf, rowOfNode, edgeLists, edgeRow}
+use Rattle.links.specs.Links.{neighbourLists}
+use Rattle.base.specs.LaidLaws.{length-numbers}
+use Rattle.placing.specs.RowsGivenLaidLaws.{length-ends}
 use Rattle.state.specs.State.{figuresOf, cursorsOf}
 use Rattle.memory.specs.Limits.{maxNodes, maxTerms, maxThresholds, maxGcds, maxLinks}
 use Rattle.memory.specs.Buffers.{Work, rawLengths, builtLengths, keptLengths, fits, zeros, cleared, clearRaw, clearBuilt, clearKept}
 use Rattle.memory.specs.LengthsLaws.{Sized, fits-sized}
 use Rattle.job.specs.Job.{allTerms}
 use Rattle.files.specs.File.{File, fileOf}
-use Rattle.prepare.specs.JobBuffers.{listsOf, rawOf, builtWith, builtOf}
+use Rattle.job.specs.JobBuffers.{listsOf, rawOf, builtWith, builtOf}
 use Rattle.files.specs.Contents.{answerNumber, answerVisits, keptOf, laid, Out, whole}
-use Rattle.theorem_ends.specs.BuiltLaws.{fits-of, rows-few}
-use Rattle.theorem_ends.specs.SizeLaws.{zeros-long, terms-few, guards-few, edges-most, links-most, pairs-few, triples-few, quads-few}
+use Rattle.theorem_limits.specs.BuiltLaws.{fits-of, rows-few}
+use Rattle.theorem_limits.specs.SizeLaws.{zeros-long, terms-few, guards-few, edges-most, links-most, pairs-few, triples-few, quads-few}
 use Rattle.theorem_demands.specs.MemoryLaws.{SameLengths}
 use Rattle.theorem_demands.specs.RefusalLaws.{served-when, untouched-when}
-use Rattle.theorem_ends.specs.KeptLaws.{Kept, kept-file}
+use Rattle.theorem_limits.specs.KeptLaws.{Kept, kept-file}
 
 -- A list that fits, laid into a cleared buffer.
 laid-long : {X : Type 0} (z : X) (l b : List X) (n : ℕ) → length l ≤ n → n ≤ length b → length (over l (zeros z b)) ≡ length b

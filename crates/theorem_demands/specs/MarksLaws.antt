@@ -11,15 +11,15 @@ use lib.Dec.{eqb, ltb}
 use borrow.Author.Tests.{eq-eqb, ne-eqb, ltb-false}
 use Rattle.words.specs.Mask.{bit}
 use Rattle.queues.specs.MarksLaws.{mask}
-use Rattle.thresholds.specs.Rows.{rowsOf}
-use Rattle.between.specs.Between.{Live}
+use Rattle.rows.specs.Rows.{rowsOf}
+use Rattle.row_moves.specs.Between.{Live}
 use Rattle.theorem_table.specs.Table.{Table}
 use Rattle.records.specs.declared.Record.{Record}
 use Rattle.records.specs.declared.Record.the-variants.{Settle}
 use Rattle.records.specs.Facts.{Action, begins, changes, closes, decides, settles, sifts, idles, action, facts}
 use Rattle.files.specs.File.{File, contradicted, begun, sealedFile, markedFile, settledFile, act, apply, after, planned, Passed}
-use Rattle.theorem_ends.specs.BlankLaws.{blank-begun}
-use Rattle.theorem_ends.specs.FilesLaws.{both, Taken, taken, building-turn, change-turn}
+use Rattle.theorem_limits.specs.BlankLaws.{blank-begun}
+use Rattle.theorem_limits.specs.FilesLaws.{both, Taken, taken, building-turn, change-turn}
 use Rattle.theorem_follows.specs.DecideLaws.{decideAs}
 use Rattle.theorem_demands.specs.TableSealsLaws.{ownStart}
 use Rattle.theorem_demands.specs.TableRecordsLaws.{From, Breaks, Keeps, keeps-begun, keeps-apply, seal-from, mark-from, settle-from}

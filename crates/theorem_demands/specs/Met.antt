@@ -1,10 +1,10 @@
 -- WHICH DEMANDS ARE MET: a value of the type that states each. The proofs stand in the files named `Laws` beside this one, and in `theorem_ends`.
 use Rattle.numeric.specs.AreaLaws as AreaLaws
 use Rattle.numeric.specs.LeastLaws as LeastLaws
-use Rattle.possible_sums.specs.SearchLaws as SearchLaws
+use Rattle.searches.specs.SearchLaws as SearchLaws
 use Rattle.job.specs.JobLaws.{last-added, all-added}
 use Rattle.files.specs.File.{act}
-use Rattle.theorem_ends.specs.FilesLaws as Files
+use Rattle.theorem_limits.specs.FilesLaws as Files
 use Rattle.theorem_demands.specs.Demands.{Demand1, Demand2, Demand3, AreasAdded, UnmarkedHasLayout, Call, ClauseA, ClauseC}
 use Rattle.theorem_demands.specs.RefusalLaws as Refusals
 use Rattle.theorem_demands.specs.ReadLaws as Reads

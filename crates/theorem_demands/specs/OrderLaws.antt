@@ -14,13 +14,13 @@ use borrow.Author.Tests.{eq-eqb, eqb-true}
 use Rattle.base.specs.TestLaws.{or-left, or-right, same-bool, true-false, and-left, and-right, or-true, unequal}
 use Rattle.numeric.specs.Threshold.{Job}
 use Rattle.numeric.specs.Area.{jobOf}
-use Rattle.thresholds.specs.Rows.{Row, rowsOf}
+use Rattle.rows.specs.Rows.{Row, rowsOf}
 use Rattle.records.specs.declared.Record.{Record}
 use Rattle.records.specs.declared.Record.the-variants.{Settle}
 use Rattle.records.specs.Facts.{Action, begins, changes, closes, decides, settles, sifts, idles, action}
 use Rattle.files.specs.File.{File, contradicted, begun, settledFile, act, apply, after, planned, Passed}
 use Rattle.files.specs.FileLaws.{after-snoc}
-use Rattle.theorem_ends.specs.FilesLaws.{both, taken as accepts, serving-turn, planned-passed}
+use Rattle.theorem_limits.specs.FilesLaws.{both, taken as accepts, serving-turn, planned-passed}
 use Rattle.theorem_table.specs.Table.{Table, knownOf, possibleOf}
 use Rattle.theorem_table.specs.TableLaws.{Le, follows-more}
 use Rattle.theorem_follows.specs.DecideLaws.{Broken}

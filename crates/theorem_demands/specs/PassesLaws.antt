@@ -9,10 +9,10 @@ use lib.ListN.{length, length-append}
 use Rattle.records.specs.declared.Record.{Record}
 use Rattle.records.specs.Facts.{Action, begins, changes, closes, decides, settles, sifts, idles, action}
 use Rattle.records.specs.declared.Standing.{Standing}
-use Rattle.records.specs.Checks.{refusedBy}
+use Rattle.checks.specs.Checks.{refusedBy}
 use Rattle.job.specs.Job.{standingOf}
 use Rattle.files.specs.File.{File, Answer, contradicted, begun, standing, refusal, sealedFile, markedFile, settledFile, siftedFile, act, apply, planned, Passed}
-use Rattle.theorem_ends.specs.FilesLaws.{taken, planned-passed}
+use Rattle.theorem_limits.specs.FilesLaws.{taken, planned-passed}
 use Rattle.theorem_demands.specs.Reading.{records, decoded, plain, plainly, Passes}
 use Rattle.theorem_demands.specs.ReadOnLaws.{planned-over, Level, level-same, level-apply}
 

@@ -14,10 +14,10 @@ use Rattle.numeric.specs.Area.{Draft}
 use Rattle.records.specs.declared.Record.{Record}
 use Rattle.records.specs.Record.{kindOf, bodyLength}
 use Rattle.records.specs.Facts.{Action, begins, changes, closes, decides, settles, sifts, idles, action, facts}
-use Rattle.records.specs.Checks.{anyOf, wrongTurn, notRising, badBound, tooMany, Check, check, first}
+use Rattle.checks.specs.Checks.{anyOf, wrongTurn, notRising, badBound, tooMany, Check, check, first}
 use Rattle.job.specs.Job.{withChange}
 use Rattle.files.specs.File.{File, contradicted, begun, standing, refusal, sealedFile, markedFile, settledFile, siftedFile, act, apply, Outcome, outcome, recordAt, unknownKind, cutBody, refusalAt, readFrom, fileOf, planned, after}
-use Rattle.theorem_ends.specs.FilesLaws.{both, Taken, taken, building-turn, change-turn, serving-turn, refused-by}
+use Rattle.theorem_limits.specs.FilesLaws.{both, Taken, taken, building-turn, change-turn, serving-turn, refused-by}
 use Rattle.theorem_demands.specs.Reading.{Decoded, records, damaged, decodeFrom, decoded, plain, plainly, plainlyAll, Passes}
 
 -- ---- READING

@@ -14,14 +14,14 @@ use Rattle.words.specs.Mask.{bit}
 use Rattle.state.specs.Step.{contradicts, isUnchanged}
 use Rattle.queues.specs.Queue.{isEmpty, oldest}
 use Rattle.queues.specs.Marks.{isDecided}
-use Rattle.thresholds.specs.Rows.{noRow, rowsOf}
-use Rattle.residual.specs.Residual.{thresholdResidual}
-use Rattle.possible_sums.specs.declared.Search.{Search}
-use Rattle.possible_sums.specs.declared.Search.the-variants.{Skipped, Fits, Nothing, Cut}
-use Rattle.possible_sums.specs.Search.{search, searchVisits}
-use Rattle.between.specs.Between.{Index, Live, stateAt}
-use Rattle.files.specs.Drain.{indexOf, turns, settle}
-use Rattle.files.specs.Sift.{tryRow}
+use Rattle.rows.specs.Rows.{noRow, rowsOf}
+use Rattle.intervals.specs.Residual.{thresholdResidual}
+use Rattle.searches.specs.declared.Search.{Search}
+use Rattle.searches.specs.declared.Search.the-variants.{Skipped, Fits, Nothing, Cut}
+use Rattle.searches.specs.Search.{search, searchVisits}
+use Rattle.row_moves.specs.Between.{Index, Live, stateAt}
+use Rattle.drain.specs.Drain.{indexOf, turns, settle}
+use Rattle.drain.specs.Sift.{tryRow}
 use Rattle.theorem_table.specs.Table.{Table, start, knownOf, possibleOf}
 use Rattle.records.specs.declared.Record.{Record}
 use Rattle.records.specs.Record.{kindOf, bodyLength}

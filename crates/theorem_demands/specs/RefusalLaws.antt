@@ -17,8 +17,8 @@ use Rattle.files.specs.File.{Outcome, outcome, fileOf, begun, after, planned, r
 use Rattle.files.specs.FileLaws.{read-up-to, read-taken, read-enough, read-cut}
 use Rattle.memory.specs.LengthsLaws.{fits-input, fits-shorter}
 use Rattle.files.specs.Contents.{Out, served, untouched, whole}
-use Rattle.theorem_ends.specs.FilesLaws.{good-before}
-use Rattle.theorem_ends.specs.Good.{Good}
+use Rattle.theorem_limits.specs.FilesLaws.{good-before}
+use Rattle.theorem_limits.specs.Good.{Good}
 use Rattle.theorem_demands.specs.Demands.{accepted}
 
 pub numbers : (input : List ℕ) (w : Work) → whole input w .given .refused ≤ 10

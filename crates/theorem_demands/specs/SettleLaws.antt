@@ -12,13 +12,13 @@ use borrow.Author.Tests.{ne-eqb}
 use Rattle.numeric.specs.Area.{jobOf}
 use Rattle.base.specs.TestLaws.{true-false}
 use Rattle.words.specs.Mask.{bit}
-use Rattle.thresholds.specs.Rows.{Row, rowsOf}
-use Rattle.between.specs.Between.{Live}
+use Rattle.rows.specs.Rows.{Row, rowsOf}
+use Rattle.row_moves.specs.Between.{Live}
 use Rattle.records.specs.declared.Record.{Record}
 use Rattle.records.specs.declared.Record.the-variants.{Seal, Mark, Settle}
 use Rattle.files.specs.File.{File, contradicted, begun, refusal, sealedFile, markedFile, settledFile, act, apply, after, planned, Passed}
-use Rattle.theorem_ends.specs.BlankLaws.{bit-behind}
-use Rattle.theorem_ends.specs.FilesLaws.{taken, planned-passed}
+use Rattle.theorem_limits.specs.BlankLaws.{bit-behind}
+use Rattle.theorem_limits.specs.FilesLaws.{taken, planned-passed}
 use Rattle.theorem_table.specs.Table.{Table, start, ReachesConflict, AtRest}
 use Rattle.theorem_table.specs.TableLaws.{run-below}
 use Rattle.theorem_table.specs.Ends.{Finite}

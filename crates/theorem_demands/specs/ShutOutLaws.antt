@@ -13,22 +13,22 @@ use Rattle.state.specs.declared.Step.the-variants.{Unchanged, Changed, Contradi
 use Rattle.state.specs.Step.{joined, contradicts}
 use Rattle.words.specs.Mask.{bit}
 use Rattle.queues.specs.Queue.{isEmpty}
-use Rattle.possible_sums.specs.declared.Search.{Search}
-use Rattle.possible_sums.specs.declared.Search.the-variants.{Skipped, Fits, Nothing, Cut}
-use Rattle.possible_sums.specs.Search.{searchVisits}
-use Rattle.between.specs.Between.{Index, Live, Did}
-use Rattle.files.specs.Drain.{indexOf}
-use Rattle.files.specs.Drain as Drain
-use Rattle.files.specs.Sift.{Sifted, tryRow, siftFrom}
-use Rattle.files.specs.Sift as Sift
-use Rattle.files.specs.SiftLaws.{trySearch, try-ends, tries, sift-tries, sift-none}
+use Rattle.searches.specs.declared.Search.{Search}
+use Rattle.searches.specs.declared.Search.the-variants.{Skipped, Fits, Nothing, Cut}
+use Rattle.searches.specs.Search.{searchVisits}
+use Rattle.row_moves.specs.Between.{Index, Live, Did}
+use Rattle.drain.specs.Drain.{indexOf}
+use Rattle.drain.specs.Drain as Drain
+use Rattle.drain.specs.Sift.{Sifted, tryRow, siftFrom}
+use Rattle.drain.specs.Sift as Sift
+use Rattle.drain.specs.SiftLaws.{trySearch, try-ends, tries, sift-tries, sift-none}
 use Rattle.records.specs.declared.Record.{Record}
 use Rattle.records.specs.declared.Record.the-variants.{Header, Opens, Adds, Seal, Mark, Settle, Sift}
 use Rattle.records.specs.Facts.{Action, decides, action}
 use Rattle.files.specs.File.{File, Answer, settled, sifted, contradicted, begun, siftedFile, act, apply, after, planned}
 use Rattle.memory.specs.Buffers.{Work, rawLists, raw, heldRows, built, kept, work, enough, fitsBy, fits}
 use Rattle.files.specs.Contents.{Out, whole}
-use Rattle.theorem_ends.specs.FilesLaws.{both}
+use Rattle.theorem_limits.specs.FilesLaws.{both}
 use Rattle.theorem_demands.specs.Reading.{Marked, marks, orBefore, triedSearch, lastFrom, lastSearch}
 use Rattle.theorem_demands.specs.RefusalLaws.{taken, files}
 use Rattle.theorem_demands.specs.Cases.{Right, takes, forces, drains, two-wait, file-A, file-B, writtenAll, written, bytes, shown-right}

@@ -16,12 +16,12 @@ use Rattle.numeric.specs.Threshold.{ThresholdOf, Threshold, Job}
 use Rattle.numeric.specs.Area.{Entry, weighedThreshold}
 use Rattle.numeric.specs.Least.{NodesRise}
 use Rattle.row.specs.TermsLaws.{all-map}
-use Rattle.thresholds.specs.Rows.{noRow, rowsOf}
-use Rattle.files.specs.Drain.{indexOf}
+use Rattle.rows.specs.Rows.{noRow, rowsOf}
+use Rattle.drain.specs.Drain.{indexOf}
 use Rattle.job.specs.Job.{lastNode, onLast}
 use Rattle.job.specs.JobLaws.{every-on}
-use Rattle.theorem_ends.specs.BuiltLaws.{every-last, fits-node, fits-condition}
-use Rattle.theorem_ends.specs.Good.{Fits}
+use Rattle.theorem_limits.specs.BuiltLaws.{every-last, fits-node, fits-condition}
+use Rattle.theorem_limits.specs.Good.{Fits}
 use Rattle.theorem_table.specs.Table.{IsRow}
 use Rattle.theorem_follows.specs.Ordered.{Ordered}
 use Rattle.theorem_follows.specs.BuiltLaws.{Built, built, rows-ordered}

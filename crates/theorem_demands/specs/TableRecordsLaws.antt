@@ -10,18 +10,18 @@ use lib.Dec.{eqb}
 use Rattle.numeric.specs.Threshold.{Job}
 use Rattle.numeric.specs.Area.{Draft, jobOf}
 use Rattle.numeric.specs.Least.{NodesRise}
-use Rattle.thresholds.specs.Rows.{rowsOf}
-use Rattle.between.specs.Between.{Live}
-use Rattle.files.specs.Drain as Drain
-use Rattle.files.specs.Drain.{indexOf}
+use Rattle.rows.specs.Rows.{rowsOf}
+use Rattle.row_moves.specs.Between.{Live}
+use Rattle.drain.specs.Drain as Drain
+use Rattle.drain.specs.Drain.{indexOf}
 use Rattle.records.specs.declared.Record.{Record}
 use Rattle.records.specs.Facts.{Change, opens, adds, Action, begins, changes, closes, decides, settles, sifts, idles, action, facts}
 use Rattle.job.specs.Job.{changed}
 use Rattle.files.specs.File.{File, contradicted, begun, refusal, sealedFile, markedFile, settledFile, siftedFile, act, apply, after, Passed}
-use Rattle.theorem_ends.specs.BlankLaws.{blank-begun}
-use Rattle.theorem_ends.specs.BuiltLaws.{fits-of}
-use Rattle.theorem_ends.specs.FilesLaws.{good-begun, both, Taken, taken, building-turn, change-turn, serving-turn, node-small, good-apply}
-use Rattle.theorem_ends.specs.Good.{Good}
+use Rattle.theorem_limits.specs.BlankLaws.{blank-begun}
+use Rattle.theorem_limits.specs.BuiltLaws.{fits-of}
+use Rattle.theorem_limits.specs.FilesLaws.{good-begun, both, Taken, taken, building-turn, change-turn, serving-turn, node-small, good-apply}
+use Rattle.theorem_limits.specs.Good.{Good}
 use Rattle.theorem_table.specs.Table.{Table}
 use Rattle.theorem_follows.specs.DecideLaws.{Broken, decideAs}
 use Rattle.theorem_follows.specs.FirstLaws.{Undrained, undrained-from, undrained-none}

@@ -6,12 +6,13 @@ use Rattle.memory.specs.Limits.{maxThresholds}
 use Rattle.numeric.specs.Threshold.{Job}
 use Rattle.numeric.specs.Least.{NodesRise}
 use Rattle.words.specs.Mask.{bit}
-use Rattle.thresholds.specs.Rows.{rowsOf}
-use Rattle.between.specs.Between.{Live}
-use Rattle.files.specs.Drain.{indexOf, seal}
-use Rattle.theorem_ends.specs.Good as Good
-use Rattle.theorem_ends.specs.BuiltLaws.{rows-few, first-long}
-use Rattle.theorem_ends.specs.Good.{Fits}
+use Rattle.rows.specs.Rows.{rowsOf}
+use Rattle.row_moves.specs.Between.{Live}
+use Rattle.drain.specs.Drain.{indexOf, seal}
+use Rattle.theorem_ends.specs.Sound as Ends
+use Rattle.theorem_limits.specs.BuiltLaws.{rows-few}
+use Rattle.theorem_ends.specs.SealsLaws.{first-long}
+use Rattle.theorem_limits.specs.Good.{Fits}
 use Rattle.theorem_table.specs.Table.{Table, start}
 use Rattle.theorem_follows.specs.FirstLaws.{Undrained, first-undrained}
 use Rattle.theorem_demands.specs.TableJobsLaws.{job-built, job-ordered, job-single}
@@ -21,7 +22,7 @@ use Rattle.theorem_demands.specs.TableTurnsLaws.{Goes, seals-go}
 abbrev pub ownStart : Live → Table
 ownStart v = start (bit (v .marks .sure)) (bit (v .marks .never))
 
-pub seal-goes : (j : Job) → Fits j → NodesRise (j .thresholds) → (v : Live) → Good.Sound v → Undrained (length (rowsOf j)) v → Goes (indexOf j) (ownStart v) (seal (indexOf j) v)
+pub seal-goes : (j : Job) → Fits j → NodesRise (j .thresholds) → (v : Live) → Ends.Sound v → Undrained (length (rowsOf j)) v → Goes (indexOf j) (ownStart v) (seal (indexOf j) v)
 seal-goes j f rises v s u =
     seals-go j (indexOf j) (job-built j) (job-ordered j f) (job-single j rises) (ownStart v) v
     (first-undrained (indexOf j) v (omega (arith, few, s .long)) (omega (arith, few, s .dirty .long)) (first-long 0 (rowsOf j) (v .states)) u)

@@ -14,14 +14,15 @@ use Rattle.words.specs.Mask.{bit}
 use Rattle.queues.specs.Queue.{Rows, oldest, nextRow}
 use Rattle.queues.specs.Marks.{Marks, isDecided, Decided, decide}
 use Rattle.queues.specs.MarksLaws.{decide-new}
-use Rattle.between.specs.Between.{Index, Live, live, stateAt}
-use Rattle.between.specs.KeepsLaws.{Small}
-use Rattle.files.specs.Drain.{indexOf, mark, settle}
-use Rattle.files.specs.Sift.{Sifted, tryRow, sift}
-use Rattle.files.specs.SiftLaws.{tryTerms, tryResidual, tryLive, try-leaves, sift-walks}
+use Rattle.row_moves.specs.Between.{Index, Live, live, stateAt}
+use Rattle.row_moves.specs.KeepsLaws.{Small}
+use Rattle.drain.specs.Drain.{indexOf, mark, settle}
+use Rattle.drain.specs.Sift.{Sifted, tryRow, sift}
+use Rattle.drain.specs.SiftLaws.{tryTerms, tryResidual, tryLive, try-leaves, sift-walks}
 use Rattle.theorem_ends.specs.KeepsLaws.{residual-named}
-use Rattle.theorem_ends.specs.Good.{Indexed, Fits}
-use Rattle.theorem_ends.specs.BuiltLaws.{indexed}
+use Rattle.theorem_limits.specs.Good.{Fits}
+use Rattle.theorem_ends.specs.Sound.{Indexed}
+use Rattle.theorem_limits.specs.BuiltLaws.{indexed}
 use Rattle.theorem_table.specs.Table.{Table, start}
 use Rattle.theorem_follows.specs.DecideLaws.{decideAs}
 use Rattle.theorem_follows.specs.StandsLaws.{decide-nothing, not-decided}

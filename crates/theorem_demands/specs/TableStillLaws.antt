@@ -7,13 +7,13 @@ use lib.ListN.{length}
 use Rattle.numeric.specs.Threshold.{Job}
 use Rattle.numeric.specs.Least.{NodesRise}
 use Rattle.queues.specs.Waiting.{Flags}
-use Rattle.thresholds.specs.Rows.{rowsOf}
-use Rattle.between.specs.Between.{Live, stateAt}
-use Rattle.files.specs.Drain.{indexOf, atRest}
+use Rattle.rows.specs.Rows.{rowsOf}
+use Rattle.row_moves.specs.Between.{Live, stateAt}
+use Rattle.drain.specs.Drain.{indexOf, atRest}
 use Rattle.records.specs.declared.Record.the-variants.{Settle}
 use Rattle.files.specs.File.{File, contradicted, refusal, settledFile, act, apply}
-use Rattle.theorem_ends.specs.Good.{Fits}
-use Rattle.theorem_ends.specs.FilesLaws.{taken, good-apply, rests-settle}
+use Rattle.theorem_limits.specs.Good.{Fits}
+use Rattle.theorem_limits.specs.FilesLaws.{taken, good-apply, rests-settle}
 use Rattle.theorem_table.specs.Table.{Table, knownOf, possibleOf, AtRest, Ended}
 use Rattle.theorem_table.specs.TableLaws.{le-both, only-end, conflict-up}
 use Rattle.theorem_follows.specs.DecideLaws.{Broken}

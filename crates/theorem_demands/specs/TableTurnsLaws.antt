@@ -20,11 +20,11 @@ use Rattle.queues.specs.QueueLaws.{empty-none}
 use Rattle.queues.specs.OnceLaws.{times-none}
 use Rattle.queues.specs.Waiting.{times, Flags}
 use Rattle.queues.specs.Marks.{isDecided}
-use Rattle.thresholds.specs.Rows.{Row, noRow}
-use Rattle.between.specs.Between.{Index, Live, Did, did, stateAt, runRow, thresholdGuard, guardOf}
-use Rattle.between.specs.WalkLaws.{guard-of-ends}
-use Rattle.files.specs.Drain.{seal, takeNode, takeRow, turn, atRest, settle}
-use Rattle.files.specs.DrainLaws.{begun, untaken, unrowed, nodeTold, nodeDrained, node-ends, row-ends, turn-ends, seal-walks, settle-walks}
+use Rattle.rows.specs.Rows.{Row, noRow}
+use Rattle.row_moves.specs.Between.{Index, Live, Did, did, stateAt, runRow, thresholdGuard, guardOf}
+use Rattle.row_moves.specs.WalkLaws.{guard-of-ends}
+use Rattle.drain.specs.Drain.{seal, takeNode, takeRow, turn, atRest, settle}
+use Rattle.drain.specs.DrainLaws.{begun, untaken, unrowed, nodeTold, nodeDrained, node-ends, row-ends, turn-ends, seal-walks, settle-walks}
 use Rattle.theorem_table.specs.Table.{Table, IsRow, knownOf, possibleOf, AtRest}
 use Rattle.theorem_follows.specs.DecideLaws.{Broken}
 use Rattle.theorem_follows.specs.Ordered.{Ordered}

@@ -16,7 +16,7 @@ use Rattle.memory.specs.Buffers.{Work, fits}
 use Rattle.records.specs.declared.Record.{Record}
 use Rattle.files.specs.File.{File, contradicted, begun, after, planned, Passed}
 use Rattle.files.specs.Contents.{Out, whole}
-use Rattle.theorem_ends.specs.FilesLaws.{planned-passed, passed-before}
+use Rattle.theorem_limits.specs.FilesLaws.{planned-passed, passed-before}
 use Rattle.theorem_demands.specs.Reading.{Unmarked, Agrees}
 use Rattle.theorem_demands.specs.TableJobsLaws.{rises-weighed}
 use Rattle.theorem_demands.specs.TableRecordsLaws.{Keeps, keeps-begun, keeps-after}

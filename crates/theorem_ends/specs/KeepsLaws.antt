@@ -6,9 +6,9 @@ use Rattle.base.specs.All.{All}
 use Rattle.numeric.specs.Threshold.{Term}
 use Rattle.state.specs.declared.State.{State}
 use Rattle.queues.specs.Marks.{Marks, Decided, decide}
-use Rattle.residual.specs.Residual.{thresholdResidual}
-use Rattle.residual.specs.declared.Interval.{Interval}
-use Rattle.residual.specs.ForceLaws.{Each, force-cases, residual-keeping}
+use Rattle.intervals.specs.Residual.{thresholdResidual}
+use Rattle.intervals.specs.declared.Interval.{Interval}
+use Rattle.intervals.specs.ForceLaws.{Each, force-cases, residual-keeping}
 
 inside : (Q : Term → Type 0) (ts : List Term) → All Q ts → Each Q ts
 inside Q [] h = tt

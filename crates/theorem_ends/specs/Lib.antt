@@ -3,9 +3,5 @@ pub mod RoomsLaws
 pub mod KeepsLaws
 pub mod TurnsLaws
 pub mod SettlesLaws
-pub mod BuiltLaws
-pub mod SizeLaws
-pub mod BlankLaws
-pub mod FilesLaws
-pub mod KeptLaws
-pub mod Good
+pub mod Sound
+pub mod SealsLaws

@@ -11,19 +11,18 @@ use lib.Dec.{leb}
 use lib.IntN.{ℤ, pos}
 use lib.Signed.{leZ, ltZ}
 use borrow.Author.Tests.{ltb-true, not-true}
-use Rattle.base.specs.TestLaws.{and-right}
+use Rattle.base.specs.TestLaws.{and-right, contrary}
 use Rattle.base.specs.SignedLaws.{nle-ltZ, ltZ-nle, ltZ-add, ltZ-pos}
 use Rattle.state.specs.declared.State.{State}
 use Rattle.state.specs.declared.Upper.{Upper}
 use Rattle.state.specs.declared.Upper.the-variants.{Open, Under}
 use Rattle.state.specs.State.{limit, upperAtMost, withLower, withUpper, noState, firstState}
-use Rattle.thresholds.specs.Guards.{Bound, raised}
-use Rattle.thresholds.specs.GuardsLaws.{raised-pos, raised-small}
-use Rattle.propagate.specs.ScanLaws.{clash}
-use Rattle.propagate.specs.declared.Tightened.{Tightened}
-use Rattle.propagate.specs.Told.{tight, guardState, movedLower, under, movedUpper, movedState}
-use Rattle.propagate.specs.ToldLaws.{guard-cases, lower-cases, upper-cases}
-use Rattle.theorem_ends.specs.Good.{Bounded, AllBounded}
+use Rattle.rows.specs.Guards.{Bound, raised}
+use Rattle.rows.specs.GuardsLaws.{raised-pos, raised-small}
+use Rattle.tightening.specs.declared.Tightened.{Tightened}
+use Rattle.tightening.specs.Told.{tight, guardState, movedLower, under, movedUpper, movedState}
+use Rattle.tightening.specs.ToldLaws.{guard-cases, lower-cases, upper-cases}
+use Rattle.theorem_ends.specs.Sound.{Bounded, AllBounded}
 
 abbrev pub above : ℤ → ℕ
 above z = 9007199254740992 - raised z
@@ -79,7 +78,7 @@ pub record Tells (s : State) (t : Tightened) : Type 0 where
   pub less : t .changed ≡ true → room (t .state) < room s
 
 tells-not : (s : State) → Bounded s → Tells s (tight s false)
-tells-not s h = record { bounded = h; most = le-refl (room s); less = λ e. clash (sym e) }
+tells-not s h = record { bounded = h; most = le-refl (room s); less = λ e. contrary (sym e) }
 
 tells-less : (s t : State) → Bounded t → room t < room s → Tells s (tight t true)
 tells-less s t h k = record { bounded = h; most = omega arith; less = λ e. k }
@@ -101,7 +100,7 @@ tells-upper : (source s : State) (t : Tightened) (n k : ℕ) → Bounded source 
 tells-upper source s t n k o h = upper-cases source n k (Tells s) t (λ e. one (source .upper) (o .upper) (and-right (leb k n) (under (source .upper) (t .state .upper)) e)) (λ e. h)
   where
     one : (u : Upper) → Bound (limit u) → under u (t .state .upper) ≡ true → Tells s (tight (withUpper (t .state) u) true)
-    one Open b e = clash (sym e)
+    one Open b e = contrary (sym e)
     one (Under a) b e =
         tells-then s t (withUpper (t .state) (Under a)) h (bounded-upper (t .state) (Under a) (h .bounded) b)
         (room-upper (t .state) a (h .bounded) b (not-true (upperAtMost (t .state .upper) a) e))

@@ -13,17 +13,17 @@ use Rattle.queues.specs.RowsLaws.{flags-next}
 use Rattle.queues.specs.Marks.{Marks}
 use Rattle.queues.specs.MarksLaws.{waits-popped}
 use Rattle.queues.specs.Waiting.{Waits}
-use Rattle.propagate.specs.ScanLaws.{clash}
-use Rattle.between.specs.Between.{Index, Live, Did, stateAt}
-use Rattle.between.specs.KeepsLaws.{Small}
-use Rattle.files.specs.Drain.{takeNode, takeRow, turn, atRest, settle}
-use Rattle.files.specs.DrainLaws.{untaken, unrowed, nodeTold, nodeDrained, node-ends, row-ends, turn-ends, settle-walks, settle-keeps}
-use Rattle.files.specs.Sift.{Sifted, tryRow, sift}
-use Rattle.files.specs.SiftLaws.{tryTerms, try-leaves, sift-walks, sift-keeps}
+use Rattle.base.specs.TestLaws.{contrary}
+use Rattle.row_moves.specs.Between.{Index, Live, Did, stateAt}
+use Rattle.row_moves.specs.KeepsLaws.{Small}
+use Rattle.drain.specs.Drain.{takeNode, takeRow, turn, atRest, settle}
+use Rattle.drain.specs.DrainLaws.{untaken, unrowed, nodeTold, nodeDrained, node-ends, row-ends, turn-ends, settle-walks, settle-keeps}
+use Rattle.drain.specs.Sift.{Sifted, tryRow, sift}
+use Rattle.drain.specs.SiftLaws.{tryTerms, try-leaves, sift-walks, sift-keeps}
 use Rattle.theorem_ends.specs.LeftLaws.{load, load-popped}
 use Rattle.theorem_ends.specs.KeepsLaws.{residual-named}
 use Rattle.theorem_ends.specs.TurnsLaws.{left, left-most, Then, then, less-decide, run-guards, run-condition, run-prefixes}
-use Rattle.theorem_ends.specs.Good.{Indexed, Sound}
+use Rattle.theorem_ends.specs.Sound.{Indexed, Sound}
 
 -- One came of the other, and has less left to do; or no more.
 abbrev pub Falls : Live → Live → Type 0
@@ -71,7 +71,7 @@ module _ (x : Index) (ix : Indexed x) where
   pub settle-ends : (v : Live) → Sound v → contradicts (settle x v .step) ≡ false → atRest (settle x v .live) ≡ true
   settle-ends v s =
       settle-walks x (λ (n : ℕ) (u : Live). Sound u × (left u < n)) (λ (d : Did). contradicts (d .step) ≡ false → atRest (d .live) ≡ true)
-      (λ u k c p. absurd (not-suc-le-zero (p .1))) (λ n u k c p e d. e) (λ n u p e f d. clash (sym f ∙ d)) (λ n u p e f. let a = fall-turn u (p .0) e in (a .0, omega (arith, a .1, p .1)))
+      (λ u k c p. absurd (not-suc-le-zero (p .1))) (λ n u k c p e d. e) (λ n u p e f d. contrary (sym f ∙ d)) (λ n u p e f. let a = fall-turn u (p .0) e in (a .0, omega (arith, a .1, p .1)))
       v (s, left-most v s)
 
   -- A ROW IS TRIED
@@ -97,5 +97,5 @@ module _ (x : Index) (ix : Indexed x) where
   sift-ends v gcds s =
       sift-walks x (λ (n : ℕ) (u : Live) (g : List ℕ) (m : ℕ). Sound u × (left u < n))
       (λ (t : Sifted). contradicts (t .step) ≡ false → (atRest (t .live) ≡ true) × (isEmpty (t .live .residuals .queue) ≡ true))
-      (λ u g m k c p. absurd (not-suc-le-zero (p .1))) (λ n u g m p e d. clash d) (λ n u g m k c p e i d. (settle-ends u (p .0) e, i)) (λ n u g m p e i f d. clash (sym f ∙ d))
+      (λ u g m k c p. absurd (not-suc-le-zero (p .1))) (λ n u g m p e d. contrary d) (λ n u g m k c p e i d. (settle-ends u (p .0) e, i)) (λ n u g m p e i f d. contrary (sym f ∙ d))
       (λ n u g m p e i f. let a = settle-stays u (p .0) in let b = fall-try (settle x u .live) g m (a .0) i in (b .0, omega (arith, a .1, b .1, p .1))) v gcds (s, left-most v s)

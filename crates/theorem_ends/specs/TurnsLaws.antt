@@ -21,18 +21,18 @@ use Rattle.queues.specs.RowsLaws.{flags-queue}
 use Rattle.queues.specs.Marks.{Marks, decide}
 use Rattle.queues.specs.MarksLaws.{waits-decide}
 use Rattle.queues.specs.Waiting.{Waits, Flags}
-use Rattle.thresholds.specs.Guards.{Bound}
-use Rattle.thresholds.specs.Rows.{Row, noRow, Edge, edgesOf, rowNumber}
-use Rattle.prefixes.specs.Links.{neighbours}
-use Rattle.propagate.specs.Row.{Ran, thresholdRow, wantsResidual}
-use Rattle.propagate.specs.RowLaws.{Kept, kept-row}
-use Rattle.between.specs.Between.{Index, Live, live, Did, stateAt, withState, residualQueued, runWith, runRow, linkedQueued, thresholdGuard, guardOf, thresholdCondition, termCount, thresholdPrefixes}
-use Rattle.between.specs.LoopLaws.{drained-lower, drained-upper, edgeRun, moved, movedRun}
-use Rattle.between.specs.WalkLaws.{guardRow, guardTold, guard-ends, guard-of-ends, condition-keeps, prefix-keeps}
-use Rattle.between.specs.KeepsLaws.{Small, names-all, row-named}
+use Rattle.rows.specs.Guards.{Bound}
+use Rattle.rows.specs.Rows.{Row, noRow, Edge, edgesOf, rowNumber}
+use Rattle.links.specs.Links.{neighbours}
+use Rattle.row_runs.specs.Row.{Ran, thresholdRow, wantsResidual}
+use Rattle.row_runs.specs.RowLaws.{Kept, kept-row}
+use Rattle.row_moves.specs.Between.{Index, Live, live, Did, stateAt, withState, residualQueued, runWith, runRow, linkedQueued, thresholdGuard, guardOf, thresholdCondition, termCount, thresholdPrefixes}
+use Rattle.row_moves.specs.LoopLaws.{drained-lower, drained-upper, edgeRun, moved, movedRun}
+use Rattle.row_moves.specs.WalkLaws.{guardRow, guardTold, guard-ends, guard-of-ends, condition-keeps, prefix-keeps}
+use Rattle.row_moves.specs.KeepsLaws.{Small, names-all, row-named}
 use Rattle.theorem_ends.specs.LeftLaws.{load, load-decide, load-most}
 use Rattle.theorem_ends.specs.RoomsLaws.{room, rooms, rooms-set, rooms-most, set-bounded, bounded-same, room-same, tells-guard, tells-moved}
-use Rattle.theorem_ends.specs.Good.{Bounded, Indexed, Sound}
+use Rattle.theorem_ends.specs.Sound.{Bounded, Indexed, Sound}
 
 -- What is left to do, without the rows that wait for a residual and with them. A node that is drained may queue all rows for a
 -- residual, a bound that moves queues its row twice.

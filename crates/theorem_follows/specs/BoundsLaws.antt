@@ -8,8 +8,8 @@ use lib.Seq.{getD-set-same, getD-set-other}
 use Rattle.state.specs.declared.State.{State}
 use Rattle.state.specs.State.{noState}
 use Rattle.queues.specs.Queue.{Rows}
-use Rattle.thresholds.specs.Rows.{noRow}
-use Rattle.between.specs.Between.{Index, Live, live, stateAt, runRow, runWith}
+use Rattle.rows.specs.Rows.{noRow}
+use Rattle.row_moves.specs.Between.{Index, Live, live, stateAt, runRow, runWith}
 use Rattle.theorem_follows.specs.CursorsLaws.{row-goes}
 use Rattle.theorem_follows.specs.StandsLaws.{put-state}
 

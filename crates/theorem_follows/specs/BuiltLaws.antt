@@ -18,11 +18,11 @@ use Rattle.numeric.specs.Threshold.{Term, Threshold, Job}
 use Rattle.row.specs.Terms.{rowTerms, merged, sameTerms}
 use Rattle.row.specs.TermsLaws as TermsLaws
 use Rattle.row.specs.TermsLaws.{Distinct, distinct, sorted-falling, conditions-merged, all-sorted}
-use Rattle.thresholds.specs.Rows.{Row, rowOf, noRow, linkedBy, Linked, Guard, alone, guard, below, insertGuard, place, placeAll, rowsOf, rowNumber}
-use Rattle.thresholds.specs.RawLaws.{same-refl}
-use Rattle.prefixes.specs.Links.{Link, links, neighbours}
-use Rattle.prefixes.specs.LinksLaws.{link, link-starts, links-range, links-apart, Joined, downward, upward, neighbours-joined}
-use Rattle.between.specs.Between.{Index}
+use Rattle.rows.specs.Rows.{Row, rowOf, noRow, linkedBy, Linked, Guard, alone, guard, below, insertGuard, place, placeAll, rowsOf, rowNumber}
+use Rattle.rows.specs.ListsLaws.{same-refl}
+use Rattle.links.specs.Links.{Link, links, neighbours}
+use Rattle.links.specs.LinksLaws.{link, link-starts, links-range, links-apart, Joined, downward, upward, neighbours-joined}
+use Rattle.row_moves.specs.Between.{Index}
 use Rattle.theorem_table.specs.Table.{IsRow, termsOf, Guards, IsPrefix}
 use Rattle.theorem_table.specs.LayoutLaws.{row-made}
 use Rattle.theorem_follows.specs.Ordered.{Each, Rising, Falling, Ordered}

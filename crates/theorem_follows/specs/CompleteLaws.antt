@@ -25,10 +25,10 @@ use Rattle.queues.specs.Marks.{Marks, isDecided, Decided, decided, decide}
 use Rattle.queues.specs.MarksLaws.{mask, decide-has, decide-length}
 use Rattle.state.specs.declared.Upper.{Upper}
 use Rattle.state.specs.declared.Upper.the-variants.{Open, Under}
-use Rattle.thresholds.specs.Rows.{Guard}
-use Rattle.propagate.specs.Scan.{scan, Scanned, scanned, force}
-use Rattle.propagate.specs.Row.{sureWaits, deciding, decides, sureGuards, reachable, neverWaits, neverGuards, termWaits, forces, forced}
-use Rattle.propagate.specs.RowLaws.{decides-keeps}
+use Rattle.rows.specs.Rows.{Guard}
+use Rattle.row_runs.specs.Scan.{scan, Scanned, scanned, force}
+use Rattle.row_runs.specs.Row.{sureWaits, deciding, decides, sureGuards, reachable, neverWaits, neverGuards, termWaits, forces, forced}
+use Rattle.row_runs.specs.RowLaws.{decides-keeps}
 use Rattle.theorem_follows.specs.DecideLaws.{scan-keeps}
 use Rattle.theorem_follows.specs.RowLaws.{decide-grows, mem-drop, mem-take, mem-reverse}
 use Rattle.theorem_follows.specs.Ordered.{Each, Rising, Falling}

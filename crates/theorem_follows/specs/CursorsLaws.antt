@@ -12,11 +12,11 @@ use Rattle.state.specs.declared.State.{State}
 use Rattle.state.specs.Step.{contradicts}
 use Rattle.state.specs.State.{limited, limit, withGuards, withTerms}
 use Rattle.queues.specs.Marks.{Marks}
-use Rattle.thresholds.specs.Rows.{Row}
-use Rattle.propagate.specs.Scan.{Scanned}
-use Rattle.propagate.specs.Row.{Ran, ran, sureGuards, neverGuards, thresholdGuards, forced, trueTerms, falseTerms, thresholdRow}
-use Rattle.propagate.specs.RowLaws.{Moved, sure-within, forced-within}
-use Rattle.between.specs.RunsLaws.{guardsRun, trueRun, falseRun, run-ends}
+use Rattle.rows.specs.Rows.{Row}
+use Rattle.row_runs.specs.Scan.{Scanned}
+use Rattle.row_runs.specs.Row.{Ran, ran, sureGuards, neverGuards, thresholdGuards, forced, trueTerms, falseTerms, thresholdRow}
+use Rattle.row_runs.specs.RowLaws.{Moved, sure-within, forced-within}
+use Rattle.row_moves.specs.RunsLaws.{guardsRun, trueRun, falseRun, run-ends}
 
 -- Every cursor stands in its list.
 pub record Cursors (row : Row) (st : State) : Type 0 where

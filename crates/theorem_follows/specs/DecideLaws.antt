@@ -18,8 +18,8 @@ use Rattle.state.specs.Step.{joined, contradicts}
 use Rattle.words.specs.Mask.{bit}
 use Rattle.queues.specs.Marks.{Marks, Decided, decide}
 use Rattle.queues.specs.MarksLaws.{mask, decide-there, decide-new, decide-other, decide-opposite}
-use Rattle.thresholds.specs.Rows.{Row}
-use Rattle.propagate.specs.Scan.{scan, Scanned}
+use Rattle.rows.specs.Rows.{Row}
+use Rattle.row_runs.specs.Scan.{scan, Scanned}
 use Rattle.theorem_table.specs.Table as T
 use Rattle.theorem_table.specs.Table.{Table, decideSure, decideNever, Conflict, both}
 use Rattle.theorem_table.specs.OrderLaws.{up-refl}

@@ -23,15 +23,15 @@ use Rattle.state.specs.State.{maxZ, reached, upperAtMost, conflict, withLower, 
 use Rattle.words.specs.Mask.{bit}
 use Rattle.queues.specs.Marks.{Marks, isDecided}
 use Rattle.queues.specs.Queue.{Rows}
-use Rattle.thresholds.specs.Rows.{Row, noRow, Guard, Edge, edgesOf, rowNumber}
-use Rattle.prefixes.specs.Links.{neighbours}
-use Rattle.propagate.specs.declared.Tightened.{Tightened}
-use Rattle.propagate.specs.Row.{Ran, ran, scans, thresholdRow}
-use Rattle.propagate.specs.Told.{guardState, movedLower, movedState}
-use Rattle.propagate.specs.ToldLaws.{guard-cases, lower-cases, upper-cases}
-use Rattle.between.specs.Between.{Index, Live, live, stateAt, Did, runRow, runWith, thresholdGuard, thresholdCondition, termCount, thresholdPrefixes}
-use Rattle.between.specs.LoopLaws.{condition-walk}
-use Rattle.between.specs.WalkLaws.{walk-fine, prefix-fine, guardRow, guard-ends}
+use Rattle.rows.specs.Rows.{Row, noRow, Guard, Edge, edgesOf, rowNumber}
+use Rattle.links.specs.Links.{neighbours}
+use Rattle.tightening.specs.declared.Tightened.{Tightened}
+use Rattle.row_runs.specs.Row.{Ran, ran, scans, thresholdRow}
+use Rattle.tightening.specs.Told.{guardState, movedLower, movedState}
+use Rattle.tightening.specs.ToldLaws.{guard-cases, lower-cases, upper-cases}
+use Rattle.row_moves.specs.Between.{Index, Live, live, stateAt, Did, runRow, runWith, thresholdGuard, thresholdCondition, termCount, thresholdPrefixes}
+use Rattle.row_moves.specs.LoopLaws.{condition-walk}
+use Rattle.row_moves.specs.WalkLaws.{walk-fine, prefix-fine, guardRow, guard-ends}
 use Rattle.theorem_table.specs.Table.{IsRow}
 use Rattle.theorem_table.specs.OrderLaws.{le, lt, of-le, <ℤ-≤ℤ, max-up}
 use Rattle.theorem_follows.specs.CompleteLaws.{Wide, Has, Meets, wide-decide, has-stays}

@@ -24,10 +24,10 @@ use Rattle.state.specs.State.{drained, withKnown, withPossible}
 use Rattle.words.specs.Mask.{bit}
 use Rattle.queues.specs.Marks.{isDecided}
 use Rattle.row.specs.TermsLaws.{Distinct}
-use Rattle.thresholds.specs.Rows.{Row, Edge, edgesOf}
-use Rattle.between.specs.Between.{Index, Live, stateAt, withState, Did, runRow, conditionFrom, thresholdCondition}
-use Rattle.between.specs.LoopLaws.{drained-lower, drained-upper, edgeRun, condition-walk}
-use Rattle.between.specs.WalkLaws.{walks}
+use Rattle.rows.specs.Rows.{Row, Edge, edgesOf}
+use Rattle.row_moves.specs.Between.{Index, Live, stateAt, withState, Did, runRow, conditionFrom, thresholdCondition}
+use Rattle.row_moves.specs.LoopLaws.{drained-lower, drained-upper, edgeRun, condition-walk}
+use Rattle.row_moves.specs.WalkLaws.{walks}
 use Rattle.theorem_table.specs.Table.{Table, IsRow, termsOf, known, possible}
 use Rattle.theorem_table.specs.OrderLaws.{UpLe, up-refl}
 use Rattle.theorem_table.specs.TableLaws.{le-then}

@@ -12,7 +12,7 @@ use borrow.Author.Tests.{eq-eqb, ne-eqb, eqb-true, eqb-false}
 use Rattle.base.specs.All.{All}
 use Rattle.numeric.specs.Threshold.{Term, term}
 use Rattle.row.specs.TermsLaws.{Distinct}
-use Rattle.thresholds.specs.Rows.{Row, noRow, Edge, edge, edgesIn, edgesFrom, edgesOf}
+use Rattle.rows.specs.Rows.{Row, noRow, Edge, edge, edgesIn, edgesFrom, edgesOf}
 use Rattle.theorem_table.specs.Table.{IsRow, termsOf}
 
 -- Some edge leads to the row.

@@ -3,7 +3,7 @@
 use Prim.Native.Nat.{ℕ}
 use mathlib.Core.List.{List}
 use mathlib.Core.Logic.{_⊎_, inl, inr, ⊎-elim}
-use Rattle.thresholds.specs.Rows.{Row}
+use Rattle.rows.specs.Rows.{Row}
 use Rattle.theorem_table.specs.Table.{Table, Conflict, Run, done, ReachesConflict, AtRest}
 use Rattle.theorem_table.specs.TableLaws.{Le, Follows, run-above, only-conflict}
 use Rattle.theorem_table.specs.Ends.{Finite}

@@ -15,8 +15,8 @@ use Rattle.words.specs.Mask.{bit}
 use Rattle.queues.specs.Marks.{isDecided}
 use Rattle.queues.specs.MarksLaws.{mask}
 use Rattle.queues.specs.Waiting.{Waits, Queued}
-use Rattle.thresholds.specs.Rows.{Row, noRow, stateOfRow}
-use Rattle.between.specs.Between.{Index, Live, live, stateAt, firstStates}
+use Rattle.rows.specs.Rows.{Row, noRow, stateOfRow}
+use Rattle.row_moves.specs.Between.{Index, Live, live, stateAt, firstStates}
 use Rattle.theorem_table.specs.Table.{start}
 use Rattle.theorem_follows.specs.StandsLaws.{Apart}
 use Rattle.theorem_follows.specs.SettledLaws.{Sound}

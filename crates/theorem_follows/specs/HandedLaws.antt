@@ -24,15 +24,15 @@ use Rattle.state.specs.State.{withLower, withUpper, drained}
 use Rattle.words.specs.Mask.{bit}
 use Rattle.queues.specs.Queue.{Rows, oldest, queueRow, nextRow}
 use Rattle.queues.specs.QueueLaws.{row-waits, row-new}
-use Rattle.thresholds.specs.Rows.{Edge, edgesOf, rowNumber}
-use Rattle.prefixes.specs.Links.{Link, links, neighbours}
-use Rattle.prefixes.specs.LinksLaws.{link, link-starts, Climbs, stay, up, across, onward, climbs-exactly, downward, upward, joined-neighbours}
-use Rattle.propagate.specs.declared.Tightened.{Tightened}
-use Rattle.propagate.specs.Told.{movedLower, movedState, under}
-use Rattle.propagate.specs.ToldLaws.{lower-cases, upper-cases}
-use Rattle.between.specs.Between.{Index, Live, live, stateAt, Did, runRow, runWith, thresholdGuard, thresholdCondition, termCount, prefixesFrom, thresholdPrefixes}
-use Rattle.between.specs.LoopLaws.{drained-lower, drained-upper, edgeRun, moved, movedRun}
-use Rattle.between.specs.WalkLaws.{prefix-fine, guardRow, guardTold, guard-ends, condition-keeps}
+use Rattle.rows.specs.Rows.{Edge, edgesOf, rowNumber}
+use Rattle.links.specs.Links.{Link, links, neighbours}
+use Rattle.links.specs.LinksLaws.{link, link-starts, Climbs, stay, up, across, onward, climbs-exactly, downward, upward, joined-neighbours}
+use Rattle.tightening.specs.declared.Tightened.{Tightened}
+use Rattle.tightening.specs.Told.{movedLower, movedState, under}
+use Rattle.tightening.specs.ToldLaws.{lower-cases, upper-cases}
+use Rattle.row_moves.specs.Between.{Index, Live, live, stateAt, Did, runRow, runWith, thresholdGuard, thresholdCondition, termCount, prefixesFrom, thresholdPrefixes}
+use Rattle.row_moves.specs.LoopLaws.{drained-lower, drained-upper, edgeRun, moved, movedRun}
+use Rattle.row_moves.specs.WalkLaws.{prefix-fine, guardRow, guardTold, guard-ends, condition-keeps}
 use Rattle.theorem_table.specs.Table.{Table, IsRow, termsOf, IsPrefix}
 use Rattle.theorem_table.specs.OrderLaws.{le, ≤ℤ-trans, UpLe, up-refl, up-trans}
 use Rattle.theorem_follows.specs.StandsLaws.{Stands}

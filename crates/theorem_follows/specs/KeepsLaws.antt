@@ -5,10 +5,10 @@ use lib.ListN.{length, getD}
 use Rattle.memory.specs.Limits.{maxNodes}
 use Rattle.numeric.specs.Threshold.{Threshold}
 use Rattle.queues.specs.Marks.{Marks, decide}
-use Rattle.thresholds.specs.Rows.{noRow}
-use Rattle.between.specs.Between.{Index, Live, runRow, thresholdGuard, thresholdCondition, thresholdPrefixes}
-use Rattle.between.specs.KeepsLaws.{Small, run-named, guard-named, condition-named, prefixes-named}
-use Rattle.between.specs.Ready.{Names}
+use Rattle.rows.specs.Rows.{noRow}
+use Rattle.row_moves.specs.Between.{Index, Live, runRow, thresholdGuard, thresholdCondition, thresholdPrefixes}
+use Rattle.row_moves.specs.KeepsLaws.{Small, run-named, guard-named, condition-named, prefixes-named}
+use Rattle.row_moves.specs.Ready.{Names}
 use Rattle.theorem_follows.specs.Ordered.{Ordered}
 
 module _ (P : Marks → Type 0) (each : (value : Bool) (m : Marks) (n : ℕ) → n < maxNodes → P m → P (decide value m n .marks))

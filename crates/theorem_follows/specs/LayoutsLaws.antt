@@ -14,8 +14,8 @@ use Rattle.numeric.specs.LayoutLaws.{sumOf}
 use Rattle.state.specs.declared.Upper.the-variants.{Under}
 use Rattle.state.specs.Step.{contradicts}
 use Rattle.words.specs.Mask.{bit}
-use Rattle.thresholds.specs.Rows.{Row}
-use Rattle.between.specs.Between.{Index, Live, stateAt, Did}
+use Rattle.rows.specs.Rows.{Row}
+use Rattle.row_moves.specs.Between.{Index, Live, stateAt, Did}
 use Rattle.theorem_table.specs.Table.{Table, start, termsOf}
 use Rattle.theorem_table.specs.OrderLaws.{UpLe, pos-≤ℤ}
 use Rattle.theorem_table.specs.TableLaws.{Le, Follows}

@@ -21,15 +21,15 @@ use Rattle.words.specs.Mask.{bit}
 use Rattle.queues.specs.Marks.{Marks, isDecided, decide}
 use Rattle.queues.specs.Queue.{Rows}
 use Rattle.queues.specs.MarksLaws.{mask}
-use Rattle.thresholds.specs.Rows.{Row, noRow, Guard, guard, alone, Edge, edgesOf, rowNumber}
-use Rattle.prefixes.specs.Links.{neighbours}
-use Rattle.propagate.specs.declared.Tightened.{Tightened}
-use Rattle.propagate.specs.Row.{thresholdRow}
-use Rattle.propagate.specs.Told.{movedLower, movedUpper, movedState}
-use Rattle.propagate.specs.ToldLaws.{guard-cases, lower-cases, upper-cases}
-use Rattle.between.specs.Between.{Index, Live, live, stateAt, withState, withDirty, Did, runRow, runWith, thresholdGuard, thresholdCondition, termCount, thresholdPrefixes}
-use Rattle.between.specs.LoopLaws.{drained-lower, drained-upper, moved, movedRun}
-use Rattle.between.specs.WalkLaws.{guardRow, guardTold, guard-ends, condition-keeps, prefix-keeps}
+use Rattle.rows.specs.Rows.{Row, noRow, Guard, guard, alone, Edge, edgesOf, rowNumber}
+use Rattle.links.specs.Links.{neighbours}
+use Rattle.tightening.specs.declared.Tightened.{Tightened}
+use Rattle.row_runs.specs.Row.{thresholdRow}
+use Rattle.tightening.specs.Told.{movedLower, movedUpper, movedState}
+use Rattle.tightening.specs.ToldLaws.{guard-cases, lower-cases, upper-cases}
+use Rattle.row_moves.specs.Between.{Index, Live, live, stateAt, withState, withDirty, Did, runRow, runWith, thresholdGuard, thresholdCondition, termCount, thresholdPrefixes}
+use Rattle.row_moves.specs.LoopLaws.{drained-lower, drained-upper, moved, movedRun}
+use Rattle.row_moves.specs.WalkLaws.{guardRow, guardTold, guard-ends, condition-keeps, prefix-keeps}
 use Rattle.theorem_table.specs.Table.{Table, IsRow, Guards, IsPrefix}
 use Rattle.theorem_table.specs.OrderLaws.{≤ℤ-trans, UpLe, up-refl, up-trans}
 use Rattle.theorem_table.specs.TableLaws.{alone-reached}

@@ -23,15 +23,15 @@ use Rattle.state.specs.State.{upperAtMost, withLower, withUpper}
 use Rattle.words.specs.Mask.{bit}
 use Rattle.queues.specs.Marks.{Marks, isDecided, decide}
 use Rattle.queues.specs.Queue.{Rows}
-use Rattle.thresholds.specs.Rows.{Row, noRow, Guard, guard, alone, rowNumber}
-use Rattle.prefixes.specs.Links.{neighbours}
-use Rattle.propagate.specs.declared.Tightened.{Tightened}
-use Rattle.propagate.specs.Row.{Ran, thresholdRow}
-use Rattle.propagate.specs.Told.{guardState, movedLower, movedUpper, movedState, under}
-use Rattle.propagate.specs.ToldLaws.{guard-cases, lower-cases, upper-cases}
-use Rattle.between.specs.Between.{Index, Live, live, stateAt, withState, withDirty, Did, runRow, runWith, thresholdGuard, termCount, thresholdPrefixes}
-use Rattle.between.specs.LoopLaws.{movedRun}
-use Rattle.between.specs.WalkLaws.{guardRow, guardTold, guard-ends, prefix-walks}
+use Rattle.rows.specs.Rows.{Row, noRow, Guard, guard, alone, rowNumber}
+use Rattle.links.specs.Links.{neighbours}
+use Rattle.tightening.specs.declared.Tightened.{Tightened}
+use Rattle.row_runs.specs.Row.{Ran, thresholdRow}
+use Rattle.tightening.specs.Told.{guardState, movedLower, movedUpper, movedState, under}
+use Rattle.tightening.specs.ToldLaws.{guard-cases, lower-cases, upper-cases}
+use Rattle.row_moves.specs.Between.{Index, Live, live, stateAt, withState, withDirty, Did, runRow, runWith, thresholdGuard, termCount, thresholdPrefixes}
+use Rattle.row_moves.specs.LoopLaws.{movedRun}
+use Rattle.row_moves.specs.WalkLaws.{guardRow, guardTold, guard-ends, prefix-walks}
 use Rattle.theorem_table.specs.Table.{Table, IsRow, termsOf, Guards, IsPrefix, AtRest}
 use Rattle.theorem_table.specs.OrderLaws.{lt, ≤ℤ-trans, <ℤ-≤ℤ, UpLe, up-refl, up-trans}
 use Rattle.theorem_table.specs.TableLaws.{Le, alone-reached}
@@ -116,7 +116,7 @@ module _ (x : Index) (drained : ℕ → ℕ → Bool) where
       room : r < length (v .states)
       room = let z = h .sized in omega arith
 
-      goes : Rattle.propagate.specs.RowLaws.Moved (stateAt v r) (a .state)
+      goes : Rattle.row_runs.specs.RowLaws.Moved (stateAt v r) (a .state)
       goes = row-goes row (stateAt v r) (v .marks) .0
 
       More : Marks → Type 0

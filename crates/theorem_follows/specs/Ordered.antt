@@ -5,7 +5,7 @@ use mathlib.Core.Bool.{true}
 use mathlib.Core.List.{List, [], _∷_, List·Memᴰ}
 use lib.Signed.{leZ}
 use Rattle.numeric.specs.Threshold.{Term}
-use Rattle.thresholds.specs.Rows.{Guard, Row}
+use Rattle.rows.specs.Rows.{Guard, Row}
 use Rattle.memory.specs.Limits.{maxNodes}
 
 -- Every element has a property.

@@ -17,12 +17,12 @@ use Rattle.state.specs.declared.Upper.{Upper}
 use Rattle.state.specs.declared.Upper.the-variants.{Under}
 use Rattle.words.specs.Mask.{bit}
 use Rattle.state.specs.State.{noState, maxZ, reached}
-use Rattle.thresholds.specs.Rows.{Row, rowOf, noRow, Guard, Other, alone, beside, isAlone, MayDecide}
+use Rattle.rows.specs.Rows.{Row, rowOf, noRow, Guard, Other, alone, beside, isAlone, MayDecide}
 use Rattle.queues.specs.Queue.{Rows}
 use Rattle.queues.specs.Marks.{Marks, decide}
 use Rattle.theorem_table.specs.TableLaws.{other-up}
-use Rattle.propagate.specs.Row.{Ran, deciding, thresholdRow}
-use Rattle.between.specs.Between.{Live, live, stateAt}
+use Rattle.row_runs.specs.Row.{Ran, deciding, thresholdRow}
+use Rattle.row_moves.specs.Between.{Live, live, stateAt}
 use Rattle.theorem_table.specs.Table.{Table, IsRow, Guards, knownOf, reachedOf, OtherReached}
 use Rattle.theorem_table.specs.OrderLaws.{le, of-le, ≤ℤ-trans, max-up, UpLe, up-trans}
 use Rattle.theorem_follows.specs.Ordered.{Each}

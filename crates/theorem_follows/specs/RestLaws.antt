@@ -18,9 +18,9 @@ use Rattle.state.specs.declared.Upper.the-variants.{Open, Under}
 use Rattle.state.specs.State.{maxZ, reached, upperAtMost, conflict}
 use Rattle.words.specs.Mask.{bit}
 use Rattle.queues.specs.Marks.{isDecided}
-use Rattle.thresholds.specs.Rows.{Row, noRow, Guard, Other, alone, isAlone, MayDecide}
-use Rattle.propagate.specs.Row.{reachable}
-use Rattle.between.specs.Between.{Live, stateAt}
+use Rattle.rows.specs.Rows.{Row, noRow, Guard, Other, alone, isAlone, MayDecide}
+use Rattle.row_runs.specs.Row.{reachable}
+use Rattle.row_moves.specs.Between.{Live, stateAt}
 use Rattle.theorem_table.specs.Table.{Table, IsRow, termsOf, known, possible, Guards, HasTerm, knownOf, possibleOf, reachedOf, Undecided, AtMost, IsPrefix, Step, sure-guard, never-guard, bound-reached, bound-out-of-reach, term-needed, term-too-heavy, longer-lower, shorter-upper, Conflict, both, lower-above, upper-reached, AtRest, Below}
 use Rattle.theorem_table.specs.OrderLaws.{le, of-le, of-lt, ≤ℤ-trans, pos-≤ℤ, sub-up, UpLe}
 use Rattle.theorem_follows.specs.RowCompleteLaws.{Complete}

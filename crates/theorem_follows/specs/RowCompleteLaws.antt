@@ -20,11 +20,11 @@ use Rattle.state.specs.declared.Upper.the-variants.{Open, Under}
 use Rattle.state.specs.Step.{joined, contradicts}
 use Rattle.state.specs.State.{maxZ, reached, upperAtMost, limited, limit, withGuards, withTerms}
 use Rattle.queues.specs.Marks.{Marks, isDecided, Decided}
-use Rattle.thresholds.specs.Rows.{Row, Guard}
-use Rattle.propagate.specs.Scan.{Scanned, scan}
-use Rattle.propagate.specs.Row.{Ran, ran, decides, sureWaits, sureGuards, reachable, neverWaits, neverGuards, thresholdGuards, termWaits, forces, forced, trueTerms, falseTerms, thresholdRow}
-use Rattle.propagate.specs.RowLaws.{decides-keeps}
-use Rattle.between.specs.RunsLaws.{guardsRun, trueRun, falseRun, wholeRun, run-ends}
+use Rattle.rows.specs.Rows.{Row, Guard}
+use Rattle.row_runs.specs.Scan.{Scanned, scan}
+use Rattle.row_runs.specs.Row.{Ran, ran, decides, sureWaits, sureGuards, reachable, neverWaits, neverGuards, thresholdGuards, termWaits, forces, forced, trueTerms, falseTerms, thresholdRow}
+use Rattle.row_runs.specs.RowLaws.{decides-keeps}
+use Rattle.row_moves.specs.RunsLaws.{guardsRun, trueRun, falseRun, wholeRun, run-ends}
 use Rattle.theorem_follows.specs.DecideLaws.{scan-keeps}
 use Rattle.theorem_follows.specs.CompleteLaws.{Wide, Has, Meets, wide-decides, wide-force, decides-stays, decided-stays, force-stays, force-has, sure-complete, never-complete, forced-complete}
 use Rattle.theorem_follows.specs.Ordered.{Each, Ordered}

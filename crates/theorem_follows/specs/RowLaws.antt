@@ -25,14 +25,14 @@ use Rattle.state.specs.State.{reached, upperAtMost, limited, limit, conflict, w
 use Rattle.words.specs.Mask.{bit, learn, Learned}
 use Rattle.words.specs.MaskLaws.{learn-there, learn-other}
 use Rattle.queues.specs.Marks.{Marks, isDecided, decided, decide}
-use Rattle.thresholds.specs.Rows.{Row, rowOf, Guard, Other, alone, beside, isAlone, MayDecide, noRow}
-use Rattle.propagate.specs.Scan.{Scanned}
-use Rattle.propagate.specs.Row.{Ran, ran, deciding, decides, sureGuards, neverGuards, thresholdGuards, forced, trueTerms, falseTerms, thresholdRow}
+use Rattle.rows.specs.Rows.{Row, rowOf, Guard, Other, alone, beside, isAlone, MayDecide, noRow}
+use Rattle.row_runs.specs.Scan.{Scanned}
+use Rattle.row_runs.specs.Row.{Ran, ran, deciding, decides, sureGuards, neverGuards, thresholdGuards, forced, trueTerms, falseTerms, thresholdRow}
 use Rattle.theorem_table.specs.Table as T
 use Rattle.theorem_table.specs.Table.{Table, decideSure, decideNever, IsRow, Guards, termsOf, knownOf, possibleOf, reachedOf, OtherReached, AtMost, Conflict, lower-above, upper-reached, bound-reached, bound-out-of-reach, term-needed, term-too-heavy}
 use Rattle.theorem_table.specs.OrderLaws.{le, lt, ≤ℤ-trans, ≤ℤ-<ℤ-trans, pos-≤ℤ, max-up, sub-up, up-refl, at-most-up}
 use Rattle.theorem_table.specs.TableLaws.{Le, known-up, possible-down}
-use Rattle.between.specs.RunsLaws.{guardsRun, trueRun, falseRun, run-ends}
+use Rattle.row_moves.specs.RunsLaws.{guardsRun, trueRun, falseRun, run-ends}
 use Rattle.theorem_follows.specs.Ordered.{Each}
 use Rattle.theorem_follows.specs.DecideLaws.{tableOf, Broken, Kept, decide-follows, scan-keeps}
 

@@ -12,10 +12,10 @@ use Rattle.state.specs.Step.{contradicts}
 use Rattle.words.specs.Mask.{bit}
 use Rattle.queues.specs.Queue.{isEmpty}
 use Rattle.queues.specs.Marks.{isDecided}
-use Rattle.thresholds.specs.Rows.{Row, noRow, guard, rowNumber}
-use Rattle.prefixes.specs.Links as L
-use Rattle.prefixes.specs.Links.{Link, neighbours}
-use Rattle.between.specs.Between.{Index, Live, stateAt, Did, runRow, thresholdGuard, thresholdCondition, thresholdPrefixes}
+use Rattle.rows.specs.Rows.{Row, noRow, guard, rowNumber}
+use Rattle.links.specs.Links as L
+use Rattle.links.specs.Links.{Link, neighbours}
+use Rattle.row_moves.specs.Between.{Index, Live, stateAt, Did, runRow, thresholdGuard, thresholdCondition, thresholdPrefixes}
 use Rattle.theorem_table.specs.Table.{Table, IsRow, IsPrefix, Guards, knownOf, possibleOf, Conflict, ReachesConflict, AtRest, Ended}
 use Rattle.theorem_table.specs.TableLaws.{conflict-up, run-below, only-end, only-conflict}
 use Rattle.theorem_follows.specs.DecideLaws.{Broken}

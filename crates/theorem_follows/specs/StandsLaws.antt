@@ -24,8 +24,8 @@ use Rattle.words.specs.Mask.{bit}
 use Rattle.queues.specs.Marks.{Marks, isDecided, Decided, decide}
 use Rattle.queues.specs.MarksLaws.{mask, decide-there, decide-clash, decide-other, decide-opposite}
 use Rattle.queues.specs.Queue.{Rows}
-use Rattle.thresholds.specs.Rows.{Row}
-use Rattle.between.specs.Between.{Live, live, stateAt}
+use Rattle.rows.specs.Rows.{Row}
+use Rattle.row_moves.specs.Between.{Live, live, stateAt}
 use Rattle.theorem_table.specs.Table.{Table, IsRow, termsOf, known, possible, knownOf, possibleOf}
 use Rattle.theorem_table.specs.OrderLaws.{pos-≤ℤ, up-refl}
 use Rattle.theorem_table.specs.TableLaws.{Le, le-same, le-then, Follows, follows-start, known-up, possible-down}

@@ -25,8 +25,8 @@ use Rattle.queues.specs.Marks.{Marks, marks, isDecided, Decided, decide}
 use Rattle.queues.specs.MarksLaws.{mask, decide-has, decide-there, decide-new}
 use Rattle.queues.specs.Waiting.{Waits, Queued}
 use Rattle.row.specs.Terms.{total}
-use Rattle.thresholds.specs.Rows.{Row, noRow, Guard, stateOfRow}
-use Rattle.between.specs.Between.{Index, Live, live, stateAt, did}
+use Rattle.rows.specs.Rows.{Row, noRow, Guard, stateOfRow}
+use Rattle.row_moves.specs.Between.{Index, Live, live, stateAt, did}
 use Rattle.theorem_table.specs.Table.{Table, start, IsRow, termsOf, known, possible}
 use Rattle.theorem_table.specs.OrderLaws.{UpLe, up-refl}
 use Rattle.theorem_table.specs.TableLaws.{Le, le-then, Follows, follows-more}

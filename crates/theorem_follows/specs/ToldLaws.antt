@@ -20,13 +20,13 @@ use Rattle.state.specs.declared.Upper.the-variants.{Open, Under}
 use Rattle.state.specs.State.{upperAtMost, withLower, withUpper}
 use Rattle.words.specs.Mask.{bit}
 use Rattle.queues.specs.Marks.{isDecided}
-use Rattle.thresholds.specs.Rows.{Row, rowOf, noRow, Guard, guard, insertGuard, place, placeAll, rowsOf, rowNumber}
-use Rattle.thresholds.specs.RawLaws.{same-refl}
-use Rattle.propagate.specs.declared.Tightened.{Tightened}
-use Rattle.propagate.specs.Told.{guardState}
-use Rattle.propagate.specs.ToldLaws.{guard-cases}
-use Rattle.between.specs.Between.{Index, Live, stateAt, Did, did, thresholdGuard}
-use Rattle.between.specs.WalkLaws.{guardTold, guardRun, guard-ends}
+use Rattle.rows.specs.Rows.{Row, rowOf, noRow, Guard, guard, insertGuard, place, placeAll, rowsOf, rowNumber}
+use Rattle.rows.specs.ListsLaws.{same-refl}
+use Rattle.tightening.specs.declared.Tightened.{Tightened}
+use Rattle.tightening.specs.Told.{guardState}
+use Rattle.tightening.specs.ToldLaws.{guard-cases}
+use Rattle.row_moves.specs.Between.{Index, Live, stateAt, Did, did, thresholdGuard}
+use Rattle.row_moves.specs.WalkLaws.{guardTold, guardRun, guard-ends}
 use Rattle.theorem_table.specs.Table.{Table, Guards}
 use Rattle.theorem_table.specs.OrderLaws.{le, ≤ℤ-trans, UpLe, up-refl, up-trans}
 use Rattle.theorem_table.specs.TableLaws.{Le}

@@ -12,20 +12,20 @@ use Rattle.memory.specs.Ranges.{rawLimit}
 use Rattle.memory.specs.Buffers.{Built}
 use Rattle.numeric.specs.Threshold.{Job}
 use Rattle.numeric.specs.Area.{jobOf}
-use Rattle.files.specs.Drain as Drain
-use Rattle.files.specs.Drain.{indexOf}
-use Rattle.files.specs.Sift as Sift
+use Rattle.drain.specs.Drain as Drain
+use Rattle.drain.specs.Drain.{indexOf}
+use Rattle.drain.specs.Sift as Sift
 use Rattle.records.specs.declared.Record.{Record}
 use Rattle.records.specs.declared.Record.the-variants.{Seal}
 use Rattle.records.specs.Facts.{Action, begins, changes, closes, decides, settles, sifts, idles, action, facts}
 use Rattle.files.specs.File.{File, begun, refusal, sealedFile, markedFile, settledFile, siftedFile, act, apply, after, Passed}
-use Rattle.prepare.specs.JobBuffers.{builtOf}
-use Rattle.theorem_ends.specs.BuiltLaws.{fits-of}
-use Rattle.theorem_ends.specs.Good.{Fits, Light, Good}
-use Rattle.theorem_ends.specs.FilesLaws.{good-begun, both, Taken, taken, building-turn, change-turn, good-apply, good-after}
+use Rattle.job.specs.JobBuffers.{builtOf}
+use Rattle.theorem_limits.specs.BuiltLaws.{fits-of}
+use Rattle.theorem_limits.specs.Good.{Fits, Light, Good}
+use Rattle.theorem_limits.specs.FilesLaws.{good-begun, both, Taken, taken, building-turn, change-turn, good-apply, good-after}
 use Rattle.settle.specs.Serves.{Serves, Going, Fresh}
 use Rattle.settle.specs.SettlingLaws.{going-settle}
-use Rattle.settle.specs.BeginsLaws.{going-seal, going-mark}
+use Rattle.seal.specs.BeginsLaws.{going-seal, going-mark}
 use Rattle.theorem_holds.specs.Lent.{boundsOf, lentOf, Lendable, Serving}
 use Rattle.theorem_holds.specs.LentLaws.{served-built}
 use Rattle.theorem_holds.specs.GoesLaws.{fresh-begun}

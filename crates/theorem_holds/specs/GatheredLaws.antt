@@ -10,18 +10,18 @@ use lib.IntN.{ℤ}
 use Rattle.base.specs.All.{All}
 use Rattle.memory.specs.Ranges.{rawLimit}
 use Rattle.memory.specs.Buffers.{Built, rawLists}
-use Rattle.base.specs.Parts.{endBy, startBy}
+use Rattle.base.specs.Parts.{endBy, startBy, stretch}
 use Rattle.base.specs.Laid.{numbers}
 use Rattle.numeric.specs.Threshold.{Term, Threshold}
 use Rattle.numeric.specs.Slices.{terms}
-use Rattle.thresholds.specs.Raw.{stretch, listAt}
-use Rattle.thresholds.specs.RawLaws.{stretch-length}
-use Rattle.prepare.specs.Given.{thresholdAt}
-use Rattle.prepare.specs.JobBuffers.{builtOf}
+use Rattle.rows.specs.Lists.{listAt}
+use Rattle.rows.specs.ListsLaws.{stretch-length}
+use Rattle.job.specs.Given.{thresholdAt}
+use Rattle.job.specs.JobBuffers.{builtOf}
 use Rattle.records.specs.declared.Standing.{Standing}
-use Rattle.job.specs.Gathered.{jobIn, Gathered}
-use Rattle.job.specs.GatheredLaws.{gathered, many, length-at, all-terms}
-use Rattle.theorem_ends.specs.Good.{Fit, Fits, Light}
+use Rattle.gather.specs.Gathered.{jobIn, Gathered}
+use Rattle.gather.specs.GatheredLaws.{gathered, many, length-at, all-terms}
+use Rattle.theorem_limits.specs.Good.{Fit, Fits, Light}
 use Rattle.theorem_holds.specs.ServedLaws.{Served}
 use Rattle.theorem_holds.specs.LentLaws.{served-built}
 use Rattle.theorem_holds.specs.Lent.{lentOf, Lendable}

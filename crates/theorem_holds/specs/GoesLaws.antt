@@ -12,19 +12,19 @@ use Rattle.base.specs.TestLaws.{clash}
 use Rattle.numeric.specs.Threshold.{Job}
 use Rattle.words.specs.Mask.{bit}
 use Rattle.queues.specs.Marks.{isDecided}
-use Rattle.between.specs.Between.{Index, Live}
-use Rattle.files.specs.Drain.{indexOf, seal, mark, settle}
-use Rattle.files.specs.Sift.{sift}
+use Rattle.row_moves.specs.Between.{Index, Live}
+use Rattle.drain.specs.Drain.{indexOf, seal, mark, settle}
+use Rattle.drain.specs.Sift.{sift}
 use Rattle.memory.specs.Limits.{maxNodes, maxThresholds}
 use Rattle.memory.specs.Ranges.{rawLimit}
 use Rattle.memory.specs.Buffers.{Built}
 use Rattle.files.specs.File.{begun}
-use Rattle.prepare.specs.JobBuffers.{builtOf}
-use Rattle.theorem_ends.specs.Good.{Fits, Light}
-use Rattle.theorem_ends.specs.BlankLaws.{blank-begun, same-at}
-use Rattle.theorem_ends.specs.FilesLaws.{good-begun}
+use Rattle.job.specs.JobBuffers.{builtOf}
+use Rattle.theorem_limits.specs.Good.{Fits, Light}
+use Rattle.theorem_limits.specs.BlankLaws.{blank-begun, same-at}
+use Rattle.theorem_limits.specs.FilesLaws.{good-begun}
 use Rattle.settle.specs.Serves.{Serves, Going, Fresh}
-use Rattle.settle.specs.BeginsLaws.{going-seal, going-mark}
+use Rattle.seal.specs.BeginsLaws.{going-seal, going-mark}
 use Rattle.settle.specs.SettlingLaws.{going-settle}
 use Rattle.sift.specs.SiftingLaws.{going-sift}
 use Rattle.theorem_holds.specs.ServedLaws.{Served}

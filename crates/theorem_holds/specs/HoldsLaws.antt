@@ -16,14 +16,14 @@ use Rattle.base.specs.Columns.{column}
 use Rattle.base.specs.ColumnsLaws.{column-at}
 use Rattle.numeric.specs.Threshold.{Term, Threshold}
 use Rattle.numeric.specs.Slices.{Below, terms}
-use Rattle.thresholds.specs.Rows.{Row, noRow, Guard, guard, edgesOf, rowNumber}
-use Rattle.thresholds.specs.Laid.{conditions, weights, termLists, guardLists, guardBounds, guardNodes, edgeLists, edgeRow, thresholdOf, rowOfNode}
-use Rattle.prefixes.specs.Links.{links, neighbours, neighbourLists}
-use Rattle.propagate.specs.Guards.{guards}
-use Rattle.prepare.specs.RowsGivenLaidLaws.{laid-long, laid-rising, laid-inside, over-part, over-figures}
+use Rattle.rows.specs.Rows.{Row, noRow, Guard, guard, edgesOf, rowNumber}
+use Rattle.rows.specs.Laid.{conditions, weights, termLists, guardLists, guardBounds, guardNodes, edgeLists, edgeRow, thresholdOf, rowOfNode}
+use Rattle.links.specs.Links.{links, neighbours, neighbourLists}
+use Rattle.row_runs.specs.Guards.{guards}
+use Rattle.placing.specs.RowsGivenLaidLaws.{laid-long, laid-rising, laid-inside, over-part, over-figures}
 use Rattle.prepare.specs.RowsGivenHeldLaws.{terms-back}
-use Rattle.between.specs.Between.{Index}
-use Rattle.between.specs.Held.{endBy, stretchBy, heldTerms, heldGuards, Inside, Shaped, Holds, HoldsEdges, HoldsLinks, noThreshold, HoldsGuards}
+use Rattle.row_moves.specs.Between.{Index}
+use Rattle.row_moves.specs.Held.{endBy, stretchBy, heldTerms, heldGuards, Inside, Shaped, Holds, HoldsEdges, HoldsLinks, noThreshold, HoldsGuards}
 
 -- The buffers hold a guard's bound and node; all else is as every guard has it.
 abbrev pub Plain : List Guard → Type 0

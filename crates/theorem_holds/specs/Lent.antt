@@ -7,13 +7,13 @@ use lib.IntN.{ℤ}
 use lib.ListN.{length, take}
 use Rattle.numeric.specs.Threshold.{Threshold, Job}
 use Rattle.numeric.specs.Slices.{Below}
-use Rattle.thresholds.specs.Rows.{rowsOf}
-use Rattle.thresholds.specs.Laid.{conditions, weights}
+use Rattle.rows.specs.Rows.{rowsOf}
+use Rattle.rows.specs.Laid.{conditions, weights}
 use Rattle.memory.specs.Limits.{maxNodes, maxTerms}
 use Rattle.memory.specs.Buffers.{Built, heldRows, built}
 use Rattle.files.specs.File.{File}
-use Rattle.prepare.specs.JobBuffers.{builtOf}
-use Rattle.theorem_ends.specs.Good.{Good}
+use Rattle.job.specs.JobBuffers.{builtOf}
+use Rattle.theorem_limits.specs.Good.{Good}
 use Rattle.settle.specs.Serves.{Going}
 
 abbrev pub boundsOf : Job → List ℤ

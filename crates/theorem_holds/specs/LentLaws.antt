@@ -15,19 +15,19 @@ use Rattle.base.specs.ColumnsLaws.{length-column}
 use Rattle.numeric.specs.Threshold.{Term, Threshold, Job}
 use Rattle.numeric.specs.Slices.{Below}
 use Rattle.row.specs.TermsLaws.{all-map}
-use Rattle.thresholds.specs.Rows.{Row, noRow, rowsOf, Guard, edgesOf}
-use Rattle.thresholds.specs.Laid.{conditions, weights, termLists, guardLists, guardBounds, guardNodes, thresholdOf, rowOfNode, edgeLists, edgeRow}
-use Rattle.prefixes.specs.Links.{links, neighbours, neighbourLists}
-use Rattle.prepare.specs.RowsGivenLaidLaws.{length-ends}
+use Rattle.rows.specs.Rows.{Row, noRow, rowsOf, Guard, edgesOf}
+use Rattle.rows.specs.Laid.{conditions, weights, termLists, guardLists, guardBounds, guardNodes, thresholdOf, rowOfNode, edgeLists, edgeRow}
+use Rattle.links.specs.Links.{links, neighbours, neighbourLists}
+use Rattle.placing.specs.RowsGivenLaidLaws.{length-ends}
 use Rattle.prepare.specs.NodesGivenLaws.{triples-columns}
 use Rattle.memory.specs.Limits.{maxNodes, maxTerms}
 use Rattle.memory.specs.Ranges.{rawLimit, weightLimit}
 use Rattle.memory.specs.Buffers.{Raw, Built, zeros, clearBuilt}
-use Rattle.prepare.specs.JobBuffers.{rawOf, builtWith, builtOf}
+use Rattle.job.specs.JobBuffers.{rawOf, builtWith, builtOf}
 use Rattle.prepare.specs.JobBuffersLaws.{length-first}
-use Rattle.theorem_ends.specs.BuiltLaws.{every-append, every-mem}
-use Rattle.theorem_ends.specs.Good.{Fits, Light}
-use Rattle.theorem_ends.specs.SizeLaws.{zeros-long, edges-most}
+use Rattle.theorem_limits.specs.BuiltLaws.{every-append, every-mem}
+use Rattle.theorem_limits.specs.Good.{Fits, Light}
+use Rattle.theorem_limits.specs.SizeLaws.{zeros-long, edges-most}
 use Rattle.theorem_holds.specs.WeightsLaws.{totals, weights as row-weights}
 use Rattle.theorem_holds.specs.ServedLaws.{Laid, Served, every-image, job-names, served}
 use Rattle.theorem_holds.specs.Lent.{boundsOf, lentOf, Lendable}

@@ -23,21 +23,21 @@ use Rattle.numeric.specs.Threshold.{Term, Threshold, Job}
 use Rattle.numeric.specs.Slices.{Below}
 use Rattle.row.specs.Terms.{merged, total}
 use Rattle.row.specs.TermsLaws.{all-map, all-sorted, conditions-merged}
-use Rattle.thresholds.specs.Guards.{Bound}
-use Rattle.thresholds.specs.Raw.{stretch}
-use Rattle.thresholds.specs.RawLaws.{stretch-length, length-terms}
-use Rattle.thresholds.specs.Rows.{Row, noRow, Guard, guard, rowsOf, Edge, edgesOf}
+use Rattle.rows.specs.Guards.{Bound}
+use Rattle.base.specs.Parts.{stretch}
+use Rattle.rows.specs.ListsLaws.{stretch-length, length-terms}
+use Rattle.rows.specs.Rows.{Row, noRow, Guard, guard, rowsOf, Edge, edgesOf}
 use Rattle.theorem_table.specs.LayoutLaws.{row-made}
-use Rattle.thresholds.specs.Laid.{thresholdOf, rowOfNode, edgeLists, edgeRow}
-use Rattle.prefixes.specs.Links.{links, neighbours, neighbourLists}
-use Rattle.prefixes.specs.HeldLaws.{length-numbers}
-use Rattle.between.specs.Between.{Index}
-use Rattle.between.specs.Held.{startBy, endBy, edgeIn, Inside, Shaped, EdgesShaped, LinksShaped, GuardsShaped, Holds, noThreshold, rowAt, HoldsGuards}
-use Rattle.between.specs.Ready.{Totals, Names}
-use Rattle.files.specs.Drain.{indexOf}
-use Rattle.theorem_ends.specs.BuiltLaws.{every-append, every-at, rows-every, rows-few, There, all-there, edges-from, linked-rows, indexed, fits-node, fits-condition}
-use Rattle.theorem_ends.specs.Good.{Fit, Fits, Light}
-use Rattle.theorem_ends.specs.SizeLaws.{row-terms-few}
+use Rattle.rows.specs.Laid.{thresholdOf, rowOfNode, edgeLists, edgeRow}
+use Rattle.links.specs.Links.{links, neighbours, neighbourLists}
+use Rattle.base.specs.LaidLaws.{length-numbers}
+use Rattle.row_moves.specs.Between.{Index}
+use Rattle.row_moves.specs.Held.{startBy, endBy, edgeIn, Inside, Shaped, EdgesShaped, LinksShaped, GuardsShaped, Holds, noThreshold, rowAt, HoldsGuards}
+use Rattle.row_moves.specs.Ready.{Totals, Names}
+use Rattle.drain.specs.Drain.{indexOf}
+use Rattle.theorem_limits.specs.BuiltLaws.{every-append, every-at, rows-every, rows-few, There, all-there, edges-from, linked-rows, indexed, fits-node, fits-condition}
+use Rattle.theorem_limits.specs.Good.{Fit, Fits, Light}
+use Rattle.theorem_limits.specs.SizeLaws.{row-terms-few}
 use Rattle.theorem_follows.specs.BuiltLaws.{built, guard-threshold, rows-ordered}
 use Rattle.settle.specs.Serves.{Serves}
 use Rattle.sift.specs.Tries.{Short}

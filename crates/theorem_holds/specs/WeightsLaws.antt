@@ -14,9 +14,9 @@ use Rattle.numeric.specs.Threshold.{Term, Threshold, Job}
 use Rattle.row.specs.Terms.{rowTerms, total}
 use Rattle.row.specs.TermsLaws.{all-map}
 use Rattle.row.specs.SumLaws.{row-total}
-use Rattle.thresholds.specs.Rows.{Row, rowsOf, Edge, edge, edgesIn, edgesFrom}
-use Rattle.theorem_ends.specs.BuiltLaws.{every-append, every-mem, rows-all}
-use Rattle.theorem_ends.specs.Good.{Fit, Fits, Light}
+use Rattle.rows.specs.Rows.{Row, rowsOf, Edge, edge, edgesIn, edgesFrom}
+use Rattle.theorem_limits.specs.BuiltLaws.{every-append, every-mem, rows-all}
+use Rattle.theorem_limits.specs.Good.{Fit, Fits, Light}
 
 total-most : (ts : List Term) → All (λ (u : Term). u .weight < rawLimit) ts → total ts + length ts ≤ length ts * rawLimit
 unfolding total

@@ -13,8 +13,8 @@ use lib.Signed.{leZ, _≤ℤ_}
 use Rattle.base.specs.TestLaws.{clash}
 use Rattle.numeric.specs.Threshold.{Term, term}
 use Rattle.state.specs.declared.Upper.the-variants.{Under}
-use Rattle.thresholds.specs.Rows.{Row, rowOf, noRow, Guard, Other, alone, beside}
-use Rattle.theorem_table.specs.Table.{Table, known, possible, start, decideSure, decideNever, raiseLower, lowerUpper, OtherReached, FallsShort, Reached, OutOfReach, Begins, Step, never-guard, bound-reached, bound-out-of-reach, longer-lower}
+use Rattle.rows.specs.Rows.{Row, rowOf, noRow, Guard, Other, alone, beside}
+use Rattle.theorem_table.specs.Table.{Table, known, possible, start, decideSure, decideNever, raiseLower, lowerUpper, OtherReached, FallsShort, Reached, OutOfReach, Prefixed, Step, never-guard, bound-reached, bound-out-of-reach, longer-lower}
 use Rattle.theorem_table.specs.OrderLaws.{le, lt, of-le}
 
 abbrev row : List Term → List Guard → Row
@@ -93,8 +93,8 @@ raised = raiseLower (start none none) 0 (pos 1)
 linked-hands-on : Step (chain true true) raised (raiseLower raised 1 (pos 1))
 linked-hands-on = longer-lower 0 1 (omega arith, omega arith, (term 1 1 ∷ [], refl, refl, refl)) (lt refl)
 
-unlinked-hands-nothing-on : Begins (chain false true) 0 1 → ⊥
+unlinked-hands-nothing-on : Prefixed (chain false true) 0 1 → ⊥
 unlinked-hands-nothing-on h = clash false (h .2) refl
 
-unlinked-takes-nothing : Begins (chain true false) 0 1 → ⊥
+unlinked-takes-nothing : Prefixed (chain true false) 0 1 → ⊥
 unlinked-takes-nothing h = clash false (h .3) refl

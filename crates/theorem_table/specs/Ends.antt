@@ -10,7 +10,7 @@ use lib.IntN.{ℤ, pos}
 use Rattle.numeric.specs.Threshold.{Term}
 use Rattle.state.specs.declared.Upper.{Upper}
 use Rattle.state.specs.declared.Upper.the-variants.{Open, Under}
-use Rattle.thresholds.specs.Rows.{Row, Guard}
+use Rattle.rows.specs.Rows.{Row, Guard}
 use Rattle.theorem_table.specs.Table.{Table}
 
 -- The nodes of a row's guards and terms; a step decides no others.

@@ -16,7 +16,7 @@ use Rattle.base.specs.SignedLaws.{leZ-ltZ, ltZ-leZ, leZ-nlt}
 use Rattle.numeric.specs.Threshold.{Term}
 use Rattle.state.specs.declared.Upper.{Upper}
 use Rattle.state.specs.declared.Upper.the-variants.{Open, Under}
-use Rattle.thresholds.specs.Rows.{Row, Guard, noRow}
+use Rattle.rows.specs.Rows.{Row, Guard, noRow}
 use Rattle.theorem_table.specs.Table.{Table, Below, at, decideSure, decideNever, raiseLower, lowerUpper, Guards, HasTerm, Step, sure-guard, never-guard, bound-reached, bound-out-of-reach, term-needed, term-too-heavy, longer-lower, shorter-upper, Run, done, more, steps}
 use Rattle.theorem_table.specs.OrderLaws.{of-le, of-lt, UpLe, up-refl}
 use Rattle.theorem_table.specs.TableLaws.{Le, grows}

@@ -15,8 +15,8 @@ use Rattle.base.specs.TestLaws.{unequal}
 use Rattle.numeric.specs.Threshold.{Term}
 use Rattle.state.specs.declared.Upper.{Upper}
 use Rattle.state.specs.declared.Upper.the-variants.{Open, Under}
-use Rattle.thresholds.specs.Rows.{Row, Guard, Other, alone, beside, MayDecide, linkedBy, Linked, noRow}
-use Rattle.theorem_table.specs.Table.{Table, AtMost, Below, decideSure, decideNever, raiseLower, lowerUpper, IsRow, termsOf, Guards, HasTerm, knownOf, possibleOf, reachedOf, OtherReached, Undecided, Step, sure-guard, never-guard, bound-reached, bound-out-of-reach, term-needed, term-too-heavy, longer-lower, shorter-upper, Conflict, both, lower-above, upper-reached, FallsShort, Reached, OutOfReach, Begins}
+use Rattle.rows.specs.Rows.{Row, Guard, Other, alone, beside, MayDecide, linkedBy, Linked, noRow}
+use Rattle.theorem_table.specs.Table.{Table, AtMost, Below, decideSure, decideNever, raiseLower, lowerUpper, IsRow, termsOf, Guards, HasTerm, knownOf, possibleOf, reachedOf, OtherReached, Undecided, Step, sure-guard, never-guard, bound-reached, bound-out-of-reach, term-needed, term-too-heavy, longer-lower, shorter-upper, Conflict, both, lower-above, upper-reached, FallsShort, Reached, OutOfReach, Prefixed}
 use Rattle.theorem_table.specs.OrderLaws.{≤ℤ-or-<ℤ, UpLe, le-or-below}
 use Rattle.theorem_table.specs.Ends.{nodesOf, Finite}
 
@@ -171,7 +171,7 @@ module _ (rows : List Row) where
       × (Undecided rows s (t .condition) → ((u : ℤ) × (s .upper r ≡ Under u) × ((u -ℤ knownOf rows s r) ≤ℤ pos (t .weight))) → ⊥)
 
   abbrev StillPair : Table → ℕ → ℕ → Type 0
-  StillPair s r q = (Begins rows r q → s .lower q <ℤ s .lower r → ⊥) × (Begins rows r q → Below (s .upper q) (s .upper r) → ⊥)
+  StillPair s r q = (Prefixed rows r q → s .lower q <ℤ s .lower r → ⊥) × (Prefixed rows r q → Below (s .upper q) (s .upper r) → ⊥)
 
   other : (s : Table) (o : Other) → Decided (OtherReached rows s o)
   unfolding OtherReached
@@ -210,7 +210,7 @@ module _ (rows : List Row) where
       (rule prefix (less (s .lower q) (s .lower r)) (λ p h. (raiseLower s q (s .lower r), longer-lower r q (i, j, p) h)))
       (rule prefix (lies-below (s .upper q) (s .upper r)) (λ p h. (lowerUpper s r (s .upper q), shorter-upper r q (i, j, p) h)))
     where
-      prefix : Decided (Begins rows r q)
+      prefix : Decided (Prefixed rows r q)
       prefix = and-two (starts (termsOf rows r) (termsOf rows q)) (is _ true) (is _ true)
 
   abbrev StillGuards : Table → Type 0

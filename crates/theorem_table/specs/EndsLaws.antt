@@ -9,7 +9,7 @@ use mathlib.Core.Logic.{_⊎_, inl, inr}
 use lib.Dec.{ltb}
 use borrow.Author.Tests.{ltb-true, ltb-false}
 use Rattle.base.specs.TestLaws.{unequal}
-use Rattle.thresholds.specs.Rows.{Row}
+use Rattle.rows.specs.Rows.{Row}
 use Rattle.theorem_table.specs.Table.{Table, start, Step, Conflict, Run, done, more, steps, Ended}
 use Rattle.theorem_table.specs.Ends.{nodesOf, levels, Finite, most}
 use Rattle.theorem_table.specs.EndsCountLaws.{left, left-most, finite-step, finite-run, falls, finite-steps}

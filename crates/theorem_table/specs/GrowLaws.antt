@@ -16,7 +16,7 @@ use Rattle.row.specs.Terms.{sameTerms}
 use Rattle.state.specs.State.{maxZ}
 use Rattle.state.specs.declared.Upper.{Upper}
 use Rattle.state.specs.declared.Upper.the-variants.{Open, Under}
-use Rattle.thresholds.specs.Rows.{Row, rowOf, Guard, guard, noRow, below, insertGuard, place, placeAll, Other, alone, beside, linkedBy, Linked}
+use Rattle.rows.specs.Rows.{Row, rowOf, Guard, guard, noRow, below, insertGuard, place, placeAll, Other, alone, beside, linkedBy, Linked}
 use Rattle.theorem_table.specs.Table.{Table, known, possible, AtMost, Below, Undecided, termsOf, IsRow, Guards, HasTerm, OtherReached, IsPrefix, Step, sure-guard, never-guard, bound-reached, bound-out-of-reach, term-needed, term-too-heavy, longer-lower, shorter-upper, Conflict, both, lower-above, upper-reached, AtRest, raiseLower, lowerUpper, decideSure, decideNever, knownOf, possibleOf, reachedOf}
 use Rattle.theorem_table.specs.OrderLaws.{≤ℤ-trans, zero-le, max-up}
 use Rattle.theorem_table.specs.TableLaws.{Le, Follows}

@@ -10,7 +10,7 @@ use Rattle.numeric.specs.Threshold.{Term}
 use Rattle.state.specs.State.{maxZ}
 use Rattle.state.specs.declared.Upper.{Upper}
 use Rattle.state.specs.declared.Upper.the-variants.{Under}
-use Rattle.thresholds.specs.Rows.{Row, Guard, Other, alone, beside, MayDecide}
+use Rattle.rows.specs.Rows.{Row, Guard, Other, alone, beside, MayDecide}
 use Rattle.theorem_table.specs.Table.{Table, AtMost, Guards, HasTerm, knownOf, possibleOf, Step, sure-guard, never-guard, bound-reached, bound-out-of-reach, term-needed, term-too-heavy, longer-lower, shorter-upper}
 
 -- The four figures of a row.

@@ -10,7 +10,7 @@ use lib.Signed.{_≤ℤ_, _<ℤ_, ≤ℤ-refl}
 use Rattle.numeric.specs.Threshold.{Term}
 use Rattle.state.specs.declared.Upper.{Upper}
 use Rattle.state.specs.declared.Upper.the-variants.{Open, Under}
-use Rattle.thresholds.specs.Rows.{Row, Guard, Other, alone, beside}
+use Rattle.rows.specs.Rows.{Row, Guard, Other, alone, beside}
 use Rattle.theorem_table.specs.Table.{Table, AtMost, Below, raiseLower, lowerUpper, Guards, FallsShort, IsPrefix, sure-guard, never-guard, longer-lower, shorter-upper, AtRest}
 use Rattle.theorem_table.specs.OrderLaws.{≤ℤ-trans, ≤ℤ-<ℤ-trans, ≤ℤ-or-<ℤ, max-up, sub-up, UpLe, le-or-below, at-most-up}
 use Rattle.theorem_table.specs.Judged.{RowFigures, ReachedBy, OtherReachedBy, Calm, By, by-2, by-3, by-4, by-5}

@@ -20,7 +20,7 @@ use Rattle.numeric.specs.LayoutLaws.{sumOf, value-sum}
 use Rattle.state.specs.declared.Upper.the-variants.{Under}
 use Rattle.row.specs.Terms.{rowTerms, sameTerms}
 use Rattle.row.specs.SumLaws.{row-sum}
-use Rattle.thresholds.specs.Rows.{Row, rowOf, Guard, guard, noRow, insertGuard, below, place, placeAll, rowsOf}
+use Rattle.rows.specs.Rows.{Row, rowOf, Guard, guard, noRow, insertGuard, below, place, placeAll, rowsOf}
 use Rattle.theorem_table.specs.Table.{Table, possible, termsOf, Guards, knownOf, possibleOf, reachedOf, Step, sure-guard, never-guard, bound-reached, bound-out-of-reach, term-needed, term-too-heavy, longer-lower, shorter-upper, Conflict, both, lower-above, upper-reached, AtRest}
 use Rattle.theorem_table.specs.OrderLaws.{le, lt, of-le, ≤ℤ-trans, pos-≤ℤ}
 use Rattle.theorem_table.specs.TableLaws.{Le, known-sum, Follows, conflict-up}

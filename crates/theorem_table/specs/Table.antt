@@ -12,7 +12,7 @@ use Rattle.numeric.specs.Threshold.{Term}
 use Rattle.state.specs.declared.Upper.{Upper}
 use Rattle.state.specs.declared.Upper.the-variants.{Open, Under}
 use Rattle.state.specs.State.{maxZ}
-use Rattle.thresholds.specs.Rows.{Row, Guard, Other, alone, beside, MayDecide, Linked, noRow}
+use Rattle.rows.specs.Rows.{Row, Guard, Other, alone, beside, MayDecide, Linked, noRow}
 
 -- A state of the table: which nodes are sure and which never, and for each row its lower and its upper.
 pub record Table : Type 0 where
@@ -104,11 +104,11 @@ module _ (rows : List Row) where
   OutOfReach s r g = MayDecide g × ((possibleOf s r <ℤ g .bound) ⊎ AtMost (s .upper r) (g .bound))
 
   -- The terms of row r stand at the start of row q's, and both rows are linked; two rows with equal terms are prefixes of each other.
-  abbrev pub Begins : ℕ → ℕ → Type 0
-  Begins r q = (rest : List Term) × (termsOf q ≡ termsOf r ++ rest) × Linked (getD rows r noRow) × Linked (getD rows q noRow)
+  abbrev pub Prefixed : ℕ → ℕ → Type 0
+  Prefixed r q = (rest : List Term) × (termsOf q ≡ termsOf r ++ rest) × Linked (getD rows r noRow) × Linked (getD rows q noRow)
 
   abbrev pub IsPrefix : ℕ → ℕ → Type 0
-  IsPrefix r q = IsRow r × IsRow q × Begins r q
+  IsPrefix r q = IsRow r × IsRow q × Prefixed r q
 
   pub data Step (s : Table) : Table → Type 0 where
     -- 1. Guard sure: lower is at least its bound. Guard never: upper is at most its bound.

@@ -16,7 +16,7 @@ use Rattle.numeric.specs.Threshold.{Term}
 use Rattle.numeric.specs.LayoutLaws.{sumOf, one-rises, sum-rises}
 use Rattle.state.specs.declared.Upper.{Upper}
 use Rattle.state.specs.declared.Upper.the-variants.{Open, Under}
-use Rattle.thresholds.specs.Rows.{Row, Other, alone, beside, isAlone}
+use Rattle.rows.specs.Rows.{Row, Other, alone, beside, isAlone}
 use Rattle.theorem_table.specs.Table.{Table, known, possible, AtMost, Below, at, decideSure, decideNever, raiseLower, lowerUpper, termsOf, HasTerm, knownOf, possibleOf, reachedOf, OtherReached, Undecided, Step, sure-guard, never-guard, bound-reached, bound-out-of-reach, term-needed, term-too-heavy, longer-lower, shorter-upper, Conflict, both, lower-above, upper-reached, Run, done, more, AtRest, Ended}
 use Rattle.theorem_table.specs.OrderLaws.{≤ℤ-trans, ≤ℤ-<ℤ-trans, ≤ℤ-anti, <ℤ-≤ℤ, ≤ℤ-or-<ℤ, pos-≤ℤ, max-up, max-above, sub-up, needed-clash, heavy-clash, UpLe, up-refl, up-trans, up-anti, below-le, le-or-below, at-most-up}
 

@@ -18,7 +18,7 @@ use Rattle.numeric.specs.Threshold.{Term}
 use Rattle.state.specs.State.{maxZ}
 use Rattle.state.specs.declared.Upper.{Upper}
 use Rattle.state.specs.declared.Upper.the-variants.{Open, Under}
-use Rattle.thresholds.specs.Rows.{Row, Guard, Other, alone, beside, linkedBy, Linked, noRow}
+use Rattle.rows.specs.Rows.{Row, Guard, Other, alone, beside, linkedBy, Linked, noRow}
 use Rattle.theorem_table.specs.Table.{Table, known, possible, AtMost, Below, at, decideSure, decideNever, raiseLower, lowerUpper, IsRow, termsOf, Guards, HasTerm, IsPrefix, knownOf, possibleOf, reachedOf, OtherReached, Reached, OutOfReach, Undecided, Step, sure-guard, never-guard, bound-reached, bound-out-of-reach, term-needed, term-too-heavy, longer-lower, shorter-upper, Conflict, both, lower-above, upper-reached, Run, done, more, AtRest, Ended}
 use Rattle.theorem_table.specs.OrderLaws.{le, of-le, ≤ℤ-trans, ≤ℤ-<ℤ-trans, ≤ℤ-or-<ℤ, pos-≤ℤ, zero-le, max-up, max-above, sub-up, needed-clash, heavy-clash, UpLe, up-refl, up-trans, le-or-below, at-most-up}
 use Rattle.theorem_table.specs.TableLaws.{alone-reached, known-up, possible-down, known-rise, possible-drop}

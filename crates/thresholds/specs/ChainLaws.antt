@@ -10,14 +10,16 @@ use lib.ListN.{length, getD, set, replicate, length-append, length-set, getD-rep
 use lib.Seq.{getD-append-seam, getD-set-same, getD-set-other}
 use lib.Dec.{eqb, ltb}
 use borrow.Author.Tests.{eqb-true, eqb-false, ltb-false}
-use Rattle.base.specs.Parts.{endBy, startBy}
+use Rattle.base.specs.Parts.{endBy, startBy, stretch}
 use Rattle.memory.specs.Limits.{maxThresholds}
 use Rattle.numeric.specs.Threshold.{Term}
 use Rattle.row.specs.Terms.{sameTerms}
 use Rattle.thresholds.specs.declared.Found.the-variants.{At, Nothing}
 use Rattle.memory.specs.Buffers.{RawLists}
-use Rattle.thresholds.specs.Raw.{prints, stretch, listAt, mixed, fingerprint, numberIn, foundOf, Lists}
-use Rattle.thresholds.specs.RawLaws.{same-is, same-refl, length-terms, stretch-length, number-most, found-at, found-nothing}
+use Rattle.thresholds.specs.Raw.{prints, mixed, fingerprint, numberIn, foundOf}
+use Rattle.rows.specs.Lists.{listAt, Lists}
+use Rattle.thresholds.specs.RawLaws.{number-most, found-at, found-nothing}
+use Rattle.rows.specs.ListsLaws.{same-is, same-refl, length-terms, stretch-length}
 use Rattle.thresholds.specs.Chain.{mark, nextIn, printIn, markedList, classOf, classAt, newest, Marked, Headed, Own, Searching, classCount}
 use Rattle.thresholds.specs.Placed.{rawsTo, rowTo}
 

@@ -1,12 +1,6 @@
-pub mod Rows
-pub mod Laid
 pub mod Raw
 pub mod RawLaws
 pub mod Chain
-pub mod Incidents
-pub mod IncidentsLaws
-pub mod Guards
-pub mod GuardsLaws
 pub mod Placed
 pub mod PlacedLaws
 pub mod RowsLaws

@@ -10,9 +10,10 @@ use Rattle.numeric.specs.Threshold.{Term}
 use Rattle.row.specs.Terms.{rowTerms}
 use Rattle.row.specs.Keys.{laid, conditionsOf, weightsOf}
 use Rattle.memory.specs.Buffers.{RawLists}
-use Rattle.thresholds.specs.Raw.{listAt, numberIn}
+use Rattle.thresholds.specs.Raw.{numberIn}
+use Rattle.rows.specs.Lists.{listAt}
 use Rattle.thresholds.specs.Chain.{markedList, Marked, Headed}
-use Rattle.thresholds.specs.Guards.{nodeAt}
+use Rattle.rows.specs.Guards.{nodeAt}
 
 -- A list with another in the place of m of its elements, from a on.
 abbrev pub spliced : {X : Type 0} → ℕ → ℕ → List X → List X → List X

@@ -12,7 +12,7 @@ use lib.Dec.{eqb, ltb}
 use borrow.Author.Tests.{lt-ltb, le-ltb}
 use Rattle.row.specs.Keys.{Raw, laid}
 use Rattle.sort.specs.Runs.{cleared}
-use Rattle.thresholds.specs.Raw.{stretch}
+use Rattle.base.specs.Parts.{stretch}
 use Rattle.thresholds.specs.Placed.{spliced}
 
 abbrev zeros : ℕ → List ℕ

@@ -10,9 +10,9 @@ use lib.Dec.{eqb, ltb}
 use borrow.Author.Tests.{eq-eqb, ne-eqb, lt-ltb, le-ltb, ltb-true, ltb-false, eqb-true, eqb-false}
 use Rattle.numeric.specs.Threshold.{Term, Threshold}
 use Rattle.row.specs.Terms.{rowTerms, sameTerms}
-use Rattle.thresholds.specs.Rows.{Row, rowOf, Guard, guard, below, insertGuard, place, placeAll, rowNumber, noRow}
+use Rattle.rows.specs.Rows.{Row, rowOf, Guard, guard, below, insertGuard, place, placeAll, rowNumber, noRow}
 use Rattle.thresholds.specs.Raw.{numberIn}
-use Rattle.thresholds.specs.RawLaws.{same-refl, same-is}
+use Rattle.rows.specs.ListsLaws.{same-refl, same-is}
 use Rattle.thresholds.specs.Placed.{joined}
 
 abbrev pub raws : List Row → List (List Term)

@@ -4,8 +4,9 @@ use Prim.Native.Nat.{_≤_}
 use native.Mathlib.Omega.{arith}
 use lib.ListN.{length}
 use borrow.Author.Needs.{needs}
-use Rattle.files.specs.Listing.{text, decimal, answerLine}
-use Rattle.listing.specs.TextLaws.{wrote-as, wrote-then, wrote-both}
+use Rattle.files.specs.Listing.{text, answerLine}
+use Rattle.text.specs.Decimal.{decimal}
+use Rattle.text.specs.TextLaws.{wrote-as, wrote-then, wrote-both}
 use Rattle.listing.specs.LinesLaws.{answer-settle, answer-sift}
 use Rattle.listing.proofs.answer.Statement.{statement}
 use Rattle.listing.proofs.answer.Tie as tie

@@ -1,8 +1,8 @@
 -- `listing::answer_lines` meets its contract. The loop's invariant: the lines of the answers passed are written.
 use Prim.Native.Nat.{_-_}
 use native.Mathlib.Omega.{arith}
-use Rattle.listing.specs.Text.{Joins}
-use Rattle.listing.specs.TextLaws.{joins-none, joins-room, joins-next, joins-done}
+use Rattle.text.specs.Text.{Joins}
+use Rattle.text.specs.TextLaws.{joins-none, joins-room, joins-next, joins-done}
 use Rattle.listing.specs.Lines.{answerAt}
 use Rattle.listing.proofs.answer_lines.Statement.{statement}
 use Rattle.listing.proofs.answer_lines.Tie as tie

@@ -2,7 +2,7 @@
 use mathlib.Core.Path.{sym}
 use native.Mathlib.Omega.{arith}
 use borrow.Author.Needs.{needs}
-use Rattle.listing.specs.TextLaws.{wrote-none, wrote-as}
+use Rattle.text.specs.TextLaws.{wrote-none, wrote-as}
 use Rattle.listing.specs.LinesLaws.{nodes-sealed, nodes-none}
 use Rattle.listing.proofs.decided_lines.Statement.{statement}
 use Rattle.listing.proofs.decided_lines.Tie as tie

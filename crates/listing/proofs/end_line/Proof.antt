@@ -4,8 +4,9 @@ use Prim.Native.Nat.{_≤_}
 use native.Mathlib.Omega.{arith}
 use lib.ListN.{length, length-take}
 use borrow.Author.Needs.{needs}
-use Rattle.files.specs.Listing.{text, decimal}
-use Rattle.listing.specs.TextLaws.{wrote-as, wrote-then, wrote-both}
+use Rattle.files.specs.Listing.{text}
+use Rattle.text.specs.Decimal.{decimal}
+use Rattle.text.specs.TextLaws.{wrote-as, wrote-then, wrote-both}
 use Rattle.listing.specs.Lines.{endLine}
 use Rattle.listing.specs.LinesLaws.{counted}
 use Rattle.listing.proofs.end_line.Statement.{statement}

@@ -4,9 +4,10 @@ use Prim.Native.Nat.{_≤_}
 use native.Mathlib.Omega.{arith}
 use lib.ListN.{length}
 use borrow.Author.Needs.{needs}
-use Rattle.files.specs.Listing.{text, decimalZ}
-use Rattle.listing.specs.TextLaws.{wrote-same, wrote-then}
-use Rattle.listing.specs.NumberLaws.{held}
+use Rattle.files.specs.Listing.{text}
+use Rattle.text.specs.Decimal.{decimalZ}
+use Rattle.text.specs.TextLaws.{wrote-same, wrote-then}
+use Rattle.text.specs.NumberLaws.{held}
 use Rattle.listing.proofs.figure.Statement.{statement}
 use Rattle.listing.proofs.figure.Tie as tie
 

@@ -6,9 +6,10 @@ use native.Mathlib.Omega.{arith}
 use lib.ListN.{length}
 use lib.IntN.{ℤ}
 use borrow.Author.Needs.{needs}
-use Rattle.files.specs.Listing.{text, decimalZ}
-use Rattle.listing.specs.TextLaws.{wrote-same, wrote-then, wrote-both}
-use Rattle.listing.specs.NumberLaws.{held}
+use Rattle.files.specs.Listing.{text}
+use Rattle.text.specs.Decimal.{decimalZ}
+use Rattle.text.specs.TextLaws.{wrote-same, wrote-then, wrote-both}
+use Rattle.text.specs.NumberLaws.{held}
 use Rattle.listing.proofs.figures.Statement.{statement}
 use Rattle.listing.proofs.figures.Tie as tie
 

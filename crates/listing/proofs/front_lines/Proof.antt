@@ -4,7 +4,7 @@ use Prim.Native.Nat.{_≤_}
 use native.Mathlib.Omega.{arith}
 use lib.ListN.{length}
 use borrow.Author.Needs.{needs}
-use Rattle.listing.specs.TextLaws.{wrote-as, wrote-then}
+use Rattle.text.specs.TextLaws.{wrote-as, wrote-then}
 use Rattle.listing.proofs.front_lines.Statement.{statement}
 use Rattle.listing.proofs.front_lines.Tie as tie
 

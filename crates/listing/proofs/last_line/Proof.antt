@@ -2,7 +2,7 @@
 use mathlib.Core.Path.{sym}
 use native.Mathlib.Omega.{arith}
 use borrow.Author.Needs.{needs}
-use Rattle.listing.specs.TextLaws.{wrote-same}
+use Rattle.text.specs.TextLaws.{wrote-same}
 use Rattle.listing.specs.LinesLaws.{last-end, last-refused}
 use Rattle.listing.proofs.last_line.Statement.{statement}
 use Rattle.listing.proofs.last_line.Tie as tie

@@ -3,7 +3,7 @@ use mathlib.Core.Path.{sym, _∙_}
 use native.Mathlib.Omega.{arith}
 use borrow.Author.Needs.{needs}
 use Rattle.files.specs.Listing.{text}
-use Rattle.listing.specs.TextLaws.{wrote-none, wrote-as}
+use Rattle.text.specs.TextLaws.{wrote-none, wrote-as}
 use Rattle.listing.specs.LinesLaws.{node-sure, node-never, node-none}
 use Rattle.listing.proofs.node_line.Statement.{statement}
 use Rattle.listing.proofs.node_line.Tie as tie

@@ -3,8 +3,9 @@ use Prim.Native.Nat.{_≤_}
 use native.Mathlib.Omega.{arith}
 use lib.ListN.{length}
 use borrow.Author.Needs.{needs}
-use Rattle.files.specs.Listing.{text, decimal}
-use Rattle.listing.specs.TextLaws.{wrote-then, wrote-both}
+use Rattle.files.specs.Listing.{text}
+use Rattle.text.specs.Decimal.{decimal}
+use Rattle.text.specs.TextLaws.{wrote-then, wrote-both}
 use Rattle.listing.specs.Lines.{refusedLine}
 use Rattle.listing.proofs.refused_line.Statement.{statement}
 use Rattle.listing.proofs.refused_line.Tie as tie

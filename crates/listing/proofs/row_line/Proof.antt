@@ -4,7 +4,7 @@ use native.Mathlib.Omega.{arith}
 use lib.ListN.{length}
 use borrow.Author.Needs.{needs}
 use Rattle.files.specs.Listing.{text}
-use Rattle.listing.specs.TextLaws.{wrote-then}
+use Rattle.text.specs.TextLaws.{wrote-then}
 use Rattle.listing.specs.Lines.{rowLine}
 use Rattle.listing.proofs.row_line.Statement.{statement}
 use Rattle.listing.proofs.row_line.Tie as tie

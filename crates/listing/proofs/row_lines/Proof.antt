@@ -56,8 +56,8 @@ use Rattle.state.specs.State.{noState}
 use Rattle.state.specs.declared.State.{State}
 use Rattle.state.proofs.State as T
 use Rattle.state.proofs.State.Laws as T′
-use Rattle.listing.specs.Text.{Wrote, Joins}
-use Rattle.listing.specs.TextLaws.{wrote-same, joins-none, joins-room, joins-next, joins-done}
+use Rattle.text.specs.Text.{Wrote, Joins}
+use Rattle.text.specs.TextLaws.{wrote-same, joins-none, joins-room, joins-next, joins-done}
 use Rattle.listing.specs.Lines.{maxRowLine, rowLine, rowAt}
 use Rattle.listing.proofs.row_lines.Code.Mir as pieces
 use Rattle.states.proofs.load as load′

@@ -4,7 +4,7 @@ use Prim.Native.Nat.{ℕ}
 use native.Mathlib.Omega.{arith}
 use borrow.Author.Needs.{needs}
 use Rattle.files.specs.Listing.{text, stepWord}
-use Rattle.listing.specs.TextLaws.{wrote-as}
+use Rattle.text.specs.TextLaws.{wrote-as}
 use Rattle.listing.specs.Lines.{stepOf}
 use Rattle.listing.specs.LinesLaws.{step-other}
 use Rattle.listing.proofs.step.Statement.{statement}

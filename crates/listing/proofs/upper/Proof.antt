@@ -2,9 +2,10 @@
 use mathlib.Core.Path.{_≡_, sym, ap, _∙_}
 use native.Mathlib.Omega.{arith}
 use borrow.Author.Needs.{needs}
-use Rattle.files.specs.Listing.{decimalZ, upperText}
-use Rattle.listing.specs.TextLaws.{wrote-as}
-use Rattle.listing.specs.NumberLaws.{held}
+use Rattle.files.specs.Listing.{upperText}
+use Rattle.text.specs.Decimal.{decimalZ}
+use Rattle.text.specs.TextLaws.{wrote-as}
+use Rattle.text.specs.NumberLaws.{held}
 use Rattle.listing.proofs.upper.Statement.{statement}
 use Rattle.listing.proofs.upper.Tie as tie
 

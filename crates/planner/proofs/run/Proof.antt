@@ -56,7 +56,7 @@ use Rattle.states.specs.StepsLaws.{if-returns, big-lit, holds, fails}
 use Rattle.state.specs.declared.State.{State}
 use Rattle.state.proofs.State as T
 use Rattle.memory.specs.Limits.{maxThresholds}
-use Rattle.between.specs.Numbers.{statesOf}
+use Rattle.row_moves.specs.Numbers.{statesOf}
 use Rattle.files.specs.declared.Given.{Given as Answer}
 use Rattle.files.proofs.Given as G
 use Rattle.files.proofs.Given.Laws as G′

@@ -6,7 +6,7 @@ use lib.ListN.{set, replicate}
 use borrow.Author.Needs.{needs}
 use Rattle.numeric.specs.Slices.{terms}
 use Rattle.words.specs.Mask.{inEither}
-use Rattle.possible_sums.specs.Search.{searchFrom}
+use Rattle.searches.specs.Search.{searchFrom}
 use Rattle.possible_sums.proofs.attempt.Statement.{statement}
 use Rattle.possible_sums.proofs.attempt.Tie as tie
 

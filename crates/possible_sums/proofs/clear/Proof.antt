@@ -3,7 +3,7 @@ use Prim.Native.Nat.{_-_, _≤_}
 use native.Mathlib.Omega.{arith}
 use mathlib.Core.Path.{_≡_, refl}
 use lib.ListN.{length, length-set}
-use Rattle.possible_sums.specs.ZerosLaws.{ZeroTo, zero-next, zero-all}
+use Rattle.searches.specs.ZerosLaws.{ZeroTo, zero-next, zero-all}
 use Rattle.possible_sums.proofs.clear.Statement.{statement}
 use Rattle.possible_sums.proofs.clear.Tie as tie
 

@@ -13,9 +13,9 @@ use Rattle.numeric.specs.Slices.{terms}
 use Rattle.words.specs.Mask.{inEither}
 use Rattle.words.specs.Shift.{unionShifted}
 use Rattle.words.specs.ShiftLaws.{union-length, complete-visits}
-use Rattle.possible_sums.specs.Search.{searchFrom}
+use Rattle.searches.specs.Search.{searchFrom}
 use Rattle.numeric.specs.TermsLaws.{lastTerms, last-all}
-use Rattle.possible_sums.specs.SearchStepsLaws.{
+use Rattle.searches.specs.SearchStepsLaws.{
   lastTerm,
   turn,
   turn-none,

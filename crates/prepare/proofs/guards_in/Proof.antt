@@ -8,7 +8,7 @@ use Rattle.base.specs.Laid.{ends}
 use Rattle.base.specs.Deal.{grouped}
 use Rattle.base.specs.Columns.{withColumn}
 use Rattle.base.specs.TallyLaws.{mapped-long}
-use Rattle.thresholds.specs.Guards.{boundItem, nodeItem, boundItems, nodeItems}
+use Rattle.rows.specs.Guards.{boundItem, nodeItem, boundItems, nodeItems}
 use Rattle.prepare.specs.PreparePartsLaws.{grouped-part, cleared-part}
 use mathlib.Core.Path.{_∙_, sym, ap}
 use borrow.Author.Needs.{needs}

@@ -4,8 +4,8 @@ use lib.ListN.{length}
 use lib.Seq.{length-take-le}
 use Rattle.sort.specs.Sorted.{sorted}
 use Rattle.sort.specs.SortedLaws.{length-sorted}
-use Rattle.thresholds.specs.Guards.{guardKeys}
-use Rattle.thresholds.specs.GuardsLaws.{length-keys}
+use Rattle.rows.specs.Guards.{guardKeys}
+use Rattle.rows.specs.GuardsLaws.{length-keys}
 use Rattle.prepare.specs.PreparePartsLaws.{keys-over, spare-kept}
 use mathlib.Core.Path.{_∙_, sym}
 use borrow.Author.Needs.{needs}

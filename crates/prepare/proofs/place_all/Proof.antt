@@ -7,7 +7,7 @@ use Rattle.base.specs.Laid.{joinAll}
 use Rattle.row.specs.Keys.{conditionsOf, weightsOf}
 use Rattle.memory.specs.Buffers.{RawLists, rawLists}
 use Rattle.thresholds.specs.Placed.{termsTo}
-use Rattle.prepare.specs.PlaceLaws.{marks-few}
+use Rattle.placing.specs.PlaceLaws.{marks-few}
 use Rattle.prepare.specs.PreparePartsLaws.{laid-over, cleared-part, zeros-back}
 use Rattle.prepare.specs.PrepareLaws.{marks-cleared}
 use mathlib.Core.Path.{_∙_, sym}

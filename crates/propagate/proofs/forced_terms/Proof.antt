@@ -12,10 +12,10 @@ use Rattle.numeric.specs.TermsLaws.{up-terms, length-terms}
 use Rattle.queues.specs.Queue.{queue}
 use Rattle.queues.specs.Marks.{marks, isDecided}
 use Rattle.queues.specs.Waiting.{Waits}
-use Rattle.propagate.specs.Scan.{scan, scanned}
-use Rattle.propagate.specs.Turns.{turn, light}
-use Rattle.propagate.specs.ScanLaws.{force-keeps, place-ends, place-goes, place-passed, place-keeps, scan-none}
-use Rattle.propagate.specs.Row.{termWaits, forces, forced}
+use Rattle.row_runs.specs.Scan.{scan, scanned}
+use Rattle.row_runs.specs.Turns.{turn, light}
+use Rattle.row_runs.specs.ScanLaws.{force-keeps, place-ends, place-goes, place-passed, place-keeps, scan-none}
+use Rattle.row_runs.specs.Row.{termWaits, forces, forced}
 use Rattle.propagate.proofs.forced_terms.Statement.{statement}
 use Rattle.propagate.proofs.forced_terms.Tie as tie
 

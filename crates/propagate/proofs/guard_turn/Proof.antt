@@ -1,8 +1,8 @@
 -- `propagate::guard_turn` meets its contract: it waits, or decides and passes.
 use Rattle.queues.specs.Queue.{queue}
 use Rattle.queues.specs.Marks.{marks, decide}
-use Rattle.propagate.specs.Scan.{scanned}
-use Rattle.propagate.specs.ScanLaws.{waits-turn, guard-passed}
+use Rattle.row_runs.specs.Scan.{scanned}
+use Rattle.row_runs.specs.ScanLaws.{waits-turn, guard-passed}
 use borrow.Author.Needs.{needs}
 use Rattle.propagate.proofs.guard_turn.Statement.{statement}
 use Rattle.propagate.proofs.guard_turn.Tie as tie

@@ -4,9 +4,9 @@ use mathlib.Core.Path.{refl, sym, ap, _∙_}
 use mathlib.Core.Bool.{false}
 use Rattle.state.specs.declared.Step.{Step}
 use Rattle.queues.specs.Marks.{decided}
-use Rattle.propagate.specs.Scan.{scanned}
-use Rattle.propagate.specs.Turns.{turn}
-use Rattle.propagate.specs.ScanLaws.{turn-stops, turn-on}
+use Rattle.row_runs.specs.Scan.{scanned}
+use Rattle.row_runs.specs.Turns.{turn}
+use Rattle.row_runs.specs.ScanLaws.{turn-stops, turn-on}
 use borrow.Author.Needs.{needs}
 use Rattle.propagate.proofs.passed_turn.Statement.{statement}
 use Rattle.propagate.proofs.passed_turn.Tie as tie

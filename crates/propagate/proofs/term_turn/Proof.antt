@@ -3,8 +3,8 @@ use mathlib.Core.Path.{refl, sym, _∙_}
 use Rattle.state.specs.declared.Step.the-variants.{Unchanged}
 use Rattle.queues.specs.Queue.{queue}
 use Rattle.queues.specs.Marks.{marks}
-use Rattle.propagate.specs.Scan.{scanned}
-use Rattle.propagate.specs.ScanLaws.{term-passed, term-free}
+use Rattle.row_runs.specs.Scan.{scanned}
+use Rattle.row_runs.specs.ScanLaws.{term-passed, term-free}
 use borrow.Author.Needs.{needs}
 use Rattle.propagate.proofs.term_turn.Statement.{statement}
 use Rattle.propagate.proofs.term_turn.Tie as tie

@@ -4,10 +4,10 @@ use mathlib.Core.Path.{_≡_, sym, ap, _∙_}
 use borrow.Author.Needs.{needs}
 use Rattle.queues.specs.Queue.{queue}
 use Rattle.queues.specs.Marks.{marks}
-use Rattle.propagate.specs.Scan.{Scanned, scanned}
-use Rattle.propagate.specs.GuardsLaws.{length-guards, all-guards}
-use Rattle.propagate.specs.Guards.{guards}
-use Rattle.propagate.specs.RowLaws.{sure-within, never-within, sure-keeps, guards-stop, guards-more}
+use Rattle.row_runs.specs.Scan.{Scanned, scanned}
+use Rattle.row_runs.specs.GuardsLaws.{length-guards, all-guards}
+use Rattle.row_runs.specs.Guards.{guards}
+use Rattle.row_runs.specs.RowLaws.{sure-within, never-within, sure-keeps, guards-stop, guards-more}
 use Rattle.propagate.proofs.threshold_guards.Statement.{statement}
 use Rattle.propagate.proofs.threshold_guards.Tie as tie
 

@@ -1,14 +1,14 @@
--- `propagate::threshold_row` meets its contract: a conflict, a contradiction of the guards, or the terms behind them.
+-- `propagate::threshold_row` meets its contract: a conflict, a contradiction of the guards, or the terms after them.
 use mathlib.Core.Path.{sym, _∙_}
 use borrow.Author.Needs.{needs}
 use Rattle.numeric.specs.Slices.{terms}
 use Rattle.queues.specs.Queue.{queue}
 use Rattle.queues.specs.Marks.{marks}
-use Rattle.thresholds.specs.Rows.{rowOf}
-use Rattle.propagate.specs.GuardsLaws.{all-guards}
-use Rattle.propagate.specs.Guards.{guards}
-use Rattle.propagate.specs.Row.{ran, thresholdGuards}
-use Rattle.propagate.specs.RowLaws.{kept-guards, kept-by, figures-moved, row-conflict, row-guards, row-terms}
+use Rattle.rows.specs.Rows.{rowOf}
+use Rattle.row_runs.specs.GuardsLaws.{all-guards}
+use Rattle.row_runs.specs.Guards.{guards}
+use Rattle.row_runs.specs.Row.{ran, thresholdGuards}
+use Rattle.row_runs.specs.RowLaws.{kept-guards, kept-by, figures-moved, row-conflict, row-guards, row-terms}
 use Rattle.propagate.proofs.threshold_row.Statement.{statement}
 use Rattle.propagate.proofs.threshold_row.Tie as tie
 
@@ -47,8 +47,8 @@ returns-2 c =
     (ran (f .result .state) (marks (f .last .1 .1 .1 .0) (f .last .1 .1 .1 .1 .0) (queue (f .last .1 .1 .1 .1 .1 .0) (f .result .ring))) (f .result .step))
     (f .ensures) (sym (c .before .contradicts .ensures) ∙ c .if2 .taken)
 
-row-terms-requires : tie.Need-row-terms-requires
-row-terms-requires c κs =
+threshold-terms-requires : tie.Need-threshold-terms-requires
+threshold-terms-requires c κs =
     let a = start-of (conflict-of (c .before .before .before .before)) .args in
     let p = start-of (conflict-of (c .before .before .before .before)) .pre in
     let f = threshold-guards-of (c .before .before .before .before) .threshold-guards in
@@ -59,19 +59,19 @@ row-terms-requires c κs =
     (p .0, figures-moved (a .state) (f .result .state) (k .moved) (p .2), k .waits)
 
 same-length-4 : tie.Need-same-length-4
-same-length-4 c = c .before .before .before .before .before .before .row-terms .kept .1 .1 .1 .0 ∙ threshold-guards-of (else2-of c .before) .threshold-guards .kept .1 .1 .1 .0
+same-length-4 c = c .before .before .before .before .before .before .threshold-terms .kept .1 .1 .1 .0 ∙ threshold-guards-of (else2-of c .before) .threshold-guards .kept .1 .1 .1 .0
 
 same-length-5 : tie.Need-same-length-5
-same-length-5 c = c .before .before .before .before .before .before .row-terms .kept .1 .1 .1 .1 .0 ∙ threshold-guards-of (else2-of c .before) .threshold-guards .kept .1 .1 .1 .1 .0
+same-length-5 c = c .before .before .before .before .before .before .threshold-terms .kept .1 .1 .1 .1 .0 ∙ threshold-guards-of (else2-of c .before) .threshold-guards .kept .1 .1 .1 .1 .0
 
 same-length-6 : tie.Need-same-length-6
-same-length-6 c = c .before .before .before .before .before .before .row-terms .kept .1 .1 .1 .1 .1 .0 ∙ threshold-guards-of (else2-of c .before) .threshold-guards .kept .1 .1 .1 .1 .1 .0
+same-length-6 c = c .before .before .before .before .before .before .threshold-terms .kept .1 .1 .1 .1 .1 .0 ∙ threshold-guards-of (else2-of c .before) .threshold-guards .kept .1 .1 .1 .1 .1 .0
 
 returns-3 : tie.Need-returns-3
 returns-3 c =
     let a = start-of (conflict-of (else2-of c .before)) .args in
     let f = threshold-guards-of (else2-of c .before) .threshold-guards in
-    let t = c .before .before .before .before .before .before .row-terms in
+    let t = c .before .before .before .before .before .before .threshold-terms in
     λ raw. row-terms (rowOf raw (terms (a .conditions .now) (a .weights .now)) (guards (a .bounds .now) (a .names .now))) (a .state)
     (marks (a .sure .now) (a .never .now) (queue (a .node-queue .now) (a .ring))) (sym (conflict-of (else2-of c .before) .conflict .ensures) ∙ else1-of (threshold-guards-of (else2-of c .before)) .if1 .left)
     (ran (f .result .state) (marks (f .last .1 .1 .1 .0) (f .last .1 .1 .1 .1 .0) (queue (f .last .1 .1 .1 .1 .1 .0) (f .result .ring))) (f .result .step))
@@ -87,7 +87,7 @@ threshold-row-spec =
     threshold-guards-requires
     (λ c κs. search needs) (λ c. search needs) (λ c. search needs) (λ c. search needs)
     returns-2
-    row-terms-requires
+    threshold-terms-requires
     same-length-4
     same-length-5
     same-length-6

@@ -16,10 +16,10 @@ use Rattle.state.specs.declared.Step.the-variants.{Unchanged}
 use Rattle.state.specs.State.{withTerms}
 use Rattle.queues.specs.Queue.{queue}
 use Rattle.queues.specs.Marks.{marks}
-use Rattle.propagate.specs.Scan.{Scanned, scanned}
-use Rattle.propagate.specs.Turns.{light, cut}
-use Rattle.propagate.specs.Row.{ran}
-use Rattle.propagate.specs.RowLaws.{stay-true, true-none, true-forced, forced-within, signed}
+use Rattle.row_runs.specs.Scan.{Scanned, scanned}
+use Rattle.row_runs.specs.Turns.{light, cut}
+use Rattle.row_runs.specs.Row.{ran}
+use Rattle.row_runs.specs.RowLaws.{stay-true, true-none, true-forced, forced-within, signed}
 use Rattle.propagate.proofs.true_terms.Statement.{statement}
 use Rattle.propagate.proofs.true_terms.Tie as tie
 

@@ -8,9 +8,9 @@ use Rattle.numeric.specs.Threshold.{Term}
 use Rattle.numeric.specs.Slices.{terms}
 use Rattle.numeric.specs.TermsLaws.{lastTerms, last-all, last-none}
 use Rattle.words.specs.Mask.{inEither}
-use Rattle.residual.specs.Misses.{misses}
-use Rattle.residual.specs.Residual.{checkFrom}
-use Rattle.residual.specs.CheckLaws.{
+use Rattle.misses.specs.Misses.{misses}
+use Rattle.intervals.specs.Residual.{checkFrom}
+use Rattle.intervals.specs.CheckLaws.{
   turn-skip,
   turn-stop,
   turn-more,

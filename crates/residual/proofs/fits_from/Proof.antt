@@ -8,9 +8,9 @@ use lib.ListN.{length}
 use Rattle.numeric.specs.Threshold.{Term}
 use Rattle.numeric.specs.Slices.{terms}
 use Rattle.words.specs.Mask.{inEither}
-use Rattle.residual.specs.Residual.{fitsFrom}
+use Rattle.intervals.specs.Residual.{fitsFrom}
 use Rattle.numeric.specs.TermsLaws.{lastTerms, last-all}
-use Rattle.residual.specs.FitsLaws.{fits-wide, fits-skip, fits-first, fits-both, fits-more, fits-none}
+use Rattle.intervals.specs.FitsLaws.{fits-wide, fits-skip, fits-first, fits-both, fits-more, fits-none}
 use Rattle.residual.proofs.fits_from.Statement.{statement}
 use Rattle.residual.proofs.fits_from.Tie as tie
 

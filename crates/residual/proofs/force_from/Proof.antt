@@ -8,8 +8,8 @@ use Rattle.state.specs.declared.Step.the-variants.{Unchanged}
 use Rattle.queues.specs.Queue.{queue}
 use Rattle.queues.specs.Marks.{Marks, marks}
 use Rattle.queues.specs.Waiting.{Waits}
-use Rattle.residual.specs.Residual.{placed, forceFrom}
-use Rattle.residual.specs.ForceLaws.{force-skip, turn-waits, turn-stops, turn-goes-on, force-end}
+use Rattle.intervals.specs.Residual.{placed, forceFrom}
+use Rattle.intervals.specs.ForceLaws.{force-skip, turn-waits, turn-stops, turn-goes-on, force-end}
 use Rattle.residual.proofs.force_from.Statement.{statement}
 use Rattle.residual.proofs.force_from.Tie as tie
 

@@ -3,7 +3,7 @@ use mathlib.Core.Path.{sym, _∙_}
 use Rattle.numeric.specs.Threshold.{Term, term}
 use Rattle.queues.specs.Queue.{queue}
 use Rattle.queues.specs.Marks.{Marks, marks}
-use Rattle.residual.specs.ForceLaws.{force-unit, force-none, force-sure, force-never, force-free}
+use Rattle.intervals.specs.ForceLaws.{force-unit, force-none, force-sure, force-never, force-free}
 use Rattle.residual.proofs.force_term.Statement.{statement}
 use Rattle.residual.proofs.force_term.Tie as tie
 

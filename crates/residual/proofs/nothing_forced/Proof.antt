@@ -5,9 +5,9 @@ use mathlib.Core.List.{reverse}
 use borrow.Author.Tests.{not-true, not-false}
 use Rattle.numeric.specs.Slices.{terms}
 use Rattle.words.specs.Mask.{inEither}
-use Rattle.residual.specs.declared.Interval.{Interval}
-use Rattle.residual.specs.Residual.{fitsFrom}
-use Rattle.residual.specs.FitsLaws.{nothing-unit, nothing-wide, nothing-fits}
+use Rattle.intervals.specs.declared.Interval.{Interval}
+use Rattle.intervals.specs.Residual.{fitsFrom}
+use Rattle.intervals.specs.FitsLaws.{nothing-unit, nothing-wide, nothing-fits}
 use borrow.Author.Needs.{needs}
 use Rattle.residual.proofs.nothing_forced.Statement.{statement}
 use Rattle.residual.proofs.nothing_forced.Tie as tie

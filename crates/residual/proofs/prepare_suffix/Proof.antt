@@ -9,8 +9,8 @@ use Rattle.numeric.specs.Slices.{terms}
 use Rattle.numeric.specs.TermsLaws.{length-terms}
 use Rattle.words.specs.Mask.{inEither}
 use Rattle.divisors.specs.Gcd.{gcd}
-use Rattle.residual.specs.Residual.{suffixes, over}
-use Rattle.residual.specs.SuffixLaws.{laid, laid-start, laid-next, laid-end}
+use Rattle.intervals.specs.Residual.{suffixes, over}
+use Rattle.intervals.specs.SuffixLaws.{laid, laid-start, laid-next, laid-end}
 use Rattle.residual.proofs.prepare_suffix.Statement.{statement}
 use Rattle.residual.proofs.prepare_suffix.Tie as tie
 

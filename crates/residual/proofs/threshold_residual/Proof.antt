@@ -8,10 +8,10 @@ use Rattle.state.specs.Step.{contradicts}
 use Rattle.state.specs.declared.Step.the-variants.{Unchanged}
 use Rattle.queues.specs.Queue.{queue}
 use Rattle.queues.specs.Marks.{marks, decided}
-use Rattle.residual.specs.declared.Interval.{Interval}
-use Rattle.residual.specs.Residual.{placed, forceFrom}
-use Rattle.residual.specs.IntervalLaws.{natural-small}
-use Rattle.residual.specs.ForceLaws.{residual-none, residual-rest, residual-forced}
+use Rattle.intervals.specs.declared.Interval.{Interval}
+use Rattle.intervals.specs.Residual.{placed, forceFrom}
+use Rattle.intervals.specs.IntervalLaws.{natural-small}
+use Rattle.intervals.specs.ForceLaws.{residual-none, residual-rest, residual-forced}
 use borrow.Author.Needs.{needs}
 use Rattle.residual.proofs.threshold_residual.Statement.{statement}
 use Rattle.residual.proofs.threshold_residual.Tie as tie

@@ -9,11 +9,11 @@ use borrow.Author.Tests.{not-true, not-false}
 use Rattle.numeric.specs.Slices.{terms}
 use Rattle.words.specs.Mask.{inEither}
 use Rattle.state.specs.State.{reached, upperAtMost, hasResidualInterval}
-use Rattle.thresholds.specs.Rows.{hasNonunit}
-use Rattle.residual.specs.declared.Interval.{Interval}
-use Rattle.residual.specs.Residual.{checkFrom}
-use Rattle.residual.specs.IntervalLaws.{window}
-use Rattle.residual.specs.CheckLaws.{check-unit, check-wide, check-reached, check-short, check-terms}
+use Rattle.rows.specs.Rows.{hasNonunit}
+use Rattle.intervals.specs.declared.Interval.{Interval}
+use Rattle.intervals.specs.Residual.{checkFrom}
+use Rattle.intervals.specs.IntervalLaws.{window}
+use Rattle.intervals.specs.CheckLaws.{check-unit, check-wide, check-reached, check-short, check-terms}
 use borrow.Author.Needs.{needs}
 use Rattle.residual.proofs.threshold_residual_check.Statement.{statement}
 use Rattle.residual.proofs.threshold_residual_check.Tie as tie

@@ -4,9 +4,9 @@ use mathlib.Core.List.{[], _∷_}
 use types.Run.{OneOf, miss}
 use denote.Enum.Declared.{tagOf}
 use Rattle.memory.specs.Buffers.{heldRows, Built, built}
-use Rattle.between.specs.Between.{Live, Did, did}
-use Rattle.between.specs.Numbers.{liveOf}
-use Rattle.files.specs.Sift.{Sifted, sifted}
+use Rattle.row_moves.specs.Between.{Live, Did, did}
+use Rattle.row_moves.specs.Numbers.{liveOf}
+use Rattle.drain.specs.Sift.{Sifted, sifted}
 use Rattle.records.specs.declared.Record.{Record}
 use Rattle.records.proofs.Record.{the-type}
 use Rattle.records.specs.declared.Record.the-variants.{Mark, Settle, Sift}

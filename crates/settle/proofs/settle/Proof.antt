@@ -3,9 +3,9 @@ use mathlib.Core.Bool.{false, not, _&&_}
 use lib.Dec.{eqb}
 use borrow.Author.Tests.{not-true, not-false}
 use Rattle.memory.specs.Buffers.{heldRows, Built, built}
-use Rattle.between.specs.Between.{Live, did}
-use Rattle.between.specs.NumbersLaws.{same-self}
-use Rattle.between.specs.Numbers.{liveOf, Tidy, Same}
+use Rattle.row_moves.specs.Between.{Live, did}
+use Rattle.row_moves.specs.NumbersLaws.{same-self}
+use Rattle.row_moves.specs.Numbers.{liveOf, Tidy, Same}
 use Rattle.theorem_ends.specs.TurnsLaws.{left}
 use Rattle.settle.specs.SettlingLaws.{Settling, settling-first, settling-next, settling-less, settling-stop, settling-end, row-waits}
 use mathlib.Core.Path.{_≡_, _∙_, sym}

@@ -3,9 +3,9 @@ use native.Mathlib.Omega.{arith}
 use mathlib.Core.List.{List}
 use Prim.Native.Nat.{ℕ}
 use Rattle.memory.specs.Buffers.{HeldRows, heldRows, Built, built}
-use Rattle.between.specs.Between.{Live, did}
-use Rattle.between.specs.Numbers.{liveOf, Same}
-use Rattle.between.specs.KeptHeldLaws.{counts-links}
+use Rattle.row_moves.specs.Between.{Live, did}
+use Rattle.row_moves.specs.Numbers.{liveOf, Same}
+use Rattle.row_moves.specs.KeptHeldLaws.{counts-links}
 use Rattle.settle.specs.TurnLaws.{node-taken, node-next-run, node-stop, node-next}
 use mathlib.Core.Path.{_∙_, sym}
 use borrow.Author.Needs.{needs}

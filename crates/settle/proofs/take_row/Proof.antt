@@ -4,8 +4,8 @@ use lib.ListN.{length}
 use Rattle.memory.specs.Ranges.{figureLimit}
 use Rattle.memory.specs.Buffers.{HeldRows, heldRows}
 use Rattle.queues.specs.Slot.{rowsIn}
-use Rattle.between.specs.Between.{Live, did}
-use Rattle.between.specs.Numbers.{liveOf}
+use Rattle.row_moves.specs.Between.{Live, did}
+use Rattle.row_moves.specs.Numbers.{liveOf}
 use Rattle.settle.specs.TurnLaws.{slots-head, slots-oldest, row-there, row-run, row-is}
 use mathlib.Core.Path.{_∙_, refl}
 use Rattle.settle.proofs.take_row.Statement.{statement}

@@ -3,8 +3,8 @@ use native.Mathlib.Omega.{arith}
 use mathlib.Core.Bool.{true, false}
 use borrow.Author.Tests.{eq-eqb, ne-eqb}
 use Rattle.memory.specs.Buffers.{HeldRows, heldRows}
-use Rattle.between.specs.Between.{Live, did}
-use Rattle.between.specs.Numbers.{liveOf}
+use Rattle.row_moves.specs.Between.{Live, did}
+use Rattle.row_moves.specs.Numbers.{liveOf}
 use Rattle.settle.specs.TurnLaws.{going-run, turn-is}
 use Rattle.settle.proofs.turn.Statement.{statement}
 use Rattle.settle.proofs.turn.Tie as tie

@@ -4,11 +4,11 @@ use mathlib.Core.Bool.{cond}
 use mathlib.Core.List.{List}
 use lib.ListN.{length}
 use Rattle.memory.specs.Buffers.{heldRows, Built, built}
-use Rattle.between.specs.Between.{Live}
-use Rattle.between.specs.NumbersLaws.{same-self}
-use Rattle.between.specs.Numbers.{liveOf, Tidy, Same}
+use Rattle.row_moves.specs.Between.{Live}
+use Rattle.row_moves.specs.NumbersLaws.{same-self}
+use Rattle.row_moves.specs.Numbers.{liveOf, Tidy, Same}
 use Rattle.theorem_ends.specs.TurnsLaws.{left}
-use Rattle.files.specs.Sift.{sifted}
+use Rattle.drain.specs.Sift.{sifted}
 use Rattle.sift.specs.Tries.{Scratch, Round, round}
 use Rattle.sift.specs.SiftingLaws.{Sifting, sifting-first, sifting-next, sifting-less, sifting-stop, sifting-end, scratch-next}
 use mathlib.Core.Path.{_≡_, _∙_, refl, sym, ap}

@@ -2,9 +2,9 @@
 use native.Mathlib.Omega.{arith}
 use borrow.Author.Tests.{eq-eqb, ne-eqb}
 use Rattle.memory.specs.Buffers.{heldRows, Built, built}
-use Rattle.between.specs.Between.{Live, Did, did}
-use Rattle.between.specs.Numbers.{liveOf, Same}
-use Rattle.files.specs.Sift.{Sifted, sifted}
+use Rattle.row_moves.specs.Between.{Live, Did, did}
+use Rattle.row_moves.specs.Numbers.{liveOf, Same}
+use Rattle.drain.specs.Sift.{Sifted, sifted}
 use Rattle.sift.specs.SiftingLaws.{once-stop, once-none, once-try, settled-tries}
 use mathlib.Core.Path.{_∙_, refl, sym}
 use borrow.Author.Needs.{needs}

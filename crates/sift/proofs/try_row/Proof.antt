@@ -6,11 +6,11 @@ use Rattle.memory.specs.Buffers.{HeldRows, heldRows}
 use Rattle.queues.specs.Queue.{queue}
 use Rattle.queues.specs.Slot.{rowsIn}
 use Rattle.queues.specs.Marks.{marks}
-use Rattle.between.specs.Between.{Live, live}
-use Rattle.between.specs.Numbers.{liveOf}
-use Rattle.between.specs.HeldLaws.{term-slices}
-use Rattle.files.specs.Drain.{withMarks}
-use Rattle.files.specs.Sift.{sifted}
+use Rattle.row_moves.specs.Between.{Live, live}
+use Rattle.row_moves.specs.Numbers.{liveOf}
+use Rattle.row_moves.specs.HeldLaws.{term-slices}
+use Rattle.drain.specs.Drain.{withMarks}
+use Rattle.drain.specs.Sift.{sifted}
 use Rattle.settle.specs.TurnLaws.{slots-head, slots-oldest}
 use Rattle.sift.specs.TryLaws.{try-inside, try-state, try-figures, Cut, try-cut, try-is}
 use mathlib.Core.Path.{refl}
@@ -22,7 +22,7 @@ use Rattle.sift.proofs.try_row.Tie as tie
 abbrev start-of : tie.After-oldest-row-arg → tie.Start
 start-of p = p .before .before .before .before .before .before .before .before .before
 
-abbrev oldest-row-of : tie.After-start-by → tie.After-oldest-row
+abbrev oldest-row-of : tie.After-terms-start → tie.After-oldest-row
 oldest-row-of p = p .before .before .before .before
 
 abbrev load-of : tie.After-try-terms-arg7 → tie.After-load
@@ -47,12 +47,12 @@ inside p =
     try-inside (held s) (entry s) (s .args .gcds .now) (s .args .search .now) (s .pre .2) (p .oldest-row .result) (p .oldest-row .ensures)
 
 -- Its terms lie in the buffers, and are few.
-cut : (p : tie.After-end-by) → Cut (held (start-of (oldest-row-of (p .before) .before))) (p .before .start-by .result) (p .end-by .result)
+cut : (p : tie.After-terms-end) → Cut (held (start-of (oldest-row-of (p .before) .before))) (p .before .terms-start .result) (p .terms-end .result)
 cut p =
     let o = oldest-row-of (p .before) in
     let s = start-of (o .before) in
-    let a = p .before .start-by in
-    let e = p .end-by in
+    let a = p .before .terms-start in
+    let e = p .terms-end in
     try-cut (held s) (entry s) (s .args .gcds .now) (s .args .search .now) (s .pre .2) (o .oldest-row .result) (o .oldest-row .ensures) (a .result) (e .result) (a .ensures .0) (e .ensures .0)
 
 oldest-row-requires : tie.Need-oldest-row-requires
@@ -76,29 +76,29 @@ load-requires c κs =
 try-terms-requires : tie.Need-try-terms-requires
 try-terms-requires c κs =
     let after-load = load-of c in
-    let after-end-by = after-load .before in
-    let after-oldest-row = oldest-row-of (after-end-by .before) in
+    let after-terms-end = after-load .before in
+    let after-oldest-row = oldest-row-of (after-terms-end .before) in
     let start = start-of (after-oldest-row .before) in
     let t = start .pre .2 in
     let o = after-oldest-row .oldest-row in
-    let a = after-end-by .before .start-by in
-    let e = after-end-by .end-by in
+    let a = after-terms-end .before .terms-start in
+    let e = after-terms-end .terms-end in
     let slices = term-slices (held start) (t .shaped) (o .result) (inside after-oldest-row) (a .result) (e .result) (a .ensures .0) (e .ensures .0) in
     let figures = try-figures (held start) (entry start) (start .args .gcds .now) (start .args .search .now) t (o .result) (o .ensures) (after-load .load .result) (after-load .load .ensures) in
-    (slices, cut after-end-by .few, figures, t .ready .waits, t .scratch)
+    (slices, cut after-terms-end .few, figures, t .ready .waits, t .scratch)
 
 returns : tie.Need-returns
 returns c =
     let after-try-terms = try-terms-of c in
     let after-load = load-of (after-try-terms .before) in
-    let after-end-by = after-load .before in
-    let after-start-by = after-end-by .before in
-    let after-next-row = after-start-by .before .before in
+    let after-terms-end = after-load .before in
+    let after-terms-start = after-terms-end .before in
+    let after-next-row = after-terms-start .before .before in
     let after-oldest-row = after-next-row .before .before in
     let start = start-of (after-oldest-row .before) in
     let o = after-oldest-row .oldest-row in
-    let a = after-start-by .start-by in
-    let e = after-end-by .end-by in
+    let a = after-terms-start .terms-start in
+    let e = after-terms-end .terms-end in
     let v = entry start in
     let n = after-next-row .next-row in
     let q = n .last .0 in
@@ -119,14 +119,14 @@ try-row-spec =
     (tie.spec
     oldest-row-requires
     next-row-requires
-    (λ c κs. (omega (arith, inside (c .before .before .before)), omega arith))
-    (λ c κs. (inside (oldest-row-of c), omega arith))
+    (λ c κs. omega (arith, inside (c .before .before .before)))
+    (λ c κs. inside (oldest-row-of c))
     load-requires
-    (λ c. omega (arith, c .before .before .before .start-by .ensures .1))
+    (λ c. omega (arith, c .before .before .before .terms-start .ensures .1))
     (λ c. omega (arith, cut (c .before .before) .rises))
     (λ c. omega (arith, cut (c .before .before) .rises))
     (λ c. omega (arith, cut (c .before .before) .conditions))
-    (λ c. omega (arith, c .before .before .before .before .start-by .ensures .1))
+    (λ c. omega (arith, c .before .before .before .before .terms-start .ensures .1))
     (λ c. omega (arith, cut (c .before .before .before) .rises))
     (λ c. omega (arith, cut (c .before .before .before) .rises))
     (λ c. omega (arith, cut (c .before .before .before) .weights))

@@ -5,8 +5,8 @@ use Rattle.numeric.specs.Threshold.{Term}
 use Rattle.numeric.specs.Slices.{terms}
 use Rattle.queues.specs.Queue.{queue}
 use Rattle.queues.specs.Marks.{Marks, marks}
-use Rattle.residual.specs.Residual.{Residual, residual}
-use Rattle.files.specs.Drain.{withMarks}
+use Rattle.intervals.specs.Residual.{Residual, residual}
+use Rattle.drain.specs.Drain.{withMarks}
 use Rattle.sift.specs.TryLaws.{tried-search, tried-not}
 use mathlib.Core.Path.{refl}
 use borrow.Author.Needs.{needs}

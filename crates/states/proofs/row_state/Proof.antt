@@ -6,7 +6,7 @@ use lib.Seq.{getD-take}
 use borrow.Author.Needs.{needs}
 use Rattle.memory.specs.Limits.{maxThresholds}
 use Rattle.state.specs.State.{noState, firstState}
-use Rattle.between.specs.Numbers.{statesOf}
+use Rattle.row_moves.specs.Numbers.{statesOf}
 use Rattle.states.proofs.row_state.Statement.{statement}
 use Rattle.states.proofs.row_state.Tie as tie
 

@@ -59,7 +59,7 @@ use Rattle.state.specs.declared.State.{State}
 use Rattle.state.proofs.State as T
 use Rattle.state.proofs.State.Laws as T′
 use Rattle.memory.specs.Limits.{maxThresholds}
-use Rattle.between.specs.Numbers.{statesOf}
+use Rattle.row_moves.specs.Numbers.{statesOf}
 use Rattle.states.specs.StatesLaws.{showing, showing-long, showing-next, showing-all}
 use Rattle.states.proofs.show_states.Code.Mir as pieces
 use Rattle.states.proofs.row_state as row′

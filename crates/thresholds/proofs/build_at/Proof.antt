@@ -4,9 +4,9 @@ use Rattle.memory.specs.Ranges.{rawLimit}
 use Rattle.numeric.specs.Slices.{terms}
 use Rattle.row.specs.Terms.{rowTerms}
 use Rattle.row.specs.Keys.{conditionsOf, weightsOf}
-use Rattle.thresholds.specs.Raw.{stretch}
+use Rattle.base.specs.Parts.{stretch}
 use Rattle.thresholds.specs.PlacedLaws.{stretch-small, splice-by, clear-part}
-use Rattle.thresholds.specs.RawLaws.{stretch-length}
+use Rattle.rows.specs.ListsLaws.{stretch-length}
 use mathlib.Core.Path.{_≡_, ap, _∙_}
 use mathlib.Core.List.{List, _++_}
 use Prim.Native.Nat.{ℕ, _+_, _-_}

@@ -2,7 +2,7 @@
 use Rattle.thresholds.specs.ChainLaws.{print-small, search-start, search-on, search-found, search-none}
 use Rattle.thresholds.specs.Chain.{classOf, Searching}
 use Rattle.memory.specs.Buffers.{rawLists}
-use Rattle.thresholds.specs.Raw.{listAt}
+use Rattle.rows.specs.Lists.{listAt}
 use mathlib.Core.Path.{refl, sym, ap, _∙_}
 use Prim.Native.Nat.{ℕ, _-_, _<_}
 use native.Mathlib.Omega.{arith}

@@ -1,9 +1,9 @@
 -- `thresholds::is_marked` meets its contract. Assumes nothing.
 use Rattle.base.specs.Parts.{endBy, startBy}
-use Rattle.thresholds.specs.RawLaws.{list-is}
+use Rattle.rows.specs.ListsLaws.{list-is}
 use Rattle.thresholds.specs.ChainLaws.{prints-differ}
 use Rattle.memory.specs.Buffers.{rawLists}
-use Rattle.thresholds.specs.Raw.{listAt}
+use Rattle.rows.specs.Lists.{listAt}
 use Rattle.row.specs.Terms.{sameTerms}
 use mathlib.Core.Path.{_≡_, sym, ap₂, _∙_}
 use Prim.Native.Nat.{_%_}

@@ -1,6 +1,6 @@
 -- `thresholds::print_of` meets its contract. Assumes nothing.
 use Rattle.base.specs.Parts.{endBy, startBy}
-use Rattle.thresholds.specs.RawLaws.{list-is}
+use Rattle.rows.specs.ListsLaws.{list-is}
 use Rattle.memory.specs.Buffers.{rawLists}
 use Rattle.thresholds.specs.Raw.{fingerprint}
 use mathlib.Core.Path.{_≡_, ap, _∙_}

@@ -2,7 +2,7 @@
 use native.Mathlib.Omega.{arith}
 use Rattle.memory.specs.Ranges.{rawLimit}
 use Rattle.thresholds.specs.PlacedLaws.{stretch-small}
-use Rattle.thresholds.specs.RawLaws.{stretch-length}
+use Rattle.rows.specs.ListsLaws.{stretch-length}
 use borrow.Author.Needs.{needs}
 use Rattle.thresholds.proofs.print_stretch.Statement.{statement}
 use Rattle.thresholds.proofs.print_stretch.Tie as tie

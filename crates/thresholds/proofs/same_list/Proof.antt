@@ -1,5 +1,6 @@
 -- `thresholds::same_list` meets its contract. Assumes nothing.
-use Rattle.thresholds.specs.RawLaws.{same-lengths, length-terms, same-left, same-right, same-equal, same-done}
+use Rattle.thresholds.specs.RawLaws.{same-left, same-right, same-equal, same-done}
+use Rattle.rows.specs.ListsLaws.{same-lengths, length-terms}
 use Rattle.numeric.specs.Slices.{terms}
 use Rattle.row.specs.Terms.{sameTerms}
 use mathlib.Core.Path.{_≡_, refl, sym, _∙_}

@@ -1,0 +1,4 @@
+pub mod Built
+pub mod BuiltLaws
+pub mod SoundLaws
+pub mod ClearedLaws

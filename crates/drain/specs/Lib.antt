@@ -1,0 +1,4 @@
+pub mod Drain
+pub mod DrainLaws
+pub mod Sift
+pub mod SiftLaws

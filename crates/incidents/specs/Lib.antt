@@ -1,0 +1,2 @@
+pub mod Incidents
+pub mod IncidentsLaws

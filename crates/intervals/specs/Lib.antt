@@ -1,0 +1,10 @@
+pub mod Residual
+pub mod Shape
+pub mod CheckLaws
+pub mod FitsLaws
+pub mod IntervalLaws
+pub mod SuffixLaws
+pub mod ForceLaws
+pub mod ResidualLaws
+pub mod SoundLaws
+pub mod SumsLaws

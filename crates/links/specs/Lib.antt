@@ -1,0 +1,5 @@
+pub mod Links
+pub mod WordsLaws
+pub mod OrderLaws
+pub mod LinksLaws
+pub mod ChainLaws

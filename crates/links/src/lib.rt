@@ -1,0 +1,1 @@
+// Prefix links as values: which rows begin which, and what holds of them. No code.

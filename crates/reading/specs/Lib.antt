@@ -1,0 +1,4 @@
+pub mod Held
+pub mod HeldLaws
+pub mod NotedLaws
+pub mod ClearedLaws

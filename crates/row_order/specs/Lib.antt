@@ -1,0 +1,7 @@
+pub mod Held
+pub mod HeldLaws
+pub mod Merge
+pub mod MergeLaws
+pub mod SortLaws
+pub mod Neighbours
+pub mod NeighboursLaws

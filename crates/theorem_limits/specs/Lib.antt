@@ -1,0 +1,6 @@
+pub mod Good
+pub mod BlankLaws
+pub mod BuiltLaws
+pub mod FilesLaws
+pub mod KeptLaws
+pub mod SizeLaws
