@@ -17,20 +17,20 @@ use Rattle.rows.specs.Rows.{Row, rowsOf}
 use Rattle.rows.specs.Laid.{conditions, weights, termLists, guardLists}
 use Rattle.row_order.specs.Held.{Held, rowsHeld}
 use Rattle.links.specs.Links.{neighbourLists}
-use Rattle.row_order.specs.Neighbours as Neighbours
-use Rattle.row_order.specs.Neighbours.{Linkable}
+use Rattle.links.specs.Neighbours as Neighbours
+use Rattle.links.specs.Neighbours.{Linkable}
 use Rattle.prepare.specs.PreparePartsLaws.{over-long, over-part}
 use Rattle.placing.specs.PlaceLaws.{raws-few}
 use Rattle.job.specs.Given.{givenJob}
-use Rattle.placing.specs.RowsGivenLaws.{rows-given}
+use Rattle.job.specs.RowsGivenLaws.{rows-given}
 use Rattle.prepare.specs.RowsGivenLinksLaws.{held-given, neighbours-given}
 use Rattle.job.specs.JobBuffers.{rowEntries, nodeEntries, builtWith, builtOf}
-use Rattle.prepare.specs.NodesGivenLaws.{triples-columns}
-use Rattle.prepare.specs.JobBuffersLaws.{guards-even, rows-even, entries-long, nodes-long, neighbours-long}
+use Rattle.job.specs.NodesGivenLaws.{triples-columns}
+use Rattle.job.specs.JobBuffersLaws.{guards-even, rows-even, entries-long, nodes-long, neighbours-long}
 use Rattle.prepare.specs.Prepare.{Prepared, unlinkedOf}
 use Rattle.placing.specs.declared.Extent.{Extent}
 use Rattle.records.specs.declared.Standing.{Standing}
-use Rattle.gather.specs.Gathered.{cut, jobIn}
+use Rattle.job.specs.Gathered.{cut, jobIn}
 use Rattle.build.specs.Built.{Roomy, Spare}
 
 triples-wide : (xs ys zs : List ℕ) → Wide 2 (triples xs ys zs)

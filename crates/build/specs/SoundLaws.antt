@@ -15,8 +15,8 @@ use Rattle.rows.specs.Lists.{Lists}
 use Rattle.rows.specs.Guards.{Bound, nodeAt}
 use Rattle.prepare.specs.Prepare.{Sound, Ample}
 use Rattle.records.specs.declared.Standing.{Standing}
-use Rattle.gather.specs.Gathered.{cut, Gathered}
-use Rattle.gather.specs.GatheredLaws.{start-cut}
+use Rattle.job.specs.Gathered.{cut, Gathered}
+use Rattle.job.specs.GatheredLaws.{start-cut}
 use Rattle.build.specs.Built.{Roomy, Spare}
 
 module _ (k : Standing) (cs ws : List ℕ) (ts : List (List ℕ)) (bs : List ℤ) (g : Gathered k cs ws ts bs) where

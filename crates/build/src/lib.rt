@@ -8,7 +8,7 @@ ghost use Rattle.memory.specs.Limits.{maxThresholds, maxLinks};
 ghost use Rattle.memory.specs.Buffers.{heldRows, built};
 ghost use Rattle.job.specs.JobBuffers.{builtOf};
 ghost use Rattle.prepare.specs.Prepare.{unlinkedOf};
-ghost use Rattle.gather.specs.Gathered.{Gathered, jobIn};
+ghost use Rattle.job.specs.Gathered.{Gathered, jobIn};
 ghost use Rattle.build.specs.Built.{Roomy, Spare, Builds};
 ghost use Rattle.job.specs.Rooms.{BuiltRoom};
 use files::JobRead;

@@ -23,7 +23,7 @@ use Rattle.checks.specs.declared.Next.the-variants.{Taken}
 use Rattle.records.specs.Record.{recordAt}
 use Rattle.records.specs.Facts.{Action, begins, changes, closes, decides, settles, sifts, idles, action, facts}
 use Rattle.checks.specs.Next.{nextAt}
-use Rattle.gather.specs.Gathered.{jobIn}
+use Rattle.job.specs.Gathered.{jobIn}
 use Rattle.files.specs.declared.JobRead.{JobRead}
 use Rattle.files.specs.File.{File, standing, refusal, sealedFile, markedFile, settledFile, siftedFile, act, apply, Outcome, refusalAt, readFrom, fileOf}
 use Rattle.files.specs.FileLaws.{zero-or, read-on, read-stop}

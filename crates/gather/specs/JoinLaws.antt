@@ -28,9 +28,9 @@ use Rattle.records.specs.declared.Standing.{Standing}
 use Rattle.checks.specs.Checks.{refusedBy}
 use Rattle.job.specs.Job.{onLast}
 use Rattle.job.specs.Taken.{addedTo, weighing, withWeight}
-use Rattle.gather.specs.Gathered.{cut, jobIn, Listed, Bounded, Termed, Gathered, Opened, Added, openStart, Joinable, Reweighed, FirstArea, MoreArea}
+use Rattle.job.specs.Gathered.{cut, jobIn, Listed, Bounded, Termed, Gathered, Opened, Added, openStart, Joinable, Reweighed, FirstArea, MoreArea}
 use Rattle.job.specs.JobLaws.{map-same, on-more, stretch-set}
-use Rattle.gather.specs.GatheredLaws.{threshold-by, list-by, gathered-last}
+use Rattle.job.specs.GatheredLaws.{threshold-by, list-by, gathered-last}
 use Rattle.gather.specs.TakenLaws.{fine, term-open, counts-left, starts, last-start}
 
 -- ---- one element of a list

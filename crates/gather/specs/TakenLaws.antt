@@ -32,9 +32,9 @@ use Rattle.checks.specs.Checks.{refusedBy}
 use Rattle.checks.specs.CheckLaws.{Passes, passes}
 use Rattle.job.specs.Job.{addTerm}
 use Rattle.job.specs.Taken.{openedBy, addedTo, withThreshold, withTerm}
-use Rattle.gather.specs.Gathered.{cut, jobIn, Listed, Bounded, Termed, Gathered, Opened, Added}
+use Rattle.job.specs.Gathered.{cut, jobIn, Listed, Bounded, Termed, Gathered, Opened, Added}
 use Rattle.job.specs.JobLaws.{map-same, on-more, term-more, stretch-set, stretch-more}
-use Rattle.gather.specs.GatheredLaws.{threshold-by, by-last, list-by, gathered, gathered-last}
+use Rattle.job.specs.GatheredLaws.{threshold-by, by-last, list-by, gathered, gathered-last}
 
 abbrev node-of : List ℕ → ℕ
 node-of p = getD p 0 0

@@ -7,7 +7,7 @@ ghost use Rattle.rows.specs.Guards.{nodeAt};
 ghost use Rattle.memory.specs.Ranges.{rawLimit};
 ghost use Rattle.records.specs.declared.Record.the-variants.{Opens, Adds, Areas};
 ghost use Rattle.checks.specs.Checks.{refusedBy};
-ghost use Rattle.gather.specs.Gathered.{Listed, Bounded, Termed, Opened, Added, openStart, Joinable, FirstArea, MoreArea, AreaTaken};
+ghost use Rattle.job.specs.Gathered.{Listed, Bounded, Termed, Opened, Added, openStart, Joinable, FirstArea, MoreArea, AreaTaken};
 use numeric::weight_of_area;
 use records::Standing;
 use rows::place;

@@ -4,3 +4,15 @@ pub mod JobLaws
 pub mod JobBuffers
 pub mod Given
 pub mod Rooms
+pub mod Incidents
+pub mod IncidentsLaws
+pub mod RowsLaws
+pub mod RowsGivenLaws
+pub mod RowsGivenLaidLaws
+pub mod RowsGivenTermsLaws
+pub mod RowsGivenHeldLaws
+pub mod JobBuffersLaws
+pub mod NodesGivenLaws
+pub mod Gathered
+pub mod GatheredLaws
+pub mod Shared

@@ -3,3 +3,5 @@ pub mod WordsLaws
 pub mod OrderLaws
 pub mod LinksLaws
 pub mod ChainLaws
+pub mod Neighbours
+pub mod NeighboursLaws

@@ -1,5 +1,2 @@
 pub mod Place
 pub mod PlaceLaws
-pub mod RowsGivenLaws
-pub mod RowsGivenLaidLaws
-pub mod RowsGivenTermsLaws

@@ -9,7 +9,8 @@ use Rattle.base.specs.Laid.{joinAll, ends}
 use Rattle.memory.specs.Buffers.{RawLists}
 use Rattle.rows.specs.Lists.{Lists}
 use Rattle.rows.specs.Guards.{nodeAt}
-use Rattle.thresholds.specs.Placed.{rawsTo, rowTo, termsTo, rowEntry, nodeEntry, Terms, Marks}
+use Rattle.thresholds.specs.Placed.{Terms, Marks}
+use Rattle.job.specs.Shared.{rawsTo, rowTo, termsTo, rowEntry, nodeEntry}
 use Rattle.placing.specs.declared.Extent.{Extent}
 
 -- After t thresholds: where the terms end, the terms in their two arrays, the marks in the scratch and the heads of their classes.
@@ -42,7 +43,3 @@ rowsNext r t rows =
 
 abbrev pub nodesNext : RawLists → ℕ → List (List ℕ) → List (List ℕ)
 nodesNext r t nodes = set nodes (nodeAt (r .thresholds) t) (nodeEntry t (rowTo r t))
-
--- Nodes of thresholds rise.
-abbrev pub NodesRise : List (List ℕ) → Type 0
-NodesRise ths = (t : ℕ) → t + 1 < length ths → nodeAt ths t < nodeAt ths (t + 1)

@@ -18,16 +18,18 @@ use Rattle.row.specs.Terms.{rowTerms}
 use Rattle.row.specs.Keys.{laid, conditionsOf, weightsOf}
 use Rattle.thresholds.specs.declared.Found.the-variants.{At, Nothing}
 use Rattle.memory.specs.Buffers.{RawLists}
-use Rattle.thresholds.specs.Raw.{fingerprint, numberIn, foundOf}
+use Rattle.thresholds.specs.Raw.{fingerprint, foundOf}
+use Rattle.job.specs.Shared.{numberIn, rawsTo, rowTo, termsTo, rowEntry, nodesTo}
 use Rattle.rows.specs.Lists.{listAt, Lists}
-use Rattle.thresholds.specs.RawLaws.{number-most, found-is, found-none}
+use Rattle.thresholds.specs.RawLaws.{found-is, found-none}
+use Rattle.job.specs.RowsLaws.{number-most}
 use Rattle.thresholds.specs.Chain.{nextIn, printIn, markedList, classOf, Marked, Headed, classCount}
 use Rattle.thresholds.specs.ChainLaws.{class-small, marked-one, headed-one, headed-none, length-marked}
-use Rattle.thresholds.specs.Placed.{spliced, rawsTo, rowTo, termsTo, rowEntry, nodesTo, Marks}
+use Rattle.thresholds.specs.Placed.{spliced, Marks}
 use Rattle.thresholds.specs.PlacedLaws.{laid-behind, drop-replicate}
 use Rattle.placing.specs.declared.Extent.{Extent}
-use Rattle.placing.specs.RowsGivenLaidLaws.{length-ends}
-use Rattle.placing.specs.RowsGivenTermsLaws.{terms-room}
+use Rattle.job.specs.RowsGivenLaidLaws.{length-ends}
+use Rattle.job.specs.RowsGivenTermsLaws.{terms-room}
 use Rattle.placing.specs.Place.{Placing, Ready, Blank, rowEnds, rowsNext, nodesNext}
 
 -- ---- one list more

@@ -8,7 +8,7 @@ ghost use Rattle.memory.specs.Buffers.{rawLists};
 ghost use Rattle.thresholds.specs.Raw.{prints, fingerprint};
 ghost use Rattle.rows.specs.Lists.{listAt};
 ghost use Rattle.thresholds.specs.Chain.{classOf};
-ghost use Rattle.thresholds.specs.Placed.{rowTo, rowEntry, nodeEntry, nodesTo};
+ghost use Rattle.job.specs.Shared.{rowTo, rowEntry, nodeEntry, nodesTo};
 ghost use Rattle.placing.specs.Place.{Placing, Ready, Blank, rowEnds, nodesNext, rowsNext};
 use rows::end_of;
 use rows::node_of;

@@ -20,8 +20,8 @@ use Rattle.links.specs.WordsLaws.{common-right}
 use Rattle.links.specs.OrderLaws.{Distinct, order-distinct, order-length, order-range}
 use Rattle.row_order.specs.Held.{heldTerms, rowsHeld, Held}
 use Rattle.row_order.specs.HeldLaws.{held-terms, held-length, stretch-length}
-use Rattle.row_order.specs.Neighbours.{wordLink, linksIn}
-use Rattle.row_order.specs.NeighboursLaws.{links-append}
+use Rattle.links.specs.Neighbours.{wordLink, linksIn}
+use Rattle.links.specs.NeighboursLaws.{links-append}
 use Rattle.prefixes.specs.Pass.{Chain, lengthAt, keptBy, underBy, depth, Falling, named, headWord, Popped, Under, Fresh}
 use Rattle.row_order.specs.Merge.{rowsIn}
 

@@ -7,9 +7,9 @@ use Rattle.base.specs.Deal.{Keyed, grouped}
 use Rattle.base.specs.Columns.{column}
 use Rattle.rows.specs.Rows.{Row, Edge}
 use Rattle.rows.specs.Laid.{conditions, weights, termLists, edgeLists, edgeRow}
-use Rattle.incidents.specs.Incidents.{heldItems}
-use Rattle.incidents.specs.IncidentsLaws.{grouped-edges, grouped-joined, grouped-ends}
-use Rattle.prepare.specs.RowsGivenHeldLaws.{held-items}
+use Rattle.job.specs.Incidents.{heldItems}
+use Rattle.job.specs.IncidentsLaws.{grouped-edges, grouped-joined, grouped-ends}
+use Rattle.job.specs.RowsGivenHeldLaws.{held-items}
 
 module _ (m : ℕ) (cs ws : List ℕ) (rows : List (List ℕ)) (rs : List Row)
     (c : cs ≡ conditions (joinAll (termLists rs))) (w : ws ≡ weights (joinAll (termLists rs))) (e : column 0 rows ≡ ends 0 (termLists rs)) where

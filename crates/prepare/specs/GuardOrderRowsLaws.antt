@@ -20,7 +20,7 @@ use Rattle.memory.specs.Buffers.{RawLists}
 use Rattle.rows.specs.Lists.{listAt}
 use Rattle.rows.specs.ListsLaws.{same-refl}
 use Rattle.rows.specs.Rows.{Row, Guard, guard, insertGuard, place, placeAll, rowNumber, noRow}
-use Rattle.thresholds.specs.RowsLaws.{number-all}
+use Rattle.job.specs.RowsLaws.{number-all}
 use Rattle.rows.specs.Guards.{Bounds, guardKeys, nodeAt}
 use Rattle.job.specs.Given.{thresholdAt, givenRows}
 use Rattle.prepare.specs.GuardOrderPickedLaws.{picked, picked-same, picked-other, picked-sorted, putAll, put-sorted, all-put}

@@ -1,11 +1,8 @@
 pub mod Prepare
 pub mod PreparePartsLaws
 pub mod PrepareLaws
-pub mod RowsGivenHeldLaws
 pub mod EdgesGivenLaws
-pub mod NodesGivenLaws
 pub mod RowsGivenLinksLaws
-pub mod JobBuffersLaws
 pub mod GuardOrderPickedLaws
 pub mod GuardOrderKeysLaws
 pub mod GuardOrderRowsLaws

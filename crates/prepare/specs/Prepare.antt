@@ -15,14 +15,14 @@ use Rattle.memory.specs.Buffers.{RawLists, Built}
 use Rattle.numeric.specs.Threshold.{Job}
 use Rattle.rows.specs.Lists.{Lists}
 use Rattle.rows.specs.Guards.{Bounds, nodeAt, rowAt, NodesIn, boundItems, nodeItems}
-use Rattle.thresholds.specs.Placed.{rawsTo, termsTo, nodesTo}
-use Rattle.incidents.specs.Incidents.{heldItems}
+use Rattle.job.specs.Shared.{rawsTo, termsTo, nodesTo, NodesRise}
+use Rattle.job.specs.Incidents.{heldItems}
 use Rattle.rows.specs.Laid.{termLists}
 use Rattle.rows.specs.Rows.{rowsOf}
 use Rattle.placing.specs.declared.Extent.{Extent}
 use Rattle.job.specs.Given.{givenRows, givenJob}
 use Rattle.job.specs.JobBuffers.{builtWith}
-use Rattle.placing.specs.Place.{Blank, rowEnds, NodesRise}
+use Rattle.placing.specs.Place.{Blank, rowEnds}
 
 -- What the buffers hold before the links are found.
 abbrev pub unlinkedOf : Job → Built → Built

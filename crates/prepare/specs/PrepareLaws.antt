@@ -23,23 +23,24 @@ use Rattle.base.specs.Parts.{stretch}
 use Rattle.rows.specs.Rows.{Row, rowNumber}
 use Rattle.rows.specs.Laid.{conditions, weights, termLists, guardLists, guardBounds, guardNodes, thresholdOf, rowOfNode, edgeLists, edgeRow}
 use Rattle.rows.specs.Guards.{rowAt, NodesIn, guardKeys, boundItems, nodeItems}
-use Rattle.incidents.specs.Incidents.{heldItems}
-use Rattle.thresholds.specs.Placed.{termsTo, rowEntry, Marks}
+use Rattle.job.specs.Incidents.{heldItems}
+use Rattle.thresholds.specs.Placed.{Marks}
+use Rattle.job.specs.Shared.{termsTo, rowEntry}
 use Rattle.base.specs.LaidLaws.{length-numbers}
 use Rattle.placing.specs.declared.Extent.{Extent}
 use Rattle.job.specs.Given.{given, givenRows, givenJob}
 use Rattle.job.specs.JobBuffers.{nodeEntries, builtWith}
-use Rattle.prepare.specs.JobBuffersLaws.{nodes-long}
+use Rattle.job.specs.JobBuffersLaws.{nodes-long}
 use Rattle.placing.specs.Place.{Ready, Blank, rowEnds}
 use Rattle.placing.specs.PlaceLaws.{rowEnds-long, raws-few}
 use Rattle.prepare.specs.Prepare.{Sound, Ample, Prepared, Placeable, Rowed, Dealable, Guarded, Indexable, Edged}
 use Rattle.prepare.specs.PreparePartsLaws.{blank-take, blank-drop, cleared-back, over-long, over-all, tail-long, tail-blank, keys-front, keys-behind}
-use Rattle.placing.specs.RowsGivenLaws.{terms-given, rows-given}
-use Rattle.placing.specs.RowsGivenLaidLaws.{length-ends, entries-ends, entries-clear, entries-wide}
-use Rattle.prepare.specs.RowsGivenHeldLaws.{held-ends, held-even, held-keys}
-use Rattle.placing.specs.RowsGivenTermsLaws.{conditions-given, terms-most}
+use Rattle.job.specs.RowsGivenLaws.{terms-given, rows-given}
+use Rattle.job.specs.RowsGivenLaidLaws.{length-ends, entries-ends, entries-clear, entries-wide}
+use Rattle.job.specs.RowsGivenHeldLaws.{held-ends, held-even, held-keys}
+use Rattle.job.specs.RowsGivenTermsLaws.{conditions-given, terms-most}
 use Rattle.prepare.specs.EdgesGivenLaws.{edges-joined, edges-ends}
-use Rattle.prepare.specs.NodesGivenLaws.{length-nodes, nodes-given, nodes-clear, nodes-wide, nodes-row-at}
+use Rattle.job.specs.NodesGivenLaws.{length-nodes, nodes-given, nodes-clear, nodes-wide, nodes-row-at}
 use Rattle.prepare.specs.GuardOrderLaws.{order-length, order-names, order-rows, guard-ends, joined-bounds, joined-nodes}
 
 -- ---- placing, in parts of the buffers

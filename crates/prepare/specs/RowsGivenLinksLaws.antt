@@ -11,13 +11,13 @@ use Rattle.base.specs.ColumnsLaws.{length-column}
 use Rattle.numeric.specs.Threshold.{Term}
 use Rattle.rows.specs.Rows.{Row, noRow}
 use Rattle.rows.specs.Laid.{conditions, weights, termLists}
-use Rattle.incidents.specs.Incidents.{heldTerms as rowTermsHeld}
+use Rattle.job.specs.Incidents.{heldTerms as rowTermsHeld}
 use Rattle.links.specs.Links.{termsAt, neighbourLists}
 use Rattle.links.specs.LinksLaws.{neighbourLists-same}
 use Rattle.row_order.specs.Held.{termsIn, heldTerms, rowsHeld, Held}
 use Rattle.row_order.specs.HeldLaws.{held-terms, held-length}
-use Rattle.placing.specs.RowsGivenLaidLaws.{length-ends, over-rising, over-inside}
-use Rattle.prepare.specs.RowsGivenHeldLaws.{held-over}
+use Rattle.job.specs.RowsGivenLaidLaws.{length-ends, over-rising, over-inside}
+use Rattle.job.specs.RowsGivenHeldLaws.{held-over}
 
 same-terms : (rows : List (List ℕ)) (cs ws : List ℕ) (k : ℕ) → heldTerms rows cs ws k ≡ rowTermsHeld cs ws rows k
 unfolding termsIn

@@ -7,7 +7,7 @@ ghost use Rattle.base.specs.Laid.{over};
 ghost use Rattle.sort.specs.Sorted.{sorted};
 ghost use Rattle.sort.specs.Runs.{cleared};
 ghost use Rattle.rows.specs.Guards.{Bounds, guardKeys, NodesIn};
-ghost use Rattle.incidents.specs.Incidents.{heldItems};
+ghost use Rattle.job.specs.Incidents.{heldItems};
 ghost use Rattle.memory.specs.Buffers.{rawLists, heldRows, built};
 ghost use Rattle.prepare.specs.Prepare.{Sound, Ample, Prepared, Placeable, Rowed, Dealable, Guarded, Indexable, Edged};
 ghost use Rattle.placing.specs.Place.{Ready, Blank};

@@ -18,7 +18,7 @@ use Rattle.checks.specs.Next.{nextAt}
 use Rattle.records.specs.Facts.{within, serving}
 use Rattle.checks.specs.Checks.{wrongTurn}
 use Rattle.job.specs.Job.{lastList}
-use Rattle.gather.specs.Gathered.{jobIn, Gathered, openStart, Joinable}
+use Rattle.job.specs.Gathered.{jobIn, Gathered, openStart, Joinable}
 use Rattle.files.specs.declared.JobRead.{JobRead}
 use Rattle.files.specs.File.{File, standing, apply}
 use Rattle.files.specs.JobPart.{JobPart, readJob, jobPartFrom}

@@ -32,9 +32,9 @@ use Rattle.checks.specs.Checks.{wrongTurn, unknownKind, refusedBy, refusedAt}
 use Rattle.checks.specs.CheckLaws.{Passes, passes, next-unknown, was-refused, was-taken, taken-passes, taken-whole, known-record}
 use Rattle.job.specs.Job.{lastNode, lastList, allTerms, standingOf}
 use Rattle.job.specs.Taken.{openedBy, addedTo, withThreshold, withTerm, weighing, withWeight}
-use Rattle.gather.specs.Gathered.{Gathered, Opened, Added, openStart, Joinable, FirstArea, MoreArea, AreaTaken, first, more}
+use Rattle.job.specs.Gathered.{Gathered, Opened, Added, openStart, Joinable, FirstArea, MoreArea, AreaTaken, first, more}
 use Rattle.job.specs.JobLaws.{map-end, list-more, length-on, list-on, all-on, all-added, job-opened, last-weighed, node-weighed, job-added, standing-opened, standing-added}
-use Rattle.gather.specs.GatheredLaws.{gathered-none}
+use Rattle.job.specs.GatheredLaws.{gathered-none}
 use Rattle.gather.specs.TakenLaws.{opened-gathered, added-gathered, term-open, counts-left}
 use Rattle.gather.specs.JoinLaws.{opened-joinable, added-joinable, area-named, reweighed-gathered}
 use Rattle.gather.specs.RawLaws.{raw-opened, raw-added, raw-weighed}

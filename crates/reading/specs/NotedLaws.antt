@@ -15,7 +15,7 @@ use Rattle.numeric.specs.AreaLaws.{addArea, add-hit, add-miss}
 use Rattle.memory.specs.Limits.{maxNodes, listTerms}
 use Rattle.records.specs.declared.Standing.{Standing}
 use Rattle.job.specs.Taken.{weighing}
-use Rattle.gather.specs.Gathered.{openStart, Joinable, FirstArea, MoreArea}
+use Rattle.job.specs.Gathered.{openStart, Joinable, FirstArea, MoreArea}
 use Rattle.reading.specs.Held.{noEntry, Noted, Unnoted}
 
 -- ---- entries told apart

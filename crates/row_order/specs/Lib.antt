@@ -3,5 +3,3 @@ pub mod HeldLaws
 pub mod Merge
 pub mod MergeLaws
 pub mod SortLaws
-pub mod Neighbours
-pub mod NeighboursLaws

@@ -15,7 +15,7 @@ use Rattle.rows.specs.Rows.{Row, Guard, rowsOf}
 use Rattle.rows.specs.Laid.{conditions, weights, termLists, guardLists, guardBounds, guardNodes, thresholdOf, rowOfNode, edgeLists, edgeRow}
 use Rattle.links.specs.Links.{neighbourLists}
 use Rattle.base.specs.LaidLaws.{length-numbers}
-use Rattle.placing.specs.RowsGivenLaidLaws.{length-ends}
+use Rattle.job.specs.RowsGivenLaidLaws.{length-ends}
 use Rattle.state.specs.State.{figuresOf, cursorsOf}
 use Rattle.memory.specs.Limits.{maxNodes, maxTerms, maxThresholds, maxGcds, maxLinks}
 use Rattle.memory.specs.Buffers.{Work, rawLengths, builtLengths, keptLengths, fits, zeros, cleared, clearRaw, clearBuilt, clearKept}

@@ -19,8 +19,8 @@ use Rattle.rows.specs.ListsLaws.{stretch-length}
 use Rattle.job.specs.Given.{thresholdAt}
 use Rattle.job.specs.JobBuffers.{builtOf}
 use Rattle.records.specs.declared.Standing.{Standing}
-use Rattle.gather.specs.Gathered.{jobIn, Gathered}
-use Rattle.gather.specs.GatheredLaws.{gathered, many, length-at, all-terms}
+use Rattle.job.specs.Gathered.{jobIn, Gathered}
+use Rattle.job.specs.GatheredLaws.{gathered, many, length-at, all-terms}
 use Rattle.theorem_limits.specs.Good.{Fit, Fits, Light}
 use Rattle.theorem_holds.specs.ServedLaws.{Served}
 use Rattle.theorem_holds.specs.LentLaws.{served-built}

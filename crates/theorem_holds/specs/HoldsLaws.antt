@@ -20,8 +20,8 @@ use Rattle.rows.specs.Rows.{Row, noRow, Guard, guard, edgesOf, rowNumber}
 use Rattle.rows.specs.Laid.{conditions, weights, termLists, guardLists, guardBounds, guardNodes, edgeLists, edgeRow, thresholdOf, rowOfNode}
 use Rattle.links.specs.Links.{links, neighbours, neighbourLists}
 use Rattle.row_runs.specs.Guards.{guards}
-use Rattle.placing.specs.RowsGivenLaidLaws.{laid-long, laid-rising, laid-inside, over-part, over-figures}
-use Rattle.prepare.specs.RowsGivenHeldLaws.{terms-back}
+use Rattle.job.specs.RowsGivenLaidLaws.{laid-long, laid-rising, laid-inside, over-part, over-figures}
+use Rattle.job.specs.RowsGivenHeldLaws.{terms-back}
 use Rattle.row_moves.specs.Between.{Index}
 use Rattle.row_moves.specs.Held.{endBy, stretchBy, heldTerms, heldGuards, Inside, Shaped, Holds, HoldsEdges, HoldsLinks, noThreshold, HoldsGuards}
 

@@ -18,13 +18,13 @@ use Rattle.row.specs.TermsLaws.{all-map}
 use Rattle.rows.specs.Rows.{Row, noRow, rowsOf, Guard, edgesOf}
 use Rattle.rows.specs.Laid.{conditions, weights, termLists, guardLists, guardBounds, guardNodes, thresholdOf, rowOfNode, edgeLists, edgeRow}
 use Rattle.links.specs.Links.{links, neighbours, neighbourLists}
-use Rattle.placing.specs.RowsGivenLaidLaws.{length-ends}
-use Rattle.prepare.specs.NodesGivenLaws.{triples-columns}
+use Rattle.job.specs.RowsGivenLaidLaws.{length-ends}
+use Rattle.job.specs.NodesGivenLaws.{triples-columns}
 use Rattle.memory.specs.Limits.{maxNodes, maxTerms}
 use Rattle.memory.specs.Ranges.{rawLimit, weightLimit}
 use Rattle.memory.specs.Buffers.{Raw, Built, zeros, clearBuilt}
 use Rattle.job.specs.JobBuffers.{rawOf, builtWith, builtOf}
-use Rattle.prepare.specs.JobBuffersLaws.{length-first}
+use Rattle.job.specs.JobBuffersLaws.{length-first}
 use Rattle.theorem_limits.specs.BuiltLaws.{every-append, every-mem}
 use Rattle.theorem_limits.specs.Good.{Fits, Light}
 use Rattle.theorem_limits.specs.SizeLaws.{zeros-long, edges-most}

@@ -15,11 +15,11 @@ use Rattle.numeric.specs.Threshold.{Term, Threshold, Job}
 use Rattle.row.specs.Terms.{rowTerms, sameTerms}
 use Rattle.rows.specs.Rows.{Row, rowOf, noRow, Guard, guard, below, insertGuard, place, placeAll, rowsOf}
 use Rattle.rows.specs.Laid.{termLists, guardLists, edgeLists, edgeRow}
-use Rattle.incidents.specs.Incidents.{incidentsFrom}
-use Rattle.incidents.specs.IncidentsLaws.{grouped-joined, keys-from}
+use Rattle.job.specs.Incidents.{incidentsFrom}
+use Rattle.job.specs.IncidentsLaws.{grouped-joined, keys-from}
 use Rattle.links.specs.Links.{neighbourLists}
-use Rattle.row_order.specs.NeighboursLaws.{neighbours-few}
-use Rattle.placing.specs.RowsGivenTermsLaws.{row-short}
+use Rattle.links.specs.NeighboursLaws.{neighbours-few}
+use Rattle.job.specs.RowsGivenTermsLaws.{row-short}
 use Rattle.job.specs.Job.{allTerms}
 use Rattle.theorem_limits.specs.BuiltLaws.{rows-every, rows-few}
 use Rattle.theorem_limits.specs.Good.{Fit, Fits}

@@ -9,7 +9,8 @@ use Rattle.memory.specs.Limits.{maxThresholds}
 use Rattle.numeric.specs.Threshold.{Term}
 use Rattle.row.specs.Terms.{sameTerms}
 use Rattle.memory.specs.Buffers.{RawLists}
-use Rattle.thresholds.specs.Raw.{prints, fingerprint, numberIn}
+use Rattle.thresholds.specs.Raw.{prints, fingerprint}
+use Rattle.job.specs.Shared.{numberIn}
 use Rattle.rows.specs.Lists.{listAt}
 
 -- A row is marked by one word: the row before it in its class, counted from 1, 0 for none; the fingerprint of its raw list; the first threshold that has it.

@@ -16,12 +16,13 @@ use Rattle.numeric.specs.Threshold.{Term}
 use Rattle.row.specs.Terms.{sameTerms}
 use Rattle.thresholds.specs.declared.Found.the-variants.{At, Nothing}
 use Rattle.memory.specs.Buffers.{RawLists}
-use Rattle.thresholds.specs.Raw.{prints, mixed, fingerprint, numberIn, foundOf}
+use Rattle.thresholds.specs.Raw.{prints, mixed, fingerprint, foundOf}
+use Rattle.job.specs.Shared.{numberIn, rawsTo, rowTo}
 use Rattle.rows.specs.Lists.{listAt, Lists}
-use Rattle.thresholds.specs.RawLaws.{number-most, found-at, found-nothing}
+use Rattle.thresholds.specs.RawLaws.{found-at, found-nothing}
+use Rattle.job.specs.RowsLaws.{number-most}
 use Rattle.rows.specs.ListsLaws.{same-is, same-refl, length-terms, stretch-length}
 use Rattle.thresholds.specs.Chain.{mark, nextIn, printIn, markedList, classOf, classAt, newest, Marked, Headed, Own, Searching, classCount}
-use Rattle.thresholds.specs.Placed.{rawsTo, rowTo}
 
 -- ---- marks as words
 

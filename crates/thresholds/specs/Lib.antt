@@ -3,5 +3,4 @@ pub mod RawLaws
 pub mod Chain
 pub mod Placed
 pub mod PlacedLaws
-pub mod RowsLaws
 pub mod ChainLaws

@@ -10,7 +10,7 @@ use Rattle.numeric.specs.Threshold.{Term}
 use Rattle.row.specs.Terms.{rowTerms}
 use Rattle.row.specs.Keys.{laid, conditionsOf, weightsOf}
 use Rattle.memory.specs.Buffers.{RawLists}
-use Rattle.thresholds.specs.Raw.{numberIn}
+use Rattle.job.specs.Shared.{numberIn}
 use Rattle.rows.specs.Lists.{listAt}
 use Rattle.thresholds.specs.Chain.{markedList, Marked, Headed}
 use Rattle.rows.specs.Guards.{nodeAt}
@@ -18,34 +18,6 @@ use Rattle.rows.specs.Guards.{nodeAt}
 -- A list with another in the place of m of its elements, from a on.
 abbrev pub spliced : {X : Type 0} → ℕ → ℕ → List X → List X → List X
 spliced a m l x = take a l ++ (x ++ drop m (drop a l))
-
--- A raw list that is not there yet comes last.
-abbrev pub joined : List (List Term) → List Term → List (List Term)
-joined ls x = cond (ltb (numberIn ls x) (length ls)) ls (ls ++ (x ∷ []))
-
-unfoldable pub rawsTo : RawLists → ℕ → List (List Term)
-rawsTo r zero = []
-rawsTo r (suc t) = joined (rawsTo r t) (listAt r t)
-
--- The row of threshold t.
-abbrev pub rowTo : RawLists → ℕ → ℕ
-rowTo r t = numberIn (rawsTo r t) (listAt r t)
-
--- The terms of the rows.
-abbrev pub termsTo : RawLists → ℕ → List (List Term)
-termsTo r t = map (λ (l : List Term). rowTerms l) (rawsTo r t)
-
--- A row with the end of its terms.
-abbrev pub rowEntry : ℕ → List ℕ
-rowEntry e = e ∷ 0 ∷ 0 ∷ []
-
-abbrev pub nodeEntry : ℕ → ℕ → List ℕ
-nodeEntry t row = (t + 1) ∷ row ∷ 0 ∷ []
-
--- The nodes after t thresholds.
-unfoldable pub nodesTo : RawLists → List (List ℕ) → ℕ → List (List ℕ)
-nodesTo r nodes zero = nodes
-nodesTo r nodes (suc t) = set (nodesTo r nodes t) (nodeAt (r .thresholds) t) (nodeEntry t (rowTo r t))
 
 -- The terms of the rows in their two arrays.
 pub record Terms (r : RawLists) (t : ℕ) (cs ws : List ℕ) : Type 0 where

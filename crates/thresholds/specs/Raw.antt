@@ -20,10 +20,5 @@ mixed h (t ∷ ts) = mixed ((h * 65599 + t .condition * 257 + t .weight) % print
 unfoldable pub fingerprint : List Term → ℕ
 fingerprint ts = mixed (length ts) ts
 
--- The place of a raw list among others, their number if it is not there.
-unfoldable pub numberIn : List (List Term) → List Term → ℕ
-numberIn [] x = 0
-numberIn (l ∷ ls) x = elim (sameTerms l x) [ true ↦ 0 | false ↦ 1 + numberIn ls x ]
-
 abbrev pub foundOf : ℕ → ℕ → Found
 foundOf n rows = cond (ltb n rows) (At n) Nothing

@@ -13,7 +13,8 @@ use Rattle.numeric.specs.Threshold.{Term}
 use Rattle.numeric.specs.Slices.{terms}
 use Rattle.row.specs.Terms.{sameTerms}
 use Rattle.thresholds.specs.declared.Found.the-variants.{At, Nothing}
-use Rattle.thresholds.specs.Raw.{prints, mixed, fingerprint, numberIn, foundOf}
+use Rattle.thresholds.specs.Raw.{prints, mixed, fingerprint, foundOf}
+use Rattle.job.specs.Shared.{numberIn}
 use Rattle.rows.specs.ListsLaws.{length-terms, terms-done, terms-next}
 
 -- ---- two lists compared
@@ -85,12 +86,3 @@ found-none n m h e = by (ltb n m) refl
     by : (b : Bool) → ltb n m ≡ b → m ≡ n
     by true q = absurd (let r = rw q at e in unequal cc)
     by false q = let r = ltb-false n m q in omega arith
-
-pub number-most : (ls : List (List Term)) (x : List Term) → numberIn ls x ≤ length ls
-unfolding numberIn
-number-most [] x = omega arith
-number-most (l ∷ ls) x = by (number-most ls x) (sameTerms l x) refl
-  where
-    by : numberIn ls x ≤ length ls → (b : Bool) → sameTerms l x ≡ b → numberIn (l ∷ ls) x ≤ length (l ∷ ls)
-    by ih true e = rw (e, numberIn) (omega arith)
-    by ih false e = rw (e, numberIn) (omega arith)

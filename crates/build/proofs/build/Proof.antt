@@ -1,7 +1,7 @@
 -- `build` meets its contract: its buffers are cleared, and a job that stopped at its seal is built into them.
 use Rattle.memory.specs.Buffers.{heldRows, Built, built}
 use Rattle.numeric.specs.Threshold.{Job}
-use Rattle.gather.specs.Gathered.{jobIn}
+use Rattle.job.specs.Gathered.{jobIn}
 use Rattle.build.specs.ClearedLaws.{build-room, builds-rows, builds-none}
 use borrow.Author.Needs.{needs}
 use Rattle.build.proofs.build.Statement.{statement}

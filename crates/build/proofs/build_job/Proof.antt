@@ -4,7 +4,7 @@ use mathlib.Core.Path.{sym}
 use lib.Seq.{length-take-le}
 use Rattle.memory.specs.Buffers.{Built, heldRows, built}
 use Rattle.numeric.specs.Threshold.{Job}
-use Rattle.gather.specs.Gathered.{jobIn}
+use Rattle.job.specs.Gathered.{jobIn}
 use Rattle.build.specs.SoundLaws.{roomy-links}
 use Rattle.build.specs.BuiltLaws.{rows-inside, linkable, zeros-spare, all-built}
 use borrow.Author.Needs.{needs}

@@ -1,7 +1,7 @@
 -- `gather::add_area` meets its contract: by whether the open threshold has an area of the condition.
 use mathlib.Core.Path.{refl}
 use native.Mathlib.Omega.{arith}
-use Rattle.gather.specs.Gathered.{first, more}
+use Rattle.job.specs.Gathered.{first, more}
 use Rattle.gather.specs.JoinLaws.{area-open, area-named}
 use borrow.Author.Needs.{needs}
 use Rattle.gather.proofs.add_area.Statement.{statement}

@@ -5,7 +5,7 @@ use Prim.Native.Nat.{ℕ, _+_}
 use native.Mathlib.Omega.{arith}
 use lib.ListN.{set}
 use Rattle.job.specs.Taken.{addedTo}
-use Rattle.gather.specs.Gathered.{Added}
+use Rattle.job.specs.Gathered.{Added}
 use Rattle.gather.specs.TakenLaws.{term-room, term-open, counts-left, added}
 use borrow.Author.Needs.{needs}
 use Rattle.gather.proofs.add_term.Statement.{statement}

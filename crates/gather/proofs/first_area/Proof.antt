@@ -3,7 +3,7 @@ use mathlib.Core.Path.{subst}
 use Prim.Native.Nat.{ℕ}
 use native.Mathlib.Omega.{arith}
 use Rattle.numeric.specs.Area.{weightOfArea}
-use Rattle.gather.specs.Gathered.{Added}
+use Rattle.job.specs.Gathered.{Added}
 use Rattle.gather.specs.JoinLaws.{area-open, area-named, area-counts, start-inside, open-filled, first-read}
 use borrow.Author.Needs.{needs}
 use Rattle.gather.proofs.first_area.Statement.{statement}

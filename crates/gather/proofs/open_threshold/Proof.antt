@@ -7,7 +7,7 @@ use lib.IntN.{ℤ}
 use mir.Syntax.{w64}
 use mir.Val.{toZ, ofZ}
 use Rattle.job.specs.Taken.{openedBy}
-use Rattle.gather.specs.Gathered.{Opened}
+use Rattle.job.specs.Gathered.{Opened}
 use Rattle.gather.specs.TakenLaws.{open-room, opened}
 use borrow.Author.Needs.{needs}
 use Rattle.gather.proofs.open_threshold.Statement.{statement}

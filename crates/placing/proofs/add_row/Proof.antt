@@ -6,7 +6,7 @@ use Rattle.numeric.specs.Slices.{terms}
 use Rattle.memory.specs.Buffers.{rawLists}
 use Rattle.base.specs.Parts.{stretch}
 use Rattle.rows.specs.ListsLaws.{list-is}
-use Rattle.placing.specs.RowsGivenTermsLaws.{terms-room}
+use Rattle.job.specs.RowsGivenTermsLaws.{terms-room}
 use Rattle.placing.specs.PlaceLaws.{within, marks-tail, placing-new}
 use Rattle.thresholds.specs.Chain.{mark, printIn, classOf}
 use Rattle.thresholds.specs.ChainLaws.{print-small, mark-first, mark-print, mark-next}

@@ -1,7 +1,7 @@
 -- `placing::enter_node` meets its contract. Assumes nothing.
 use Prim.Native.Nat.{ℕ}
 use lib.ListN.{set}
-use Rattle.thresholds.specs.Placed.{nodeEntry}
+use Rattle.job.specs.Shared.{nodeEntry}
 use mathlib.Core.Path.{ap}
 use borrow.Author.Needs.{needs}
 use Rattle.placing.proofs.enter_node.Statement.{statement}

@@ -5,7 +5,7 @@ use lib.ListN.{take, set}
 use lib.Seq.{length-take-le}
 use Rattle.rows.specs.Guards.{nodeAt}
 use Rattle.memory.specs.Buffers.{rawLists}
-use Rattle.thresholds.specs.Placed.{nodeEntry}
+use Rattle.job.specs.Shared.{nodeEntry}
 use Rattle.thresholds.specs.Chain.{Own}
 use Rattle.thresholds.specs.ChainLaws.{raws-own}
 use Rattle.placing.specs.PlaceLaws.{within, found-old, found-new, placing-old, rows-old, rows-new}

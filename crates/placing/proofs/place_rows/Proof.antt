@@ -4,7 +4,7 @@ use native.Mathlib.Omega.{arith}
 use lib.ListN.{length}
 use Rattle.base.specs.Laid.{over}
 use Rattle.memory.specs.Buffers.{RawLists, rawLists}
-use Rattle.thresholds.specs.Placed.{nodesTo}
+use Rattle.job.specs.Shared.{nodesTo}
 use Rattle.placing.specs.Place.{Placing, rowEnds}
 use Rattle.placing.specs.PlaceLaws.{Same, ready-by, placing-start, rows-start, nodes-start, raws-few, rows-next, nodes-next, placed-end}
 use mathlib.Core.Path.{_≡_, _∙_, refl}

@@ -6,7 +6,7 @@ use lib.Seq.{length-take-le}
 use Rattle.base.specs.Laid.{joinAll}
 use Rattle.row.specs.Keys.{conditionsOf, weightsOf}
 use Rattle.memory.specs.Buffers.{RawLists, rawLists}
-use Rattle.thresholds.specs.Placed.{termsTo}
+use Rattle.job.specs.Shared.{termsTo}
 use Rattle.placing.specs.PlaceLaws.{marks-few}
 use Rattle.prepare.specs.PreparePartsLaws.{laid-over, cleared-part, zeros-back}
 use Rattle.prepare.specs.PrepareLaws.{marks-cleared}

@@ -8,8 +8,8 @@ use Rattle.base.specs.Laid.{joinAll}
 use Rattle.numeric.specs.Threshold.{Term}
 use Rattle.row.specs.Keys.{conditionsOf, weightsOf}
 use Rattle.memory.specs.Buffers.{rawLists}
-use Rattle.thresholds.specs.Placed.{termsTo}
-use Rattle.placing.specs.RowsGivenTermsLaws.{terms-fit}
+use Rattle.job.specs.Shared.{termsTo}
+use Rattle.job.specs.RowsGivenTermsLaws.{terms-fit}
 use Rattle.prepare.specs.PreparePartsLaws.{over-part, tail-kept}
 use Rattle.prepare.specs.PrepareLaws.{open-ready}
 use mathlib.Core.Path.{_∙_, sym, ap}

@@ -3,7 +3,7 @@ use mathlib.Core.Path.{_≡_, refl, _∙_}
 use Prim.Native.Nat.{_-_}
 use native.Mathlib.Omega.{arith}
 use lib.ListN.{length}
-use Rattle.gather.specs.Gathered.{Gathered, Joinable}
+use Rattle.job.specs.Gathered.{Gathered, Joinable}
 use Rattle.reading.specs.Held.{NextOfJob, GoesFrom}
 use Rattle.reading.specs.HeldLaws.{goes, from-here, from-asks, from-ends, from-stops, from-farther, from-on}
 use borrow.Author.Needs.{needs}

@@ -22,11 +22,10 @@ use Rattle.rows.specs.Lists.{listAt}
 use Rattle.rows.specs.Rows.{Row, rowNumber}
 use Rattle.rows.specs.Laid.{thresholdOf, rowOfNode}
 use Rattle.rows.specs.Guards.{nodeAt, rowAt}
-use Rattle.thresholds.specs.Placed.{nodesTo, nodeEntry, rowTo}
+use Rattle.job.specs.Shared.{nodesTo, nodeEntry, rowTo, NodesRise}
 use Rattle.base.specs.LaidLaws.{length-numbers}
 use Rattle.job.specs.Given.{thresholdAt, given, givenRows}
-use Rattle.placing.specs.RowsGivenLaws.{row-given}
-use Rattle.placing.specs.Place.{NodesRise}
+use Rattle.job.specs.RowsGivenLaws.{row-given}
 
 -- ---- the first threshold of a node among thresholds k, k + 1 .. of which there are so many
 

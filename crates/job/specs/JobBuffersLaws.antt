@@ -11,9 +11,9 @@ use Rattle.rows.specs.Rows.{Row, rowsOf, edgesOf}
 use Rattle.rows.specs.Laid.{termLists, guardLists, thresholdOf, rowOfNode, edgeLists}
 use Rattle.base.specs.LaidLaws.{length-numbers}
 use Rattle.links.specs.Links.{neighbourLists}
-use Rattle.placing.specs.RowsGivenLaidLaws.{length-ends}
-use Rattle.prepare.specs.NodesGivenLaws.{triples-columns}
+use Rattle.job.specs.RowsGivenLaidLaws.{length-ends}
+use Rattle.job.specs.NodesGivenLaws.{triples-columns}
 use Rattle.job.specs.JobBuffers.{rowEntries, nodeEntries}
 
 -- Lists over the first numbers, and triples, have their lengths.
 pub length-first : {X : Type 0} (f : ℕ → X) (n : ℕ) → length (map f (numbers 0 n)) ≡ n

@@ -17,12 +17,11 @@ use Rattle.numeric.specs.TermsLaws.{length-terms}
 use Rattle.row.specs.Terms.{before, merge, merged, insert, sorted, rowTerms}
 use Rattle.row.specs.TermsLaws.{either, all-sorted, conditions-merged}
 use Rattle.memory.specs.Buffers.{RawLists}
-use Rattle.thresholds.specs.Raw.{numberIn}
+use Rattle.job.specs.Shared.{numberIn, joined, rawsTo, termsTo}
 use Rattle.rows.specs.Lists.{listAt, Lists}
 use Rattle.rows.specs.Laid.{conditions, termLists}
-use Rattle.thresholds.specs.Placed.{joined, rawsTo, termsTo}
 use Rattle.job.specs.Given.{givenRows}
-use Rattle.placing.specs.RowsGivenLaws.{terms-given}
+use Rattle.job.specs.RowsGivenLaws.{terms-given}
 
 -- ---- what holds of each element
 

@@ -14,15 +14,13 @@ use Rattle.base.specs.Laid.{numbers}
 use Rattle.numeric.specs.Threshold.{Term}
 use Rattle.row.specs.Terms.{rowTerms, sameTerms}
 use Rattle.memory.specs.Buffers.{RawLists}
-use Rattle.thresholds.specs.Raw.{numberIn}
+use Rattle.job.specs.Shared.{numberIn, joined, rawsTo, rowTo, termsTo}
 use Rattle.rows.specs.Lists.{listAt}
-use Rattle.thresholds.specs.RawLaws.{number-most}
+use Rattle.job.specs.RowsLaws.{number-most, raws, number-raws, raws-place, all-made, made-terms}
 use Rattle.rows.specs.ListsLaws.{same-refl}
 use Rattle.rows.specs.Rows.{Row, place, placeAll, rowNumber}
 use Rattle.rows.specs.Laid.{termLists}
-use Rattle.thresholds.specs.Placed.{joined, rawsTo, rowTo, termsTo}
-use Rattle.thresholds.specs.RowsLaws.{raws, number-raws, raws-place, all-made, made-terms}
 use Rattle.job.specs.Given.{thresholdAt, given, givenRows}
 
 -- ---- raw lists
 

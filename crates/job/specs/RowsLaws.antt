@@ -11,12 +11,20 @@ use borrow.Author.Tests.{eq-eqb, ne-eqb, lt-ltb, le-ltb, ltb-true, ltb-false, eq
 use Rattle.numeric.specs.Threshold.{Term, Threshold}
 use Rattle.row.specs.Terms.{rowTerms, sameTerms}
 use Rattle.rows.specs.Rows.{Row, rowOf, Guard, guard, below, insertGuard, place, placeAll, rowNumber, noRow}
-use Rattle.thresholds.specs.Raw.{numberIn}
+use Rattle.job.specs.Shared.{numberIn, joined}
 use Rattle.rows.specs.ListsLaws.{same-refl, same-is}
-use Rattle.thresholds.specs.Placed.{joined}
 
 abbrev pub raws : List Row → List (List Term)
 raws rs = map (λ (r : Row). r .raw) rs
+
+pub number-most : (ls : List (List Term)) (x : List Term) → numberIn ls x ≤ length ls
+unfolding numberIn
+number-most [] x = omega arith
+number-most (l ∷ ls) x = by (number-most ls x) (sameTerms l x) refl
+  where
+    by : numberIn ls x ≤ length ls → (b : Bool) → sameTerms l x ≡ b → numberIn (l ∷ ls) x ≤ length (l ∷ ls)
+    by ih true e = rw (e, numberIn) (omega arith)
+    by ih false e = rw (e, numberIn) (omega arith)
 
 -- A row's number goes by the raw lists alone.
 pub number-raws : (rs : List Row) (x : List Term) → rowNumber rs x ≡ numberIn (raws rs) x

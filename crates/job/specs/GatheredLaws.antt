@@ -15,11 +15,11 @@ use Rattle.memory.specs.Buffers.{RawLists, rawLists}
 use Rattle.rows.specs.Lists.{listAt}
 use Rattle.rows.specs.ListsLaws.{length-terms, stretch-length}
 use Rattle.base.specs.LaidLaws.{length-numbers}
 use Rattle.job.specs.Given.{thresholdAt, given}
 use Rattle.records.specs.declared.Standing.{Standing}
 use Rattle.job.specs.Job.{allTerms}
-use Rattle.gather.specs.Gathered.{cut, Listed, Termed, Gathered}
+use Rattle.job.specs.Gathered.{cut, Listed, Termed, Gathered}
 use Rattle.job.specs.JobLaws.{map-more, map-same, all-more, stretch-cut}
 use Rattle.memory.specs.Limits.{maxNodes, maxTerms, maxThresholds}
 
 pub threshold-by : {n m : ℕ} {b d : ℤ} {l r : List Term} → n ≡ m → b ≡ d → l ≡ r

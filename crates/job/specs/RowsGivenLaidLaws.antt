@@ -10,7 +10,7 @@ use Rattle.base.specs.Parts.{endBy, startBy, stretch}
 use Rattle.base.specs.Laid.{joinAll, ends}
 use Rattle.base.specs.Columns.{column, Wide}
 use Rattle.base.specs.ColumnsLaws.{length-column, column-at}
-use Rattle.thresholds.specs.Placed.{rowEntry}
+use Rattle.job.specs.Shared.{rowEntry}
 
 -- ---- by the list of ends; the first list begins at s
 

@@ -14,9 +14,9 @@ use Rattle.base.specs.Columns.{column}
 use Rattle.numeric.specs.Threshold.{Term}
 use Rattle.numeric.specs.Slices.{terms}
 use Rattle.rows.specs.Laid.{conditions, weights}
-use Rattle.incidents.specs.Incidents.{incidentsFrom, heldTerms, heldLists, heldItems}
-use Rattle.incidents.specs.IncidentsLaws.{keys-from}
-use Rattle.placing.specs.RowsGivenLaidLaws.{over-figures, laid-long, laid-rising, laid-inside}
+use Rattle.job.specs.Incidents.{incidentsFrom, heldTerms, heldLists, heldItems}
+use Rattle.job.specs.IncidentsLaws.{keys-from}
+use Rattle.job.specs.RowsGivenLaidLaws.{over-figures, laid-long, laid-rising, laid-inside}
 
 -- Terms are told by their conditions and weights.
 pub terms-back : (ts : List Term) → terms (conditions ts) (weights ts) ≡ ts

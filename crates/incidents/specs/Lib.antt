@@ -1,2 +1,0 @@
-pub mod Incidents
-pub mod IncidentsLaws
