@@ -15,10 +15,9 @@ use Rattle.base.specs.ColumnsLaws.{with-last}
 use Rattle.numeric.specs.Threshold.{Job}
 use Rattle.rows.specs.Rows.{Row, rowsOf}
 use Rattle.rows.specs.Laid.{conditions, weights, termLists, guardLists}
-use Rattle.row_order.specs.Held.{Held, rowsHeld}
+use Rattle.row_order.specs.Held.{Held, rowsHeld, Linkable}
 use Rattle.links.specs.Links.{neighbourLists}
 use Rattle.links.specs.Neighbours as Neighbours
-use Rattle.links.specs.Neighbours.{Linkable}
 use Rattle.prepare.specs.PreparePartsLaws.{over-long, over-part}
 use Rattle.placing.specs.PlaceLaws.{raws-few}
 use Rattle.job.specs.Given.{givenJob}

@@ -1,18 +1,18 @@
 -- Laws of rows: numbered by first use, each with the terms of its raw list; every threshold is a guard of exactly one row, once.
 use Prim.Native.Nat.{ℕ, zero, suc, _+_, _<_, _≤_}
-use native.Mathlib.Nat.{not-suc-le-zero, add-zero, zero-add, add-assoc, add-comm}
+use native.Mathlib.Nat.{not-suc-le-zero, add-zero, zero-add}
 use native.Mathlib.Omega.{arith}
-use mathlib.Core.Path.{_≡_, refl, sym, ap, ap₂, _∙_, subst}
+use mathlib.Core.Path.{_≡_, refl, sym, ap, ap₂, _∙_}
 use mathlib.Core.Bool.{Bool, true, false, cond}
 use mathlib.Core.List.{List, [], _∷_, _++_, map}
-use lib.ListN.{length, getD, length-append}
+use lib.ListN.{length, getD}
 use lib.Dec.{eqb, ltb}
 use borrow.Author.Tests.{eq-eqb, ne-eqb, lt-ltb, le-ltb, ltb-true, ltb-false, eqb-true, eqb-false}
 use Rattle.numeric.specs.Threshold.{Term, Threshold}
 use Rattle.row.specs.Terms.{rowTerms, sameTerms}
-use Rattle.rows.specs.Rows.{Row, rowOf, Guard, guard, below, insertGuard, place, placeAll, rowNumber, noRow}
+use Rattle.rows.specs.Rows.{Row, Guard, guard, below, insertGuard, place, placeAll, rowNumber, noRow}
 use Rattle.job.specs.Shared.{numberIn, joined}
-use Rattle.rows.specs.ListsLaws.{same-refl, same-is}
+use Rattle.rows.specs.ListsLaws.{same-refl}
 
 abbrev pub raws : List Row → List (List Term)
 raws rs = map (λ (r : Row). r .raw) rs

@@ -22,7 +22,7 @@ use Rattle.files.specs.File.{File, begun, refusal, act, apply, after, planned, 
 use Rattle.theorem_limits.specs.BuiltLaws.{every-last, fits-of}
 use Rattle.theorem_limits.specs.Good.{FitBy, Fits, Light, Good}
 use Rattle.theorem_limits.specs.FilesLaws.{good-begun, both, taken, serving-turn, good-apply, planned-passed}
-use Rattle.settle.specs.Serves.{Low, Fresh}
+use Rattle.theorem_keeps.specs.Serves.{Low, Fresh}
 use Rattle.theorem_holds.specs.LentLaws.{served-built}
 use Rattle.theorem_holds.specs.Lent.{lentOf, Lendable, Serving}
 use Rattle.theorem_holds.specs.GoesLaws.{fresh-begun}

@@ -16,3 +16,4 @@ pub mod KeptLaws
 pub mod KeptHeldLaws
 pub mod Stored
 pub mod StoredLaws
+pub mod FirstLaws

@@ -24,8 +24,8 @@ use Rattle.checks.specs.declared.Next.the-variants.{Taken}
 use Rattle.checks.specs.Next.{nextAt}
 use Rattle.files.specs.File.{File, standing, refusal, told, sealedFile, act, apply, outcome}
 use Rattle.theorem_limits.specs.BuiltLaws.{fits-of}
-use Rattle.settle.specs.Serves.{Fresh}
-use Rattle.sift.specs.Tries.{Scratch}
+use Rattle.theorem_keeps.specs.Serves.{Fresh}
+use Rattle.theorem_keeps.specs.Tries.{Scratch}
 use Rattle.theorem_holds.specs.ServedLaws.{Served}
 use Rattle.theorem_holds.specs.LentLaws.{served-built}
 use Rattle.theorem_holds.specs.FilesLaws.{serving-seal}

@@ -29,8 +29,8 @@ use Rattle.records.specs.declared.Standing.{Standing}
 use Rattle.job.specs.JobBuffers.{builtOf}
 use Rattle.files.specs.File.{File, sifted, standing, refusal, Outcome, readFrom}
 use Rattle.theorem_limits.specs.Good.{Fits, Light, Good}
-use Rattle.settle.specs.Serves.{Fresh}
-use Rattle.sift.specs.Tries.{Scratch}
+use Rattle.theorem_keeps.specs.Serves.{Fresh}
+use Rattle.theorem_keeps.specs.Tries.{Scratch}
 use Rattle.theorem_holds.specs.Lent.{boundsOf, lentOf, Lendable, Serving}
 use Rattle.serve.specs.declared.Reached.{Reached}
 use Rattle.answers.specs.Answers.{answersOf}

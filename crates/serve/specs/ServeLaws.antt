@@ -42,9 +42,9 @@ use Rattle.records.specs.Facts.{adds}
 use Rattle.files.specs.File.{File, Answer, sifted, standing, refusal, told, markedFile, settledFile, siftedFile, act, apply, Outcome, outcome}
 use Rattle.theorem_limits.specs.FilesLaws.{both, taken, building-turn, change-turn}
 use Rattle.theorem_limits.specs.SizeLaws.{row-terms-few}
-use Rattle.settle.specs.Serves.{Serves, Going}
-use Rattle.sift.specs.Tries.{Short}
-use Rattle.sift.specs.SiftingLaws.{scratch-next}
+use Rattle.theorem_keeps.specs.Serves.{Serves, Going}
+use Rattle.theorem_keeps.specs.Tries.{Short}
+use Rattle.theorem_keeps.specs.SiftingLaws.{scratch-next}
 use Rattle.theorem_holds.specs.ServedLaws.{Served}
 use Rattle.theorem_holds.specs.LentLaws.{served-built}
 use Rattle.theorem_holds.specs.FilesLaws.{serving-apply}

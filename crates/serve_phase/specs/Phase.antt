@@ -17,7 +17,7 @@ use Rattle.files.specs.declared.JobRead.{JobRead}
 use Rattle.files.specs.File.{File, begun, standing, Outcome, outcome}
 use Rattle.files.specs.Contents.{keptOf}
 use Rattle.theorem_limits.specs.Good.{Light, Good}
-use Rattle.settle.specs.Serves.{Fresh}
+use Rattle.theorem_keeps.specs.Serves.{Fresh}
 use Rattle.serve.specs.declared.Reached.{Reached}
 use Rattle.serve.specs.Serve.{Lies, readAt, fourfold}
 use Rattle.job.specs.Rooms.{BuiltRoom}

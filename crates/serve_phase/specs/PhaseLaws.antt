@@ -33,7 +33,7 @@ use Rattle.files.specs.Contents.{keptOf}
 use Rattle.theorem_limits.specs.BuiltLaws.{fits-of, rows-few}
 use Rattle.theorem_limits.specs.Good.{Fits}
 use Rattle.theorem_limits.specs.SizeLaws.{terms-few, guards-few, edges-most}
-use Rattle.settle.specs.Serves.{Fresh}
+use Rattle.theorem_keeps.specs.Serves.{Fresh}
 use Rattle.theorem_holds.specs.Lent.{boundsOf, lentOf}
 use Rattle.theorem_holds.specs.LentLaws.{lendable-clear, bounds-lent}
 use Rattle.theorem_holds.specs.GoesLaws.{fresh-begun}

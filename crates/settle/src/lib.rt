@@ -14,7 +14,7 @@ ghost use Rattle.row_moves.specs.Numbers.{Tidy, liveOf};
 ghost use Rattle.row_moves.specs.Held.{Shaped, LinksShaped, Holds, HoldsLinks};
 ghost use Rattle.row_moves.specs.Ready.{Runnable};
 ghost use Rattle.drain.specs.Drain.{takeNode, takeRow, turn as turns, settle as settles};
-ghost use Rattle.settle.specs.Serves.{Serves, Among, Going};
+ghost use Rattle.theorem_keeps.specs.Serves.{Serves, Among, Going};
 use queues::Ring;
 use queues::Rings;
 use row_moves::Did;

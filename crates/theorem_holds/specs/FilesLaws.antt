@@ -3,7 +3,7 @@
 use Prim.Native.Nat.{ℕ, _<_}
 use native.Mathlib.Omega.{arith}
 use mathlib.Core.Path.{_≡_, refl, sym, ap, _∙_, subst}
-use mathlib.Core.Bool.{true, false}
+use mathlib.Core.Bool.{false}
 use mathlib.Core.List.{List, [], _∷_}
 use lib.ListN.{length}
 use lib.Dec.{eqb}
@@ -23,13 +23,13 @@ use Rattle.job.specs.JobBuffers.{builtOf}
 use Rattle.theorem_limits.specs.BuiltLaws.{fits-of}
 use Rattle.theorem_limits.specs.Good.{Fits, Light, Good}
 use Rattle.theorem_limits.specs.FilesLaws.{good-begun, both, Taken, taken, building-turn, change-turn, good-apply, good-after}
-use Rattle.settle.specs.Serves.{Serves, Going, Fresh}
-use Rattle.settle.specs.SettlingLaws.{going-settle}
-use Rattle.seal.specs.BeginsLaws.{going-seal, going-mark}
+use Rattle.theorem_keeps.specs.Serves.{Serves, Going, Fresh}
+use Rattle.theorem_keeps.specs.SettlingLaws.{going-settle}
+use Rattle.theorem_keeps.specs.BeginsLaws.{going-seal, going-mark}
 use Rattle.theorem_holds.specs.Lent.{boundsOf, lentOf, Lendable, Serving}
 use Rattle.theorem_holds.specs.LentLaws.{served-built}
 use Rattle.theorem_holds.specs.GoesLaws.{fresh-begun}
-use Rattle.sift.specs.SiftingLaws.{going-sift}
+use Rattle.theorem_keeps.specs.SiftingLaws.{going-sift}
 
 module _ (j : Job) (fits : Fits j) (light : Light rawLimit j) (w : Built) (p : Lendable w) where
   abbrev b : Built

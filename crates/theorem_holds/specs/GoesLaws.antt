@@ -23,10 +23,10 @@ use Rattle.job.specs.JobBuffers.{builtOf}
 use Rattle.theorem_limits.specs.Good.{Fits, Light}
 use Rattle.theorem_limits.specs.BlankLaws.{blank-begun, same-at}
 use Rattle.theorem_limits.specs.FilesLaws.{good-begun}
-use Rattle.settle.specs.Serves.{Serves, Going, Fresh}
-use Rattle.seal.specs.BeginsLaws.{going-seal, going-mark}
-use Rattle.settle.specs.SettlingLaws.{going-settle}
-use Rattle.sift.specs.SiftingLaws.{going-sift}
+use Rattle.theorem_keeps.specs.Serves.{Serves, Going, Fresh}
+use Rattle.theorem_keeps.specs.BeginsLaws.{going-seal, going-mark}
+use Rattle.theorem_keeps.specs.SettlingLaws.{going-settle}
+use Rattle.theorem_keeps.specs.SiftingLaws.{going-sift}
 use Rattle.theorem_holds.specs.ServedLaws.{Served}
 use Rattle.theorem_holds.specs.Lent.{boundsOf, lentOf, Lendable}
 use Rattle.theorem_holds.specs.LentLaws.{served-built}

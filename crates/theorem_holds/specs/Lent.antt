@@ -14,7 +14,7 @@ use Rattle.memory.specs.Buffers.{Built, heldRows, built}
 use Rattle.files.specs.File.{File}
 use Rattle.job.specs.JobBuffers.{builtOf}
 use Rattle.theorem_limits.specs.Good.{Good}
-use Rattle.settle.specs.Serves.{Going}
+use Rattle.theorem_keeps.specs.Serves.{Going}
 
 abbrev pub boundsOf : Job → List ℤ
 boundsOf j = map (λ (t : Threshold). t .bound) (j .thresholds)

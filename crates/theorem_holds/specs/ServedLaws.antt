@@ -39,8 +39,8 @@ use Rattle.theorem_limits.specs.BuiltLaws.{every-append, every-at, rows-every, 
 use Rattle.theorem_limits.specs.Good.{Fit, Fits, Light}
 use Rattle.theorem_limits.specs.SizeLaws.{row-terms-few}
 use Rattle.theorem_follows.specs.BuiltLaws.{built, guard-threshold, rows-ordered}
-use Rattle.settle.specs.Serves.{Serves}
-use Rattle.sift.specs.Tries.{Short}
+use Rattle.theorem_keeps.specs.Serves.{Serves}
+use Rattle.theorem_keeps.specs.Tries.{Short}
 use Rattle.theorem_holds.specs.HoldsLaws.{LaidRows, inside-laid, front, holds-rows, shaped-rows, holds-edges, holds-links, holds-guards}
 use Rattle.theorem_holds.specs.WeightsLaws.{totals, weights, edges-light}
 use Rattle.theorem_holds.specs.Lent.{boundsOf}

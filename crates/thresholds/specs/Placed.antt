@@ -1,19 +1,13 @@
--- The rows as they grow: the raw lists of the rows after so many thresholds, and what the buffers hold then.
-use Prim.Native.Nat.{ℕ, zero, suc, _+_, _-_, _<_, _≤_}
+-- What the buffers hold of the rows as they grow: their terms, and a mark for each.
+use Prim.Native.Nat.{ℕ, zero, _+_, _-_}
 use mathlib.Core.Path.{_≡_}
-use mathlib.Core.Bool.{Bool, true, false, cond}
-use mathlib.Core.List.{List, [], _∷_, _++_, map}
-use lib.ListN.{length, take, drop, getD, set, replicate}
-use lib.Dec.{ltb}
-use Rattle.base.specs.Laid.{over, joinAll, ends}
-use Rattle.numeric.specs.Threshold.{Term}
-use Rattle.row.specs.Terms.{rowTerms}
+use mathlib.Core.List.{List, _++_, map}
+use lib.ListN.{length, take, drop, replicate}
+use Rattle.base.specs.Laid.{joinAll}
 use Rattle.row.specs.Keys.{laid, conditionsOf, weightsOf}
 use Rattle.memory.specs.Buffers.{RawLists}
-use Rattle.job.specs.Shared.{numberIn}
-use Rattle.rows.specs.Lists.{listAt}
+use Rattle.job.specs.Shared.{rawsTo, termsTo}
 use Rattle.thresholds.specs.Chain.{markedList, Marked, Headed}
-use Rattle.rows.specs.Guards.{nodeAt}
 
 -- A list with another in the place of m of its elements, from a on.
 abbrev pub spliced : {X : Type 0} → ℕ → ℕ → List X → List X → List X

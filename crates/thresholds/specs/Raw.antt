@@ -1,11 +1,10 @@
 -- Raw lists told apart: their fingerprints, and the place of a list among others.
 use Prim.Native.Nat.{ℕ, _+_, _*_, _^_, _%_}
-use mathlib.Core.Bool.{true, false, cond}
+use mathlib.Core.Bool.{cond}
 use mathlib.Core.List.{List, [], _∷_}
 use lib.ListN.{length}
 use lib.Dec.{ltb}
 use Rattle.numeric.specs.Threshold.{Term}
-use Rattle.row.specs.Terms.{sameTerms}
 use Rattle.thresholds.specs.declared.Found.{Found}
 use Rattle.thresholds.specs.declared.Found.the-variants.{At, Nothing}
 

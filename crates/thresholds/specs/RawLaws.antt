@@ -4,17 +4,15 @@ use native.Mathlib.Nat.{le-refl}
 use native.Mathlib.Omega.{arith}
 use mathlib.Core.Path.{_≡_, refl, sym, ap, _∙_}
 use mathlib.Core.Bool.{Bool, true, false, _&&_, cond}
-use mathlib.Core.List.{List, [], _∷_}
+use mathlib.Core.List.{List}
 use lib.ListN.{length, drop, getD}
 use lib.Dec.{eqb, ltb}
 use borrow.Author.Tests.{eq-eqb, ne-eqb, lt-ltb, le-ltb, ltb-false}
 use Rattle.base.specs.TestLaws.{unequal}
-use Rattle.numeric.specs.Threshold.{Term}
 use Rattle.numeric.specs.Slices.{terms}
 use Rattle.row.specs.Terms.{sameTerms}
 use Rattle.thresholds.specs.declared.Found.the-variants.{At, Nothing}
 use Rattle.thresholds.specs.Raw.{prints, mixed, fingerprint, foundOf}
-use Rattle.job.specs.Shared.{numberIn}
 use Rattle.rows.specs.ListsLaws.{length-terms, terms-done, terms-next}
 
 -- ---- two lists compared

@@ -4,7 +4,7 @@ use Rattle.queues.specs.Queue.{queue}
 use Rattle.queues.specs.Marks.{marks}
 use Rattle.row_moves.specs.Between.{Live}
 use Rattle.row_moves.specs.Numbers.{liveOf}
-use Rattle.seal.specs.BeginsLaws.{mark-is}
+use Rattle.theorem_keeps.specs.BeginsLaws.{mark-is}
 use Rattle.seal.proofs.mark.Statement.{statement}
 use Rattle.seal.proofs.mark.Tie as tie
 

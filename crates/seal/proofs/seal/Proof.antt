@@ -6,7 +6,7 @@ use Rattle.memory.specs.Buffers.{HeldRows, heldRows}
 use Rattle.state.specs.declared.State.{State}
 use Rattle.row_moves.specs.Between.{Live, did}
 use Rattle.row_moves.specs.Numbers.{statesOf, liveOf}
-use Rattle.seal.specs.BeginsLaws.{totals-more, seal-ready, seal-is}
+use Rattle.theorem_keeps.specs.BeginsLaws.{totals-more, seal-ready, seal-is}
 use mathlib.Core.Path.{_∙_}
 use Rattle.seal.proofs.seal.Statement.{statement}
 use Rattle.seal.proofs.seal.Tie as tie

@@ -3,7 +3,7 @@ use mathlib.Core.Path.{_∙_, sym}
 use native.Mathlib.Omega.{arith}
 use Rattle.rows.specs.ListsLaws.{stretch-length}
 use Rattle.memory.specs.Ranges.{roomLimit}
-use Rattle.seeding.specs.FirstLaws.{first-cut, small-cut}
+use Rattle.row_moves.specs.FirstLaws.{first-cut, small-cut}
 use Rattle.seeding.proofs.first_at.Statement.{statement}
 use Rattle.seeding.proofs.first_at.Tie as tie
 

@@ -5,7 +5,7 @@ use native.Mathlib.Omega.{arith}
 use lib.ListN.{length}
 use Rattle.row_moves.specs.NumbersLaws.{states-set, tidy-store}
 use Rattle.row_moves.specs.Numbers.{statesOf, Tidy}
-use Rattle.seeding.specs.FirstLaws.{Starting, starting-first, starting-next, starting-end}
+use Rattle.row_moves.specs.FirstLaws.{Starting, starting-first, starting-next, starting-end}
 use Rattle.seeding.proofs.first_states.Statement.{statement}
 use Rattle.seeding.proofs.first_states.Tie as tie
 

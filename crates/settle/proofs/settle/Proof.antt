@@ -7,7 +7,7 @@ use Rattle.row_moves.specs.Between.{Live, did}
 use Rattle.row_moves.specs.NumbersLaws.{same-self}
 use Rattle.row_moves.specs.Numbers.{liveOf, Tidy, Same}
 use Rattle.theorem_ends.specs.TurnsLaws.{left}
-use Rattle.settle.specs.SettlingLaws.{Settling, settling-first, settling-next, settling-less, settling-stop, settling-end, row-waits}
+use Rattle.theorem_keeps.specs.SettlingLaws.{Settling, settling-first, settling-next, settling-less, settling-stop, settling-end, row-waits}
 use mathlib.Core.Path.{_≡_, _∙_, sym}
 use borrow.Author.Needs.{needs}
 use Rattle.settle.proofs.settle.Statement.{statement}

@@ -6,7 +6,7 @@ use Rattle.memory.specs.Buffers.{HeldRows, heldRows, Built, built}
 use Rattle.row_moves.specs.Between.{Live, did}
 use Rattle.row_moves.specs.Numbers.{liveOf, Same}
 use Rattle.row_moves.specs.KeptHeldLaws.{counts-links}
-use Rattle.settle.specs.TurnLaws.{node-taken, node-next-run, node-stop, node-next}
+use Rattle.theorem_keeps.specs.TurnLaws.{node-taken, node-next-run, node-stop, node-next}
 use mathlib.Core.Path.{_∙_, sym}
 use borrow.Author.Needs.{needs}
 use Rattle.settle.proofs.take_node.Statement.{statement}

@@ -6,7 +6,7 @@ use Rattle.memory.specs.Buffers.{HeldRows, heldRows}
 use Rattle.queues.specs.Slot.{rowsIn}
 use Rattle.row_moves.specs.Between.{Live, did}
 use Rattle.row_moves.specs.Numbers.{liveOf}
-use Rattle.settle.specs.TurnLaws.{slots-head, slots-oldest, row-there, row-run, row-is}
+use Rattle.theorem_keeps.specs.TurnLaws.{slots-head, slots-oldest, row-there, row-run, row-is}
 use mathlib.Core.Path.{_∙_, refl}
 use Rattle.settle.proofs.take_row.Statement.{statement}
 use Rattle.settle.proofs.take_row.Tie as tie

@@ -5,7 +5,7 @@ use borrow.Author.Tests.{eq-eqb, ne-eqb}
 use Rattle.memory.specs.Buffers.{HeldRows, heldRows}
 use Rattle.row_moves.specs.Between.{Live, did}
 use Rattle.row_moves.specs.Numbers.{liveOf}
-use Rattle.settle.specs.TurnLaws.{going-run, turn-is}
+use Rattle.theorem_keeps.specs.TurnLaws.{going-run, turn-is}
 use Rattle.settle.proofs.turn.Statement.{statement}
 use Rattle.settle.proofs.turn.Tie as tie
 

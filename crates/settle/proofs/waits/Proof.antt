@@ -1,5 +1,5 @@
 -- `settle::waits` meets its contract.
-use Rattle.settle.specs.SettlingLaws.{waits-node, waits-rows}
+use Rattle.theorem_keeps.specs.SettlingLaws.{waits-node, waits-rows}
 use Rattle.settle.proofs.waits.Statement.{statement}
 use Rattle.settle.proofs.waits.Tie as tie
 

@@ -9,8 +9,8 @@ use Rattle.row_moves.specs.NumbersLaws.{same-self}
 use Rattle.row_moves.specs.Numbers.{liveOf, Tidy, Same}
 use Rattle.theorem_ends.specs.TurnsLaws.{left}
 use Rattle.drain.specs.Sift.{sifted}
-use Rattle.sift.specs.Tries.{Scratch, Round, round}
-use Rattle.sift.specs.SiftingLaws.{Sifting, sifting-first, sifting-next, sifting-less, sifting-stop, sifting-end, scratch-next}
+use Rattle.theorem_keeps.specs.Tries.{Scratch, Round, round}
+use Rattle.theorem_keeps.specs.SiftingLaws.{Sifting, sifting-first, sifting-next, sifting-less, sifting-stop, sifting-end, scratch-next}
 use mathlib.Core.Path.{_≡_, _∙_, refl, sym, ap}
 use borrow.Author.Needs.{needs}
 use Rattle.sift.proofs.sift.Statement.{statement}

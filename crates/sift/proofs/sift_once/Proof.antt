@@ -5,7 +5,7 @@ use Rattle.memory.specs.Buffers.{heldRows, Built, built}
 use Rattle.row_moves.specs.Between.{Live, Did, did}
 use Rattle.row_moves.specs.Numbers.{liveOf, Same}
 use Rattle.drain.specs.Sift.{Sifted, sifted}
-use Rattle.sift.specs.SiftingLaws.{once-stop, once-none, once-try, settled-tries}
+use Rattle.theorem_keeps.specs.SiftingLaws.{once-stop, once-none, once-try, settled-tries}
 use mathlib.Core.Path.{_∙_, refl, sym}
 use borrow.Author.Needs.{needs}
 use Rattle.sift.proofs.sift_once.Statement.{statement}

@@ -11,8 +11,8 @@ use Rattle.row_moves.specs.Numbers.{liveOf}
 use Rattle.row_moves.specs.HeldLaws.{term-slices}
 use Rattle.drain.specs.Drain.{withMarks}
 use Rattle.drain.specs.Sift.{sifted}
-use Rattle.settle.specs.TurnLaws.{slots-head, slots-oldest}
-use Rattle.sift.specs.TryLaws.{try-inside, try-state, try-figures, Cut, try-cut, try-is}
+use Rattle.theorem_keeps.specs.TurnLaws.{slots-head, slots-oldest}
+use Rattle.theorem_keeps.specs.TryLaws.{try-inside, try-state, try-figures, Cut, try-cut, try-is}
 use mathlib.Core.Path.{refl}
 use Rattle.sift.proofs.try_row.Statement.{statement}
 use Rattle.sift.proofs.try_row.Tie as tie

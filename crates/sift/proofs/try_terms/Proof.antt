@@ -7,7 +7,7 @@ use Rattle.queues.specs.Queue.{queue}
 use Rattle.queues.specs.Marks.{Marks, marks}
 use Rattle.intervals.specs.Residual.{Residual, residual}
 use Rattle.drain.specs.Drain.{withMarks}
-use Rattle.sift.specs.TryLaws.{tried-search, tried-not}
+use Rattle.theorem_keeps.specs.TryLaws.{tried-search, tried-not}
 use mathlib.Core.Path.{refl}
 use borrow.Author.Needs.{needs}
 use Rattle.sift.proofs.try_terms.Statement.{statement}

@@ -39,8 +39,8 @@ use Rattle.drain.specs.DrainLaws.{untaken, unrowed, nodeTold, nodeDrained, node
 use Rattle.theorem_ends.specs.SettlesLaws.{fall-turn}
 use Rattle.theorem_follows.specs.StandsLaws.{also, also-other, also-this}
 use Rattle.theorem_follows.specs.WaitingLaws.{first-decided, first-fresh, queued-taken}
-use Rattle.settle.specs.Serves.{Serves, Among, owed, Tracked, Within, Going}
-use Rattle.settle.specs.KeepingLaws.{Inside, keep-guard-of, keep-edges, keep-links, among-next, oldest-among, tracked-moves}
+use Rattle.theorem_keeps.specs.Serves.{Serves, Among, owed, Tracked, Within, Going}
+use Rattle.theorem_keeps.specs.KeepingLaws.{Inside, keep-guard-of, keep-edges, keep-links, among-next, oldest-among, tracked-moves}
 
 -- ---- edges that are not drained yet
 

@@ -33,7 +33,7 @@ use Rattle.row_moves.specs.KeepsLaws.{run-named}
 use Rattle.row_moves.specs.Ready.{Names}
 use Rattle.theorem_follows.specs.KeepsLaws.{run-keeps}
 use Rattle.theorem_follows.specs.Ordered.{Ordered}
-use Rattle.settle.specs.Serves.{Among, Low, Tracked}
+use Rattle.theorem_keeps.specs.Serves.{Among, Low, Tracked}
 
 -- Of rows that the buffers hold.
 abbrev pub Inside : HeldRows → ℕ → Type 0

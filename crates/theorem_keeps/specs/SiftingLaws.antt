@@ -23,10 +23,10 @@ use Rattle.drain.specs.Sift.{Sifted, sifted, tryRow, siftFrom, sift}
 use Rattle.drain.specs.SiftLaws.{tries, sift-tries, sift-keeps}
 use Rattle.theorem_ends.specs.TurnsLaws.{left, left-most}
 use Rattle.theorem_ends.specs.SettlesLaws.{settle-stays, fall-try}
-use Rattle.settle.specs.Serves.{Serves, Going}
-use Rattle.settle.specs.SettlingLaws.{going-settle}
-use Rattle.sift.specs.Tries.{Scratch, Short, Tries, Round, round, once}
-use Rattle.sift.specs.TryLaws.{going-try}
+use Rattle.theorem_keeps.specs.Serves.{Serves, Going}
+use Rattle.theorem_keeps.specs.SettlingLaws.{going-settle}
+use Rattle.theorem_keeps.specs.Tries.{Scratch, Short, Tries, Round, round, once}
+use Rattle.theorem_keeps.specs.TryLaws.{going-try}
 
 -- ---- answers
 

@@ -18,8 +18,8 @@ use Rattle.drain.specs.Drain.{turn, atRest, drain, turns, settle}
 use Rattle.drain.specs.DrainLaws.{drain-goes, settle-keeps}
 use Rattle.theorem_ends.specs.TurnsLaws.{left, left-most}
 use Rattle.theorem_ends.specs.SettlesLaws.{fall-turn}
-use Rattle.settle.specs.Serves.{Serves, Going}
-use Rattle.settle.specs.TurnLaws.{going-turn}
+use Rattle.theorem_keeps.specs.Serves.{Serves, Going}
+use Rattle.theorem_keeps.specs.TurnLaws.{going-turn}
 
 -- So many turns from here are all turns from the start, and more than can be taken.
 abbrev Rest : Index → Live → Step → Live → Type 0

@@ -35,9 +35,9 @@ use Rattle.theorem_ends.specs.KeepsLaws.{residual-named}
 use Rattle.theorem_ends.specs.SettlesLaws.{fall-try}
 use Rattle.theorem_follows.specs.WaitingLaws.{queued-decide}
 use Rattle.queues.specs.Waiting.{Queued}
-use Rattle.settle.specs.Serves.{Serves, Low, Within, Going}
-use Rattle.settle.specs.KeepingLaws.{among-next, oldest-among, low-decide}
-use Rattle.sift.specs.Tries.{Tries, tried}
+use Rattle.theorem_keeps.specs.Serves.{Serves, Low, Within, Going}
+use Rattle.theorem_keeps.specs.KeepingLaws.{among-next, oldest-among, low-decide}
+use Rattle.theorem_keeps.specs.Tries.{Tries, tried}
 
 -- ---- by the terms of a row
 

@@ -20,7 +20,7 @@ use Rattle.row_moves.specs.Held.{startBy, endBy, Shaped}
 use Rattle.row_moves.specs.Ready.{ReadyLive}
 use Rattle.drain.specs.Drain.{withMarks, settle}
 use Rattle.drain.specs.Sift.{Sifted, sifted, tryRow}
-use Rattle.settle.specs.Serves.{Among}
+use Rattle.theorem_keeps.specs.Serves.{Among}
 
 -- The gcds of the longest row and one more have room, as do the words of a search, which are zero before and after.
 pub record Scratch (gcds words : List ℕ) : Type 0 where

@@ -20,14 +20,14 @@ use Rattle.row_moves.specs.Between.{Index, Live, live, Did, did, firstStates, s
 use Rattle.row_moves.specs.Held.{startBy, endBy, EdgesShaped, Shaped, Holds}
 use Rattle.row_moves.specs.Ready.{Ready, Runnable, Totals}
 use Rattle.row_moves.specs.ReadyLaws.{ready-states}
-use Rattle.seeding.specs.FirstLaws.{ready-first}
+use Rattle.row_moves.specs.FirstLaws.{ready-first}
 use Rattle.row_moves.specs.KeptLaws.{kept-run}
 use Rattle.drain.specs.Drain.{withMarks, mark, seal}
 use Rattle.drain.specs.DrainLaws.{seal-keeps}
 use Rattle.theorem_ends.specs.SealsLaws.{seal-stays}
 use Rattle.theorem_follows.specs.WaitingLaws.{queued-decide}
-use Rattle.settle.specs.Serves.{Serves, owed, Tracked, Going, Fresh}
-use Rattle.settle.specs.KeepingLaws.{low-decide, tracked-run}
+use Rattle.theorem_keeps.specs.Serves.{Serves, owed, Tracked, Going, Fresh}
+use Rattle.theorem_keeps.specs.KeepingLaws.{low-decide, tracked-run}
 
 -- ---- a mark
 
