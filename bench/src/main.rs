@@ -14,6 +14,7 @@ use planner::{Plan, Planner, Step, Value};
 use threshold_oracle::job::{self, Run};
 
 fn main() {
+    std::panic::set_hook(Box::new(told));
     let words: Vec<String> = std::env::args().skip(1).collect();
     let words: Vec<&str> = words.iter().map(String::as_str).collect();
     let seed = |word: &str| word.parse().expect("a seed is a number");
@@ -26,6 +27,14 @@ fn main() {
         [word] => tables(seed(word)),
         _ => panic!("usage: bench [SEED]"),
     }
+}
+
+/// Bad arguments, a file or a program that is missing and a write that fails end the benchmark, each in a sentence.
+fn told(panic: &std::panic::PanicHookInfo<'_>) {
+    let said = panic.payload();
+    let plain = said.downcast_ref::<&str>().copied();
+    eprintln!("bench: {}", plain.or(said.downcast_ref::<String>().map(String::as_str)).unwrap_or("it broke off"));
+    std::process::exit(1);
 }
 
 /// Best and median of one side.
