@@ -46,8 +46,9 @@ def grouped(files):
     return [files[at:at + GROUP] for at in range(0, len(files), GROUP)]
 
 
-def said(files, *flags, program=ORACLE):
+def said(files, *flags, program=None):
     """what the oracle, or a program like it, says of each file"""
+    program = program or ORACLE
     blocks = command.call([program, "--many", *flags], input=frames(files)).split(b"--\n")[:-1]
     if len(blocks) != len(files):
         raise command.Failed(f"{program}: {len(blocks)} answers of {len(files)} files", 1)

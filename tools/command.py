@@ -16,8 +16,12 @@ import sys
 import threading
 import time
 
-NAME = pathlib.Path(sys.argv[0]).name
 HIGHEST = 2**64 - 1
+
+
+def name():
+    """The name by which the command was called."""
+    return pathlib.Path(sys.argv[0]).name
 
 
 class Failed(Exception):
@@ -35,11 +39,12 @@ class Parser(argparse.ArgumentParser):
         super().__init__(allow_abbrev=False)
         self.text = usage
 
-    def format_help(self):
-        return self.text
+    def print_help(self, file=None):
+        # The inherited one passes over a write that fails.
+        sys.stdout.write(self.text)
 
     def error(self, message):
-        raise Failed(f"{message}; {NAME} -h says how it is used")
+        raise Failed(f"{message}; {name()} -h says how it is used")
 
 
 def number(low=0, high=HIGHEST):
@@ -51,18 +56,18 @@ def number(low=0, high=HIGHEST):
     return read
 
 
-def load(name):
+def load(path):
     """The bytes of a file; of standard input where none is named, or `-`."""
     try:
-        if name not in (None, "-"):
-            return pathlib.Path(name).read_bytes()
+        if path not in (None, "-"):
+            return pathlib.Path(path).read_bytes()
         if sys.stdin is None:
             raise Failed("standard input is closed")
         return sys.stdin.buffer.read()
     except OSError as error:
-        raise Failed(f"{name or 'standard input'}: {error.strerror}")
+        raise Failed(f"{path or 'standard input'}: {error.strerror}")
     except ValueError:  # a name that no file can have
-        raise Failed(f"{name!r} is not the name of a file")
+        raise Failed(f"{path!r} is not the name of a file")
 
 
 def call(words, **more):
@@ -103,7 +108,7 @@ class Progress:
     def show(self):
         while not self.ended.wait(.5):
             far = f"{self.done} of {self.total} " if self.total else ""
-            said = f"{NAME}: {far}{self.what}, {time.monotonic() - self.began:.0f} s so far"
+            said = f"{name()}: {far}{self.what}, {time.monotonic() - self.began:.0f} s so far"
             print(f"\r{said[:78]:78}", end="", file=sys.stderr, flush=True)
         print(f"\r{'':78}\r", end="", file=sys.stderr, flush=True)
 
@@ -144,4 +149,4 @@ def drop():
 
 
 def tell(said):
-    print(f"{NAME}: {said}", file=sys.stderr)
+    print(f"{name()}: {said}", file=sys.stderr)

@@ -279,8 +279,8 @@ def contradicted(job, listed):
 
 
 def tool(name):
-    """Another tool of this folder as a module."""
-    loader = importlib.machinery.SourceFileLoader(name, str(pathlib.Path(__file__).with_name(name)))
+    """Another tool as a module, by its path from this folder."""
+    loader = importlib.machinery.SourceFileLoader(name, str(pathlib.Path(__file__).parent / name))
     module = importlib.util.module_from_spec(importlib.util.spec_from_loader(name, loader))
     loader.exec_module(module)
     return module
