@@ -85,7 +85,7 @@ class Threshold:
 
 def joined(listed):
     """The raw list of a threshold's terms and areas: areas of one condition are added in hundredths, the sum is rounded
-    once, a half going up, and stands where the first of them stood."""
+    once, a half going up, and comes where the first of them was."""
     sums = collections.Counter()
     for name, condition, number in listed:
         if name == "area":
@@ -169,7 +169,7 @@ def reason(number, job, name):
     if number != 3:
         return REASONS[number]
     if name == "header" or job.nodes is None:
-        return "the header stands first, and nowhere else"
+        return "the header comes first, and nowhere else"
     if job.sealed:
         return "the job is sealed, and nothing can join it"
     return "no threshold is open" if name in ("term", "area") else "the job is not sealed yet"
