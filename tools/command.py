@@ -119,6 +119,7 @@ def run(main):
     if sys.stdout is None:
         tell("writing failed: standard output is closed")
         sys.exit(1)
+    sys.stdout.reconfigure(errors="backslashreplace")
     status = outcome(main)
     sys.exit(outcome(sys.stdout.flush) or status)
 
