@@ -3,8 +3,8 @@
 
 mod common;
 
+use common::raw::{self, Given, Work, LISTING};
 use common::Random;
-use planner::raw::{self, Given, Work, LISTING};
 
 struct Twice {
     fresh: Work,

@@ -1,10 +1,13 @@
 //! The repository's vectors: job files and their listings, read from the form of vectors/form.py; and seeded random numbers.
 #![allow(dead_code)]
 
+pub mod raw;
+
 use std::path::Path;
 
 pub struct Vector {
     pub name: String,
+    pub items: Vec<Vec<String>>,
     pub file: Vec<u8>,
     pub listing: String,
 }
@@ -25,9 +28,10 @@ fn vector(block: &str) -> Vector {
         let marked = block.lines().skip(1).filter_map(|line| line.strip_prefix(mark));
         marked.collect::<Vec<_>>().join(";")
     };
-    let file = items(&part('<')).iter().flat_map(|item| record(item)).collect();
+    let items_of_file = items(&part('<'));
+    let file = items_of_file.iter().flat_map(|item| record(item)).collect();
     let listing = items(&part('>')).iter().map(|item| item.join(" ") + "\n").collect();
-    Vector { name, file, listing }
+    Vector { name, items: items_of_file, file, listing }
 }
 
 /// Items between semicolons, each as its words; `[N: ..]` is repeated, and a field `a+d` or `a-d` there moves by d each time.
