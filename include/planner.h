@@ -82,10 +82,10 @@ enum {
     PLANNER_LISTING = 262144 /* bytes of the buffer that a listing is made in */
 };
 
-/* Bytes of stack that a call of each function needs, with room above what was measured; a thread has its own needs beside it. */
+/* Bytes of stack for a call of each function: what was measured (bindings/c/stack.c) and room above it. A thread needs some beside it. */
 enum {
-    PLANNER_RUN_STACK = 98304,  /* planner_run, planner_plan */
-    PLANNER_LIST_STACK = 655360 /* planner_list */
+    PLANNER_RUN_STACK = 98304,  /* planner_run, planner_plan: 54 KB measured */
+    PLANNER_LIST_STACK = 655360 /* planner_list: 464 KB measured */
 };
 
 /* Why a record is refused. The first that applies is given, in the order TOO_LONG, UNKNOWN_KIND, CUT_OFF, OUT_OF_TURN, CONTRADICTED,

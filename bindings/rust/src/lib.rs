@@ -249,6 +249,7 @@ impl Plan<'_> {
     }
 
     /// The nodes of the job by their numbers; none before a header.
+    #[must_use]
     pub fn nodes(&self) -> impl ExactSizeIterator<Item = Value> + '_ {
         (0..self.given.nodes).map(|node| self.value(node))
     }
@@ -271,6 +272,7 @@ impl Plan<'_> {
     }
 
     /// The rows by their numbers; none before the seal.
+    #[must_use]
     pub fn rows(&self) -> impl ExactSizeIterator<Item = Row> + '_ {
         let rows = self.work.figures.iter().zip(self.work.cursors.iter());
         rows.take(self.given.rows).map(|(&[known, possible, lower, upper], cursors)| Row {
@@ -289,6 +291,7 @@ impl Plan<'_> {
     }
 
     /// The answers of settles and sifts, in their order.
+    #[must_use]
     pub fn answers(&self) -> impl ExactSizeIterator<Item = Answer> + '_ {
         self.work.answers.iter().take(self.given.answered).map(|&[number, visits]| {
             let step = Step::by_number(number % 4);

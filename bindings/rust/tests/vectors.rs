@@ -4,35 +4,38 @@ mod common;
 
 use planner::{Answer, Failure, Job, Plan, Planner, Reason, Refusal, Step, Value};
 
-const STEPS: [&str; 3] = ["unchanged", "changed", "contradiction"];
-
-/// Document 01's listing, made of what the safe interface gives.
+/// The listing, made of what the safe interface gives.
 fn listed(plan: Plan<'_>) -> String {
-    let mut out = String::new();
-    for answer in plan.answers() {
-        out += &match answer {
-            Answer::Settle(step) => format!("settle {}\n", STEPS[step as usize]),
-            Answer::Sift { step, visits, .. } => format!("sift {} {visits}\n", STEPS[step as usize]),
-            other => panic!("no line for {other:?}"),
-        };
-    }
+    let mut lines: Vec<String> = plan.answers().map(answer_line).collect();
     if plan.sealed() {
-        for (node, value) in plan.nodes().enumerate() {
-            match value {
-                Value::Sure => out += &format!("node {node} sure\n"),
-                Value::Never => out += &format!("node {node} never\n"),
-                Value::Undecided => {}
-            }
-        }
-        for (number, row) in plan.rows().enumerate() {
+        lines.extend(plan.nodes().enumerate().filter_map(node_line));
+        lines.extend(plan.rows().enumerate().map(|(number, row)| {
             let upper = row.upper.map_or("-".to_string(), |upper| upper.to_string());
-            out += &format!("row {number} {} {} {} {upper}\n", row.known, row.possible, row.lower);
-        }
+            format!("row {number} {} {} {} {upper}\n", row.known, row.possible, row.lower)
+        }));
     }
     let count = |wanted: Value| plan.nodes().filter(|&value| value == wanted).count();
-    out + &match plan.refusal() {
+    lines.push(match plan.refusal() {
         None => format!("end {} {}\n", count(Value::Sure), count(Value::Never)),
         Some(Refusal { reason, offset }) => format!("refused {} at {offset}\n", reason.number()),
+    });
+    lines.concat()
+}
+
+fn answer_line(answer: Answer) -> String {
+    let word = |step: Step| ["unchanged", "changed", "contradiction"][step as usize];
+    match answer {
+        Answer::Settle(step) => format!("settle {}\n", word(step)),
+        Answer::Sift { step, visits, .. } => format!("sift {} {visits}\n", word(step)),
+        other => panic!("no line for {other:?}"),
+    }
+}
+
+fn node_line((node, value): (usize, Value)) -> Option<String> {
+    match value {
+        Value::Sure => Some(format!("node {node} sure\n")),
+        Value::Never => Some(format!("node {node} never\n")),
+        Value::Undecided => None,
     }
 }
 
@@ -112,16 +115,13 @@ fn what_forced_gives() {
     for vector in common::vectors() {
         let marks = vector.items.iter().rev().take_while(|item| item[0] == "mark").count();
         let (plan, text) = planner.plan_listed(&vector.file);
-        let forced = plan.forced().map(|nodes| {
-            nodes.fold(String::new(), |text, (node, value)| {
-                text + &format!("node {node} {}\n", if value == Value::Sure { "sure" } else { "never" })
-            })
-        });
-        assert_eq!(plan.contradicted(), plan.last() == Step::Contradiction);
+        let forced = plan.forced().map(|nodes| nodes.filter_map(node_line).collect::<String>());
+        let shown = text.split_inclusive('\n').filter(|line| line.starts_with("node "));
         assert!(plan.contradicted() || !text.contains("contradiction"), "{}", vector.name);
         let case = match forced {
             Ok(nodes) => {
-                assert!(plan.refusal().is_none() && marks == 0 && text.contains(&nodes));
+                assert!(plan.refusal().is_none() && marks == 0, "{}", vector.name);
+                assert_eq!(nodes, shown.collect::<String>(), "{}", vector.name);
                 0
             }
             Err(Failure::Contradicted) => 1,

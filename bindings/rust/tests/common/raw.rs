@@ -1,6 +1,6 @@
 //! The crate's own src/raw.rs, with what those need who look at every word of every buffer: memory of any length and contents, and its
 //! elements as numbers.
-#![allow(dead_code)]
+#![allow(dead_code, unused_imports)]
 
 #[macro_use]
 #[path = "../../src/raw.rs"]
