@@ -5,8 +5,8 @@
     job.seal().mark_sure(1).settle()    # it is marked sure
     planner.plan(job).forced()          # {0: True, 1: True}
 
-The shared library does the work: the file that PLANNER_LIBRARY names, else an installed one (bindings/install), else that of this
-repository (bindings/shared makes it). docs/FORMAT.md has the job file, record by record, and the listing, line by line.
+The shared library does the work: that in the folder which PLANNER_LIB names, else an installed one (bindings/install), else that of
+this repository (bindings/shared makes it). docs/FORMAT.md has the job file, record by record, and the listing, line by line.
 """
 
 import collections
@@ -179,7 +179,7 @@ class Plan:
 
 def plan(job):
     """Runs a whole job file: a Job, or bytes."""
-    data = bytes(job)
+    data = bytes(job if isinstance(job, Job) else memoryview(job))
     work = {name: (element * length)() for name, element, length in _BUFFERS}
     lent = [argument for buffer in work.values() for argument in (buffer, len(buffer))]
     return Plan(data, _library().planner_run(data, len(data), *lent), work)
@@ -230,14 +230,15 @@ def _library():
 
 def _found():
     name = f"libplanner.so.{VERSION.rpartition('.')[0]}"
-    here = pathlib.Path(__file__).resolve().parent.parent.parent / "target/staticlib" / name
-    named = os.environ.get("PLANNER_LIBRARY")
-    for place in [named] if named else [name, str(here)]:
+    folder = os.environ.get("PLANNER_LIB")
+    made_here = pathlib.Path(__file__).resolve().parent.parent.parent / "target/staticlib"
+    said = []
+    for place in [f"{folder}/{name}"] if folder else [name, f"{made_here}/{name}"]:
         try:
             return ctypes.CDLL(place)
         except OSError as error:
-            said = error
-    raise ImportError(f"the planner's library cannot be loaded ({said}); bindings/shared makes it, bindings/install puts it in place")
+            said.append(str(error))
+    raise ImportError(f"the planner's library is missing ({'; '.join(said)}); bindings/shared makes it, bindings/install puts it in place")
 
 
 def _value(work, node):
