@@ -3,7 +3,8 @@
    One call runs a whole job file over buffers that its caller lends. The call clears them, takes each record or refuses it by a number, and
    leaves nodes, rows and answers in them. It keeps nothing between calls and needs no other memory but PLANNER_RUN_STACK bytes of stack, so
    that threads may call it at the same time, each with its own buffers. The shortest way is a `struct planner_work` and `planner_plan`; then
-   ask whether a record was refused (given.refused) and whether a layout is left (planner_contradicted), before any node is believed.
+   ask whether a record was refused (given.refused), whether a layout is left (planner_contradicted) and whether marks wait for a settle
+   (planner_unsettled_marks), before any node is believed.
 
    docs/FORMAT.md has the job file, record by record, and the listing, line by line.
 
@@ -132,11 +133,25 @@ struct planner_given {
     size_t answered; /* how many settles and sifts were answered */
 };
 
-/* Whether no layout is left: a seal, mark, settle or sift found a contradiction. The nodes are then not to be used. A file that ends with a
-   settle or a sift has had all its marks worked out; what marks after the last of these contradict is found by the next, and not before. */
+/* Whether no layout is left: a seal, mark, settle or sift found a contradiction. The nodes are then not to be used. */
 static inline int planner_contradicted(struct planner_given given)
 {
     return given.last == PLANNER_CONTRADICTION;
+}
+
+/* How many marks were taken after the last settle or sift of this input: what they force, and whether they leave a layout, is not worked
+   out. It is 0 of a file that ends with a settle or a sift. */
+static inline size_t planner_unsettled_marks(struct planner_given given, const uint8_t *input)
+{
+    static const uint8_t bodies[] = {0, 2, 10, 6, 0, 3, 0, 0, 6}; /* bytes after each byte of kind */
+    size_t marks = 0;
+    for (size_t at = 0; at < given.at; at += 1u + bodies[input[at]]) {
+        if (input[at] == PLANNER_KIND_MARK)
+            marks++;
+        if (input[at] == PLANNER_KIND_SETTLE || input[at] == PLANNER_KIND_SIFT)
+            marks = 0;
+    }
+    return marks;
 }
 
 /* THE CALL. Each buffer is followed by its number of elements; what it holds afterwards is said beside it in struct planner_work. */

@@ -68,6 +68,8 @@ int main(void)
     print_rows(work, given.rows);
     if (planner_contradicted(given))
         printf("no layout is left\n");
+    if (planner_unsettled_marks(given, file_a))
+        printf("marks wait for a settle\n");
     size_t length = planner_list(file_a, sizeof file_a, text, PLANNER_LISTING);
     printf("\nas a listing:\n%.*s", (int)length, (const char *)text);
     free(text);

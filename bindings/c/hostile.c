@@ -196,7 +196,7 @@ static void *work(void *result)
     return NULL;
 }
 
-/* Two marks of one node that differ, alone and with a settle after them: only the first mark alone leaves a layout. */
+/* Two marks of one node that differ, with a settle after them: the first mark alone leaves a layout. */
 static void contradictions(void)
 {
     static const uint8_t file[] = {
@@ -205,6 +205,8 @@ static void contradictions(void)
     struct planner_given one = planner_plan(&area, file, 8), two = planner_plan(&area, file, 12), more = planner_plan(&area, file, 13);
     if (planner_contradicted(one) || !planner_contradicted(two) || !planner_contradicted(more))
         fail("a contradiction is missed or invented");
+    if (planner_unsettled_marks(one, file) != 1 || planner_unsettled_marks(two, file) != 2)
+        fail("other marks wait");
     if (one.refused || two.refused || more.refused != PLANNER_CONTRADICTED || more.at != 12)
         fail("refusal 9 at another place");
 }
