@@ -14,7 +14,13 @@ fn main() {
 fn made_here() -> PathBuf {
     let home = PathBuf::from(env::var("CARGO_MANIFEST_DIR").expect("set by cargo"));
     let script = home.join("../archive");
-    for part in ["../archive", "../../crates", "../../crates.txt"] {
+    for part in [
+        "../archive",
+        "../c/version.c",
+        "../../include/planner.h",
+        "../../crates",
+        "../../crates.txt",
+    ] {
         println!("cargo:rerun-if-changed={}", home.join(part).display());
     }
     let done = Command::new(&script)
