@@ -33,7 +33,10 @@ fn main() {
 fn told(panic: &std::panic::PanicHookInfo<'_>) {
     let said = panic.payload();
     let plain = said.downcast_ref::<&str>().copied();
-    eprintln!("bench: {}", plain.or(said.downcast_ref::<String>().map(String::as_str)).unwrap_or("it broke off"));
+    eprintln!(
+        "bench: {}",
+        plain.or(said.downcast_ref::<String>().map(String::as_str)).unwrap_or("it broke off")
+    );
     std::process::exit(1);
 }
 
