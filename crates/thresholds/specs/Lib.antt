@@ -1,7 +1,7 @@
 pub mod Raw
 pub mod RawLaws
-pub mod Chain
+pub mod Tree
 pub mod Placed
 pub mod PlacedLaws
 pub mod RowsLaws
-pub mod ChainLaws
+pub mod TreeLaws

@@ -1,13 +1,10 @@
 -- Raw lists told apart: their fingerprints, and the place of a list among others.
 use Prim.Native.Nat.{ℕ, _+_, _*_, _^_, _%_}
-use mathlib.Core.Bool.{true, false, cond}
+use mathlib.Core.Bool.{true, false}
 use mathlib.Core.List.{List, [], _∷_}
 use lib.ListN.{length}
-use lib.Dec.{ltb}
 use Rattle.numeric.specs.Threshold.{Term}
 use Rattle.row.specs.Terms.{sameTerms}
-use Rattle.thresholds.specs.declared.Found.{Found}
-use Rattle.thresholds.specs.declared.Found.the-variants.{At, Nothing}
 
 -- A number made of a raw list: lists with different numbers differ. There are so many.
 abbrev pub prints : ℕ
@@ -24,6 +21,3 @@ fingerprint ts = mixed (length ts) ts
 unfoldable pub numberIn : List (List Term) → List Term → ℕ
 numberIn [] x = 0
 numberIn (l ∷ ls) x = elim (sameTerms l x) [ true ↦ 0 | false ↦ 1 + numberIn ls x ]
-
-abbrev pub foundOf : ℕ → ℕ → Found
-foundOf n rows = cond (ltb n rows) (At n) Nothing

@@ -1,19 +1,16 @@
 -- Laws of raw lists in two parallel slices, read place by place, and of the search among lists.
 use Prim.Native.Nat.{ℕ, _+_, _*_, _%_, _<_, _≤_}
-use native.Mathlib.Nat.{le-refl}
 use native.Mathlib.Omega.{arith}
 use mathlib.Core.Path.{_≡_, refl, sym, ap, _∙_}
-use mathlib.Core.Bool.{Bool, true, false, _&&_, cond}
+use mathlib.Core.Bool.{Bool, true, false, _&&_}
 use mathlib.Core.List.{List, [], _∷_}
 use lib.ListN.{length, drop, getD}
-use lib.Dec.{eqb, ltb}
-use borrow.Author.Tests.{eq-eqb, ne-eqb, lt-ltb, le-ltb, ltb-false}
-use Rattle.base.specs.TestLaws.{unequal}
+use lib.Dec.{eqb}
+use borrow.Author.Tests.{eq-eqb, ne-eqb}
 use Rattle.numeric.specs.Threshold.{Term}
 use Rattle.numeric.specs.Slices.{terms}
 use Rattle.row.specs.Terms.{sameTerms}
-use Rattle.thresholds.specs.declared.Found.the-variants.{At, Nothing}
-use Rattle.thresholds.specs.Raw.{prints, mixed, fingerprint, numberIn, foundOf}
+use Rattle.thresholds.specs.Raw.{prints, mixed, fingerprint, numberIn}
 use Rattle.rows.specs.ListsLaws.{length-terms, terms-done, terms-next}
 
 -- ---- two lists compared
@@ -60,31 +57,7 @@ pub fingerprint-of : (cs ws : List ℕ) → length ws ≡ length cs → mixed (l
 unfolding fingerprint
 fingerprint-of cs ws h = ap (λ (n : ℕ). mixed n (terms cs ws)) (sym (length-terms cs ws h))
 
--- ---- what a search finds
-
-pub found-at : (n k m : ℕ) → n ≡ k → k < m → foundOf n m ≡ At k
-found-at n k m e h = rw (e, lt-ltb k m h)
-
-pub found-nothing : (n m : ℕ) → n ≡ m → foundOf n m ≡ Nothing
-found-nothing n m e = rw (e, le-ltb m m (le-refl m))
-
--- ---- totals
-
--- ---- what was found
-
-pub found-is : (n m k : ℕ) → foundOf n m ≡ At k → k ≡ n
-found-is n m k e = by (ltb n m) e
-  where
-    by : (b : Bool) → cond b (At n) Nothing ≡ At k → k ≡ n
-    by true q = cc
-    by false q = absurd (unequal cc)
-
-pub found-none : (n m : ℕ) → n ≤ m → foundOf n m ≡ Nothing → m ≡ n
-found-none n m h e = by (ltb n m) refl
-  where
-    by : (b : Bool) → ltb n m ≡ b → m ≡ n
-    by true q = absurd (let r = rw q at e in unequal cc)
-    by false q = let r = ltb-false n m q in omega arith
+-- ---- the place of a list among others
 
 pub number-most : (ls : List (List Term)) (x : List Term) → numberIn ls x ≤ length ls
 unfolding numberIn
