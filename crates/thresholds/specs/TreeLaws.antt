@@ -8,7 +8,7 @@ use mathlib.Core.Path.{_≡_, refl, sym, ap, ap₂, _∙_, subst}
 use mathlib.Core.Bool.{Bool, true, false, cond, false≢true}
 use mathlib.Core.List.{List, [], _∷_, _++_, map}
 use lib.ListN.{length, take, drop, getD, set, replicate, length-append, length-set, getD-replicate, List·getD-append}
-use lib.Seq.{getD-append-seam, getD-set-same, getD-set-other, getD-take, getD-drop, map-set-same}
+use lib.Seq.{getD-append-seam, getD-set-same, getD-set-other, getD-take, getD-drop, map-set-same, take-set-lt, drop-set-lt}
 use lib.Dec.{eqb, ltb}
 use borrow.Author.Tests.{eqb-true, eqb-false, ltb-false, eq-eqb, ne-eqb}
 use Rattle.base.specs.Parts.{endBy, startBy, stretch}
@@ -24,8 +24,36 @@ use Rattle.rows.specs.Lists.{listAt, Lists}
 use Rattle.thresholds.specs.RawLaws.{number-most}
 use Rattle.rows.specs.ListsLaws.{same-is, same-refl, length-terms, stretch-length}
 use Rattle.thresholds.specs.Tree.{
-  shorts, mark, linksIn, linkIn, withLink, printIn, markedList, classOf, classCount, wordAt, Way, way, meets, sideAt, nextPlace, nextRest, onFrom, onward, walk,
-  headOf, begin, Marked, Treed, Under, Came, Own, Searching, Finds, linkedMarks, linkedHeads,
+  shorts,
+  mark,
+  linksIn,
+  linkIn,
+  withLink,
+  printIn,
+  markedList,
+  classOf,
+  classCount,
+  wordAt,
+  Way,
+  way,
+  meets,
+  sideAt,
+  nextPlace,
+  nextRest,
+  onFrom,
+  onward,
+  walk,
+  headOf,
+  begin,
+  Marked,
+  Treed,
+  Under,
+  Came,
+  Own,
+  Searching,
+  Finds,
+  linkedMarks,
+  linkedHeads,
 }
 use Rattle.thresholds.specs.Placed.{rawsTo, rowTo}
 
@@ -60,7 +88,7 @@ mark-first p t h = omega arith
 pub mark-print : (p t : ℕ) → t < maxThresholds → printIn (mark p t) ≡ p % shorts
 mark-print p t h = omega arith
 
-mark-links : (p t s : ℕ) → t < maxThresholds → linkIn s (mark p t) ≡ 0
+pub mark-links : (p t s : ℕ) → t < maxThresholds → linkIn s (mark p t) ≡ 0
 unfolding linkIn
 mark-links p t zero h = omega arith
 mark-links p t (suc zero) h = omega arith
@@ -201,17 +229,17 @@ side-small v x p q = by (meets v x p)
 module _ (v x : List Term) (p q : ℕ) where
   pub turn-other : (wordAt v p ≡ wordAt x p → ⊥) → (q % 2 ≡ sideAt v x p q) × (p ≡ nextPlace v x p) × (q / 2 ≡ nextRest v x p q)
   turn-other n = let e = ne-eqb (wordAt v p) (wordAt x p) n in (
-      ap (λ (b : Bool). cond b 2 (q % 2)) (sym e),
-      ap (λ (b : Bool). cond b (p + 1) p) (sym e),
-      ap (λ (b : Bool). cond b (wordAt x (p + 1)) (q / 2)) (sym e),
-    )
+    ap (λ (b : Bool). cond b 2 (q % 2)) (sym e),
+    ap (λ (b : Bool). cond b (p + 1) p) (sym e),
+    ap (λ (b : Bool). cond b (wordAt x (p + 1)) (q / 2)) (sym e),
+  )
 
   pub turn-same : (w : ℕ) → wordAt v p ≡ wordAt x p → w ≡ wordAt x (p + 1) → (2 ≡ sideAt v x p q) × (p + 1 ≡ nextPlace v x p) × (w ≡ nextRest v x p q)
   turn-same w n f = let e = eq-eqb (wordAt v p) (wordAt x p) n in (
-      ap (λ (b : Bool). cond b 2 (q % 2)) (sym e),
-      ap (λ (b : Bool). cond b (p + 1) p) (sym e),
-      f ∙ ap (λ (b : Bool). cond b (wordAt x (p + 1)) (q / 2)) (sym e),
-    )
+    ap (λ (b : Bool). cond b 2 (q % 2)) (sym e),
+    ap (λ (b : Bool). cond b (p + 1) p) (sym e),
+    f ∙ ap (λ (b : Bool). cond b (wordAt x (p + 1)) (q / 2)) (sym e),
+  )
 
 -- ---- a walk
 
@@ -269,7 +297,7 @@ module _ (r : RawLists) (ms ns : List ℕ) (x : List Term) (few : (j s : ℕ) �
 
 -- ---- a row more, at the link where a search ended
 
-length-marks : (a v : ℕ) (ms : List ℕ) → length (linkedMarks a v ms) ≡ length ms
+pub length-marks : (a v : ℕ) (ms : List ℕ) → length (linkedMarks a v ms) ≡ length ms
 unfolding linkedMarks
 length-marks zero v ms = refl
 length-marks (suc a) v ms = length-set ms (suc a / 3 - 1) (withLink (suc a % 3) v (getD ms (suc a / 3 - 1) 0))
@@ -298,6 +326,31 @@ pub heads-later : (a c v : ℕ) (heads : List ℕ) → 0 < a → heads ≡ linke
 unfolding linkedHeads
 heads-later zero c v heads h = absurd (not-suc-le-zero h)
 heads-later (suc a) c v heads h = refl
+
+-- The same in a longer list: behind the marks nothing changes.
+pub linked-take : (a v n : ℕ) (l : List ℕ) → (0 < a → a / 3 - 1 < n) → take n (linkedMarks a v l) ≡ linkedMarks a v (take n l)
+unfolding linkedMarks
+linked-take zero v n l h = refl
+linked-take (suc a) v n l h =
+    let q = h (omega arith) in
+    take-set-lt n l (suc a / 3 - 1) (withLink (suc a % 3) v (getD l (suc a / 3 - 1) 0)) q
+    ∙ ap (λ (m : ℕ). set (take n l) (suc a / 3 - 1) (withLink (suc a % 3) v m)) (sym (getD-take n l (suc a / 3 - 1) 0 q))
+
+pub linked-drop : (a v n : ℕ) (l : List ℕ) → (0 < a → a / 3 - 1 < n) → drop n (linkedMarks a v l) ≡ drop n l
+unfolding linkedMarks
+linked-drop zero v n l h = refl
+linked-drop (suc a) v n l h = drop-set-lt n l (suc a / 3 - 1) (withLink (suc a % 3) v (getD l (suc a / 3 - 1) 0)) (h (omega arith))
+
+pub linked-lists : (r : RawLists) (a v : ℕ) (ms : List ℕ) → map (markedList r) (linkedMarks a v ms) ≡ map (markedList r) ms
+unfolding linkedMarks
+linked-lists r zero v ms = refl
+linked-lists r (suc a) v ms =
+    map-set-same (markedList r) ms (suc a / 3 - 1) (withLink (suc a % 3) v (getD ms (suc a / 3 - 1) 0)) 0
+    (ap (listAt r) (link-first (suc a % 3) v (getD ms (suc a / 3 - 1) 0)))
+
+-- The link is one of the first n marks.
+pub link-there : (r : RawLists) (ms heads : List ℕ) (x : List Term) (a k : ℕ) → Came r ms heads x a k → 0 < a → a / 3 - 1 < length ms
+link-there r ms heads x a k c h = let u = c .under h in let f = u .few in let s = u .some in omega arith
 
 module _ (r : RawLists) (ms heads : List ℕ) (x : List Term) (a v m : ℕ) (t : Treed r ms heads) (c : Came r ms heads x a 0) (ev : v ≡ suc (length ms)) (small : v < 2048) where
   abbrev ns : List ℕ
@@ -460,9 +513,12 @@ module _ (r : RawLists) (ms heads : List ℕ) (x : List Term) (a v m : ℕ) (t :
           let w = t .wide in
           let s = class-small (fingerprint x) in
           (0, ap (λ (l : List ℕ). headOf l x) (sym (heads-first a (classOf (fingerprint x)) v heads e)) ∙ getD-set-same heads (classOf (fingerprint x)) v 0 (omega arith) ∙ ev)
-      new (suc b) e = (suc (u .steps), ap (λ (l : List ℕ). walk r ns x (suc (u .steps)) (begin l x) .row) (sym (heads-later a (classOf (fingerprint x)) v heads (omega arith)))
-          ∙ ap (λ (w : Way). w .row) (walk-more r ns x (u .steps) (begin heads x) ∙ ap (onward r ns x) (kept ∙ u .leads ∙ ap (λ (k : ℕ). way k (u .place) (u .rest)) ej))
-          ∙ ap₂ linkIn (ap (λ (y : List Term). sideAt y x (u .place) (u .rest)) (grows .lists j there) ∙ u .side) is ∙ link-same (a % 3) v (getD ms j 0) small (u .link) ∙ ev)
+      new (suc b) e = (
+        suc (u .steps),
+        ap (λ (l : List ℕ). walk r ns x (suc (u .steps)) (begin l x) .row) (sym (heads-later a (classOf (fingerprint x)) v heads (omega arith)))
+            ∙ ap (λ (w : Way). w .row) (walk-more r ns x (u .steps) (begin heads x) ∙ ap (onward r ns x) (kept ∙ u .leads ∙ ap (λ (k : ℕ). way k (u .place) (u .rest)) ej))
+            ∙ ap₂ linkIn (ap (λ (y : List Term). sideAt y x (u .place) (u .rest)) (grows .lists j there) ∙ u .side) is ∙ link-same (a % 3) v (getD ms j 0) small (u .link) ∙ ev,
+      )
         where
           u : Under r ms heads x a 0
           u = c .under (omega arith)
