@@ -218,28 +218,28 @@ module _ (cs ws : List ℕ) (a e p : ℕ) (w : length ws ≡ length cs) (h : e �
       ∙ ap (λ (t : Term). 1 + t .condition + t .weight * 65536) t
       ∙ ap₂ (λ (x y : ℕ). 1 + x + y * 65536) f g
 
-pub side-small : (v x : List Term) (p q : ℕ) → sideAt v x p q < 3
-side-small v x p q = by (meets v x p)
+pub side-most : (b : Bool) (q : ℕ) → cond b 2 (q % 2) < 3
+side-most true q = omega arith
+side-most false q = omega arith
+
+side-small : (v x : List Term) (p q : ℕ) → sideAt v x p q < 3
+side-small v x p q = side-most (meets v x p) q
+
+-- Lists with different terms at a place differ.
+pub words-differ : (v x : List Term) (p : ℕ) → meets v x p ≡ false → sameTerms v x ≡ false
+words-differ v x p n = by (sameTerms v x) refl
   where
-    by : (b : Bool) → cond b 2 (q % 2) < 3
-    by true = omega arith
-    by false = omega arith
+    by : (b : Bool) → sameTerms v x ≡ b → sameTerms v x ≡ false
+    by true e = absurd (false≢true (sym n ∙ eq-eqb (wordAt v p) (wordAt x p) (ap (λ (l : List Term). wordAt l p) (same-is v x e))))
+    by false e = e
 
--- How a search goes on from a row with list v.
-module _ (v x : List Term) (p q : ℕ) where
-  pub turn-other : (wordAt v p ≡ wordAt x p → ⊥) → (q % 2 ≡ sideAt v x p q) × (p ≡ nextPlace v x p) × (q / 2 ≡ nextRest v x p q)
-  turn-other n = let e = ne-eqb (wordAt v p) (wordAt x p) n in (
-    ap (λ (b : Bool). cond b 2 (q % 2)) (sym e),
-    ap (λ (b : Bool). cond b (p + 1) p) (sym e),
-    ap (λ (b : Bool). cond b (wordAt x (p + 1)) (q / 2)) (sym e),
-  )
-
-  pub turn-same : (w : ℕ) → wordAt v p ≡ wordAt x p → w ≡ wordAt x (p + 1) → (2 ≡ sideAt v x p q) × (p + 1 ≡ nextPlace v x p) × (w ≡ nextRest v x p q)
-  turn-same w n f = let e = eq-eqb (wordAt v p) (wordAt x p) n in (
-    ap (λ (b : Bool). cond b 2 (q % 2)) (sym e),
-    ap (λ (b : Bool). cond b (p + 1) p) (sym e),
-    f ∙ ap (λ (b : Bool). cond b (wordAt x (p + 1)) (q / 2)) (sym e),
-  )
+-- The word at the place that a search goes on to.
+pub word-next : (v x : List Term) (p w : ℕ) → w ≡ wordAt x p → cond (meets v x p) (wordAt x (p + 1)) w ≡ wordAt x (nextPlace v x p)
+word-next v x p w e = by (meets v x p)
+  where
+    by : (b : Bool) → cond b (wordAt x (p + 1)) w ≡ wordAt x (cond b (p + 1) p)
+    by true = refl
+    by false = e
 
 -- ---- a walk
 
