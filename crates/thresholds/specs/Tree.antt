@@ -57,7 +57,7 @@ classOf print = print * 2654435769 / 4194304 % classCount
 
 -- ---- a search
 
--- The word of the term at a place, 1 and more; 0 behind the last.
+-- The word of the term at a place, 1 and more; 0 after the last.
 unfoldable pub wordAt : List Term → ℕ → ℕ
 wordAt [] p = 0
 wordAt (t ∷ ts) zero = 1 + t .condition + t .weight * 65536

@@ -327,7 +327,7 @@ unfolding linkedHeads
 heads-later zero c v heads h = absurd (not-suc-le-zero h)
 heads-later (suc a) c v heads h = refl
 
--- The same in a longer list: behind the marks nothing changes.
+-- The same in a longer list: after the marks nothing changes.
 pub linked-take : (a v n : ℕ) (l : List ℕ) → (0 < a → a / 3 - 1 < n) → take n (linkedMarks a v l) ≡ linkedMarks a v (take n l)
 unfolding linkedMarks
 linked-take zero v n l h = refl
