@@ -109,7 +109,7 @@ pub struct Family {
     pub grows: bool,
 }
 
-pub const FAMILIES: [Family; 26] = [
+pub const FAMILIES: [Family; 27] = [
     Family { name: "tiny jobs", make: tiny, grows: false },
     Family { name: "1,024 thresholds of 4 terms, sealed", make: many_sealed, grows: true },
     Family { name: "the same, some marked and settled", make: many_settled, grows: true },
@@ -123,6 +123,7 @@ pub const FAMILIES: [Family; 26] = [
     Family { name: "all raw lists equal", make: shared_rows, grows: true },
     Family { name: "1,024 raw lists of one fingerprint", make: colliding, grows: true },
     Family { name: "the same, alike in all lower digits", make: colliding_deep, grows: true },
+    Family { name: "64 of 64 terms, of one fingerprint", make: colliding_long, grows: true },
     Family { name: "prefix chain, each row one longer", make: prefix_chain, grows: true },
     Family { name: "prefix chain of 1,024 equal rows", make: equal_chain, grows: true },
     Family { name: "the same, bounds back and forth", make: swaying_chain, grows: true },
@@ -304,22 +305,29 @@ fn shared_rows(random: &mut Random, n: usize, of: usize) -> Vec<Vec<u8>> {
 
 /// Lists that differ, in one class and with one fingerprint: what the condition of the last term adds its weight takes away.
 fn colliding(_: &mut Random, n: usize, of: usize) -> Vec<Vec<u8>> {
-    colliding_lists(n, of, |row| [(2, 7), (4 + row as usize, 300_000 - 257 * row)])
+    colliding_lists(1_024 * n / of, 2, |row| [(2, 7), (4 + row as usize, 300_000 - 257 * row)])
 }
 
 /// The same by two weights, the first of which differ from bit 20 on: a search by digits passes all those below first.
 fn colliding_deep(_: &mut Random, n: usize, of: usize) -> Vec<Vec<u8>> {
-    colliding_lists(n, of, |row| {
-        [(2, row << 20), (3, 65_599u32.wrapping_mul(row << 20).wrapping_neg())]
-    })
+    colliding_lists(1_024 * n / of, 2, deep_end)
 }
 
-fn colliding_lists(n: usize, of: usize, end: fn(u32) -> [(usize, u32); 2]) -> Vec<Vec<u8>> {
-    let rows = 1_024 * n / of;
-    let mut file = File::header(4 + 2 * rows);
-    for row in 0..rows {
-        file.threshold(4 + rows + row, 10 + row as i64);
-        file.terms([(0, 9), (1, 8)].into_iter().chain(end(row as u32)));
+/// The same with as many terms as lists: a search compares its list with one for each of its terms.
+fn colliding_long(_: &mut Random, n: usize, of: usize) -> Vec<Vec<u8>> {
+    let lists = (1..).take_while(|lists| lists * lists <= 4_096 * n / of).last().expect("one");
+    colliding_lists(lists, lists as u32 - 2, deep_end)
+}
+
+fn deep_end(row: u32) -> [(usize, u32); 2] {
+    [(2, row << 20), (3, 65_599u32.wrapping_mul(row << 20).wrapping_neg())]
+}
+
+fn colliding_lists(lists: usize, alike: u32, end: fn(u32) -> [(usize, u32); 2]) -> Vec<Vec<u8>> {
+    let mut file = File::header(4 + 2 * lists);
+    for row in 0..lists {
+        file.threshold(4 + lists + row, 10 + row as i64);
+        file.terms((0..alike).map(|place| (place as usize % 2, 9 + place)).chain(end(row as u32)));
     }
     file.seal();
     vec![file.0]
