@@ -109,7 +109,7 @@ pub struct Family {
     pub grows: bool,
 }
 
-pub const FAMILIES: [Family; 22] = [
+pub const FAMILIES: [Family; 27] = [
     Family { name: "tiny jobs", make: tiny, grows: false },
     Family { name: "1,024 thresholds of 4 terms, sealed", make: many_sealed, grows: true },
     Family { name: "the same, some marked and settled", make: many_settled, grows: true },
@@ -118,10 +118,15 @@ pub const FAMILIES: [Family; 22] = [
     Family { name: "4 of 1,024 terms, equal", make: long_equal, grows: true },
     Family { name: "4 of 1,024 areas, a tile each", make: long_areas, grows: true },
     Family { name: "4 of 1,024 areas, each tile in 4 slivers", make: long_slivers, grows: true },
+    Family { name: "4 of 1,024 areas, 64 tiles in turns", make: turned_slivers, grows: true },
     Family { name: "all rows equal but for order", make: same_rows, grows: true },
     Family { name: "all raw lists equal", make: shared_rows, grows: true },
+    Family { name: "1,024 raw lists of one fingerprint", make: colliding, grows: true },
+    Family { name: "the same, alike in all lower digits", make: colliding_deep, grows: true },
+    Family { name: "64 of 64 terms, of one fingerprint", make: colliding_long, grows: true },
     Family { name: "prefix chain, each row one longer", make: prefix_chain, grows: true },
     Family { name: "prefix chain of 1,024 equal rows", make: equal_chain, grows: true },
+    Family { name: "the same, bounds back and forth", make: swaying_chain, grows: true },
     Family { name: "every node marked, 64 settles", make: marked_one_by_one, grows: true },
     Family { name: "one mark decides 4,096 nodes, a tree", make: cascade_tree, grows: true },
     Family { name: "one mark decides 1,024 nodes, a line", make: cascade_line, grows: true },
@@ -260,6 +265,11 @@ fn long_slivers(random: &mut Random, n: usize, of: usize) -> Vec<Vec<u8>> {
     long(AREA, n, of, |row, place| (orders[row][place] / 4, 1 + random.below(4_000_000_000) as u32))
 }
 
+/// The slivers of 64 tiles, one of each in turn.
+fn turned_slivers(random: &mut Random, n: usize, of: usize) -> Vec<Vec<u8>> {
+    long(AREA, n, of, |_, place| (place % 64, 1 + random.below(4_000_000_000) as u32))
+}
+
 /// 128 thresholds over one list of 32 terms, each in another order.
 fn same_rows(random: &mut Random, n: usize, of: usize) -> Vec<Vec<u8>> {
     let thresholds = 128 * n / of;
@@ -290,6 +300,36 @@ fn shared_rows(random: &mut Random, n: usize, of: usize) -> Vec<Vec<u8>> {
     file.seal();
     file.mark(4 + thresholds / 2, true);
     file.settle();
+    vec![file.0]
+}
+
+/// Lists that differ, in one class and with one fingerprint: what the condition of the last term adds its weight takes away.
+fn colliding(_: &mut Random, n: usize, of: usize) -> Vec<Vec<u8>> {
+    colliding_lists(1_024 * n / of, 2, |row| [(2, 7), (4 + row as usize, 300_000 - 257 * row)])
+}
+
+/// The same by two weights, the first of which differ from bit 20 on: a search by digits passes all those below first.
+fn colliding_deep(_: &mut Random, n: usize, of: usize) -> Vec<Vec<u8>> {
+    colliding_lists(1_024 * n / of, 2, deep_end)
+}
+
+/// The same with as many terms as lists: a search compares its list with one for each of its terms.
+fn colliding_long(_: &mut Random, n: usize, of: usize) -> Vec<Vec<u8>> {
+    let lists = (1..).take_while(|lists| lists * lists <= 4_096 * n / of).last().expect("one");
+    colliding_lists(lists, lists as u32 - 2, deep_end)
+}
+
+fn deep_end(row: u32) -> [(usize, u32); 2] {
+    [(2, row << 20), (3, 65_599u32.wrapping_mul(row << 20).wrapping_neg())]
+}
+
+fn colliding_lists(lists: usize, alike: u32, end: fn(u32) -> [(usize, u32); 2]) -> Vec<Vec<u8>> {
+    let mut file = File::header(4 + 2 * lists);
+    for row in 0..lists {
+        file.threshold(4 + lists + row, 10 + row as i64);
+        file.terms((0..alike).map(|place| (place as usize % 2, 9 + place)).chain(end(row as u32)));
+    }
+    file.seal();
     vec![file.0]
 }
 
@@ -327,6 +367,30 @@ fn equal_chain(random: &mut Random, n: usize, of: usize) -> Vec<Vec<u8>> {
     rising.sort_unstable_by_key(|&row| ranks[row]);
     for row in rising.into_iter().step_by(rows / 32) {
         file.mark(4 + rows + row, true);
+        file.settle();
+    }
+    vec![file.0]
+}
+
+/// Rows that are equal as above; in turns a mark at one end of the chain raises the lower bound of all, and one at the other lowers the upper.
+fn swaying_chain(_: &mut Random, n: usize, of: usize) -> Vec<Vec<u8>> {
+    let rows = 1_024 * n / of;
+    let ends = 32.min(rows / 4);
+    let mut file = File::header(4 + 2 * rows);
+    for row in 0..rows {
+        let bound = match (row < ends, row + ends >= rows) {
+            (true, _) => 1_000 + row,
+            (_, true) => 4_000_000 + row,
+            _ => 2_500_000 + row,
+        };
+        file.threshold(4 + rows + row, bound as i64);
+        file.terms([(0, 2_000_000), (1, 1_900_000), (2, 1_800_000), (4 + row, 0)]);
+    }
+    file.seal();
+    for turn in 0..ends {
+        file.mark(4 + rows + turn, true);
+        file.settle();
+        file.mark(3 + 2 * rows - turn, false);
         file.settle();
     }
     vec![file.0]

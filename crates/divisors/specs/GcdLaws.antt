@@ -12,7 +12,6 @@ use native.Mathlib.Nat.{
   dvd-of-mod-eq-zero,
   dvd-trans,
   dvd-antisymm,
-  one-dvd,
   dvd-add,
 }
 use native.Mathlib.Omega.{arith}
@@ -62,13 +61,6 @@ pub gcd-right : (a b : ℕ) → gcd a b ∣ b
 unfolding gcd
 gcd-right a b = divides b a b (le-refl b) .1
 
--- Nothing but 1 divides 1.
-pub gcd-one : (a : ℕ) → gcd a 1 ≡ 1
-gcd-one a = dvd-antisymm (gcd-right a 1) (one-dvd (gcd a 1))
-
-pub one-gcd : (b : ℕ) → gcd 1 b ≡ 1
-one-gcd b = dvd-antisymm (gcd-left 1 b) (one-dvd (gcd 1 b))
-
 -- What divides both divides it.
 greatest : (n a b d : ℕ) → d ∣ a → d ∣ b → d ∣ gcdIn n a b
 unfolding gcdIn
@@ -86,9 +78,6 @@ gcd-only a b g p q r = dvd-antisymm (r (gcd a b) (gcd-left a b) (gcd-right a b))
 
 pub gcd-none : (b : ℕ) → gcd 0 b ≡ b
 gcd-none b = gcd-only 0 b b (dvd-zero b) (dvd-refl b) (λ d p q. q)
-
-pub gcd-same : (a : ℕ) → gcd a a ≡ a
-gcd-same a = gcd-only a a a (dvd-refl a) (dvd-refl a) (λ d p q. p)
 
 pub gcd-multiple : (a b : ℕ) → b % a ≡ 0 → gcd a b ≡ a
 gcd-multiple a b h = gcd-only a b a (dvd-refl a) (dvd-of-mod-eq-zero a h) (λ d p q. p)

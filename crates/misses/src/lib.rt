@@ -10,27 +10,17 @@ ghost use Rattle.misses.specs.Misses.{misses, branchMisses};
 pub fn gcd(left: u64, right: u64) -> u64
     ensures { λ r. ⌜ r ≡ gcd left right ⌝ }
 {
-    if left == 0 {
-        return right;
-    }
-    if left == right {
-        return right;
-    }
-    // Many rows come down to 1 soon, and then there is nothing to divide.
-    if left == 1 {
-        return 1;
-    }
-    if right == 1 {
-        return 1;
-    }
-    // In a row most weights are multiples of what the others share.
-    if right % left == 0 {
-        return left;
-    }
     if left < 64 {
         if right < 64 {
             return divisors::small_gcd(left, right);
         }
+    }
+    if left == 0 {
+        return right;
+    }
+    // In a row most weights are multiples of what the others share.
+    if right % left == 0 {
+        return left;
     }
     let mut a = left;
     let mut b = right;

@@ -13,7 +13,7 @@ use Rattle.thresholds.specs.Placed.{Terms, Marks}
 use Rattle.job.specs.Shared.{rawsTo, rowTo, termsTo, rowEntry, nodeEntry}
 use Rattle.placing.specs.declared.Extent.{Extent}
 
--- After t thresholds: where the terms end, the terms in their two arrays, the marks in the scratch and the heads of their classes.
+-- After t thresholds: where the terms end, the terms in their two arrays, the marks in the scratch and the first row of each class.
 pub record Placing (r : RawLists) (t : ℕ) (so : Extent) (cs ws scratch heads : List ℕ) : Type 0 where
   pub end : so .end ≡ length (joinAll (termsTo r t))
   pub terms : Terms r t cs ws

@@ -1,30 +1,28 @@
 -- Laws of rows placed threshold by threshold.
-use Prim.Native.Nat.{ℕ, zero, suc, _+_, _-_, _%_, _<_, _≤_}
+use Prim.Native.Nat.{ℕ, zero, suc, _+_, _-_, _/_, _%_, _<_, _≤_}
 use native.Mathlib.Numerals.{add-one}
 use native.Mathlib.Omega.{arith}
 use mathlib.Core.Path.{_≡_, refl, sym, ap, ap₂, _∙_, subst}
 use mathlib.Core.Bool.{Bool, true, false, cond}
 use mathlib.Core.List.{List, [], _∷_, _++_, map, map-append, append-assoc, append-nil}
 use lib.ListN.{length, take, drop, getD, set, replicate, length-append, length-set, length-map}
-use lib.Seq.{length-take-le, drop-cons, set-at, drop-drop, drop-set-lt, take-suc-set}
+use lib.Seq.{length-take-le, getD-take, drop-cons, set-at, drop-drop, drop-set-lt, take-suc-set}
 use lib.Dec.{ltb}
 use borrow.Author.Tests.{ltb-true, ltb-false, lt-ltb, le-ltb}
-use Rattle.base.specs.TestLaws.{unequal}
 use Rattle.memory.specs.Limits.{maxThresholds}
 use Rattle.base.specs.Parts.{endBy, startBy}
 use Rattle.base.specs.Laid.{over, joinAll, ends}
 use Rattle.numeric.specs.Threshold.{Term}
 use Rattle.row.specs.Terms.{rowTerms}
 use Rattle.row.specs.Keys.{laid, conditionsOf, weightsOf}
-use Rattle.thresholds.specs.declared.Found.the-variants.{At, Nothing}
+use Rattle.thresholds.specs.declared.Found.the-variants.{At, Free}
 use Rattle.memory.specs.Buffers.{RawLists}
-use Rattle.thresholds.specs.Raw.{fingerprint, foundOf}
+use Rattle.thresholds.specs.Raw.{fingerprint}
 use Rattle.job.specs.Shared.{numberIn, rawsTo, rowTo, termsTo, rowEntry, nodesTo}
 use Rattle.rows.specs.Lists.{listAt, Lists}
-use Rattle.thresholds.specs.RawLaws.{found-is, found-none}
 use Rattle.job.specs.RowsLaws.{number-most}
-use Rattle.thresholds.specs.Chain.{nextIn, printIn, markedList, classOf, Marked, Headed, classCount}
-use Rattle.thresholds.specs.ChainLaws.{class-small, marked-one, headed-one, headed-none, length-marked}
+use Rattle.thresholds.specs.Tree.{shorts, linkIn, printIn, markedList, classOf, Marked, Treed, Came, Finds, linkedMarks, linkedHeads, classCount}
+use Rattle.thresholds.specs.TreeLaws.{marked-one, treed-one, treed-none, length-marked, length-marks, linked-take, linked-drop, linked-lists, link-there}
 use Rattle.thresholds.specs.Placed.{spliced, Marks}
 use Rattle.thresholds.specs.PlacedLaws.{laid-behind, drop-replicate}
 use Rattle.placing.specs.declared.Extent.{Extent}
@@ -94,21 +92,11 @@ module _ (r : RawLists) (t : ℕ) (ms : List ℕ) (e : map (markedList r) ms ≡
   number-is : numberIn (map (markedList r) ms) (listAt r t) ≡ rowTo r t
   number-is = ap (λ (ls : List (List Term)). numberIn ls (listAt r t)) e
 
-  pub found-old : (k : ℕ) → foundOf (numberIn (map (markedList r) ms) (listAt r t)) (length ms) ≡ At k → (k ≡ rowTo r t) × (rowTo r t < length (rawsTo r t))
-  found-old k q = (found-is (numberIn (map (markedList r) ms) (listAt r t)) (length ms) k q ∙ number-is, below (numberIn (map (markedList r) ms) (listAt r t)) (length ms) number-is long-marks q)
-    where
-      below : (n m : ℕ) → n ≡ rowTo r t → m ≡ length (rawsTo r t) → foundOf n m ≡ At k → rowTo r t < length (rawsTo r t)
-      below n m a b q = by (ltb n m) refl
-        where
-          by : (c : Bool) → ltb n m ≡ c → rowTo r t < length (rawsTo r t)
-          by true f = let g = ltb-true n m f in omega arith
-          by false f = absurd (let h = rw f at q in unequal cc)
+  pub found-old : (heads : List ℕ) (k : ℕ) → Finds r ms heads (listAt r t) (At k) → (k ≡ rowTo r t) × (rowTo r t < length (rawsTo r t))
+  found-old heads k q = let n = q .0 in let h = q .1 in let i = number-is in let l = long-marks in (n ∙ i, omega arith)
 
-  pub found-new : foundOf (numberIn (map (markedList r) ms) (listAt r t)) (length ms) ≡ Nothing → rowTo r t ≡ length (rawsTo r t)
-  found-new q =
-      let h = number-most (map (markedList r) ms) (listAt r t) in
-      let l = length-marked r ms in
-      sym number-is ∙ sym (found-none (numberIn (map (markedList r) ms) (listAt r t)) (length ms) (omega arith) q) ∙ long-marks
+  pub found-new : (heads : List ℕ) (a : ℕ) → Finds r ms heads (listAt r t) (Free a) → rowTo r t ≡ length (rawsTo r t)
+  found-new heads a q = sym number-is ∙ q .0 ∙ long-marks
 
 -- ---- marks
 
@@ -123,24 +111,46 @@ module _ (r : RawLists) (t rows : ℕ) (scratch heads : List ℕ) (k : Marks r t
       sym (drop-drop (maxThresholds - rows) rows scratch ∙ ap (λ (n : ℕ). drop n scratch) e) ∙ ap (drop (maxThresholds - rows)) (k .clear) ∙ drop-replicate (maxThresholds - rows) (length scratch - rows)
       ∙ ap (λ (n : ℕ). replicate n 0) (let q : length scratch - rows - (maxThresholds - rows) ≡ length scratch - maxThresholds = omega arith in q)
 
-  marks-new : (m : ℕ) → rows < length scratch → m % maxThresholds ≡ t → printIn m ≡ fingerprint (listAt r t) → nextIn m ≡ getD heads (classOf (printIn m)) 0
-      → t < length (r .thresholds) → rowTo r t ≡ rows → Marks r (t + 1) (rows + 1) (set scratch rows m) (set heads (classOf (printIn m)) (rows + 1))
-  marks-new m h e p c g n =
+  -- Its mark m, and the link a at which it is found from now on.
+  marks-new : (m a : ℕ) → rows < length scratch → rows < maxThresholds → m % maxThresholds ≡ t → printIn m ≡ fingerprint (listAt r t) % shorts → ((s : ℕ) → linkIn s m ≡ 0)
+      → Came r (take rows scratch) heads (listAt r t) a 0 → t < length (r .thresholds) → rowTo r t ≡ rows
+      → Marks r (t + 1) (rows + 1) (set (linkedMarks a (rows + 1) scratch) rows m) (linkedHeads a (classOf (fingerprint (listAt r t))) (rows + 1) heads)
+  marks-new m a h u e p z c g n =
       let i = n ∙ k .many in
-      let l = length-take-le rows scratch (omega arith) in
-      let f : take (rows + 1) (set scratch rows m) ≡ take rows scratch ++ (m ∷ []) = ap (λ (j : ℕ). take j (set scratch rows m)) (add-one rows) ∙ take-suc-set scratch rows m h in
+      let v = rows + 1 in
+      let ms = take rows scratch in
+      let x = listAt r t in
+      let l : length ms ≡ rows = length-take-le rows scratch (omega arith) in
+      let ev : v ≡ suc (length ms) = omega arith in
+      let there : 0 < a → a / 3 - 1 < rows = λ o. subst (λ (n : ℕ). a / 3 - 1 < n) l (link-there r ms heads x a 0 c o) in
+      let long = length-marks a v scratch in
+      let f : take (rows + 1) (set (linkedMarks a v scratch) rows m) ≡ linkedMarks a v ms ++ (m ∷ []) =
+      ap (λ (j : ℕ). take j (set (linkedMarks a v scratch) rows m)) (add-one rows) ∙ take-suc-set (linkedMarks a v scratch) rows m (omega arith)
+      ∙ ap (λ (l : List ℕ). l ++ (m ∷ [])) (linked-take a v rows scratch there) in
       record {
         many = ap (λ (j : ℕ). j + 1) (k .many) ∙ sym (ap length (raws-new r t i) ∙ length-append (rawsTo r t) (listAt r t ∷ []));
         marked = subst (λ (l : List ℕ). Marked r (length (r .thresholds)) l) (sym f)
-            (marked-one r (length (r .thresholds)) (take rows scratch) m (k .marked) (omega arith) (p ∙ ap (λ (j : ℕ). fingerprint (listAt r j)) (sym e))
-            (c ∙ k .headed .each (classOf (printIn m)) (class-small (printIn m))));
-        named = ap (map (markedList r)) f ∙ map-append (markedList r) (take rows scratch) (m ∷ [])
-            ∙ ap₂ (λ (ls : List (List Term)) (j : ℕ). ls ++ (listAt r j ∷ [])) (k .named) e ∙ sym (raws-new r t i);
-        clear = drop-set-lt (rows + 1) scratch rows m (omega arith) ∙ sym (drop-drop 1 rows scratch) ∙ ap (drop 1) (k .clear) ∙ drop-replicate 1 (length scratch - rows)
-            ∙ ap (λ (j : ℕ). replicate j 0) (let q = length-set scratch rows m in let u : length scratch - rows - 1 ≡ length (set scratch rows m) - (rows + 1) = omega arith in u);
-        headed = subst (λ (l : List ℕ). Headed l (set heads (classOf (printIn m)) (rows + 1))) (sym f)
-            (headed-one (take rows scratch) heads m (rows + 1) (k .headed) (ap (λ (j : ℕ). j + 1) (sym l)));
+            (marked-one r ms heads x a v m (k .treed) c ev (omega arith) (length (r .thresholds)) (k .marked) (omega arith) (p ∙ ap (λ (j : ℕ). fingerprint (listAt r j) % shorts) (sym e)));
+        named = ap (map (markedList r)) f ∙ map-append (markedList r) (linkedMarks a v ms) (m ∷ [])
+            ∙ ap₂ (λ (ls : List (List Term)) (j : ℕ). ls ++ (listAt r j ∷ [])) (linked-lists r a v ms ∙ k .named) e ∙ sym (raws-new r t i);
+        clear = drop-set-lt (rows + 1) (linkedMarks a v scratch) rows m (omega arith) ∙ linked-drop a v (rows + 1) scratch (λ o. let q = there o in omega arith)
+            ∙ sym (drop-drop 1 rows scratch) ∙ ap (drop 1) (k .clear) ∙ drop-replicate 1 (length scratch - rows)
+            ∙ ap (λ (j : ℕ). replicate j 0) (let q = length-set (linkedMarks a v scratch) rows m in let u : length scratch - rows - 1 ≡ length (set (linkedMarks a v scratch) rows m) - (rows + 1) = omega arith in u);
+        treed = subst (λ (l : List ℕ). Treed r l (linkedHeads a (classOf (fingerprint x)) v heads)) (sym f)
+            (treed-one r ms heads x a v m (k .treed) c ev (omega arith) (ap (listAt r) e) z);
       }
+
+-- Nothing is at the link where a search ended.
+pub link-free : (r : RawLists) (heads : List ℕ) (x : List Term) (a n : ℕ) (scratch scratch′ : List ℕ) → Came r (take n scratch) heads x a 0 → n ≤ length scratch → scratch′ ≡ scratch
+    → 0 < a → (a / 3 - 1 < length scratch′) × (0 < a / 3) × (linkIn (a % 3) (getD scratch′ (a / 3 - 1) 0) ≡ 0)
+link-free r heads x a n scratch scratch′ c h e o =
+    let l = length-take-le n scratch h in
+    let u = link-there r (take n scratch) heads x a 0 c o in
+    let f = ap length e in (
+      omega arith,
+      c .under o .some,
+      ap (λ (s : List ℕ). linkIn (a % 3) (getD s (a / 3 - 1) 0)) e ∙ ap (linkIn (a % 3)) (sym (getD-take n scratch (a / 3 - 1) 0 (omega arith))) ∙ c .under o .link,
+    )
 
 -- ---- one threshold more
 
@@ -157,7 +167,7 @@ module _ (r : RawLists) (t : ℕ) (so : Extent) (cs ws scratch heads : List ℕ)
           conditions = p .terms .conditions ∙ ap (λ (ls : List (List Term)). laid (length cs) (conditionsOf (joinAll (map (λ (l : List Term). rowTerms l) ls)))) e;
           weights = p .terms .weights ∙ ap (λ (ls : List (List Term)). laid (length ws) (weightsOf (joinAll (map (λ (l : List Term). rowTerms l) ls)))) e;
         };
-        marks = record { many = p .marks .many ∙ ap length e; marked = p .marks .marked; named = p .marks .named ∙ e; clear = p .marks .clear; headed = p .marks .headed };
+        marks = record { many = p .marks .many ∙ ap length e; marked = p .marks .marked; named = p .marks .named ∙ e; clear = p .marks .clear; treed = p .marks .treed };
       }
 
   -- A new row: x is its raw list, laid from a to e.
@@ -180,15 +190,15 @@ module _ (r : RawLists) (t : ℕ) (so : Extent) (cs ws scratch heads : List ℕ)
     end-new : so .end + length (rowTerms x) ≡ length (joinAll (termsTo r (t + 1)))
     end-new = ap₂ _+_ (p .end) (ap (λ (y : List Term). length (rowTerms y)) ex) ∙ sym (long-new r t new)
 
-    -- Its mark m holds the newest row of its class before it, and it is the newest now.
-    pub placing-new : (end m : ℕ) (cs′ ws′ scratch′ heads′ : List ℕ) → length (r .raw-conditions) ≤ length cs → length ws ≡ length cs → so .rows < length scratch
+    -- It is marked by m, and found at the link b from now on.
+    pub placing-new : (end m b : ℕ) (cs′ ws′ scratch′ heads′ : List ℕ) → length (r .raw-conditions) ≤ length cs → length ws ≡ length cs → so .rows < length scratch → so .rows < maxThresholds
         → end ≡ so .end + length (rowTerms x)
         → length cs′ ≡ length cs → cs′ ≡ spliced (so .end) (e - a) cs (laid (e - a) (conditionsOf (rowTerms x)))
         → length ws′ ≡ length ws → ws′ ≡ spliced (so .end) (e - a) ws (laid (e - a) (weightsOf (rowTerms x)))
-        → m % maxThresholds ≡ t → printIn m ≡ fingerprint (listAt r t) → nextIn m ≡ getD heads (classOf (printIn m)) 0 → scratch′ ≡ scratch
-        → heads′ ≡ set heads (classOf (printIn m)) (so .rows + 1)
+        → m % maxThresholds ≡ t → printIn m ≡ fingerprint (listAt r t) % shorts → ((s : ℕ) → linkIn s m ≡ 0) → Came r (take (so .rows) scratch) heads (listAt r t) b 0
+        → scratch′ ≡ linkedMarks b (so .rows + 1) scratch → heads′ ≡ linkedHeads b (classOf (fingerprint (listAt r t))) (so .rows + 1) heads
         → Placing r (t + 1) (extent (so .rows + 1) end) cs′ ws′ (set scratch′ (so .rows) m) heads′
-    placing-new end m cs′ ws′ scratch′ heads′ room even some q kc ec kw ew mt mp mn es eh =
+    placing-new end m b cs′ ws′ scratch′ heads′ room even some few q kc ec kw ew mt mp mz mc es eh =
         record {
           end = q ∙ end-new;
           terms = record {
@@ -196,8 +206,8 @@ module _ (r : RawLists) (t : ℕ) (so : Extent) (cs ws scratch heads : List ℕ)
             weights = laid-new (λ (t : Term). t .weight) ws ws′ (p .terms .weights) (omega arith) kw ew;
           };
           marks = subst (λ (z : List ℕ). Marks r (t + 1) (so .rows + 1) (set z (so .rows) m) heads′) (sym es)
-              (subst (λ (z : List ℕ). Marks r (t + 1) (so .rows + 1) (set scratch (so .rows) m) z) (sym eh)
-              (marks-new r t (so .rows) scratch heads (p .marks) m some mt mp mn h n));
+              (subst (λ (z : List ℕ). Marks r (t + 1) (so .rows + 1) (set (linkedMarks b (so .rows + 1) scratch) (so .rows) m) z) (sym eh)
+              (marks-new r t (so .rows) scratch heads (p .marks) m b some few mt mp mz mc h n));
         }
 
 -- Where a next row would go there is room, in the rows and among the marks.
@@ -272,10 +282,10 @@ placing-start r cs ws scratch heads a b c d l = record {
   terms = record { conditions = blank cs a; weights = blank ws b };
   marks = record {
     many = refl;
-    marked = record { first = λ k h. absurd (omega arith); print = λ k h. absurd (omega arith); next = λ k h. absurd (omega arith) };
+    marked = record { first = λ k h. absurd (omega arith); print = λ k h. absurd (omega arith) };
     named = refl;
     clear = blank scratch c;
-    headed = headed-none (take 0 scratch) heads refl l d;
+    treed = treed-none r (take 0 scratch) heads refl l d;
   };
 }
   where

@@ -1,13 +1,13 @@
 // Rows placed one threshold after the other: each finds a row with its raw list, or makes one.
 ghost use mathlib.Core.Path.{_≡_};
-ghost use Prim.Native.Nat.{_+_, _<_, _≤_};
-ghost use lib.ListN.{length, set, getD};
+ghost use Prim.Native.Nat.{_+_, _-_, _/_, _%_, _<_, _≤_};
+ghost use lib.ListN.{length, take, set, getD};
 ghost use Rattle.base.specs.Laid.{over};
 ghost use Rattle.rows.specs.Guards.{nodeAt, NodesIn};
 ghost use Rattle.memory.specs.Buffers.{rawLists};
 ghost use Rattle.thresholds.specs.Raw.{prints, fingerprint};
 ghost use Rattle.rows.specs.Lists.{listAt};
-ghost use Rattle.thresholds.specs.Chain.{classOf};
+ghost use Rattle.thresholds.specs.Tree.{linkIn, classOf, Came, linkedMarks, linkedHeads};
 ghost use Rattle.job.specs.Shared.{rowTo, rowEntry, nodeEntry, nodesTo};
 ghost use Rattle.placing.specs.Place.{Placing, Ready, Blank, rowEnds, nodesNext, rowsNext};
 use rows::end_of;
@@ -19,9 +19,10 @@ use thresholds::build_at;
 use thresholds::class_of;
 use thresholds::find_row;
 use thresholds::print_of;
+use thresholds::with_link;
 
-// How many fingerprints there are.
-const PRINTS: u64 = 4294967296;
+// How many short prints there are.
+const SHORTS: u64 = 2097152;
 
 // How many rows there are, and where their terms end.
 pub struct Extent {
@@ -39,15 +40,20 @@ fn enter_node(thresholds: &[[u16; 2]], t: usize, row: usize, nodes: &mut [[u16; 
     nodes[node] = entry;
 }
 
-// The row becomes the newest of the class of its fingerprint: the newest before it, both counted from 1.
-fn link_row(print: u64, row: usize, heads: &mut [u16]) -> u64
-    requires { ⌜ (print < prints) × (row < 1024) × (1024 ≤ length (now heads)) ⌝ }
-    ensures { λ r. ⌜ (r ≡ getD (now (heads .entry)) (classOf print) 0) × (r < 65536) × (now (heads .exit) ≡ set (now (heads .entry)) (classOf print) (row + 1)) ⌝ }
+// The row is put at the link where the search for its list ended: at the head of its class, or at a side of another row's mark.
+fn link_row(print: u64, link: usize, row: usize, heads: &mut [u16], marks: &mut [u64])
+    requires { ⌜ (print < prints) × (row < 1024) × (1024 ≤ length (now heads))
+        × (0 < link → (link / 3 - 1 < length (now marks)) × (0 < link / 3) × (linkIn (link % 3) (getD (now marks) (link / 3 - 1) 0) ≡ 0)) ⌝ }
+    ensures { λ _. ⌜ (now (heads .exit) ≡ linkedHeads link (classOf print) (row + 1) (now (heads .entry)))
+        × (now (marks .exit) ≡ linkedMarks link (row + 1) (now (marks .entry))) ⌝ }
 {
-    let class = class_of(print);
-    let next = place(heads[class]);
-    heads[class] = (row + 1) as u16;
-    next as u64
+    if link == 0 {
+        let class = class_of(print);
+        heads[class] = (row + 1) as u16;
+        return;
+    }
+    let at = link / 3 - 1;
+    marks[at] = with_link(marks[at], link % 3, row + 1);
 }
 
 // The raw list of threshold t makes the next row: its terms behind the others, their end, and the mark by which the list is found again.
@@ -57,6 +63,7 @@ fn add_row(
     thresholds: &[[u16; 2]],
     t: usize,
     print: u64,
+    link: usize,
     so: Extent,
     row_conditions: &mut [u16],
     row_weights: &mut [u64],
@@ -67,7 +74,9 @@ fn add_row(
     requires { ⌜ (Ready (rawLists (now «raw_conditions») (now «raw_weights») (now thresholds)) (now «row_conditions») (now «row_weights») (now rows) (now scratch))
         × (t < length (now thresholds)) × (print ≡ fingerprint (listAt (rawLists (now «raw_conditions») (now «raw_weights») (now thresholds)) t))
         × (Placing (rawLists (now «raw_conditions») (now «raw_weights») (now thresholds)) t so (now «row_conditions») (now «row_weights») (now scratch) (now heads))
-        × (rowTo (rawLists (now «raw_conditions») (now «raw_weights») (now thresholds)) t ≡ so .rows) ⌝ }
+        × (rowTo (rawLists (now «raw_conditions») (now «raw_weights») (now thresholds)) t ≡ so .rows)
+        × (Came (rawLists (now «raw_conditions») (now «raw_weights») (now thresholds)) (take (so .rows) (now scratch)) (now heads)
+        (listAt (rawLists (now «raw_conditions») (now «raw_weights») (now thresholds)) t) link 0) ⌝ }
     ensures { λ r. ⌜ (Placing (rawLists (now («raw_conditions» .entry)) (now («raw_weights» .entry)) (now (thresholds .entry))) (t + 1) r
         (now («row_conditions» .exit)) (now («row_weights» .exit)) (now (scratch .exit)) (now (heads .exit)))
         × (now (rows .exit) ≡ set (now (rows .entry)) (so .rows) (rowEntry (r .end))) ⌝ }
@@ -88,8 +97,8 @@ fn add_row(
     );
     let entry = [end as u16, 0, 0];
     rows[row] = entry;
-    let next = link_row(print, row, heads);
-    scratch[row] = (next * PRINTS + print) * 1024 + t as u64;
+    link_row(print, link, row, heads, scratch);
+    scratch[row] = print % SHORTS * 1024 + t as u64;
     Extent {
         rows: row + 1,
         end: end,
@@ -134,7 +143,7 @@ fn place_one(
             enter_node(thresholds, t, row, nodes);
             so
         }
-        Found::Nothing => {
+        Found::Free(link) => {
             enter_node(thresholds, t, count, nodes);
             add_row(
                 raw_conditions,
@@ -142,6 +151,7 @@ fn place_one(
                 thresholds,
                 t,
                 print,
+                link,
                 so,
                 row_conditions,
                 row_weights,
@@ -153,7 +163,7 @@ fn place_one(
     }
 }
 
-// All thresholds, in their order. The marks of the rows stay in the scratch, the newest row of each class in the heads.
+// All thresholds, in their order. The marks of the rows stay in the scratch, the first row of each class in the heads.
 pub fn place_rows(
     raw_conditions: &[u16],
     raw_weights: &[u64],

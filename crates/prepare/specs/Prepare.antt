@@ -4,7 +4,7 @@ use mathlib.Core.Path.{_≡_}
 use mathlib.Core.List.{List, _++_, map, []}
 use lib.ListN.{length, getD, take, drop, replicate}
 use lib.IntN.{ℤ}
-use Rattle.thresholds.specs.Chain.{classCount}
+use Rattle.thresholds.specs.Tree.{classCount}
 use Rattle.memory.specs.Limits.{maxThresholds}
 use Rattle.base.specs.Laid.{over, joinAll, ends}
 use Rattle.base.specs.Deal.{Keyed, grouped}

@@ -7,7 +7,7 @@ use mathlib.Core.List.{List, [], _∷_, _++_, map}
 use lib.ListN.{length, getD, take, drop, replicate, length-map, length-replicate, List·getD-eq-default}
 use lib.Seq.{length-take-le, take-at, drop-at}
 use lib.IntN.{ℤ}
-use Rattle.thresholds.specs.Chain.{classCount}
+use Rattle.thresholds.specs.Tree.{classCount}
 use Rattle.memory.specs.Limits.{maxThresholds}
 use Rattle.base.specs.Laid.{over, joinAll, ends, triples, numbers}
 use Rattle.base.specs.Deal.{Keyed, grouped}

@@ -1,6 +1,6 @@
 pub mod Raw
 pub mod RawLaws
-pub mod Chain
+pub mod Tree
 pub mod Placed
 pub mod PlacedLaws
-pub mod ChainLaws
+pub mod TreeLaws

@@ -1,12 +1,8 @@
--- Raw lists told apart: their fingerprints, and the place of a list among others.
+-- The fingerprints by which raw lists are told apart.
 use Prim.Native.Nat.{ℕ, _+_, _*_, _^_, _%_}
-use mathlib.Core.Bool.{cond}
 use mathlib.Core.List.{List, [], _∷_}
 use lib.ListN.{length}
-use lib.Dec.{ltb}
 use Rattle.numeric.specs.Threshold.{Term}
-use Rattle.thresholds.specs.declared.Found.{Found}
-use Rattle.thresholds.specs.declared.Found.the-variants.{At, Nothing}
 
 -- A number made of a raw list: lists with different numbers differ. There are so many.
 abbrev pub prints : ℕ
@@ -18,6 +14,3 @@ mixed h (t ∷ ts) = mixed ((h * 65599 + t .condition * 257 + t .weight) % print
 
 unfoldable pub fingerprint : List Term → ℕ
 fingerprint ts = mixed (length ts) ts
-
-abbrev pub foundOf : ℕ → ℕ → Found
-foundOf n rows = cond (ltb n rows) (At n) Nothing

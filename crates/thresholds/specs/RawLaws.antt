@@ -1,18 +1,14 @@
 -- Laws of raw lists in two parallel slices, read place by place, and of the search among lists.
 use Prim.Native.Nat.{ℕ, _+_, _*_, _%_, _<_, _≤_}
-use native.Mathlib.Nat.{le-refl}
-use native.Mathlib.Omega.{arith}
-use mathlib.Core.Path.{_≡_, refl, sym, ap, _∙_}
-use mathlib.Core.Bool.{Bool, true, false, _&&_, cond}
+use mathlib.Core.Path.{_≡_, sym, ap, _∙_}
+use mathlib.Core.Bool.{Bool, true, false, _&&_}
 use mathlib.Core.List.{List}
 use lib.ListN.{length, drop, getD}
-use lib.Dec.{eqb, ltb}
-use borrow.Author.Tests.{eq-eqb, ne-eqb, lt-ltb, le-ltb, ltb-false}
-use Rattle.base.specs.TestLaws.{unequal}
+use lib.Dec.{eqb}
+use borrow.Author.Tests.{eq-eqb, ne-eqb}
 use Rattle.numeric.specs.Slices.{terms}
 use Rattle.row.specs.Terms.{sameTerms}
-use Rattle.thresholds.specs.declared.Found.the-variants.{At, Nothing}
-use Rattle.thresholds.specs.Raw.{prints, mixed, fingerprint, foundOf}
+use Rattle.thresholds.specs.Raw.{prints, mixed, fingerprint}
 use Rattle.rows.specs.ListsLaws.{length-terms, terms-done, terms-next}
 
 -- ---- two lists compared
@@ -58,29 +54,3 @@ mixed-done cs ws h i a = rw (terms-done cs ws i a, mixed)
 pub fingerprint-of : (cs ws : List ℕ) → length ws ≡ length cs → mixed (length cs) (terms cs ws) ≡ fingerprint (terms cs ws)
 unfolding fingerprint
 fingerprint-of cs ws h = ap (λ (n : ℕ). mixed n (terms cs ws)) (sym (length-terms cs ws h))
-
--- ---- what a search finds
-
-pub found-at : (n k m : ℕ) → n ≡ k → k < m → foundOf n m ≡ At k
-found-at n k m e h = rw (e, lt-ltb k m h)
-
-pub found-nothing : (n m : ℕ) → n ≡ m → foundOf n m ≡ Nothing
-found-nothing n m e = rw (e, le-ltb m m (le-refl m))
-
--- ---- totals
-
--- ---- what was found
-
-pub found-is : (n m k : ℕ) → foundOf n m ≡ At k → k ≡ n
-found-is n m k e = by (ltb n m) e
-  where
-    by : (b : Bool) → cond b (At n) Nothing ≡ At k → k ≡ n
-    by true q = cc
-    by false q = absurd (unequal cc)
-
-pub found-none : (n m : ℕ) → n ≤ m → foundOf n m ≡ Nothing → m ≡ n
-found-none n m h e = by (ltb n m) refl
-  where
-    by : (b : Bool) → ltb n m ≡ b → m ≡ n
-    by true q = absurd (let r = rw q at e in unequal cc)
-    by false q = let r = ltb-false n m q in omega arith

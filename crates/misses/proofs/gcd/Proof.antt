@@ -1,4 +1,4 @@
--- `misses::gcd` meets its contract: what is nothing to divide, the table, and the loop, which keeps the gcd of its two numbers while the
+-- `misses::gcd` meets its contract: the table, what is nothing to divide, and the loop, which keeps the gcd of its two numbers while the
 -- right one falls.
 use Prim.Native.Nat.{ℕ}
 use native.Mathlib.Omega.{arith}
@@ -6,7 +6,7 @@ use native.Mathlib.Nat.{mod-lt}
 use mathlib.Core.Path.{_≡_, refl, sym, ap, _∙_}
 use borrow.Author.Needs.{needs}
 use Rattle.divisors.specs.Gcd.{gcd}
-use Rattle.divisors.specs.GcdLaws.{gcd-none, gcd-same, gcd-zero, gcd-step, gcd-one, one-gcd, gcd-multiple}
+use Rattle.divisors.specs.GcdLaws.{gcd-none, gcd-zero, gcd-step, gcd-multiple}
 use Rattle.misses.proofs.gcd.Statement.{statement}
 use Rattle.misses.proofs.gcd.Tie as tie
 
@@ -16,33 +16,18 @@ Inv-loop left right a₀ b₀ a b = gcd a b ≡ gcd left right
 abbrev μ-loop : tie.MeasureT-loop
 μ-loop left right a₀ b₀ a b = b
 
-returns : tie.Need-returns Inv-loop μ-loop
-returns c =
-    let g = c .before .args in
-    sym (ap (λ (x : ℕ). gcd x (g .right)) (c .if1 .taken) ∙ gcd-none (g .right))
-
 returns-2 : tie.Need-returns-2 Inv-loop μ-loop
 returns-2 c =
     let g = c .before .before .args in
-    sym (ap (λ (x : ℕ). gcd x (g .right)) (c .if2 .taken) ∙ gcd-same (g .right))
+    sym (ap (λ (x : ℕ). gcd x (g .right)) (c .if3 .taken) ∙ gcd-none (g .right))
+
+rem-if4 : tie.Need-rem-if4 Inv-loop μ-loop
+rem-if4 c = omega arith
 
 returns-3 : tie.Need-returns-3 Inv-loop μ-loop
 returns-3 c =
     let g = c .before .before .before .args in
-    sym (ap (λ (x : ℕ). gcd x (g .right)) (c .if3 .taken) ∙ one-gcd (g .right))
-
-returns-4 : tie.Need-returns-4 Inv-loop μ-loop
-returns-4 c =
-    let g = c .before .before .before .before .args in
-    sym (ap (gcd (g .left)) (c .if4 .taken) ∙ gcd-one (g .left))
-
-rem-if5 : tie.Need-rem-if5 Inv-loop μ-loop
-rem-if5 c = omega arith
-
-returns-5 : tie.Need-returns-5 Inv-loop μ-loop
-returns-5 c =
-    let g = c .before .before .before .before .before .args in
-    sym (gcd-multiple (g .left) (g .right) (c .if5 .taken))
+    sym (gcd-multiple (g .left) (g .right) (c .if4 .taken))
 
 loop-holds : tie.Need-loop-holds Inv-loop μ-loop
 loop-holds c = refl
@@ -58,8 +43,8 @@ loop-again c =
     let w = c .before .loop in
     sym (gcd-step (w .a) (w .b) (omega arith)) ∙ w .inv
 
-returns-7 : tie.Need-returns-7 Inv-loop μ-loop
-returns-7 c =
+returns-4 : tie.Need-returns-4 Inv-loop μ-loop
+returns-4 c =
     let w = c .before .loop in
     sym (gcd-zero (w .a)) ∙ ap (gcd (w .a)) (sym (c .loop-test .left)) ∙ w .inv
 
@@ -67,5 +52,4 @@ pub gcd-spec : {M : Type 1} → statement M
 gcd-spec =
     tie.close
     (tie.spec
-    Inv-loop μ-loop returns returns-2 returns-3 returns-4 rem-if5 returns-5 (λ c κs. search needs) (λ c. search needs) loop-holds rem-remainder
-    loop-less loop-again returns-7)
+    Inv-loop μ-loop (λ c κs. search needs) (λ c. search needs) returns-2 rem-if4 returns-3 loop-holds rem-remainder loop-less loop-again returns-4)

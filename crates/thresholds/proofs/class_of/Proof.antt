@@ -1,5 +1,5 @@
 -- `thresholds::class_of` meets its contract. Assumes nothing.
-use Rattle.thresholds.specs.ChainLaws.{class-is, class-under}
+use Rattle.thresholds.specs.TreeLaws.{class-is, class-under}
 use native.Mathlib.Omega.{arith}
 use Rattle.thresholds.proofs.class_of.Statement.{statement}
 use Rattle.thresholds.proofs.class_of.Tie as tie

@@ -1,12 +1,13 @@
 -- `thresholds::is_marked` meets its contract. Assumes nothing.
 use Rattle.base.specs.Parts.{endBy, startBy}
 use Rattle.rows.specs.ListsLaws.{list-is}
-use Rattle.thresholds.specs.ChainLaws.{prints-differ}
+use Rattle.thresholds.specs.TreeLaws.{prints-differ}
+use Rattle.thresholds.specs.Tree.{shorts}
 use Rattle.memory.specs.Buffers.{rawLists}
 use Rattle.rows.specs.Lists.{listAt}
 use Rattle.row.specs.Terms.{sameTerms}
-use mathlib.Core.Path.{_≡_, sym, ap₂, _∙_}
-use Prim.Native.Nat.{_%_}
+use mathlib.Core.Path.{_≡_, sym, ap, ap₂, _∙_}
+use Prim.Native.Nat.{ℕ, _%_}
 use native.Mathlib.Omega.{arith}
 use borrow.Author.Needs.{needs}
 use Rattle.thresholds.proofs.is_marked.Statement.{statement}
@@ -21,7 +22,7 @@ returns : tie.Need-returns
 returns c = let g = c .before .before .before .args in
     let p = c .before .before .before .pre in
     let r = rawLists (g .raw-conditions .now) (g .raw-weights .now) (g .thresholds .now) in
-    sym (prints-differ r (g .mark) (listAt r (g .t)) (p .3) (λ e. c .if1 .taken (e ∙ sym (p .4))))
+    sym (prints-differ r (g .mark) (listAt r (g .t)) (p .3) (λ e. c .if1 .taken (e ∙ ap (λ (n : ℕ). n % shorts) (sym (p .4)))))
 
 same-stretch-requires : tie.Need-same-stretch-requires
 same-stretch-requires c κs = let g = to-start c .args in
