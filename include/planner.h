@@ -125,8 +125,9 @@ struct planner_given planner_run(
     uint16_t (*row_queues)[4], size_t row_queues_length,
     uint16_t (*answers)[2], size_t answers_length);
 
-/* THE LISTING of a job file, as bytes of text from the start of `out`: how many there are. Nothing is written and 0 is given back if `out` has
-   fewer than PLANNER_LISTING bytes. The file is planned for it, over buffers of the call's own: some 460 KB of stack. */
+/* THE LISTING of a job file, as bytes of text from the start of `out`: how many there are. The bytes after them stay as they were. Nothing is
+   written and 0 is given back if `out` has fewer than PLANNER_LISTING bytes. The file is planned for it, over buffers of the call's own: some
+   460 KB of stack. */
 size_t planner_list(const uint8_t *input, size_t input_length, uint8_t *out, size_t out_length);
 
 /* All buffers at their listed lengths, and what they hold after the call; unused places are 0. A row is a list of terms that thresholds
