@@ -50,9 +50,9 @@ one-plan false read input h (rest, e) =
     planned-long input (omega arith) ∙ sym (planned-long read k)
 
 -- So its listing and its notice are those of what was read.
-module _ (ended : Bool) (read : List ℕ) (long : ended ≡ false → longestInput < length read) {before after : List ℕ} {r : Planned} (room : maxListing ≤ length before) (p : Plans read before after r) where
+module _ (ended : Bool) (read : List ℕ) (long : ended ≡ false → longestInput < length read) (before after : List ℕ) (r : Planned) (room : maxListing ≤ length before) (p : Plans read before after r) where
   pub prints : (input : List ℕ) → CanBe ended read input → take (r .length) after ≡ listing (planned input)
-  prints input c = plans-listed room p ∙ ap listing (sym (one-plan ended read input long c))
+  prints input c = plans-listed read before after r room p ∙ ap listing (sym (one-plan ended read input long c))
 
   pub tells : (text : List ℕ) → text ≡ notice (r .given) → (input : List ℕ) → CanBe ended read input → text ≡ notice (givenOf (planned input))
-  tells text e input c = e ∙ ap notice (plans-given room p ∙ ap givenOf (sym (one-plan ended read input long c)))
+  tells text e input c = e ∙ ap notice (plans-given read before after r room p ∙ ap givenOf (sym (one-plan ended read input long c)))

@@ -76,7 +76,7 @@ pub plans-short : (input out : List ℕ) (r : Planned) → length out < maxListi
 plans-short input out r h e = ap (λ (p : Planned). report p out) e ∙ sym (reported-by input out false (lt-leb maxListing (length out) h))
 
 -- What a plan with room for its listing gives.
-module _ {input before after : List ℕ} {r : Planned} (room : maxListing ≤ length before) (p : Plans input before after r) where
+module _ (input before after : List ℕ) (r : Planned) (room : maxListing ≤ length before) (p : Plans input before after r) where
   made : report r after ≡ ways input before true
   made = p ∙ reported-room input before room
 
