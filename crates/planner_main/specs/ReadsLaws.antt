@@ -4,10 +4,10 @@ use native.Mathlib.Omega.{arith}
 use mathlib.Core.Path.{_≡_, refl, sym, ap, _∙_, subst}
 use mathlib.Core.Bool.{Bool, true, false}
 use mathlib.Core.List.{List, [], _++_}
-use lib.ListN.{length, take, length-append}
-use lib.Seq.{length-take-le}
-use lib.Dec.{ltb}
-use borrow.Author.Tests.{lt-ltb}
+use lib.ListN.{length, take, drop, replicate, length-append, length-replicate}
+use lib.Seq.{take-at}
+use lib.Dec.{leb}
+use borrow.Author.Tests.{leb-true, lt-ltb}
 use Rattle.memory.specs.Buffers.{longestInput}
 use Rattle.files.specs.declared.Given.{Given}
 use Rattle.files.specs.File.{Outcome, outcome, begun, fileOf, planned}
@@ -22,7 +22,7 @@ use Rattle.planner_main.specs.declared.Chunk.{Chunk}
 use Rattle.planner_main.specs.declared.Chunk.the-variants as Chunks
 use Rattle.planner_main.specs.declared.Input.{Input}
 use Rattle.planner_main.specs.declared.Input.the-variants as Inputs
-use Rattle.planner_main.specs.Reads.{Got, Reads, CanBe}
+use Rattle.planner_main.specs.Reads.{Got, Reads, CanBe, Prints, Tells}
 
 pub got-bytes : (room : ℕ) (k : Chunk) (n : ℕ) → k ≡ Chunks.Bytes n → Got room k → (0 < n) × (n ≤ room)
 got-bytes room k n e g = subst (Got room) e g
@@ -32,6 +32,14 @@ read-ended room k n e g = subst (Reads room) e g
 
 pub read-full : (room : ℕ) (k : Input) (n : ℕ) → k ≡ Inputs.Full n → Reads room k → n ≡ room
 read-full room k n e g = subst (Reads room) e g
+
+-- An array of zeros has room for as many as it has.
+pub zeros-room : (n m : ℕ) → leb m n ≡ true → m ≤ length (replicate {A = ℕ} n 0)
+zeros-room n m h = subst (λ (k : ℕ). m ≤ k) (sym (length-replicate {A = ℕ} n 0)) (leb-true m n h)
+
+-- A text that was written from the start of a buffer is its front.
+pub front : (size : ℕ) (before after : List ℕ) (r : ℕ) (text : List ℕ) → Wrote size before after 0 r text → take r after ≡ text
+front size before after r text w = ap (take r) (w .bytes) ∙ take-at text (drop (0 + length text) before) r (omega (arith, w .ended))
 
 -- Every input that is too long has one plan.
 planned-long : (x : List ℕ) → longestInput < length x → planned x ≡ outcome begun [] 10 0
@@ -51,8 +59,8 @@ one-plan false read input h (rest, e) =
 
 -- So its listing and its notice are those of what was read.
 module _ (ended : Bool) (read : List ℕ) (long : ended ≡ false → longestInput < length read) (before after : List ℕ) (r : Planned) (room : maxListing ≤ length before) (p : Plans read before after r) where
-  pub prints : (input : List ℕ) → CanBe ended read input → take (r .length) after ≡ listing (planned input)
+  pub prints : Prints ended read (take (r .length) after)
   prints input c = plans-listed read before after r room p ∙ ap listing (sym (one-plan ended read input long c))
 
-  pub tells : (text : List ℕ) → text ≡ notice (r .given) → (input : List ℕ) → CanBe ended read input → text ≡ notice (givenOf (planned input))
+  pub tells : (text : List ℕ) → text ≡ notice (r .given) → Tells ended read text
   tells text e input c = e ∙ ap notice (plans-given read before after r room p ∙ ap givenOf (sym (one-plan ended read input long c)))

@@ -3,15 +3,11 @@
 ghost use Prim.Native.Nat.{_<_, _≤_};
 ghost use mathlib.Core.Path.{_≡_};
 ghost use mathlib.Core.Bool.{false};
-ghost use mathlib.Core.List.{List};
-ghost use Prim.Native.Nat.{ℕ};
 ghost use lib.ListN.{length};
 ghost use Rattle.memory.specs.Buffers.{longestInput};
-ghost use Rattle.files.specs.File.{planned};
-ghost use Rattle.files.specs.Contents.{givenOf};
-ghost use Rattle.files.specs.Listing.{maxListing, listing};
-ghost use Rattle.notice.specs.Notice.{maxNotice, notice};
-ghost use Rattle.planner_main.specs.Reads.{Got, Reads, CanBe};
+ghost use Rattle.files.specs.Listing.{maxListing};
+ghost use Rattle.notice.specs.Notice.{maxNotice};
+ghost use Rattle.planner_main.specs.Reads.{Got, Reads, Prints, Tells};
 use libc::STDERR_FILENO;
 use libc::STDIN_FILENO;
 use libc::STDOUT_FILENO;
@@ -66,14 +62,14 @@ fn read_input(into: &mut [u8]) -> Input
 
 // Hands a text to standard output: the listing of every input that can be.
 fn print(read: &[u8], ended: bool, text: &[u8]) -> bool
-    requires { ⌜ (input : List ℕ) → CanBe ended (now read) input → now text ≡ listing (planned input) ⌝ }
+    requires { ⌜ Prints ended (now read) (now text) ⌝ }
 {
     io::write_all(STDOUT_FILENO, text)
 }
 
 // Hands a text to standard error: the notice of every input that can be.
 fn tell(read: &[u8], ended: bool, text: &[u8])
-    requires { ⌜ (input : List ℕ) → CanBe ended (now read) input → now text ≡ notice (givenOf (planned input)) ⌝ }
+    requires { ⌜ Tells ended (now read) (now text) ⌝ }
 {
     io::write_all(STDERR_FILENO, text);
 }
