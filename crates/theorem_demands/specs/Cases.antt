@@ -108,7 +108,6 @@ Right (drains f n) =
     (File.planned (writtenAll all) .records ≡ all) × (File.after File.begun f .live .marks .nodes .ring .count ≡ n)
     × (Queues.isEmpty (File.after File.begun all .live .marks .nodes) ≡ true)
 Right (exhibits f ns t) = let o = File.planned (writtenAll f) in (Least.leastNodes (o .file .closed) ≡ ns) × (listing o ≡ text t)
-
 -- read on after the refusal: all its records, each of which passes every check but 9, and a mark that was not taken
 Right (continues f t n) =
     let o = File.planned (writtenAll f) in

@@ -226,8 +226,8 @@ pub record ClauseA : Type 0 where
   -- what demands 2 and 3 say of a file they say of what the call gives and leaves in memory
   pub files : (input : List ℕ) (w : Work) → fits input w ≡ true → whole input w ≡ served (planned input) w
 
--- DEMAND 1 AND CLAUSE A ONCE MORE, of `plan`, to which the public call's contract is an equation: it is `whole` with the row states
--- lent as one more buffer, and each claim speaks of that buffer too.
+-- DEMAND 1 AND CLAUSE A ONCE MORE, of the public call's own definition: `plan` is `whole` with the row states lent as one more buffer,
+-- and each claim speaks of that buffer too.
 
 -- What the public call left, but for its refusal.
 abbrev pub acceptedLeft : Left → Left

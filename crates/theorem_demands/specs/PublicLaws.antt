@@ -111,9 +111,10 @@ fits-of-ten input states w h =
     (λ (e : fitsAll input states w ≡ false). e) (true-false (fitsAll input states w))
 
 pub ten : (input : List ℕ) (states : List State) (w : Work) → (plan input states w .out .given .refused ≡ 10) ↔ TooShort input states w
-ten input states w =
-    ((λ h. short-of input states w (fits-of-ten input states w h)),
-    λ h. ⊎-elim (λ (e : fitsAll input states w ≡ true). absurd (fits-not-short input states w e h)) (untouched-number input states w) (true-false (fitsAll input states w)))
+ten input states w = (
+  (λ h. short-of input states w (fits-of-ten input states w h)),
+  λ h. ⊎-elim (λ (e : fitsAll input states w ≡ true). absurd (fits-not-short input states w e h)) (untouched-number input states w) (true-false (fitsAll input states w)),
+)
 
 pub ten-touches-nothing : (input : List ℕ) (states : List State) (w : Work) → let l = plan input states w in
     l .out .given .refused ≡ 10 → (l .out .given .at ≡ 0) × (l .out .work ≡ w) × (l .states ≡ states)
@@ -162,9 +163,10 @@ lengths input states w =
     ⊎-elim
     (λ (e : fitsAll input states w ≡ true).
     let o = ap (λ (x : Out). x .work) (served-when input w (all-fits input states w e)) in
-    subst (λ (l : Left). SameLengths (l .out .work) w × (length (l .states) ≡ length states)) (sym (plan-served input states w e))
-    (subst (λ (x : Work). SameLengths x w) o (Lengths.lengths input w),
-    laid-long noState (fileOf input .file .live .states) states maxThresholds (omega (arith, kept-file input .good .live .long)) (all-long input states w e)))
+    subst (λ (l : Left). SameLengths (l .out .work) w × (length (l .states) ≡ length states)) (sym (plan-served input states w e)) (
+      subst (λ (x : Work). SameLengths x w) o (Lengths.lengths input w),
+      laid-long noState (fileOf input .file .live .states) states maxThresholds (omega (arith, kept-file input .good .live .long)) (all-long input states w e),
+    ))
     (λ (e : fitsAll input states w ≡ false).
     subst (λ (l : Left). SameLengths (l .out .work) w × (length (l .states) ≡ length states)) (sym (plan-untouched input states w e)) (refl, refl))
     (true-false (fitsAll input states w))

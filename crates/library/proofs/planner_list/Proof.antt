@@ -7,7 +7,7 @@ use Rattle.library.proofs.planner_list.Tie as tie
 returns : tie.Need-returns
 returns c =
     let made = c .before .before in
-    let a = made .before .before .args in
+    let a = made .before .before .before .before .args in
     lists (a .input .now) (a .out .now) (made .plan .last .1 .0) (made .plan .result) (made .plan .ensures)
 
 pub planner-list-spec : {M : Type 1} → statement M
