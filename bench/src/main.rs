@@ -129,7 +129,7 @@ fn write(folder: &str, seed: u64) {
 
 /// Both found the same.
 fn same(plan: Plan<'_>, run: &Run<false>) -> bool {
-    let refusal = plan.refusal().map(|refusal| (refusal.reason as u8, refusal.offset));
+    let refusal = plan.refusal().map(|refusal| (refusal.reason.number(), refusal.offset));
     let mut equal = refusal == run.refusal && plan.last() as usize == run.last as usize;
     let answers: Vec<_> =
         run.answers.iter().map(|(answer, visits)| (*answer as usize, *visits)).collect();
@@ -156,6 +156,7 @@ fn numbered(answer: planner::Answer) -> (usize, Option<u64>) {
     let number = |step: Step| step as usize;
     match answer {
         planner::Answer::Settle(step) => (number(step), None),
-        planner::Answer::Sift { step, visits } => (number(step), Some(visits.into())),
+        planner::Answer::Sift { step, visits, .. } => (number(step), Some(visits.into())),
+        other => panic!("no oracle answers {other:?}"),
     }
 }
