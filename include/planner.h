@@ -179,8 +179,9 @@ struct planner_given planner_run(
     uint16_t (*row_queues)[4], size_t row_queues_length,
     uint16_t (*answers)[2], size_t answers_length);
 
-/* THE LISTING of a job file, as bytes of text from the start of `out`: how many there are. Nothing is written and 0 is given back if `out` has
-   fewer than PLANNER_LISTING bytes. The file is planned for it, over buffers of the call's own: PLANNER_LIST_STACK bytes of stack.
+/* THE LISTING of a job file, as bytes of text from the start of `out`: how many there are. The bytes after them stay as they were. Nothing is
+   written and 0 is given back if `out` has fewer than PLANNER_LISTING bytes. The file is planned for it, over buffers of the call's own:
+   PLANNER_LIST_STACK bytes of stack.
 
    NOT EVERY CONTRADICTION SHOWS IN A LISTING. That of a settle or sift has its line; that of a seal or mark has none, and shows only as
    refusal 9 of a record that comes after it. Where a mark is the last record, a listing of no layout looks like any other: whether one is

@@ -339,9 +339,10 @@ rest = seq (assign (place 0 []) (rvOpd opdUnit)) return
 
 # ---- the listing
 
-LISTING = '''use Rattle.text.specs.Text.{Wrote, joined, Joins}
+LISTING = '''use Rattle.files.specs.Listing.{maxListing}
+use Rattle.text.specs.Text.{Wrote, joined, Joins}
 use Rattle.text.specs.TextLaws.{wrote-same, joins-none, joins-room, joins-next, joins-done}
-use Rattle.listing.specs.Lines.{maxRowLine, maxLastLine, maxFront, maxListing, rowLine, rowAt, frontText, rowCount, lastText, Listable}
+use Rattle.listing.specs.Lines.{maxRowLine, maxLastLine, maxFront, rowLine, rowAt, frontText, rowCount, lastText, Listable}
 use Rattle.listing.specs.Shows.{Listed}
 use Rattle.listing.specs.ListLaws.{front-room, rows-room, last-room, list-all}
 '''
@@ -712,7 +713,7 @@ def planner_run():
               [short, core, test, show], STATE + ROWS + GIVEN + '''use Rattle.memory.specs.Buffers.{Work, rawLists, raw as rawOf, heldRows, built, kept, work}
 use Rattle.states.specs.States.{shown}
 use Rattle.files.specs.Contents.{whole as wholeOf, out, nothing as refusal}
-use Rattle.planner.specs.Planner.{left, plan}
+use Rattle.files.specs.Planner.{left, plan}
 use Rattle.planner.specs.PlannerLaws.{plan-short, plan-ten, plan-many, plan-shown}
 ''')
     n_front = 1 + len(RAW) + len(BUILT)
@@ -1075,12 +1076,12 @@ def plan_in():
     p = Proof('report', 'plan_in', 'The local array of states is lent to `planner::run`, then to `list`; what is listed is lent again to the first, every other buffer is given up to it.',
               [all_[0], Slice('out', 'u8', 'ℕ', True)] + numbers, [first, core, lines, pair], STATE + FIRST + ROWS + GIVEN + '''use Rattle.memory.specs.Buffers.{Work, rawLists, raw as rawOf, heldRows, built, kept, work}
 use Rattle.files.specs.Contents.{out}
-use Rattle.planner.specs.Planner.{left, plan}
-use Rattle.listing.specs.Lines.{maxListing, Listable}
+use Rattle.files.specs.Planner.{left, plan}
+use Rattle.listing.specs.Lines.{Listable}
 use Rattle.listing.specs.Shows.{Listed}
 use Rattle.report.specs.declared.Planned.{Planned}
-use Rattle.report.specs.Plan.{Plans}
-use Rattle.report.specs.Ready.{Ready, planOf}
+use Rattle.report.specs.Plan.{planOf, Plans}
+use Rattle.report.specs.Ready.{Ready}
 use Rattle.report.specs.PlanLaws.{ran-listable, ran-plans}
 use Rattle.report.proofs.Planned as P
 use Rattle.report.proofs.Planned.Laws as P′
@@ -1208,7 +1209,7 @@ use Rattle.report.proofs.Array.{arrayTy, lends-array, array-back}
     w.top(len(left_), 'left')
     w.move('left', *[f'L{i}' for i in range(array.local + 1)])
     assert w.ctx == ['left'] + [f'L{i}' for i in range(count)] + ['dies'], w.ctx
-    said = f'(subst (Plans (x-input .now) (ls .0)) (sym e₃) (ran-plans pre (replicate 1024 s) {zst} (work-at zs) r {facts} same-out e₂))'
+    said = f'(subst (Plans (x-input .now) (x-out .now) (ls .0)) (sym e₃) (ran-plans pre (replicate 1024 s) {zst} (work-at zs) r {facts} same-out e₂))'
     w.say(f'returns ! (look ! {w.at("L0")} refl) $ free-under ! (code.function .locals) ns {w.slots(count)} $')
     w.say(f'by ! (exits t v₄ zs (ls .0) same-out same-sure same-never same-answers {said})' + ')' * w.open)
 
@@ -1298,7 +1299,7 @@ use Rattle.report.proofs.Array.{arrayTy, lends-array, array-back}
   goes-core{names} =
       qed W ({' ∷ '.join(entries)} ∷ []) ∵ {gw.text('      ')}
 
-  exits : (t : Planned) (v : Val) (zs : Lasts-core) (l : List ℕ) → {' → '.join(f'length ({val(q)}) ≡ length ({q.x} .now)' for q in fins)} → Plans (x-input .now) l t
+  exits : (t : Planned) (v : Val) (zs : Lasts-core) (l : List ℕ) → {' → '.join(f'length ({val(q)}) ≡ length ({q.x} .now)' for q in fins)} → Plans (x-input .now) (x-out .now) l t
       → ent 𝓤 ({seps(left_items)}) (Post v)
   exits t v zs l {' '.join(f'same-{q.name}' for q in fins)} said =
       qed W ({' ∷ '.join(left_items)} ∷ []) ∵

@@ -68,5 +68,9 @@ lastLine o =
     ++ decimal (count (o .file .live .marks .never) (o .file .draft .nodes)) ++ text "\n")
     (text "refused " ++ decimal (o .refused) ++ text " at " ++ decimal (o .at) ++ text "\n")
 
+-- The fixed length of the buffer that the listing is made in: enough for every file.
+abbrev pub maxListing : ℕ
+maxListing = 262144
+
 unfoldable pub listing : Outcome → List ℕ
 listing o = answerLines (o .file .answers) ++ stateLines (o .file) ++ lastLine o

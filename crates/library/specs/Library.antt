@@ -1,14 +1,12 @@
 -- What a program in another language gets of the call, what it gives back in numbers and every lent buffer, and of the listing.
-use Prim.Native.Nat.{ℕ, _≤_}
+use Prim.Native.Nat.{ℕ}
 use mathlib.Core.Path.{_≡_}
-use mathlib.Core.Bool.{Bool, true, false, cond}
+use mathlib.Core.Bool.{cond}
 use mathlib.Core.List.{List}
-use lib.ListN.{length, take}
 use Rattle.memory.specs.Buffers.{Work}
 use Rattle.state.specs.Step.{stepNumber}
-use Rattle.files.specs.File.{planned}
 use Rattle.files.specs.Contents.{Out}
-use Rattle.files.specs.Listing.{listing}
+use Rattle.report.specs.Plan.{reported}
 use Rattle.library.specs.declared.Numbers.{Numbers}
 
 abbrev pub numbersOf : Out → Numbers
@@ -34,7 +32,6 @@ export r w = record { given = r; work = w }
 abbrev pub exported : Out → Export
 exported o = export (numbersOf o) (o .work)
 
--- THE LISTING IS MADE of every input if there is room for it; else nothing is written.
-abbrev pub Lists : Bool → (input before after : List ℕ) → ℕ → Type 0
-Lists true input before after r = (r ≤ length after) × (take r after ≡ listing (planned input))
-Lists false input before after r = (r ≡ 0) × (after ≡ before)
+-- THE LISTING: how many bytes it has, and every byte of its buffer, as the plan gives them.
+abbrev pub Lists : (input before after : List ℕ) → ℕ → Type 0
+Lists input before after r = (r ≡ reported input before .planned .length) × (after ≡ reported input before .out)

@@ -1,11 +1,8 @@
 // The library for programs in other languages: the call and its listing, exported for C. Neither requires anything of its caller.
 ghost use mathlib.Core.Path.{_≡_};
 ghost use mathlib.Core.Bool.{cond};
-ghost use lib.ListN.{length};
-ghost use lib.Dec.{leb};
 ghost use Rattle.memory.specs.Buffers.{rawLists, raw, heldRows, built, kept, work};
 ghost use Rattle.files.specs.Contents.{whole};
-ghost use Rattle.listing.specs.Lines.{maxListing};
 ghost use Rattle.library.specs.Library.{export, exported, Lists};
 
 // What the call gives back, in numbers, so that every value of every byte is one: the refusal (0 for none) and its offset; the last step; 1
@@ -104,11 +101,8 @@ pub extern "C" fn planner_run(
 // THE LISTING of an input's file, for C: how many bytes of `out` it has; 0, and nothing written, if `out` is too short.
 #[no_mangle]
 pub extern "C" fn planner_list(input: &[u8], out: &mut [u8]) -> usize
-    ensures { λ r. ⌜ Lists (leb maxListing (length (now (out .entry)))) (now (input .entry)) (now (out .entry)) (now (out .exit)) r ⌝ }
+    ensures { λ r. ⌜ Lists (now (input .entry)) (now (out .entry)) (now (out .exit)) r ⌝ }
 {
-    if out.len() < 262144 {
-        return 0;
-    }
     let planned = report::plan(input, out);
     planned.length
 }

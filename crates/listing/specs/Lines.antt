@@ -42,10 +42,6 @@ maxNodeLines = maxNodeLine * maxNodes
 abbrev pub maxFront : ℕ
 maxFront = maxAnswerLine * 64 + maxNodeLines
 
--- The fixed length of the buffer that the listing is made in: enough for every file.
-abbrev pub maxListing : ℕ
-maxListing = 262144
-
 -- A step by its number, an answer by its number and visits.
 unfoldable pub stepOf : ℕ → Step
 stepOf zero = Unchanged

@@ -9,9 +9,10 @@ use lib.ListN.{length}
 use Rattle.memory.specs.Limits.{maxThresholds}
 use Rattle.state.specs.declared.State.{State}
 use Rattle.files.specs.declared.Given.{Given}
+use Rattle.files.specs.Listing.{maxListing}
 use Rattle.text.specs.Text.{Wrote, joined}
 use Rattle.text.specs.TextLaws.{wrote-then, wrote-whole}
-use Rattle.listing.specs.Lines.{maxRowLine, maxLastLine, maxFront, maxListing, rowAt, frontText, rowCount, lastText, InMasks, Answered, Sealed, Listable}
+use Rattle.listing.specs.Lines.{maxRowLine, maxLastLine, maxFront, rowAt, frontText, rowCount, lastText, InMasks, Answered, Sealed, Listable}
 use Rattle.listing.specs.Shows.{Listed}
 use Rattle.listing.specs.ShowsLaws.{shows-listing}
 

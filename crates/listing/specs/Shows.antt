@@ -10,9 +10,8 @@ use Rattle.words.specs.Mask.{bit}
 use Rattle.memory.specs.Limits.{maxNodes, maxThresholds}
 use Rattle.files.specs.File.{Outcome, outcome, begun}
 use Rattle.files.specs.Contents.{answerNumber, answerVisits, givenOf}
-use Rattle.files.specs.Listing.{listing}
+use Rattle.files.specs.Listing.{maxListing, listing}
 use Rattle.files.specs.declared.Given.{Given}
-use Rattle.listing.specs.Lines.{maxListing}
 
 -- Only nodes of the job are decided.
 abbrev pub Inside : ℕ → List ℕ → Type 0

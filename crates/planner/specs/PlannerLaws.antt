@@ -8,7 +8,7 @@ use mathlib.Core.Logic.{⊎-elim}
 use lib.ListN.{length, take, drop, length-append}
 use lib.Seq.{take-at}
 use lib.IntN.{ℤ}
-use borrow.Author.Tests.{le-leb, lt-leb}
+use borrow.Author.Tests.{lt-leb}
 use Rattle.base.specs.TestLaws.{true-false}
 use Rattle.base.specs.Laid.{over}
 use Rattle.memory.specs.Limits.{maxThresholds}
@@ -21,8 +21,9 @@ use Rattle.states.specs.States.{shown}
 use Rattle.files.specs.File.{File, fileOf}
 use Rattle.files.specs.Contents.{Out, served, untouched, whole, keptOf, laid}
 use Rattle.theorem_demands.specs.RefusalLaws.{ten, served-when, untouched-when}
+use Rattle.theorem_demands.specs.PublicLaws.{plan-served, plan-untouched, long-fits}
 use Rattle.theorem_limits.specs.KeptLaws.{kept-file}
-use Rattle.planner.specs.Planner.{Left, left, fitsAll, plan}
+use Rattle.files.specs.Planner.{left, plan}
 
 -- ---- the states that the rows of numbers hold
 
@@ -50,26 +51,14 @@ holds-kept f long w =
 
 -- ---- the call's two ways
 
-abbrev ways : List ℕ → List State → Work → Bool → Left
-ways input states w b =
-    let o = fileOf input in
-    elim b [ true ↦ left (served o w) (over (o .file .live .states) (zeros noState states)) | false ↦ left (untouched w) states ]
-
-plan-by : (input : List ℕ) (states : List State) (w : Work) (b : Bool) → fitsAll input states w ≡ b → plan input states w ≡ ways input states w b
-unfolding plan
-plan-by input states w b e = ap (ways input states w) e
-
 pub plan-short : (input : List ℕ) (states : List State) (w : Work) → length states < maxThresholds → left (untouched w) states ≡ plan input states w
-plan-short input states w h = sym (plan-by input states w false (ap (λ (b : Bool). b && fits input w) (lt-leb maxThresholds (length states) h)))
-
-long-fits : (input : List ℕ) (states : List State) (w : Work) → maxThresholds ≤ length states → fitsAll input states w ≡ fits input w
-long-fits input states w h = ap (λ (b : Bool). b && fits input w) (le-leb maxThresholds (length states) h)
+plan-short input states w h = sym (plan-untouched input states w (ap (λ (b : Bool). b && fits input w) (lt-leb maxThresholds (length states) h)))
 
 module _ (input : List ℕ) (states : List State) (w : Work) (long : maxThresholds ≤ length states) (o : Out) (run : o ≡ whole input w) where
   pub plan-ten : o .given .refused ≡ 10 → left o states ≡ plan input states w
   plan-ten h =
       let e = ten input w .0 (sym (ap (λ (r : Out). r .given .refused) run) ∙ h) in
-      ap (λ (r : Out). left r states) (run ∙ untouched-when input w e) ∙ sym (plan-by input states w false (long-fits input states w long ∙ e))
+      ap (λ (r : Out). left r states) (run ∙ untouched-when input w e) ∙ sym (plan-untouched input states w (long-fits input states w long ∙ e))
 
   module _ (h : o .given .refused ≡ 10 → ⊥) where
     fitting : fits input w ≡ true
@@ -88,12 +77,4 @@ module _ (input : List ℕ) (states : List State) (w : Work) (long : maxThreshol
     pub plan-shown : (zs : List State) → zs ≡ shown (statesOf (o .work .kept .figures) (o .work .kept .cursors)) states → left o zs ≡ plan input states w
     plan-shown zs e =
         ap₂ left as-served (e ∙ ap (λ (ss : List State). over ss (zeros noState states)) (held .front))
-        ∙ sym (plan-by input states w true (long-fits input states w long ∙ fitting))
-
--- ---- where the states are long enough, all else is as `whole` says
-
-pub plan-whole : (input : List ℕ) (states : List State) (w : Work) → maxThresholds ≤ length states → plan input states w .out ≡ whole input w
-plan-whole input states w h =
-    ⊎-elim
-    (λ e. ap (λ (r : Left). r .out) (plan-by input states w true (long-fits input states w h ∙ e)) ∙ sym (served-when input w e))
-    (λ e. ap (λ (r : Left). r .out) (plan-by input states w false (long-fits input states w h ∙ e)) ∙ sym (untouched-when input w e)) (true-false (fits input w))
+        ∙ sym (plan-served input states w (long-fits input states w long ∙ fitting))

@@ -3,7 +3,7 @@ ghost use mathlib.Core.Path.{_≡_};
 ghost use lib.Dec.{eqb};
 ghost use Rattle.memory.specs.Buffers.{rawLists, raw, heldRows, built, kept, work};
 ghost use Rattle.files.specs.Contents.{out, nothing};
-ghost use Rattle.planner.specs.Planner.{left, plan};
+ghost use Rattle.files.specs.Planner.{left, plan};
 use files::Given;
 use state::State;
 use state::Step;

@@ -5,9 +5,7 @@ use mathlib.Core.List.{List}
 use lib.ListN.{length}
 use Rattle.base.specs.All.{All}
 use Rattle.memory.specs.Buffers.{Work, needed, lengths}
-use Rattle.files.specs.declared.Given.{Given}
-use Rattle.listing.specs.Lines.{maxListing}
-use Rattle.report.specs.declared.Planned.{Planned}
+use Rattle.files.specs.Listing.{maxListing}
 
 abbrev pub IsByte : ℕ → Type 0
 IsByte b = b < 256
@@ -16,6 +14,3 @@ pub record Ready (input out : List ℕ) (w : Work) : Type 0 where
   pub bytes : All IsByte input
   pub room : maxListing ≤ length out
   pub long : lengths w ≡ needed
-
-abbrev pub planOf : Given → ℕ → Planned
-planOf given length = record { given = given; length = length }

@@ -22,7 +22,7 @@ use Rattle.theorem_limits.specs.BuiltLaws.{rows-few}
 use Rattle.theorem_demands.specs.RefusalLaws.{planned-file}
 use Rattle.theorem_limits.specs.KeptLaws as Fit
 use Rattle.memory.specs.LengthsLaws.{fits-input}
-use Rattle.planner.specs.Planner.{Left, left, fitsAll, plan}
+use Rattle.files.specs.Planner.{Left, left, fitsAll, plan}
 use Rattle.listing.specs.Shows.{Inside, Held, ten, Shows}
 use Rattle.listing.specs.Shows as Is
 use Rattle.listing.specs.Lines.{Listable}

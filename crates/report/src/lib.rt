@@ -1,13 +1,12 @@
 // The plan of an input, over buffers of its own: the public call, then the listing.
 ghost use mathlib.Core.Path.{_≡_};
-ghost use Prim.Native.Nat.{_≤_};
-ghost use lib.ListN.{length};
 ghost use Rattle.memory.specs.Buffers.{rawLists, raw, heldRows, built, kept, work};
-ghost use Rattle.listing.specs.Lines.{maxListing};
-ghost use Rattle.report.specs.Plan.{Plans};
-ghost use Rattle.report.specs.Ready.{Ready, planOf};
+ghost use Rattle.files.specs.Contents.{nothing};
+ghost use Rattle.report.specs.Plan.{planOf, Plans};
+ghost use Rattle.report.specs.Ready.{Ready};
 use files::Given;
 use state::State;
+use state::Step;
 
 // What the call gave back, and how many bytes its listing has.
 pub struct Planned {
@@ -24,7 +23,23 @@ fn together(given: Given, length: usize) -> Planned
     }
 }
 
-// The same over lent buffers of numbers; the row states are its own.
+// Refusal 10: nothing is read, and nothing listed.
+fn too_short() -> Planned
+    ensures { λ r. ⌜ r ≡ planOf nothing 0 ⌝ }
+{
+    let given = Given {
+        refused: 10,
+        at: 0,
+        sealed: false,
+        nodes: 0,
+        rows: 0,
+        last: Step::Unchanged,
+        answered: 0,
+    };
+    together(given, 0)
+}
+
+// The plan over lent buffers of numbers; the row states are its own.
 fn plan_in(
     input: &[u8],
     out: &mut [u8],
@@ -53,7 +68,7 @@ fn plan_in(
     requires { ⌜ Ready (now input) (now out) (work (raw (rawLists (now «raw_conditions») (now «raw_weights») (now thresholds)) (now bounds))
         (built (heldRows (now «row_conditions») (now «row_weights») (now rows) (now «guard_bounds») (now «guard_nodes»)) (now nodes) (now edges) (now links))
         (kept (now figures) (now cursors) (now sure) (now never) (now search) (now gcds) (now «node_queue») (now «row_queues») (now answers))) ⌝ }
-    ensures { λ r. ⌜ Plans (now (input .entry)) (now (out .exit)) r ⌝ }
+    ensures { λ r. ⌜ Plans (now (input .entry)) (now (out .entry)) (now (out .exit)) r ⌝ }
 {
     let none = State::first(0, 0);
     let mut states = [none; 1024];
@@ -86,11 +101,13 @@ fn plan_in(
     together(given, length)
 }
 
-// THE PLAN of an input: its listing, from the start of the buffer.
+// THE PLAN of an input: its listing, from the start of the buffer. If that is too short nothing is touched.
 pub fn plan(input: &[u8], out: &mut [u8]) -> Planned
-    requires { ⌜ maxListing ≤ length (now out) ⌝ }
-    ensures { λ r. ⌜ Plans (now (input .entry)) (now (out .exit)) r ⌝ }
+    ensures { λ r. ⌜ Plans (now (input .entry)) (now (out .entry)) (now (out .exit)) r ⌝ }
 {
+    if out.len() < 262144 {
+        return too_short();
+    }
     let mut raw_conditions = [0u16; 4096];
     let mut raw_weights = [0u64; 4096];
     let pair = [0u16; 2];

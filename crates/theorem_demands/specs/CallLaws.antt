@@ -69,7 +69,7 @@ map-at f [] i x y h = absurd (not-suc-le-zero h)
 map-at f (z ∷ xs) zero x y h = refl
 map-at f (z ∷ xs) (suc i) x y h = map-at f xs i x y (le-of-suc-le-suc h)
 
-over-map : {X Y : Type 0} (f : X → Y) (xs : List X) (b : List Y) (i : ℕ) (x : X) (y : Y) → i < length xs → getD (over (map f xs) b) i y ≡ f (getD xs i x)
+pub over-map : {X Y : Type 0} (f : X → Y) (xs : List X) (b : List Y) (i : ℕ) (x : X) (y : Y) → i < length xs → getD (over (map f xs) b) i y ≡ f (getD xs i x)
 over-map f xs b i x y h =
     List·getD-append (map f xs) (drop (length (map f xs)) b) y i (let e = length-map xs f in omega arith) ∙ map-at f xs i x y h
 

@@ -1,5 +1,5 @@
--- The cases P1 to P12 of document 01 and those of joined areas and of unmarked jobs (document 02, sections 1 and 2), rows of tables under one theorem
--- each, proved by computing the definitions.
+-- The cases P1 to P12 of document 01, an empty input and a file read on after a refusal 9, and those of joined areas and of unmarked jobs (document
+-- 02, sections 1 and 2), rows of tables under one theorem each, proved by computing the definitions.
 use Prim.Native.Nat.{ℕ, zero, suc, _+_, _-_, _/_, _%_, _^_, _≤_}
 use Prim.Native.String.{String}
 use native.Mathlib.Omega.{arith}
@@ -46,6 +46,7 @@ use Rattle.files.specs.File as File
 use Rattle.files.specs.Listing.{text, listing}
 use Rattle.text.specs.Decimal as Decimal
 use Rattle.files.specs.Listing as Listing
+use Rattle.theorem_demands.specs.Reading as Reading
 
 -- A number as so many bytes, the lowest first.
 unfoldable pub bytes : ℕ → ℕ → List ℕ
@@ -86,6 +87,7 @@ pub data Case : Type 0 where
   forces : (file : List Record) (node : ℕ) → Case
   drains : (file : List Record) (waiting : ℕ) → Case
   exhibits : (file : List Record) (nodes : List ℕ) (listing : String) → Case
+  continues : (file : List Record) (listing : String) (marked : ℕ) → Case
 
 -- What is claimed of a case: the definitions give it.
 abbrev pub Right : Case → Type 0
@@ -106,6 +108,11 @@ Right (drains f n) =
     (File.planned (writtenAll all) .records ≡ all) × (File.after File.begun f .live .marks .nodes .ring .count ≡ n)
     × (Queues.isEmpty (File.after File.begun all .live .marks .nodes) ≡ true)
 Right (exhibits f ns t) = let o = File.planned (writtenAll f) in (Least.leastNodes (o .file .closed) ≡ ns) × (listing o ≡ text t)
+-- read on after the refusal: all its records, each of which passes every check but 9, and a mark that was not taken
+Right (continues f t n) =
+    let o = File.planned (writtenAll f) in
+    (listing o ≡ text t) × (Reading.decoded (writtenAll f) ≡ Reading.records f) × Reading.Passes File.begun f
+    × (Reading.markedNode true (o .records) n ≡ false) × (Reading.markedNode true f n ≡ true)
 
 -- A row state before its scans: known 0, possible, lower, upper.
 abbrev fresh : ℕ → ℕ → ℕ → State
@@ -156,6 +163,15 @@ shown =
     ∷ drains two-wait 2
     ∷ []
 
+-- An empty input is accepted. A mark against what the seal decided contradicts, the next record is refused by 9, and reading on finds a mark of node 2.
+abbrev pub ended : List Case
+ended =
+    lists [] "end 0 0\n"
+    ∷ takes [] [] false
+    ∷ continues (Header 3 ∷ Opens 0 (pos 0) ∷ Adds 1 1 ∷ Seal ∷ Mark 0 0 ∷ Mark 2 1 ∷ Settle ∷ [])
+    "node 0 sure\nrow 0 0 1 0 -\nrefused 9 at 26\n" 2
+    ∷ []
+
 -- P9: no choice of 301, 299 and 200 lands in 400 to 430.
 between : (a b c : Bool) → 400 ≤ cond a 301 0 + (cond b 299 0 + (cond c 200 0 + 0)) → cond a 301 0 + (cond b 299 0 + (cond c 200 0 + 0)) ≤ 430 → ⊥
 between true true c h k = omega arith
@@ -187,13 +203,14 @@ unmarked =
     "settle changed\nnode 1 sure\nnode 2 sure\nrow 0 0 3 0 -\nrow 1 2 2 2 -\nrow 2 5 5 0 -\nend 2 0\n"
     ∷ []
 
-computed : All Right cases × All Right shown × All Right joining × All Right unmarked
-unfolding States.firstState States.noState States.withKnown States.withPossible States.withLower States.withUpper States.withGuards States.withTerms States.drained States.conflict States.hasResidualInterval Mask.setBit Mask.learn Mask.count Shift.shiftWord Shift.wordHits Shift.shiftFrom Shift.unionShifted Queues.push Queues.popped Queues.queueRow Queues.nextRow Marks.decide Terms.merge Terms.merged Terms.insert Terms.sorted Terms.total Terms.sameTerms Rows.insertGuard Rows.place Rows.placeAll Rows.rowNumber Rows.hasNonunit Rows.edgesIn Rows.edgesFrom Links.notAfter Links.insertRow Links.orderFrom Links.common Links.ancestors Links.stacked Links.linked Links.linksFrom Links.links Links.neighbours Gcd.gcdIn Gcd.gcd Misses.misses Misses.branchMisses Residuals.checkFrom Residuals.residualCheck Residuals.fitsFrom Residuals.suffixFrom Residuals.forceTerm Residuals.forceFrom Residuals.thresholdResidual Searches.plan Searches.chosen Searches.searchFrom Searches.search Scan.scan Row.thresholdGuards Row.trueTerms Row.falseTerms Row.scans Row.thresholdRow Row.wantsResidual Between.runWith Between.runRow Between.bounded Between.thresholdGuard Between.conditionFrom Between.thresholdCondition Between.prefixesFrom Between.thresholdPrefixes Between.firstStates Between.seedFrom Between.guardOf Drain.seal Drain.mark Drain.takeNode Drain.takeRow Drain.drain Sift.tryRow Sift.siftFrom File.begun Job.lastNode Job.lastList Job.allTerms Checks.first File.refusal Job.onLast Area.hundredths Area.without Area.joined Layout.value Least.among Least.askedNodes Least.grown File.sealedFile File.markedFile File.settledFile File.siftedFile File.act File.apply File.readFrom File.fileOf File.planned File.after Listing.text Decimal.digits Listing.answerLines Listing.nodeLines Listing.rowLines Listing.listing littleEndian bytes twos written writtenAll
+computed : All Right cases × All Right shown × All Right joining × All Right unmarked × All Right ended
+unfolding States.firstState States.noState States.withKnown States.withPossible States.withLower States.withUpper States.withGuards States.withTerms States.drained States.conflict States.hasResidualInterval Mask.setBit Mask.learn Mask.count Shift.shiftWord Shift.wordHits Shift.shiftFrom Shift.unionShifted Queues.push Queues.popped Queues.queueRow Queues.nextRow Marks.decide Terms.merge Terms.merged Terms.insert Terms.sorted Terms.total Terms.sameTerms Rows.insertGuard Rows.place Rows.placeAll Rows.rowNumber Rows.hasNonunit Rows.edgesIn Rows.edgesFrom Links.notAfter Links.insertRow Links.orderFrom Links.common Links.ancestors Links.stacked Links.linked Links.linksFrom Links.links Links.neighbours Gcd.gcdIn Gcd.gcd Misses.misses Misses.branchMisses Residuals.checkFrom Residuals.residualCheck Residuals.fitsFrom Residuals.suffixFrom Residuals.forceTerm Residuals.forceFrom Residuals.thresholdResidual Searches.plan Searches.chosen Searches.searchFrom Searches.search Scan.scan Row.thresholdGuards Row.trueTerms Row.falseTerms Row.scans Row.thresholdRow Row.wantsResidual Between.runWith Between.runRow Between.bounded Between.thresholdGuard Between.conditionFrom Between.thresholdCondition Between.prefixesFrom Between.thresholdPrefixes Between.firstStates Between.seedFrom Between.guardOf Drain.seal Drain.mark Drain.takeNode Drain.takeRow Drain.drain Sift.tryRow Sift.siftFrom File.begun Job.lastNode Job.lastList Job.allTerms Checks.first File.refusal Job.onLast Area.hundredths Area.without Area.joined Layout.value Least.among Least.askedNodes Least.grown File.sealedFile File.markedFile File.settledFile File.siftedFile File.act File.apply File.readFrom File.fileOf File.planned File.after Listing.text Decimal.digits Listing.answerLines Listing.nodeLines Listing.rowLines Listing.listing littleEndian Reading.decodeFrom Reading.decoded Reading.plain Reading.plainly Reading.Passes Reading.markedNode bytes twos written writtenAll
 computed = (
   (refl, (refl, (refl, (refl, (refl, (refl, (refl, (refl, (refl, (refl, (refl, (nothing-fits, (refl, (refl, (refl, (refl, (refl, (refl, tt)))))))))))))))))),
   ((refl, refl, refl, refl), ((refl, refl, refl, refl), (refl, ((refl, refl, refl), tt)))),
   (refl, (refl, (refl, (refl, (refl, tt))))),
   ((refl, refl), ((refl, refl), tt)),
+  (refl, ((refl, refl, refl, refl), ((refl, refl, (refl, (refl, (refl, (refl, (refl, (refl, (refl, tt))))))), refl, refl), tt))),
 )
   where
     nothing-fits : Right (misses (term 0 301 ∷ term 1 299 ∷ term 2 200 ∷ []) (fresh 800 400 431))
@@ -211,3 +228,6 @@ joining-right c m = all-each Right joining (computed .2) c m
 
 pub unmarked-right : (c : Case) → List·Memᴰ c unmarked → Right c
 unmarked-right c m = all-each Right unmarked (computed .3) c m
+
+pub ended-right : (c : Case) → List·Memᴰ c ended → Right c
+ended-right c m = all-each Right ended (computed .4) c m

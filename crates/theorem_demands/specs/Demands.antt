@@ -16,7 +16,7 @@ use Rattle.state.specs.declared.Step.{Step}
 use Rattle.state.specs.declared.Step.the-variants.{Unchanged, Contradiction}
 use Rattle.state.specs.declared.State.{State}
 use Rattle.state.specs.declared.Upper.{Upper}
-use Rattle.state.specs.State.{limit, limited}
+use Rattle.state.specs.State.{noState, limit, limited, figuresOf, cursorsOf}
 use Rattle.words.specs.Mask.{bit}
 use Rattle.queues.specs.Queue.{isEmpty}
 use Rattle.row.specs.Terms.{rowTerms}
@@ -31,8 +31,12 @@ use Rattle.records.specs.declared.Record.{Record}
 use Rattle.records.specs.declared.Record.the-variants.{Seal, Mark, Settle, Sift}
 use Rattle.records.specs.Facts.{changes, adds}
 use Rattle.files.specs.File.{File, contradicted, sifted, begun, standing, act, apply, after, refusalAt, planned, Passed}
-use Rattle.memory.specs.Buffers.{Work, lengths, fits}
+use Rattle.memory.specs.Limits.{maxThresholds}
+use Rattle.memory.specs.Buffers.{Work, needed, lengths, longestInput, fits, zeros}
+use Rattle.base.specs.Laid.{over}
 use Rattle.files.specs.Contents.{Out, out, served, whole}
+use Rattle.files.specs.Planner.{Left, left}
+use Rattle.files.specs.Planner as Planner
 use Rattle.theorem_demands.specs.Reading.{Marked, SameMarks, Unmarked, Agrees, NoSift, lastSearch, decidedIn, decidedAnd, marksOnly, SameEnd, SameFigures, records, decoded, plainlyAll, Passes}
 
 -- What the call gave, but for its refusal.
@@ -103,6 +107,9 @@ pub record ExactlyTheTable (rows : List Row) (s : Table) (f : File) : Type 0 whe
 -- DEMAND 3, one claim about the whole list of a file's records, for every input: each record stands behind those before it,
 -- on what they left.
 pub record Demand3 : Type 0 where
+  -- from one start all runs of the table, whatever their order, reach a conflict, or all end with equal nodes and row figures: for all
+  -- rows and every start, those below among them
+  pub one-end : (rows : List Row) (s t u : Table) → Ended rows s t → Ended rows s u → (Conflict rows t × Conflict rows u) ⊎ (t ≡ u)
   -- a seal contradicts only if the table, started from the nodes decided before it, reaches a conflict
   pub seals : (input : List ℕ) (before later : List Record) → planned input .records ≡ before ++ (Seal ∷ later)
       → let f = after begun before in contradicted (apply f Seal) ≡ true → ReachesConflict (rowsOf (jobOf (f .draft))) (decidedIn f)
@@ -124,6 +131,8 @@ pub record Demand3 : Type 0 where
       → (planned x .refused ≡ 0) ⊎ (planned x .refused ≡ 9) → (planned y .refused ≡ 0) ⊎ (planned y .refused ≡ 9)
       → jobOf (plainlyAll begun rs .draft) ≡ jobOf (plainlyAll begun qs .draft) → SameMarks rs qs → NoSift rs → NoSift qs
       → ((contradicted (planned x .file) ≡ true) × (contradicted (planned y .file) ≡ true)) ⊎ SameFigures (planned x .file) (planned y .file)
+  -- what that claim asks of its files, that they decode and pass every check but 9, every file has that is not refused
+  pub accepted-pass : (input : List ℕ) → planned input .refused ≡ 0 → (decoded input ≡ records (planned input .records)) × Passes begun (planned input .records)
 
 -- AREAS OF ONE TILE ARE ADDED FIRST (document 02, section 1): what joining does to the list that the records gave one threshold.
 pub record AreasAdded : Type 0 where
@@ -216,6 +225,40 @@ pub record ClauseA : Type 0 where
   pub lengths : (input : List ℕ) (w : Work) → lengths (whole input w .work) ≡ lengths w
   -- what demands 2 and 3 say of a file they say of what the call gives and leaves in memory
   pub files : (input : List ℕ) (w : Work) → fits input w ≡ true → whole input w ≡ served (planned input) w
+
+-- DEMAND 1 AND CLAUSE A ONCE MORE, of the public call's own definition: `plan` is `whole` with the row states lent as one more buffer,
+-- and each claim speaks of that buffer too.
+
+-- What the public call left, but for its refusal.
+abbrev pub acceptedLeft : Left → Left
+acceptedLeft l = left (accepted (l .out)) (l .states)
+
+-- A buffer is shorter than it must be, or the input is too long.
+abbrev pub TooShort : List ℕ → List State → Work → Type 0
+TooShort input states w = (length states < maxThresholds) ⊎ ((i : ℕ) × (getD (lengths w) i 0 < getD needed i 0)) ⊎ (longestInput < length input)
+
+pub record PublicCall : Type 0 where
+  -- 0 for no refusal, else one of ten
+  pub numbers : (input : List ℕ) (states : List State) (w : Work) → Planner.plan input states w .out .given .refused ≤ 10
+  -- a refusal other than 10: all lent memory is as if the file had ended just before the refused record
+  pub refused : (input : List ℕ) (states : List State) (w : Work) → let l = Planner.plan input states w in l .out .given .refused ≢ 0 → l .out .given .refused ≢ 10
+      → Planner.plan (take (l .out .given .at) input) states w ≡ acceptedLeft l
+  -- 10 is given exactly if a buffer is too short or the input too long; its offset is 0 and it touches nothing
+  pub ten : (input : List ℕ) (states : List State) (w : Work) → (Planner.plan input states w .out .given .refused ≡ 10) ↔ TooShort input states w
+  pub ten-touches-nothing : (input : List ℕ) (states : List State) (w : Work) → let l = Planner.plan input states w in
+      l .out .given .refused ≡ 10 → (l .out .given .at ≡ 0) × (l .out .work ≡ w) × (l .states ≡ states)
+  -- nothing depends on what the memory held before, and every buffer keeps its length
+  pub memory : (input : List ℕ) (r s : List State) (v w : Work) → length r ≡ length s → lengths v ≡ lengths w → (TooShort input r v → ⊥)
+      → Planner.plan input r v ≡ Planner.plan input s w
+  pub lengths : (input : List ℕ) (states : List State) (w : Work) → let l = Planner.plan input states w in
+      (lengths (l .out .work) ≡ lengths w) × (length (l .states) ≡ length states)
+  -- where nothing is too short it leaves what the file leaves, the file's row states over cleared ones
+  pub files : (input : List ℕ) (states : List State) (w : Work) → (TooShort input states w → ⊥)
+      → Planner.plan input states w ≡ left (served (planned input) w) (over (planned input .file .live .states) (zeros noState states))
+  -- what is said of `whole` is said of it, and of a row's state what is said of the row's words
+  pub as-whole : (input : List ℕ) (states : List State) (w : Work) → maxThresholds ≤ length states → Planner.plan input states w .out ≡ whole input w
+  pub rows : (input : List ℕ) (states : List State) (w : Work) → (TooShort input states w → ⊥) → (r : ℕ) → r < maxThresholds → let l = Planner.plan input states w in
+      (getD (l .out .work .kept .figures) r [] ≡ figuresOf (getD (l .states) r noState)) × (getD (l .out .work .kept .cursors) r [] ≡ cursorsOf (getD (l .states) r noState))
 
 -- CLAUSE C. Planners that are shut out. Each line says what such a planner would do on all files, and that this one does not.
 pub record ClauseC : Type 0 where

@@ -31,7 +31,7 @@ use Rattle.theorem_demands.specs.RefusalLaws.{served-when, untouched-whe
 use Rattle.theorem_limits.specs.KeptLaws.{Kept, kept-file}
 
 -- A list that fits, laid into a cleared buffer.
-laid-long : {X : Type 0} (z : X) (l b : List X) (n : ℕ) → length l ≤ n → n ≤ length b → length (over l (zeros z b)) ≡ length b
+pub laid-long : {X : Type 0} (z : X) (l b : List X) (n : ℕ) → length l ≤ n → n ≤ length b → length (over l (zeros z b)) ≡ length b
 laid-long z l b n h k =
     omega (arith, length-append l (drop (length l) (zeros z b)), length-drop (length l) (zeros z b), zeros-long z b)
 

@@ -17,6 +17,7 @@ pub mod ReadLaws
 pub mod ShutOutLaws
 pub mod MemoryLaws
 pub mod LengthLaws
+pub mod PublicLaws
 pub mod ForcedLaws
 pub mod SettleLaws
 pub mod MarksLaws

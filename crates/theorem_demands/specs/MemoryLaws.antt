@@ -16,7 +16,7 @@ abbrev pub SameLengths : Work → Work → Type 0
 SameLengths v w = lengths v ≡ lengths w
 
 -- Clearing keeps the length, and nothing else.
-zeros-same : {X : Type 0} (z : X) (l m : List X) → length l ≡ length m → zeros z l ≡ zeros z m
+pub zeros-same : {X : Type 0} (z : X) (l m : List X) → length l ≡ length m → zeros z l ≡ zeros z m
 unfolding zeros
 zeros-same z [] [] e = refl
 zeros-same z [] (y ∷ m) e = absurd (omega arith)

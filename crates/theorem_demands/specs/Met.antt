@@ -5,7 +5,8 @@ use Rattle.searches.specs.SearchLaws as SearchLaws
 use Rattle.job.specs.JobLaws.{last-added, all-added}
 use Rattle.files.specs.File.{act}
 use Rattle.theorem_limits.specs.FilesLaws as Files
-use Rattle.theorem_demands.specs.Demands.{Demand1, Demand2, Demand3, AreasAdded, UnmarkedHasLayout, Call, ClauseA, ClauseC}
+use Rattle.theorem_table.specs.TableLaws as Table
+use Rattle.theorem_demands.specs.Demands.{Demand1, Demand2, Demand3, AreasAdded, UnmarkedHasLayout, Call, ClauseA, PublicCall, ClauseC}
 use Rattle.theorem_demands.specs.RefusalLaws as Refusals
 use Rattle.theorem_demands.specs.ReadLaws as Reads
 use Rattle.theorem_demands.specs.ForcedLaws as Forced
@@ -16,6 +17,8 @@ use Rattle.theorem_demands.specs.CallLaws as Calls
 use Rattle.theorem_demands.specs.UnmarkedLaws as Unmarked
 use Rattle.theorem_demands.specs.MemoryLaws as Memory
 use Rattle.theorem_demands.specs.LengthLaws as Lengths
+use Rattle.theorem_demands.specs.PublicLaws as Public
+use Rattle.theorem_demands.specs.PassesLaws as Passes
 use Rattle.theorem_demands.specs.ShutOutLaws as ShutOut
 
 -- DEMAND 1, whole
@@ -48,11 +51,13 @@ demand2 = record {
 -- DEMAND 3, whole
 pub demand3 : Demand3
 demand3 = record {
+  one-end = λ rows s t u a b. Table.one-end rows a b;
   seals = Settles.seals;
   marks = Settles.marks;
   settles = Settles.settles;
   settles-from-marks = Marks.settles-from-marks;
   order-does-not-matter = Order.order-does-not-matter;
+  accepted-pass = Passes.accepted-pass;
 }
 
 -- AREAS, whole
@@ -94,6 +99,20 @@ call = record {
 -- CLAUSE A, whole
 pub clauseA : ClauseA
 clauseA = record { memory = Memory.memory; lengths = Lengths.lengths; files = Refusals.files }
+
+-- BOTH, of the public call
+pub public-call : PublicCall
+public-call = record {
+  numbers = Public.numbers;
+  refused = Public.refused;
+  ten = Public.ten;
+  ten-touches-nothing = Public.ten-touches-nothing;
+  memory = Public.memory;
+  lengths = Public.lengths;
+  files = Public.files;
+  as-whole = Public.as-whole;
+  rows = Public.rows;
+}
 
 -- CLAUSE C, whole
 pub clauseC : ClauseC

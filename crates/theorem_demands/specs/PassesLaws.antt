@@ -2,10 +2,11 @@
 -- says nothing of a file that is not refused, and of one that is refused by 9 only what stands behind.
 use Prim.Native.Nat.{ℕ}
 use native.Mathlib.Omega.{arith}
-use mathlib.Core.Path.{_≡_, refl, sym, ap, _∙_, subst}
+use mathlib.Core.Path.{_≡_, refl, sym, ap, _∙_}
 use mathlib.Core.Bool.{false}
 use mathlib.Core.List.{List, [], _∷_, _++_}
-use lib.ListN.{length, length-append}
+use lib.ListN.{length, take, length-append}
+use lib.Seq.{take-length}
 use Rattle.records.specs.declared.Record.{Record}
 use Rattle.records.specs.Facts.{Action, begins, changes, closes, decides, settles, sifts, idles, action}
 use Rattle.records.specs.declared.Standing.{Standing}
@@ -14,7 +15,8 @@ use Rattle.job.specs.Job.{standingOf}
 use Rattle.files.specs.File.{File, Answer, contradicted, begun, standing, refusal, sealedFile, markedFile, settledFile, siftedFile, act, apply, planned, Passed}
 use Rattle.theorem_limits.specs.FilesLaws.{taken, planned-passed}
 use Rattle.theorem_demands.specs.Reading.{records, decoded, plain, plainly, Passes}
-use Rattle.theorem_demands.specs.ReadOnLaws.{planned-over, Level, level-same, level-apply}
+use Rattle.theorem_demands.specs.ReadLaws.{spelled, read-all}
+use Rattle.theorem_demands.specs.ReadOnLaws.{Level, level-same, level-apply}
 
 -- Two files alike in all that the checks read.
 pub record Alike (f g : File) : Type 0 where
@@ -67,6 +69,7 @@ unfolding begun
 taken-passes input = passed-passes begun begun (planned input .records) (level-same begun) refl refl (planned-passed input)
 
 -- and in a file that is not refused they are all
-pub accepted-passes : (input : List ℕ) (all : List Record) → decoded input ≡ records all → planned input .refused ≡ 0 → Passes begun all
-accepted-passes input all d h =
-    subst (Passes begun) (sym (planned-over input all d (λ e. absurd (omega arith)) .accepted h)) (taken-passes input)
+pub accepted-pass : (input : List ℕ) → planned input .refused ≡ 0 → (decoded input ≡ records (planned input .records)) × Passes begun (planned input .records)
+accepted-pass input h =
+    let all = ap (λ (n : ℕ). take n input) (read-all input h) ∙ take-length input in
+    (ap decoded (sym all) ∙ spelled input, taken-passes input)

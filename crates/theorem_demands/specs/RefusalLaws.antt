@@ -73,7 +73,7 @@ unfolding whole
 untouched-when input w e = ap (λ (b : Bool). ways input w b) e
 
 -- a file cut at the place of its refusal reads the same
-cut-file : (input : List ℕ) → fileOf input .refused ≢ 0
+pub cut-file : (input : List ℕ) → fileOf input .refused ≢ 0
     → fileOf (take (fileOf input .at) input) ≡ outcome (fileOf input .file) (fileOf input .records) 0 (fileOf input .at)
 unfolding fileOf
 cut-file input h =

@@ -51,8 +51,9 @@ use Rattle.state.proofs.State as T
 use Rattle.files.specs.declared.Given.{Given as Answer}
 use Rattle.files.proofs.Given as G
 use Rattle.files.proofs.Given.Laws as G′
+use Rattle.files.specs.Listing.{maxListing}
 use Rattle.text.specs.Text.{Wrote, joined}
-use Rattle.listing.specs.Lines.{maxRowLine, maxLastLine, maxFront, maxListing, rowAt, frontText, rowCount, lastText, Listable}
+use Rattle.listing.specs.Lines.{maxRowLine, maxLastLine, maxFront, rowAt, frontText, rowCount, lastText, Listable}
 use Rattle.listing.specs.Shows.{Listed}
 use Rattle.listing.specs.ListLaws.{front-room, rows-room, last-room, list-all}
 use Rattle.listing.proofs.front_lines as front′

@@ -63,7 +63,7 @@ use Rattle.files.proofs.Given.Laws as G′
 use Rattle.memory.specs.Buffers.{Work, rawLists, raw as rawOf, heldRows, built, kept, work}
 use Rattle.states.specs.States.{shown}
 use Rattle.files.specs.Contents.{whole as wholeOf, out, nothing as refusal}
-use Rattle.planner.specs.Planner.{left, plan}
+use Rattle.files.specs.Planner.{left, plan}
 use Rattle.planner.specs.PlannerLaws.{plan-short, plan-ten, plan-many, plan-shown}
 use Rattle.planner.proofs.too_short as short′
 use Rattle.planner.proofs.too_short.Symbol as short-def

@@ -54,10 +54,10 @@ loop-again c =
     (omega (arith, g .1, k), omega (arith, k, l .inv .1))
 
 returns : tie.Need-returns Inv-loop μ-loop
-returns c = let l = to-loop c .loop in omega (arith, l .inv .0, l .inv .1)
+returns c = let l = to-loop c .loop in omega (arith, c .before .before .before .before .before .before .loop-test .taken, l .inv .1)
 
 returns-3 : tie.Need-returns-3 Inv-loop μ-loop
-returns-3 c = let l = c .before .loop in omega (arith, l .inv .0, l .inv .1)
+returns-3 c = let l = c .before .loop in omega (arith, l .inv .0, l .inv .1, c .loop-test .left)
 
 pub read-input-spec : {M : Type 1} → statement M
 read-input-spec =

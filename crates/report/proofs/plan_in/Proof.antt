@@ -62,12 +62,12 @@ use Rattle.files.proofs.Given as G
 use Rattle.files.proofs.Given.Laws as G′
 use Rattle.memory.specs.Buffers.{Work, rawLists, raw as rawOf, heldRows, built, kept, work}
 use Rattle.files.specs.Contents.{out}
-use Rattle.planner.specs.Planner.{left, plan}
+use Rattle.files.specs.Planner.{left, plan}
 use Rattle.listing.specs.Lines.{Listable}
 use Rattle.listing.specs.Shows.{Listed}
 use Rattle.report.specs.declared.Planned.{Planned}
-use Rattle.report.specs.Plan.{Plans}
-use Rattle.report.specs.Ready.{Ready, planOf}
+use Rattle.report.specs.Plan.{planOf, Plans}
+use Rattle.report.specs.Ready.{Ready}
 use Rattle.report.specs.PlanLaws.{ran-listable, ran-plans}
 use Rattle.report.proofs.Planned as P
 use Rattle.report.proofs.Planned.Laws as P′
@@ -618,7 +618,7 @@ module _ {M : Type 1} (𝓤 : URA M) (H : Heap 𝓤) (A : Atoms 𝓤) (W : Given
 
   exits : (t : Planned) (v : Val) (zs : Lasts-core) (l : List ℕ) → length (l) ≡ length (x-out .now) → length (zs .1 .1 .1 .1 .1 .1 .1 .1 .1 .1 .1 .1 .1 .1 .1 .1 .0) ≡ length (x-sure .now) → length
       (zs .1 .1 .1 .1 .1 .1 .1 .1 .1 .1 .1 .1 .1 .1 .1 .1 .1 .0) ≡ length (x-never .now) → length (zs .1 .1 .1 .1 .1 .1 .1 .1 .1 .1 .1 .1 .1 .1 .1 .1 .1 .1 .1 .1 .1 .1 .0) ≡ length (x-answers .now) →
-      Plans (x-input .now) l t
+      Plans (x-input .now) (x-out .now) l t
       → ent 𝓤 (sep 𝓤 (sem 𝓤 H A (flft (κs .0) (qs .0))) (sep 𝓤 (sem 𝓤 H A (flft (κs .1 .0) (qs .1 .0))) (sep 𝓤 ((chain 𝓤 toks-front (emp 𝓤))) (sep 𝓤 ((chain 𝓤 toks-middle (emp 𝓤))) (sep 𝓤 (sem 𝓤 H A
       (flft (κs .1 .1 .1 .1 .1 .1 .1 .1 .1 .1 .1 .1 .1 .1 .1 .1 .0) (qs .1 .1 .1 .1 .1 .1 .1 .1 .1 .1 .1 .1 .1 .1 .1 .1 .0))) (sep 𝓤 (sem 𝓤 H A (flft
       (κs .1 .1 .1 .1 .1 .1 .1 .1 .1 .1 .1 .1 .1 .1 .1 .1 .1 .0) (qs .1 .1 .1 .1 .1 .1 .1 .1 .1 .1 .1 .1 .1 .1 .1 .1 .1 .0))) (sep 𝓤 ((chain 𝓤 toks-back (emp 𝓤))) (sep 𝓤 (sem 𝓤 H A (flft
@@ -1184,7 +1184,7 @@ module _ {M : Type 1} (𝓤 : URA M) (H : Heap 𝓤) (A : Atoms 𝓤) (W : Given
         (someᴼ (v-answers)) ▹ (someᴼ (vptr (ns .1 .1 .1 .1 .1 .1 .1 .1 .1 .1 .1 .1 .1 .1 .1 .1 .1 .1 .1 .1 .1 .1 .1 .1 .1 .0) 0)) ▹ (someᴼ (sliceVal
         ((ns .1 .1 .1 .1 .1 .1 .1 .1 .1 .1 .1 .1 .1 .1 .1 .1 .1 .1 .1 .1 .1 .1 .1 .1 .1 .0), 0) 1024)) ▹ (someᴼ (vptr (x-sure .ptr .0) (x-sure .ptr .1))) ▹ (someᴼ (v-sure)) ▹ (someᴼ (vptr
         (x-never .ptr .0) (x-never .ptr .1))) ▹ (someᴼ (v-never)) ▹ tt) $
-        by ! (exits t v₄ zs (ls .0) same-out same-sure same-never same-answers (subst (Plans (x-input .now) (ls .0)) (sym e₃) (ran-plans pre (replicate 1024 s)
+        by ! (exits t v₄ zs (ls .0) same-out same-sure same-never same-answers (subst (Plans (x-input .now) (x-out .now) (ls .0)) (sym e₃) (ran-plans pre (replicate 1024 s)
         (zs .1 .1 .1 .1 .1 .1 .1 .1 .1 .1 .1 .1 .1 .0) (work-at zs) r (many s) e same-out e₂))))))))))))))))))))))))))))))))))))))))))))))
 
 module _ {M : Type 1} (𝓤 : URA M) (H : Heap 𝓤) (A : Atoms 𝓤) (W : Given 𝓤 H A) (at-mem : Memory → SProp 𝓤) (run : Routine → Fun 𝓤) (𝓣 : Tables 𝓤 H) (known-first : Triple 𝓤 (𝓣 .C #state·State·first)

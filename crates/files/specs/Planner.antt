@@ -24,7 +24,7 @@ left out states = record { out = out; states = states }
 abbrev pub fitsAll : List ℕ → List State → Work → Bool
 fitsAll input states w = leb maxThresholds (length states) && fits input w
 
--- THE PUBLIC CALL: the file's states stand in front of the cleared ones. Refusal 10 touches nothing.
+-- THE PUBLIC CALL: the file's states are laid over the cleared ones. Refusal 10 touches nothing.
 unfoldable pub plan : List ℕ → List State → Work → Left
 plan input states w =
     let o = fileOf input in
