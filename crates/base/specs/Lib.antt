@@ -10,6 +10,7 @@ pub mod TallyLaws
 pub mod IndexLaws
 pub mod All
 pub mod AllLaws
+pub mod MembersLaws
 pub mod SignedLaws
 pub mod Signed
 pub mod LaidLaws

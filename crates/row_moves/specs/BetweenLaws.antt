@@ -23,7 +23,8 @@ use Rattle.tightening.specs.declared.Tightened.{Tightened}
 use Rattle.row_moves.specs.Between.{Index, Live, live, stateAt, withState, withDirty, withBound, Did, did, residualQueued, linkedQueued, runWith, bounded, thresholdGuard}
 use Rattle.row_moves.specs.Held.{Holds, heldRow}
 use Rattle.row_moves.specs.HeldLaws.{run-held}
-use Rattle.row_moves.specs.WalkLaws.{guardRow, guard-ends}
+use Rattle.row_moves.specs.WalkLaws.{guard-ends}
+use Rattle.row_moves.specs.Handing.{guardRow}
 use Rattle.base.specs.TestLaws.{contrary}
 use Rattle.tightening.specs.Told.{guardState}
 use Rattle.row_runs.specs.Row.{Ran, ran, thresholdRow, wantsResidual}

@@ -26,8 +26,9 @@ use Rattle.row_moves.specs.Held.{Shaped, Holds}
 use Rattle.row_moves.specs.HeldLaws.{run-held}
 use Rattle.row_moves.specs.Ready.{Fit, Runnable}
 use Rattle.row_moves.specs.ReadyLaws.{ready-more, ready-set, ready-run, ready-by, fit-drained, fit-guard, fit-prefix}
-use Rattle.row_moves.specs.LoopLaws.{edgeRun, condition-walk}
-use Rattle.row_moves.specs.WalkLaws.{walks, guardRow, guardTold, guard-ends, prefix-keeps}
+use Rattle.row_moves.specs.LoopLaws.{condition-walk}
+use Rattle.row_moves.specs.Handing.{edgeRun, guardRow, guardTold}
+use Rattle.row_moves.specs.WalkLaws.{walks, guard-ends, prefix-keeps}
 
 pub runnable-by : (h : HeldRows) (n : ℕ) (c d : Did) → c ≡ d → Runnable h n (d .live) → Runnable h n (c .live)
 runnable-by h n c d e a = rw e a

@@ -1,14 +1,12 @@
 -- One turn: what a taken node and a taken row come to, and that all stays such that the next can be taken. Assumes nothing.
-use Prim.Native.Nat.{ℕ, zero, suc, _+_, _-_, _*_, _/_, _%_, _<_, _≤_}
+use Prim.Native.Nat.{ℕ, zero, suc, _+_, _-_, _*_, _<_, _≤_}
 use native.Mathlib.Nat.{not-suc-le-zero}
 use native.Mathlib.Decide.{ℕ-discrete, decLt}
 use native.Mathlib.Omega.{arith}
 use mathlib.Core.Path.{_≡_, refl, sym, ap, subst, _∙_}
 use mathlib.Core.Bool.{Bool, true, false, cond, _||_}
 use mathlib.Core.List.{List}
-use lib.Dec.{eqb}
-use lib.ListN.{length, getD, List·getD-eq-default}
-use lib.Pow.{pow-pos}
+use lib.ListN.{length, getD}
 use lib.IntN.{ℤ}
 use Rattle.base.specs.TestLaws.{clash}
 use Rattle.memory.specs.Limits.{maxNodes}
@@ -18,8 +16,8 @@ use Rattle.base.specs.Columns.{column}
 use Rattle.base.specs.ColumnsLaws.{length-column}
 use Rattle.state.specs.declared.Step.{Step}
 use Rattle.state.specs.Step.{joined, contradicts}
-use Rattle.words.specs.Mask.{bit, digit}
-use Rattle.words.specs.DigitsLaws.{digit-high}
+use Rattle.words.specs.Mask.{bit}
+use Rattle.words.specs.MaskLaws.{bit-behind}
 use Rattle.queues.specs.declared.Ring.{Ring}
 use Rattle.queues.specs.Queue.{Rows, queue, isEmpty, oldest, poppedRing, popped, nextRow}
 use Rattle.queues.specs.Slot.{rowsIn}
@@ -35,7 +33,8 @@ use Rattle.row_moves.specs.Ready.{Ready, Runnable}
 use Rattle.row_moves.specs.KeptLaws.{runnable-more, runnable-by}
 use Rattle.row_moves.specs.KeptHeldLaws.{edges-light, edges-many, kept-node, kept-links, kept-guard-of}
 use Rattle.drain.specs.Drain.{takeNode, takeRow, turn, atRest}
-use Rattle.drain.specs.DrainLaws.{untaken, unrowed, nodeTold, nodeDrained, node-ends, row-ends, turn-ends}
+use Rattle.drain.specs.DrainLaws.{node-ends, row-ends, turn-ends}
+use Rattle.drain.specs.Steps.{untaken, unrowed, nodeTold, nodeDrained}
 use Rattle.theorem_ends.specs.SettlesLaws.{fall-turn}
 use Rattle.theorem_follows.specs.StandsLaws.{also, also-other, also-this}
 use Rattle.theorem_follows.specs.WaitingLaws.{first-decided, first-fresh, queued-taken}
@@ -76,9 +75,6 @@ owed-also nodes taken at e (suc n) h = by (λ l. owed-also nodes taken at e n l)
 
 -- ---- a node is taken
 
-behind : (l : List ℕ) (n : ℕ) → length l ≤ n / 64 → bit l n ≡ false
-behind l n h = ap (λ (w : ℕ). eqb (digit w (n % 64)) 1) (List·getD-eq-default l 0 h) ∙ ap (λ (d : ℕ). eqb d 1) (digit-high 0 (n % 64) (pow-pos (n % 64)))
-
 -- No other node has a place in the masks.
 decided-small : (m : Marks) → Waits m → (n : ℕ) → isDecided m n ≡ true → n < maxNodes
 decided-small m w n d = by (decLt n maxNodes)
@@ -87,7 +83,7 @@ decided-small m w n d = by (decLt n maxNodes)
     by (yes k) = k
     by (no k) =
         let l : maxNodes ≤ n = omega arith in
-        absurd (clash (isDecided m n) d (ap (λ (b : Bool). b || bit (m .never) n) (behind (m .sure) n (omega (arith, w .sures))) ∙ behind (m .never) n (omega (arith, w .nevers))))
+        absurd (clash (isDecided m n) d (ap (λ (b : Bool). b || bit (m .never) n) (bit-behind (m .sure) n (omega (arith, w .sures))) ∙ bit-behind (m .never) n (omega (arith, w .nevers))))
 
 -- One of so many nodes is taken, and rows can be run.
 pub record NodeTaken (h : HeldRows) (count n : ℕ) (v : Live) : Type 0 where

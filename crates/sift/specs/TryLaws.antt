@@ -30,7 +30,8 @@ use Rattle.row_moves.specs.Held.{startBy, endBy, heldTerms}
 use Rattle.row_moves.specs.KeepsLaws.{Small, member-all}
 use Rattle.drain.specs.Drain.{withMarks}
 use Rattle.drain.specs.Sift.{Sifted, sifted, tryRow}
-use Rattle.drain.specs.SiftLaws.{tryTerms, tryResidual, tryLive, try-row, try-leaves}
+use Rattle.drain.specs.SiftLaws.{try-row, try-leaves}
+use Rattle.drain.specs.Steps.{tryTerms, tryResidual, tryLive}
 use Rattle.theorem_ends.specs.KeepsLaws.{residual-named}
 use Rattle.theorem_ends.specs.SettlesLaws.{fall-try}
 use Rattle.theorem_follows.specs.WaitingLaws.{queued-decide}

@@ -27,7 +27,8 @@ use Rattle.theorem_limits.specs.Good.{Fits as JobFits, Good}
 use Rattle.theorem_limits.specs.BlankLaws.{blank-begun}
 use Rattle.theorem_limits.specs.FilesLaws.{good-begun, both, Taken, taken, building-turn, change-turn, serving-turn, node-small, good-apply}
 use Rattle.theorem_follows.specs.Ordered.{Ordered}
-use Rattle.theorem_follows.specs.StandsLaws.{stay-same, stay-decide, apart-decide}
+use Rattle.theorem_follows.specs.StandsLaws.{apart-decide}
+use Rattle.queues.specs.StayLaws.{stay-same, stay-decide}
 use Rattle.theorem_follows.specs.BuiltLaws.{Built, built, rows-ordered}
 use Rattle.theorem_follows.specs.WaitingLaws.{queued-decide}
 use Rattle.theorem_follows.specs.FirstLaws.{Undrained, undrained-from, undrained-none}

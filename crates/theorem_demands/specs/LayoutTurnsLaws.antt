@@ -12,17 +12,18 @@ use Rattle.numeric.specs.Layout.{Layout, IsLayout}
 use Rattle.state.specs.Step.{contradicts}
 use Rattle.words.specs.Mask.{bit}
 use Rattle.queues.specs.Queue.{Rows, oldest, nextRow}
-use Rattle.queues.specs.Marks.{Marks, isDecided}
-use Rattle.queues.specs.MarksLaws.{mask}
+use Rattle.queues.specs.Marks.{Marks, isDecided, mask}
 use Rattle.rows.specs.Rows.{noRow}
 use Rattle.row_moves.specs.Between.{Index, Live, live, Did, runRow, thresholdGuard, thresholdCondition, thresholdPrefixes}
 use Rattle.row_moves.specs.WalkLaws.{guard-of-ends}
 use Rattle.drain.specs.Drain.{takeNode, takeRow, turn, atRest, settle}
-use Rattle.drain.specs.DrainLaws.{untaken, unrowed, nodeTold, nodeDrained, node-ends, row-ends, turn-ends, settle-walks}
+use Rattle.drain.specs.DrainLaws.{node-ends, row-ends, turn-ends, settle-walks}
+use Rattle.drain.specs.Steps.{untaken, unrowed, nodeTold, nodeDrained}
 use Rattle.theorem_table.specs.Table.{IsRow}
 use Rattle.theorem_table.specs.TableLaws.{le-same, follows-start}
 use Rattle.theorem_follows.specs.Ordered.{Ordered}
-use Rattle.theorem_follows.specs.StandsLaws.{tableAt, also, also-this, Apart, Stands, Stay, restart}
+use Rattle.theorem_follows.specs.StandsLaws.{tableAt, also, also-this, Apart, Stands, restart}
+use Rattle.queues.specs.StayLaws.{Stay}
 use Rattle.theorem_follows.specs.MovesLaws.{Kept, run-stands, guard-stands, prefixes-stand}
 use Rattle.theorem_follows.specs.DrainedLaws.{condition-stands}
 use Rattle.theorem_follows.specs.BuiltLaws.{Built}

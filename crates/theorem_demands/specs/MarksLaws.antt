@@ -10,7 +10,7 @@ use mathlib.Core.List.{List, [], _∷_, _++_, append-assoc, append-nil, List·Me
 use lib.Dec.{eqb, ltb}
 use borrow.Author.Tests.{eq-eqb, ne-eqb, ltb-false}
 use Rattle.words.specs.Mask.{bit}
-use Rattle.queues.specs.MarksLaws.{mask}
+use Rattle.queues.specs.Marks.{mask}
 use Rattle.rows.specs.Rows.{rowsOf}
 use Rattle.row_moves.specs.Between.{Live}
 use Rattle.theorem_table.specs.Table.{Table}

@@ -18,14 +18,15 @@ use Rattle.row_moves.specs.Between.{Index, Live, live, stateAt}
 use Rattle.row_moves.specs.KeepsLaws.{Small}
 use Rattle.drain.specs.Drain.{indexOf, mark, settle}
 use Rattle.drain.specs.Sift.{Sifted, tryRow, sift}
-use Rattle.drain.specs.SiftLaws.{tryTerms, tryResidual, tryLive, try-leaves, sift-walks}
+use Rattle.drain.specs.SiftLaws.{try-leaves, sift-walks}
+use Rattle.drain.specs.Steps.{tryTerms, tryResidual, tryLive}
 use Rattle.theorem_ends.specs.KeepsLaws.{residual-named}
 use Rattle.theorem_limits.specs.Good.{Fits}
 use Rattle.theorem_ends.specs.Sound.{Indexed}
 use Rattle.theorem_limits.specs.BuiltLaws.{indexed}
 use Rattle.theorem_table.specs.Table.{Table, start}
 use Rattle.theorem_follows.specs.DecideLaws.{decideAs}
-use Rattle.theorem_follows.specs.StandsLaws.{decide-nothing, not-decided}
+use Rattle.queues.specs.StayLaws.{decide-nothing, not-decided}
 use Rattle.theorem_follows.specs.StartLaws.{mark-leads, restarted}
 use Rattle.theorem_demands.specs.TableJobsLaws.{job-built, job-ordered, job-single}
 use Rattle.theorem_demands.specs.TableTurnsLaws.{Steady, Goes, settle-goes}
@@ -83,7 +84,7 @@ own-decide x v value m n small h =
     by false d = steady-own x _ _ (live (v .states) (decide false m n .marks) (v .dirty) (v .residuals)) (mark-goes x (start (bit (m .sure)) (bit (m .never))) w n false small h .0 (fine false d))
 
 -- A ROW IS TRIED
-try-keeps : (x : Index) → Indexed x → (v : Live) (gcds : List ℕ) (visits : ℕ) → Steady x (ownStart v) v
+pub try-keeps : (x : Index) → Indexed x → (v : Live) (gcds : List ℕ) (visits : ℕ) → Steady x (ownStart v) v
     → let w = tryRow x v gcds visits .live in Steady x (ownStart w) w
 try-keeps x ix v gcds visits h =
     let r = oldest (v .residuals .queue) in
@@ -97,7 +98,7 @@ module _ (j : Job) (f : Fits j) (rises : NodesRise (j .thresholds)) where
   abbrev x : Index
   x = indexOf j
 
-  settle-keeps : (v : Live) → Steady x (ownStart v) v → contradicts (settle x v .step) ≡ false → let w = settle x v .live in Steady x (ownStart w) w
+  pub settle-keeps : (v : Live) → Steady x (ownStart v) v → contradicts (settle x v .step) ≡ false → let w = settle x v .live in Steady x (ownStart w) w
   settle-keeps v h c = steady-own x _ _ (settle x v .live) (settle-goes j x (job-built j) (job-ordered j f) (job-single j rises) (ownStart v) v h .0 c)
 
   -- the nodes decided so far as a start

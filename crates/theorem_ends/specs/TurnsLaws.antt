@@ -27,8 +27,9 @@ use Rattle.links.specs.Links.{neighbours}
 use Rattle.row_runs.specs.Row.{Ran, thresholdRow, wantsResidual}
 use Rattle.row_runs.specs.RowLaws.{Kept, kept-row}
 use Rattle.row_moves.specs.Between.{Index, Live, live, Did, stateAt, withState, residualQueued, runWith, runRow, linkedQueued, thresholdGuard, guardOf, thresholdCondition, termCount, thresholdPrefixes}
-use Rattle.row_moves.specs.LoopLaws.{drained-lower, drained-upper, edgeRun, moved, movedRun}
-use Rattle.row_moves.specs.WalkLaws.{guardRow, guardTold, guard-ends, guard-of-ends, condition-keeps, prefix-keeps}
+use Rattle.row_moves.specs.LoopLaws.{drained-lower, drained-upper}
+use Rattle.row_moves.specs.Handing.{edgeRun, moved, movedRun, guardRow, guardTold}
+use Rattle.row_moves.specs.WalkLaws.{guard-ends, guard-of-ends, condition-keeps, prefix-keeps}
 use Rattle.row_moves.specs.KeepsLaws.{Small, names-all, row-named}
 use Rattle.theorem_ends.specs.LeftLaws.{load, load-decide, load-most}
 use Rattle.theorem_ends.specs.RoomsLaws.{room, rooms, rooms-set, rooms-most, set-bounded, bounded-same, room-same, tells-guard, tells-moved}

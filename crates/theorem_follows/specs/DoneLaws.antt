@@ -31,7 +31,8 @@ use Rattle.tightening.specs.Told.{guardState, movedLower, movedState}
 use Rattle.tightening.specs.ToldLaws.{guard-cases, lower-cases, upper-cases}
 use Rattle.row_moves.specs.Between.{Index, Live, live, stateAt, Did, runRow, runWith, thresholdGuard, thresholdCondition, termCount, thresholdPrefixes}
 use Rattle.row_moves.specs.LoopLaws.{condition-walk}
-use Rattle.row_moves.specs.WalkLaws.{walk-fine, prefix-fine, guardRow, guard-ends}
+use Rattle.row_moves.specs.WalkLaws.{walk-fine, prefix-fine, guard-ends}
+use Rattle.row_moves.specs.Handing.{guardRow}
 use Rattle.theorem_table.specs.Table.{IsRow}
 use Rattle.theorem_table.specs.OrderLaws.{le, lt, of-le, <ℤ-≤ℤ, max-up}
 use Rattle.theorem_follows.specs.CompleteLaws.{Wide, Has, Meets, wide-decide, has-stays}

@@ -12,8 +12,7 @@ use Rattle.base.specs.TestLaws.{clash}
 use Rattle.state.specs.declared.State.{State}
 use Rattle.state.specs.State.{noState}
 use Rattle.words.specs.Mask.{bit}
-use Rattle.queues.specs.Marks.{isDecided}
-use Rattle.queues.specs.MarksLaws.{mask}
+use Rattle.queues.specs.Marks.{isDecided, mask}
 use Rattle.queues.specs.Waiting.{Waits, Queued}
 use Rattle.rows.specs.Rows.{Row, noRow, stateOfRow}
 use Rattle.row_moves.specs.Between.{Index, Live, live, stateAt, firstStates}

@@ -31,8 +31,9 @@ use Rattle.tightening.specs.declared.Tightened.{Tightened}
 use Rattle.tightening.specs.Told.{movedLower, movedState, under}
 use Rattle.tightening.specs.ToldLaws.{lower-cases, upper-cases}
 use Rattle.row_moves.specs.Between.{Index, Live, live, stateAt, Did, runRow, runWith, thresholdGuard, thresholdCondition, termCount, prefixesFrom, thresholdPrefixes}
-use Rattle.row_moves.specs.LoopLaws.{drained-lower, drained-upper, edgeRun, moved, movedRun}
-use Rattle.row_moves.specs.WalkLaws.{prefix-fine, guardRow, guardTold, guard-ends, condition-keeps}
+use Rattle.row_moves.specs.LoopLaws.{drained-lower, drained-upper}
+use Rattle.row_moves.specs.Handing.{edgeRun, moved, movedRun, guardRow, guardTold}
+use Rattle.row_moves.specs.WalkLaws.{prefix-fine, guard-ends, condition-keeps}
 use Rattle.theorem_table.specs.Table.{Table, IsRow, termsOf, IsPrefix}
 use Rattle.theorem_table.specs.OrderLaws.{le, ≤ℤ-trans, UpLe, up-refl, up-trans}
 use Rattle.theorem_follows.specs.StandsLaws.{Stands}

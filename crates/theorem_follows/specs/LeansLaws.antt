@@ -18,9 +18,8 @@ use Rattle.state.specs.declared.Upper.{Upper}
 use Rattle.state.specs.declared.Upper.the-variants.{Open, Under}
 use Rattle.state.specs.State.{withLower, withUpper, drained}
 use Rattle.words.specs.Mask.{bit}
-use Rattle.queues.specs.Marks.{Marks, isDecided, decide}
+use Rattle.queues.specs.Marks.{Marks, isDecided, decide, mask}
 use Rattle.queues.specs.Queue.{Rows}
-use Rattle.queues.specs.MarksLaws.{mask}
 use Rattle.rows.specs.Rows.{Row, noRow, Guard, guard, alone, Edge, edgesOf, rowNumber}
 use Rattle.links.specs.Links.{neighbours}
 use Rattle.tightening.specs.declared.Tightened.{Tightened}
@@ -28,8 +27,9 @@ use Rattle.row_runs.specs.Row.{thresholdRow}
 use Rattle.tightening.specs.Told.{movedLower, movedUpper, movedState}
 use Rattle.tightening.specs.ToldLaws.{guard-cases, lower-cases, upper-cases}
 use Rattle.row_moves.specs.Between.{Index, Live, live, stateAt, withState, withDirty, Did, runRow, runWith, thresholdGuard, thresholdCondition, termCount, thresholdPrefixes}
-use Rattle.row_moves.specs.LoopLaws.{drained-lower, drained-upper, moved, movedRun}
-use Rattle.row_moves.specs.WalkLaws.{guardRow, guardTold, guard-ends, condition-keeps, prefix-keeps}
+use Rattle.row_moves.specs.LoopLaws.{drained-lower, drained-upper}
+use Rattle.row_moves.specs.Handing.{moved, movedRun, guardRow, guardTold}
+use Rattle.row_moves.specs.WalkLaws.{guard-ends, condition-keeps, prefix-keeps}
 use Rattle.theorem_table.specs.Table.{Table, IsRow, Guards, IsPrefix}
 use Rattle.theorem_table.specs.OrderLaws.{≤ℤ-trans, UpLe, up-refl, up-trans}
 use Rattle.theorem_table.specs.TableLaws.{alone-reached}

@@ -30,8 +30,8 @@ use Rattle.row_runs.specs.Row.{Ran, thresholdRow}
 use Rattle.tightening.specs.Told.{guardState, movedLower, movedUpper, movedState, under}
 use Rattle.tightening.specs.ToldLaws.{guard-cases, lower-cases, upper-cases}
 use Rattle.row_moves.specs.Between.{Index, Live, live, stateAt, withState, withDirty, Did, runRow, runWith, thresholdGuard, termCount, thresholdPrefixes}
-use Rattle.row_moves.specs.LoopLaws.{movedRun}
-use Rattle.row_moves.specs.WalkLaws.{guardRow, guardTold, guard-ends, prefix-walks}
+use Rattle.row_moves.specs.Handing.{movedRun, guardRow, guardTold}
+use Rattle.row_moves.specs.WalkLaws.{guard-ends, prefix-walks}
 use Rattle.theorem_table.specs.Table.{Table, IsRow, termsOf, Guards, IsPrefix, AtRest}
 use Rattle.theorem_table.specs.OrderLaws.{lt, ≤ℤ-trans, <ℤ-≤ℤ, UpLe, up-refl, up-trans}
 use Rattle.theorem_table.specs.TableLaws.{Le, alone-reached}
@@ -39,7 +39,8 @@ use Rattle.theorem_table.specs.JudgedLaws.{rest-calm, calm-sure, calm-never, ca
 use Rattle.theorem_follows.specs.DecideLaws.{tableOf, Broken, follows-below}
 use Rattle.theorem_follows.specs.RowLaws.{Fine, row-fine}
 use Rattle.theorem_follows.specs.CursorsLaws.{row-goes}
-use Rattle.theorem_follows.specs.StandsLaws.{tableAt, Apart, Stands, Stay, stay-same, stay-decide, stay-le, apart-decide, put-state, known-inside, possible-inside, restart, put-stands}
+use Rattle.theorem_follows.specs.StandsLaws.{tableAt, Apart, Stands, stay-le, apart-decide, put-state, known-inside, possible-inside, restart, put-stands}
+use Rattle.queues.specs.StayLaws.{Stay, stay-same, stay-decide}
 
 -- An upper bound that lies above a number says no more than the number as a bound would.
 pub not-above : (z : ℤ) (y : Upper) → upperAtMost y z ≡ false → UpLe (Under z) y

@@ -26,12 +26,14 @@ use Rattle.row_moves.specs.Between.{Live, live, stateAt}
 use Rattle.theorem_table.specs.Table.{Table, IsRow, Guards, knownOf, reachedOf, OtherReached}
 use Rattle.theorem_table.specs.OrderLaws.{le, of-le, ≤ℤ-trans, max-up, UpLe, up-trans}
 use Rattle.theorem_follows.specs.Ordered.{Each}
-use Rattle.theorem_follows.specs.RowLaws.{mem-take, StandsFor, Fine, row-fine}
+use Rattle.theorem_follows.specs.RowLaws.{StandsFor, Fine, row-fine}
+use Rattle.base.specs.MembersLaws.{mem-take}
 use Rattle.theorem_follows.specs.DecideLaws.{tableOf}
 use Rattle.theorem_follows.specs.CompleteLaws.{Has}
 use Rattle.theorem_follows.specs.DoneLaws.{Grows, taken-cases}
 use Rattle.theorem_follows.specs.RowCompleteLaws.{SameFigures, RowDone}
-use Rattle.theorem_follows.specs.StandsLaws.{tableAt, Stands, known-inside, possible-inside, Stay, stay-same, stay-decide, stay-le, Apart, apart-decide}
+use Rattle.theorem_follows.specs.StandsLaws.{tableAt, Stands, known-inside, possible-inside, stay-le, Apart, apart-decide}
+use Rattle.queues.specs.StayLaws.{Stay, stay-same, stay-decide}
 
 -- The figures of a row reach a bound; those of the other row, if a guard asks for one.
 abbrev pub Reaches : Live → ℕ → ℤ → Type 0

@@ -21,8 +21,8 @@ use Rattle.state.specs.Step.{contradicts}
 use Rattle.state.specs.State.{noState, firstState}
 use Rattle.words.specs.Mask.{bit}
 use Rattle.queues.specs.Queue.{Rows, oldest, popped, nextRow}
-use Rattle.queues.specs.Marks.{Marks, marks, isDecided, Decided, decide}
-use Rattle.queues.specs.MarksLaws.{mask, decide-has, decide-there, decide-new}
+use Rattle.queues.specs.Marks.{Marks, marks, isDecided, Decided, decide, mask}
+use Rattle.queues.specs.MarksLaws.{decide-has, decide-there, decide-new}
 use Rattle.queues.specs.Waiting.{Waits, Queued}
 use Rattle.row.specs.Terms.{total}
 use Rattle.rows.specs.Rows.{Row, noRow, Guard, stateOfRow}
@@ -34,7 +34,8 @@ use Rattle.theorem_follows.specs.DecideLaws.{tableOf, Broken, decideAs, 
 use Rattle.theorem_follows.specs.RowLaws.{decide-grows}
 use Rattle.theorem_follows.specs.CompleteLaws.{Wide, wide-decide}
 use Rattle.theorem_follows.specs.RowCompleteLaws.{Passed}
-use Rattle.theorem_follows.specs.StandsLaws.{tableAt, among, also, also-this, also-before, also-which, Apart, Stands, known-same, possible-same, among-stay, Stay, stay-same, stay-decide, stay-decided, stay-le, apart-decide}
+use Rattle.theorem_follows.specs.StandsLaws.{tableAt, among, also, also-this, also-before, also-which, Apart, Stands, known-same, possible-same, among-stay, stay-le, apart-decide}
+use Rattle.queues.specs.StayLaws.{Stay, stay-same, stay-decide, stay-decided}
 use Rattle.theorem_follows.specs.DoneLaws.{Done, Grows, passed-up, complete-up}
 use Rattle.theorem_follows.specs.ToldLaws.{Told}
 use Rattle.theorem_follows.specs.HandedLaws.{Handed, taken-handed}
