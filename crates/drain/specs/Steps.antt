@@ -11,20 +11,19 @@ use Rattle.rows.specs.Rows.{noRow}
 use Rattle.intervals.specs.Residual.{Residual, thresholdResidual}
 use Rattle.searches.specs.declared.Search.{Search}
 use Rattle.searches.specs.Search.{search, searchStep, searchVisits}
-use Rattle.row_moves.specs.Between.{Index, Live, live, stateAt, Did, firstStates, guardOf, thresholdCondition}
-use Rattle.drain.specs.Drain.{withMarks}
+use Rattle.row_moves.specs.Between.{Index, Live, stateAt, Did, firstStates, guardOf, thresholdCondition, withDirtyRows, withResiduals, withStates, withMarks}
 use Rattle.drain.specs.Sift.{Sifted, sifted}
 
 -- All rows have their first states.
 abbrev pub begun : Index → Live → Live
-begun x v = live (firstStates 0 (x .rows) (v .states)) (v .marks) (v .dirty) (v .residuals)
+begun x v = withStates v (firstStates 0 (x .rows) (v .states))
 
 -- The live state without its oldest node, and without its oldest row.
 abbrev pub untaken : Live → Live
 untaken v = withMarks v (marks (v .marks .sure) (v .marks .never) (popped maxNodes (v .marks .nodes)))
 
 abbrev pub unrowed : Live → Live
-unrowed v = live (v .states) (v .marks) (nextRow (v .dirty)) (v .residuals)
+unrowed v = withDirtyRows v (nextRow (v .dirty))
 
 -- The oldest node's guard, and after it its condition.
 module _ (x : Index) (v : Live) where
@@ -46,7 +45,7 @@ module _ (x : Index) (v : Live) (gcds : List ℕ) where
   trySearch = search (tryTerms x v) (stateAt v (oldest (v .residuals .queue))) (isDecided (tryResidual .marks))
 
   abbrev pub tryLive : Live
-  tryLive = live (v .states) (tryResidual .marks) (v .dirty) (nextRow (v .residuals))
+  tryLive = withResiduals (withMarks v (tryResidual .marks)) (nextRow (v .residuals))
 
   -- What trying comes to, by the answer of the residual.
   abbrev pub tried : ℕ → Bool → Sifted

@@ -20,7 +20,7 @@ use Rattle.queues.specs.Queue.{queueRow}
 use Rattle.rows.specs.Rows.{Row, Edge, edgesOf, rowNumber}
 use Rattle.links.specs.Links.{neighbours}
 use Rattle.base.specs.TestLaws.{contrary}
-use Rattle.row_moves.specs.Between.{Index, Live, live, stateAt, withState, withDirty, Did, did, runRow, withBound, bounded, thresholdGuard, guardOf, conditionFrom, thresholdCondition, prefixesFrom, thresholdPrefixes, seedFrom}
+use Rattle.row_moves.specs.Between.{Index, Live, stateAt, withState, withDirty, Did, did, runRow, bounded, thresholdGuard, guardOf, conditionFrom, thresholdCondition, prefixesFrom, thresholdPrefixes, seedFrom, withDirtyRows}
 use Rattle.row_moves.specs.Handing.{after, toldStep, after-told, edgeRun, moved, movedRun, handRun, guardRow, guardTold, guardRun, Among}
 use Rattle.row_moves.specs.LoopLaws.{Walk, walk-end, walk-next, walk-stop, condition-walk, hand-ends, prefix-walk, seed-next, seed-stop, seed-end}
 
@@ -175,7 +175,7 @@ module _ (x : Index) (Ok : ℕ → Type 0) (Q : Live → Type 0) (h : Moves x Ok
       w : Live
       w = withState v r (guardTold x v t .state)
 
-      by : (b : Bool) → Q (live (w .states) (w .marks) (cond b (w .dirty) (queueRow (w .dirty) r)) (w .residuals))
+      by : (b : Bool) → Q (withDirtyRows w (cond b (w .dirty) (queueRow (w .dirty) r)))
       by true = h .put v r _ q
       by false = h .wait w r k (h .put v r _ q)
 

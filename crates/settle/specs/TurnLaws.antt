@@ -25,7 +25,7 @@ use Rattle.queues.specs.RowsLaws.{flags-next, oldest-row}
 use Rattle.queues.specs.Marks.{Marks, marks, isDecided}
 use Rattle.queues.specs.MarksLaws.{waits-popped}
 use Rattle.queues.specs.Waiting.{Waits, Flags}
-use Rattle.row_moves.specs.Between.{Index, Live, live, Did, did, guardOf, thresholdCondition, thresholdPrefixes}
+use Rattle.row_moves.specs.Between.{Index, Live, Did, did, guardOf, thresholdCondition, thresholdPrefixes, withDirtyRows, withMarks, withResiduals}
 use Rattle.row_moves.specs.Handing.{after}
 use Rattle.row_moves.specs.Held.{startBy, endBy}
 use Rattle.row_moves.specs.WalkLaws.{Moves}
@@ -167,11 +167,11 @@ module _ (x : Index) (bounds : List ℤ) (b : Built) (s : Serves x bounds b) (v 
   -- The node and the ring as the code has them.
   module _ (i : ℕ) (e : i ≡ n) (next : Ring) (f : next ≡ poppedRing maxNodes (v .marks .nodes .ring)) where
     abbrev pub rest : Live
-    rest = live (v .states) (marks (v .marks .sure) (v .marks .never) (queue (v .marks .nodes .items) next)) (v .dirty) (v .residuals)
+    rest = withMarks v (marks (v .marks .sure) (v .marks .never) (queue (v .marks .nodes .items) next))
 
     rest-is : rest ≡ untaken v
     unfolding popped
-    rest-is = ap (λ (r : Ring). live (v .states) (marks (v .marks .sure) (v .marks .never) (queue (v .marks .nodes .items) r)) (v .dirty) (v .residuals)) f
+    rest-is = ap (λ (r : Ring). withMarks v (marks (v .marks .sure) (v .marks .never) (queue (v .marks .nodes .items) r))) f
 
     pub node-taken : NodeTaken (b .held) (length (b .nodes)) i rest
     node-taken = record {
@@ -243,15 +243,15 @@ pub row-there : (n : ℕ) (q : Rows) → Flags q → 0 < q .queue .ring .count �
 row-there n q f some a i e = omega (arith, oldest-among n q f some a)
 
 module _ (v : Live) (some : 0 < v .dirty .queue .ring .count) (rows residuals : Rows) (e : rows ≡ nextRow (v .dirty)) (f : residuals ≡ v .residuals) where
-  pub row-run : (h : HeldRows) (n : ℕ) → Runnable h n v → Runnable h n (live (v .states) (v .marks) rows residuals)
+  pub row-run : (h : HeldRows) (n : ℕ) → Runnable h n v → Runnable h n (withResiduals (withDirtyRows v rows) residuals)
   row-run h n a = record { ready = subst (Ready h n (v .states) (v .marks)) (sym f) (a .ready); dirty = subst Flags (sym e) (flags-next (v .dirty) (a .dirty) some) }
 
-  pub row-is : (x : Index) (i : ℕ) → i ≡ oldest (v .dirty .queue) → (o : Did) → o ≡ thresholdPrefixes x (live (v .states) (v .marks) rows residuals) i → o ≡ takeRow x v
+  pub row-is : (x : Index) (i : ℕ) → i ≡ oldest (v .dirty .queue) → (o : Did) → o ≡ thresholdPrefixes x (withResiduals (withDirtyRows v rows) residuals) i → o ≡ takeRow x v
   row-is x i g o made =
       row-ends x v (λ (d : Did). o ≡ d)
       (made
-      ∙ ap (λ (q : Rows). thresholdPrefixes x (live (v .states) (v .marks) q residuals) i) e
-      ∙ ap (λ (q : Rows). thresholdPrefixes x (live (v .states) (v .marks) (nextRow (v .dirty)) q) i) f
+      ∙ ap (λ (q : Rows). thresholdPrefixes x (withResiduals (withDirtyRows v q) residuals) i) e
+      ∙ ap (λ (q : Rows). thresholdPrefixes x (withResiduals (withDirtyRows v (nextRow (v .dirty))) q) i) f
       ∙ ap (thresholdPrefixes x (unrowed v)) g)
 
 -- ---- a turn

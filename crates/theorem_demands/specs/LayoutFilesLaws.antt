@@ -16,6 +16,7 @@ use Rattle.numeric.specs.Layout.{Layout, IsLayout}
 use Rattle.queues.specs.Marks.{Marks, decide}
 use Rattle.rows.specs.Rows.{noRow, rowsOf}
 use Rattle.intervals.specs.SoundLaws.{Kept, decide-kept}
+use Rattle.row_moves.specs.Between.{withMarks}
 use Rattle.drain.specs.Drain as Drain
 use Rattle.drain.specs.Drain.{indexOf}
 use Rattle.records.specs.declared.Record.{Record}
@@ -135,7 +136,7 @@ module _ (w : Layout) (f : File) (g : Good f) where
         k : Kept w (decide (eqb v 1) m n)
         k = decide-kept w (eqb v 1) m n e (agrees-fits (indexOf (f .closed)) w (f .live) (c .between .1 .agrees))
 
-        holds : Holds (indexOf (f .closed)) w (c .between .0) (c .between .0) (Drain.withMarks (f .live) (decide (eqb v 1) m n .marks))
+        holds : Holds (indexOf (f .closed)) w (c .between .0) (c .between .0) (withMarks (f .live) (decide (eqb v 1) m n .marks))
         holds =
             marked (indexOf (f .closed)) w (c .between .0) (c .between .0) (c .between .0) (f .live) (decide (eqb v 1) m n .marks) (f .live .dirty) (f .live .residuals) (c .between .1)
             (stay-decide m (eqb v 1) m n (stay-same m)) (apart-decide (eqb v 1) m n (c .between .1 .stands .apart)) (k .0)

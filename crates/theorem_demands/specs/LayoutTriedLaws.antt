@@ -39,7 +39,7 @@ use Rattle.intervals.specs.Residual.{interval, residualCheck, suffixes, placed,
 use Rattle.intervals.specs.CheckLaws.{check-unit}
 use Rattle.intervals.specs.ForceLaws.{force-cases, from-skip, from-stop, from-more, residual-none, residual-rest, residual-forced}
 use Rattle.intervals.specs.SumsLaws.{openWeights, openSum, sum, open-skip, open-more}
-use Rattle.intervals.specs.SoundLaws.{Distinct, distinct-in, residual-sound}
+use Rattle.intervals.specs.SoundLaws.{distinct-in, residual-sound}
 use Rattle.searches.specs.Search.{plan, search, searchStep, chosen}
 use Rattle.searches.specs.SearchLaws.{search-refutes}
 use Rattle.row_moves.specs.Between.{Index, Live, stateAt}

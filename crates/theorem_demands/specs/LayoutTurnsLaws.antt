@@ -14,7 +14,7 @@ use Rattle.words.specs.Mask.{bit}
 use Rattle.queues.specs.Queue.{Rows, oldest, nextRow}
 use Rattle.queues.specs.Marks.{Marks, isDecided, mask}
 use Rattle.rows.specs.Rows.{noRow}
-use Rattle.row_moves.specs.Between.{Index, Live, live, Did, runRow, thresholdGuard, thresholdCondition, thresholdPrefixes}
+use Rattle.row_moves.specs.Between.{Index, Live, Did, runRow, thresholdGuard, thresholdCondition, thresholdPrefixes, withDirtyRows, withMarks, withResiduals}
 use Rattle.row_moves.specs.WalkLaws.{guard-of-ends}
 use Rattle.drain.specs.Drain.{takeNode, takeRow, turn, atRest, settle}
 use Rattle.drain.specs.DrainLaws.{node-ends, row-ends, turn-ends, settle-walks}
@@ -61,10 +61,10 @@ agrees-fits x w v a false n e = a .never n e
 
 -- MORE NODES DECIDED, or other queues, and all row states as they were
 pub marked : (x : Index) (w : Layout) (drained taken now : ℕ → Bool) (v : Live) (m : Marks) (d q : Rows) → Holds x w drained taken v
-    → Stay (v .marks) m → Apart m → Fits w m → Queued now m → Holds x w drained now (live (v .states) m d q)
+    → Stay (v .marks) m → Apart m → Fits w m → Queued now m → Holds x w drained now (withResiduals (withDirtyRows (withMarks v m) d) q)
 marked x w drained taken now v m d q h stay apart fits queued = record {
-  stands = marked-stands x v m d q stay (wide-of m (queued .queue)) (tableAt v) (tableAt (live (v .states) m d q)) (λ (r : ℕ). drained) apart (le-same (tableAt (live (v .states) m d q)))
-      (follows-start (x .rows) (tableAt (live (v .states) m d q))) (h .stands);
+  stands = marked-stands x v m d q stay (wide-of m (queued .queue)) (tableAt v) (tableAt (withResiduals (withDirtyRows (withMarks v m) d) q)) (λ (r : ℕ). drained) apart (le-same (tableAt (withResiduals (withDirtyRows (withMarks v m) d) q)))
+      (follows-start (x .rows) (tableAt (withResiduals (withDirtyRows (withMarks v m) d) q))) (h .stands);
   agrees = record { sure = λ n e. fits true n e; never = λ n e. fits false n e; lower = h .agrees .lower; upper = h .agrees .upper };
   queued = queued;
 }

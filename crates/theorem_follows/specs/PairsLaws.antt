@@ -6,7 +6,7 @@ use mathlib.Core.Path.{_≡_, refl, sym, ap, ap₂, _∙_, subst}
 use mathlib.Core.Bool.{Bool, true, false, cond, _&&_, _||_}
 use mathlib.Core.List.{List, [], _∷_, map, List·Memᴰ, Memᴰ·map, Memᴰ·of-map, List·Memᴰ·append-cases}
 use mathlib.Core.Logic.{_⊎_, inl, inr, ⊎-elim, _≢_}
-use lib.ListN.{length, getD, set, take, drop, take-append-drop}
+use lib.ListN.{length, getD, take, drop, take-append-drop}
 use lib.Seq.{getD-set-same, getD-set-other}
 use lib.IntN.{ℤ}
 use lib.Signed.{leZ, _≤ℤ_, ≤ℤ-refl}
@@ -22,7 +22,7 @@ use Rattle.queues.specs.Queue.{Rows}
 use Rattle.queues.specs.Marks.{Marks, decide}
 use Rattle.theorem_table.specs.TableLaws.{other-up}
 use Rattle.row_runs.specs.Row.{Ran, deciding, thresholdRow}
-use Rattle.row_moves.specs.Between.{Live, live, stateAt}
+use Rattle.row_moves.specs.Between.{Live, stateAt, withDirtyRows, withMarks, withResiduals, withState}
 use Rattle.theorem_table.specs.Table.{Table, IsRow, Guards, knownOf, reachedOf, OtherReached}
 use Rattle.theorem_table.specs.OrderLaws.{le, of-le, ≤ℤ-trans, max-up, UpLe, up-trans}
 use Rattle.theorem_follows.specs.Ordered.{Each}
@@ -240,7 +240,7 @@ module _ (rows : List Row) (v : Live) (r : ℕ) (room : r < length (v .states)) 
   ran = thresholdRow (rowNow v (getD rows r noRow)) (stateAt v r) (v .marks)
 
   abbrev after : Live
-  after = live (set (v .states) r (ran .state)) (ran .marks) d q
+  after = withResiduals (withDirtyRows (withMarks (withState v r (ran .state)) (ran .marks)) d) q
 
   pub standing-run : Grows (v .marks) (ran .marks) → RowDone (rowNow v (getD rows r noRow)) (stateAt v r) ran → RowRun rows v after r
   standing-run grows k = record {

@@ -6,7 +6,7 @@ use native.Mathlib.Decide.{ℕ-discrete}
 use native.Mathlib.Omega.{arith}
 use mathlib.Core.Path.{_≡_, refl, sym, ap, ap₂, _∙_, subst}
 use mathlib.Core.Bool as B
-use mathlib.Core.Bool.{Bool, true, false, not, cond, _&&_}
+use mathlib.Core.Bool.{Bool, true, false, cond, _&&_}
 use mathlib.Core.List.{List, [], _∷_, List·Memᴰ, List·Memᴰ·head, List·Memᴰ·tail}
 use mathlib.Core.Logic.{_⊎_, inl, inr, _≢_}
 use lib.ListN.{length, getD, set, length-set}
@@ -26,7 +26,7 @@ use Rattle.queues.specs.MarksLaws.{decide-other, decide-opposite}
 use Rattle.queues.specs.StayLaws.{Stay, stay-decided, sure-decided, never-decided, decide-nothing, not-decided}
 use Rattle.queues.specs.Queue.{Rows}
 use Rattle.rows.specs.Rows.{Row}
-use Rattle.row_moves.specs.Between.{Live, live, stateAt}
+use Rattle.row_moves.specs.Between.{Live, stateAt, withDirtyRows, withMarks, withResiduals, withState}
 use Rattle.theorem_table.specs.Table.{Table, IsRow, termsOf, known, possible, knownOf, possibleOf}
 use Rattle.theorem_table.specs.OrderLaws.{pos-≤ℤ, up-refl}
 use Rattle.theorem_table.specs.TableLaws.{Le, le-same, le-then, Follows, follows-start, known-up, possible-down}
@@ -182,12 +182,12 @@ module _ (rows : List Row) (s : Table) (drained : ℕ → ℕ → Bool) (v : Liv
   }
 
   -- ONE ROW'S STATE AND THE MARKS PUT ANEW, known and possible as they were: what follows and lies above stands.
-  pub put-stands : (r : ℕ) (st : State) (m : Marks) (d q : Rows) → IsRow rows r → let w = live (set (v .states) r st) m d q in
+  pub put-stands : (r : ℕ) (st : State) (m : Marks) (d q : Rows) → IsRow rows r → let w = withResiduals (withDirtyRows (withMarks (withState v r st) m) d) q in
       st .known ≡ stateAt v r .known → st .possible ≡ stateAt v r .possible → Stay (v .marks) m → Apart m
       → Le (tableAt v) (tableAt w) → Follows rows s (tableAt w) → Stands rows s drained w
   put-stands r st m d q i a b stay apart up f = record {
     sized = subst (λ (n : ℕ). length rows ≤ n) (sym (length-set (v .states) r st)) (h .sized);
-    above = le-then s (tableAt v) (tableAt (live (set (v .states) r st) m d q)) (h .above) up;
+    above = le-then s (tableAt v) (tableAt (withResiduals (withDirtyRows (withMarks (withState v r st) m) d) q)) (h .above) up;
     follows = f;
     apart = apart;
     decided = λ k n e. stay-decided (v .marks) m stay n (h .decided k n e);
