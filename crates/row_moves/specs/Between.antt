@@ -35,7 +35,7 @@ pub record Live : Type 0 where
 abbrev pub live : List State → Marks → Rows → Rows → Live
 live s m d r = record { states = s; marks = m; dirty = d; residuals = r }
 
--- One part put anew. What changes a live state is made of these, so that a part more stands in no other definition.
+-- One part put anew. What changes a live state is made of these, so that no other definition lists its parts.
 abbrev pub withStates : Live → List State → Live
 withStates v s = live s (v .marks) (v .dirty) (v .residuals)
 
