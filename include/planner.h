@@ -1,10 +1,14 @@
-/* The threshold planner for C and C++: link libplanner.a (bindings/archive makes it).
+/* The threshold planner for C and C++: link libplanner, static or shared (`pkg-config planner` once bindings/install has put it somewhere).
 
    One call runs a whole job file over buffers that its caller lends. The call clears them, takes each record or refuses it by a number, and
-   leaves nodes, rows and answers in them. It keeps nothing between calls and needs no other memory but some 53 KB of stack, so that threads
-   may call it at the same time, each with its own buffers. The shortest way is a `struct planner_work` and `planner_plan`.
+   leaves nodes, rows and answers in them. It keeps nothing between calls and needs no other memory but PLANNER_RUN_STACK bytes of stack, so
+   that threads may call it at the same time, each with its own buffers. The shortest way is a `struct planner_work` and `planner_plan`; then
+   ask whether a record was refused (given.refused), whether a layout is left (planner_contradicted) and whether marks wait for a settle
+   (planner_unsettled_marks), before any node is believed.
 
-   What both functions promise is proved, for every input and whatever the buffers held before. A caller keeps what C cannot test:
+   docs/FORMAT.md has the job file, record by record, and the listing, line by line.
+
+   What planner_run and planner_list promise is proved, for every input and whatever the buffers held before. A caller keeps what C cannot test:
    - no pointer is null, also where the length is 0, and each is aligned for its elements;
    - each length is true: that many elements, not bytes, may be read and, unless it is const, written;
    - what is lent to be written overlaps nothing else that is lent to the same call, and nothing else touches it meanwhile. */
@@ -18,6 +22,29 @@
 #ifdef __cplusplus
 extern "C" {
 #endif
+
+/* The version of this header: 0.N.P, where N is raised by every change of a function, a buffer, a limit or the format, and P by any other.
+   planner_version() says that of the library which a program runs with: a static text, PLANNER_VERSION of the header that it was built by. */
+#define PLANNER_VERSION_MAJOR 0
+#define PLANNER_VERSION_MINOR 3
+#define PLANNER_VERSION_PATCH 0
+#define PLANNER_TEXT_OF(number) #number
+#define PLANNER_TEXT(number) PLANNER_TEXT_OF(number)
+#define PLANNER_VERSION PLANNER_TEXT(PLANNER_VERSION_MAJOR) "." PLANNER_TEXT(PLANNER_VERSION_MINOR) "." PLANNER_TEXT(PLANNER_VERSION_PATCH)
+
+const char *planner_version(void);
+
+/* Kinds of records: one byte, then the fields of the body, little-endian. docs/FORMAT.md has the turn and the limits of each. */
+enum planner_kind {
+    PLANNER_KIND_HEADER = 0x01,    /* nodes u16 */
+    PLANNER_KIND_THRESHOLD = 0x02, /* node u16, bound i64 */
+    PLANNER_KIND_TERM = 0x03,      /* condition u16, weight u32: of the open threshold */
+    PLANNER_KIND_SEAL = 0x04,      /* no body */
+    PLANNER_KIND_MARK = 0x05,      /* node u16, value u8: 1 sure, 0 never */
+    PLANNER_KIND_SETTLE = 0x06,    /* no body */
+    PLANNER_KIND_SIFT = 0x07,      /* no body */
+    PLANNER_KIND_AREA = 0x08       /* condition u16, area u32 in hundredths: of the open threshold */
+};
 
 /* Limits of a job file; a record beyond one is refused by PLANNER_TOO_MANY, a longer input by PLANNER_TOO_LONG. */
 enum {
@@ -56,13 +83,19 @@ enum {
     PLANNER_LISTING = 262144 /* bytes of the buffer that a listing is made in */
 };
 
+/* Bytes of stack for a call of each function: what was measured (bindings/c/stack.c) and room above it. A thread needs some beside it. */
+enum {
+    PLANNER_RUN_STACK = 98304,  /* planner_run, planner_plan: 54 KB measured */
+    PLANNER_LIST_STACK = 655360 /* planner_list: 464 KB measured */
+};
+
 /* Why a record is refused. The first that applies is given, in the order TOO_LONG, UNKNOWN_KIND, CUT_OFF, OUT_OF_TURN, CONTRADICTED,
    NO_SUCH_NODE, NOT_RISING, BOUND_OUTSIDE, NO_VALUE, TOO_MANY. What the records before it did stays. */
 enum planner_refusal {
     PLANNER_ACCEPTED = 0,      /* every record was taken */
     PLANNER_CUT_OFF = 1,       /* the input ends inside the record */
     PLANNER_UNKNOWN_KIND = 2,  /* kind 0x00 or above 0x08 */
-    PLANNER_OUT_OF_TURN = 3,   /* a header that is not first, a job record behind the seal, a mark, settle or sift before it, .. */
+    PLANNER_OUT_OF_TURN = 3,   /* a header that is not first, a job record after the seal, a mark, settle or sift before it, .. */
     PLANNER_TOO_MANY = 4,      /* nodes, thresholds, terms, or settles and sifts beyond a limit */
     PLANNER_NO_SUCH_NODE = 5,  /* a node or condition not below the job's node count */
     PLANNER_NOT_RISING = 6,    /* a threshold's node not above that of the threshold before */
@@ -79,7 +112,7 @@ enum planner_step {
     PLANNER_CONTRADICTION = 2 /* no layout agrees with the marks */
 };
 
-/* What stands in answers[i][0]: the step of a settle, or that of a sift and 4 more. */
+/* What is in answers[i][0]: the step of a settle, or that of a sift and 4 more. */
 enum planner_answer {
     PLANNER_SETTLE_UNCHANGED = 0,
     PLANNER_SETTLE_CHANGED = 1,
@@ -100,7 +133,28 @@ struct planner_given {
     size_t answered; /* how many settles and sifts were answered */
 };
 
-/* THE CALL. Each buffer is followed by its number of elements; what it holds afterwards stands beside it in struct planner_work. */
+/* Whether no layout is left: a seal, mark, settle or sift found a contradiction. The nodes are then not to be used. */
+static inline int planner_contradicted(struct planner_given given)
+{
+    return given.last == PLANNER_CONTRADICTION;
+}
+
+/* How many marks were taken after the last settle or sift of this input: what they force, and whether they leave a layout, is not worked
+   out. It is 0 of a file that ends with a settle or a sift. */
+static inline size_t planner_unsettled_marks(struct planner_given given, const uint8_t *input)
+{
+    static const uint8_t bodies[] = {0, 2, 10, 6, 0, 3, 0, 0, 6}; /* bytes after each byte of kind */
+    size_t marks = 0;
+    for (size_t at = 0; at < given.at; at += 1u + bodies[input[at]]) {
+        if (input[at] == PLANNER_KIND_MARK)
+            marks++;
+        if (input[at] == PLANNER_KIND_SETTLE || input[at] == PLANNER_KIND_SIFT)
+            marks = 0;
+    }
+    return marks;
+}
+
+/* THE CALL. Each buffer is followed by its number of elements; what it holds afterwards is said beside it in struct planner_work. */
 struct planner_given planner_run(
     const uint8_t *input, size_t input_length,
     uint16_t *raw_conditions, size_t raw_conditions_length,
@@ -126,13 +180,17 @@ struct planner_given planner_run(
     uint16_t (*answers)[2], size_t answers_length);
 
 /* THE LISTING of a job file, as bytes of text from the start of `out`: how many there are. Nothing is written and 0 is given back if `out` has
-   fewer than PLANNER_LISTING bytes. The file is planned for it, over buffers of the call's own: some 460 KB of stack. */
+   fewer than PLANNER_LISTING bytes. The file is planned for it, over buffers of the call's own: PLANNER_LIST_STACK bytes of stack.
+
+   NOT EVERY CONTRADICTION SHOWS IN A LISTING. That of a settle or sift has its line; that of a seal or mark has none, and shows only as
+   refusal 9 of a record that comes after it. Where a mark is the last record, a listing of no layout looks like any other: whether one is
+   left is what planner_contradicted says of planner_plan. */
 size_t planner_list(const uint8_t *input, size_t input_length, uint8_t *out, size_t out_length);
 
 /* All buffers at their listed lengths, and what they hold after the call; unused places are 0. A row is a list of terms that thresholds
-   share, numbered by first use, and the terms, guards, edges and links of all rows lie one behind the other. */
+   share, numbered by first use, and the terms, guards, edges and links of all rows lie one after the other. */
 struct planner_work {
-    /* The job that the records gave; areas of one condition in one threshold are one term, where the first stood. */
+    /* The job that the records gave; areas of one condition in one threshold are one term, where the first was. */
     uint16_t raw_conditions[PLANNER_RAW_CONDITIONS]; /* condition of each term, in the order of the records */
     uint64_t raw_weights[PLANNER_RAW_WEIGHTS];       /* its weight; of areas that of their sum, rounded */
     uint16_t thresholds[PLANNER_THRESHOLDS][2];      /* node of each threshold; where its terms end in the two above */

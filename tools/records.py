@@ -6,10 +6,13 @@ import collections
 import dataclasses
 import importlib.machinery
 import importlib.util
+import itertools
 import pathlib
+import re
 import struct
 import subprocess
-import sys
+
+from command import Failed
 
 ROOT = pathlib.Path(__file__).resolve().parent.parent
 PROGRAM = ROOT / "target/bin/planner_main"
@@ -51,14 +54,6 @@ LIMITS = {
 }
 
 
-def load(name):
-    """The bytes of a file, or of standard input where none is named."""
-    try:
-        return pathlib.Path(name).read_bytes() if name else sys.stdin.buffer.read()
-    except OSError as error:
-        sys.exit(f"{name}: {error.strerror}")
-
-
 def split(data):
     """The whole records of a file, and the offset from which on none can be read."""
     found, at = [], 0
@@ -90,7 +85,7 @@ class Threshold:
 
 def joined(listed):
     """The raw list of a threshold's terms and areas: areas of one condition are added in hundredths, the sum is rounded
-    once, a half going up, and stands where the first of them stood."""
+    once, a half going up, and comes where the first of them was."""
     sums = collections.Counter()
     for name, condition, number in listed:
         if name == "area":
@@ -174,7 +169,7 @@ def reason(number, job, name):
     if number != 3:
         return REASONS[number]
     if name == "header" or job.nodes is None:
-        return "the header stands first, and nowhere else"
+        return "the header comes first, and nowhere else"
     if job.sealed:
         return "the job is sealed, and nothing can join it"
     return "no threshold is open" if name in ("term", "area") else "the job is not sealed yet"
@@ -214,6 +209,15 @@ def rows(job):
     return [Row(merged(terms), sorted(guards), sum(weight for _, weight in terms)) for terms, guards in shared.items()]
 
 
+class Unlisted(Exception):
+    """Why what a program printed is not the listing of its file."""
+
+
+STEP = "(?:unchanged|changed|contradiction)"
+FORM = re.compile(rf"(?:settle {STEP}\n|sift {STEP} \d+\n)*(?:node \d+ (?:sure|never)\n)*(?:row \d+(?: -?\d+){{3}} (?:-?\d+|-)\n)*"
+                  r"(?:end \d+ \d+|refused \d+ at \d+)\n", re.ASCII)
+
+
 @dataclasses.dataclass
 class Listing:
     """What the planner printed of a file: answers in words, nodes by value, rows by their four figures."""
@@ -224,6 +228,8 @@ class Listing:
 
 
 def listing(text):
+    if not FORM.fullmatch(text):
+        raise Unlisted("this is not a listing")
     listed = Listing()
     for line in text.splitlines():
         word, *rest = line.split(" ")
@@ -239,14 +245,30 @@ def listing(text):
 
 
 def run(program, data):
-    """The listing that a program prints of a file."""
+    """What a program prints of a file."""
     try:
         done = subprocess.run([program], input=data, stdout=subprocess.PIPE, stderr=subprocess.DEVNULL)
     except OSError as error:
-        sys.exit(f"{program}: {error.strerror}. Another program is named by --program, as oracle/target/release/oracle.")
+        raise Failed(f"{program}: {error.strerror}; ./plan builds the planner, and --program names another program")
     if done.returncode:
-        sys.exit(f"{program} ended with status {done.returncode}")
-    return done.stdout.decode("ascii")
+        raise Unlisted(f"the program ended with status {done.returncode}")
+    return done.stdout.decode("ascii", "replace")
+
+
+def job_of(data, listed):
+    """The job and marks of a file that the planner took, by its listing."""
+    job = read(data, listed.refusal and listed.refusal[1])
+    asked = [record.kind.name for record in job.taken if record.kind.name in ("settle", "sift")]
+    refused_alike = listed.refusal and listed.refusal[0] == 9 or read(data).refusal == listed.refusal
+    if not refused_alike or [what for what, *_ in listed.answers] != asked or len(listed.rows) != len(rows(job)) * job.sealed \
+            or any(node >= (job.nodes or 0) for node in listed.nodes):
+        raise Unlisted("the listing is not that of this file")
+    return job
+
+
+def waiting(job):
+    """How many marks no settle or sift came after."""
+    return sum(1 for _ in itertools.takewhile(lambda record: record.kind.name == "mark", reversed(job.taken)))
 
 
 def contradicted(job, listed):
@@ -257,8 +279,8 @@ def contradicted(job, listed):
 
 
 def tool(name):
-    """Another tool of this folder as a module."""
-    loader = importlib.machinery.SourceFileLoader(name, str(pathlib.Path(__file__).with_name(name)))
+    """Another tool as a module, by its path from this folder."""
+    loader = importlib.machinery.SourceFileLoader(name, str(pathlib.Path(__file__).parent / name))
     module = importlib.util.module_from_spec(importlib.util.spec_from_loader(name, loader))
     loader.exec_module(module)
     return module

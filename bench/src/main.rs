@@ -14,6 +14,7 @@ use planner::{Plan, Planner, Step, Value};
 use threshold_oracle::job::{self, Run};
 
 fn main() {
+    std::panic::set_hook(Box::new(told));
     let words: Vec<String> = std::env::args().skip(1).collect();
     let words: Vec<&str> = words.iter().map(String::as_str).collect();
     let seed = |word: &str| word.parse().expect("a seed is a number");
@@ -26,6 +27,17 @@ fn main() {
         [word] => tables(seed(word)),
         _ => panic!("usage: bench [SEED]"),
     }
+}
+
+/// Bad arguments, a file or a program that is missing and a write that fails end the benchmark, each in a sentence.
+fn told(panic: &std::panic::PanicHookInfo<'_>) {
+    let said = panic.payload();
+    let plain = said.downcast_ref::<&str>().copied();
+    eprintln!(
+        "bench: {}",
+        plain.or(said.downcast_ref::<String>().map(String::as_str)).unwrap_or("it broke off")
+    );
+    std::process::exit(1);
 }
 
 /// Best and median of one side.
@@ -129,7 +141,7 @@ fn write(folder: &str, seed: u64) {
 
 /// Both found the same.
 fn same(plan: Plan<'_>, run: &Run<false>) -> bool {
-    let refusal = plan.refusal().map(|refusal| (refusal.reason as u8, refusal.offset));
+    let refusal = plan.refusal().map(|refusal| (refusal.reason.number(), refusal.offset));
     let mut equal = refusal == run.refusal && plan.last() as usize == run.last as usize;
     let answers: Vec<_> =
         run.answers.iter().map(|(answer, visits)| (*answer as usize, *visits)).collect();
@@ -156,6 +168,7 @@ fn numbered(answer: planner::Answer) -> (usize, Option<u64>) {
     let number = |step: Step| step as usize;
     match answer {
         planner::Answer::Settle(step) => (number(step), None),
-        planner::Answer::Sift { step, visits } => (number(step), Some(visits.into())),
+        planner::Answer::Sift { step, visits, .. } => (number(step), Some(visits.into())),
+        other => panic!("no oracle answers {other:?}"),
     }
 }

@@ -4,18 +4,19 @@
 #include <inttypes.h>
 #include <stdio.h>
 #include <stdlib.h>
+#include <string.h>
 
 #include "planner.h"
 
 static const uint8_t file_a[] = {
-    0x01, 5, 0,                                 /* header: 5 nodes */
-    0x02, 4, 0, 6, 0, 0, 0, 0, 0, 0, 0,         /* threshold: node 4, bound 6 */
-    0x03, 0, 0, 4, 0, 0, 0,                     /* term: node 0, weight 4 */
-    0x03, 1, 0, 3, 0, 0, 0,                     /* term: node 1, weight 3 */
-    0x03, 2, 0, 2, 0, 0, 0,                     /* term: node 2, weight 2 */
-    0x04,                                       /* seal */
-    0x05, 4, 0, 1,                              /* mark: node 4 sure */
-    0x06                                        /* settle */
+    PLANNER_KIND_HEADER, 5, 0,                             /* 5 nodes */
+    PLANNER_KIND_THRESHOLD, 4, 0, 6, 0, 0, 0, 0, 0, 0, 0,  /* node 4, bound 6 */
+    PLANNER_KIND_TERM, 0, 0, 4, 0, 0, 0,                   /* condition 0, weight 4 */
+    PLANNER_KIND_TERM, 1, 0, 3, 0, 0, 0,                   /* condition 1, weight 3 */
+    PLANNER_KIND_TERM, 2, 0, 2, 0, 0, 0,                   /* condition 2, weight 2 */
+    PLANNER_KIND_SEAL,
+    PLANNER_KIND_MARK, 4, 0, 1,                            /* node 4 sure */
+    PLANNER_KIND_SETTLE
 };
 
 static void print_nodes(const struct planner_work *work, size_t count)
@@ -51,6 +52,10 @@ static void print_answers(const struct planner_work *work, size_t count)
 
 int main(void)
 {
+    if (strcmp(planner_version(), PLANNER_VERSION)) {
+        fprintf(stderr, "the library is version %s, the header %s\n", planner_version(), PLANNER_VERSION);
+        return 3;
+    }
     struct planner_work *work = malloc(sizeof *work);
     uint8_t *text = malloc(PLANNER_LISTING);
     if (!work || !text)
@@ -61,8 +66,10 @@ int main(void)
     print_answers(work, given.answered);
     print_nodes(work, given.nodes);
     print_rows(work, given.rows);
-    if (given.last == PLANNER_CONTRADICTION)
+    if (planner_contradicted(given))
         printf("no layout is left\n");
+    if (planner_unsettled_marks(given, file_a))
+        printf("marks wait for a settle\n");
     size_t length = planner_list(file_a, sizeof file_a, text, PLANNER_LISTING);
     printf("\nas a listing:\n%.*s", (int)length, (const char *)text);
     free(text);

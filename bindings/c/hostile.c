@@ -28,7 +28,7 @@ static void fail(const char *what)
     exit(1);
 }
 
-/* Memory of this size with memory that may not be touched on both sides; it ends at the one behind it, or begins at the one before. */
+/* Memory of this size with memory that may not be touched on both sides; it ends where the one after it begins, or begins where the one before ends. */
 static unsigned char *fenced(size_t size, int at_end)
 {
     size_t page = (size_t)sysconf(_SC_PAGESIZE);
@@ -196,6 +196,21 @@ static void *work(void *result)
     return NULL;
 }
 
+/* Two marks of one node that differ, with a settle after them: the first mark alone leaves a layout. */
+static void contradictions(void)
+{
+    static const uint8_t file[] = {
+        PLANNER_KIND_HEADER, 2, 0, PLANNER_KIND_SEAL, PLANNER_KIND_MARK, 1, 0, 1, PLANNER_KIND_MARK, 1, 0, 0, PLANNER_KIND_SETTLE};
+    static struct planner_work area;
+    struct planner_given one = planner_plan(&area, file, 8), two = planner_plan(&area, file, 12), more = planner_plan(&area, file, 13);
+    if (planner_contradicted(one) || !planner_contradicted(two) || !planner_contradicted(more))
+        fail("a contradiction is missed or invented");
+    if (planner_unsettled_marks(one, file) != 1 || planner_unsettled_marks(two, file) != 2)
+        fail("other marks wait");
+    if (one.refused || two.refused || more.refused != PLANNER_CONTRADICTED || more.at != 12)
+        fail("refusal 9 at another place");
+}
+
 int main(int count, char **words)
 {
     size_t threads = count > 3 ? strtoull(words[3], NULL, 10) : 4;
@@ -207,6 +222,7 @@ int main(int count, char **words)
         file_count = strtoull(words[2], NULL, 10);
     if (threads == 0 || threads > MOST_THREADS)
         fail("1 to 64 threads");
+    contradictions();
     for (size_t i = 0; i < threads; i++)
         if (pthread_create(&ids[i], NULL, work, &totals[i]))
             fail("no thread");

@@ -1,4 +1,4 @@
-//! Links libplanner.a: the one in the folder that PLANNER_LIB names, else that of this repository, made where it is missing or old.
+//! Links libplanner.a: the one in the folder that `PLANNER_LIB` names, else that of this repository, made where it is missing or old.
 
 use std::env;
 use std::path::PathBuf;
@@ -14,10 +14,18 @@ fn main() {
 fn made_here() -> PathBuf {
     let home = PathBuf::from(env::var("CARGO_MANIFEST_DIR").expect("set by cargo"));
     let script = home.join("../archive");
-    for part in ["../archive", "../../crates", "../../crates.txt"] {
+    for part in [
+        "../archive",
+        "../c/version.c",
+        "../../include/planner.h",
+        "../../crates",
+        "../../crates.txt",
+    ] {
         println!("cargo:rerun-if-changed={}", home.join(part).display());
     }
-    let done = Command::new(&script).output().unwrap_or_else(|error| panic!("{script:?}: {error}"));
+    let done = Command::new(&script)
+        .output()
+        .unwrap_or_else(|error| panic!("{}: {error}", script.display()));
     assert!(done.status.success(), "{}", String::from_utf8_lossy(&done.stderr));
     let archive = PathBuf::from(String::from_utf8(done.stdout).expect("a path").trim_end());
     println!("cargo:rerun-if-changed={}", archive.display());

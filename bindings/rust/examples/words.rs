@@ -1,10 +1,13 @@
 //! Prints what the call gives back and what it left in every buffer, then the listing, in the form of `oracle --words`: for comparisons.
-//! usage: words [--many] < FILE      (--many: files behind their lengths, u32, little-endian; a line `--` after each)
+//! usage: words [--many] < FILE      (--many: files after their lengths, u32, little-endian; a line `--` after each)
 //! Each file is run over memory that held other numbers before, an input that is too long over cleared memory.
 
 use std::io::{Read, Write};
 
-use planner::raw::{self, Given, Work, LISTING};
+#[path = "../tests/common/raw.rs"]
+mod raw;
+
+use raw::{Given, Work, LISTING};
 
 fn main() {
     let many = std::env::args().any(|word| word == "--many");

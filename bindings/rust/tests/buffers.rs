@@ -3,7 +3,7 @@
 
 mod common;
 
-use planner::raw::{self, Work, LISTING};
+use common::raw::{self, Work, LISTING};
 
 const OLD: u8 = 0xA5;
 
@@ -22,7 +22,7 @@ fn one_element_longer() {
             assert_eq!(given, wanted, "{}", vector.name);
             assert_eq!(text[..length], *vector.listing.as_bytes(), "{}", vector.name);
             assert!(work.cut() == listed, "buffer {buffer} longer: {}", vector.name);
-            assert!(work.zero_behind(), "buffer {buffer} longer, not cleared: {}", vector.name);
+            assert!(work.zero_after(), "buffer {buffer} longer, not cleared: {}", vector.name);
         }
     }
 }

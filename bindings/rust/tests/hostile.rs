@@ -3,8 +3,8 @@
 
 mod common;
 
+use common::raw::{self, Given, Work, LISTING};
 use common::Random;
-use planner::raw::{self, Given, Work, LISTING};
 
 struct Twice {
     fresh: Work,
@@ -68,7 +68,7 @@ fn damaged_vectors() {
             for _ in 0..=random.below(3) {
                 if !file.is_empty() {
                     let at = random.below(file.len());
-                    file[at] = random.next() as u8;
+                    file[at] = random.next().to_le_bytes()[0];
                 }
             }
             file.truncate(65_536);

@@ -1,17 +1,21 @@
 //! The repository's vectors: job files and their listings, read from the form of vectors/form.py; and seeded random numbers.
 #![allow(dead_code)]
 
+pub mod raw;
+
 use std::path::Path;
 
 pub struct Vector {
     pub name: String,
+    pub items: Vec<Vec<String>>,
     pub file: Vec<u8>,
     pub listing: String,
 }
 
 pub fn vectors() -> Vec<Vector> {
     let path = Path::new(env!("CARGO_MANIFEST_DIR")).join("../../vectors/vectors.txt");
-    let text = std::fs::read_to_string(&path).unwrap_or_else(|error| panic!("{path:?}: {error}"));
+    let text = std::fs::read_to_string(&path)
+        .unwrap_or_else(|error| panic!("{}: {error}", path.display()));
     let list: Vec<Vector> = text.split("\n= ").skip(1).map(vector).collect();
     let said = format!("# {} vectors", list.len());
     assert!(text.lines().any(|line| line == said), "vectors are missing from the list");
@@ -25,9 +29,10 @@ fn vector(block: &str) -> Vector {
         let marked = block.lines().skip(1).filter_map(|line| line.strip_prefix(mark));
         marked.collect::<Vec<_>>().join(";")
     };
-    let file = items(&part('<')).iter().flat_map(|item| record(item)).collect();
+    let items_of_file = items(&part('<'));
+    let file = items_of_file.iter().flat_map(|item| record(item)).collect();
     let listing = items(&part('>')).iter().map(|item| item.join(" ") + "\n").collect();
-    Vector { name, file, listing }
+    Vector { name, items: items_of_file, file, listing }
 }
 
 /// Items between semicolons, each as its words; `[N: ..]` is repeated, and a field `a+d` or `a-d` there moves by d each time.
@@ -71,14 +76,14 @@ fn moved(word: &str, turn: i64) -> String {
 
 fn record(item: &[String]) -> Vec<u8> {
     let field = |at: usize| item[at].parse::<i64>().expect("a number");
-    let half = |at: usize| (field(at) as u16).to_le_bytes();
-    let word = |at: usize| (field(at) as u32).to_le_bytes();
+    let half = |at: usize| field(at).to_le_bytes()[..2].to_vec();
+    let word = |at: usize| field(at).to_le_bytes()[..4].to_vec();
     match item[0].as_str() {
         "header" => [&[1][..], &half(1)].concat(),
         "threshold" => [&[2][..], &half(1), &field(2).to_le_bytes()].concat(),
         "term" => [&[3][..], &half(1), &word(2)].concat(),
         "seal" => vec![4],
-        "mark" => [&[5][..], &half(1), &[field(2) as u8]].concat(),
+        "mark" => [&[5][..], &half(1), &field(2).to_le_bytes()[..1]].concat(),
         "settle" => vec![6],
         "sift" => vec![7],
         "area" => [&[8][..], &half(1), &word(2)].concat(),
@@ -101,10 +106,10 @@ impl Random {
     }
 
     pub fn below(&mut self, limit: usize) -> usize {
-        (self.next() % limit as u64) as usize
+        usize::try_from(self.next() % limit as u64).expect("it is below the limit")
     }
 
     pub fn bytes(&mut self, count: usize) -> Vec<u8> {
-        (0..count).map(|_| self.next() as u8).collect()
+        (0..count).map(|_| self.next().to_le_bytes()[0]).collect()
     }
 }
