@@ -10,6 +10,9 @@ pub mod TallyLaws
 pub mod IndexLaws
 pub mod All
 pub mod AllLaws
+pub mod Insertion
+pub mod InsertionLaws
+pub mod MembersLaws
 pub mod SignedLaws
 pub mod Signed
 pub mod LaidLaws

@@ -21,18 +21,19 @@ use Rattle.records.specs.declared.Record.{Record}
 use Rattle.records.specs.declared.Record.the-variants.{Seal}
 use Rattle.checks.specs.declared.Next.the-variants.{Taken}
 use Rattle.records.specs.Record.{recordAt}
-use Rattle.records.specs.Facts.{Action, begins, changes, closes, decides, settles, sifts, idles, action, facts}
+use Rattle.records.specs.Facts.{Action, action, facts}
 use Rattle.checks.specs.Next.{nextAt}
 use Rattle.job.specs.Gathered.{jobIn}
 use Rattle.files.specs.declared.JobRead.{JobRead}
-use Rattle.files.specs.File.{File, standing, refusal, sealedFile, markedFile, settledFile, siftedFile, act, apply, Outcome, refusalAt, readFrom, fileOf}
+use Rattle.files.specs.File.{File, standing, refusal, sealedFile, act, apply, Outcome, refusalAt, readFrom, fileOf}
 use Rattle.files.specs.FileLaws.{zero-or, read-on, read-stop}
 use Rattle.files.specs.Contents.{laid, served, untouched, whole, out, nothing}
 use Rattle.files.specs.JobPart.{JobPart, jobPartOf}
 use Rattle.files.specs.JobPartLaws.{file-goes-on, file-ends}
 use Rattle.reading.specs.Held.{Room, HeldPart}
 use Rattle.theorem_limits.specs.Good.{Light, Good}
-use Rattle.theorem_limits.specs.FilesLaws.{good-apply, both, Taken as Passes, taken, building-turn, change-turn, refused-by}
+use Rattle.theorem_limits.specs.FilesLaws.{good-apply, both, Taken as Passes, taken, refused-by}
+use Rattle.theorem_limits.specs.ActionLaws.{act-served, started-if}
 use Rattle.theorem_holds.specs.GatheredLaws.{gathered-light}
 use Rattle.serve.specs.declared.Reached.{Reached}
 use Rattle.serve.specs.Serve.{readAt}
@@ -57,14 +58,8 @@ unfolding apply act sealedFile
 closed-seal f g h = record { good = good-apply f g Seal h; sealed = refl; closed = refl }
 
 closed-act : (j : Job) (f : File) → Closed j f → (a : Action) → Passes f (facts a) → Good (act f a) → Closed j (act f a)
-unfolding act markedFile settledFile siftedFile
-closed-act j f s (begins n) t g = absurd (both (s .sealed) (s .good .unstarted (t .turn)))
-closed-act j f s (changes c) t g = absurd (both (s .sealed) (change-turn f c t .1))
-closed-act j f s closes t g = absurd (both (s .sealed) (building-turn f (t .turn) .1))
-closed-act j f s (decides n v) t g = record { good = g; sealed = refl; closed = s .closed }
-closed-act j f s settles t g = record { good = g; sealed = refl; closed = s .closed }
-closed-act j f s sifts t g = record { good = g; sealed = refl; closed = s .closed }
-closed-act j f s (idles x) t g = s
+closed-act j f s =
+    act-served f (λ (h : File). Good h → Closed j h) (λ g. s) (started-if f (s .good) (s .sealed)) (s .sealed) (λ k v gcds as′ g. record { good = g; sealed = refl; closed = s .closed })
 
 closed-apply : (j : Job) (f : File) → Closed j f → (r : Record) → refusal f r ≡ 0 → Closed j (apply f r)
 unfolding apply

@@ -16,12 +16,12 @@ use Rattle.base.specs.Parts.{stretch}
 use Rattle.memory.specs.Limits.{maxTerms}
 use Rattle.memory.specs.Ranges.{figureLimit, roomLimit, weightLimit, drainLimit}
 use Rattle.row_moves.specs.Between.{Index, Live, stateAt, withState, did, runWith, runRow, conditionFrom, thresholdCondition}
-use Rattle.row_moves.specs.Handing.{after}
+use Rattle.row_moves.specs.Handing.{after, edgeRun}
 use Rattle.row_moves.specs.Held.{startBy, endBy, heldRow, edgeIn, edgesIn, Shaped, EdgesShaped, Holds, HoldsEdges}
 use Rattle.row_moves.specs.HeldLaws.{stretch-cons, stretch-none, run-held, edges-back}
 use Rattle.row_moves.specs.Ready.{ReadyLive}
 use Rattle.row_moves.specs.ReadyLaws.{ready-more, ready-set, ready-run, ready-by, fit-drained}
-use Rattle.row_moves.specs.LoopLaws.{edgeRun, walk-next, walk-stop, walk-end, condition-walk}
+use Rattle.row_moves.specs.LoopLaws.{walk-next, walk-stop, walk-end, condition-walk}
 
 -- The edges from one place to another: each names a row, and is light.
 pub record Edges (h : HeldRows) (edges : List (List ℕ)) (from end : ℕ) : Type 0 where

@@ -6,21 +6,18 @@ use Rattle.numeric.specs.Threshold.{Job}
 use Rattle.state.specs.declared.Step.{Step}
 use Rattle.state.specs.declared.Step.the-variants.{Unchanged}
 use Rattle.state.specs.Step.{joined, contradicts}
-use Rattle.queues.specs.Queue.{Rows, isEmpty, oldest, popped, nextRow}
-use Rattle.queues.specs.Marks.{Marks, marks, decide}
+use Rattle.queues.specs.Queue.{isEmpty, oldest, popped, nextRow}
+use Rattle.queues.specs.Marks.{marks, decide}
 use Rattle.rows.specs.Rows.{rowsOf}
 use Rattle.links.specs.Links.{links}
-use Rattle.row_moves.specs.Between.{Index, Live, live, Did, did, firstStates, seedFrom, guardOf, thresholdCondition, thresholdPrefixes}
+use Rattle.row_moves.specs.Between.{Index, Live, Did, did, firstStates, seedFrom, guardOf, thresholdCondition, thresholdPrefixes, withDirtyRows, withMarks, withStates}
 
 -- What a seal builds of a job.
 abbrev pub indexOf : Job → Index
 indexOf j = record { thresholds = j .thresholds; rows = rowsOf j; links = links (rowsOf j) }
 
 unfoldable pub seal : Index → Live → Did
-seal x v = seedFrom x 0 (x .rows) (live (firstStates 0 (x .rows) (v .states)) (v .marks) (v .dirty) (v .residuals)) Unchanged
-
-abbrev pub withMarks : Live → Marks → Live
-withMarks v m = live (v .states) m (v .dirty) (v .residuals)
+seal x v = seedFrom x 0 (x .rows) (withStates v (firstStates 0 (x .rows) (v .states))) Unchanged
 
 -- A mark only decides its node, which then waits.
 unfoldable pub mark : Live → ℕ → Bool → Did
@@ -41,7 +38,7 @@ takeNode x v =
 
 -- The oldest row is taken, and hands on its bounds.
 unfoldable pub takeRow : Index → Live → Did
-takeRow x v = thresholdPrefixes x (live (v .states) (v .marks) (nextRow (v .dirty)) (v .residuals)) (oldest (v .dirty .queue))
+takeRow x v = thresholdPrefixes x (withDirtyRows v (nextRow (v .dirty))) (oldest (v .dirty .queue))
 
 -- Rows wait until no node does.
 abbrev pub turn : Index → Live → Did

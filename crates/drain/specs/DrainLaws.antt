@@ -7,22 +7,17 @@ use mathlib.Core.Bool.{Bool, true, false, _&&_}
 use lib.ListN.{length}
 use borrow.Author.Tests.{eqb-false}
 use Rattle.state.specs.StepLaws.{joined-fine}
-use Rattle.memory.specs.Limits.{maxNodes}
 use Rattle.state.specs.declared.Step.{Step}
 use Rattle.state.specs.declared.Step.the-variants.{Unchanged}
 use Rattle.state.specs.Step.{joined, contradicts}
-use Rattle.queues.specs.Queue.{isEmpty, oldest, popped, nextRow}
-use Rattle.queues.specs.Marks.{marks}
-use Rattle.row_moves.specs.Between.{Index, Live, live, Did, did, runRow, firstStates, guardOf, thresholdCondition, thresholdPrefixes}
+use Rattle.queues.specs.Queue.{isEmpty, oldest}
+use Rattle.row_moves.specs.Between.{Index, Live, Did, did, runRow, thresholdPrefixes}
 use Rattle.row_moves.specs.Handing.{after}
 use Rattle.row_moves.specs.WalkLaws.{seed-walks, Moves, keep-guards, keep-condition, keep-prefixes}
-use Rattle.drain.specs.Drain.{seal, withMarks, takeNode, takeRow, turn, atRest, drain, turns, settle}
+use Rattle.drain.specs.Drain.{seal, takeNode, takeRow, turn, atRest, drain, turns, settle}
+use Rattle.drain.specs.Steps.{begun, untaken, unrowed, nodeTold, nodeDrained}
 
 -- ---- A SEAL
-
--- All rows have their first states.
-abbrev pub begun : Index → Live → Live
-begun x v = live (firstStates 0 (x .rows) (v .states)) (v .marks) (v .dirty) (v .residuals)
 
 module _ (x : Index) (P : ℕ → Live → Type 0) (G : Did → Type 0)
     (end : (v : Live) (k : Step) → contradicts k ≡ false → P (length (x .rows)) v → G (did v k))
@@ -37,27 +32,14 @@ seal-keeps x Q one v q = seal-walks x (λ (_ : ℕ). Q) (λ (d : Did). Q (d .liv
 
 -- ---- A TURN
 
--- The live state without its oldest node, and without its oldest row.
-abbrev pub untaken : Live → Live
-untaken v = withMarks v (marks (v .marks .sure) (v .marks .never) (popped maxNodes (v .marks .nodes)))
-
-abbrev pub unrowed : Live → Live
-unrowed v = live (v .states) (v .marks) (nextRow (v .dirty)) (v .residuals)
-
 module _ (x : Index) (v : Live) where
-  -- The oldest node's guard, and behind it its condition.
-  abbrev pub nodeTold : Did
-  nodeTold = guardOf x (untaken v) (x .thresholds) (oldest (v .marks .nodes))
-
-  abbrev pub nodeDrained : Did
-  nodeDrained = thresholdCondition x (nodeTold .live) (oldest (v .marks .nodes))
-
   module _ (G : Did → Type 0) where
-    pub node-ends : (contradicts (nodeTold .step) ≡ true → G nodeTold) → (contradicts (nodeTold .step) ≡ false → G (after (nodeTold .step) nodeDrained)) → G (takeNode x v)
+    pub node-ends : (contradicts (nodeTold x v .step) ≡ true → G (nodeTold x v))
+        → (contradicts (nodeTold x v .step) ≡ false → G (after (nodeTold x v .step) (nodeDrained x v))) → G (takeNode x v)
     unfolding takeNode
-    node-ends stop go = by (contradicts (nodeTold .step)) refl
+    node-ends stop go = by (contradicts (nodeTold x v .step)) refl
       where
-        by : (b : Bool) → contradicts (nodeTold .step) ≡ b → G (elim b [ true ↦ nodeTold | false ↦ after (nodeTold .step) nodeDrained ])
+        by : (b : Bool) → contradicts (nodeTold x v .step) ≡ b → G (elim b [ true ↦ nodeTold x v | false ↦ after (nodeTold x v .step) (nodeDrained x v) ])
         by true e = stop e
         by false e = go e
 

@@ -1,4 +1,5 @@
 pub mod Drain
-pub mod DrainLaws
 pub mod Sift
+pub mod Steps
+pub mod DrainLaws
 pub mod SiftLaws

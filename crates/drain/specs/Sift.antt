@@ -12,7 +12,7 @@ use Rattle.queues.specs.Marks.{isDecided}
 use Rattle.rows.specs.Rows.{noRow}
 use Rattle.intervals.specs.Residual.{Residual, thresholdResidual}
 use Rattle.searches.specs.Search.{search, searchStep, searchVisits}
-use Rattle.row_moves.specs.Between.{Index, Live, live, stateAt}
+use Rattle.row_moves.specs.Between.{Index, Live, stateAt, withMarks, withResiduals}
 use Rattle.drain.specs.Drain.{settle, turns}
 
 -- A sift's state: the visits are those of its last search, 0 if it had none.
@@ -31,7 +31,7 @@ tryRow x v gcds visits =
     let r = oldest (v .residuals .queue) in
     let terms = getD (x .rows) r noRow .terms in
     let a = thresholdResidual terms (stateAt v r) (v .marks) gcds in
-    let after = live (v .states) (a .marks) (v .dirty) (nextRow (v .residuals)) in
+    let after = withResiduals (withMarks v (a .marks)) (nextRow (v .residuals)) in
     elim (isUnchanged (a .step)) [
       | true ↦
           let b = search terms (stateAt v r) (isDecided (a .marks)) in

@@ -4,58 +4,34 @@ use Prim.Native.Nat.{ℕ, zero, suc}
 use mathlib.Core.Path.{_≡_, refl, sym, subst}
 use mathlib.Core.Bool.{Bool, true, false}
 use mathlib.Core.List.{List}
-use lib.ListN.{getD}
 use Rattle.state.specs.StepLaws.{joined-fine}
-use Rattle.numeric.specs.Threshold.{Term}
 use Rattle.state.specs.declared.Step.{Step}
 use Rattle.state.specs.declared.Step.the-variants.{Unchanged, Contradiction}
 use Rattle.state.specs.Step.{joined, contradicts, isUnchanged}
-use Rattle.queues.specs.Queue.{isEmpty, oldest, nextRow}
-use Rattle.queues.specs.Marks.{isDecided}
-use Rattle.rows.specs.Rows.{noRow}
-use Rattle.intervals.specs.Residual.{Residual, thresholdResidual}
-use Rattle.searches.specs.declared.Search.{Search}
-use Rattle.searches.specs.Search.{search, searchStep, searchVisits}
-use Rattle.row_moves.specs.Between.{Index, Live, live, Did, stateAt}
+use Rattle.queues.specs.Queue.{isEmpty}
+use Rattle.row_moves.specs.Between.{Index, Live, Did}
 use Rattle.drain.specs.Drain.{settle, turns}
 use Rattle.drain.specs.Sift.{Sifted, sifted, tryRow, siftFrom, sift}
+use Rattle.drain.specs.Steps.{tryResidual, tryLive, tried}
 
 -- ---- A ROW IS TRIED: divisibility, and if that leaves all as it was, a search
 
-abbrev pub tryTerms : Index → Live → List Term
-tryTerms x v = getD (x .rows) (oldest (v .residuals .queue)) noRow .terms
-
 module _ (x : Index) (v : Live) (gcds : List ℕ) where
-  abbrev pub tryResidual : Residual
-  tryResidual = thresholdResidual (tryTerms x v) (stateAt v (oldest (v .residuals .queue))) (v .marks) gcds
-
-  abbrev pub trySearch : Search
-  trySearch = search (tryTerms x v) (stateAt v (oldest (v .residuals .queue))) (isDecided (tryResidual .marks))
-
-  abbrev pub tryLive : Live
-  tryLive = live (v .states) (tryResidual .marks) (v .dirty) (nextRow (v .residuals))
-
   module _ (visits : ℕ) where
-    -- What trying comes to, by the answer of the residual.
-    abbrev pub tried : Bool → Sifted
-    tried unchanged = elim unchanged [
-      | true ↦ sifted tryLive (tryResidual .gcds) (searchStep trySearch) (searchVisits visits trySearch)
-      | false ↦ sifted tryLive (tryResidual .gcds) (tryResidual .step) visits
-    ]
-
-    pub try-row : tryRow x v gcds visits ≡ tried (isUnchanged (tryResidual .step))
+    pub try-row : tryRow x v gcds visits ≡ tried x v gcds visits (isUnchanged (tryResidual x v gcds .step))
     unfolding tryRow
     try-row = refl
 
-    pub try-ends : (G : Sifted → Type 0) → (isUnchanged (tryResidual .step) ≡ true → G (tried true)) → (isUnchanged (tryResidual .step) ≡ false → G (tried false)) → G (tryRow x v gcds visits)
-    try-ends G searched not = subst G (sym try-row) (by (isUnchanged (tryResidual .step)) refl)
+    pub try-ends : (G : Sifted → Type 0) → (isUnchanged (tryResidual x v gcds .step) ≡ true → G (tried x v gcds visits true))
+        → (isUnchanged (tryResidual x v gcds .step) ≡ false → G (tried x v gcds visits false)) → G (tryRow x v gcds visits)
+    try-ends G searched not = subst G (sym try-row) (by (isUnchanged (tryResidual x v gcds .step)) refl)
       where
-        by : (b : Bool) → isUnchanged (tryResidual .step) ≡ b → G (tried b)
+        by : (b : Bool) → isUnchanged (tryResidual x v gcds .step) ≡ b → G (tried x v gcds visits b)
         by true e = searched e
         by false e = not e
 
     -- the live state and the gcds are the same with a search and without
-    pub try-leaves : (Q : Live → List ℕ → Type 0) → Q tryLive (tryResidual .gcds) → Q (tryRow x v gcds visits .live) (tryRow x v gcds visits .gcds)
+    pub try-leaves : (Q : Live → List ℕ → Type 0) → Q (tryLive x v gcds) (tryResidual x v gcds .gcds) → Q (tryRow x v gcds visits .live) (tryRow x v gcds visits .gcds)
     try-leaves Q q = try-ends (λ (t : Sifted). Q (t .live) (t .gcds)) (λ e. q) (λ e. q)
 
 -- ---- SIFTING

@@ -12,6 +12,7 @@ use lib.ListN.{length, getD, length-reverse}
 use lib.IntN.{pos}
 use lib.Signed.{leZ, ltZ}
 use borrow.Author.Tests.{le-leb}
+use Rattle.base.specs.All.{All}
 use Rattle.base.specs.TestLaws.{and-right}
 use Rattle.state.specs.StepLaws.{joined-fine}
 use Rattle.base.specs.Signed.{natural}
@@ -22,8 +23,9 @@ use Rattle.state.specs.declared.State.{State}
 use Rattle.state.specs.Step.{joined, contradicts}
 use Rattle.state.specs.State.{limit, upperAtMost, hasResidualInterval}
 use Rattle.words.specs.Mask.{bit}
-use Rattle.queues.specs.Marks.{Marks, isDecided, Decided, decide}
-use Rattle.queues.specs.MarksLaws.{mask, decide-there, decide-new, decide-other, decide-opposite}
+use Rattle.queues.specs.Marks.{Marks, isDecided, Decided, decide, mask}
+use Rattle.queues.specs.MarksLaws.{decide-there, decide-new, decide-other, decide-opposite}
+use Rattle.row.specs.TermsLaws as Terms
 use Rattle.rows.specs.Rows.{hasNonunit}
 use Rattle.intervals.specs.declared.Interval.{Interval}
 use Rattle.divisors.specs.Gcd.{gcd}
@@ -56,17 +58,17 @@ use Rattle.intervals.specs.ResidualLaws.{residual-check-sound}
 -- ---- what the suffixes divide
 
 -- The gcd of a number and the undecided weights, in the order of the list.
-unfoldable folded : (ℕ → Bool) → List Term → ℕ → ℕ
+unfoldable pub folded : (ℕ → Bool) → List Term → ℕ → ℕ
 folded d [] s = s
 folded d (t ∷ ts) s = folded d ts (cond (d (t .condition)) s (gcd s (t .weight)))
 
-suffix-at : (d : ℕ → Bool) (xs ys : List Term) (s : ℕ) → getD (suffixFrom d (xs ++ ys) s) (length xs) 0 ≡ folded d xs s
+pub suffix-at : (d : ℕ → Bool) (xs ys : List Term) (s : ℕ) → getD (suffixFrom d (xs ++ ys) s) (length xs) 0 ≡ folded d xs s
 unfolding suffixFrom folded
 suffix-at d [] [] s = refl
 suffix-at d [] (y ∷ ys) s = refl
 suffix-at d (x ∷ xs) ys s = suffix-at d xs ys (cond (d (x .condition)) s (gcd s (x .weight)))
 
-folded-divides : (d : ℕ → Bool) (ts : List Term) (s : ℕ) → (folded d ts s ∣ s) × Divides (folded d ts s) (openWeights d ts)
+pub folded-divides : (d : ℕ → Bool) (ts : List Term) (s : ℕ) → (folded d ts s ∣ s) × Divides (folded d ts s) (openWeights d ts)
 unfolding folded openWeights
 folded-divides d [] s = (dvd-refl s, tt)
 folded-divides d (t ∷ ts) s = by (λ (x : ℕ). folded-divides d ts x) (d (t .condition)) refl
@@ -184,6 +186,15 @@ Fresh n (t ∷ ts) = (t .condition ≢ n) × Fresh n ts
 abbrev pub Distinct : List Term → Type 0
 Distinct [] = Unit {0}
 Distinct (t ∷ ts) = Fresh (t .condition) ts × Distinct ts
+
+-- the same of the terms of a row
+fresh-in : (n : ℕ) (ts : List Term) → All (λ (u : Term). u .condition ≡ n → ⊥) ts → Fresh n ts
+fresh-in n [] h = tt
+fresh-in n (t ∷ ts) h = (h .0, fresh-in n ts (h .1))
+
+pub distinct-in : (ts : List Term) → Terms.Distinct ts → Distinct ts
+distinct-in [] h = tt
+distinct-in (t ∷ ts) h = (fresh-in (t .condition) ts (h .0), distinct-in ts (h .1))
 
 -- The marks decide the same of these terms as d, which tells what was decided before the batch.
 abbrev Same : Marks → (ℕ → Bool) → List Term → Type 0

@@ -2,7 +2,7 @@
 use Prim.Native.Nat.{ℕ, zero, suc, _+_, _-_, _<_, _≤_}
 use native.Mathlib.Nat.{not-suc-le-zero}
 use native.Mathlib.Omega.{arith}
-use mathlib.Core.Path.{_≡_, refl, sym, ap, _∙_, subst}
+use mathlib.Core.Path.{_≡_, sym, ap, _∙_, subst}
 use mathlib.Core.Bool.{Bool, true, false, cond}
 use mathlib.Core.List.{List, [], _∷_, _++_, map}
 use lib.ListN.{length, take, drop, getD, length-append, length-take}
@@ -14,7 +14,8 @@ use Rattle.base.specs.Laid.{joinAll}
 use Rattle.numeric.specs.Threshold.{Term}
 use Rattle.numeric.specs.Slices.{terms}
 use Rattle.numeric.specs.TermsLaws.{length-terms}
-use Rattle.row.specs.Terms.{before, merge, merged, insert, sorted, rowTerms}
+use Rattle.base.specs.InsertionLaws.{sort-length}
+use Rattle.row.specs.Terms.{before, merge, merged, rowTerms}
 use Rattle.row.specs.TermsLaws.{either, all-sorted, conditions-merged}
 use Rattle.memory.specs.Buffers.{RawLists}
 use Rattle.job.specs.Shared.{numberIn, joined, rawsTo, termsTo}
@@ -120,20 +121,9 @@ length-merged (t ∷ ts) =
     either (λ (l : List Term). length l ≤ suc (length ts)) (eqb (t .weight) 0) (λ e. let q = length-merged ts in omega arith)
     (λ e. let q = length-merged ts in let p = length-merge t (merged ts) in omega arith)
 
-length-insert : (t : Term) (us : List Term) → length (insert t us) ≡ suc (length us)
-unfolding insert
-length-insert t [] = refl
-length-insert t (u ∷ us) =
-    either (λ (l : List Term). length l ≡ suc (suc (length us))) (before t u) (λ e. refl) (λ e. ap suc (length-insert t us))
-
-length-sorted : (ts : List Term) → length (sorted ts) ≡ length ts
-unfolding sorted
-length-sorted [] = refl
-length-sorted (t ∷ ts) = length-insert t (sorted ts) ∙ ap suc (length-sorted ts)
-
 -- A row has no more terms than its raw list.
 pub row-short : (raw : List Term) → length (rowTerms raw) ≤ length raw
-row-short raw = let p = length-sorted (merged raw) in let q = length-merged raw in omega arith
+row-short raw = let p = sort-length before (merged raw) in let q = length-merged raw in omega arith
 
 list-short : (r : RawLists) (t : ℕ) → length (listAt r t) ≤ endBy 1 (r .thresholds) t - startBy 1 (r .thresholds) t
 unfolding listAt

@@ -10,6 +10,7 @@ use lib.Dec.{eqb, ltb}
 use borrow.Author.Tests.{eq-eqb, ne-eqb, lt-ltb, le-ltb, ltb-true, ltb-false, eqb-true, eqb-false}
 use Rattle.numeric.specs.Threshold.{Term, Threshold}
 use Rattle.row.specs.Terms.{rowTerms, sameTerms}
+use Rattle.base.specs.InsertionLaws.{insert-sum}
 use Rattle.rows.specs.Rows.{Row, Guard, guard, below, insertGuard, place, placeAll, rowNumber, noRow}
 use Rattle.job.specs.Shared.{numberIn, joined}
 use Rattle.rows.specs.ListsLaws.{same-refl}
@@ -98,14 +99,9 @@ unfoldable pub sumOf : (Guard → ℕ) → List Guard → ℕ
 sumOf f [] = 0
 sumOf f (g ∷ gs) = f g + sumOf f gs
 
-insert-sum : (f : Guard → ℕ) (g : Guard) (gs : List Guard) → sumOf f (insertGuard g gs) ≡ f g + sumOf f gs
-unfolding sumOf insertGuard
-insert-sum f g [] = refl
-insert-sum f g (h ∷ hs) = by (insert-sum f g hs) (below g h) refl
-  where
-    by : sumOf f (insertGuard g hs) ≡ f g + sumOf f hs → (b : Bool) → below g h ≡ b → sumOf f (insertGuard g (h ∷ hs)) ≡ f g + sumOf f (h ∷ hs)
-    by ih true e = rw (e, insertGuard, sumOf)
-    by ih false e = rw (e, insertGuard, sumOf) (omega arith)
+guards-more : (f : Guard → ℕ) (g : Guard) (gs : List Guard) → sumOf f (insertGuard g gs) ≡ f g + sumOf f gs
+unfolding sumOf
+guards-more f = insert-sum below f (sumOf f) (λ g gs. refl)
 
 -- What a threshold adds to row k: its guard, if that is its row.
 abbrev pub share : (Guard → ℕ) → ℕ → ℕ → Threshold → ℕ
@@ -124,7 +120,7 @@ guards-place f t (r ∷ rs) k = by (λ j. guards-place f t rs j) (sameTerms (r .
   where
     by : ((j : ℕ) → sumOf f (guardsAt (place t rs) j) ≡ share f j (rowNumber rs (t .terms)) t + sumOf f (guardsAt rs j)) → (b : Bool) → sameTerms (r .raw) (t .terms) ≡ b
         → (k : ℕ) → sumOf f (guardsAt (place t (r ∷ rs)) k) ≡ share f k (rowNumber (r ∷ rs) (t .terms)) t + sumOf f (guardsAt (r ∷ rs) k)
-    by ih true e zero = rw (e, place, rowNumber) (insert-sum f (guard (t .bound) (t .node)) (r .guards))
+    by ih true e zero = rw (e, place, rowNumber) (guards-more f (guard (t .bound) (t .node)) (r .guards))
     by ih true e (suc j) = rw (e, place, rowNumber) (rw (ne-eqb 0 (suc j) (λ q. omega arith)) (sym (zero-add (sumOf f (guardsAt rs j)))))
     by ih false e zero = rw (e, place, rowNumber) (rw (ne-eqb (1 + rowNumber rs (t .terms)) 0 (λ q. omega arith)) (sym (zero-add (sumOf f (r .guards)))))
     by ih false e (suc j) = rw (e, place, rowNumber) (rw (shifted (rowNumber rs (t .terms)) j) (ih j))

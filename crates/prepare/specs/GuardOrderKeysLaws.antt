@@ -10,13 +10,13 @@ use lib.ListN.{length, getD}
 use lib.Dec.{eqb, leb, ltb}
 use lib.IntN.{ℤ, pos}
 use lib.Signed.{leZ, ltZ}
-use borrow.Author.Tests.{ltb-true, ltb-false, leb-true, leb-false, le-leb, lt-leb, le-ltb, eqb-true, eqb-false}
+use borrow.Author.Tests.{ltb-true, ltb-false, le-leb, lt-leb, le-ltb, eqb-true, eqb-false}
 use Rattle.base.specs.All.{All}
 use Rattle.memory.specs.Limits.{maxThresholds}
 use Rattle.base.specs.Laid.{numbers}
 use Rattle.base.specs.SignedLaws.{ltZ-add}
 use Rattle.sort.specs.Sorted.{put}
-use Rattle.sort.specs.SortedLaws.{put-before, put-behind}
+use Rattle.base.specs.InsertionLaws.{all-map, insert-map}
 use Rattle.rows.specs.Rows.{Guard, guard, below, insertGuard}
 use Rattle.rows.specs.Guards.{Bound, Bounds, raised, guardKey, guardKeys, nodeAt}
 use Rattle.rows.specs.GuardsLaws.{raised-pos}
@@ -55,16 +55,6 @@ rises f n up s (suc t) h k = by (λ q. rises f n up s t q (omega arith)) (eqb s 
         let c : f (t + 1) ≡ f (suc t) = ap f (omega arith) in
         let u = up t (omega arith) in
         omega arith
-
--- ---- insertion, by its test
-
-insert-before : (g h : Guard) (hs : List Guard) → below g h ≡ true → insertGuard g (h ∷ hs) ≡ g ∷ h ∷ hs
-unfolding insertGuard
-insert-before g h hs e = rw (e, insertGuard)
-
-insert-behind : (g h : Guard) (hs : List Guard) → below g h ≡ false → insertGuard g (h ∷ hs) ≡ h ∷ insertGuard g hs
-unfolding insertGuard
-insert-behind g h hs e = rw (e, insertGuard)
 
 -- ---- the guard and the key of each threshold
 
@@ -156,22 +146,13 @@ module _ (ths : List (List ℕ)) (bounds : List ℤ) (many : length bounds ≤ m
 
   -- A GUARD IS INSERTED AS ITS KEY IS PUT IN.
   pub insert-key : (t : ℕ) → t < length bounds → (l : List ℕ) → All (Before bounds t) l → insertGuard (own t) (map named l) ≡ map named (put (key t) l)
-  unfolding insertGuard put
-  insert-key t h [] a = ap (λ (g : Guard). g ∷ []) (sym (named-own t h))
-  insert-key t h (x ∷ l) a = by (insert-key t h l (a .1)) (leb (key t) x) refl
+  insert-key t h l a =
+      ap (λ (g : Guard). insertGuard g (map named l)) (sym (named-own t h))
+      ∙ sym (insert-map named leb below (key t) l (all-map (Before bounds t) (λ (x : ℕ). below (named (key t)) (named x) ≡ leb (key t) x) l test a))
     where
-      test : below (own t) (named x) ≡ leb (key t) x
-      test =
-          let s = a .0 .0 in
-          let q = a .0 .1 in
-          let e = a .0 .2 in
-          ap (λ (z : ℕ). below (own t) (named z)) e ∙ ap (below (own t)) (named-own s (omega arith)) ∙ below-key s t q h ∙ ap (leb (key t)) (sym e)
-
-      by : insertGuard (own t) (map named l) ≡ map named (put (key t) l) → (b : Bool) → leb (key t) x ≡ b
-          → insertGuard (own t) (map named (x ∷ l)) ≡ map named (put (key t) (x ∷ l))
-      by ih true e =
-          insert-before (own t) (named x) (map named l) (test ∙ e) ∙ ap (λ (g : Guard). g ∷ named x ∷ map named l) (sym (named-own t h))
-          ∙ sym (ap (map named) (put-before (key t) x l (leb-true (key t) x e)))
-      by ih false e =
-          insert-behind (own t) (named x) (map named l) (test ∙ e) ∙ ap (λ (gs : List Guard). named x ∷ gs) ih
-          ∙ sym (ap (map named) (put-behind (key t) x l (leb-false (key t) x e)))
+      test : (x : ℕ) → Before bounds t x → below (named (key t)) (named x) ≡ leb (key t) x
+      test x b =
+          let s = b .0 in
+          let q = b .1 in
+          let e = b .2 in
+          ap₂ (λ (g : Guard) (z : ℕ). below g (named z)) (named-own t h) e ∙ ap (below (own t)) (named-own s (omega arith)) ∙ below-key s t q h ∙ ap (leb (key t)) (sym e)

@@ -5,22 +5,19 @@ use native.Mathlib.Omega.{arith}
 use mathlib.Core.Path.{_≡_, refl, sym, ap, _∙_}
 use mathlib.Core.Bool.{Bool, true, false}
 use mathlib.Core.List.{List, [], _∷_, map}
-use lib.Dec.{eqb, leb}
+use lib.Dec.{eqb}
 use borrow.Author.Tests.{eq-eqb, ne-eqb, eqb-true, eqb-false}
 use Rattle.base.specs.All.{All}
 use Rattle.base.specs.Deal.{keyed, those}
+use Rattle.base.specs.Insertion.{insert, sortBy}
 use Rattle.sort.specs.Sorted.{put, sorted}
-use Rattle.sort.specs.SortedLaws.{AtLeast, Rising, either, put-before, put-behind, put-comm, at-least-trans, rising-sorted}
+use Rattle.sort.specs.SortedLaws.{Rising, put-least, put-before, put-behind, put-comm, at-least-trans, rising-sorted}
+use Rattle.base.specs.InsertionLaws.{either}
 
 -- The numbers of a list whose key is k.
 unfoldable pub picked : (ℕ → ℕ) → ℕ → List ℕ → List ℕ
 picked f k [] = []
 picked f k (x ∷ xs) = elim (eqb (f x) k) [ true ↦ x ∷ picked f k xs | false ↦ picked f k xs ]
-
-put-least : (x : ℕ) (l : List ℕ) → AtLeast x l → put x l ≡ x ∷ l
-unfolding put
-put-least x [] h = refl
-put-least x (y ∷ l) h = put-before x y l (h .0)
 
 module _ (f : ℕ → ℕ) (k : ℕ) where
   pub picked-same : (x : ℕ) (xs : List ℕ) → f x ≡ k → picked f k (x ∷ xs) ≡ x ∷ picked f k xs
@@ -50,7 +47,7 @@ module _ (f : ℕ → ℕ) (k : ℕ) where
   -- ---- one number more, of key k or of another
 
   picked-put : (x : ℕ) → f x ≡ k → (l : List ℕ) → Rising l → picked f k (put x l) ≡ put x (picked f k l)
-  unfolding put picked
+  unfolding insert picked
   picked-put x e [] r = picked-same x [] e
   picked-put x e (y ∷ l) r = by (picked-put x e l (r .1)) (decLe x y) (eqb (f y) k) refl
     where
@@ -67,7 +64,7 @@ module _ (f : ℕ → ℕ) (k : ℕ) where
           ap (picked f k) (put-behind x y l (omega arith)) ∙ picked-other y (put x l) s ∙ ih ∙ sym (ap (put x) (picked-other y l s))
 
   picked-skip : (x : ℕ) → (f x ≡ k → ⊥) → (l : List ℕ) → picked f k (put x l) ≡ picked f k l
-  unfolding put picked
+  unfolding insert picked
   picked-skip x n [] = picked-other x [] n
   picked-skip x n (y ∷ l) = by (picked-skip x n l) (decLe x y) (eqb (f y) k) refl
     where
@@ -82,7 +79,7 @@ module _ (f : ℕ → ℕ) (k : ℕ) where
 
   -- PICKED FROM THE SORTED LIST, THE NUMBERS OF A KEY STAND SORTED.
   pub picked-sorted : (l : List ℕ) → picked f k (sorted l) ≡ sorted (picked f k l)
-  unfolding sorted picked
+  unfolding sortBy picked
   picked-sorted [] = refl
   picked-sorted (x ∷ l) = by (picked-sorted l) (eqb (f x) k) refl
     where
@@ -107,11 +104,6 @@ put-last x (y ∷ xs) l = ap (putAll xs) (put-comm y x l) ∙ put-last x xs (put
 
 -- Put in from the first or from the last on, they stand the same.
 pub put-sorted : (xs : List ℕ) → putAll xs [] ≡ sorted xs
-unfolding putAll sorted
+unfolding putAll sortBy
 put-sorted [] = refl
 put-sorted (x ∷ xs) = put-last x xs [] ∙ ap (put x) (put-sorted xs)
-
-pub all-put : (P : ℕ → Type 0) (x : ℕ) (l : List ℕ) → P x → All P l → All P (put x l)
-unfolding put
-all-put P x [] p h = (p, tt)
-all-put P x (y ∷ l) p h = either (All P) (leb x y) (λ e. (p, h)) (λ e. (h .0, all-put P x l p (h .1)))

@@ -15,7 +15,9 @@ use Rattle.base.specs.Laid.{numbers}
 use Rattle.numeric.specs.Threshold.{Threshold}
 use Rattle.row.specs.Terms.{sameTerms}
 use Rattle.sort.specs.Sorted.{put, sorted}
-use Rattle.sort.specs.SortedLaws.{all-map}
+use Rattle.base.specs.InsertionLaws.{all-map}
+use Rattle.base.specs.Insertion.{insert}
+use Rattle.sort.specs.SortedLaws.{all-put}
 use Rattle.memory.specs.Buffers.{RawLists}
 use Rattle.rows.specs.Lists.{listAt}
 use Rattle.rows.specs.ListsLaws.{same-refl}
@@ -23,7 +25,7 @@ use Rattle.rows.specs.Rows.{Row, Guard, guard, insertGuard, place, placeAll, ro
 use Rattle.job.specs.RowsLaws.{number-all}
 use Rattle.rows.specs.Guards.{Bounds, guardKeys, nodeAt}
 use Rattle.job.specs.Given.{thresholdAt, givenRows}
-use Rattle.prepare.specs.GuardOrderPickedLaws.{picked, picked-same, picked-other, picked-sorted, putAll, put-sorted, all-put}
+use Rattle.prepare.specs.GuardOrderPickedLaws.{picked, picked-same, picked-other, picked-sorted, putAll, put-sorted}
 use Rattle.prepare.specs.GuardOrderKeysLaws.{guardAt, keyAt, keyGuard, Before, keys-are, picked-keys, insert-key}
 
 abbrev pub guardsAt : List Row → ℕ → List Guard
@@ -41,7 +43,7 @@ eqb-next n m = by (eqb n m) refl
 -- The guards of row k: the threshold's is inserted if that is its row.
 pub guards-placed : (t : Threshold) (rs : List Row) (k : ℕ)
     → guardsAt (place t rs) k ≡ cond (eqb (rowNumber rs (t .terms)) k) (insertGuard (guard (t .bound) (t .node)) (guardsAt rs k)) (guardsAt rs k)
-unfolding place rowNumber insertGuard
+unfolding place rowNumber insert
 guards-placed t [] zero = refl
 guards-placed t [] (suc k) = rw (ne-eqb 0 (suc k) (λ e. omega arith)) refl
 guards-placed t (r ∷ rs) k = by (λ j. guards-placed t rs j) (sameTerms (r .raw) (t .terms)) refl k

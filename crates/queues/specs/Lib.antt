@@ -7,6 +7,7 @@ pub mod RowsLaws
 pub mod SlotLaws
 pub mod Marks
 pub mod MarksLaws
+pub mod StayLaws
 pub mod Waiting
 pub mod Requeue
 pub mod RequeueLaws

@@ -17,6 +17,11 @@ pub record Marks : Type 0 where
 abbrev pub marks : List ℕ → List ℕ → Queue → Marks
 marks s n q = record { sure = s; never = n; nodes = q }
 
+-- The mask of a value.
+abbrev pub mask : Bool → Marks → List ℕ
+mask true m = m .sure
+mask false m = m .never
+
 abbrev pub isDecided : Marks → ℕ → Bool
 isDecided m n = inEither (m .sure) (m .never) n
 

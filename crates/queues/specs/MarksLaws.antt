@@ -3,24 +3,22 @@ use mathlib.Core.Path.{_≡_, refl, sym, ap, _∙_}
 use mathlib.Core.List.{List, _∷_}
 use mathlib.Core.Logic.{_≢_}
 use mathlib.Core.Bool.{Bool, true, false, not, _||_, or-true}
-use Prim.Native.Nat.{ℕ, _/_, _%_, _≤_, _<_}
+use Prim.Native.Nat.{ℕ, _/_, _≤_, _<_}
 use native.Mathlib.Decide.{ℕ-discrete}
 use native.Mathlib.Omega.{arith}
-use lib.Dec.{eqb, lit<}
-use lib.ListN.{length, replicate, length-replicate, List·getD-eq-default}
-use lib.Pow.{pow-pos}
+use lib.Dec.{lit<}
+use lib.ListN.{length, replicate, length-replicate}
 use Rattle.base.specs.TestLaws.{unequal}
 use Rattle.memory.specs.Limits.{maxNodes}
 use Rattle.state.specs.declared.Step.{Step}
 use Rattle.state.specs.declared.Step.the-variants.{Unchanged, Changed, Contradiction}
-use Rattle.words.specs.Mask.{bit, digit, setBit, learn, Learned}
-use Rattle.words.specs.MaskLaws.{learn-there, learn-opposite, learn-new, learn-has, learn-other, length-learn, set-bit-same, set-bit-other, length-set-bit}
-use Rattle.words.specs.DigitsLaws.{digit-high}
+use Rattle.words.specs.Mask.{bit, setBit, learn, Learned}
+use Rattle.words.specs.MaskLaws.{learn-there, learn-opposite, learn-new, learn-has, learn-other, length-learn, set-bit-same, set-bit-other, length-set-bit, bit-behind}
 use Rattle.queues.specs.Queue.{Queue, queue, ring, oldest, push, popped}
 use Rattle.queues.specs.QueueLaws.{push-times, popped-times, room-left, held-push, held-popped}
 use Rattle.queues.specs.OnceLaws.{times-same, times-other, times-behind}
 use Rattle.queues.specs.Waiting.{times, entries, waitingList, Waits}
-use Rattle.queues.specs.Marks.{Marks, marks, isDecided, Decided, decided, waiting, decide}
+use Rattle.queues.specs.Marks.{Marks, marks, mask, isDecided, Decided, decided, waiting, decide}
 
 -- A mask that learnt, and what waits after its answer, make up a decision.
 module _ (sure never : List ℕ) (nodes : Queue) (n : ℕ) (value : Bool) (mask : List ℕ) (step : Step) (q : Queue) (waits : q ≡ waiting step nodes n) where
@@ -40,11 +38,7 @@ module _ (sure never : List ℕ) (nodes : Queue) (n : ℕ) (value : Bool) (mask 
 
 -- ---- one law for both values
 
--- The mask of a value, and the marks with that mask and the queue put anew.
-abbrev pub mask : Bool → Marks → List ℕ
-mask true m = m .sure
-mask false m = m .never
-
+-- The marks with the mask of a value and the queue put anew.
 abbrev pub put : Bool → Marks → List ℕ → Queue → Marks
 put true m l q = marks l (m .never) q
 put false m l q = marks (m .sure) l q
@@ -130,10 +124,6 @@ both-none : (value : Bool) (m : Marks) (n : ℕ) → bit (mask value m) n ≡ fa
 both-none true m n h k = ap (λ (b : Bool). b || bit (m .never) n) h ∙ k
 both-none false m n h k = ap (λ (b : Bool). b || bit (m .never) n) k ∙ h
 
--- No node lies behind the last word of a mask.
-behind : (l : List ℕ) (n : ℕ) → length l ≤ n / 64 → bit l n ≡ false
-behind l n h = ap (λ (w : ℕ). eqb (digit w (n % 64)) 1) (List·getD-eq-default l 0 h) ∙ ap (λ (d : ℕ). eqb d 1) (digit-high 0 (n % 64) (pow-pos (n % 64)))
-
 clash : true ≡ false → ⊥
 clash h = unequal cc
 
@@ -142,8 +132,8 @@ clash h = unequal cc
 module _ (m : Marks) (w : Waits m) where
   none : (n : ℕ) → maxNodes ≤ n → isDecided m n ≡ false
   none n h =
-      ap (λ (b : Bool). b || bit (m .never) n) (behind (m .sure) n (omega (arith, w .sures)))
-      ∙ behind (m .never) n (omega (arith, w .nevers))
+      ap (λ (b : Bool). b || bit (m .never) n) (bit-behind (m .sure) n (omega (arith, w .sures)))
+      ∙ bit-behind (m .never) n (omega (arith, w .nevers))
 
   -- So there is room for each node that is not decided yet.
   pub waits-room : (n : ℕ) → n < maxNodes → isDecided m n ≡ false → m .nodes .ring .count < maxNodes

@@ -11,11 +11,12 @@ use lib.Dec.{eqb}
 use lib.ListN.{length}
 use borrow.Author.Tests.{eqb-true, eq-eqb, ne-eqb}
 use Rattle.base.specs.All.{All}
+use Rattle.base.specs.InsertionLaws.{sort-sum}
 use Rattle.memory.specs.Limits.{listTerms}
 use Rattle.memory.specs.Ranges.{rawLimit, weightLimit}
 use Rattle.numeric.specs.Threshold.{Term, term}
 use Rattle.numeric.specs.LayoutLaws.{sumOf}
-use Rattle.row.specs.Terms.{before, merge, merged, insert, sorted, rowTerms, total}
+use Rattle.row.specs.Terms.{before, merge, merged, sorted, rowTerms, total}
 use Rattle.row.specs.TermsLaws.{Distinct, Positive, Ordered, either, before-true, Before}
 
 -- What a term adds.
@@ -52,16 +53,9 @@ sum-merged v (t ∷ ts) =
     (λ e. omega (arith, share-zero v t (eqb-true (t .weight) 0 e), sum-merged v ts))
     (λ e. omega (arith, sum-merge v t (merged ts), sum-merged v ts))
 
-sum-insert : (v : ℕ → Bool) (t : Term) (us : List Term) → sumOf v (insert t us) ≡ share v t + sumOf v us
-unfolding insert sumOf
-sum-insert v t [] = refl
-sum-insert v t (u ∷ us) =
-    either (λ (l : List Term). sumOf v l ≡ share v t + (share v u + sumOf v us)) (before t u) (λ e. refl) (λ e. omega (arith, sum-insert v t us))
-
 pub sum-sorted : (v : ℕ → Bool) (ts : List Term) → sumOf v (sorted ts) ≡ sumOf v ts
-unfolding sorted sumOf
-sum-sorted v [] = refl
-sum-sorted v (t ∷ ts) = omega (arith, sum-insert v t (sorted ts), sum-sorted v ts)
+unfolding sumOf
+sum-sorted v = sort-sum before (share v) (sumOf v) (λ t ts. refl)
 
 -- THE ROW COUNTS WHAT ITS RAW LIST COUNTS, UNDER EVERY LAYOUT
 pub row-sum : (v : ℕ → Bool) (raw : List Term) → sumOf v (rowTerms raw) ≡ sumOf v raw

@@ -35,14 +35,27 @@ pub record Live : Type 0 where
 abbrev pub live : List State → Marks → Rows → Rows → Live
 live s m d r = record { states = s; marks = m; dirty = d; residuals = r }
 
+-- One part put anew. What changes a live state is made of these, so that no other definition lists its parts.
+abbrev pub withStates : Live → List State → Live
+withStates v s = live s (v .marks) (v .dirty) (v .residuals)
+
+abbrev pub withMarks : Live → Marks → Live
+withMarks v m = live (v .states) m (v .dirty) (v .residuals)
+
+abbrev pub withDirtyRows : Live → Rows → Live
+withDirtyRows v d = live (v .states) (v .marks) d (v .residuals)
+
+abbrev pub withResiduals : Live → Rows → Live
+withResiduals v r = live (v .states) (v .marks) (v .dirty) r
+
 abbrev pub stateAt : Live → ℕ → State
 stateAt v r = getD (v .states) r noState
 
 abbrev pub withState : Live → ℕ → State → Live
-withState v r s = live (set (v .states) r s) (v .marks) (v .dirty) (v .residuals)
+withState v r s = withStates v (set (v .states) r s)
 
 abbrev pub withDirty : Live → ℕ → Live
-withDirty v r = live (v .states) (v .marks) (queueRow (v .dirty) r) (v .residuals)
+withDirty v r = withDirtyRows v (queueRow (v .dirty) r)
 
 pub record Did : Type 0 where
   pub live : Live
@@ -59,7 +72,7 @@ residualQueued row s q r = cond (wantsResidual row s) (queueRow q r) q
 unfoldable pub runWith : Row → Live → ℕ → Did
 runWith row v r =
     let a = thresholdRow row (stateAt v r) (v .marks) in
-    did (live (set (v .states) r (a .state)) (a .marks) (v .dirty) (residualQueued row (stateAt v r) (v .residuals) r)) (a .step)
+    did (withResiduals (withMarks (withState v r (a .state)) (a .marks)) (residualQueued row (stateAt v r) (v .residuals) r)) (a .step)
 
 unfoldable pub runRow : Index → Live → ℕ → Did
 runRow x v r = runWith (getD (x .rows) r noRow) v r
@@ -70,7 +83,7 @@ linkedQueued n q r = cond (eqb n 0) q (queueRow q r)
 
 -- Row r, with so many links, moved to state s.
 abbrev pub withBound : Live → ℕ → State → ℕ → Live
-withBound v r s n = live (set (v .states) r s) (v .marks) (linkedQueued n (v .dirty) r) (v .residuals)
+withBound v r s n = withDirtyRows (withState v r s) (linkedQueued n (v .dirty) r)
 
 -- The row that holds a moved bound runs, and waits to hand the bound on if it has links.
 unfoldable pub bounded : Index → Live → ℕ → State → Did

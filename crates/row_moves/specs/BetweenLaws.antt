@@ -20,10 +20,11 @@ use Rattle.queues.specs.declared.Rings.{Rings}
 use Rattle.queues.specs.Queue.{Rows, queueRow}
 use Rattle.rows.specs.Rows.{Row, rowNumber}
 use Rattle.tightening.specs.declared.Tightened.{Tightened}
-use Rattle.row_moves.specs.Between.{Index, Live, live, stateAt, withState, withDirty, withBound, Did, did, residualQueued, linkedQueued, runWith, bounded, thresholdGuard}
+use Rattle.row_moves.specs.Between.{Index, Live, live, stateAt, withState, withDirty, withBound, Did, did, residualQueued, linkedQueued, runWith, bounded, thresholdGuard, withDirtyRows, withMarks, withResiduals, withStates}
 use Rattle.row_moves.specs.Held.{Holds, heldRow}
 use Rattle.row_moves.specs.HeldLaws.{run-held}
-use Rattle.row_moves.specs.WalkLaws.{guardRow, guard-ends}
+use Rattle.row_moves.specs.WalkLaws.{guard-ends}
+use Rattle.row_moves.specs.Handing.{guardRow}
 use Rattle.base.specs.TestLaws.{contrary}
 use Rattle.tightening.specs.Told.{guardState}
 use Rattle.row_runs.specs.Row.{Ran, ran, thresholdRow, wantsResidual}
@@ -52,8 +53,8 @@ pub rest-run : (row : Row) (v : Live) (r : ℕ) → Rests row (stateAt v r) (v .
 unfolding runWith
 rest-run row v r y =
     let s = stateAt v r in
-    sym (ap (λ (a : Ran). did (live (set (v .states) r (a .state)) (a .marks) (v .dirty) (residualQueued row s (v .residuals) r)) (a .step)) (y .run)
-    ∙ ap₂ (λ (ss : List State) (q : Rows). did (live ss (v .marks) (v .dirty) q) Unchanged) (set-getD (v .states) r noState) (sym (residual-not row s (v .residuals) r (y .residual))))
+    sym (ap (λ (a : Ran). did (withResiduals (withMarks (withState v r (a .state)) (a .marks)) (residualQueued row s (v .residuals) r)) (a .step)) (y .run)
+    ∙ ap₂ (λ (ss : List State) (q : Rows). did (withResiduals (withStates v ss) q) Unchanged) (set-getD (v .states) r noState) (sym (residual-not row s (v .residuals) r (y .residual))))
 
 pub rest-told : (row : Row) (v : Live) (r : ℕ) (s : State) → r < length (v .states) → Rests row s (v .marks) → (v′ : Live) → v′ .states ≡ set (v .states) r s → v′ .marks ≡ v .marks
     → v′ .dirty ≡ queueRow (v .dirty) r → v′ .residuals ≡ v .residuals → did v′ Unchanged ≡ runWith row (withDirty (withState v r s) r) r
@@ -75,12 +76,12 @@ linked-not n q r h = rw (eq-eqb n 0 h)
 
 -- A state is stored, and the row run; a moved bound waits to be handed on before.
 pub store-run : (row : Row) (v : Live) (r : ℕ) (s : State) (ss : List State) → ss ≡ set (v .states) r s → (o : Did)
-    → o ≡ runWith row (live ss (v .marks) (v .dirty) (v .residuals)) r → o ≡ runWith row (withState v r s) r
-store-run row v r s ss e o made = made ∙ ap (λ (y : List State). runWith row (live y (v .marks) (v .dirty) (v .residuals)) r) e
+    → o ≡ runWith row (withStates v ss) r → o ≡ runWith row (withState v r s) r
+store-run row v r s ss e o made = made ∙ ap (λ (y : List State). runWith row (withStates v y) r) e
 
 pub linked-run : (row : Row) (v : Live) (r n : ℕ) (s : State) (d q : Rows) → d ≡ linkedQueued n (v .dirty) r → q ≡ v .residuals → (o : Did)
-    → o ≡ runWith row (live (set (v .states) r s) (v .marks) d q) r → o ≡ runWith row (withBound v r s n) r
-linked-run row v r n s d q e f o made = made ∙ ap₂ (λ (y z : Rows). runWith row (live (set (v .states) r s) (v .marks) y z) r) e f
+    → o ≡ runWith row (withResiduals (withDirtyRows (withState v r s) d) q) r → o ≡ runWith row (withBound v r s n) r
+linked-run row v r n s d q e f o made = made ∙ ap₂ (λ (y z : Rows). runWith row (withResiduals (withDirtyRows (withState v r s) y) z) r) e f
 
 pub bounded-held : (x : Index) (h : HeldRows) → Holds x h → (v : Live) (r : ℕ) (s : State) (n : ℕ) → r < length (h .rows) → length (neighbours r (x .links)) ≡ n → (o : Did)
     → o ≡ runWith (heldRow h r) (withBound v r s n) r → o ≡ bounded x v r s

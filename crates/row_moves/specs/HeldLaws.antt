@@ -4,7 +4,7 @@ use native.Mathlib.Numerals.{add-one}
 use native.Mathlib.Omega.{arith}
 use mathlib.Core.Path.{_≡_, refl, sym, ap, ap₂, subst, _∙_}
 use mathlib.Core.List.{List, [], _∷_, map}
-use lib.ListN.{length, getD, set, drop, length-take, length-drop}
+use lib.ListN.{length, getD, drop, length-take, length-drop}
 use lib.Seq.{drop-cons, getD-drop, getD-take}
 use Rattle.memory.specs.Limits.{maxNodes}
 use Rattle.memory.specs.Buffers.{HeldRows}
@@ -21,7 +21,7 @@ use Rattle.row_runs.specs.Guards.{guards}
 use Rattle.row_runs.specs.Row.{Ran, wantsResidual}
 use Rattle.row_runs.specs.RowLaws.{row-raw}
 use Rattle.resting.specs.Rest.{Rests}
-use Rattle.row_moves.specs.Between.{Index, Live, live, Did, did, stateAt, residualQueued, runWith, runRow}
+use Rattle.row_moves.specs.Between.{Index, Live, Did, did, stateAt, residualQueued, runWith, runRow, withMarks, withResiduals, withState}
 use Rattle.row_moves.specs.Held.{endBy, startBy, heldRow, edgesIn, Shaped, Holds}
 
 -- ---- stretches
@@ -66,7 +66,7 @@ module _ (h : HeldRows) (s : Shaped h) (r : ℕ) (k : r < length (h .rows)) wher
 pub run-raw : (raw raw′ ts : List Term) (gs : List Guard) (v : Live) (r : ℕ) → runWith (rowOf raw ts gs) v r ≡ runWith (rowOf raw′ ts gs) v r
 unfolding runWith wantsResidual
 run-raw raw raw′ ts gs v r =
-    ap (λ (a : Ran). did (live (set (v .states) r (a .state)) (a .marks) (v .dirty) (residualQueued (rowOf raw ts gs) (stateAt v r) (v .residuals) r)) (a .step))
+    ap (λ (a : Ran). did (withResiduals (withMarks (withState v r (a .state)) (a .marks)) (residualQueued (rowOf raw ts gs) (stateAt v r) (v .residuals) r)) (a .step))
     (row-raw raw raw′ ts gs (stateAt v r) (v .marks))
 
 -- It is run as the row of the index.

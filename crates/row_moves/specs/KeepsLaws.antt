@@ -25,7 +25,8 @@ use Rattle.row_runs.specs.ScanLaws.{all-drop, all-take, all-reverse, scan-keeps
 use Rattle.row_runs.specs.RowLaws.{decides-keeps}
 use Rattle.row_runs.specs.Row.{Ran, ran, sureWaits, decides, sureGuards, neverWaits, neverGuards, thresholdGuards, termWaits, forces, forced, trueTerms, falseTerms, thresholdRow}
 use Rattle.row_moves.specs.Between.{Index, Live, stateAt, runRow, runWith, thresholdGuard, thresholdCondition, thresholdPrefixes}
-use Rattle.row_moves.specs.RunsLaws.{guardsRun, trueRun, run-ends}
+use Rattle.row_runs.specs.RunsLaws.{run-ends}
+use Rattle.row_runs.specs.Runs.{guardsRun, trueRun}
 use Rattle.row_moves.specs.WalkLaws.{Moves, keep-guard, keep-condition, keep-prefixes}
 use Rattle.row_moves.specs.Ready.{Names}
 

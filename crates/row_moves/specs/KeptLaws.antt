@@ -5,7 +5,7 @@ use mathlib.Core.Path.{_≡_, sym}
 use mathlib.Core.Bool.{Bool, true, false, cond}
 use mathlib.Core.List.{List, List·Memᴰ}
 use lib.Dec.{eqb}
-use lib.ListN.{length, set}
+use lib.ListN.{length}
 use lib.Signed.{mag}
 use Rattle.base.specs.All.{All}
 use Rattle.base.specs.AllLaws.{all-each}
@@ -21,13 +21,14 @@ use Rattle.rows.specs.Rows.{Edge, rowNumber}
 use Rattle.links.specs.Links.{neighbours}
 use Rattle.memory.specs.Limits.{maxThresholds}
 use Rattle.memory.specs.Ranges.{figureLimit, weightLimit, drainLimit}
-use Rattle.row_moves.specs.Between.{Index, Live, live, Did, stateAt, withState, linkedQueued, runWith, runRow, thresholdGuard, conditionFrom, termCount, thresholdPrefixes}
+use Rattle.row_moves.specs.Between.{Index, Live, Did, stateAt, withState, linkedQueued, runWith, runRow, thresholdGuard, conditionFrom, termCount, thresholdPrefixes, withDirtyRows}
 use Rattle.row_moves.specs.Held.{Shaped, Holds}
 use Rattle.row_moves.specs.HeldLaws.{run-held}
 use Rattle.row_moves.specs.Ready.{Fit, Runnable}
 use Rattle.row_moves.specs.ReadyLaws.{ready-more, ready-set, ready-run, ready-by, fit-drained, fit-guard, fit-prefix}
-use Rattle.row_moves.specs.LoopLaws.{edgeRun, condition-walk}
-use Rattle.row_moves.specs.WalkLaws.{walks, guardRow, guardTold, guard-ends, prefix-keeps}
+use Rattle.row_moves.specs.LoopLaws.{condition-walk}
+use Rattle.row_moves.specs.Handing.{edgeRun, guardRow, guardTold}
+use Rattle.row_moves.specs.WalkLaws.{walks, guard-ends, prefix-keeps}
 
 pub runnable-by : (h : HeldRows) (n : ℕ) (c d : Did) → c ≡ d → Runnable h n (d .live) → Runnable h n (c .live)
 runnable-by h n c d e a = rw e a
@@ -74,9 +75,9 @@ module _ (x : Index) (h : HeldRows) (z : Holds x h) (y : Shaped h) where
 
   -- A row is told something, and waits to hand it on.
   kept-told : (n : ℕ) (v : Live) (r : ℕ) (s : State) (q : Rows) → r < length (h .rows) → Fit h n r s → Flags q → Runnable h n v
-      → Runnable h n (runRow x (live (set (v .states) r s) (v .marks) q (v .residuals)) r .live)
+      → Runnable h n (runRow x (withDirtyRows (withState v r s) q) r .live)
   kept-told n v r s q k f g a =
-      kept-run n (live (set (v .states) r s) (v .marks) q (v .residuals)) r k (record { ready = ready-set h n (v .states) (v .marks) (v .residuals) (a .ready) r s f; dirty = g })
+      kept-run n (withDirtyRows (withState v r s) q) r k (record { ready = ready-set h n (v .states) (v .marks) (v .residuals) (a .ready) r s f; dirty = g })
 
   flags-linked : (n : ℕ) (q : Rows) (r : ℕ) → r < maxThresholds → Flags q → Flags (linkedQueued n q r)
   flags-linked n q r k f = by (eqb n 0)

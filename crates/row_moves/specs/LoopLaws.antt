@@ -4,19 +4,16 @@ use Prim.Native.Nat.{ℕ, _+_}
 use mathlib.Core.Path.{_≡_, refl, sym, ap, _∙_}
 use mathlib.Core.Bool.{Bool, true, false, cond}
 use mathlib.Core.List.{List, [], _∷_}
-use lib.ListN.{getD}
 use Rattle.state.specs.StepLaws.{contradiction-is}
 use Rattle.state.specs.declared.Step.{Step}
 use Rattle.state.specs.declared.Step.the-variants.{Unchanged, Changed, Contradiction}
 use Rattle.state.specs.declared.State.{State}
 use Rattle.state.specs.Step.{joined, contradicts}
 use Rattle.state.specs.State.{drained, withKnown, withPossible}
-use Rattle.rows.specs.Rows.{Row, noRow, Edge}
-use Rattle.tightening.specs.declared.Tightened.{Tightened}
+use Rattle.rows.specs.Rows.{Row, Edge}
 use Rattle.row_runs.specs.ScanLaws.{joined-last}
-use Rattle.tightening.specs.Told.{movedState}
-use Rattle.row_moves.specs.Between.{Index, Live, Did, did, stateAt, withState, withDirty, runRow, conditionFrom, termCount, prefixesFrom, seedFrom}
-use Rattle.row_moves.specs.Handing.{after, toldStep, handedOn}
+use Rattle.row_moves.specs.Between.{Index, Live, Did, did, runRow, conditionFrom, prefixesFrom, seedFrom}
+use Rattle.row_moves.specs.Handing.{after, after-told, handedOn, edgeRun, moved, movedRun, handRun}
 
 -- ---- answers
 
@@ -85,10 +82,6 @@ unfolding drained withKnown withPossible
 drained-upper true w s = refl
 drained-upper false w s = refl
 
--- An edge is drained, and its row run.
-abbrev pub edgeRun : Index → Bool → Edge → Live → Did
-edgeRun x value e v = runRow x (withState v (e .row) (drained value (e .weight) (stateAt v (e .row)))) (e .row)
-
 pub condition-walk : (x : Index) (value : Bool) → Walk (conditionFrom x value) (edgeRun x value)
 unfolding conditionFrom
 condition-walk x value = record { none = λ v. refl; some = λ e es v. by e es v (contradicts (edgeRun x value e v .step)) refl }
@@ -98,21 +91,6 @@ condition-walk x value = record { none = λ v. refl; some = λ e es v. by e es v
     by e es v false h = rw (conditionFrom, h)
 
 -- ---- the neighbours of a row
-
--- A row that was told something new answers so.
-abbrev pub after-told : Did → Did
-after-told d = did (d .live) (toldStep (d .step))
-
--- What a neighbour takes of the source; with it, it waits to hand it on, and is run.
-abbrev pub moved : Index → ℕ → State → ℕ → Live → Tightened
-moved x row source r v = movedState source (stateAt v r) (termCount x row) (termCount x r)
-
-abbrev pub movedRun : Index → ℕ → State → ℕ → Live → Did
-movedRun x row source r v = runRow x (withDirty (withState v r (moved x row source r v .state)) r) r
-
--- One neighbour, whether it takes anything or not.
-abbrev pub handRun : Index → ℕ → State → ℕ → Live → Did
-handRun x row source r v = handedOn (getD (x .rows) r noRow) v r (moved x row source r v)
 
 -- It takes nothing, or it takes something and is run.
 pub hand-ends : (x : Index) (row : ℕ) (source : State) (r : ℕ) (v : Live) (G : Did → Type 0) → (moved x row source r v .changed ≡ false → G (did v Unchanged))

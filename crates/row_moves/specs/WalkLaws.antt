@@ -19,12 +19,10 @@ use Rattle.words.specs.Mask.{bit}
 use Rattle.queues.specs.Queue.{queueRow}
 use Rattle.rows.specs.Rows.{Row, Edge, edgesOf, rowNumber}
 use Rattle.links.specs.Links.{neighbours}
-use Rattle.tightening.specs.declared.Tightened.{Tightened}
 use Rattle.base.specs.TestLaws.{contrary}
-use Rattle.tightening.specs.Told.{guardState}
-use Rattle.row_moves.specs.Between.{Index, Live, live, stateAt, withState, withDirty, Did, did, runRow, withBound, bounded, thresholdGuard, guardOf, conditionFrom, thresholdCondition, prefixesFrom, thresholdPrefixes, seedFrom}
-use Rattle.row_moves.specs.Handing.{after, toldStep}
-use Rattle.row_moves.specs.LoopLaws.{Walk, walk-end, walk-next, walk-stop, after-told, edgeRun, condition-walk, moved, movedRun, handRun, hand-ends, prefix-walk, seed-next, seed-stop, seed-end}
+use Rattle.row_moves.specs.Between.{Index, Live, stateAt, withState, withDirty, Did, did, runRow, bounded, thresholdGuard, guardOf, conditionFrom, thresholdCondition, prefixesFrom, thresholdPrefixes, seedFrom, withDirtyRows}
+use Rattle.row_moves.specs.Handing.{after, toldStep, after-told, edgeRun, moved, movedRun, handRun, guardRow, guardTold, guardRun, Among}
+use Rattle.row_moves.specs.LoopLaws.{Walk, walk-end, walk-next, walk-stop, condition-walk, hand-ends, prefix-walk, seed-next, seed-stop, seed-end}
 
 -- ---- THE PRINCIPLE
 
@@ -55,6 +53,15 @@ pub walk-fine : {A : Type 0} {walk : List A → Live → Did} {move : A → Live
     → (v : Live) → P all v → contradicts (walk all v .step) ≡ false → P [] (walk all v .live)
 walk-fine w all P next v p =
     walks w all P (λ (d : Did). contradicts (d .step) ≡ false → P [] (d .live)) (λ u k c q e. q) (λ a as′ u m q c e. contrary (sym c ∙ e)) next v p
+
+-- What each move keeps where it is made, the walk keeps, whatever it answers.
+module _ {A : Type 0} {walk : List A → Live → Did} {move : A → Live → Did} (w : Walk walk move) (Q : Live → Type 0) (all : List A) (v : Live)
+    (one : (a : A) (u : Live) → Among move all v a u → Q u → Q (move a u .live)) where
+  pub walk-keeps : Q v → Q (walk all v .live)
+  walk-keeps q =
+      walks w all (λ (as′ : List A) (u : Live). Q u × ((b : A) (t : Live) → Among move as′ u b t → Among move all v b t)) (λ (d : Did). Q (d .live))
+      (λ u k c p. p .0) (λ a as′ u m p c. one a u (p .1 a u Among.here) (p .0))
+      (λ a as′ u m p c. (one a u (p .1 a u Among.here) (p .0), λ b t i. p .1 b t (Among.later c i))) v (q, λ b t i. i)
 
 -- ---- BOUNDS HANDED ON: a neighbour takes nothing, or takes something and is run
 
@@ -98,21 +105,12 @@ prefix-fine x row source all P skip next v p =
 
 -- ---- A DRAINED GUARD: nothing new, or its row is told, and run
 
-abbrev pub guardRow : Index → Threshold → ℕ
-guardRow x t = rowNumber (x .rows) (t .terms)
-
 module _ (x : Index) (v : Live) (t : Threshold) where
-  abbrev pub guardTold : Tightened
-  guardTold = guardState (stateAt v (guardRow x t)) (bit (v .marks .sure) (t .node)) (t .bound)
-
-  abbrev pub guardRun : Did
-  guardRun = runRow x (withBound v (guardRow x t) (guardTold .state) (length (neighbours (guardRow x t) (x .links)))) (guardRow x t)
-
-  pub guard-ends : (G : Did → Type 0) → (guardTold .changed ≡ false → G (did v Unchanged)) → (guardTold .changed ≡ true → G guardRun) → G (thresholdGuard x v t)
+  pub guard-ends : (G : Did → Type 0) → (guardTold x v t .changed ≡ false → G (did v Unchanged)) → (guardTold x v t .changed ≡ true → G (guardRun x v t)) → G (thresholdGuard x v t)
   unfolding thresholdGuard bounded
-  guard-ends G none some = by (guardTold .changed) refl
+  guard-ends G none some = by (guardTold x v t .changed) refl
     where
-      by : (c : Bool) → guardTold .changed ≡ c → G (elim c [ true ↦ bounded x v (guardRow x t) (guardTold .state) | false ↦ did v Unchanged ])
+      by : (c : Bool) → guardTold x v t .changed ≡ c → G (elim c [ true ↦ bounded x v (guardRow x t) (guardTold x v t .state) | false ↦ did v Unchanged ])
       by true e = some e
       by false e = none e
 
@@ -177,7 +175,7 @@ module _ (x : Index) (Ok : ℕ → Type 0) (Q : Live → Type 0) (h : Moves x Ok
       w : Live
       w = withState v r (guardTold x v t .state)
 
-      by : (b : Bool) → Q (live (w .states) (w .marks) (cond b (w .dirty) (queueRow (w .dirty) r)) (w .residuals))
+      by : (b : Bool) → Q (withDirtyRows w (cond b (w .dirty) (queueRow (w .dirty) r)))
       by true = h .put v r _ q
       by false = h .wait w r k (h .put v r _ q)
 

@@ -6,3 +6,5 @@ pub mod Turns
 pub mod Guards
 pub mod GuardsLaws
 pub mod Shape
+pub mod Runs
+pub mod RunsLaws

@@ -7,6 +7,7 @@ use lib.ListN.{length, getD}
 use lib.IntN.{ℤ}
 use lib.Signed.{leZ, ltZ}
 use lib.Dec.{eqb, leb, ltb}
+use Rattle.base.specs.Insertion.{insert}
 use Rattle.numeric.specs.Threshold.{Term, term, Threshold, Job}
 use Rattle.state.specs.declared.State.{State}
 use Rattle.state.specs.State.{firstState}
@@ -56,9 +57,8 @@ Linked r = linkedBy (r .guards) ≡ true
 abbrev pub below : Guard → Guard → Bool
 below g h = ltZ (g .bound) (h .bound) || (leZ (g .bound) (h .bound) && ltb (g .node) (h .node))
 
-unfoldable pub insertGuard : Guard → List Guard → List Guard
-insertGuard g [] = g ∷ []
-insertGuard g (h ∷ hs) = elim (below g h) [ true ↦ g ∷ h ∷ hs | false ↦ h ∷ insertGuard g hs ]
+abbrev pub insertGuard : Guard → List Guard → List Guard
+insertGuard g gs = insert below g gs
 
 -- The threshold joins the row of its raw list, or makes the next row.
 unfoldable pub place : Threshold → List Row → List Row

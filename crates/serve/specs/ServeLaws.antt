@@ -29,7 +29,8 @@ use Rattle.drain.specs.Drain as Drain
 use Rattle.drain.specs.Drain.{indexOf}
 use Rattle.drain.specs.Sift as Sift
 use Rattle.drain.specs.Sift.{Sifted, tryRow}
-use Rattle.drain.specs.SiftLaws.{tryTerms, tryResidual, trySearch, try-ends, sift-keeps}
+use Rattle.drain.specs.SiftLaws.{try-ends, sift-keeps}
+use Rattle.drain.specs.Steps.{tryTerms, tryResidual, trySearch}
 use Rattle.records.specs.declared.Record.{Record}
 use Rattle.records.specs.declared.Record.the-variants.{Header, Opens, Adds, Areas, Seal, Mark, Settle, Sift, Unknown}
 use Rattle.records.specs.declared.Standing.{Standing}

@@ -18,7 +18,7 @@ use Rattle.records.specs.Record.{kindOf, bodyLength, recordAt}
 use Rattle.checks.specs.Next.{closing, nextAt}
 use Rattle.records.specs.At.{recordIn}
 use Rattle.checks.specs.Checks.{wrongTurn}
-use Rattle.records.specs.Facts.{Action, begins, changes, closes, decides, settles, sifts, idles, serving, action, facts}
+use Rattle.records.specs.Facts.{Action, serving, action, facts}
 use Rattle.memory.specs.Buffers.{Kept, clearKept}
 use Rattle.queues.specs.declared.Rings.{Rings}
 use Rattle.files.specs.declared.JobRead.{JobRead}
@@ -27,7 +27,8 @@ use Rattle.files.specs.FileLaws.{zero-or}
 use Rattle.files.specs.Contents.{keptOf}
 use Rattle.files.specs.JobPart.{JobPart, jobPart, readJob, jobPartFrom, jobPartOf}
 use Rattle.files.specs.JobPartLaws.{job-refused, job-sealing, job-next, part-goes-on, part-ends}
-use Rattle.theorem_limits.specs.FilesLaws.{good-begun, good-apply, both, Taken as Passes, taken, refused-by}
+use Rattle.theorem_limits.specs.FilesLaws.{good-begun, good-apply, both, Taken as Passes, taken, unserving-turn, refused-by}
+use Rattle.theorem_limits.specs.ActionLaws.{act-unsealed}
 use Rattle.theorem_limits.specs.Good.{Good}
 use Rattle.serve.specs.declared.Reached.{Reached}
 use Rattle.serve.specs.Serve.{readAt}
@@ -49,14 +50,10 @@ pub record Before (f₀ f : File) : Type 0 where
   pub building : wrongTurn (standing f) serving ≡ true
 
 before-act : (f₀ f : File) → Before f₀ f → (a : Action) → Passes f (facts a) → closing a ≡ false → Good (act f a) → Before f₀ (act f a)
-unfolding act
-before-act f₀ f b (begins n) t c g = record { memory = record { live = b .memory .live; gcds = b .memory .gcds; answers = b .memory .answers; last = b .memory .last }; good = g; building = b .building }
-before-act f₀ f b (changes x) t c g = record { memory = record { live = b .memory .live; gcds = b .memory .gcds; answers = b .memory .answers; last = b .memory .last }; good = g; building = b .building }
-before-act f₀ f b closes t c g = absurd (both refl c)
-before-act f₀ f b (decides n v) t c g = absurd (both (b .building) (t .turn))
-before-act f₀ f b settles t c g = absurd (both (b .building) (t .turn))
-before-act f₀ f b sifts t c g = absurd (both (b .building) (t .turn))
-before-act f₀ f b (idles x) t c g = b
+before-act f₀ f b =
+    act-unsealed f (λ (a : Action) (h : File). closing a ≡ false → Good h → Before f₀ h) (λ x c g. b) (unserving-turn f (b .building))
+    (λ a d c g. record { memory = record { live = b .memory .live; gcds = b .memory .gcds; answers = b .memory .answers; last = b .memory .last }; good = g; building = b .building })
+    (λ t c. absurd (both refl c))
 
 before-apply : (f₀ f : File) → Before f₀ f → (r : Record) → refusal f r ≡ 0 → closing (action r) ≡ false → Before f₀ (apply f r)
 unfolding apply

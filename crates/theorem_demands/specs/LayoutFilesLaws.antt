@@ -16,18 +16,21 @@ use Rattle.numeric.specs.Layout.{Layout, IsLayout}
 use Rattle.queues.specs.Marks.{Marks, decide}
 use Rattle.rows.specs.Rows.{noRow, rowsOf}
 use Rattle.intervals.specs.SoundLaws.{Kept, decide-kept}
+use Rattle.row_moves.specs.Between.{withMarks}
 use Rattle.drain.specs.Drain as Drain
 use Rattle.drain.specs.Drain.{indexOf}
 use Rattle.records.specs.declared.Record.{Record}
-use Rattle.records.specs.Facts.{Action, begins, changes, closes, decides, settles, sifts, idles, action, facts}
+use Rattle.records.specs.Facts.{Action, closes, decides, settles, sifts, action, facts}
 use Rattle.files.specs.File.{File, contradicted, begun, sealedFile, markedFile, settledFile, siftedFile, act, apply, after, Passed}
 use Rattle.theorem_table.specs.Table.{IsRow}
 use Rattle.theorem_limits.specs.BuiltLaws.{fits-of, fits-node, fits-condition, rows-few, indexed}
 use Rattle.theorem_limits.specs.Good.{Fits as JobFits, Good}
 use Rattle.theorem_limits.specs.BlankLaws.{blank-begun}
-use Rattle.theorem_limits.specs.FilesLaws.{good-begun, both, Taken, taken, building-turn, change-turn, serving-turn, node-small, good-apply}
+use Rattle.theorem_limits.specs.FilesLaws.{good-begun, both, Taken, taken, building-turn, node-small, good-apply}
+use Rattle.theorem_limits.specs.ActionLaws.{act-unsealed, act-sealed, act-served}
 use Rattle.theorem_follows.specs.Ordered.{Ordered}
-use Rattle.theorem_follows.specs.StandsLaws.{stay-same, stay-decide, apart-decide}
+use Rattle.theorem_follows.specs.StandsLaws.{apart-decide}
+use Rattle.queues.specs.StayLaws.{stay-same, stay-decide}
 use Rattle.theorem_follows.specs.BuiltLaws.{Built, built, rows-ordered}
 use Rattle.theorem_follows.specs.WaitingLaws.{queued-decide}
 use Rattle.theorem_follows.specs.FirstLaws.{Undrained, undrained-from, undrained-none}
@@ -79,14 +82,7 @@ module _ (f : File) (started : f .started ≡ true) (sealed : f .sealed ≡ true
   Same h = (h .started ≡ true) × (h .sealed ≡ true) × (h .closed ≡ f .closed)
 
   same-job : (a : Action) → Taken f (facts a) → Same (act f a)
-  unfolding act markedFile settledFile siftedFile
-  same-job (begins n) t = absurd (both started (t .turn))
-  same-job (changes c) t = absurd (both sealed (change-turn f c t .1))
-  same-job closes t = absurd (both sealed (building-turn f (t .turn) .1))
-  same-job (decides n v) t = (started, refl, refl)
-  same-job settles t = (started, refl, refl)
-  same-job sifts t = (started, refl, refl)
-  same-job (idles x) t = (started, sealed, refl)
+  same-job = act-served f Same (started, sealed, refl) started sealed (λ k v g as′. (started, refl, refl))
 
 job-stays : (f : File) (rs : List Record) → f .started ≡ true → f .sealed ≡ true → Passed f rs → after f rs .closed ≡ f .closed
 unfolding after apply
@@ -96,20 +92,19 @@ job-stays f (r ∷ rs) a b p = let s = same-job f a b (action r) (taken f r (p .
 module _ (w : Layout) (f : File) (g : Good f) where
   -- ---- before the seal
 
-  opened : Open w f → (a : Action) → Taken f (facts a) → (act f a .started ≡ true → act f a .sealed ≡ true → IsLayout (act f a .closed) w) → Stage w (act f a)
+  sealed-fine : Open w f → Taken f (facts closes) → (act f closes .started ≡ true → act f closes .sealed ≡ true → IsLayout (act f closes .closed) w) → Stage w (act f closes)
   unfolding act sealedFile
-  opened o (begins n) t is = inl (record { sealed = o .sealed; fine = o .fine; undrained = o .undrained; fits = o .fits })
-  opened o (changes c) t is = inl (record { sealed = o .sealed; fine = o .fine; undrained = o .undrained; fits = o .fits })
-  opened o closes t is =
+  sealed-fine o t is =
       let started = building-turn f (t .turn) .0 in
       let j = jobOf (f .draft) in
       let d = seal-fine j (indexOf j) (builds j) (orders j (fits-of (g .draft))) w (is started refl) (f .live)
       (undrained-from 0 (length (rowsOf j)) (f .live) (omega arith) (o .undrained)) (o .fits) (g .live) (rows-few j (fits-of (g .draft))) in
       inr (record { started = started; sealed = refl; fine = d .0; between = d .1 })
-  opened o (decides n v) t is = absurd (both (serving-turn f (t .turn)) (o .sealed))
-  opened o settles t is = absurd (both (serving-turn f (t .turn)) (o .sealed))
-  opened o sifts t is = absurd (both (serving-turn f (t .turn)) (o .sealed))
-  opened o (idles x) t is = inl o
+
+  opened : Open w f → (a : Action) → Taken f (facts a) → (act f a .started ≡ true → act f a .sealed ≡ true → IsLayout (act f a .closed) w) → Stage w (act f a)
+  opened o =
+      act-unsealed f (λ (a : Action) (h : File). (h .started ≡ true → h .sealed ≡ true → IsLayout (h .closed) w) → Stage w h) (λ x is. inl o) (o .sealed)
+      (λ a d is. inl (record { sealed = o .sealed; fine = o .fine; undrained = o .undrained; fits = o .fits })) (sealed-fine o)
 
   -- ---- after it
 
@@ -134,7 +129,7 @@ module _ (w : Layout) (f : File) (g : Good f) where
         k : Kept w (decide (eqb v 1) m n)
         k = decide-kept w (eqb v 1) m n e (agrees-fits (indexOf (f .closed)) w (f .live) (c .between .1 .agrees))
 
-        holds : Holds (indexOf (f .closed)) w (c .between .0) (c .between .0) (Drain.withMarks (f .live) (decide (eqb v 1) m n .marks))
+        holds : Holds (indexOf (f .closed)) w (c .between .0) (c .between .0) (withMarks (f .live) (decide (eqb v 1) m n .marks))
         holds =
             marked (indexOf (f .closed)) w (c .between .0) (c .between .0) (c .between .0) (f .live) (decide (eqb v 1) m n .marks) (f .live .dirty) (f .live .residuals) (c .between .1)
             (stay-decide m (eqb v 1) m n (stay-same m)) (apart-decide (eqb v 1) m n (c .between .1 .stands .apart)) (k .0)
@@ -153,14 +148,9 @@ module _ (w : Layout) (f : File) (g : Good f) where
         record { started = c .started; sealed = refl; fine = d .0; between = d .1 }
 
     closed : (a : Action) → Taken f (facts a) → AgreesOne w a → Stage w (act f a)
-    unfolding act
-    closed (begins n) t a = absurd (both (c .started) (t .turn))
-    closed (changes x) t a = absurd (both (c .sealed) (change-turn f x t .1))
-    closed closes t a = absurd (both (c .sealed) (building-turn f (t .turn) .1))
-    closed (decides n v) t a = inr (marked-closed n v t (a n (eqb v 1) (ap (decides n) (value-is v (t .values)))))
-    closed settles t a = inr settled-closed
-    closed sifts t a = inr sifted-closed
-    closed (idles x) t a = inr c
+    closed =
+        act-sealed f (λ (a : Action) (h : File). AgreesOne w a → Stage w h) (λ x a. inr c) (c .started) (c .sealed)
+        (λ n v t a. inr (marked-closed n v t (a n (eqb v 1) (ap (decides n) (value-is v (t .values)))))) (λ t a. inr settled-closed) (λ t a. inr sifted-closed)
 
 -- ONE RECORD AFTER THE OTHER
 pub stages : (w : Layout) (f : File) (rs : List Record) → Good f → Passed f rs → IsLayout (after f rs .closed) w

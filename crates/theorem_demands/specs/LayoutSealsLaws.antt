@@ -11,7 +11,8 @@ use Rattle.words.specs.Mask.{bit}
 use Rattle.rows.specs.Rows.{noRow}
 use Rattle.row_moves.specs.Between.{Index, Live, runRow}
 use Rattle.drain.specs.Drain.{seal}
-use Rattle.drain.specs.DrainLaws.{begun, seal-walks}
+use Rattle.drain.specs.DrainLaws.{seal-walks}
+use Rattle.drain.specs.Steps.{begun}
 use Rattle.theorem_table.specs.Table.{IsRow, start}
 use Rattle.theorem_ends.specs.Sound.{Sound}
 use Rattle.theorem_ends.specs.SealsLaws.{first-long}

@@ -28,10 +28,9 @@ use Rattle.state.specs.Step.{joined, contradicts, isUnchanged}
 use Rattle.state.specs.State.{upperAtMost}
 use Rattle.words.specs.Mask.{bit}
 use Rattle.queues.specs.Queue.{isEmpty, oldest, nextRow}
-use Rattle.queues.specs.Marks.{Marks, isDecided, Decided, decide}
-use Rattle.queues.specs.MarksLaws.{mask, decide-there, decide-clash, decide-new}
+use Rattle.queues.specs.Marks.{Marks, isDecided, Decided, decide, mask}
+use Rattle.queues.specs.MarksLaws.{decide-there, decide-clash, decide-new}
 use Rattle.row.specs.Terms.{rowTerms}
-use Rattle.row.specs.TermsLaws as TermsLaws
 use Rattle.rows.specs.Rows.{Row, noRow, rowsOf, hasNonunit}
 use Rattle.row_runs.specs.Guards.{Condition}
 use Rattle.intervals.specs.declared.Interval.{Interval}
@@ -40,18 +39,20 @@ use Rattle.intervals.specs.Residual.{interval, residualCheck, suffixes, placed,
 use Rattle.intervals.specs.CheckLaws.{check-unit}
 use Rattle.intervals.specs.ForceLaws.{force-cases, from-skip, from-stop, from-more, residual-none, residual-rest, residual-forced}
 use Rattle.intervals.specs.SumsLaws.{openWeights, openSum, sum, open-skip, open-more}
-use Rattle.intervals.specs.SoundLaws.{Fresh, Distinct, residual-sound}
+use Rattle.intervals.specs.SoundLaws.{distinct-in, residual-sound}
 use Rattle.searches.specs.Search.{plan, search, searchStep, chosen}
 use Rattle.searches.specs.SearchLaws.{search-refutes}
 use Rattle.row_moves.specs.Between.{Index, Live, stateAt}
 use Rattle.row_moves.specs.KeepsLaws.{Small}
 use Rattle.drain.specs.Sift.{Sifted, tryRow}
-use Rattle.drain.specs.SiftLaws.{tryTerms, tryResidual, tryLive, try-ends}
+use Rattle.drain.specs.SiftLaws.{try-ends}
+use Rattle.drain.specs.Steps.{tryTerms, tryResidual, tryLive}
 use Rattle.theorem_table.specs.Table.{IsRow, termsOf, known, possible}
 use Rattle.theorem_table.specs.OrderLaws.{UpLe, le, lt, of-le, ≤ℤ-trans}
 use Rattle.theorem_table.specs.LayoutLaws.{row-made}
 use Rattle.theorem_ends.specs.KeepsLaws.{residual-named}
-use Rattle.theorem_follows.specs.StandsLaws.{tableAt, Apart, Stay, stay-same, stay-decide, apart-decide, known-exact, possible-exact}
+use Rattle.theorem_follows.specs.StandsLaws.{tableAt, Apart, apart-decide, known-exact, possible-exact}
+use Rattle.queues.specs.StayLaws.{Stay, stay-same, stay-decide}
 use Rattle.theorem_follows.specs.BuiltLaws.{Built}
 use Rattle.theorem_follows.specs.WaitingLaws.{queued-decide, none-left}
 use Rattle.queues.specs.Waiting.{Queued}
@@ -89,7 +90,7 @@ open-sum d t ts = by (d (t .condition)) refl
     by true e = ap sum (open-skip d t ts e) ∙ omega arith
     by false e = ap sum (open-more d t ts e)
 
-sum-possible : (m : Marks) → Apart m → (ts : List Term) → possible (bit (m .never)) ts ≡ known (bit (m .sure)) ts + sum (openWeights (isDecided m) ts)
+pub sum-possible : (m : Marks) → Apart m → (ts : List Term) → possible (bit (m .never)) ts ≡ known (bit (m .sure)) ts + sum (openWeights (isDecided m) ts)
 unfolding known possible openWeights sum
 sum-possible m a [] = refl
 sum-possible m a (t ∷ ts) =
@@ -103,15 +104,6 @@ chosen-open : (d w : ℕ → Bool) (ts : List Term) → chosen d w ts ≡ openSu
 unfolding chosen openSum
 chosen-open d w [] = refl
 chosen-open d w (t ∷ ts) = ap (λ (n : ℕ). cond (d (t .condition)) 0 (cond (w (t .condition)) (t .weight) 0) + n) (chosen-open d w ts)
-
--- conditions that are distinct, as the residual's laws say it
-fresh-in : (n : ℕ) (ts : List Term) → All (λ (u : Term). u .condition ≡ n → ⊥) ts → Fresh n ts
-fresh-in n [] h = tt
-fresh-in n (t ∷ ts) h = (h .0, fresh-in n ts (h .1))
-
-distinct-in : (ts : List Term) → TermsLaws.Distinct ts → Distinct ts
-distinct-in [] h = tt
-distinct-in (t ∷ ts) h = (fresh-in (t .condition) ts (h .0), distinct-in ts (h .1))
 
 -- A RESIDUAL THAT CHANGES NOTHING leaves the marks
 

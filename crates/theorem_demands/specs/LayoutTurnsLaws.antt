@@ -12,17 +12,18 @@ use Rattle.numeric.specs.Layout.{Layout, IsLayout}
 use Rattle.state.specs.Step.{contradicts}
 use Rattle.words.specs.Mask.{bit}
 use Rattle.queues.specs.Queue.{Rows, oldest, nextRow}
-use Rattle.queues.specs.Marks.{Marks, isDecided}
-use Rattle.queues.specs.MarksLaws.{mask}
+use Rattle.queues.specs.Marks.{Marks, isDecided, mask}
 use Rattle.rows.specs.Rows.{noRow}
-use Rattle.row_moves.specs.Between.{Index, Live, live, Did, runRow, thresholdGuard, thresholdCondition, thresholdPrefixes}
+use Rattle.row_moves.specs.Between.{Index, Live, Did, runRow, thresholdGuard, thresholdCondition, thresholdPrefixes, withDirtyRows, withMarks, withResiduals}
 use Rattle.row_moves.specs.WalkLaws.{guard-of-ends}
 use Rattle.drain.specs.Drain.{takeNode, takeRow, turn, atRest, settle}
-use Rattle.drain.specs.DrainLaws.{untaken, unrowed, nodeTold, nodeDrained, node-ends, row-ends, turn-ends, settle-walks}
+use Rattle.drain.specs.DrainLaws.{node-ends, row-ends, turn-ends, settle-walks}
+use Rattle.drain.specs.Steps.{untaken, unrowed, nodeTold, nodeDrained}
 use Rattle.theorem_table.specs.Table.{IsRow}
 use Rattle.theorem_table.specs.TableLaws.{le-same, follows-start}
 use Rattle.theorem_follows.specs.Ordered.{Ordered}
-use Rattle.theorem_follows.specs.StandsLaws.{tableAt, also, also-this, Apart, Stands, Stay, restart}
+use Rattle.theorem_follows.specs.StandsLaws.{tableAt, also, also-this, Apart, Stands, restart}
+use Rattle.queues.specs.StayLaws.{Stay}
 use Rattle.theorem_follows.specs.MovesLaws.{Kept, run-stands, guard-stands, prefixes-stand}
 use Rattle.theorem_follows.specs.DrainedLaws.{condition-stands}
 use Rattle.theorem_follows.specs.BuiltLaws.{Built}
@@ -60,10 +61,10 @@ agrees-fits x w v a false n e = a .never n e
 
 -- MORE NODES DECIDED, or other queues, and all row states as they were
 pub marked : (x : Index) (w : Layout) (drained taken now : ℕ → Bool) (v : Live) (m : Marks) (d q : Rows) → Holds x w drained taken v
-    → Stay (v .marks) m → Apart m → Fits w m → Queued now m → Holds x w drained now (live (v .states) m d q)
+    → Stay (v .marks) m → Apart m → Fits w m → Queued now m → Holds x w drained now (withResiduals (withDirtyRows (withMarks v m) d) q)
 marked x w drained taken now v m d q h stay apart fits queued = record {
-  stands = marked-stands x v m d q stay (wide-of m (queued .queue)) (tableAt v) (tableAt (live (v .states) m d q)) (λ (r : ℕ). drained) apart (le-same (tableAt (live (v .states) m d q)))
-      (follows-start (x .rows) (tableAt (live (v .states) m d q))) (h .stands);
+  stands = marked-stands x v m d q stay (wide-of m (queued .queue)) (tableAt v) (tableAt (withResiduals (withDirtyRows (withMarks v m) d) q)) (λ (r : ℕ). drained) apart (le-same (tableAt (withResiduals (withDirtyRows (withMarks v m) d) q)))
+      (follows-start (x .rows) (tableAt (withResiduals (withDirtyRows (withMarks v m) d) q))) (h .stands);
   agrees = record { sure = λ n e. fits true n e; never = λ n e. fits false n e; lower = h .agrees .lower; upper = h .agrees .upper };
   queued = queued;
 }

@@ -10,7 +10,7 @@ use mathlib.Core.List.{List, [], _∷_, _++_, append-assoc, append-nil, List·Me
 use lib.Dec.{eqb, ltb}
 use borrow.Author.Tests.{eq-eqb, ne-eqb, ltb-false}
 use Rattle.words.specs.Mask.{bit}
-use Rattle.queues.specs.MarksLaws.{mask}
+use Rattle.queues.specs.Marks.{mask}
 use Rattle.rows.specs.Rows.{rowsOf}
 use Rattle.row_moves.specs.Between.{Live}
 use Rattle.theorem_table.specs.Table.{Table}
@@ -96,6 +96,16 @@ module _ (rs : List Record) (r : Record) (n v : ℕ) (is : action r ≡ decides 
           ap (λ (b : Bool). decideAs b (marksOnly rs) n) (ne-eqb v 1 e)
           ∙ start-same _ _ _ _ (others true (ne-eqb v 1 e)) (added false (eq-eqb v 0 (omega arith)))
 
+-- A record marks a node, or none.
+pub marks-cases : (P : Action → Type 0) → ((n v : ℕ) → P (decides n v)) → ((a : Action) → ((b : Bool) (n : ℕ) → marks b a n ≡ false) → P a) → (a : Action) → P a
+marks-cases P one none (begins x) = none (begins x) (λ b n. refl)
+marks-cases P one none (changes x) = none (changes x) (λ b n. refl)
+marks-cases P one none closes = none closes (λ b n. refl)
+marks-cases P one none (decides n v) = one n v
+marks-cases P one none settles = none settles (λ b n. refl)
+marks-cases P one none sifts = none sifts (λ b n. refl)
+marks-cases P one none (idles x) = none (idles x) (λ b n. refl)
+
 -- marks end somewhere
 pub marks-end : (rs : List Record) → Ending (markedNode true rs)
 unfolding markedNode
@@ -103,13 +113,10 @@ marks-end [] = (0, λ m h. refl)
 marks-end (r ∷ rs) = by (marks-end rs) (action r)
   where
     by : Ending (markedNode true rs) → (a : Action) → Ending (λ (m : ℕ). marks true a m || markedNode true rs m)
-    by e (begins x) = e
-    by e (changes x) = e
-    by e closes = e
-    by e (decides k v) = (k + 1 + e .0, λ m h. ap₂ (λ (x y : Bool). (x && eqb v 1) || y) (ne-eqb k m (λ q. omega arith)) (e .1 m (omega arith)))
-    by e settles = e
-    by e sifts = e
-    by e (idles x) = e
+    by e =
+        marks-cases (λ (a : Action). Ending (λ (m : ℕ). marks true a m || markedNode true rs m))
+        (λ k v. (k + 1 + e .0, λ m h. ap₂ (λ (x y : Bool). (x && eqb v 1) || y) (ne-eqb k m (λ q. omega arith)) (e .1 m (omega arith))))
+        (λ a none. (e .0, λ m h. ap (λ (x : Bool). x || markedNode true rs m) (none true m) ∙ e .1 m h))
 
 -- ---- WHAT A FILE KEEPS of its marks, as long as no sifting came: before the seal they are what is decided
 pub record Marking (f : File) (done : List Record) : Type 0 where

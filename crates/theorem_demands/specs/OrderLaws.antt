@@ -17,7 +17,7 @@ use Rattle.numeric.specs.Area.{jobOf}
 use Rattle.rows.specs.Rows.{Row, rowsOf}
 use Rattle.records.specs.declared.Record.{Record}
 use Rattle.records.specs.declared.Record.the-variants.{Settle}
-use Rattle.records.specs.Facts.{Action, begins, changes, closes, decides, settles, sifts, idles, action}
+use Rattle.records.specs.Facts.{Action, begins, decides, settles, sifts, action}
 use Rattle.files.specs.File.{File, contradicted, begun, settledFile, act, apply, after, planned, Passed}
 use Rattle.files.specs.FileLaws.{after-snoc}
 use Rattle.theorem_limits.specs.FilesLaws.{both, taken as accepts, serving-turn, planned-passed}
@@ -29,7 +29,7 @@ use Rattle.theorem_demands.specs.TableStillLaws.{Still, not-broken, know
 use Rattle.theorem_demands.specs.Reading.{Marked, SameMarks, NoSift, marks, markedNode, marksOnly, SameFigures, records, decoded, plain, plainly, plainlyAll, Passes}
 use Rattle.theorem_demands.specs.RefusalLaws.{taken}
 use Rattle.theorem_demands.specs.SettleLaws.{passed-here, start-same}
-use Rattle.theorem_demands.specs.MarksLaws.{marked-append, marks-same, marking}
+use Rattle.theorem_demands.specs.MarksLaws.{marked-append, marks-same, marks-cases, marking}
 use Rattle.theorem_demands.specs.ReadOnLaws.{Over, planned-over, level-same, level-after, draft-stays, plainly-append, passes-split}
 
 -- ---- THE TABLE KNOWS ONLY THE SET OF MARKS
@@ -41,14 +41,10 @@ marked-mem b (r ∷ rs) n h =
     ⊎-elim (λ (e : marks b (action r) n ≡ true). List·Memᴰ·head (is (action r) e)) (λ e. List·Memᴰ·tail (marked-mem b rs n e)) (or-true (marks b (action r) n) (markedNode b rs n) h)
   where
     is : (a : Action) → marks b a n ≡ true → decides n (cond b 1 0) ≡ a
-    is (begins x) e = absurd (both e refl)
-    is (changes x) e = absurd (both e refl)
-    is closes e = absurd (both e refl)
-    is (decides m v) e =
-        sym (ap₂ decides (eqb-true m n (and-left (eqb m n) (eqb v (cond b 1 0)) e)) (eqb-true v (cond b 1 0) (and-right (eqb m n) (eqb v (cond b 1 0)) e)))
-    is settles e = absurd (both e refl)
-    is sifts e = absurd (both e refl)
-    is (idles x) e = absurd (both e refl)
+    is =
+        marks-cases (λ (a : Action). marks b a n ≡ true → decides n (cond b 1 0) ≡ a)
+        (λ m v e. sym (ap₂ decides (eqb-true m n (and-left (eqb m n) (eqb v (cond b 1 0)) e)) (eqb-true v (cond b 1 0) (and-right (eqb m n) (eqb v (cond b 1 0)) e))))
+        (λ a none e. absurd (both e (none b n)))
 
 mem-marked : (b : Bool) (rs : List Record) (n : ℕ) → Marked rs n b → markedNode b rs n ≡ true
 unfolding markedNode

@@ -12,12 +12,12 @@ use borrow.Author.Tests.{ne-eqb}
 use Rattle.numeric.specs.Area.{jobOf}
 use Rattle.base.specs.TestLaws.{true-false}
 use Rattle.words.specs.Mask.{bit}
+use Rattle.words.specs.MaskLaws.{bit-behind}
 use Rattle.rows.specs.Rows.{Row, rowsOf}
 use Rattle.row_moves.specs.Between.{Live}
 use Rattle.records.specs.declared.Record.{Record}
 use Rattle.records.specs.declared.Record.the-variants.{Seal, Mark, Settle}
 use Rattle.files.specs.File.{File, contradicted, begun, refusal, sealedFile, markedFile, settledFile, act, apply, after, planned, Passed}
-use Rattle.theorem_limits.specs.BlankLaws.{bit-behind}
 use Rattle.theorem_limits.specs.FilesLaws.{taken, planned-passed}
 use Rattle.theorem_table.specs.Table.{Table, start, ReachesConflict, AtRest}
 use Rattle.theorem_table.specs.TableLaws.{run-below}
@@ -138,7 +138,7 @@ unfolding apply act sealedFile
 seals input before later e c =
     let h = stood input before later Seal e in
     let v = after begun before .live in
-    reached (rowsOf (jobOf (after begun before .draft))) (bit (v .marks .sure)) (bit (v .marks .never)) (64 * length (v .marks .sure), λ m l. bit-behind (v .marks .sure) m l)
+    reached (rowsOf (jobOf (after begun before .draft))) (bit (v .marks .sure)) (bit (v .marks .never)) (64 * length (v .marks .sure), λ m l. bit-behind (v .marks .sure) m (omega arith))
     (seal-from (after begun before) (h .keeps) (taken (after begun before) Seal (h .accepted)) .1 c)
 
 pub marks : (input : List ℕ) (before later : List Record) (n v : ℕ) → planned input .records ≡ before ++ (Mark n v ∷ later)
@@ -158,4 +158,4 @@ settles input before later e =
     let h = stood input before later Settle e in
     let f = after begun before in
     exactly f (h .keeps) (h .accepted) (bit (f .live .marks .sure)) (bit (f .live .marks .never))
-    (64 * length (f .live .marks .sure), λ m l. bit-behind (f .live .marks .sure) m l) (h .keeps .steady)
+    (64 * length (f .live .marks .sure), λ m l. bit-behind (f .live .marks .sure) m (omega arith)) (h .keeps .steady)

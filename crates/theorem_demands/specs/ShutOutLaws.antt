@@ -21,7 +21,8 @@ use Rattle.drain.specs.Drain.{indexOf}
 use Rattle.drain.specs.Drain as Drain
 use Rattle.drain.specs.Sift.{Sifted, tryRow, siftFrom}
 use Rattle.drain.specs.Sift as Sift
-use Rattle.drain.specs.SiftLaws.{trySearch, try-ends, tries, sift-tries, sift-none}
+use Rattle.drain.specs.SiftLaws.{try-ends, tries, sift-tries, sift-none}
+use Rattle.drain.specs.Steps.{trySearch}
 use Rattle.records.specs.declared.Record.{Record}
 use Rattle.records.specs.declared.Record.the-variants.{Header, Opens, Adds, Seal, Mark, Settle, Sift}
 use Rattle.records.specs.Facts.{Action, decides, action}

@@ -14,18 +14,19 @@ use Rattle.words.specs.Mask.{bit}
 use Rattle.queues.specs.Queue.{Rows, oldest, nextRow}
 use Rattle.queues.specs.Marks.{Marks, isDecided, Decided, decide}
 use Rattle.queues.specs.MarksLaws.{decide-new}
-use Rattle.row_moves.specs.Between.{Index, Live, live, stateAt}
+use Rattle.row_moves.specs.Between.{Index, Live, stateAt, withMarks, withResiduals}
 use Rattle.row_moves.specs.KeepsLaws.{Small}
 use Rattle.drain.specs.Drain.{indexOf, mark, settle}
 use Rattle.drain.specs.Sift.{Sifted, tryRow, sift}
-use Rattle.drain.specs.SiftLaws.{tryTerms, tryResidual, tryLive, try-leaves, sift-walks}
+use Rattle.drain.specs.SiftLaws.{try-leaves, sift-walks}
+use Rattle.drain.specs.Steps.{tryTerms, tryResidual, tryLive}
 use Rattle.theorem_ends.specs.KeepsLaws.{residual-named}
 use Rattle.theorem_limits.specs.Good.{Fits}
 use Rattle.theorem_ends.specs.Sound.{Indexed}
 use Rattle.theorem_limits.specs.BuiltLaws.{indexed}
 use Rattle.theorem_table.specs.Table.{Table, start}
 use Rattle.theorem_follows.specs.DecideLaws.{decideAs}
-use Rattle.theorem_follows.specs.StandsLaws.{decide-nothing, not-decided}
+use Rattle.queues.specs.StayLaws.{decide-nothing, not-decided}
 use Rattle.theorem_follows.specs.StartLaws.{mark-leads, restarted}
 use Rattle.theorem_demands.specs.TableJobsLaws.{job-built, job-ordered, job-single}
 use Rattle.theorem_demands.specs.TableTurnsLaws.{Steady, Goes, settle-goes}
@@ -41,7 +42,7 @@ pub steady-own : (x : Index) (sure never : ℕ → Bool) (v : Live) → Steady x
 steady-own x sure never v (l, e, h) = (l, e, restarted x sure never l v h)
 
 -- Rows that wait for a residual play no part.
-other-residuals : (x : Index) (s : Table) (v : Live) (q : Rows) → Steady x s v → Steady x s (live (v .states) (v .marks) (v .dirty) q)
+other-residuals : (x : Index) (s : Table) (v : Live) (q : Rows) → Steady x s v → Steady x s (withResiduals v q)
 other-residuals x s v q (l, e, h) = (
   l,
   e,
@@ -64,7 +65,7 @@ other-residuals x s v q (l, e, h) = (
 
 -- What the marks are part of, as they change.
 abbrev Own : Index → Live → Marks → Type 0
-Own x v m = Steady x (start (bit (m .sure)) (bit (m .never))) (live (v .states) m (v .dirty) (v .residuals))
+Own x v m = Steady x (start (bit (m .sure)) (bit (m .never))) (withMarks v m)
 
 -- one more node decided, by whatever reason
 own-decide : (x : Index) (v : Live) (value : Bool) (m : Marks) (n : ℕ) → n < maxNodes → Own x v m → Own x v (decide value m n .marks)
@@ -73,31 +74,31 @@ own-decide x v value m n small h =
     ⊎-elim (λ (d : isDecided m n ≡ true). subst (Own x v) (sym (decide-nothing value m n d)) h) (λ (d : isDecided m n ≡ false). by value d) (true-false (isDecided m n))
   where
     w : Live
-    w = live (v .states) m (v .dirty) (v .residuals)
+    w = withMarks v m
 
     fine : (b : Bool) → isDecided m n ≡ false → contradicts (decide b m n .step) ≡ false
     fine b d = ap (λ (y : Decided). contradicts (y .step)) (decide-new b m n (not-decided m n d b) (not-decided m n d (not b)))
 
     by : (b : Bool) → isDecided m n ≡ false → Own x v (decide b m n .marks)
-    by true d = steady-own x _ _ (live (v .states) (decide true m n .marks) (v .dirty) (v .residuals)) (mark-goes x (start (bit (m .sure)) (bit (m .never))) w n true small h .0 (fine true d))
-    by false d = steady-own x _ _ (live (v .states) (decide false m n .marks) (v .dirty) (v .residuals)) (mark-goes x (start (bit (m .sure)) (bit (m .never))) w n false small h .0 (fine false d))
+    by true d = steady-own x _ _ (withMarks v (decide true m n .marks)) (mark-goes x (start (bit (m .sure)) (bit (m .never))) w n true small h .0 (fine true d))
+    by false d = steady-own x _ _ (withMarks v (decide false m n .marks)) (mark-goes x (start (bit (m .sure)) (bit (m .never))) w n false small h .0 (fine false d))
 
 -- A ROW IS TRIED
-try-keeps : (x : Index) → Indexed x → (v : Live) (gcds : List ℕ) (visits : ℕ) → Steady x (ownStart v) v
+pub try-keeps : (x : Index) → Indexed x → (v : Live) (gcds : List ℕ) (visits : ℕ) → Steady x (ownStart v) v
     → let w = tryRow x v gcds visits .live in Steady x (ownStart w) w
 try-keeps x ix v gcds visits h =
     let r = oldest (v .residuals .queue) in
     let m = tryResidual x v gcds .marks in
     let own = residual-named (Own x v) Small (own-decide x v) (tryTerms x v) (ix .conditions r) (stateAt v r) (v .marks) gcds h in
     try-leaves x v gcds visits (λ (w : Live) (g : List ℕ). Steady x (ownStart w) w)
-    (other-residuals x (ownStart (tryLive x v gcds)) (live (v .states) m (v .dirty) (v .residuals)) (nextRow (v .residuals)) own)
+    (other-residuals x (ownStart (tryLive x v gcds)) (withMarks v m) (nextRow (v .residuals)) own)
 
 -- A SIFTING
 module _ (j : Job) (f : Fits j) (rises : NodesRise (j .thresholds)) where
   abbrev x : Index
   x = indexOf j
 
-  settle-keeps : (v : Live) → Steady x (ownStart v) v → contradicts (settle x v .step) ≡ false → let w = settle x v .live in Steady x (ownStart w) w
+  pub settle-keeps : (v : Live) → Steady x (ownStart v) v → contradicts (settle x v .step) ≡ false → let w = settle x v .live in Steady x (ownStart w) w
   settle-keeps v h c = steady-own x _ _ (settle x v .live) (settle-goes j x (job-built j) (job-ordered j f) (job-single j rises) (ownStart v) v h .0 c)
 
   -- the nodes decided so far as a start

@@ -24,7 +24,8 @@ use Rattle.rows.specs.Rows.{Row, noRow}
 use Rattle.row_moves.specs.Between.{Index, Live, Did, did, stateAt, runRow, thresholdGuard, guardOf}
 use Rattle.row_moves.specs.WalkLaws.{guard-of-ends}
 use Rattle.drain.specs.Drain.{seal, takeNode, takeRow, turn, atRest, settle}
-use Rattle.drain.specs.DrainLaws.{begun, untaken, unrowed, nodeTold, nodeDrained, node-ends, row-ends, turn-ends, seal-walks, settle-walks}
+use Rattle.drain.specs.DrainLaws.{node-ends, row-ends, turn-ends, seal-walks, settle-walks}
+use Rattle.drain.specs.Steps.{begun, untaken, unrowed, nodeTold, nodeDrained}
 use Rattle.theorem_table.specs.Table.{Table, IsRow, knownOf, possibleOf, AtRest}
 use Rattle.theorem_follows.specs.DecideLaws.{Broken}
 use Rattle.theorem_follows.specs.Ordered.{Ordered}

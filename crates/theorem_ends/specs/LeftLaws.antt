@@ -14,8 +14,8 @@ use Rattle.state.specs.declared.Step.{Step}
 use Rattle.state.specs.declared.Step.the-variants.{Changed, Contradiction}
 use Rattle.words.specs.Mask.{bit}
 use Rattle.queues.specs.Queue.{Queue, push, popped}
-use Rattle.queues.specs.Marks.{Marks, marks, isDecided, Decided, decide, waiting}
-use Rattle.queues.specs.MarksLaws.{mask, decide-there, decide-clash, decide-new, decide-waits, decide-has, decide-other}
+use Rattle.queues.specs.Marks.{Marks, marks, isDecided, Decided, decide, waiting, mask}
+use Rattle.queues.specs.MarksLaws.{decide-there, decide-clash, decide-new, decide-waits, decide-has, decide-other}
 use Rattle.queues.specs.Waiting.{Waits}
 
 -- How many of the first n nodes are not decided.

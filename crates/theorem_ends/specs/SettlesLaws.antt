@@ -17,9 +17,10 @@ use Rattle.base.specs.TestLaws.{contrary}
 use Rattle.row_moves.specs.Between.{Index, Live, Did, stateAt}
 use Rattle.row_moves.specs.KeepsLaws.{Small}
 use Rattle.drain.specs.Drain.{takeNode, takeRow, turn, atRest, settle}
-use Rattle.drain.specs.DrainLaws.{untaken, unrowed, nodeTold, nodeDrained, node-ends, row-ends, turn-ends, settle-walks, settle-keeps}
+use Rattle.drain.specs.DrainLaws.{node-ends, row-ends, turn-ends, settle-walks, settle-keeps}
+use Rattle.drain.specs.Steps.{untaken, unrowed, nodeTold, nodeDrained, tryTerms}
 use Rattle.drain.specs.Sift.{Sifted, tryRow, sift}
-use Rattle.drain.specs.SiftLaws.{tryTerms, try-leaves, sift-walks, sift-keeps}
+use Rattle.drain.specs.SiftLaws.{try-leaves, sift-walks, sift-keeps}
 use Rattle.theorem_ends.specs.LeftLaws.{load, load-popped}
 use Rattle.theorem_ends.specs.KeepsLaws.{residual-named}
 use Rattle.theorem_ends.specs.TurnsLaws.{left, left-most, Then, then, less-decide, run-guards, run-condition, run-prefixes}

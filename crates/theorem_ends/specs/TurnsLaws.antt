@@ -26,9 +26,10 @@ use Rattle.rows.specs.Rows.{Row, noRow, Edge, edgesOf, rowNumber}
 use Rattle.links.specs.Links.{neighbours}
 use Rattle.row_runs.specs.Row.{Ran, thresholdRow, wantsResidual}
 use Rattle.row_runs.specs.RowLaws.{Kept, kept-row}
-use Rattle.row_moves.specs.Between.{Index, Live, live, Did, stateAt, withState, residualQueued, runWith, runRow, linkedQueued, thresholdGuard, guardOf, thresholdCondition, termCount, thresholdPrefixes}
-use Rattle.row_moves.specs.LoopLaws.{drained-lower, drained-upper, edgeRun, moved, movedRun}
-use Rattle.row_moves.specs.WalkLaws.{guardRow, guardTold, guard-ends, guard-of-ends, condition-keeps, prefix-keeps}
+use Rattle.row_moves.specs.Between.{Index, Live, Did, stateAt, withState, residualQueued, runWith, runRow, linkedQueued, thresholdGuard, guardOf, thresholdCondition, termCount, thresholdPrefixes, withDirtyRows}
+use Rattle.row_moves.specs.LoopLaws.{drained-lower, drained-upper}
+use Rattle.row_moves.specs.Handing.{edgeRun, moved, movedRun, guardRow, guardTold}
+use Rattle.row_moves.specs.WalkLaws.{guard-ends, guard-of-ends, condition-keeps, prefix-keeps}
 use Rattle.row_moves.specs.KeepsLaws.{Small, names-all, row-named}
 use Rattle.theorem_ends.specs.LeftLaws.{load, load-decide, load-most}
 use Rattle.theorem_ends.specs.RoomsLaws.{room, rooms, rooms-set, rooms-most, set-bounded, bounded-same, room-same, tells-guard, tells-moved}
@@ -148,7 +149,7 @@ module _ (x : Index) (ix : Indexed x) where
 
   -- A bound that moves, and its row that may wait to hand it on.
   told : (v : Live) (r : ℕ) (t : State) (q : Rows) → Sound v → r < maxThresholds → Bounded t → room t < room (stateAt v r) → Queued (v .dirty) q
-      → let w = live (set (v .states) r t) (v .marks) q (v .residuals) in Sound w × (core w + 3 ≤ core v)
+      → let w = withDirtyRows (withState v r t) q in Sound w × (core w + 3 ≤ core v)
   told v r t q s h b less k = (
     record {
       long = length-set (v .states) r t ∙ s .long;
@@ -162,10 +163,10 @@ module _ (x : Index) (ix : Indexed x) where
 
   -- With it the row is run.
   told-run : (v : Live) (r : ℕ) (t : State) (q : Rows) → Sound v → r < maxThresholds → Bounded t → room t < room (stateAt v r) → Queued (v .dirty) q
-      → let w = runRow x (live (set (v .states) r t) (v .marks) q (v .residuals)) r .live in Then v w × (left w ≤ left v)
+      → let w = runRow x (withDirtyRows (withState v r t) q) r .live in Then v w × (left w ≤ left v)
   told-run v r t q s h b less k =
       let a = told v r t q s h b less k in
-      let c = run-row (live (set (v .states) r t) (v .marks) q (v .residuals)) r (a .0) h in (
+      let c = run-row (withDirtyRows (withState v r t) q) r (a .0) h in (
         record { sound = c .go .sound; core = omega (arith, a .1, c .go .core) },
         omega (arith, a .1, c .go .core, c .more),
       )

@@ -9,7 +9,7 @@ use Rattle.state.specs.declared.State.{State}
 use Rattle.state.specs.State.{noState}
 use Rattle.queues.specs.Queue.{Rows}
 use Rattle.rows.specs.Rows.{noRow}
-use Rattle.row_moves.specs.Between.{Index, Live, live, stateAt, runRow, runWith}
+use Rattle.row_moves.specs.Between.{Index, Live, stateAt, runRow, runWith, withDirtyRows, withResiduals, withState}
 use Rattle.theorem_follows.specs.CursorsLaws.{row-goes}
 use Rattle.theorem_follows.specs.StandsLaws.{put-state}
 
@@ -35,7 +35,7 @@ module _ (x : Index) (v : Live) (r : ℕ) (room : r < length (v .states)) where
 -- A STATE PUT ANEW, AND ITS ROW RUN: the row has the new bounds, all others have theirs
 module _ (x : Index) (v : Live) (r : ℕ) (room : r < length (v .states)) (st : State) (d q : Rows) where
   abbrev put : Live
-  put = live (set (v .states) r st) (v .marks) d q
+  put = withResiduals (withDirtyRows (withState v r st) d) q
 
   room-put : r < length (set (v .states) r st)
   room-put = let z = length-set (v .states) r st in omega arith

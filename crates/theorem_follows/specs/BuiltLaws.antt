@@ -14,6 +14,8 @@ use Rattle.base.specs.AllLaws.{all-each}
 use Rattle.base.specs.TestLaws.{and-left, or-true, or-false}
 use Rattle.memory.specs.Limits.{maxNodes}
 use Rattle.base.specs.SignedLaws.{leZ-trans, ltZ-weaken, nlt-leZ}
+use Rattle.base.specs.Insertion.{insert}
+use Rattle.base.specs.InsertionLaws.{insert-mem, mem-insert}
 use Rattle.numeric.specs.Threshold.{Term, Threshold, Job}
 use Rattle.row.specs.Terms.{rowTerms, merged, sameTerms}
 use Rattle.row.specs.TermsLaws as TermsLaws
@@ -36,35 +38,6 @@ pub record Built (j : Job) (x : Index) : Type 0 where
   pub distinct : (r : ℕ) → IsRow (x .rows) r → Distinct (termsOf (x .rows) r)
 
 -- GUARDS STAND IN THE ROW OF THEIR RAW LIST
-
-insert-has : (g : Guard) (gs : List Guard) → List·Memᴰ g (insertGuard g gs)
-unfolding insertGuard
-insert-has g [] = List·Memᴰ·head refl
-insert-has g (h ∷ hs) = by (insert-has g hs) (below g h)
-  where
-    by : List·Memᴰ g (insertGuard g hs) → (b : Bool) → List·Memᴰ g (elim b [ true ↦ g ∷ h ∷ hs | false ↦ h ∷ insertGuard g hs ])
-    by ih true = List·Memᴰ·head refl
-    by ih false = List·Memᴰ·tail ih
-
-insert-keeps : (g : Guard) (gs : List Guard) (y : Guard) → List·Memᴰ y gs → List·Memᴰ y (insertGuard g gs)
-unfolding insertGuard
-insert-keeps g [] y m = absurd (List·Memᴰ·not-nil m)
-insert-keeps g (h ∷ hs) y m = by (λ k. insert-keeps g hs y k) (below g h)
-  where
-    by : (List·Memᴰ y hs → List·Memᴰ y (insertGuard g hs)) → (b : Bool) → List·Memᴰ y (elim b [ true ↦ g ∷ h ∷ hs | false ↦ h ∷ insertGuard g hs ])
-    by ih true = List·Memᴰ·tail m
-    by ih false = ⊎-elim (λ (e : y ≡ h). List·Memᴰ·head e) (λ k. List·Memᴰ·tail (ih k)) (List·Memᴰ·cases-cons m)
-
-insert-from : (g : Guard) (gs : List Guard) (y : Guard) → List·Memᴰ y (insertGuard g gs) → (y ≡ g) ⊎ List·Memᴰ y gs
-unfolding insertGuard
-insert-from g [] y m = List·Memᴰ·cases-cons m
-insert-from g (h ∷ hs) y m = by (λ k. insert-from g hs y k) (below g h) m
-  where
-    by : (List·Memᴰ y (insertGuard g hs) → (y ≡ g) ⊎ List·Memᴰ y hs) → (b : Bool) → List·Memᴰ y (elim b [ true ↦ g ∷ h ∷ hs | false ↦ h ∷ insertGuard g hs ])
-        → (y ≡ g) ⊎ List·Memᴰ y (h ∷ hs)
-    by ih true k = List·Memᴰ·cases-cons k
-    by ih false k =
-        ⊎-elim (λ (e : y ≡ h). inr (List·Memᴰ·head e)) (λ i. ⊎-elim (λ (e : y ≡ g). inl e) (λ l. inr (List·Memᴰ·tail l)) (ih i)) (List·Memᴰ·cases-cons k)
 
 number-here : (r : Row) (rs : List Row) (raw : List Term) → sameTerms (r .raw) raw ≡ true → rowNumber (r ∷ rs) raw ≡ 0
 unfolding rowNumber
@@ -98,7 +71,7 @@ place-has t (r ∷ rs) = by (place-has t rs) (sameTerms (r .raw) (t .terms)) ref
     by : Stood (place t rs) (t .terms) (guard (t .bound) (t .node)) → (b : Bool) → sameTerms (r .raw) (t .terms) ≡ b
         → Stood (elim b [ true ↦ rowOf (r .raw) (r .terms) (insertGuard (guard (t .bound) (t .node)) (r .guards)) ∷ rs | false ↦ r ∷ place t rs ]) (t .terms) (guard (t .bound) (t .node))
     by ih true e =
-        first-stood (rowOf (r .raw) (r .terms) (insertGuard (guard (t .bound) (t .node)) (r .guards))) rs (t .terms) (guard (t .bound) (t .node)) e (insert-has (guard (t .bound) (t .node)) (r .guards))
+        first-stood (rowOf (r .raw) (r .terms) (insertGuard (guard (t .bound) (t .node)) (r .guards))) rs (t .terms) (guard (t .bound) (t .node)) e (insert-mem below (guard (t .bound) (t .node)) (guard (t .bound) (t .node)) (r .guards) (inl refl))
     by ih false e = next-stood r (place t rs) (t .terms) (guard (t .bound) (t .node)) e ih
 
 place-keeps : (t : Threshold) (rs : List Row) (raw : List Term) (g : Guard) → Stood rs raw g → Stood (place t rs) raw g
@@ -115,7 +88,7 @@ place-keeps t (r ∷ rs) raw g k = by (λ i. place-keeps t rs raw g i) (sameTerm
     by : (Stood rs raw g → Stood (place t rs) raw g) → (b : Bool) → (d : Bool) → sameTerms (r .raw) raw ≡ d
         → Stood (elim b [ true ↦ rowOf (r .raw) (r .terms) (insertGuard (guard (t .bound) (t .node)) (r .guards)) ∷ rs | false ↦ r ∷ place t rs ]) raw g
     by ih true true f =
-        first-stood (rowOf (r .raw) (r .terms) (insertGuard (guard (t .bound) (t .node)) (r .guards))) rs raw g f (insert-keeps (guard (t .bound) (t .node)) (r .guards) g (here f))
+        first-stood (rowOf (r .raw) (r .terms) (insertGuard (guard (t .bound) (t .node)) (r .guards))) rs raw g f (insert-mem below g (guard (t .bound) (t .node)) (r .guards) (inr (here f)))
     by ih true false f = next-stood (rowOf (r .raw) (r .terms) (insertGuard (guard (t .bound) (t .node)) (r .guards))) rs raw g f (behind f)
     by ih false true f = first-stood r (place t rs) raw g f (here f)
     by ih false false f = next-stood r (place t rs) raw g f (ih (behind f))
@@ -198,7 +171,7 @@ not-below : (g h : Guard) → below g h ≡ false → leZ (h .bound) (g .bound) 
 not-below g h e = nlt-leZ (g .bound) (h .bound) (or-false (ltZ (g .bound) (h .bound)) _ e .0)
 
 insert-rises : (g : Guard) (gs : List Guard) → Rising gs → Rising (insertGuard g gs)
-unfolding insertGuard
+unfolding insert
 insert-rises g [] r = (λ y m. absurd (List·Memᴰ·not-nil m), tt)
 insert-rises g (h ∷ hs) r = by (insert-rises g hs (r .1)) (below g h) refl
   where
@@ -209,7 +182,7 @@ insert-rises g (h ∷ hs) r = by (insert-rises g hs (r .1)) (below g h) refl
       r,
     )
     by ih false e = (
-      λ y m. ⊎-elim (λ (q : y ≡ g). subst (λ (z : Guard). leZ (h .bound) (z .bound) ≡ true) (sym q) (not-below g h e)) (λ k. r .0 y k) (insert-from g hs y m),
+      λ y m. ⊎-elim (λ (q : y ≡ g). subst (λ (z : Guard). leZ (h .bound) (z .bound) ≡ true) (sym q) (not-below g h e)) (λ k. r .0 y k) (mem-insert below y g hs m),
       ih,
     )
 

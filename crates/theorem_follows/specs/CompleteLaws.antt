@@ -21,8 +21,8 @@ use Rattle.state.specs.declared.State.{State}
 use Rattle.state.specs.Step.{joined, contradicts}
 use Rattle.state.specs.State.{reached, upperAtMost}
 use Rattle.words.specs.Mask.{bit}
-use Rattle.queues.specs.Marks.{Marks, isDecided, Decided, decided, decide}
-use Rattle.queues.specs.MarksLaws.{mask, decide-has, decide-length}
+use Rattle.queues.specs.Marks.{Marks, isDecided, Decided, decided, decide, mask}
+use Rattle.queues.specs.MarksLaws.{decide-has, decide-length}
 use Rattle.state.specs.declared.Upper.{Upper}
 use Rattle.state.specs.declared.Upper.the-variants.{Open, Under}
 use Rattle.rows.specs.Rows.{Guard}
@@ -30,7 +30,8 @@ use Rattle.row_runs.specs.Scan.{scan, Scanned, scanned, force}
 use Rattle.row_runs.specs.Row.{sureWaits, deciding, decides, sureGuards, reachable, neverWaits, neverGuards, termWaits, forces, forced}
 use Rattle.row_runs.specs.RowLaws.{decides-keeps}
 use Rattle.theorem_follows.specs.DecideLaws.{scan-keeps}
-use Rattle.theorem_follows.specs.RowLaws.{decide-grows, mem-drop, mem-take, mem-reverse}
+use Rattle.theorem_follows.specs.RowLaws.{decide-grows}
+use Rattle.base.specs.MembersLaws.{mem-drop, mem-take, mem-reverse}
 use Rattle.theorem_follows.specs.Ordered.{Each, Rising, Falling}
 
 -- WHERE A SCAN STOPS: the places that it passed are done, and the next one waits.

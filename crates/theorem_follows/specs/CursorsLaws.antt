@@ -16,7 +16,8 @@ use Rattle.rows.specs.Rows.{Row}
 use Rattle.row_runs.specs.Scan.{Scanned}
 use Rattle.row_runs.specs.Row.{Ran, ran, sureGuards, neverGuards, thresholdGuards, forced, trueTerms, falseTerms, thresholdRow}
 use Rattle.row_runs.specs.RowLaws.{Moved, sure-within, forced-within}
-use Rattle.row_moves.specs.RunsLaws.{guardsRun, trueRun, falseRun, run-ends}
+use Rattle.row_runs.specs.RunsLaws.{run-ends}
+use Rattle.row_runs.specs.Runs.{guardsRun, trueRun, falseRun}
 
 -- Every cursor stands in its list.
 pub record Cursors (row : Row) (st : State) : Type 0 where

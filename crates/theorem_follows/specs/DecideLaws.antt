@@ -16,8 +16,8 @@ use Rattle.state.specs.declared.Step.the-variants.{Contradiction}
 use Rattle.state.specs.declared.Upper.{Upper}
 use Rattle.state.specs.Step.{joined, contradicts}
 use Rattle.words.specs.Mask.{bit}
-use Rattle.queues.specs.Marks.{Marks, Decided, decide}
-use Rattle.queues.specs.MarksLaws.{mask, decide-there, decide-new, decide-other, decide-opposite}
+use Rattle.queues.specs.Marks.{Marks, Decided, decide, mask}
+use Rattle.queues.specs.MarksLaws.{decide-there, decide-new, decide-other, decide-opposite}
 use Rattle.rows.specs.Rows.{Row}
 use Rattle.row_runs.specs.Scan.{scan, Scanned}
 use Rattle.theorem_table.specs.Table as T

@@ -7,7 +7,7 @@ use mathlib.Core.Bool as B
 use mathlib.Core.Bool.{Bool, true, false, not, cond, _&&_, _||_}
 use mathlib.Core.List.{List, [], _∷_, List·Memᴰ, List·Memᴰ·head, List·Memᴰ·tail, List·Memᴰ·cases-cons, List·Memᴰ·not-nil, List·Memᴰ·append-cases}
 use mathlib.Core.Logic.{_⊎_, inl, inr, ⊎-elim, _≢_}
-use lib.ListN.{length, getD, set, take, drop, length-set, take-append-drop}
+use lib.ListN.{length, getD, take, drop, length-set, take-append-drop}
 use lib.Dec.{eqb, leb}
 use lib.IntN.{ℤ, pos, _-ℤ_}
 use lib.Signed.{leZ, ltZ, _≤ℤ_, ≤ℤ-refl}
@@ -29,9 +29,10 @@ use Rattle.tightening.specs.declared.Tightened.{Tightened}
 use Rattle.row_runs.specs.Row.{Ran, ran, scans, thresholdRow}
 use Rattle.tightening.specs.Told.{guardState, movedLower, movedState}
 use Rattle.tightening.specs.ToldLaws.{guard-cases, lower-cases, upper-cases}
-use Rattle.row_moves.specs.Between.{Index, Live, live, stateAt, Did, runRow, runWith, thresholdGuard, thresholdCondition, termCount, thresholdPrefixes}
+use Rattle.row_moves.specs.Between.{Index, Live, stateAt, Did, runRow, runWith, thresholdGuard, thresholdCondition, termCount, thresholdPrefixes, withDirtyRows, withResiduals, withState}
 use Rattle.row_moves.specs.LoopLaws.{condition-walk}
-use Rattle.row_moves.specs.WalkLaws.{walk-fine, prefix-fine, guardRow, guard-ends}
+use Rattle.row_moves.specs.WalkLaws.{walk-fine, prefix-fine, guard-ends}
+use Rattle.row_moves.specs.Handing.{guardRow}
 use Rattle.theorem_table.specs.Table.{IsRow}
 use Rattle.theorem_table.specs.OrderLaws.{le, lt, of-le, <ℤ-≤ℤ, max-up}
 use Rattle.theorem_follows.specs.CompleteLaws.{Wide, Has, Meets, wide-decide, has-stays}
@@ -216,12 +217,12 @@ module _ (x : Index) (ordered : (r : ℕ) → IsRow (x .rows) r → Ordered (get
 
   -- FIGURES PUT ANEW, AND THE ROW RUN
   pub put-run-done : (ran : ℕ → Bool) (v : Live) (r : ℕ) (st : State) (d q : Rows) → IsRow (x .rows) r → SameCursors st (stateAt v r) → Higher (stateAt v r) st → Done (x .rows) ran v
-      → let w = live (set (v .states) r st) (v .marks) d q in contradicts (runRow x w r .step) ≡ false → Done (x .rows) (also r ran) (runRow x w r .live)
+      → let w = withResiduals (withDirtyRows (withState v r st) d) q in contradicts (runRow x w r .step) ≡ false → Done (x .rows) (also r ran) (runRow x w r .live)
   put-run-done ran v r st d q i e up h c =
       done-fewer (x .rows) (also r but) (also r ran) (runRow x w r .live) (λ k n. more k (eqb k r) refl n) (run-done but w r i put c)
     where
       w : Live
-      w = live (set (v .states) r st) (v .marks) d q
+      w = withResiduals (withDirtyRows (withState v r st) d) q
 
       but : ℕ → Bool
       but k = not (eqb k r) && ran k
@@ -254,7 +255,7 @@ module _ (x : Index) (ordered : (r : ℕ) → IsRow (x .rows) r → Ordered (get
   StillDone ran d = contradicts (d .step) ≡ false → Done (x .rows) ran (d .live)
 
   one-done : (ran : ℕ → Bool) (v : Live) (r : ℕ) (st : State) (d q : Rows) → IsRow (x .rows) r → SameCursors st (stateAt v r) → Higher (stateAt v r) st → Done (x .rows) ran v
-      → StillDone ran (runRow x (live (set (v .states) r st) (v .marks) d q) r)
+      → StillDone ran (runRow x (withResiduals (withDirtyRows (withState v r st) d) q) r)
   one-done ran v r st d q i e up h c = done-fewer (x .rows) (also r ran) ran _ (λ k n. also-before r ran k n) (put-run-done ran v r st d q i e up h c)
 
   -- A DRAINED GUARD

@@ -26,7 +26,8 @@ use Rattle.queues.specs.Marks.{isDecided}
 use Rattle.row.specs.TermsLaws.{Distinct}
 use Rattle.rows.specs.Rows.{Row, Edge, edgesOf}
 use Rattle.row_moves.specs.Between.{Index, Live, stateAt, withState, Did, runRow, conditionFrom, thresholdCondition}
-use Rattle.row_moves.specs.LoopLaws.{drained-lower, drained-upper, edgeRun, condition-walk}
+use Rattle.row_moves.specs.LoopLaws.{drained-lower, drained-upper, condition-walk}
+use Rattle.row_moves.specs.Handing.{edgeRun}
 use Rattle.row_moves.specs.WalkLaws.{walks}
 use Rattle.theorem_table.specs.Table.{Table, IsRow, termsOf, known, possible}
 use Rattle.theorem_table.specs.OrderLaws.{UpLe, up-refl}

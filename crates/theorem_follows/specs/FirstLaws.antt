@@ -12,11 +12,10 @@ use Rattle.base.specs.TestLaws.{clash}
 use Rattle.state.specs.declared.State.{State}
 use Rattle.state.specs.State.{noState}
 use Rattle.words.specs.Mask.{bit}
-use Rattle.queues.specs.Marks.{isDecided}
-use Rattle.queues.specs.MarksLaws.{mask}
+use Rattle.queues.specs.Marks.{isDecided, mask}
 use Rattle.queues.specs.Waiting.{Waits, Queued}
 use Rattle.rows.specs.Rows.{Row, noRow, stateOfRow}
-use Rattle.row_moves.specs.Between.{Index, Live, live, stateAt, firstStates}
+use Rattle.row_moves.specs.Between.{Index, Live, stateAt, firstStates, withStates}
 use Rattle.theorem_table.specs.Table.{start}
 use Rattle.theorem_follows.specs.StandsLaws.{Apart}
 use Rattle.theorem_follows.specs.SettledLaws.{Sound}
@@ -69,8 +68,8 @@ undrained-none v waits states bits = record {
 -- A SEAL, WHATEVER IS DECIDED
 pub first-undrained : (x : Index) (v : Live) → length (x .rows) ≤ length (v .states) → length (x .rows) ≤ length (v .dirty .pending)
     → length (firstStates 0 (x .rows) (v .states)) ≡ length (v .states) → Undrained (length (x .rows)) v
-    → Sound x (start (bit (v .marks .sure)) (bit (v .marks .never))) nothing (live (firstStates 0 (x .rows) (v .states)) (v .marks) (v .dirty) (v .residuals))
+    → Sound x (start (bit (v .marks .sure)) (bit (v .marks .never))) nothing (withStates v (firstStates 0 (x .rows) (v .states)))
 first-undrained x v room flags long u =
-    first-sound x (live (firstStates 0 (x .rows) (v .states)) (v .marks) (v .dirty) (v .residuals)) (omega (arith, long, room)) flags
+    first-sound x (withStates v (firstStates 0 (x .rows) (v .states))) (omega (arith, long, room)) flags
     (λ r i. first-here 0 (x .rows) (v .states) r r (omega arith) i (omega (arith, room)))
     (λ r i. first-other 0 (x .rows) (v .states) r (inr (omega arith)) ∙ u .states r (omega arith)) (u .queued) (u .apart)

@@ -30,9 +30,10 @@ use Rattle.links.specs.LinksLaws.{link, link-starts, Climbs, stay, up, across, 
 use Rattle.tightening.specs.declared.Tightened.{Tightened}
 use Rattle.tightening.specs.Told.{movedLower, movedState, under}
 use Rattle.tightening.specs.ToldLaws.{lower-cases, upper-cases}
-use Rattle.row_moves.specs.Between.{Index, Live, live, stateAt, Did, runRow, runWith, thresholdGuard, thresholdCondition, termCount, prefixesFrom, thresholdPrefixes}
-use Rattle.row_moves.specs.LoopLaws.{drained-lower, drained-upper, edgeRun, moved, movedRun}
-use Rattle.row_moves.specs.WalkLaws.{prefix-fine, guardRow, guardTold, guard-ends, condition-keeps}
+use Rattle.row_moves.specs.Between.{Index, Live, stateAt, Did, runRow, runWith, thresholdGuard, thresholdCondition, termCount, prefixesFrom, thresholdPrefixes, withDirtyRows, withResiduals, withState}
+use Rattle.row_moves.specs.LoopLaws.{drained-lower, drained-upper}
+use Rattle.row_moves.specs.Handing.{edgeRun, moved, movedRun, guardRow, guardTold}
+use Rattle.row_moves.specs.WalkLaws.{prefix-fine, guard-ends, condition-keeps}
 use Rattle.theorem_table.specs.Table.{Table, IsRow, termsOf, IsPrefix}
 use Rattle.theorem_table.specs.OrderLaws.{le, ≤ℤ-trans, UpLe, up-refl, up-trans}
 use Rattle.theorem_follows.specs.StandsLaws.{Stands}
@@ -120,7 +121,7 @@ module _ (x : Index) where
       (low : stateAt v r .lower ≤ℤ st .lower) (high : UpLe (st .upper) (stateAt v r .upper)) (long : length (v .dirty .pending) ≡ length (d .pending))
       (others : (k : ℕ) → k ≢ r → getD (d .pending) k 0 ≡ getD (v .dirty .pending) k 0) where
     abbrev ended : Live
-    ended = runRow x (live (set (v .states) r st) (v .marks) d q) r .live
+    ended = runRow x (withResiduals (withDirtyRows (withState v r st) d) q) r .live
 
     room : r < length (v .states)
     room = let z = h .sized in omega arith
@@ -172,7 +173,7 @@ module _ (x : Index) where
       nothing (y ∷ ys) e k m = let z : length (y ∷ ys) ≡ 0 = e in omega arith
 
       at-links : (b : Bool) → eqb (length (neighbours r (x .links))) 0 ≡ b
-          → Handed x but (runRow x (live (set (v .states) r st) (v .marks) (cond b (v .dirty) (queueRow (v .dirty) r)) (v .residuals)) r .live)
+          → Handed x but (runRow x (withDirtyRows (withState v r st) (cond b (v .dirty) (queueRow (v .dirty) r))) r .live)
       at-links true e =
           put-run-handed but v r st (v .dirty) (v .residuals) is h (tighter .0) (tighter .1) refl (λ k n. refl) (inl (nothing (neighbours r (x .links)) (eqb-true (length (neighbours r (x .links))) 0 e)))
       at-links false e =
@@ -333,7 +334,7 @@ module _ (x : Index) where
       by r q m f (no e) = o .others .handed r q m (ne-eqb r row e) f
 
   -- THE OLDEST ROW IS TAKEN: it waits no more, and is excepted until it has handed on its bounds
-  pub taken-handed : (v : Live) → Handed x (λ (r : ℕ). false) v → Handed x (λ (r : ℕ). eqb r (oldest (v .dirty .queue))) (live (v .states) (v .marks) (nextRow (v .dirty)) (v .residuals))
+  pub taken-handed : (v : Live) → Handed x (λ (r : ℕ). false) v → Handed x (λ (r : ℕ). eqb r (oldest (v .dirty .queue))) (withDirtyRows v (nextRow (v .dirty)))
   unfolding nextRow
   taken-handed v h = record {
     sized = h .sized;

@@ -6,7 +6,7 @@ use mathlib.Core.Path.{_≡_, refl, sym, ap, _∙_, subst}
 use mathlib.Core.Bool.{Bool, true, false, _||_}
 use mathlib.Core.List.{List, [], _∷_, List·Memᴰ}
 use mathlib.Core.Logic.{_⊎_, inl, inr, ⊎-elim}
-use lib.ListN.{length, getD, set, length-set}
+use lib.ListN.{length, getD, length-set}
 use lib.Dec.{leb}
 use lib.IntN.{ℤ}
 use lib.Signed.{_≤ℤ_, ≤ℤ-refl}
@@ -20,16 +20,16 @@ use Rattle.state.specs.State.{withLower, withUpper, drained}
 use Rattle.words.specs.Mask.{bit}
 use Rattle.queues.specs.Marks.{Marks, isDecided, decide}
 use Rattle.queues.specs.Queue.{Rows}
-use Rattle.queues.specs.MarksLaws.{mask}
 use Rattle.rows.specs.Rows.{Row, noRow, Guard, guard, alone, Edge, edgesOf, rowNumber}
 use Rattle.links.specs.Links.{neighbours}
 use Rattle.tightening.specs.declared.Tightened.{Tightened}
 use Rattle.row_runs.specs.Row.{thresholdRow}
 use Rattle.tightening.specs.Told.{movedLower, movedUpper, movedState}
 use Rattle.tightening.specs.ToldLaws.{guard-cases, lower-cases, upper-cases}
-use Rattle.row_moves.specs.Between.{Index, Live, live, stateAt, withState, withDirty, Did, runRow, runWith, thresholdGuard, thresholdCondition, termCount, thresholdPrefixes}
-use Rattle.row_moves.specs.LoopLaws.{drained-lower, drained-upper, moved, movedRun}
-use Rattle.row_moves.specs.WalkLaws.{guardRow, guardTold, guard-ends, condition-keeps, prefix-keeps}
+use Rattle.row_moves.specs.Between.{Index, Live, stateAt, withState, withDirty, Did, runRow, runWith, thresholdGuard, thresholdCondition, termCount, thresholdPrefixes, withDirtyRows, withResiduals}
+use Rattle.row_moves.specs.LoopLaws.{drained-lower, drained-upper}
+use Rattle.row_moves.specs.Handing.{moved, movedRun, guardRow, guardTold}
+use Rattle.row_moves.specs.WalkLaws.{guard-ends, condition-keeps, prefix-keeps}
 use Rattle.theorem_table.specs.Table.{Table, IsRow, Guards, IsPrefix}
 use Rattle.theorem_table.specs.OrderLaws.{≤ℤ-trans, UpLe, up-refl, up-trans}
 use Rattle.theorem_table.specs.TableLaws.{alone-reached}
@@ -54,7 +54,7 @@ module _ (x : Index) (ordered : (r : ℕ) → IsRow (x .rows) r → Ordered (get
 
   -- bounds put anew that every such table has
   put-leans : (v : Live) (r : ℕ) (st : State) (d q : Rows) → IsRow (x .rows) r → Leans v
-      → ((u : Table) → Covers (v .marks) u → Calm (x .rows) u → (st .lower ≤ℤ u .lower r) × UpLe (u .upper r) (st .upper)) → Leans (live (set (v .states) r st) (v .marks) d q)
+      → ((u : Table) → Covers (v .marks) u → Calm (x .rows) u → (st .lower ≤ℤ u .lower r) × UpLe (u .upper r) (st .upper)) → Leans (withResiduals (withDirtyRows (withState v r st) d) q)
   put-leans v r st d q i h better = record {
     sized = subst (λ (n : ℕ). length (x .rows) ≤ n) (sym (length-set (v .states) r st)) (h .sized);
     wide = h .wide;

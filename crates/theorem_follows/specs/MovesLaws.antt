@@ -6,7 +6,7 @@ use mathlib.Core.Path.{_≡_, refl, sym, ap, _∙_, subst}
 use mathlib.Core.Bool.{Bool, true, false, not, _||_}
 use mathlib.Core.List.{List, [], _∷_, _++_, append-nil, List·Memᴰ}
 use mathlib.Core.Logic.{_⊎_, inl, inr, ⊎-elim}
-use lib.ListN.{length, getD, set, length-append}
+use lib.ListN.{length, getD, length-append}
 use lib.Dec.{leb}
 use lib.IntN.{ℤ}
 use lib.Signed.{leZ, _≤ℤ_, _<ℤ_, ≤ℤ-refl}
@@ -29,9 +29,9 @@ use Rattle.tightening.specs.declared.Tightened.{Tightened}
 use Rattle.row_runs.specs.Row.{Ran, thresholdRow}
 use Rattle.tightening.specs.Told.{guardState, movedLower, movedUpper, movedState, under}
 use Rattle.tightening.specs.ToldLaws.{guard-cases, lower-cases, upper-cases}
-use Rattle.row_moves.specs.Between.{Index, Live, live, stateAt, withState, withDirty, Did, runRow, runWith, thresholdGuard, termCount, thresholdPrefixes}
-use Rattle.row_moves.specs.LoopLaws.{movedRun}
-use Rattle.row_moves.specs.WalkLaws.{guardRow, guardTold, guard-ends, prefix-walks}
+use Rattle.row_moves.specs.Between.{Index, Live, stateAt, withState, withDirty, Did, runRow, runWith, thresholdGuard, termCount, thresholdPrefixes, withDirtyRows, withResiduals}
+use Rattle.row_moves.specs.Handing.{movedRun, guardRow, guardTold}
+use Rattle.row_moves.specs.WalkLaws.{guard-ends, prefix-walks}
 use Rattle.theorem_table.specs.Table.{Table, IsRow, termsOf, Guards, IsPrefix, AtRest}
 use Rattle.theorem_table.specs.OrderLaws.{lt, ≤ℤ-trans, <ℤ-≤ℤ, UpLe, up-refl, up-trans}
 use Rattle.theorem_table.specs.TableLaws.{Le, alone-reached}
@@ -39,7 +39,8 @@ use Rattle.theorem_table.specs.JudgedLaws.{rest-calm, calm-sure, calm-never, ca
 use Rattle.theorem_follows.specs.DecideLaws.{tableOf, Broken, follows-below}
 use Rattle.theorem_follows.specs.RowLaws.{Fine, row-fine}
 use Rattle.theorem_follows.specs.CursorsLaws.{row-goes}
-use Rattle.theorem_follows.specs.StandsLaws.{tableAt, Apart, Stands, Stay, stay-same, stay-decide, stay-le, apart-decide, put-state, known-inside, possible-inside, restart, put-stands}
+use Rattle.theorem_follows.specs.StandsLaws.{tableAt, Apart, Stands, stay-le, apart-decide, put-state, known-inside, possible-inside, restart, put-stands}
+use Rattle.queues.specs.StayLaws.{Stay, stay-same, stay-decide}
 
 -- An upper bound that lies above a number says no more than the number as a bound would.
 pub not-above : (z : ℤ) (y : Upper) → upperAtMost y z ≡ false → UpLe (Under z) y
@@ -141,7 +142,7 @@ module _ (x : Index) (drained : ℕ → ℕ → Bool) where
       × ((u : Table) → Le s u → AtRest (x .rows) u → (b .lower ≤ℤ u .lower r) × UpLe (u .upper r) (b .upper))
 
   pub bound-stands : (s : Table) (v : Live) (r : ℕ) (st : State) (d q : Rows) → IsRow (x .rows) r → Stands (x .rows) s drained v
-      → Tighter s r (stateAt v r) st → Stands (x .rows) s drained (live (set (v .states) r st) (v .marks) d q)
+      → Tighter s r (stateAt v r) st → Stands (x .rows) s drained (withResiduals (withDirtyRows (withState v r st) d) q)
   bound-stands s v r st d q i h t =
       put-stands (x .rows) s drained v h r st (v .marks) d q i (t .0) (t .1) (stay-same (v .marks)) (h .apart)
       (record {

@@ -6,7 +6,7 @@ use mathlib.Core.Path.{_≡_, refl, sym, ap, ap₂, _∙_, subst}
 use mathlib.Core.Bool.{Bool, true, false, cond, _&&_, _||_}
 use mathlib.Core.List.{List, [], _∷_, map, List·Memᴰ, Memᴰ·map, Memᴰ·of-map, List·Memᴰ·append-cases}
 use mathlib.Core.Logic.{_⊎_, inl, inr, ⊎-elim, _≢_}
-use lib.ListN.{length, getD, set, take, drop, take-append-drop}
+use lib.ListN.{length, getD, take, drop, take-append-drop}
 use lib.Seq.{getD-set-same, getD-set-other}
 use lib.IntN.{ℤ}
 use lib.Signed.{leZ, _≤ℤ_, ≤ℤ-refl}
@@ -22,16 +22,18 @@ use Rattle.queues.specs.Queue.{Rows}
 use Rattle.queues.specs.Marks.{Marks, decide}
 use Rattle.theorem_table.specs.TableLaws.{other-up}
 use Rattle.row_runs.specs.Row.{Ran, deciding, thresholdRow}
-use Rattle.row_moves.specs.Between.{Live, live, stateAt}
+use Rattle.row_moves.specs.Between.{Live, stateAt, withDirtyRows, withMarks, withResiduals, withState}
 use Rattle.theorem_table.specs.Table.{Table, IsRow, Guards, knownOf, reachedOf, OtherReached}
 use Rattle.theorem_table.specs.OrderLaws.{le, of-le, ≤ℤ-trans, max-up, UpLe, up-trans}
 use Rattle.theorem_follows.specs.Ordered.{Each}
-use Rattle.theorem_follows.specs.RowLaws.{mem-take, StandsFor, Fine, row-fine}
+use Rattle.theorem_follows.specs.RowLaws.{StandsFor, Fine, row-fine}
+use Rattle.base.specs.MembersLaws.{mem-take}
 use Rattle.theorem_follows.specs.DecideLaws.{tableOf}
 use Rattle.theorem_follows.specs.CompleteLaws.{Has}
 use Rattle.theorem_follows.specs.DoneLaws.{Grows, taken-cases}
 use Rattle.theorem_follows.specs.RowCompleteLaws.{SameFigures, RowDone}
-use Rattle.theorem_follows.specs.StandsLaws.{tableAt, Stands, known-inside, possible-inside, Stay, stay-same, stay-decide, stay-le, Apart, apart-decide}
+use Rattle.theorem_follows.specs.StandsLaws.{tableAt, Stands, known-inside, possible-inside, stay-le, Apart, apart-decide}
+use Rattle.queues.specs.StayLaws.{Stay, stay-same, stay-decide}
 
 -- The figures of a row reach a bound; those of the other row, if a guard asks for one.
 abbrev pub Reaches : Live → ℕ → ℤ → Type 0
@@ -238,7 +240,7 @@ module _ (rows : List Row) (v : Live) (r : ℕ) (room : r < length (v .states)) 
   ran = thresholdRow (rowNow v (getD rows r noRow)) (stateAt v r) (v .marks)
 
   abbrev after : Live
-  after = live (set (v .states) r (ran .state)) (ran .marks) d q
+  after = withResiduals (withDirtyRows (withMarks (withState v r (ran .state)) (ran .marks)) d) q
 
   pub standing-run : Grows (v .marks) (ran .marks) → RowDone (rowNow v (getD rows r noRow)) (stateAt v r) ran → RowRun rows v after r
   standing-run grows k = record {

@@ -22,7 +22,7 @@ use Rattle.rows.specs.Rows.{Row, noRow, Guard, Other, alone, isAlone, MayDecide
 use Rattle.row_runs.specs.Row.{reachable}
 use Rattle.row_moves.specs.Between.{Live, stateAt}
 use Rattle.theorem_table.specs.Table.{Table, IsRow, termsOf, known, possible, Guards, HasTerm, knownOf, possibleOf, reachedOf, Undecided, AtMost, IsPrefix, Step, sure-guard, never-guard, bound-reached, bound-out-of-reach, term-needed, term-too-heavy, longer-lower, shorter-upper, Conflict, both, lower-above, upper-reached, AtRest, Below}
-use Rattle.theorem_table.specs.OrderLaws.{le, of-le, of-lt, ≤ℤ-trans, pos-≤ℤ, sub-up, UpLe}
+use Rattle.theorem_table.specs.OrderLaws.{le, of-le, of-lt, ≤ℤ-trans, pos-≤ℤ, sub-up, UpLe, of-at-most}
 use Rattle.theorem_follows.specs.RowCompleteLaws.{Complete}
 use Rattle.theorem_follows.specs.DoneLaws.{Met}
 use Rattle.theorem_follows.specs.StandsLaws.{tableAt, Stands, AllDrained, known-exact, possible-exact}
@@ -62,10 +62,6 @@ room-left sure never (t ∷ ts) u apart m a b = by (λ k. room-left sure never t
         omega arith
     by ih (inr k) = let i = ih k in let o = one (sure (t .condition)) (never (t .condition)) (t .weight) (apart (t .condition)) in omega arith
 
-at-most : (y : Upper) (z : ℤ) → AtMost y z → upperAtMost y z ≡ true
-at-most Open z h = absurd h
-at-most (Under b) z h = of-le h
-
 module _ (rows : List Row) (s : Table) (drained : ℕ → ℕ → Bool) (v : Live) (h : Stands rows s drained v) (r : ℕ) (is : IsRow rows r) (all : AllDrained rows s drained v h r)
     (done : Complete (getD rows r noRow) (stateAt v r) (v .marks)) (met : Met rows v) (free : conflict (stateAt v r) ≡ false) where
   is-known : stateAt v r .known ≡ knownOf rows (tableAt v) r
@@ -84,7 +80,7 @@ module _ (rows : List Row) (s : Table) (drained : ℕ → ℕ → Bool) (v : Liv
   unreachable : (b : ℤ) → (possibleOf rows (tableAt v) r <ℤ b) ⊎ AtMost (stateAt v r .upper) b → reachable (stateAt v r) b ≡ false
   unreachable b (inl a) =
       ap (λ (x : Bool). x && not (upperAtMost (stateAt v r .upper) b)) (ltZ-nle (stateAt v r .possible) b (ap (λ (z : ℤ). ltZ z b) is-possible ∙ of-lt a))
-  unreachable b (inr a) = ap (λ (x : Bool). leZ b (stateAt v r .possible) && not x) (at-most (stateAt v r .upper) b a) ∙ B.and-false (leZ b (stateAt v r .possible))
+  unreachable b (inr a) = ap (λ (x : Bool). leZ b (stateAt v r .possible) && not x) (of-at-most (stateAt v r .upper) b a) ∙ B.and-false (leZ b (stateAt v r .possible))
 
   undecided : (n : ℕ) → Undecided rows (tableAt v) n → isDecided (v .marks) n ≡ true → ⊥
   undecided n u d = clash (isDecided (v .marks) n) d (ap₂ (λ (x y : Bool). x || y) (u .0) (u .1))
@@ -120,7 +116,7 @@ module _ (rows : List Row) (s : Table) (drained : ℕ → ℕ → Bool) (v : Liv
         (leZ-nlt (pos (u .weight)) (b -ℤ stateAt v r .known) (ap (λ (z : ℤ). leZ (b -ℤ z) (pos (u .weight))) is-known ∙ of-le k)));
     in-reach = λ k. clash (ltZ (stateAt v r .possible) (stateAt v r .lower)) (ap (λ (z : ℤ). ltZ z (stateAt v r .lower)) is-possible ∙ of-lt k) (no-conflict .0);
     not-reached = λ k. clash (upperAtMost (stateAt v r .upper) (reached (stateAt v r)))
-        (ap (upperAtMost (stateAt v r .upper)) is-reached ∙ at-most (stateAt v r .upper) (reachedOf rows (tableAt v) r) k) (no-conflict .1);
+        (ap (upperAtMost (stateAt v r .upper)) is-reached ∙ of-at-most (stateAt v r .upper) (reachedOf rows (tableAt v) r) k) (no-conflict .1);
   }
 
 -- ALL ROWS AT REST, rules 1 and 6 done: the table is

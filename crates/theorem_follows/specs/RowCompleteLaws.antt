@@ -24,7 +24,8 @@ use Rattle.rows.specs.Rows.{Row, Guard}
 use Rattle.row_runs.specs.Scan.{Scanned, scan}
 use Rattle.row_runs.specs.Row.{Ran, ran, decides, sureWaits, sureGuards, reachable, neverWaits, neverGuards, thresholdGuards, termWaits, forces, forced, trueTerms, falseTerms, thresholdRow}
 use Rattle.row_runs.specs.RowLaws.{decides-keeps}
-use Rattle.row_moves.specs.RunsLaws.{guardsRun, trueRun, falseRun, wholeRun, run-ends}
+use Rattle.row_runs.specs.RunsLaws.{run-ends}
+use Rattle.row_runs.specs.Runs.{guardsRun, trueRun, falseRun, wholeRun}
 use Rattle.theorem_follows.specs.DecideLaws.{scan-keeps}
 use Rattle.theorem_follows.specs.CompleteLaws.{Wide, Has, Meets, wide-decides, wide-force, decides-stays, decided-stays, force-stays, force-has, sure-complete, never-complete, forced-complete}
 use Rattle.theorem_follows.specs.Ordered.{Each, Ordered}

@@ -1,16 +1,17 @@
 -- ONE ROW RUN ONCE: whatever `threshold_row` decides follows by rules 2 to 5 of the table, from drained figures that lie inside
 -- those of the masks; where it contradicts, a conflict follows.
-use Prim.Native.Nat.{ℕ, zero, suc, _+_, _-_}
+use Prim.Native.Nat.{ℕ, _+_, _-_}
 use native.Mathlib.Decide.{ℕ-discrete}
 use mathlib.Core.Path.{_≡_, refl, sym, ap, _∙_, subst}
 use mathlib.Core.Bool as B
 use mathlib.Core.Bool.{Bool, true, false, not, cond, _&&_, _||_}
-use mathlib.Core.List.{List, [], _∷_, reverse, reverseAux, List·Memᴰ, List·Memᴰ·head, List·Memᴰ·tail, List·Memᴰ·cases-cons, List·Memᴰ·not-nil}
+use mathlib.Core.List.{List, reverse, List·Memᴰ}
 use mathlib.Core.Logic.{_⊎_, inl, inr, ⊎-elim}
 use lib.ListN.{getD, take, drop}
 use lib.IntN.{ℤ, pos, _-ℤ_}
 use lib.Signed.{leZ, ltZ, _≤ℤ_, _<ℤ_, ≤ℤ-refl}
 use borrow.Author.Tests.{not-false}
+use Rattle.base.specs.MembersLaws.{mem-drop, mem-take, mem-reverse}
 use Rattle.base.specs.TestLaws.{and-left, and-right, and-false, or-true, or-false, unequal}
 use Rattle.state.specs.StepLaws.{joined-fine, joined-which}
 use Rattle.base.specs.SignedLaws.{nlt-leZ, nle-ltZ}
@@ -30,36 +31,12 @@ use Rattle.row_runs.specs.Scan.{Scanned}
 use Rattle.row_runs.specs.Row.{Ran, ran, deciding, decides, sureGuards, neverGuards, thresholdGuards, forced, trueTerms, falseTerms, thresholdRow}
 use Rattle.theorem_table.specs.Table as T
 use Rattle.theorem_table.specs.Table.{Table, decideSure, decideNever, IsRow, Guards, termsOf, knownOf, possibleOf, reachedOf, OtherReached, AtMost, Conflict, lower-above, upper-reached, bound-reached, bound-out-of-reach, term-needed, term-too-heavy}
-use Rattle.theorem_table.specs.OrderLaws.{le, lt, ≤ℤ-trans, ≤ℤ-<ℤ-trans, pos-≤ℤ, max-up, sub-up, up-refl, at-most-up}
+use Rattle.theorem_table.specs.OrderLaws.{le, lt, ≤ℤ-trans, ≤ℤ-<ℤ-trans, pos-≤ℤ, max-up, sub-up, up-refl, at-most, at-most-up}
 use Rattle.theorem_table.specs.TableLaws.{Le, known-up, possible-down}
-use Rattle.row_moves.specs.RunsLaws.{guardsRun, trueRun, falseRun, run-ends}
+use Rattle.row_runs.specs.RunsLaws.{run-ends}
+use Rattle.row_runs.specs.Runs.{guardsRun, trueRun, falseRun}
 use Rattle.theorem_follows.specs.Ordered.{Each}
 use Rattle.theorem_follows.specs.DecideLaws.{tableOf, Broken, Kept, decide-follows, scan-keeps}
-
--- LISTS
-
-pub mem-drop : {X : Type 0} (n : ℕ) (xs : List X) (x : X) → List·Memᴰ x (drop n xs) → List·Memᴰ x xs
-mem-drop zero xs x m = m
-mem-drop (suc n) [] x m = m
-mem-drop (suc n) (y ∷ ys) x m = List·Memᴰ·tail (mem-drop n ys x m)
-
-pub mem-take : {X : Type 0} (n : ℕ) (xs : List X) (x : X) → List·Memᴰ x (take n xs) → List·Memᴰ x xs
-mem-take zero xs x m = absurd (List·Memᴰ·not-nil m)
-mem-take (suc n) [] x m = m
-mem-take (suc n) (y ∷ ys) x m = ⊎-elim (λ (e : x ≡ y). List·Memᴰ·head e) (λ k. List·Memᴰ·tail (mem-take n ys x k)) (List·Memᴰ·cases-cons m)
-
-mem-aux : {X : Type 0} (xs acc : List X) (x : X) → List·Memᴰ x (reverseAux xs acc) → List·Memᴰ x xs ⊎ List·Memᴰ x acc
-mem-aux [] acc x m = inr m
-mem-aux (y ∷ ys) acc x m =
-    ⊎-elim (λ k. inl (List·Memᴰ·tail k)) (λ k. ⊎-elim (λ (e : x ≡ y). inl (List·Memᴰ·head e)) (λ n. inr n) (List·Memᴰ·cases-cons k)) (mem-aux ys (y ∷ acc) x m)
-
-pub mem-reverse : {X : Type 0} (xs : List X) (x : X) → List·Memᴰ x (reverse xs) → List·Memᴰ x xs
-mem-reverse xs x m = ⊎-elim (λ k. k) (λ k. absurd (List·Memᴰ·not-nil k)) (mem-aux xs [] x m)
-
--- UPPERS
-at-most : (x : Upper) (z : ℤ) → upperAtMost x z ≡ true → AtMost x z
-at-most Open z h = absurd (unequal cc)
-at-most (Under a) z h = le h
 
 -- WHAT A GUARD THAT DECIDES IS LIKE: it may, and to be sure it is alone
 pub deciding-may : (value : Bool) (g : Guard) → deciding value g ≡ true → MayDecide g

@@ -6,26 +6,27 @@ use native.Mathlib.Decide.{ℕ-discrete}
 use native.Mathlib.Omega.{arith}
 use mathlib.Core.Path.{_≡_, refl, sym, ap, ap₂, _∙_, subst}
 use mathlib.Core.Bool as B
-use mathlib.Core.Bool.{Bool, true, false, not, cond, _&&_, _||_}
+use mathlib.Core.Bool.{Bool, true, false, cond, _&&_}
 use mathlib.Core.List.{List, [], _∷_, List·Memᴰ, List·Memᴰ·head, List·Memᴰ·tail}
-use mathlib.Core.Logic.{_⊎_, inl, inr, ⊎-elim, _≢_}
+use mathlib.Core.Logic.{_⊎_, inl, inr, _≢_}
 use lib.ListN.{length, getD, set, length-set}
 use lib.Seq.{getD-set-same, getD-set-other}
 use lib.Dec.{eqb}
 use lib.IntN.{ℤ, pos}
 use lib.Signed.{_≤ℤ_, ≤ℤ-refl}
 use borrow.Author.Tests.{eq-eqb, ne-eqb, eqb-true}
-use Rattle.base.specs.TestLaws.{true-false, clash, and-right, never-true}
+use Rattle.base.specs.TestLaws.{true-false, clash, and-right}
 use Rattle.numeric.specs.Threshold.{Term}
 use Rattle.state.specs.declared.State.{State}
 use Rattle.state.specs.declared.Upper.{Upper}
 use Rattle.state.specs.State.{noState}
 use Rattle.words.specs.Mask.{bit}
-use Rattle.queues.specs.Marks.{Marks, isDecided, Decided, decide}
-use Rattle.queues.specs.MarksLaws.{mask, decide-there, decide-clash, decide-other, decide-opposite}
+use Rattle.queues.specs.Marks.{Marks, isDecided, decide, mask}
+use Rattle.queues.specs.MarksLaws.{decide-other, decide-opposite}
+use Rattle.queues.specs.StayLaws.{Stay, stay-decided, sure-decided, never-decided, decide-nothing, not-decided}
 use Rattle.queues.specs.Queue.{Rows}
 use Rattle.rows.specs.Rows.{Row}
-use Rattle.row_moves.specs.Between.{Live, live, stateAt}
+use Rattle.row_moves.specs.Between.{Live, stateAt, withDirtyRows, withMarks, withResiduals, withState}
 use Rattle.theorem_table.specs.Table.{Table, IsRow, termsOf, known, possible, knownOf, possibleOf}
 use Rattle.theorem_table.specs.OrderLaws.{pos-≤ℤ, up-refl}
 use Rattle.theorem_table.specs.TableLaws.{Le, le-same, le-then, Follows, follows-start, known-up, possible-down}
@@ -93,50 +94,6 @@ possible-same f g [] h = refl
 possible-same f g (t ∷ ts) h =
     ap₂ (λ (a b : ℕ). a + b) (ap (λ (b : Bool). cond b 0 (t .weight)) (h t (List·Memᴰ·head refl))) (possible-same f g ts (λ u i. h u (List·Memᴰ·tail i)))
 
--- DECIDED NODES keep their value, whatever else is decided.
-abbrev pub Stay : Marks → Marks → Type 0
-Stay m m′ = (n : ℕ) → isDecided m n ≡ true → (v : Bool) → bit (mask v m′) n ≡ bit (mask v m) n
-
-pub stay-same : (m : Marks) → Stay m m
-stay-same m n h v = refl
-
-either : (value : Bool) (m : Marks) (n : ℕ) → isDecided m n ≡ true → bit (mask value m) n ≡ false → bit (mask (not value) m) n ≡ true
-either true m n h e = ap (λ (b : Bool). b || bit (m .never) n) (sym e) ∙ h
-either false m n h e = by (bit (m .sure) n) refl
-  where
-    by : (b : Bool) → bit (m .sure) n ≡ b → b ≡ true
-    by true f = refl
-    by false f = sym (ap₂ (λ (a b : Bool). a || b) f e) ∙ h
-
--- a node that is decided already changes nothing
-pub decide-nothing : (value : Bool) (m : Marks) (n : ℕ) → isDecided m n ≡ true → decide value m n .marks ≡ m
-decide-nothing value m n h =
-    ⊎-elim (λ (e : bit (mask value m) n ≡ true). ap (λ (d : Decided). d .marks) (decide-there value m n e))
-    (λ (e : bit (mask value m) n ≡ false). ap (λ (d : Decided). d .marks) (decide-clash value m n e (either value m n h e))) (true-false (bit (mask value m) n))
-
-decided-by : (m m′ : Marks) (n : ℕ) → ((v : Bool) → bit (mask v m′) n ≡ bit (mask v m) n) → isDecided m n ≡ true → isDecided m′ n ≡ true
-decided-by m m′ n h d = ap₂ (λ (a b : Bool). a || b) (h true) (h false) ∙ d
-
-pub stay-decided : (m m′ : Marks) → Stay m m′ → (n : ℕ) → isDecided m n ≡ true → isDecided m′ n ≡ true
-stay-decided m m′ h n d = decided-by m m′ n (h n d) d
-
-pub stay-decide : (m₀ : Marks) (value : Bool) (m : Marks) (n : ℕ) → Stay m₀ m → Stay m₀ (decide value m n .marks)
-stay-decide m₀ value m n h k d v = by (ℕ-discrete k n) ∙ h k d v
-  where
-    by : Dec (k ≡ n) → bit (mask v (decide value m n .marks)) k ≡ bit (mask v m) k
-    by (yes e) = ap (λ (x : Marks). bit (mask v x) k) (decide-nothing value m n (subst (λ (i : ℕ). isDecided m i ≡ true) e (stay-decided m₀ m h k d)))
-    by (no e) = decide-other value m n v k e
-
-sure-decided : (m : Marks) (n : ℕ) → bit (m .sure) n ≡ true → isDecided m n ≡ true
-sure-decided m n h = ap (λ (b : Bool). b || bit (m .never) n) h
-
-never-decided : (m : Marks) (n : ℕ) → bit (m .never) n ≡ true → isDecided m n ≡ true
-never-decided m n h = by (bit (m .sure) n)
-  where
-    by : (b : Bool) → (b || bit (m .never) n) ≡ true
-    by true = refl
-    by false = h
-
 -- among nodes that were decided, both masks have the same
 pub among-stay : (m m′ : Marks) → Stay m m′ → (drained : ℕ → Bool) → ((n : ℕ) → drained n ≡ true → isDecided m n ≡ true) → (value : Bool) (n : ℕ)
     → among drained (mask value m) n ≡ among drained (mask value m′) n
@@ -153,10 +110,6 @@ stay-le m m′ l u h = record {
   lower = λ r. ≤ℤ-refl (l r);
   upper = λ r. up-refl (u r);
 }
-
-pub not-decided : (m : Marks) (n : ℕ) → isDecided m n ≡ false → (value : Bool) → bit (mask value m) n ≡ false
-not-decided m n e true = never-true (bit (m .sure) n) (λ x. clash (isDecided m n) (sure-decided m n x) e)
-not-decided m n e false = never-true (bit (m .never) n) (λ x. clash (isDecided m n) (never-decided m n x) e)
 
 -- the masks stay apart
 pub apart-decide : (value : Bool) (m : Marks) (n : ℕ) → Apart m → Apart (decide value m n .marks)
@@ -229,12 +182,12 @@ module _ (rows : List Row) (s : Table) (drained : ℕ → ℕ → Bool) (v : Liv
   }
 
   -- ONE ROW'S STATE AND THE MARKS PUT ANEW, known and possible as they were: what follows and lies above stands.
-  pub put-stands : (r : ℕ) (st : State) (m : Marks) (d q : Rows) → IsRow rows r → let w = live (set (v .states) r st) m d q in
+  pub put-stands : (r : ℕ) (st : State) (m : Marks) (d q : Rows) → IsRow rows r → let w = withResiduals (withDirtyRows (withMarks (withState v r st) m) d) q in
       st .known ≡ stateAt v r .known → st .possible ≡ stateAt v r .possible → Stay (v .marks) m → Apart m
       → Le (tableAt v) (tableAt w) → Follows rows s (tableAt w) → Stands rows s drained w
   put-stands r st m d q i a b stay apart up f = record {
     sized = subst (λ (n : ℕ). length rows ≤ n) (sym (length-set (v .states) r st)) (h .sized);
-    above = le-then s (tableAt v) (tableAt (live (set (v .states) r st) m d q)) (h .above) up;
+    above = le-then s (tableAt v) (tableAt (withResiduals (withDirtyRows (withMarks (withState v r st) m) d) q)) (h .above) up;
     follows = f;
     apart = apart;
     decided = λ k n e. stay-decided (v .marks) m stay n (h .decided k n e);

@@ -21,12 +21,12 @@ use Rattle.state.specs.Step.{contradicts}
 use Rattle.state.specs.State.{noState, firstState}
 use Rattle.words.specs.Mask.{bit}
 use Rattle.queues.specs.Queue.{Rows, oldest, popped, nextRow}
-use Rattle.queues.specs.Marks.{Marks, marks, isDecided, Decided, decide}
-use Rattle.queues.specs.MarksLaws.{mask, decide-has, decide-there, decide-new}
+use Rattle.queues.specs.Marks.{Marks, marks, isDecided, Decided, decide, mask}
+use Rattle.queues.specs.MarksLaws.{decide-has, decide-there, decide-new}
 use Rattle.queues.specs.Waiting.{Waits, Queued}
 use Rattle.row.specs.Terms.{total}
 use Rattle.rows.specs.Rows.{Row, noRow, Guard, stateOfRow}
-use Rattle.row_moves.specs.Between.{Index, Live, live, stateAt, did}
+use Rattle.row_moves.specs.Between.{Index, Live, stateAt, did, withDirtyRows, withMarks, withResiduals}
 use Rattle.theorem_table.specs.Table.{Table, start, IsRow, termsOf, known, possible}
 use Rattle.theorem_table.specs.OrderLaws.{UpLe, up-refl}
 use Rattle.theorem_table.specs.TableLaws.{Le, le-then, Follows, follows-more}
@@ -34,7 +34,8 @@ use Rattle.theorem_follows.specs.DecideLaws.{tableOf, Broken, decideAs, 
 use Rattle.theorem_follows.specs.RowLaws.{decide-grows}
 use Rattle.theorem_follows.specs.CompleteLaws.{Wide, wide-decide}
 use Rattle.theorem_follows.specs.RowCompleteLaws.{Passed}
-use Rattle.theorem_follows.specs.StandsLaws.{tableAt, among, also, also-this, also-before, also-which, Apart, Stands, known-same, possible-same, among-stay, Stay, stay-same, stay-decide, stay-decided, stay-le, apart-decide}
+use Rattle.theorem_follows.specs.StandsLaws.{tableAt, among, also, also-this, also-before, also-which, Apart, Stands, known-same, possible-same, among-stay, stay-le, apart-decide}
+use Rattle.queues.specs.StayLaws.{Stay, stay-same, stay-decide, stay-decided}
 use Rattle.theorem_follows.specs.DoneLaws.{Done, Grows, passed-up, complete-up}
 use Rattle.theorem_follows.specs.ToldLaws.{Told}
 use Rattle.theorem_follows.specs.HandedLaws.{Handed, taken-handed}
@@ -44,7 +45,7 @@ use Rattle.theorem_follows.specs.SettledLaws.{Ledger, Sound, Leads}
 -- MORE NODES DECIDED, all else as it was
 module _ (x : Index) (v : Live) (m : Marks) (d q : Rows) (stay : Stay (v .marks) m) (wide : Wide m) where
   abbrev now : Live
-  now = live (v .states) m d q
+  now = withResiduals (withDirtyRows (withMarks v m) d) q
 
   grows : Grows (v .marks) m
   grows true n e = stay-le (v .marks) m (λ r. pos 0) (λ r. Open) stay .sure n e
@@ -80,7 +81,7 @@ module _ (x : Index) (v : Live) (m : Marks) (d q : Rows) (stay : Stay (v .marks)
     never = λ r g i e k. h .never r g i e (sym (stay (g .node) (h .decided (g .node) e) false) ∙ k);
   }
 
-  marked-handed : (but : ℕ → Bool) → Handed x but (live (v .states) (v .marks) d q) → Handed x but now
+  marked-handed : (but : ℕ → Bool) → Handed x but (withResiduals (withDirtyRows v d) q) → Handed x but now
   marked-handed but h = record { sized = h .sized; flags = h .flags; handed = h .handed }
 
 pub wide-of : (m : Marks) → Waits m → Wide m
@@ -90,7 +91,7 @@ module _ (x : Index) (s : Table) (l : Ledger) (v : Live) (h : Sound x s l v) whe
   -- THE OLDEST NODE IS TAKEN
   pub node-taken : 0 < v .marks .nodes .ring .count
       → Sound x s (record { drained = l .drained; told = l .told; taken = also (oldest (v .marks .nodes)) (l .taken); ran = l .ran; handing = l .handing })
-      (live (v .states) (marks (v .marks .sure) (v .marks .never) (popped maxNodes (v .marks .nodes))) (v .dirty) (v .residuals))
+      (withMarks v (marks (v .marks .sure) (v .marks .never) (popped maxNodes (v .marks .nodes))))
   node-taken some = record {
     stands = marked-stands x v m (v .dirty) (v .residuals) same wide s s (l .drained) (h .stands .apart)
         (record { sure = h .stands .above .sure; never = h .stands .above .never; lower = h .stands .above .lower; upper = h .stands .above .upper })
@@ -121,7 +122,7 @@ module _ (x : Index) (s : Table) (l : Ledger) (v : Live) (h : Sound x s l v) whe
   -- THE OLDEST ROW IS TAKEN, to hand on its bounds
   pub row-taken : l .handing ≡ (λ (r : ℕ). false)
       → Sound x s (record { drained = l .drained; told = l .told; taken = l .taken; ran = l .ran; handing = λ (r : ℕ). eqb r (oldest (v .dirty .queue)) })
-      (live (v .states) (v .marks) (nextRow (v .dirty)) (v .residuals))
+      (withDirtyRows v (nextRow (v .dirty)))
   row-taken none = record {
     stands = marked-stands x v (v .marks) (nextRow (v .dirty)) (v .residuals) (stay-same (v .marks)) wide s s (l .drained) (h .stands .apart)
         (record { sure = h .stands .above .sure; never = h .stands .above .never; lower = h .stands .above .lower; upper = h .stands .above .upper })
@@ -162,7 +163,7 @@ module _ (x : Index) (s : Table) (l : Ledger) (v : Live) (h : Sound x s l v) whe
     stays : Stay (v .marks) (decide value (v .marks) n .marks)
     stays = stay-decide (v .marks) value (v .marks) n (stay-same (v .marks))
 
-    pub mark-leads : Leads x (decideAs value s n) l (did (live (v .states) (decide value (v .marks) n .marks) (v .dirty) (v .residuals)) (decide value (v .marks) n .step))
+    pub mark-leads : Leads x (decideAs value s n) l (did (withMarks v (decide value (v .marks) n .marks)) (decide value (v .marks) n .step))
     mark-leads = (
       λ c. record {
         stands = marked-stands x v (decide value (v .marks) n .marks) (v .dirty) (v .residuals) stays wide s (decideAs value s n) (l .drained) (apart-decide value (v .marks) n (h .stands .apart))

@@ -26,12 +26,14 @@ use Rattle.tightening.specs.declared.Tightened.{Tightened}
 use Rattle.tightening.specs.Told.{guardState}
 use Rattle.tightening.specs.ToldLaws.{guard-cases}
 use Rattle.row_moves.specs.Between.{Index, Live, stateAt, Did, did, thresholdGuard}
-use Rattle.row_moves.specs.WalkLaws.{guardTold, guardRun, guard-ends}
+use Rattle.row_moves.specs.WalkLaws.{guard-ends}
+use Rattle.row_moves.specs.Handing.{guardTold, guardRun}
 use Rattle.theorem_table.specs.Table.{Table, Guards}
 use Rattle.theorem_table.specs.OrderLaws.{le, ≤ℤ-trans, UpLe, up-refl, up-trans}
 use Rattle.theorem_table.specs.TableLaws.{Le}
 use Rattle.theorem_table.specs.LayoutLaws.{row-made}
-use Rattle.theorem_follows.specs.StandsLaws.{tableAt, also, also-which, Apart, Stands, Stay, stay-decided, restart}
+use Rattle.theorem_follows.specs.StandsLaws.{tableAt, also, also-which, Apart, Stands, restart}
+use Rattle.queues.specs.StayLaws.{Stay, stay-decided}
 use Rattle.theorem_follows.specs.BoundsLaws.{SameBounds, put-here}
 use Rattle.theorem_follows.specs.MovesLaws.{guard-stands}
 

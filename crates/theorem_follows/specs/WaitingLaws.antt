@@ -14,9 +14,10 @@ use Rattle.queues.specs.Queue.{isEmpty, oldest, push, popped}
 use Rattle.queues.specs.QueueLaws.{push-times, popped-times, empty-none}
 use Rattle.queues.specs.OnceLaws.{times-none, times-same, times-other}
 use Rattle.queues.specs.Waiting.{times, waitingList, waits, Queued}
-use Rattle.queues.specs.Marks.{Marks, marks, isDecided, Decided, decide}
-use Rattle.queues.specs.MarksLaws.{mask, put, decide-new, decide-other, waits-room, waits-decide, waits-popped}
-use Rattle.theorem_follows.specs.StandsLaws.{also, also-other, also-this, decide-nothing, not-decided}
+use Rattle.queues.specs.Marks.{Marks, marks, isDecided, Decided, decide, mask}
+use Rattle.queues.specs.MarksLaws.{put, decide-new, decide-other, waits-room, waits-decide, waits-popped}
+use Rattle.theorem_follows.specs.StandsLaws.{also, also-other, also-this}
+use Rattle.queues.specs.StayLaws.{decide-nothing, not-decided}
 
 module _ (drained : ℕ → Bool) where
   -- ONE MORE NODE DECIDED: a new one waits

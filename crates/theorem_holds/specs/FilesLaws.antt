@@ -17,12 +17,13 @@ use Rattle.drain.specs.Drain.{indexOf}
 use Rattle.drain.specs.Sift as Sift
 use Rattle.records.specs.declared.Record.{Record}
 use Rattle.records.specs.declared.Record.the-variants.{Seal}
-use Rattle.records.specs.Facts.{Action, begins, changes, closes, decides, settles, sifts, idles, action, facts}
+use Rattle.records.specs.Facts.{Action, decides, settles, sifts, action, facts}
 use Rattle.files.specs.File.{File, begun, refusal, sealedFile, markedFile, settledFile, siftedFile, act, apply, after, Passed}
 use Rattle.job.specs.JobBuffers.{builtOf}
 use Rattle.theorem_limits.specs.BuiltLaws.{fits-of}
 use Rattle.theorem_limits.specs.Good.{Fits, Light, Good}
-use Rattle.theorem_limits.specs.FilesLaws.{good-begun, both, Taken, taken, building-turn, change-turn, good-apply, good-after}
+use Rattle.theorem_limits.specs.FilesLaws.{good-begun, both, Taken, taken, building-turn, good-apply, good-after}
+use Rattle.theorem_limits.specs.ActionLaws.{act-shapes, act-sealed, started-if}
 use Rattle.theorem_keeps.specs.Serves.{Serves, Going, Fresh}
 use Rattle.theorem_keeps.specs.SettlingLaws.{going-settle}
 use Rattle.theorem_keeps.specs.BeginsLaws.{going-seal, going-mark}
@@ -54,12 +55,9 @@ module _ (j : Job) (fits : Fits j) (light : Light rawLimit j) (w : Built) (p : L
     there : (n : ℕ) → n < f .draft .nodes → n < length (b .nodes)
     there n h = omega (arith, served-built j fits light w p .many, ap (λ (i : Job). i .nodes) (sym (s .good .same (s .sealed)) ∙ s .closed))
 
-    kept : (a : Action) → Taken f (facts a) → Good (act f a) → Serving j w (act f a)
-    unfolding act markedFile settledFile siftedFile
-    kept (begins n) t g = absurd (both (s .sealed) (s .good .unstarted (t .turn)))
-    kept (changes c) t g = absurd (both (s .sealed) (change-turn f c t .1))
-    kept closes t g = absurd (both (s .sealed) (building-turn f (t .turn) .1))
-    kept (decides n v) t g =
+    marked : (n v : ℕ) → Taken f (facts (decides n v)) → Good (act f (decides n v)) → Serving j w (act f (decides n v))
+    unfolding act markedFile
+    marked n v t g =
         let h = leb-false (f .draft .nodes) n (t .nodes) in
         record {
           good = g;
@@ -67,21 +65,29 @@ module _ (j : Job) (fits : Fits j) (light : Light rawLimit j) (w : Built) (p : L
           closed = s .closed;
           going = going-mark b (f .live) (eqb v 1) n (omega (arith, s .good .draft .nodes)) (there n h) (s .going);
         }
-    kept settles t g = record {
+
+    settled : Good (act f settles) → Serving j w (act f settles)
+    unfolding act settledFile
+    settled g = record {
       good = g;
       sealed = refl;
       closed = s .closed;
       going = subst (λ (i : Job). Going (b .held) (b .nodes) (Drain.settle (indexOf i) (f .live) .live)) (sym (s .closed))
           (going-settle (indexOf j) (boundsOf j) b serves (f .live) (s .going));
     }
-    kept sifts t g = record {
+
+    sifted : Good (act f sifts) → Serving j w (act f sifts)
+    unfolding act siftedFile
+    sifted g = record {
       good = g;
       sealed = refl;
       closed = s .closed;
       going = subst (λ (i : Job). Going (b .held) (b .nodes) (Sift.sift (indexOf i) (f .live) (f .gcds) .live)) (sym (s .closed))
           (going-sift (indexOf j) (boundsOf j) b serves (f .live) (f .gcds) (s .going));
     }
-    kept (idles x) t g = s
+
+    kept : (a : Action) → Taken f (facts a) → Good (act f a) → Serving j w (act f a)
+    kept = act-sealed f (λ (a : Action) (h : File). Good h → Serving j w h) (λ x g. s) (started-if f (s .good) (s .sealed)) (s .sealed) marked (λ t. settled) (λ t. sifted)
 
     pub serving-apply : (r : Record) → refusal f r ≡ 0 → Serving j w (apply f r)
     unfolding apply
@@ -98,14 +104,8 @@ abbrev Unsealed : File → Type 0
 Unsealed f = f .sealed ≡ false → (b : Built) → Fresh b (f .live)
 
 unsealed-act : (f : File) → Unsealed f → (a : Action) → Unsealed (act f a)
-unfolding act sealedFile markedFile settledFile siftedFile
-unsealed-act f u (begins n) e = u e
-unsealed-act f u (changes c) e = u e
-unsealed-act f u closes e = absurd (both refl e)
-unsealed-act f u (decides n v) e = absurd (both refl e)
-unsealed-act f u settles e = absurd (both refl e)
-unsealed-act f u sifts e = absurd (both refl e)
-unsealed-act f u (idles x) e = u e
+unfolding sealedFile
+unsealed-act f u = act-shapes f Unsealed (λ d. u) (λ e. absurd (both refl e)) (λ k v g as′ e. absurd (both refl e)) u
 
 unsealed-after : (f : File) (rs : List Record) → Unsealed f → Unsealed (after f rs)
 unfolding after apply

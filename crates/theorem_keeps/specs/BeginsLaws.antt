@@ -16,13 +16,13 @@ use Rattle.queues.specs.Queue.{Rows}
 use Rattle.queues.specs.Marks.{Marks, Decided, decided, decide}
 use Rattle.queues.specs.MarksLaws.{waits-decide}
 use Rattle.queues.specs.Waiting.{Waits, Flags}
-use Rattle.row_moves.specs.Between.{Index, Live, live, Did, did, firstStates, seedFrom}
+use Rattle.row_moves.specs.Between.{Index, Live, Did, did, firstStates, seedFrom, withStates, withMarks}
 use Rattle.row_moves.specs.Held.{startBy, endBy, EdgesShaped, Shaped, Holds}
 use Rattle.row_moves.specs.Ready.{Ready, Runnable, Totals}
 use Rattle.row_moves.specs.ReadyLaws.{ready-states}
 use Rattle.row_moves.specs.FirstLaws.{ready-first}
 use Rattle.row_moves.specs.KeptLaws.{kept-run}
-use Rattle.drain.specs.Drain.{withMarks, mark, seal}
+use Rattle.drain.specs.Drain.{mark, seal}
 use Rattle.drain.specs.DrainLaws.{seal-keeps}
 use Rattle.theorem_ends.specs.SealsLaws.{seal-stays}
 use Rattle.theorem_follows.specs.WaitingLaws.{queued-decide}
@@ -65,9 +65,9 @@ seal-ready x h z y t ss ss′ l e m w q f =
     (ready-first x h z y figureLimit (totals-more totalLimit figureLimit (h .row-conditions) (h .row-weights) (h .rows) (omega arith) t) ss l m w q f)
 
 pub seal-is : (x : Index) (v : Live) (ss : List State) → ss ≡ firstStates 0 (x .rows) (v .states) → (o : Did)
-    → o ≡ seedFrom x 0 (x .rows) (live ss (v .marks) (v .dirty) (v .residuals)) Unchanged → o ≡ seal x v
+    → o ≡ seedFrom x 0 (x .rows) (withStates v ss) Unchanged → o ≡ seal x v
 unfolding seal
-seal-is x v ss e o made = made ∙ ap (λ (s : List State). seedFrom x 0 (x .rows) (live s (v .marks) (v .dirty) (v .residuals)) Unchanged) e
+seal-is x v ss e o made = made ∙ ap (λ (s : List State). seedFrom x 0 (x .rows) (withStates v s) Unchanged) e
 
 -- All edges together are no more than there are.
 at-most : (b : Bool) (n : ℕ) → _≤_ (cond b 0 n) n

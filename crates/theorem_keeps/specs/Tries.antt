@@ -15,10 +15,10 @@ use Rattle.queues.specs.Marks.{isDecided}
 use Rattle.intervals.specs.Residual.{thresholdResidual}
 use Rattle.searches.specs.Shape.{Zeros}
 use Rattle.searches.specs.Search.{search, searchStep, searchVisits}
-use Rattle.row_moves.specs.Between.{Index, Live}
+use Rattle.row_moves.specs.Between.{Index, Live, withMarks}
 use Rattle.row_moves.specs.Held.{startBy, endBy, Shaped}
 use Rattle.row_moves.specs.Ready.{ReadyLive}
-use Rattle.drain.specs.Drain.{withMarks, settle}
+use Rattle.drain.specs.Drain.{settle}
 use Rattle.drain.specs.Sift.{Sifted, sifted, tryRow}
 use Rattle.theorem_keeps.specs.Serves.{Among}
 

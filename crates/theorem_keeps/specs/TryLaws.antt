@@ -25,12 +25,12 @@ use Rattle.rows.specs.ListsLaws.{stretch-length}
 use Rattle.intervals.specs.Residual.{Residual, thresholdResidual}
 use Rattle.searches.specs.declared.Search.{Search}
 use Rattle.searches.specs.Search.{search, searchStep, searchVisits}
-use Rattle.row_moves.specs.Between.{Index, Live, live, stateAt}
+use Rattle.row_moves.specs.Between.{Index, Live, stateAt, withDirtyRows, withResiduals, withMarks}
 use Rattle.row_moves.specs.Held.{startBy, endBy, heldTerms}
 use Rattle.row_moves.specs.KeepsLaws.{Small, member-all}
-use Rattle.drain.specs.Drain.{withMarks}
 use Rattle.drain.specs.Sift.{Sifted, sifted, tryRow}
-use Rattle.drain.specs.SiftLaws.{tryTerms, tryResidual, tryLive, try-row, try-leaves}
+use Rattle.drain.specs.SiftLaws.{try-row, try-leaves}
+use Rattle.drain.specs.Steps.{tryTerms, tryResidual, tryLive}
 use Rattle.theorem_ends.specs.KeepsLaws.{residual-named}
 use Rattle.theorem_ends.specs.SettlesLaws.{fall-try}
 use Rattle.theorem_follows.specs.WaitingLaws.{queued-decide}
@@ -107,16 +107,16 @@ module _ (h : HeldRows) (v : Live) (gcds words : List ℕ) (t : Tries h v gcds w
     -- What was tried is the row of the index that waited longest; the queues of rows are given as the code has them.
     pub try-is : (s : State) → s ≡ stateAt v r → (rows : Rows) → rows ≡ v .dirty → (residuals : Rows) → residuals ≡ nextRow (v .residuals) → (x : Index) (visits : ℕ)
         → getD (x .rows) r noRow .terms ≡ heldTerms h r → (o : Sifted)
-        → o ≡ tried (terms (stretch a b (h .row-conditions)) (stretch a b (h .row-weights))) s (live (v .states) (v .marks) rows residuals) gcds visits → o ≡ tryRow x v gcds visits
+        → o ≡ tried (terms (stretch a b (h .row-conditions)) (stretch a b (h .row-weights))) s (withResiduals (withDirtyRows v rows) residuals) gcds visits → o ≡ tryRow x v gcds visits
     try-is s f rows k residuals g x visits z o made =
         made
-        ∙ ap (λ (j : ℕ). tried (terms (stretch j b (h .row-conditions)) (stretch j b (h .row-weights))) s (live (v .states) (v .marks) rows residuals) gcds visits) p
-        ∙ ap (λ (j : ℕ). tried (terms (stretch (startBy 0 (h .rows) r) j (h .row-conditions)) (stretch (startBy 0 (h .rows) r) j (h .row-weights))) s (live (v .states) (v .marks) rows residuals) gcds visits) i
-        ∙ ap (λ (ts : List Term). tried ts s (live (v .states) (v .marks) rows residuals) gcds visits) (sym z)
-        ∙ ap (λ (u : State). tried (getD (x .rows) r noRow .terms) u (live (v .states) (v .marks) rows residuals) gcds visits) f
-        ∙ ap (λ (q : Rows). tried (getD (x .rows) r noRow .terms) (stateAt v r) (live (v .states) (v .marks) q residuals) gcds visits) k
-        ∙ ap (λ (q : Rows). tried (getD (x .rows) r noRow .terms) (stateAt v r) (live (v .states) (v .marks) (v .dirty) q) gcds visits) g
-        ∙ ap (λ (j : ℕ). tried (getD (x .rows) j noRow .terms) (stateAt v j) (live (v .states) (v .marks) (v .dirty) (nextRow (v .residuals))) gcds visits) e ∙ sym (try-row x v gcds visits)
+        ∙ ap (λ (j : ℕ). tried (terms (stretch j b (h .row-conditions)) (stretch j b (h .row-weights))) s (withResiduals (withDirtyRows v rows) residuals) gcds visits) p
+        ∙ ap (λ (j : ℕ). tried (terms (stretch (startBy 0 (h .rows) r) j (h .row-conditions)) (stretch (startBy 0 (h .rows) r) j (h .row-weights))) s (withResiduals (withDirtyRows v rows) residuals) gcds visits) i
+        ∙ ap (λ (ts : List Term). tried ts s (withResiduals (withDirtyRows v rows) residuals) gcds visits) (sym z)
+        ∙ ap (λ (u : State). tried (getD (x .rows) r noRow .terms) u (withResiduals (withDirtyRows v rows) residuals) gcds visits) f
+        ∙ ap (λ (q : Rows). tried (getD (x .rows) r noRow .terms) (stateAt v r) (withResiduals (withDirtyRows v q) residuals) gcds visits) k
+        ∙ ap (λ (q : Rows). tried (getD (x .rows) r noRow .terms) (stateAt v r) (withResiduals v q) gcds visits) g
+        ∙ ap (λ (j : ℕ). tried (getD (x .rows) j noRow .terms) (stateAt v j) (withResiduals v (nextRow (v .residuals))) gcds visits) e ∙ sym (try-row x v gcds visits)
 
 -- ---- what can be drained stays such
 

@@ -1,14 +1,12 @@
 -- One turn: what a taken node and a taken row come to, and that all stays such that the next can be taken. Assumes nothing.
-use Prim.Native.Nat.{ℕ, zero, suc, _+_, _-_, _*_, _/_, _%_, _<_, _≤_}
+use Prim.Native.Nat.{ℕ, zero, suc, _+_, _-_, _*_, _<_, _≤_}
 use native.Mathlib.Nat.{not-suc-le-zero}
 use native.Mathlib.Decide.{ℕ-discrete, decLt}
 use native.Mathlib.Omega.{arith}
 use mathlib.Core.Path.{_≡_, refl, sym, ap, subst, _∙_}
 use mathlib.Core.Bool.{Bool, true, false, cond, _||_}
 use mathlib.Core.List.{List}
-use lib.Dec.{eqb}
-use lib.ListN.{length, getD, List·getD-eq-default}
-use lib.Pow.{pow-pos}
+use lib.ListN.{length, getD}
 use lib.IntN.{ℤ}
 use Rattle.base.specs.TestLaws.{clash}
 use Rattle.memory.specs.Limits.{maxNodes}
@@ -18,8 +16,8 @@ use Rattle.base.specs.Columns.{column}
 use Rattle.base.specs.ColumnsLaws.{length-column}
 use Rattle.state.specs.declared.Step.{Step}
 use Rattle.state.specs.Step.{joined, contradicts}
-use Rattle.words.specs.Mask.{bit, digit}
-use Rattle.words.specs.DigitsLaws.{digit-high}
+use Rattle.words.specs.Mask.{bit}
+use Rattle.words.specs.MaskLaws.{bit-behind}
 use Rattle.queues.specs.declared.Ring.{Ring}
 use Rattle.queues.specs.Queue.{Rows, queue, isEmpty, oldest, poppedRing, popped, nextRow}
 use Rattle.queues.specs.Slot.{rowsIn}
@@ -27,7 +25,7 @@ use Rattle.queues.specs.RowsLaws.{flags-next, oldest-row}
 use Rattle.queues.specs.Marks.{Marks, marks, isDecided}
 use Rattle.queues.specs.MarksLaws.{waits-popped}
 use Rattle.queues.specs.Waiting.{Waits, Flags}
-use Rattle.row_moves.specs.Between.{Index, Live, live, Did, did, guardOf, thresholdCondition, thresholdPrefixes}
+use Rattle.row_moves.specs.Between.{Index, Live, Did, did, guardOf, thresholdCondition, thresholdPrefixes, withDirtyRows, withMarks, withResiduals}
 use Rattle.row_moves.specs.Handing.{after}
 use Rattle.row_moves.specs.Held.{startBy, endBy}
 use Rattle.row_moves.specs.WalkLaws.{Moves}
@@ -35,7 +33,8 @@ use Rattle.row_moves.specs.Ready.{Ready, Runnable}
 use Rattle.row_moves.specs.KeptLaws.{runnable-more, runnable-by}
 use Rattle.row_moves.specs.KeptHeldLaws.{edges-light, edges-many, kept-node, kept-links, kept-guard-of}
 use Rattle.drain.specs.Drain.{takeNode, takeRow, turn, atRest}
-use Rattle.drain.specs.DrainLaws.{untaken, unrowed, nodeTold, nodeDrained, node-ends, row-ends, turn-ends}
+use Rattle.drain.specs.DrainLaws.{node-ends, row-ends, turn-ends}
+use Rattle.drain.specs.Steps.{untaken, unrowed, nodeTold, nodeDrained}
 use Rattle.theorem_ends.specs.SettlesLaws.{fall-turn}
 use Rattle.theorem_follows.specs.StandsLaws.{also, also-other, also-this}
 use Rattle.theorem_follows.specs.WaitingLaws.{first-decided, first-fresh, queued-taken}
@@ -76,9 +75,6 @@ owed-also nodes taken at e (suc n) h = by (λ l. owed-also nodes taken at e n l)
 
 -- ---- a node is taken
 
-behind : (l : List ℕ) (n : ℕ) → length l ≤ n / 64 → bit l n ≡ false
-behind l n h = ap (λ (w : ℕ). eqb (digit w (n % 64)) 1) (List·getD-eq-default l 0 h) ∙ ap (λ (d : ℕ). eqb d 1) (digit-high 0 (n % 64) (pow-pos (n % 64)))
-
 -- No other node has a place in the masks.
 decided-small : (m : Marks) → Waits m → (n : ℕ) → isDecided m n ≡ true → n < maxNodes
 decided-small m w n d = by (decLt n maxNodes)
@@ -87,7 +83,7 @@ decided-small m w n d = by (decLt n maxNodes)
     by (yes k) = k
     by (no k) =
         let l : maxNodes ≤ n = omega arith in
-        absurd (clash (isDecided m n) d (ap (λ (b : Bool). b || bit (m .never) n) (behind (m .sure) n (omega (arith, w .sures))) ∙ behind (m .never) n (omega (arith, w .nevers))))
+        absurd (clash (isDecided m n) d (ap (λ (b : Bool). b || bit (m .never) n) (bit-behind (m .sure) n (omega (arith, w .sures))) ∙ bit-behind (m .never) n (omega (arith, w .nevers))))
 
 -- One of so many nodes is taken, and rows can be run.
 pub record NodeTaken (h : HeldRows) (count n : ℕ) (v : Live) : Type 0 where
@@ -171,11 +167,11 @@ module _ (x : Index) (bounds : List ℤ) (b : Built) (s : Serves x bounds b) (v 
   -- The node and the ring as the code has them.
   module _ (i : ℕ) (e : i ≡ n) (next : Ring) (f : next ≡ poppedRing maxNodes (v .marks .nodes .ring)) where
     abbrev pub rest : Live
-    rest = live (v .states) (marks (v .marks .sure) (v .marks .never) (queue (v .marks .nodes .items) next)) (v .dirty) (v .residuals)
+    rest = withMarks v (marks (v .marks .sure) (v .marks .never) (queue (v .marks .nodes .items) next))
 
     rest-is : rest ≡ untaken v
     unfolding popped
-    rest-is = ap (λ (r : Ring). live (v .states) (marks (v .marks .sure) (v .marks .never) (queue (v .marks .nodes .items) r)) (v .dirty) (v .residuals)) f
+    rest-is = ap (λ (r : Ring). withMarks v (marks (v .marks .sure) (v .marks .never) (queue (v .marks .nodes .items) r))) f
 
     pub node-taken : NodeTaken (b .held) (length (b .nodes)) i rest
     node-taken = record {
@@ -247,15 +243,15 @@ pub row-there : (n : ℕ) (q : Rows) → Flags q → 0 < q .queue .ring .count �
 row-there n q f some a i e = omega (arith, oldest-among n q f some a)
 
 module _ (v : Live) (some : 0 < v .dirty .queue .ring .count) (rows residuals : Rows) (e : rows ≡ nextRow (v .dirty)) (f : residuals ≡ v .residuals) where
-  pub row-run : (h : HeldRows) (n : ℕ) → Runnable h n v → Runnable h n (live (v .states) (v .marks) rows residuals)
+  pub row-run : (h : HeldRows) (n : ℕ) → Runnable h n v → Runnable h n (withResiduals (withDirtyRows v rows) residuals)
   row-run h n a = record { ready = subst (Ready h n (v .states) (v .marks)) (sym f) (a .ready); dirty = subst Flags (sym e) (flags-next (v .dirty) (a .dirty) some) }
 
-  pub row-is : (x : Index) (i : ℕ) → i ≡ oldest (v .dirty .queue) → (o : Did) → o ≡ thresholdPrefixes x (live (v .states) (v .marks) rows residuals) i → o ≡ takeRow x v
+  pub row-is : (x : Index) (i : ℕ) → i ≡ oldest (v .dirty .queue) → (o : Did) → o ≡ thresholdPrefixes x (withResiduals (withDirtyRows v rows) residuals) i → o ≡ takeRow x v
   row-is x i g o made =
       row-ends x v (λ (d : Did). o ≡ d)
       (made
-      ∙ ap (λ (q : Rows). thresholdPrefixes x (live (v .states) (v .marks) q residuals) i) e
-      ∙ ap (λ (q : Rows). thresholdPrefixes x (live (v .states) (v .marks) (nextRow (v .dirty)) q) i) f
+      ∙ ap (λ (q : Rows). thresholdPrefixes x (withResiduals (withDirtyRows v q) residuals) i) e
+      ∙ ap (λ (q : Rows). thresholdPrefixes x (withResiduals (withDirtyRows v (nextRow (v .dirty))) q) i) f
       ∙ ap (thresholdPrefixes x (unrowed v)) g)
 
 -- ---- a turn

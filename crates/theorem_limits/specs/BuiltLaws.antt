@@ -11,13 +11,14 @@ use lib.Dec.{eqb}
 use Rattle.base.specs.All.{All}
 use Rattle.base.specs.AllLaws.{all-each}
 use Rattle.memory.specs.Limits.{maxNodes, maxTerms, maxThresholds, listTerms}
+use Rattle.base.specs.InsertionLaws.{insert-all}
 use Rattle.numeric.specs.Threshold.{Term, ThresholdOf, Threshold, Job}
 use Rattle.numeric.specs.Area.{Entry, conditionOf, joined, rounded, weighedThreshold, Draft, jobOf}
 use Rattle.numeric.specs.AreaLaws.{joined-long, weighed-conditions}
 use Rattle.row.specs.Terms.{rowTerms, merged, sameTerms}
 use Rattle.row.specs.TermsLaws.{all-map, conditions-merged, all-sorted}
 use Rattle.rows.specs.Guards.{Bound}
-use Rattle.rows.specs.Rows.{Row, rowOf, noRow, Guard, guard, below, insertGuard, place, placeAll, rowsOf, rowNumber, Edge, edge, edgesIn, edgesFrom}
+use Rattle.rows.specs.Rows.{Row, rowOf, noRow, guard, below, insertGuard, place, placeAll, rowsOf, rowNumber, Edge, edge, edgesIn, edgesFrom}
 use Rattle.rows.specs.ListsLaws.{same-refl}
 use Rattle.links.specs.Links.{Link, links, neighbours}
 use Rattle.links.specs.LinksLaws.{links-range, Joined, downward, upward, neighbours-joined}
@@ -156,15 +157,6 @@ module _ (P : Row → Type 0) (Q : Threshold → Type 0) (new : (t : Threshold) 
 abbrev RowFits : Row → Type 0
 RowFits r = All Node (r .guards) × All Condition (r .terms)
 
-insert-fits : (g : Guard) (gs : List Guard) → Node g → All Node gs → All Node (insertGuard g gs)
-unfolding insertGuard
-insert-fits g [] n a = (n, tt)
-insert-fits g (h ∷ hs) n a = by (insert-fits g hs n (a .1)) (below g h)
-  where
-    by : All Node (insertGuard g hs) → (b : Bool) → All Node (elim b [ true ↦ g ∷ h ∷ hs | false ↦ h ∷ insertGuard g hs ])
-    by ih true = (n, a)
-    by ih false = (a .0, ih)
-
 terms-fit : (raw : List Term) → All Condition raw → All Condition (rowTerms raw)
 terms-fit raw h = all-sorted Condition (merged raw) (conditions-merged (λ (n : ℕ). n < maxNodes) raw h)
 
@@ -174,7 +166,7 @@ row-fits n h t f =
 
 guard-fits : (n : ℕ) → n ≤ maxNodes → (t : Threshold) (r : Row) → Fit n t → RowFits r
     → RowFits (rowOf (r .raw) (r .terms) (insertGuard (guard (t .bound) (t .node)) (r .guards)))
-guard-fits n h t r f a = (insert-fits (guard (t .bound) (t .node)) (r .guards) (omega (arith, f .node)) (a .0), a .1)
+guard-fits n h t r f a = (insert-all below Node (guard (t .bound) (t .node)) (r .guards) (omega (arith, f .node)) (a .0), a .1)
 
 -- ---- no more rows than thresholds
 

@@ -95,6 +95,13 @@ serving-turn f h = by (f .sealed) h
     by true q = refl
     by false q = absurd (both refl q)
 
+pub unserving-turn : (f : File) → wrongTurn (standing f) serving ≡ true → f .sealed ≡ false
+unserving-turn f h = by (f .sealed) h
+  where
+    by : (e : Bool) → not e ≡ true → e ≡ false
+    by true q = absurd (both q refl)
+    by false q = refl
+
 or-left : (a b : Bool) → (a || b) ≡ false → a ≡ false
 or-left true b h = h
 or-left false b h = refl

@@ -26,7 +26,8 @@ use Rattle.drain.specs.Drain as Drain
 use Rattle.drain.specs.DrainLaws.{seal-keeps, keep-turn, settle-keeps}
 use Rattle.drain.specs.Sift.{tryRow}
 use Rattle.drain.specs.Sift as Sift
-use Rattle.drain.specs.SiftLaws.{tryTerms, try-leaves, sift-keeps}
+use Rattle.drain.specs.SiftLaws.{try-leaves, sift-keeps}
+use Rattle.drain.specs.Steps.{tryTerms}
 use Rattle.records.specs.declared.Record.{Record}
 use Rattle.records.specs.Facts.{Action, begins, changes, closes, decides, settles, sifts, idles, action, facts}
 use Rattle.checks.specs.Checks.{tooMany}

@@ -11,9 +11,10 @@ use Rattle.memory.specs.Buffers.{zeros}
 use Rattle.base.specs.Laid.{joinAll, pairs, triples, quads}
 use Rattle.base.specs.Deal.{Keyed}
 use Rattle.base.specs.TallyLaws.{count-most}
+use Rattle.base.specs.InsertionLaws.{insert-length}
 use Rattle.numeric.specs.Threshold.{Term, Threshold, Job}
 use Rattle.row.specs.Terms.{rowTerms, sameTerms}
-use Rattle.rows.specs.Rows.{Row, rowOf, noRow, Guard, guard, below, insertGuard, place, placeAll, rowsOf}
+use Rattle.rows.specs.Rows.{Row, rowOf, noRow, guard, below, insertGuard, place, placeAll, rowsOf}
 use Rattle.rows.specs.Laid.{termLists, guardLists, edgeLists, edgeRow}
 use Rattle.job.specs.Incidents.{incidentsFrom}
 use Rattle.job.specs.IncidentsLaws.{grouped-joined, keys-from}
@@ -80,15 +81,6 @@ terms-few j =
       sum-terms (j .thresholds),
     )
 
-insert-long : (g : Guard) (gs : List Guard) → length (insertGuard g gs) ≡ suc (length gs)
-unfolding insertGuard
-insert-long g [] = refl
-insert-long g (h ∷ hs) = by (insert-long g hs) (below g h)
-  where
-    by : length (insertGuard g hs) ≡ suc (length hs) → (b : Bool) → length {A = Guard} (elim b [ true ↦ g ∷ h ∷ hs | false ↦ h ∷ insertGuard g hs ]) ≡ suc (suc (length hs))
-    by ih true = refl
-    by ih false = ap suc ih
-
 -- no more guards than thresholds.
 pub guards-few : (j : Job) → length (joinAll (guardLists (rowsOf j))) ≤ length (j .thresholds)
 unfolding sumOf
@@ -96,7 +88,7 @@ guards-few j =
     omega (
       arith,
       all-sum (λ (r : Row). length (r .guards)) (λ (t : Threshold). 1) (λ t. omega arith)
-          (λ t r. omega (arith, insert-long (guard (t .bound) (t .node)) (r .guards))) (j .thresholds) [],
+          (λ t r. omega (arith, insert-length below (guard (t .bound) (t .node)) (r .guards))) (j .thresholds) [],
       sum-join (λ (r : Row). r .guards) (rowsOf j),
       sum-ones (j .thresholds),
     )

@@ -6,11 +6,13 @@ use native.Mathlib.Decide.{decLt}
 use native.Mathlib.Omega.{arith}
 use mathlib.Core.Path.{_≡_, refl, sym, ap, _∙_, subst}
 use mathlib.Core.Bool.{Bool, true, false}
-use mathlib.Core.List.{List, [], _∷_, _++_, List·Memᴰ, List·Memᴰ·head, List·Memᴰ·tail, List·Memᴰ·cases-cons, List·Memᴰ·not-nil}
-use mathlib.Core.Logic.{_⊎_, inl, inr, ⊎-elim}
+use mathlib.Core.List.{List, [], _∷_, _++_, List·Memᴰ}
+use mathlib.Core.Logic.{_⊎_, inl, inr}
 use lib.ListN.{length, getD, List·getD-eq-default}
 use lib.IntN.{ℤ, _-ℤ_, pos}
 use lib.Signed.{_≤ℤ_, _<ℤ_, ≤ℤ-refl}
+use Rattle.base.specs.Insertion.{insert}
+use Rattle.base.specs.InsertionLaws.{insert-mem}
 use Rattle.numeric.specs.Threshold.{Term, Threshold}
 use Rattle.row.specs.Terms.{sameTerms}
 use Rattle.state.specs.State.{maxZ}
@@ -114,17 +116,8 @@ grown-then a b c h k = record {
   linked = λ r i l. k .linked r (is-row a b h r i) (h .linked r i l);
 }
 
-stays-in : (g h : Guard) (hs : List Guard) → List·Memᴰ g hs → List·Memᴰ g (insertGuard h hs)
-unfolding insertGuard
-stays-in g h [] m = absurd (List·Memᴰ·not-nil m)
-stays-in g h (x ∷ xs) m = by (λ k. stays-in g h xs k) (below h x)
-  where
-    by : (List·Memᴰ g xs → List·Memᴰ g (insertGuard h xs)) → (b : Bool) → List·Memᴰ g (elim b [ true ↦ h ∷ x ∷ xs | false ↦ x ∷ insertGuard h xs ])
-    by ih true = List·Memᴰ·tail m
-    by ih false = ⊎-elim (λ (e : g ≡ x). List·Memᴰ·head e) (λ (k : List·Memᴰ g xs). List·Memᴰ·tail (ih k)) (List·Memᴰ·cases-cons m)
-
 linked-in : (h : Guard) (hs : List Guard) → h .linked ≡ true → linkedBy hs ≡ true → linkedBy (insertGuard h hs) ≡ true
-unfolding insertGuard
+unfolding insert
 linked-in h [] e l = e
 linked-in h (x ∷ xs) e l = by (below h x)
   where
@@ -161,7 +154,7 @@ grown-place t (r ∷ rs) = by (grown-place t rs) (sameTerms (r .raw) (t .terms))
     terms (suc k) i = refl
 
     guards : (k : ℕ) → IsRow (r ∷ rs) k → (g : Guard) → List·Memᴰ g (getD (r ∷ rs) k noRow .guards) → List·Memᴰ g (getD (more ∷ rs) k noRow .guards)
-    guards zero i g m = stays-in g (guard (t .bound) (t .node)) (r .guards) m
+    guards zero i g m = insert-mem below g (guard (t .bound) (t .node)) (r .guards) (inr m)
     guards (suc k) i g m = m
 
     linked : (k : ℕ) → IsRow (r ∷ rs) k → Linked (getD (r ∷ rs) k noRow) → Linked (getD (more ∷ rs) k noRow)

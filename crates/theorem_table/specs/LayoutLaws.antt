@@ -14,6 +14,7 @@ use lib.Signed.{leZ, _≤ℤ_, _<ℤ_, ≤ℤ-refl, clashℤ}
 use borrow.Author.Tests.{eqb-true, le-leb, lt-ltb, not-false, not-true}
 use Rattle.base.specs.TestLaws.{and-true, unequal}
 use Rattle.base.specs.SignedLaws.{leZ-pos, ltZ-pos, max-least}
+use Rattle.base.specs.InsertionLaws.{mem-insert}
 use Rattle.numeric.specs.Threshold.{Term, Threshold, Job}
 use Rattle.numeric.specs.Layout.{Layout, IsLayout, constraint, value}
 use Rattle.numeric.specs.LayoutLaws.{sumOf, value-sum}
@@ -43,20 +44,8 @@ same-terms (t ∷ ts) (u ∷ us) h =
 abbrev AllGuards : (Guard → Type 0) → List Guard → Type 0
 AllGuards P gs = (g : Guard) → List·Memᴰ g gs → P g
 
-one-more : (P : Guard → Type 0) (g : Guard) (gs : List Guard) → P g → AllGuards P gs → AllGuards P (g ∷ gs)
-one-more P g gs h k x m = ⊎-elim (λ (e : x ≡ g). subst P (sym e) h) (λ n. k x n) (List·Memᴰ·cases-cons m)
-
 inserted : (P : Guard → Type 0) (g : Guard) (gs : List Guard) → P g → AllGuards P gs → AllGuards P (insertGuard g gs)
-unfolding insertGuard
-inserted P g [] h k = one-more P g [] h k
-inserted P g (x ∷ xs) h k = by (λ l. inserted P g xs h l) (below g x)
-  where
-    rest : AllGuards P xs
-    rest y m = k y (List·Memᴰ·tail m)
-
-    by : (AllGuards P xs → AllGuards P (insertGuard g xs)) → (b : Bool) → AllGuards P (elim b [ true ↦ g ∷ x ∷ xs | false ↦ x ∷ insertGuard g xs ])
-    by ih true = one-more P g (x ∷ xs) h k
-    by ih false = one-more P x (insertGuard g xs) (k x (List·Memᴰ·head refl)) (ih rest)
+inserted P g gs h k x m = ⊎-elim (λ (e : x ≡ g). subst P (sym e) h) (k x) (mem-insert below x g gs m)
 
 -- a row that thresholds of the list made
 pub record Made (all : List Threshold) (r : Row) : Type 0 where

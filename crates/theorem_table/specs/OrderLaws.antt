@@ -8,10 +8,12 @@ use lib.Dec.{T}
 use lib.IntN.{ℤ, pos, _+ℤ_, _-ℤ_, -ℤ-+ℤ-cancel, +ℤ-comm, pos-+ℤ-pos}
 use lib.Signed.{leZ, ltZ, _≤ℤ_, _<ℤ_, leZ-yes, ltZ-yes, ≤ℤ-refl, clashℤ}
 use borrow.Author.Tests.{le-leb}
+use Rattle.base.specs.TestLaws.{clash}
 use Rattle.base.specs.SignedLaws.{leZ-trans, leZ-antisymm, leZ-ltZ, ltZ-weaken, nle-ltZ, leZ-add, leZ-minus, pos-minus, leZ-pos, max-left, max-right, max-least}
 use Rattle.base.specs.Signed.{maxZ}
 use Rattle.state.specs.declared.Upper.{Upper}
 use Rattle.state.specs.declared.Upper.the-variants.{Open, Under}
+use Rattle.state.specs.State.{upperAtMost}
 use Rattle.theorem_table.specs.Table.{AtMost, Below}
 
 -- from a test to the order and back
@@ -120,6 +122,15 @@ pub le-or-below : (a b : Upper) → UpLe a b ⊎ Below b a
 le-or-below a Open = inl tt
 le-or-below Open (Under b) = inr tt
 le-or-below (Under a) (Under b) = ≤ℤ-or-<ℤ a b
+
+-- from the test of an upper to the order and back
+pub at-most : (x : Upper) (z : ℤ) → upperAtMost x z ≡ true → AtMost x z
+at-most Open z h = absurd (clash false h refl)
+at-most (Under a) z h = le h
+
+pub of-at-most : (x : Upper) (z : ℤ) → AtMost x z → upperAtMost x z ≡ true
+of-at-most Open z h = absurd h
+of-at-most (Under a) z h = of-le h
 
 pub at-most-up : (a b : Upper) {y z : ℤ} → UpLe a b → y ≤ℤ z → AtMost b y → AtMost a z
 at-most-up a Open h k g = absurd g

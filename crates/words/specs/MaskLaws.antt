@@ -3,16 +3,17 @@ use mathlib.Core.Path.{_≡_, refl, ap, _∙_}
 use mathlib.Core.Logic.{_≢_}
 use mathlib.Core.Bool.{Bool, true, false}
 use mathlib.Core.List.{List}
-use Prim.Native.Nat.{ℕ, _*_, _/_, _%_, _^_, _<_}
+use Prim.Native.Nat.{ℕ, _*_, _/_, _%_, _^_, _<_, _≤_}
 use native.Mathlib.Nat.{mod-lt, mod-eq-of-lt, one-mul}
 use native.Mathlib.Omega.{arith}
 use lib.Dec.{lit<, eqb}
-use lib.ListN.{length, getD, set, length-set}
+use lib.ListN.{length, getD, set, length-set, replicate, List·getD-eq-default}
 use lib.Bits.{bitOr}
-use lib.Pow.{pow-lt}
+use lib.Pow.{pow-lt, pow-pos}
 use borrow.Author.Tests.{eq-eqb}
-use Rattle.words.specs.Mask.{bit, setBit, learn, learned, Learned}
-use Rattle.words.specs.DigitsLaws.{Words, or-words, digit-small, or-same, or-none, pow-digit, pow-digit-same}
+use Rattle.base.specs.TallyLaws.{zeros-at}
+use Rattle.words.specs.Mask.{bit, digit, setBit, learn, learned, Learned}
+use Rattle.words.specs.DigitsLaws.{Words, or-words, digit-small, digit-high, or-same, or-none, pow-digit, pow-digit-same}
 use Rattle.state.specs.declared.Step.the-variants.{Unchanged, Changed, Contradiction}
 
 -- The node is in the mask after it was put in; every other node is as it was.
@@ -34,6 +35,16 @@ length-set-bit mask n = length-set mask (n / 64) (bitOr (getD mask (n / 64) 0) (
 pub set-bit-words : (mask : List ℕ) (n : ℕ) → Words mask → Words (setBit mask n)
 unfolding setBit
 set-bit-words mask n w = or-words mask (n / 64) (2 ^ (n % 64)) w (pow-lt {i = n % 64} {j = 64} (mod-lt n (lit< tt)))
+
+-- No node lies beyond the last word of a mask, and none is in words that are zero.
+bit-zero : (l : List ℕ) (n : ℕ) → getD l (n / 64) 0 ≡ 0 → bit l n ≡ false
+bit-zero l n e = ap (λ (w : ℕ). eqb (digit w (n % 64)) 1) e ∙ ap (λ (d : ℕ). eqb d 1) (digit-high 0 (n % 64) (pow-pos (n % 64)))
+
+pub bit-behind : (l : List ℕ) (n : ℕ) → length l ≤ n / 64 → bit l n ≡ false
+bit-behind l n h = bit-zero l n (List·getD-eq-default l 0 h)
+
+pub bit-none : (k n : ℕ) → bit (replicate k 0) n ≡ false
+bit-none k n = bit-zero (replicate k 0) n (zeros-at k (n / 64))
 
 -- The three answers.
 pub learn-there : (mask opposite : List ℕ) (n : ℕ) → bit mask n ≡ true → learn mask opposite n ≡ learned mask Unchanged

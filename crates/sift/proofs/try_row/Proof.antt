@@ -6,10 +6,9 @@ use Rattle.memory.specs.Buffers.{HeldRows, heldRows}
 use Rattle.queues.specs.Queue.{queue}
 use Rattle.queues.specs.Slot.{rowsIn}
 use Rattle.queues.specs.Marks.{marks}
-use Rattle.row_moves.specs.Between.{Live, live}
+use Rattle.row_moves.specs.Between.{Live, withDirtyRows, withResiduals, withMarks}
 use Rattle.row_moves.specs.Numbers.{liveOf}
 use Rattle.row_moves.specs.HeldLaws.{term-slices}
-use Rattle.drain.specs.Drain.{withMarks}
 use Rattle.drain.specs.Sift.{sifted}
 use Rattle.theorem_keeps.specs.TurnLaws.{slots-head, slots-oldest}
 use Rattle.theorem_keeps.specs.TryLaws.{try-inside, try-state, try-figures, Cut, try-cut, try-is}
@@ -105,7 +104,7 @@ returns c =
     let r = start .args .rings in
     let t = after-try-terms .try-terms in
     let l = t .last .1 .1 .1 in
-    let u = live (v .states) (v .marks) (rowsIn 0 q (r .rows)) (rowsIn 2 q (n .result)) in
+    let u = withResiduals (withDirtyRows v (rowsIn 0 q (r .rows))) (rowsIn 2 q (n .result)) in
     let m = marks (l .0) (l .1 .0) (queue (l .1 .1 .0) (t .result .ring)) in (
       λ x bs ns z.
           try-is (held start) v (start .args .gcds .now) (start .args .search .now) (start .pre .2) (o .result) (o .ensures) (a .result) (e .result) (a .ensures .0) (e .ensures .0) (after-load .load .result) (after-load .load .ensures) (u .dirty) (n .ensures .1 (r .rows)) (u .residuals)

@@ -6,7 +6,7 @@ use Rattle.numeric.specs.Slices.{terms}
 use Rattle.queues.specs.Queue.{queue}
 use Rattle.queues.specs.Marks.{Marks, marks}
 use Rattle.intervals.specs.Residual.{Residual, residual}
-use Rattle.drain.specs.Drain.{withMarks}
+use Rattle.row_moves.specs.Between.{withMarks}
 use Rattle.theorem_keeps.specs.TryLaws.{tried-search, tried-not}
 use mathlib.Core.Path.{refl}
 use borrow.Author.Needs.{needs}
