@@ -719,7 +719,11 @@ use Rattle.planner.specs.PlannerLaws.{plan-short, plan-ten, plan-many, p
     n_front = 1 + len(RAW) + len(BUILT)
     front, (ss, fig, cur), tail = p.params[:n_front], p.params[n_front:n_front + 3], p.params[n_front + 3:]
     others = front + [fig, cur] + tail
-    P, count = len(p.params), 77
+    P = len(p.params)
+    # the locals, as the compiler numbers them: what is given back, the parameters, then in the order of the text
+    S, GIVEN_, LEN, TEST, FIRST = n_front + 1, P + 1, P + 2, P + 3, P + 4
+    ASK = FIRST + 2 * (P - 2)  # a reference and a slice for each buffer that is lent again
+    UNIT, SHOW, count = ASK + 1, ASK + 2, ASK + 8
     N = lambda i: ' .1' * i
     life = lambda q: (q.κ, q.q)
     loan = lambda α: (f'({α} ∷ [])', 'fullShare')
@@ -735,7 +739,6 @@ use Rattle.planner.specs.PlannerLaws.{plan-short, plan-ten, plan-many, p
 
     w = Walk([f'L{k}' for k in range(count)] + ['dies', 'T', 'O'])
     w.passes(p.params)
-    S, LEN, TEST, GIVEN_, FIRST, ASK, UNIT, SHOW = n_front + 1, 25, 26, 24, 27, 69, 70, 71
     w.assign(LEN, f'(of-opd ! {w.field(S, 1)})', f'(tt, record {{ fits = {ss.room} .0 }})', 'vint w64 (length ss)')
     w.assign(TEST, f'(bin ! {w.look(LEN)} (big-lit ! (record {{ fits = lit< tt }})) tt)', '(tt, tt)', 'vbool (ltb (length ss) 1024)')
     no = w.copy()
