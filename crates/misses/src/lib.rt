@@ -18,6 +18,10 @@ pub fn gcd(left: u64, right: u64) -> u64
     if left == 0 {
         return right;
     }
+    // Many rows come down to 1 soon, and then there is nothing to divide.
+    if left == 1 {
+        return 1;
+    }
     // In a row most weights are multiples of what the others share.
     if right % left == 0 {
         return left;

@@ -21,13 +21,18 @@ returns-2 c =
     let g = c .before .before .args in
     sym (ap (λ (x : ℕ). gcd x (g .right)) (c .if3 .taken) ∙ gcd-none (g .right))
 
-rem-if4 : tie.Need-rem-if4 Inv-loop μ-loop
-rem-if4 c = omega arith
-
 returns-3 : tie.Need-returns-3 Inv-loop μ-loop
 returns-3 c =
     let g = c .before .before .before .args in
-    sym (gcd-multiple (g .left) (g .right) (c .if4 .taken))
+    sym (ap (λ (x : ℕ). gcd x (g .right)) (c .if4 .taken) ∙ gcd-multiple 1 (g .right) (omega arith))
+
+rem-if5 : tie.Need-rem-if5 Inv-loop μ-loop
+rem-if5 c = omega arith
+
+returns-4 : tie.Need-returns-4 Inv-loop μ-loop
+returns-4 c =
+    let g = c .before .before .before .before .args in
+    sym (gcd-multiple (g .left) (g .right) (c .if5 .taken))
 
 loop-holds : tie.Need-loop-holds Inv-loop μ-loop
 loop-holds c = refl
@@ -43,8 +48,8 @@ loop-again c =
     let w = c .before .loop in
     sym (gcd-step (w .a) (w .b) (omega arith)) ∙ w .inv
 
-returns-4 : tie.Need-returns-4 Inv-loop μ-loop
-returns-4 c =
+returns-5 : tie.Need-returns-5 Inv-loop μ-loop
+returns-5 c =
     let w = c .before .loop in
     sym (gcd-zero (w .a)) ∙ ap (gcd (w .a)) (sym (c .loop-test .left)) ∙ w .inv
 
@@ -52,4 +57,4 @@ pub gcd-spec : {M : Type 1} → statement M
 gcd-spec =
     tie.close
     (tie.spec
-    Inv-loop μ-loop (λ c κs. search needs) (λ c. search needs) returns-2 rem-if4 returns-3 loop-holds rem-remainder loop-less loop-again returns-4)
+    Inv-loop μ-loop (λ c κs. search needs) (λ c. search needs) returns-2 returns-3 rem-if5 returns-4 loop-holds rem-remainder loop-less loop-again returns-5)
