@@ -316,18 +316,19 @@ fn colliding_deep(_: &mut Random, n: usize, of: usize) -> Vec<Vec<u8>> {
 /// The same with as many terms as lists: a search compares its list with one for each of its terms.
 fn colliding_long(_: &mut Random, n: usize, of: usize) -> Vec<Vec<u8>> {
     let lists = (1..).take_while(|lists| lists * lists <= 4_096 * n / of).last().expect("one");
-    colliding_lists(lists, lists as u32 - 2, deep_end)
+    colliding_lists(lists, lists - 2, deep_end)
 }
 
 fn deep_end(row: u32) -> [(usize, u32); 2] {
     [(2, row << 20), (3, 65_599u32.wrapping_mul(row << 20).wrapping_neg())]
 }
 
-fn colliding_lists(lists: usize, alike: u32, end: fn(u32) -> [(usize, u32); 2]) -> Vec<Vec<u8>> {
+fn colliding_lists(lists: usize, alike: usize, end: fn(u32) -> [(usize, u32); 2]) -> Vec<Vec<u8>> {
     let mut file = File::header(4 + 2 * lists);
     for row in 0..lists {
         file.threshold(4 + lists + row, 10 + row as i64);
-        file.terms((0..alike).map(|place| (place as usize % 2, 9 + place)).chain(end(row as u32)));
+        let start = [0, 1].into_iter().chain(4..).take(alike).map(|condition| (condition, 9));
+        file.terms(start.chain(end(row as u32)));
     }
     file.seal();
     vec![file.0]
