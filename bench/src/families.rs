@@ -267,7 +267,8 @@ fn long_slivers(random: &mut Random, n: usize, of: usize) -> Vec<Vec<u8>> {
 
 /// Two slivers of each of 512 tiles, one of each tile in turn.
 fn turned_slivers(random: &mut Random, n: usize, of: usize) -> Vec<Vec<u8>> {
-    long(AREA, n, of, |_, place| (place % 512, 1 + random.below(4_000_000_000) as u32))
+    let tiles = 512 * n / of;
+    long(AREA, n, of, |_, place| (place % tiles, 1 + random.below(4_000_000_000) as u32))
 }
 
 /// 128 thresholds over one list of 32 terms, each in another order.
