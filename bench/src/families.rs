@@ -118,7 +118,7 @@ pub const FAMILIES: [Family; 27] = [
     Family { name: "4 of 1,024 terms, equal", make: long_equal, grows: true },
     Family { name: "4 of 1,024 areas, a tile each", make: long_areas, grows: true },
     Family { name: "4 of 1,024 areas, each tile in 4 slivers", make: long_slivers, grows: true },
-    Family { name: "4 of 1,024 areas, 64 tiles in turns", make: turned_slivers, grows: true },
+    Family { name: "4 of 1,024 areas, 512 tiles in turns", make: turned_slivers, grows: true },
     Family { name: "all rows equal but for order", make: same_rows, grows: true },
     Family { name: "all raw lists equal", make: shared_rows, grows: true },
     Family { name: "1,024 raw lists of one fingerprint", make: colliding, grows: true },
@@ -265,9 +265,10 @@ fn long_slivers(random: &mut Random, n: usize, of: usize) -> Vec<Vec<u8>> {
     long(AREA, n, of, |row, place| (orders[row][place] / 4, 1 + random.below(4_000_000_000) as u32))
 }
 
-/// The slivers of 64 tiles, one of each in turn.
+/// Two slivers of each of 512 tiles, one of each tile in turn.
 fn turned_slivers(random: &mut Random, n: usize, of: usize) -> Vec<Vec<u8>> {
-    long(AREA, n, of, |_, place| (place % 64, 1 + random.below(4_000_000_000) as u32))
+    let tiles = 512 * n / of;
+    long(AREA, n, of, |_, place| (place % tiles, 1 + random.below(4_000_000_000) as u32))
 }
 
 /// 128 thresholds over one list of 32 terms, each in another order.
