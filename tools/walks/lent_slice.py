@@ -8,7 +8,7 @@ import sys
 from walk import *
 
 ROOT = os.path.join(os.path.dirname(os.path.abspath(__file__)), '..', '..', 'crates')
-STATE = '''use Rattle·state.specs.State.{noState}
+STATE = '''use Rattle·state.specs.State.{no_state}
 use Rattle·state.specs.declared.State.{State}
 use Rattle·state.proofs.State as T
 use Rattle·state.proofs.State.Laws as T′
@@ -65,18 +65,18 @@ def load():
     w.say('fsplit ! $ fsplit ! $ move ! (1 ∷ []) $ fsplit ! $ move ! (4 ∷ []) $ split ! $ move ! (3 ∷ 0 ∷ []) $')
     w.top(2, 'borrow', 't', 'true', 'name', 'fact', 'row')
     w.say(f'looks-slice ! tt T.the-row (Is T.the-row) (shows 𝓤 H A T.the-row) ({VALS}) (LL.tells T.the-type T′.the-laws) (LL.copy T.the-type T′.the-copy 𝓤 H A W) xs b o {w.bind("q′")}')
-    w.say(f'elem-out ! T.the-row (Is T.the-row) (shows 𝓤 H A T.the-row) ({VALS}) (LL.tells T.the-type T′.the-laws) q′ xs row noState b o pre {w.bind("is")}')
+    w.say(f'elem-out ! T.the-row (Is T.the-row) (shows 𝓤 H A T.the-row) ({VALS}) (LL.tells T.the-type T′.the-laws) q′ xs row no_state b o pre {w.bind("is")}')
     w.top(2, 'element', 'owns', 'others', 'open', 'borrow')
     typed = lawful('T', 'elem', 'is')
     w.assign(5, f'(of-opd ! (load ! (from ! (hop ! (look ! {w.at("L4")} refl) (stop !))) (look-raw ! {w.at("element")} refl)))', typed, f'{VAL} elem')
     w.assign(0, f'(of-opd ! {w.look(5)})', typed, f'{VAL} elem')
-    w.say(f'elem-back ! T.the-row q′ xs row noState ({VALS} elem) b o pre $ shuts-slice ! tt T.the-row q′ xs b o $')
+    w.say(f'elem-back ! T.the-row q′ xs row no_state ({VALS} elem) b o pre $ shuts-slice ! tt T.the-row q′ xs b o $')
     w.top(4, 't')
     w.drop('borrow', 'true', 'name', 'fact', 'row')
-    w.say(f'returns ! (look ! {w.at("L0")} refl) $ free-under ! (code.function .locals) ns {w.slots(6)} $ by ! (exits is)' + ')' * w.open)
+    w.say(f'returns ! (look ! {w.at("L0")} refl) $ free_under ! (code.function .locals) ns {w.slots(6)} $ by ! (exits is)' + ')' * w.open)
     return p.file(f'''{p.top()}{p.module()}{p.names()}
   abbrev elem : State
-  elem = getD xs row noState
+  elem = getD xs row no_state
 
   exits : Is T.the-row elem ({VALS} elem) → ent 𝓤 (A .lft (κs .0) (qs .0)) (Post ({VAL} elem))
   exits is =
@@ -115,7 +115,7 @@ def store():
     w.move('t', 'seen')
     w.say('group ! 2 $')
     w.top(2, 'left')
-    w.say(f'returns ! (look ! {w.at("L0")} refl) $ free-under ! (code.function .locals) ns {w.slots(6)} $ by ! exits' + ')' * w.open)
+    w.say(f'returns ! (look ! {w.at("L0")} refl) $ free_under ! (code.function .locals) ns {w.slots(6)} $ by ! exits' + ')' * w.open)
     return p.file(f'''{p.top()}{p.module()}{p.names()}
   abbrev state : State
   state = a .1 .1 .0
@@ -127,7 +127,7 @@ def store():
   exits =
       qed W (‵ (flft (κs .0) (qs .0)) ∷ ‵ seen ∷ []) ∵ {p.ends_at('vunit', 'tt', '(set xs row state, (tt, (tt, tt)))')} says ! refl $
       nothing ! $ move ! (1 ∷ 0 ∷ []) $ join ! $ frame ! $
-      use1 W (‵ (fsep (finally T.the-row (x-states .name) (set xs row state)) (feq ℕ (length (set xs row state)) (length xs)))) (last-list 𝓤 H A W (named 0) (κs .0) T.the-row (x-states .name) (set xs row state) (length xs) (length-set xs row state)) $
+      use1 W (‵ (fsep (finally T.the-row (x-states .name) (set xs row state)) (feq ℕ (length (set xs row state)) (length xs)))) (last_list_lem 𝓤 H A W (named 0) (κs .0) T.the-row (x-states .name) (set xs row state) (length xs) (length-set xs row state)) $
       nothing ! $ nothing ! $ fjoin ! $ nothing ! $ fjoin ! $ move ! (1 ∷ 0 ∷ []) $ fjoin ! $ frame ! $ feqI ! (List Val) (vunit ∷ []) (vunit ∷ []) refl $ done !
 
   module _ (C : Calls 𝓤 H) (Λ : Loops 𝓤 H) where
@@ -141,8 +141,8 @@ def store():
 
 # ---- every state, in a loop
 
-ROWS = '''use Rattle·memory.specs.Limits.{maxThresholds}
-use Rattle·row_moves.specs.Numbers.{statesOf}
+ROWS = '''use Rattle·memory.specs.Limits.{max_thresholds}
+use Rattle·row_moves.specs.Numbers.{states_of}
 '''
 ARRAYS = '''abbrev Figures : RattleType
 Figures = Array i64 4
@@ -161,8 +161,8 @@ def show_states():
     row = Callee('row', 'Rattle·states·proofs.proofs.row_state', 'states·row-state')
     put = Callee('put', 'Rattle·states·proofs.proofs.store', 'states·store')
     p = Proof('states', 'show_states', 'In each turn the rows of numbers are read by `row_state`, and the states are lent again to `store`.', [states(True)] + number_rows(False), [row, put],
-              STATE + ROWS + 'use Rattle·states·specs.specs.StatesLaws.{showing, showing-long, showing-next, showing-all}\nuse Rattle·states·proofs.proofs.show_states.Code.Mir as pieces\n',
-              '(maxThresholds ≤ length (a .0 .now)) × (maxThresholds ≤ length (statesOf (a .1 .0 .now) (a .1 .1 .0 .now)))')
+              STATE + ROWS + 'use Rattle·states·specs.specs.StatesLaws.{showing, showing_long, showing_next, showing_all}\nuse Rattle·states·proofs.proofs.show_states.Code.Mir as pieces\n',
+              '(max_thresholds ≤ length (a .0 .now)) × (max_thresholds ≤ length (states_of (a .1 .0 .now) (a .1 .1 .0 .now)))')
     ss, figures, cursors = p.params
     cells = [f'L{k}' for k in range(11)] + ['dies']
     front = ['TR', 'OR', 'o-states', 't-states']
@@ -240,10 +240,10 @@ rest = seq (assign (place 0 []) (rvOpd opdUnit)) return
 
   -- the states that the rows of numbers hold, that of a row, and the lent ones when the first n are written
   abbrev held : List State
-  held = statesOf (x-figures .now) (x-cursors .now)
+  held = states_of (x-figures .now) (x-cursors .now)
 
   abbrev row : ℕ → State
-  row n = getD (take maxThresholds held) n noState
+  row n = getD (take max_thresholds held) n no_state
 
   abbrev L : ℕ → List State
   L n = showing held ss n
@@ -278,15 +278,15 @@ rest = seq (assign (place 0 []) (rvOpd opdUnit)) return
   next i less = (i .0 + 1, add-one-le (ltb→lt (i .0) (length ss) less))
 
   long : (i : Upto) → length (L (i .0)) ≡ length ss
-  long i = showing-long held ss (pre .1) (pre .0) (i .0) (i .1)
+  long i = showing_long held ss (pre .1) (pre .0) (i .0) (i .1)
 
   next-list : (i : Upto) (r : State) → i .0 < length ss → r ≡ row (i .0) → set (L (i .0)) (i .0) r ≡ L (i .0 + 1)
-  next-list i r less e = showing-next held ss (pre .1) (pre .0) (i .0) r less e ∙ ap L (sym (add-one (i .0)))
+  next-list i r less e = showing_next held ss (pre .1) (pre .0) (i .0) r less e ∙ ap L (sym (add-one (i .0)))
 
   exits : (i : Upto) → i .0 ≡ length ss → ent 𝓤 (sep 𝓤 toks-r (sep 𝓤 (sem 𝓤 H A owns-r) (sep 𝓤 (sem 𝓤 H A (own-states (κs .0) (x-states .name) (L (i .0)))) (A .lft (κs .0) (qs .0))))) (Post vunit)
   exits i e =
       qed W (raw toks-r ∷ ‵ owns-r ∷ ‵ (own-states (κs .0) (x-states .name) (L (i .0))) ∷ ‵ (flft (κs .0) (qs .0)) ∷ []) ∵
-      {p.ends_at('vunit', 'tt', '(L (i .0), (tt, (tt, tt)))')} says ! (showing-all held ss (pre .1) (pre .0) (i .0) e) $
+      {p.ends_at('vunit', 'tt', '(L (i .0), (tt, (tt, tt)))')} says ! (showing_all held ss (pre .1) (pre .0) (i .0) e) $
       move ! (1 ∷ 3 ∷ 0 ∷ []) $ drop ! $ join ! $ frame ! $
       use1 W (‵ (fsep (finally T.the-row (x-states .name) (L (i .0))) (feq ℕ (length (L (i .0))) (length ss)))) (gives-up 𝓤 H A W (named 0) (κs .0) T.the-row (record {{ ptr = x-states .ptr; name = x-states .name; now = L (i .0) }}) (slice-vals x-states) (length ss) (long i)) $
       nothing ! $ nothing ! $ fjoin ! $ nothing ! $ fjoin ! $ move ! (1 ∷ 0 ∷ []) $ fjoin ! $ frame ! $ feqI ! (List Val) (vunit ∷ []) (vunit ∷ []) refl $ done !
@@ -312,11 +312,11 @@ rest = seq (assign (place 0 []) (rvOpd opdUnit)) return
 
   module _ (𝓣 : Tables 𝓤 H){p.known('𝓣 .C')} (ns : Nats (code.function .locals)) where
     abbrev En : Env 𝓤 H
-    En = envOf 𝓤 H (code.function .locals) ns
+    En = env_of 𝓤 H (code.function .locals) ns
 
     abbrev At : Upto → List (Item 𝓤)
     At i = raw toks-r ∷ ‵ owns-r ∷ ‵ (own-states (κs .0) (x-states .name) (L (i .0))) ∷ ‵ (flft (κs .0) (qs .0))
-        ∷ cellsOf 𝓤 H (code.function .locals) ns {slots.slots(11)} (‵ (diesOf (code.function .locals) ns) ∷ [])
+        ∷ cellsOf 𝓤 H (code.function .locals) ns {slots.slots(11)} (‵ (dies_of (code.function .locals) ns) ∷ [])
 
     -- after a turn: one place further, or the loop is left and the rest runs
     abbrev Turned : Upto → Out → SProp 𝓤
@@ -339,12 +339,12 @@ rest = seq (assign (place 0 []) (rvOpd opdUnit)) return
 
 # ---- the listing
 
-LISTING = '''use Rattle·files.specs.Listing.{maxListing}
+LISTING = '''use Rattle·files.specs.Listing.{max_listing}
 use Rattle·text.specs.Text.{Wrote, joined, Joins}
-use Rattle·text.specs.TextLaws.{wrote-same, joins-none, joins-room, joins-next, joins-done}
-use Rattle·listing·specs.specs.Lines.{maxRowLine, maxLastLine, maxFront, rowLine, rowAt, frontText, rowCount, lastText, Listable}
+use Rattle·text.specs.TextLaws.{wrote_same, joins_none, joins_room, joins_next, joins_done}
+use Rattle·listing·specs.specs.Lines.{max_row_line, max_last_line, max_front, rowLine, rowAt, front_text, row_count_of, last_text, Listable}
 use Rattle·listing·specs.specs.Shows.{Listed}
-use Rattle·listing·specs.specs.ListLaws.{front-room, rows-room, last-room, list-all}
+use Rattle·listing·specs.specs.ListLaws.{front_room, rows_room, last_room, list-all}
 '''
 
 
@@ -354,7 +354,7 @@ def row_lines():
     p = Proof('listing', 'row_lines', 'In each turn a state is loaded, and the buffer is lent again to `row_line`.',
               [Slice('out', 'u8', 'ℕ', True), Plain('at'), Plain('count'), states(False)], [load, line],
               STATE + LISTING + 'use Rattle·listing·proofs.proofs.row_lines.Code.Mir as pieces\n',
-              '(a .1 .0 + maxRowLine * a .1 .1 .0 ≤ length (a .0 .now)) × (a .1 .1 .0 ≤ length (a .1 .1 .1 .0 .now))')
+              '(a .1 .0 + max_row_line * a .1 .1 .0 ≤ length (a .0 .now)) × (a .1 .1 .0 ≤ length (a .1 .1 .1 .0 .now))')
     out, at, count, ss = p.params
     cells = [f'L{k}' for k in range(11)] + ['dies']
     front = ['TR', 'o-states', 'o-out', 't-out']
@@ -381,7 +381,7 @@ def row_lines():
     m.say(f'use3 W (raw ({line.triple} .pre (to-line α δ t r v))) (goes-line α δ t r v (ltb→lt (t .0) count less)) $')
     m.top(3, 'pre')
     m.call(line, fm, '(to-line α δ t r v)', [10, 5, 6, 7], 'v₂', ('end', 'ℕ'), 'usize', '(‵ (flft (α ∷ []) fullShare) ⊛ ‵ ftrue)',
-           ('zs', 'List ℕ × (Unit {0} × (Unit {0} × (Unit {0} × Unit {0})))'), ('said', 'Wrote maxRowLine (t .1) (zs .0) (t .2) end (rowLine (t .0) r)'), ['tokens', 'number', 'put'])
+           ('zs', 'List ℕ × (Unit {0} × (Unit {0} × (Unit {0} × Unit {0})))'), ('said', 'Wrote max_row_line (t .1) (zs .0) (t .2) end (rowLine (t .0) r)'), ['tokens', 'number', 'put'])
     m.peek('number', 'usize', 'end', 'v₂', 'isn')
     m.land(5, '(uint-lawful 𝓤 H A W w64 .typed end _ isn .0)', 'vint w64 end')
     m.say(f'rewrite ! {m.at("L5")} (λ (y : Val). ‵ (fat fullShare (tyInt w64) (ns{proj(5)}) 0 y)) (ap only (isn .0)) refl $')
@@ -437,7 +437,7 @@ rest = seq (assign (place 0 []) (rvOpd (copy (place 5 [])))) return
 
   -- a turn: the rows passed, the buffer, where the text ends, and that the lines of the rows passed are written
   abbrev Turn : Type 0
-  Turn = (r : ℕ) × (l : List ℕ) × (end : ℕ) × Joins maxRowLine (x-out .now) l at-first end (rowAt ss) count r × (end < 2 ^ 64)
+  Turn = (r : ℕ) × (l : List ℕ) × (end : ℕ) × Joins max_row_line (x-out .now) l at-first end (rowAt ss) count r × (end < 2 ^ 64)
 
   abbrev Nearer : Turn → Turn → Type 0
   Nearer s t = count - s .0 < count - t .0
@@ -448,14 +448,14 @@ rest = seq (assign (place 0 []) (rvOpd (copy (place 5 [])))) return
   fits : (t : Turn) → t .0 < 2 ^ 64
   fits t = lt-of-le-of-lt (t .3 .passed) ({count.fits})
 
-  abbrev next : (t : Turn) (r : State) (l : List ℕ) (end : ℕ) → t .0 < count → r ≡ getD ss (t .0) noState → length l ≡ length (t .1) → Wrote maxRowLine (t .1) l (t .2) end (rowLine (t .0) r) → end < 2 ^ 64 → Turn
+  abbrev next : (t : Turn) (r : State) (l : List ℕ) (end : ℕ) → t .0 < count → r ≡ getD ss (t .0) no_state → length l ≡ length (t .1) → Wrote max_row_line (t .1) l (t .2) end (rowLine (t .0) r) → end < 2 ^ 64 → Turn
   next t r l end less e same said small =
-      (t .0 + 1, l, end, joins-next (omega (arith, pre .0)) less (t .3) same (wrote-same (ap (rowLine (t .0)) e) said), small)
+      (t .0 + 1, l, end, joins_next (omega (arith, pre .0)) less (t .3) same (wrote_same (ap (rowLine (t .0)) e) said), small)
 
   exits : (t : Turn) → count ≤ t .0 → ent 𝓤 (sep 𝓤 toks-r (sep 𝓤 (sem 𝓤 H A rows) (sep 𝓤 (sem 𝓤 H A (own-out (κs .0) (x-out .name) (t .1))) (A .lft (κs .0) (qs .0))))) (Post (vint w64 (t .2)))
   exits t late =
       qed W (raw toks-r ∷ ‵ rows ∷ ‵ (own-out (κs .0) (x-out .name) (t .1)) ∷ ‵ (flft (κs .0) (qs .0)) ∷ []) ∵
-      {p.ends_at('(vint w64 (t .2))', '(t .2)', '(t .1, (tt, (tt, (tt, tt))))')} says ! (joins-done late (t .3)) $
+      {p.ends_at('(vint w64 (t .2))', '(t .2)', '(t .1, (tt, (tt, (tt, tt))))')} says ! (joins_done late (t .3)) $
       move ! (1 ∷ 3 ∷ 0 ∷ []) $ drop ! $ join ! $ frame ! $
       use1 W (‵ (fsep (finally u8 (x-out .name) (t .1)) (feq ℕ (length (t .1)) (length (x-out .now))))) (gives-up 𝓤 H A W (named 0) (κs .0) u8 (record {{ ptr = x-out .ptr; name = x-out .name; now = t .1 }}) (slice-vals x-out) (length (x-out .now)) (t .3 .long)) $
       nothing ! $ nothing ! $ fjoin ! $ nothing ! $ fjoin ! $ nothing ! $ fjoin ! $ move ! (1 ∷ 0 ∷ []) $ fjoin ! $ frame ! $
@@ -477,18 +477,18 @@ rest = seq (assign (place 0 []) (rvOpd (copy (place 5 [])))) return
   goes-line : (α : ℕ) (δ : GName) (t : Turn) (r : State) (v : Val) → t .0 < count
       → ent 𝓤 (sep 𝓤 (A .lft (α ∷ []) fullShare) (sep 𝓤 (sem 𝓤 H A (own-out (α ∷ []) δ (t .1))) (sem 𝓤 H A (T.the-row .own r (v ∷ []))))) ({line.triple} .pre (to-line α δ t r v))
   goes-line α δ t r v less =
-      qed W (‵ (flft (α ∷ []) fullShare) ∷ ‵ (own-out (α ∷ []) δ (t .1)) ∷ ‵ (T.the-row .own r (v ∷ [])) ∷ []) ∵ says ! (joins-room (pre .0) less (t .3)) $
+      qed W (‵ (flft (α ∷ []) fullShare) ∷ ‵ (own-out (α ∷ []) δ (t .1)) ∷ ‵ (T.the-row .own r (v ∷ [])) ∷ []) ∵ says ! (joins_room (pre .0) less (t .3)) $
       nothing ! $ move ! (1 ∷ 0 ∷ []) $ join ! $ frame ! $
       nothing ! $ move ! (2 ∷ 0 ∷ []) $ fjoin ! $ owned ! usize (Is usize) (uint-makes 𝓤 H A W w64) (t .0) (vint w64 (t .0) ∷ []) (refl, fits t) $ fjoin ! $
       owned ! usize (Is usize) (uint-makes 𝓤 H A W w64) (t .2) (vint w64 (t .2) ∷ []) (refl, t .4) $ fjoin ! $ move ! (1 ∷ 0 ∷ []) $ fjoin ! $ done !
 
   module _ (𝓣 : Tables 𝓤 H){p.known('𝓣 .C')} (ns : Nats (code.function .locals)) where
     abbrev En : Env 𝓤 H
-    En = envOf 𝓤 H (code.function .locals) ns
+    En = env_of 𝓤 H (code.function .locals) ns
 
     abbrev At : Turn → List (Item 𝓤)
     At t = raw toks-r ∷ ‵ rows ∷ ‵ (own-out (κs .0) (x-out .name) (t .1)) ∷ ‵ (flft (κs .0) (qs .0))
-        ∷ cellsOf 𝓤 H (code.function .locals) ns {slots.slots(11)} (‵ (diesOf (code.function .locals) ns) ∷ [])
+        ∷ cellsOf 𝓤 H (code.function .locals) ns {slots.slots(11)} (‵ (dies_of (code.function .locals) ns) ∷ [])
 
     -- after a turn: one row further, or the loop is left and the rest runs
     abbrev Turned : Turn → Out → SProp 𝓤
@@ -505,7 +505,7 @@ rest = seq (assign (place 0 []) (rvOpd (copy (place 5 [])))) return
       qed W ((‵ (flft (κs .0) (qs .0)) ⊛ raw toks-r) ∷ ‵ (owns (typesAt (f.signature .params) κs) a (at κs a)) ∷ []) ∵
       enter ! (𝓣 .C) (𝓣 .Λ) code.function ({p.machine}) _ $ alloc-all ! (code.function .locals) (λ ns. params1 ! $
       {w.text(' ' * 6)}
-      first ! $ blocks ! $ loops ! 𝓣 Nearer Nearer-wf (At 𝓣 known-load known-line ns) (turns 𝓣 known-load known-line ns) (0, x-out .now, at-first, joins-none maxRowLine (x-out .now) at-first (rowAt ss) count, {at.fits}))
+      first ! $ blocks ! $ loops ! 𝓣 Nearer Nearer-wf (At 𝓣 known-load known-line ns) (turns 𝓣 known-load known-line ns) (0, x-out .now, at-first, joins_none max_row_line (x-out .now) at-first (rowAt ss) count, {at.fits}))
 {p.ending('𝓣')}''')
 
 
@@ -523,7 +523,7 @@ def lent_list():
     p = Proof('listing', 'list', 'The buffer is lent again to the first two parts and given up to the last.',
               [Slice('out', 'u8', 'ℕ', True), Struct('given', 'G'), Slice('answers', 'Pair', '(List ℕ)', False), states(False), Slice('sure', 'u64', 'ℕ', False), Slice('never', 'u64', 'ℕ', False)],
               [front, rows, count, last], STATE + GIVEN + LISTING,
-              'Listable (a .1 .0) (a .1 .1 .0 .now) (a .1 .1 .1 .0 .now) (a .1 .1 .1 .1 .0 .now) (a .1 .1 .1 .1 .1 .0 .now) × (maxListing ≤ length (a .0 .now))')
+              'Listable (a .1 .0) (a .1 .1 .0 .now) (a .1 .1 .1 .0 .now) (a .1 .1 .1 .1 .0 .now) (a .1 .1 .1 .1 .1 .0 .now) × (max_listing ≤ length (a .0 .now))')
     out, given, answers, ss, sure, never = p.params
     life = lambda q: (q.κ, q.q)
     shr = lambda q: f'own-{q.name} {q.κ} ({q.x} .name) ({q.x} .now)'
@@ -573,7 +573,7 @@ def lent_list():
     # how many rows
     w.say(f'use0 W (raw ({count.triple} .pre to-count)) goes-count $')
     w.top(0, 'pre')
-    w.call(count, fm, 'to-count', [2], 'v₂', ('n', 'ℕ'), 'usize', '‵ ftrue', ('zs₂', 'Unit {0} × Unit {0}'), ('e₂', 'n ≡ rowCount given'), ['true', 'number', 'none'])
+    w.call(count, fm, 'to-count', [2], 'v₂', ('n', 'ℕ'), 'usize', '‵ ftrue', ('zs₂', 'Unit {0} × Unit {0}'), ('e₂', 'n ≡ row_count_of given'), ['true', 'number', 'none'])
     number_into(8, 'number', 'n', 'v₂', 'is₂')
     w.drop('true', 'none')
     # the rows
@@ -599,7 +599,7 @@ def lent_list():
     w.say(f'group ! {len(ins)} $ use1 W (raw ({last.triple} .pre {to})) (goes-last (zs₃ .0) n₃ (zs₁ .0) n₁ n (is₃ .1) (same₃ ∙ same₁) e₁ e₂ e₃) $')
     w.top(len(ins), 'pre')
     w.call(last, fm, to, [15, 9, 2, 5, 6], 'v', ('r', 'ℕ'), 'usize', tokens(out, sure, never), ('zs', 'List ℕ × (Unit {0} × (Unit {0} × (Unit {0} × (Unit {0} × Unit {0}))))'),
-           ('e', 'Wrote maxLastLine (zs₃ .0) (zs .0) n₃ r (lastText given (x-sure .now) (x-never .now))'), ['tokens', 'number', 'put'])
+           ('e', 'Wrote max_last_line (zs₃ .0) (zs .0) n₃ r (last_text given (x-sure .now) (x-never .now))'), ['tokens', 'number', 'put'])
     w.peek('number', 'usize', 'r', 'v', 'is')
     w.land(0, '(uint-lawful 𝓤 H A W w64 .typed r _ is .0)', 'v')
     w.unpack('tokens', ['t-out', 't-sure', 't-never', 'true'], 'split')
@@ -612,7 +612,7 @@ def lent_list():
     w.say(f'group ! {len(left)} $')
     w.top(len(left), 'left')
     assert w.ctx == ['left'] + [f'L{k}' for k in range(16)] + ['dies'], w.ctx
-    w.say(f'returns ! (look ! {w.at("L0")} refl) $ free-under ! (code.function .locals) ns {w.slots(16)} $ by ! (exits r v (zs .0) (same ∙ same₃ ∙ same₁) (list-all (pre .0) n e₁ e₂ e₃ e))' + ')' * w.open)
+    w.say(f'returns ! (look ! {w.at("L0")} refl) $ free_under ! (code.function .locals) ns {w.slots(16)} $ by ! (exits r v (zs .0) (same ∙ same₃ ∙ same₁) (list-all (pre .0) n e₁ e₂ e₃ e))' + ')' * w.open)
     αδ = [('α', 'ℕ'), ('δ', 'GName')]
     βε = [('β', 'ℕ'), ('ε', 'GName'), ('l', 'List ℕ'), ('n₁', 'ℕ'), ('n', 'ℕ')]
     ln = [('l', 'List ℕ'), ('n₃', 'ℕ')]
@@ -620,16 +620,16 @@ def lent_list():
     texts = [ghost('front', front, αδ, [loan('α'), life(answers), life(sure), life(never)], [lent_as(out, 'δ', 'x-out .now'), 'given', 'x-answers', 'x-sure', 'x-never'],
                    [vals(out), gvals, vals(answers), vals(sure), vals(never)]),
              goes(front, αδ, [], [loan('α'), life(answers), life(sure), life(never)],
-                  ['own-out (α ∷ []) δ (x-out .now)', struct('G', 'given', '(are .1 .0)'), shr(answers), shr(sure), shr(never)], '(front-room (pre .0) (x-out .now) (pre .1))'),
+                  ['own-out (α ∷ []) δ (x-out .now)', struct('G', 'given', '(are .1 .0)'), shr(answers), shr(sure), shr(never)], '(front_room (pre .0) (x-out .now) (pre .1))'),
              ghost('count', count, [], [], ['given'], [gvals]),
              goes(count, [], [], [], [struct('G', 'given', '(are .1 .0)')], None),
              ghost('rows', rows, βε, [loan('β'), life(ss)], [lent_as(out, 'ε', 'l'), 'n₁', 'n', 'x-states'], [vals(out), num('n₁'), num('n'), vals(ss)]),
-             goes(rows, βε, [('s₁', 'n₁ < 2 ^ 64'), ('s₂', 'n < 2 ^ 64'), ('same', 'length l ≡ length (x-out .now)'), ('e₁', 'Front-said l n₁'), ('e₂', 'n ≡ rowCount given')], [loan('β'), life(ss)],
-                  ['own-out (β ∷ []) ε l', number('n₁', 's₁'), number('n', 's₂'), shr(ss)], '(rows-room (pre .0) (x-out .now) (pre .1) n same e₁ e₂)'),
+             goes(rows, βε, [('s₁', 'n₁ < 2 ^ 64'), ('s₂', 'n < 2 ^ 64'), ('same', 'length l ≡ length (x-out .now)'), ('e₁', 'Front-said l n₁'), ('e₂', 'n ≡ row_count_of given')], [loan('β'), life(ss)],
+                  ['own-out (β ∷ []) ε l', number('n₁', 's₁'), number('n', 's₂'), shr(ss)], '(rows_room (pre .0) (x-out .now) (pre .1) n same e₁ e₂)'),
              ghost('last', last, ln, [life(out), life(sure), life(never)], [lent_as(out, 'x-out .name', 'l'), 'n₃', 'given', 'x-sure', 'x-never'], [vals(out), num('n₃'), gvals, vals(sure), vals(never)]),
-             goes(last, ln, [('l₁', 'List ℕ'), ('n₁', 'ℕ'), ('n', 'ℕ'), ('s', 'n₃ < 2 ^ 64'), ('same', 'length l ≡ length (x-out .now)'), ('e₁', 'Front-said l₁ n₁'), ('e₂', 'n ≡ rowCount given'), ('e₃', 'Rows-said l₁ l n₁ n₃ n')],
+             goes(last, ln, [('l₁', 'List ℕ'), ('n₁', 'ℕ'), ('n', 'ℕ'), ('s', 'n₃ < 2 ^ 64'), ('same', 'length l ≡ length (x-out .now)'), ('e₁', 'Front-said l₁ n₁'), ('e₂', 'n ≡ row_count_of given'), ('e₃', 'Rows-said l₁ l n₁ n₃ n')],
                   [life(out), life(sure), life(never)], [f'own-out (κs .0) (x-out .name) l', number('n₃', 's'), struct('G', 'given', '(are .1 .0)'), shr(sure), shr(never)],
-                  '(last-room (pre .0) (x-out .now) (pre .1) n same e₁ e₂ e₃)')]
+                  '(last_room (pre .0) (x-out .now) (pre .1) n same e₁ e₂ e₃)')]
     toks = [f'flft {q.κ} {q.q}' for q in [out] + shared]
     ex = Walk([f't{i}' for i in range(5)] + ['last', 'number'])
     ex.say('nothing ! $')
@@ -649,10 +649,10 @@ Pair = Array u16 2
   given = a .1 .0
 
   abbrev Front-said : List ℕ → ℕ → Type 0
-  Front-said l n = Wrote maxFront (x-out .now) l 0 n (frontText given (x-answers .now) (x-sure .now) (x-never .now))
+  Front-said l n = Wrote max_front (x-out .now) l 0 n (front_text given (x-answers .now) (x-sure .now) (x-never .now))
 
   abbrev Rows-said : List ℕ → List ℕ → ℕ → ℕ → ℕ → Type 0
-  Rows-said l k n m c = Wrote (maxRowLine * c) l k n m (joined (rowAt (x-states .now)) c)
+  Rows-said l k n m c = Wrote (max_row_line * c) l k n m (joined (rowAt (x-states .now)) c)
 
   -- what each callee's triple binds outside, and that the caller has what it asks
 {chr(10).join(texts)}
@@ -701,7 +701,7 @@ def buffers():
 def work(zs):
     """The record of the buffers of numbers, from their lists in order."""
     z = [f'({x})' for x in zs]
-    return f'work (raw (rawLists {" ".join(z[:3])}) {z[3]}) (built (heldRows {" ".join(z[4:9])}) {" ".join(z[9:12])}) (kept {" ".join(z[12:])})'
+    return f'work (raw (raw_lists {" ".join(z[:3])}) {z[3]}) (built (heldRows {" ".join(z[4:9])}) {" ".join(z[9:12])}) (kept {" ".join(z[12:])})'
 
 
 def planner_run():
@@ -710,11 +710,11 @@ def planner_run():
     test = Callee('test', 'Rattle·planner·proofs.proofs.is_too_short', 'planner·is-too-short')
     show = Callee('show', 'Rattle·states.proofs.show_states', 'states·show-states')
     p = Proof('planner', 'run', 'The rows of numbers are lent again to `call::run`, then read to show the states; every other buffer is given up to `call::run`.', buffers(),
-              [short, core, test, show], STATE + ROWS + GIVEN + '''use Rattle·memory.specs.Buffers.{Work, rawLists, raw as rawOf, heldRows, built, kept, work}
+              [short, core, test, show], STATE + ROWS + GIVEN + '''use Rattle·memory.specs.Buffers.{Work, raw_lists, raw as raw_of, heldRows, built, kept, work}
 use Rattle·states.specs.States.{shown}
 use Rattle·files.specs.Contents.{whole as wholeOf, out, nothing as refusal}
 use Rattle·files.specs.Planner.{left, plan}
-use Rattle·planner·specs.specs.PlannerLaws.{plan-short, plan-ten, plan-many, plan-shown}
+use Rattle·planner·specs.specs.PlannerLaws.{plan_short, plan-ten, plan_many, plan-shown}
 ''')
     n_front = 1 + len(RAW) + len(BUILT)
     front, (ss, fig, cur), tail = p.params[:n_front], p.params[n_front:n_front + 3], p.params[n_front + 3:]
@@ -740,7 +740,7 @@ use Rattle·planner·specs.specs.PlannerLaws.{plan-short, plan-ten, plan-many, p
     w = Walk([f'L{k}' for k in range(count)] + ['dies', 'T', 'O'])
     w.passes(p.params)
     w.assign(LEN, f'(of-opd ! {w.field(S, 1)})', f'(tt, record {{ fits = {ss.room} .0 }})', 'vint w64 (length ss)')
-    w.assign(TEST, f'(bin ! {w.look(LEN)} (big-lit ! (record {{ fits = lit< tt }})) tt)', '(tt, tt)', 'vbool (ltb (length ss) 1024)')
+    w.assign(TEST, f'(bin ! {w.look(LEN)} (big_lit ! (record {{ fits = lit< tt }})) tt)', '(tt, tt)', 'vbool (ltb (length ss) 1024)')
     no = w.copy()
     m = w.copy()
     w.say(f'if-returns ! {w.look(TEST)}')
@@ -755,8 +755,8 @@ use Rattle·planner·specs.specs.PlannerLaws.{plan-short, plan-ten, plan-many, p
     no.move('T', 'O', 'own')
     no.say('group ! 3 $')
     no.top(3, 'left')
-    no.say(f'returns-within ! Post refl (look ! {no.at("L0")} refl) $ free-under ! (code.function .locals) ns {no.slots(count)} $')
-    no.say('by ! (exits-short r v (ap (λ (x : Answer). left (out x w₀) ss) e ∙ plan-short (x-input .now) ss w₀ (ltb→lt (length ss) 1024 little)))' + ')' * no.open)
+    no.say(f'returns-within ! Post refl (look ! {no.at("L0")} refl) $ free_under ! (code.function .locals) ns {no.slots(count)} $')
+    no.say('by ! (exits-short r v (ap (λ (x : Answer). left (out x w₀) ss) e ∙ plan_short (x-input .now) ss w₀ (ltb→lt (length ss) 1024 little)))' + ')' * no.open)
 
     # `call::run`
     args = [1]
@@ -812,7 +812,7 @@ use Rattle·planner·specs.specs.PlannerLaws.{plan-short, plan-ten, plan-many, p
         x.top(len(left), 'left')
         assert x.ctx == ['left'] + [f'L{k}' for k in range(count)] + ['dies'], x.ctx
         ret = 'returns-within ! Post refl' if within else 'returns !'
-        x.say(f'{ret} (look ! {x.at("L0")} refl) $ free-under ! (code.function .locals) ns {x.slots(count)} $')
+        x.say(f'{ret} (look ! {x.at("L0")} refl) $ free_under ! (code.function .locals) ns {x.slots(count)} $')
         x.say(f'by ! (exits r v zs {fact})' + ')' * x.open)
 
     yes.assign(0, f'(of-opd ! {yes.look(GIVEN_)})', lawful('G', 'r', 'is'), 'v')
@@ -828,7 +828,7 @@ use Rattle·planner·specs.specs.PlannerLaws.{plan-short, plan-ten, plan-many, p
         go.move(f'o-{q.name}', f't-{q.name}')
         l = z[q.name]
         go.say(f'use2 W (later (some (λ ({φ} : GName). ‵ (shr-{q.name} {φ} ({l})) ⊛ (‵ (finally {q.row} ({q.x} .name) ({l})) ⊛ ‵ (flft {q.κ} {q.q})))))')
-        go.say(f'(shares-on 𝓤 H A W {q.row} {q.named} {q.named} {q.κ} {q.q} ({q.x} .ptr .0) ({q.x} .ptr .1) ({q.x} .name) ({l}) (length ({q.x} .now)) {same}) $ await ! tt $ pick ! {go.bind(φ)} split ! $ move ! (1 ∷ []) $ split ! $')
+        go.say(f'(shares_on 𝓤 H A W {q.row} {q.named} {q.named} {q.κ} {q.q} ({q.x} .ptr .0) ({q.x} .ptr .1) ({q.x} .name) ({l}) (length ({q.x} .now)) {same}) $ await ! tt $ pick ! {go.bind(φ)} split ! $ move ! (1 ∷ []) $ split ! $')
         go.top(2, f'f-{q.name}', f't-{q.name}', f's-{q.name}')
     for i, q in enumerate((ss, fig, cur)):
         go.reborrow(p.params.index(q) + 1, q, SHOW + 2 * i, SHOW + 2 * i + 1)
@@ -837,10 +837,10 @@ use Rattle·planner·specs.specs.PlannerLaws.{plan-short, plan-ten, plan-many, p
     zf, zc = z['figures'], z['cursors']
     to = f'(to-show φ ψ ({zf}) ({zc}))'
     not_ten = '(eqb-false (r .refused) 10 (sym e₂ ∙ fails b other))'
-    go.say(f'group ! {len(ins)} $ use1 W (raw ({show.triple} .pre {to})) (goes-show φ ψ ({zf}) ({zc}) {big} (plan-many (x-input .now) ss w₀ {big} (out r (work-at zs)) e {not_ten})) $')
+    go.say(f'group ! {len(ins)} $ use1 W (raw ({show.triple} .pre {to})) (goes-show φ ψ ({zf}) ({zc}) {big} (plan_many (x-input .now) ss w₀ {big} (out r (work-at zs)) e {not_ten})) $')
     go.top(len(ins), 'pre')
     go.call(show, fm, to, [SHOW + 1, SHOW + 3, SHOW + 5], 'v₃', ('u', 'Unit {0}'), 'Nothing', nest_toks([life(ss), life(fig), life(cur)]), ('ts', 'List State × (Unit {0} × (Unit {0} × Unit {0}))'),
-            ('e₃', f'ts .0 ≡ shown (statesOf ({zf}) ({zc})) ss'), ['tokens', 'unit', 'put'])
+            ('e₃', f'ts .0 ≡ shown (states_of ({zf}) ({zc})) ss'), ['tokens', 'unit', 'put'])
     go.move('unit')
     go.say(f'feqL ! {go.bind("is₃")}')
     go.top(1)
@@ -863,7 +863,7 @@ use Rattle·planner·specs.specs.PlannerLaws.{plan-short, plan-ten, plan-many, p
              ghost('test', test, rv, [], ['r'], ['v ∷ []']),
              goes(test, rv, [], [], ['G.the-row .own r (v ∷ [])'], None),
              ghost('show', show, pf, [life(ss), life(fig), life(cur)], ['x-states', lent_as(fig, 'φ', 'fs'), lent_as(cur, 'ψ', 'cs')], [vals(ss), vals(fig), vals(cur)]),
-             goes(show, pf, [('big', 'maxThresholds ≤ length ss'), ('many', 'maxThresholds ≤ length (statesOf fs cs)')], [life(ss), life(fig), life(cur)],
+             goes(show, pf, [('big', 'maxThresholds ≤ length ss'), ('many', 'maxThresholds ≤ length (states_of fs cs)')], [life(ss), life(fig), life(cur)],
                   [own_now(ss), 'shr-figures φ fs', 'shr-cursors ψ cs'], '(big, many)')]
     core_lives = [life(q) for q in front] + [loan('α'), loan('β')] + [life(q) for q in tail]
     core_args = [q.x for q in front] + [lent_as(fig, 'δ', 'x-figures .now'), lent_as(cur, 'ε', 'x-cursors .now')] + [q.x for q in tail]
@@ -875,7 +875,7 @@ use Rattle·planner·specs.specs.PlannerLaws.{plan-short, plan-ten, plan-many, p
     ex = Walk(['t-front', 't-states', 't-figures', 't-cursors', 't-tail', 'l-front', 'f-states', 'f-figures', 'f-cursors', 'l-tail', 'own'])
     ex.pack(['t-states', 't-figures', 't-cursors', 't-tail'], 'join')
     ex.move('t-front', 't-states')
-    ex.say(f'use2 W (raw (toks 𝓤 A {P} κs qs)) (chain-in 𝓤 H A W toks-front toks-rest) $ frame ! $')
+    ex.say(f'use2 W (raw (toks 𝓤 A {P} κs qs)) (chain_in 𝓤 H A W toks-front toks-rest) $ frame ! $')
     ex.top(2)
     for q, l, same in ((ss, 'ts', 'same'), (fig, zf, 'same-f'), (cur, zc, 'same-c')):
         ex.say(f'feqI ! ℕ (length ({l})) (length ({q.x} .now)) {same} $')
@@ -886,7 +886,7 @@ use Rattle·planner·specs.specs.PlannerLaws.{plan-short, plan-ten, plan-many, p
     ex.pack(['f-states', 'f-figures', 'f-cursors', 'l-tail'], 'fjoin')
     ex.move('l-front', 'f-states')
     ends = long_tup([z[q.name] for q in front] + ['ts'], f'zs{N(n_front)}')
-    ex.say(f'use2 W (‵ (lasts f.ended κs a {ends})) (chain-in 𝓤 H A W (lasts-front zs) (lasts-rest zs ts)) $ done !')
+    ex.say(f'use2 W (‵ (lasts f.ended κs a {ends})) (chain_in 𝓤 H A W (lasts-front zs) (lasts-rest zs ts)) $ done !')
     up = 'id⊢ 𝓤 (emp 𝓤)'
     for q in reversed(p.params):
         one = f'gives-up 𝓤 H A W {q.named} {q.κ} {q.row} {q.x} (slice-vals {q.x}) (length ({q.x} .now)) refl' if q.mut else f'lets-go 𝓤 H A W ({own_now(q)})'
@@ -958,9 +958,9 @@ use Rattle·planner·specs.specs.PlannerLaws.{plan-short, plan-ten, plan-many, p
   goes-core : (α β : ℕ) (δ ε : GName) → ent 𝓤 ({seps(items)}) ({core.triple} .pre (to-core α β δ ε))
   goes-core α β δ ε =
       qed W ({' ∷ '.join(items)} ∷ []) ∵
-      move ! (2 ∷ 3 ∷ []) $ join ! $ move ! (2 ∷ 0 ∷ []) $ join ! $ move ! (1 ∷ 0 ∷ []) $ use2 W (raw (toks 𝓤 A {P - 1} (to-core α β δ ε .0 .0) (to-core α β δ ε .0 .1))) (chain-in 𝓤 H A W toks-front (toks-core α β)) $
+      move ! (2 ∷ 3 ∷ []) $ join ! $ move ! (2 ∷ 0 ∷ []) $ join ! $ move ! (1 ∷ 0 ∷ []) $ use2 W (raw (toks 𝓤 A {P - 1} (to-core α β δ ε .0 .0) (to-core α β δ ε .0 .1))) (chain_in 𝓤 H A W toks-front (toks-core α β)) $
       move ! (3 ∷ 4 ∷ []) $ fjoin ! $ move ! (3 ∷ 0 ∷ []) $ fjoin ! $ move ! (2 ∷ 0 ∷ []) $
-      use2 W (raw (chain 𝓤 owns-front (owns-core α β δ ε))) (chain-in 𝓤 H A W owns-front (owns-core α β δ ε)) $
+      use2 W (raw (chain 𝓤 owns-front (owns-core α β δ ε))) (chain_in 𝓤 H A W owns-front (owns-core α β δ ε)) $
       move ! (1 ∷ 0 ∷ []) $ join ! $ frame ! $ done !
 
   -- the two ends: nothing is touched, or what the callees' contracts say
@@ -991,7 +991,7 @@ use Rattle·planner·specs.specs.PlannerLaws.{plan-short, plan-ten, plan-many, p
 
 # ---- the plan over buffers of numbers: the states are a local array
 
-FIRST = '''use Rattle·state.specs.State.{firstState}
+FIRST = '''use Rattle·state.specs.State.{first_state}
 '''
 
 
@@ -1009,7 +1009,7 @@ def first_array(w, first, array, fm):
     """let none = State::first(0, 0); let mut states = [none; n];"""
     w.say(f'use0 W (raw ({first.triple} .pre to-first)) goes-first $')
     w.top(0, 'pre')
-    w.call(first, fm, 'to-first', ['(lit ! tt)', '(lit ! tt)'], 'v₀', ('s', 'State'), 'T.the-row', '‵ ftrue', ('us', 'Unit {0} × (Unit {0} × Unit {0})'), ('e₀', 's ≡ firstState 0 0'), ['true', 'own', 'lasts'])
+    w.call(first, fm, 'to-first', ['(lit ! tt)', '(lit ! tt)'], 'v₀', ('s', 'State'), 'T.the-row', '‵ ftrue', ('us', 'Unit {0} × (Unit {0} × Unit {0})'), ('e₀', 's ≡ first_state 0 0'), ['true', 'own', 'lasts'])
     w.peek('own', 'T.the-row', 's', 'v₀', 'is₀')
     w.land(array.local - 1, lawful('T', 's', 'is₀'), 'v₀')
     w.fill(array, array.local - 1, 's', 'v₀', 'isa')
@@ -1065,7 +1065,7 @@ def put_together(w, prefix, segs, kind, one):
             w.say('join ! $')
         else:
             rest = suffix(segs[i + 1:], kind, one)
-            w.say(f'use2 W (raw (chain 𝓤 {many} ({rest}))) (chain-in 𝓤 H A W {many} ({rest})) $')
+            w.say(f'use2 W (raw (chain 𝓤 {many} ({rest}))) (chain_in 𝓤 H A W {many} ({rest})) $')
         w.top(2, 'acc')
 
 
@@ -1077,7 +1077,7 @@ def plan_in():
     all_ = buffers()
     numbers = [q for q in all_ if q.name not in ('input', 'states')]
     p = Proof('report', 'plan_in', 'The local array of states is lent to `planner::run`, then to `list`; what is listed is lent again to the first, every other buffer is given up to it.',
-              [all_[0], Slice('out', 'u8', 'ℕ', True)] + numbers, [first, core, lines, pair], STATE + FIRST + ROWS + GIVEN + '''use Rattle·memory.specs.Buffers.{Work, rawLists, raw as rawOf, heldRows, built, kept, work}
+              [all_[0], Slice('out', 'u8', 'ℕ', True)] + numbers, [first, core, lines, pair], STATE + FIRST + ROWS + GIVEN + '''use Rattle·memory.specs.Buffers.{Work, raw_lists, raw as raw_of, heldRows, built, kept, work}
 use Rattle·files.specs.Contents.{out}
 use Rattle·files.specs.Planner.{left, plan}
 use Rattle·listing.specs.Lines.{Listable}
@@ -1085,10 +1085,10 @@ use Rattle·listing.specs.Shows.{Listed}
 use Rattle·report·specs.specs.declared.Planned.{Planned}
 use Rattle·report·specs.specs.Plan.{planOf, Plans}
 use Rattle·report·specs.specs.Ready.{Ready}
-use Rattle·report·specs.specs.PlanLaws.{ran-listable, ran-plans}
+use Rattle·report·specs.specs.PlanLaws.{ran_listable, ran_plans}
 use Rattle·report·proofs.proofs.Planned as P
 use Rattle·report·proofs.proofs.Planned.Laws as P′
-use Rattle·report·proofs.proofs.Array.{arrayTy, lends-array, array-back}
+use Rattle·report·proofs.proofs.Array.{array_ty, lends_array, array-back}
 ''', 'Ready (a .0 .now) (a .1 .0 .now) (' + work([f'a{proj(2 + i)} .now' for i in range(21)]).replace('raw (', 'rawOf (', 1) + ')')
     by = {q.name: q for q in p.params}
     inp, out_, sure, never, answers = (by[x] for x in ('input', 'out', 'sure', 'never', 'answers'))
@@ -1171,19 +1171,19 @@ use Rattle·report·proofs.proofs.Array.{arrayTy, lends-array, array-back}
     w.lend_array(array, 'ν', 'ξ', zst, 'v₁', 'same-states ∙ length-replicate 1024 s')
     w.move('o-statesA', 'o-statesT')
     w.say(f'use2 W (later (some (λ (φ : GName). ‵ (shr-states {b} (ν ∷ []) φ {zst}) ⊛ (‵ (finally T.the-row ξ {zst}) ⊛ ‵ (flft (ν ∷ []) fullShare)))))')
-    w.say(f'(shares-on 𝓤 H A W T.the-row erased erased (ν ∷ []) fullShare {b} 0 ξ {zst} 1024 (same-states ∙ length-replicate 1024 s)) $ await ! tt $ pick ! {w.bind("φ-states")} split ! $ move ! (1 ∷ []) $ split ! $')
+    w.say(f'(shares_on 𝓤 H A W T.the-row erased erased (ν ∷ []) fullShare {b} 0 ξ {zst} 1024 (same-states ∙ length-replicate 1024 s)) $ await ! tt $ pick ! {w.bind("φ-states")} split ! $ move ! (1 ∷ []) $ split ! $')
     w.top(2, 'o-statesF', 'o-statesT', 's-states')
     for q in (sure, never, answers):
         l = f'({z[q.name]})'
         w.move(f'o-{q.name}', f't-{q.name}')
         w.say(f'use2 W (later (some (λ (φ : GName). ‵ (shr-{q.name} φ {l}) ⊛ (‵ (finally {q.row} ({q.x} .name) {l}) ⊛ ‵ (flft {q.κ} {q.q})))))')
-        w.say(f'(shares-on 𝓤 H A W {q.row} {q.named} {q.named} {q.κ} {q.q} ({q.x} .ptr .0) ({q.x} .ptr .1) ({q.x} .name) {l} (length ({q.x} .now)) same-{q.name}) $ await ! tt $ pick ! {w.bind(f"φ-{q.name}")} split ! $ move ! (1 ∷ []) $ split ! $')
+        w.say(f'(shares_on 𝓤 H A W {q.row} {q.named} {q.named} {q.κ} {q.q} ({q.x} .ptr .0) ({q.x} .ptr .1) ({q.x} .name) {l} (length ({q.x} .now)) same-{q.name}) $ await ! tt $ pick ! {w.bind(f"φ-{q.name}")} split ! $ move ! (1 ∷ []) $ split ! $')
         w.top(2, f'f-{q.name}', f't-{q.name}', f's-{q.name}')
     ins = ['t-out', 't-answers', 'o-statesT', 't-sure', 't-never', 'o-out', 's-answers', 's-states', 's-sure', 's-never']
     w.move(*ins)
     to = f'(to-lines {b} ν φ-states {zst} r v φ-answers ({z["answers"]}) φ-sure ({z["sure"]}) φ-never ({z["never"]}))'
     facts = f'(many s) e'
-    w.say(f'group ! {len(ins)} $ use1 W (raw ({lines.triple} .pre {to})) (goes-lines {to[10:-1]} is (ran-listable pre (replicate 1024 s) {zst} (work-at zs) r {facts})) $')
+    w.say(f'group ! {len(ins)} $ use1 W (raw ({lines.triple} .pre {to})) (goes-lines {to[10:-1]} is (ran_listable pre (replicate 1024 s) {zst} (work-at zs) r {facts})) $')
     w.top(len(ins), 'pre')
     listed = f'Listed r ({z["answers"]}) {zst} ({z["sure"]}) ({z["never"]}) (x-out .now) (ls .0) n'
     w.call(lines, fm, to, [73, 26, 75, 77, 79, 81], 'v₂', ('n', 'ℕ'), 'usize', nest_toks([life(out_), life(answers), loan('ν'), life(sure), life(never)]),
@@ -1212,8 +1212,8 @@ use Rattle·report·proofs.proofs.Array.{arrayTy, lends-array, array-back}
     w.top(len(left_), 'left')
     w.move('left', *[f'L{i}' for i in range(array.local + 1)])
     assert w.ctx == ['left'] + [f'L{i}' for i in range(count)] + ['dies'], w.ctx
-    said = f'(subst (Plans (x-input .now) (x-out .now) (ls .0)) (sym e₃) (ran-plans pre (replicate 1024 s) {zst} (work-at zs) r {facts} same-out e₂))'
-    w.say(f'returns ! (look ! {w.at("L0")} refl) $ free-under ! (code.function .locals) ns {w.slots(count)} $')
+    said = f'(subst (Plans (x-input .now) (x-out .now) (ls .0)) (sym e₃) (ran_plans pre (replicate 1024 s) {zst} (work-at zs) r {facts} same-out e₂))'
+    w.say(f'returns ! (look ! {w.at("L0")} refl) $ free_under ! (code.function .locals) ns {w.slots(count)} $')
     w.say(f'by ! (exits t v₄ zs (ls .0) same-out same-sure same-never same-answers {said})' + ')' * w.open)
 
     binds = [('b', 'ℕ'), ('s', 'State'), ('α', 'ℕ'), ('δ', 'GName'), ('β', 'ℕ'), ('ε', 'GName'), ('η', 'ℕ'), ('θ', 'GName'), ('ι', 'ℕ'), ('ζ', 'GName')]
@@ -1292,8 +1292,8 @@ use Rattle·report·proofs.proofs.Array.{arrayTy, lends-array, array-back}
 {lists}
   -- what is listed, shared
 {shrs}
-  many : (s : State) → maxThresholds ≤ length (replicate 1024 s)
-  many s = subst (λ (k : ℕ). maxThresholds ≤ k) (sym (length-replicate 1024 s)) (lit≤ tt)
+  many : (s : State) → max_thresholds ≤ length (replicate 1024 s)
+  many s = subst (λ (k : ℕ). max_thresholds ≤ k) (sym (length-replicate 1024 s)) (lit≤ tt)
 
   -- what each callee's triple binds outside, and that the caller has what it asks
 {chr(10).join(texts)}

@@ -170,7 +170,7 @@ class Walk:
         self.top(0, o + 'T')
         self.move(o, f't-{p.name}')
         self.say(f'use2 W (later (some (λ (δ : GName). ‵ (own-{p.name} ({α} ∷ []) δ {l}) ⊛ ‵ ({p.lent(α, "δ", l)}))))')
-        self.say(f'(lends-at {p.loan(α)} 𝓤 H A W {p.named} {p.named} {l} (length ({p.x} .now)) ({long})) $ await ! tt $ pick ! {self.bind(δ)} split ! $')
+        self.say(f'(lends_at {p.loan(α)} 𝓤 H A W {p.named} {p.named} {l} (length ({p.x} .now)) ({long})) $ await ! tt $ pick ! {self.bind(δ)} split ! $')
         self.top(2, o + 'A', o + 'L')
 
     def back(self, p, α, δ, l, z, room, long, same):
@@ -197,7 +197,7 @@ class Walk:
     def point(self, p, ref, slice):
         """ref = &local; slice = (ref, count)"""
         self.assign(ref, '(addr ! (from ! (stop !)))', '(tt, tt)', f'vptr {p.block} 0')
-        self.assign(slice, f'(agg ! (and-then ! {self.look(ref)} (and-then ! (big-lit ! (record {{ fits = lit< tt }})) (no-more !))))', '(tt, (tt, (record { fits = lit< tt }, tt)))', p.machine)
+        self.assign(slice, f'(agg ! (and-then ! {self.look(ref)} (and-then ! (big_lit ! (record {{ fits = lit< tt }})) (no-more !))))', '(tt, (tt, (record { fits = lit< tt }, tt)))', p.machine)
 
     def lend_array(self, p, α, δ, l, v, long):
         o, cell = f'o-{p.name}', f'L{p.local}'
@@ -205,7 +205,7 @@ class Walk:
         self.top(0, o + 'T')
         self.move(cell, o)
         self.say(f'group ! 2 $ use1 W (later (some (λ (δ : GName). ‵ (own-{p.name} {p.block} ({α} ∷ []) δ {l}) ⊛ ‵ (flent ({α} ∷ []) (Held {p.row} {p.count} {p.block} 0 δ)))))')
-        self.say(f'(lends-array 𝓤 H A W {p.row} {p.block} tt erased ({α} ∷ []) {l} ({v}) {p.count} ({long}) (lit< tt, lit< tt)) $ await ! tt $ pick ! {self.bind(δ)} split ! $')
+        self.say(f'(lends_array 𝓤 H A W {p.row} {p.block} tt erased ({α} ∷ []) {l} ({v}) {p.count} ({long}) (lit< tt, lit< tt)) $ await ! tt $ pick ! {self.bind(δ)} split ! $')
         self.top(2, o + 'A', o + 'L')
 
     def array_back(self, p, α, δ, z, v):
@@ -214,7 +214,7 @@ class Walk:
         self.move(o + 'T')
         self.say('lft-end ! tt $')
         self.move(o + 'T', o + 'L', o + 'F')
-        self.say(f'use3 W (later (some (λ ({v} : Val). ‵ (fat fullShare (arrayTy 𝓤 H A W {p.row} {p.block} {p.count}) {p.block} 0 {v}) ⊛ ‵ (Array {p.row} {p.count} .own {z} ({v} ∷ [])))))')
+        self.say(f'use3 W (later (some (λ ({v} : Val). ‵ (fat fullShare (array_ty 𝓤 H A W {p.row} {p.block} {p.count}) {p.block} 0 {v}) ⊛ ‵ (Array {p.row} {p.count} .own {z} ({v} ∷ [])))))')
         self.say(f'(array-back 𝓤 H A W {p.row} {p.block} ({α} ∷ []) {δ} {z} {p.count}) $ await ! tt $ pick ! {self.bind(v)} split ! $')
         self.top(3, f'L{p.local}', o)
         self.val[p.local] = v
@@ -471,12 +471,12 @@ use denote.Triple.Walked.{says, needs, Stays, walkOf, Walks, ends-at, walked, wa
 use borrow.Author.Needs.{scaled-fits}
 use borrow.Author.Tests.{ltb-true, ltb-false, eqb-true, eqb-false}
 use Rattle·states.specs.Pairs.{_▹_}
-use Rattle·states.specs.ChainLaws.{chain, chain-out, chain-in}
-use Rattle·states.specs.AgainLaws.{LentAgain, lends-again, comes-back, lends-at, back-at}
-use Rattle·states.specs.LocalsLaws.{cellsOf, diesOf, envOf, Nats, alloc-all, free-all, free-under}
-use Rattle·states.specs.SaidLaws.{saids, goes-saids, last-list, gives-up, lets-go, two-go}
-use Rattle·states.specs.SharedLaws.{shares-on}
-use Rattle·states.specs.StepsLaws.{if-returns, while-goes, big-lit, holds, fails, holds-not}
+use Rattle·states.specs.ChainLaws.{chain, chain-out, chain_in}
+use Rattle·states.specs.AgainLaws.{LentAgain, lends-again, comes-back, lends_at, back-at}
+use Rattle·states.specs.LocalsLaws.{cellsOf, dies_of, env_of, Nats, alloc-all, free-all, free_under}
+use Rattle·states.specs.SaidLaws.{saids, goes_saids, last_list_lem, gives-up, lets-go, two_go}
+use Rattle·states.specs.SharedLaws.{shares_on}
+use Rattle·states.specs.StepsLaws.{if-returns, while_goes, big_lit, holds, fails, holds-not}
 '''
 
 
@@ -613,7 +613,7 @@ module _ {{M : Type 1}} (𝓤 : URA M) (H : Heap 𝓤) (A : Atoms 𝓤) (W : Giv
       (λ κs qs bounds a g are. {body})
 
   {self.key}-meets : Meets 𝓤 H A f.signature (WpFn 𝓤 H (𝓣 .C) (𝓣 .Λ) code.function) (f.spec 𝓤 H A at-mem run)
-  {self.key}-meets = walk-meets 𝓤 H A f.ended stayed W (goes-saids 𝓤 H A W {self.lives} (f.ended .signature .params) (f.ended .kept)) (f.clauses 𝓤 H A at-mem run) (WpFn 𝓤 H (𝓣 .C) (𝓣 .Λ) code.function)
+  {self.key}-meets = walk-meets 𝓤 H A f.ended stayed W (goes_saids 𝓤 H A W {self.lives} (f.ended .signature .params) (f.ended .kept)) (f.clauses 𝓤 H A at-mem run) (WpFn 𝓤 H (𝓣 .C) (𝓣 .Λ) code.function)
       (WpFn-mono 𝓤 H (W .laws) 𝓣 code.function) {self.key}-walks
 
 pub {self.key}-spec : {{M : Type 1}} → stated.statement M

@@ -5,10 +5,10 @@ use Rattle.state.specs.declared.Step.{Step}
 use Rattle.records.specs.declared.Record.{Record}
 use Rattle.records.specs.declared.Record.TheVariants.{Header, Opens, Adds, Areas, Seal, Mark, Settle, Sift, Unknown}
 use Rattle.files.specs.File.{Answer, settled, sifted}
-use Rattle.files.specs.Contents.{answerNumber, answerVisits}
+use Rattle.files.specs.Contents.{answer_number, answer_visits}
 
-abbrev pub answersOf : List Answer → List (List ℕ)
-answersOf as' = pairs (map answerNumber as') (map answerVisits as')
+abbrev pub answers_of : List Answer → List (List ℕ)
+answers_of as' = pairs (map answer_number as') (map answer_visits as')
 
 -- The answer that it adds.
 abbrev pub answered : Record → Step → ℕ → List Answer

@@ -2,7 +2,7 @@
 ghost use Rattle.std.specs.Prelude.{◌≡◌, List, [], ◌∷◌, ◌++◌, ℕ, ◌+◌, ◌<◌, ◌≤◌, length, set};
 ghost use Rattle.base.specs.Laid.{over};
 ghost use Rattle.files.specs.File.{Answer};
-ghost use Rattle.answers.specs.Answers.{answersOf, answered};
+ghost use Rattle.answers.specs.Answers.{answers_of, answered};
 
 use records::Record;
 use state::Step;
@@ -26,8 +26,8 @@ pub fn store(
     visits: usize,
 ) -> usize
     requires { (0 < length (answered given step visits) → count < 64) × (64 ≤ length answers.old) × (visits ≤ 4096) }
-    ensures { (before : List Answer) (base : List (List ℕ)) → 64 ≤ length base → count ≡ length before → answers.old ≡ over (answersOf before) base
-        → (answers.new ≡ over (answersOf (before ++ answered given step visits)) base) × (result ≡ length (before ++ answered given step visits)) }
+    ensures { (before : List Answer) (base : List (List ℕ)) → 64 ≤ length base → count ≡ length before → answers.old ≡ over (answers_of before) base
+        → (answers.new ≡ over (answers_of (before ++ answered given step visits)) base) × (result ≡ length (before ++ answered given step visits)) }
 {
     let number = step.number();
     match given {

@@ -5,6 +5,6 @@ use mathlib.Core.List.Memᴰ
 use mathlib.Core.List.{List, [], ◌∷◌, Memᴰ}
 use Rattle.base.specs.All.{All}
 
-pub all-each : {X : Type 0} (P : X → Type 0) (xs : List X) → All P xs → (y : X) → Memᴰ y xs → P y
-all-each P [] h y m = absurd (Memᴰ.not-nil m)
-all-each P (x ∷ xs) h y m = ⊎_elim (λ (e : y ≡ x). subst P (sym e) h.0) (all-each P xs h.1 y) (Memᴰ.cases_cons m)
+pub all_each : {X : Type 0} (P : X → Type 0) (xs : List X) → All P xs → (y : X) → Memᴰ y xs → P y
+all_each P [] h y m = absurd (Memᴰ.not-nil m)
+all_each P (x ∷ xs) h y m = ⊎_elim (λ (e : y ≡ x). subst P (sym e) h.0) (all_each P xs h.1 y) (Memᴰ.cases_cons m)

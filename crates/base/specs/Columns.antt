@@ -6,10 +6,10 @@ abbrev pub column : ℕ → List (List ℕ) → List ℕ
 column j rows = map (λ (v : List ℕ). get_or v j 0) rows
 
 -- Column j written anew, the others as they were.
-unfoldable pub withColumn : ℕ → List (List ℕ) → List ℕ → List (List ℕ)
-withColumn j [] cs = []
-withColumn j (v ∷ rows) [] = v ∷ rows
-withColumn j (v ∷ rows) (c ∷ cs) = set v j c ∷ withColumn j rows cs
+unfoldable pub with_column : ℕ → List (List ℕ) → List ℕ → List (List ℕ)
+with_column j [] cs = []
+with_column j (v ∷ rows) [] = v ∷ rows
+with_column j (v ∷ rows) (c ∷ cs) = set v j c ∷ with_column j rows cs
 
 -- One place of column j written.
 abbrev pub stored : ℕ → List (List ℕ) → ℕ → ℕ → List (List ℕ)
@@ -22,4 +22,4 @@ Wide j rows = (i : ℕ) → i < length rows → j < length (get_or rows i [])
 -- Two lists of rows that differ in column j alone.
 pub record Beside (j : ℕ) (rows others : List (List ℕ)) : Type 0 where
   pub long : length rows ≡ length others
-  pub apart : (cs : List ℕ) → length cs ≡ length others → withColumn j rows cs ≡ withColumn j others cs
+  pub apart : (cs : List ℕ) → length cs ≡ length others → with_column j rows cs ≡ with_column j others cs

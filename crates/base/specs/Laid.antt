@@ -6,9 +6,9 @@ abbrev pub over : {X : Type 0} → List X → List X → List X
 over l b = l ++ drop (length l) b
 
 -- All lists, one behind the other.
-unfoldable pub joinAll : {X : Type 0} → List (List X) → List X
-joinAll [] = []
-joinAll (l ∷ ls) = l ++ joinAll ls
+unfoldable pub join_all : {X : Type 0} → List (List X) → List X
+join_all [] = []
+join_all (l ∷ ls) = l ++ join_all ls
 
 -- Where each of them ends; the first begins at n.
 unfoldable pub ends : {X : Type 0} → ℕ → List (List X) → List ℕ

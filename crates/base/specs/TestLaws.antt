@@ -48,8 +48,8 @@ pub or_right : (a b : Bool) → b ≡ true → (a || b) ≡ true
 or_right true b h = refl
 or_right false b h = h
 
-pub or-middle : (a b c : Bool) → (a || b || c) ≡ false → b ≡ false
-or-middle a b c h = (or-false a b (or-false (a || b) c h).0).1
+pub or_middle : (a b c : Bool) → (a || b || c) ≡ false → b ≡ false
+or_middle a b c h = (or-false a b (or-false (a || b) c h).0).1
 
 pub never_true : (b : Bool) → (b ≡ true → ⊥) → b ≡ false
 never_true true h = absurd (h refl)

@@ -5,20 +5,20 @@ ghost use Rattle.std.specs.Int.Signed.{mag};
 ghost use Rattle.memory.specs.Buffers.{held_rows};
 ghost use Rattle.base.specs.Columns.{column};
 ghost use Rattle.numeric.specs.Threshold.{Threshold};
-ghost use Rattle.state.specs.State.{limit, noState};
+ghost use Rattle.state.specs.State.{limit, no_state};
 ghost use Rattle.queues.specs.declared.Ring.{Ring};
-ghost use Rattle.queues.specs.Queue.{queue, queueRow};
-ghost use Rattle.queues.specs.Slot.{rowsIn};
+ghost use Rattle.queues.specs.Queue.{queue, queue_row};
+ghost use Rattle.queues.specs.Slot.{rows_in};
 ghost use Rattle.queues.specs.Shape.{Held};
-ghost use Rattle.rows.specs.Rows.{rowNumber};
+ghost use Rattle.rows.specs.Rows.{row_number};
 ghost use Rattle.links.specs.Links.{neighbours};
-ghost use Rattle.row_moves.specs.Between.{Index, did, withBound, linkedQueued, runWith, thresholdGuard, guard_of, thresholdPrefixes};
-ghost use Rattle.row_moves.specs.Handing.{toldStep, handedOn};
-ghost use Rattle.row_moves.specs.Numbers.{statesOf, live_of, Tidy};
-ghost use Rattle.memory.specs.Ranges.{figureLimit};
-ghost use Rattle.row_moves.specs.Held.{heldRow, Rising, Shaped, LinksShaped, GuardsShaped, Holds, HoldsLinks, CountsLinks, HoldsGuards};
+ghost use Rattle.row_moves.specs.Between.{Index, did, with_bound, linked_queued, run_with, threshold_guard, guard_of, threshold_prefixes};
+ghost use Rattle.row_moves.specs.Handing.{told_step, handed_on};
+ghost use Rattle.row_moves.specs.Numbers.{states_of, live_of, Tidy};
+ghost use Rattle.memory.specs.Ranges.{figure_limit};
+ghost use Rattle.row_moves.specs.Held.{held_row, Rising, Shaped, LinksShaped, GuardsShaped, Holds, HoldsLinks, CountsLinks, HoldsGuards};
 ghost use Rattle.row_moves.specs.Ready.{Fit, Runnable};
-ghost use Rattle.tightening.specs.Told.{movedState};
+ghost use Rattle.tightening.specs.Told.{moved_state};
 
 use queues::{Ring, Rings};
 use row_moves::Did;
@@ -27,8 +27,8 @@ use state::{State, Step};
 // A row whose bounds moved waits to hand them on, if it has neighbours.
 fn queue_linked(row_queues: &mut [[u16; 4]], ring: Ring, row: usize, links: usize) -> Ring
     requires { Held 1024 (queue (column 0 row_queues.old) ring) × (row < 1024) }
-    ensures { (rowsIn 0 row_queues.new result ≡ linkedQueued links (rowsIn 0 row_queues.old ring) row)
-        × ((other : Ring) → rowsIn 2 row_queues.new other ≡ rowsIn 2 row_queues.old other) }
+    ensures { (rows_in 0 row_queues.new result ≡ linked_queued links (rows_in 0 row_queues.old ring) row)
+        × ((other : Ring) → rows_in 2 row_queues.new other ≡ rows_in 2 row_queues.old other) }
 {
     if links == 0 {
         return ring;
@@ -54,12 +54,12 @@ fn run_bounded(
     state: State,
     links: usize,
 ) -> Did
-    requires shaped { Shaped (held_rows row_conditions.now row_weights.now rows.now guard_bounds.now guard_nodes.now) × (row < length rows.now) × Fit (held_rows row_conditions.now row_weights.now rows.now guard_bounds.now guard_nodes.now) figureLimit row state }
-    requires runnable { Runnable (held_rows row_conditions.now row_weights.now rows.now guard_bounds.now guard_nodes.now) figureLimit
+    requires shaped { Shaped (held_rows row_conditions.now row_weights.now rows.now guard_bounds.now guard_nodes.now) × (row < length rows.now) × Fit (held_rows row_conditions.now row_weights.now rows.now guard_bounds.now guard_nodes.now) figure_limit row state }
+    requires runnable { Runnable (held_rows row_conditions.now row_weights.now rows.now guard_bounds.now guard_nodes.now) figure_limit
         (live_of figures.old cursors.old sure.old never.old node_queue.old row_queues.old rings) }
     ensures { (did (live_of figures.new cursors.new sure.new never.new node_queue.new row_queues.new result.rings) result.step
-        ≡ runWith (heldRow (held_rows row_conditions.now row_weights.now rows.now guard_bounds.now guard_nodes.now) row)
-        (withBound (live_of figures.old cursors.old sure.old never.old node_queue.old row_queues.old rings) row state links) row)
+        ≡ run_with (held_row (held_rows row_conditions.now row_weights.now rows.now guard_bounds.now guard_nodes.now) row)
+        (with_bound (live_of figures.old cursors.old sure.old never.old node_queue.old row_queues.old rings) row state links) row)
         × (Tidy figures.old cursors.old → Tidy figures.new cursors.new) }
 {
     let ring = rings.nodes;
@@ -108,13 +108,13 @@ fn threshold_guard(
     bound: i64,
     links: usize,
 ) -> Did
-    requires shaped { Shaped (held_rows row_conditions.now row_weights.now rows.now guard_bounds.now guard_nodes.now) × (row < length rows.now) × (node < 4096) × (mag bound < figureLimit) }
-    requires runnable { Runnable (held_rows row_conditions.now row_weights.now rows.now guard_bounds.now guard_nodes.now) figureLimit
+    requires shaped { Shaped (held_rows row_conditions.now row_weights.now rows.now guard_bounds.now guard_nodes.now) × (row < length rows.now) × (node < 4096) × (mag bound < figure_limit) }
+    requires runnable { Runnable (held_rows row_conditions.now row_weights.now rows.now guard_bounds.now guard_nodes.now) figure_limit
         (live_of figures.old cursors.old sure.old never.old node_queue.old row_queues.old rings) }
     ensures { ((x : Index) (t : Threshold) → Holds x (held_rows row_conditions.now row_weights.now rows.now guard_bounds.now guard_nodes.now)
-        → length (neighbours row x.links) ≡ links → rowNumber x.rows t.terms ≡ row → t.node ≡ node → t.bound ≡ bound
+        → length (neighbours row x.links) ≡ links → row_number x.rows t.terms ≡ row → t.node ≡ node → t.bound ≡ bound
         → did (live_of figures.new cursors.new sure.new never.new node_queue.new row_queues.new result.rings) result.step
-        ≡ thresholdGuard x (live_of figures.old cursors.old sure.old never.old node_queue.old row_queues.old rings) t)
+        ≡ threshold_guard x (live_of figures.old cursors.old sure.old never.old node_queue.old row_queues.old rings) t)
         × (Tidy figures.old cursors.old → Tidy figures.new cursors.new) }
 {
     let state = row_moves::load(figures, cursors, row);
@@ -147,7 +147,7 @@ fn threshold_guard(
 }
 
 // The bound of a threshold, counted from 1.
-fn bound_of(bounds: &[i64], t: usize) -> i64
+fn bound_of_lem(bounds: &[i64], t: usize) -> i64
     requires { (0 < t) × (t ≤ length bounds.now) }
     ensures { result ≡ get_or bounds.now (t - 1) (pos 0) }
 {
@@ -174,7 +174,7 @@ pub fn guard_at(
 ) -> Did
     requires shaped { Shaped (held_rows row_conditions.now row_weights.now rows.now guard_bounds.now guard_nodes.now) × GuardsShaped (held_rows row_conditions.now row_weights.now rows.now guard_bounds.now guard_nodes.now) nodes.now bounds.now
         × (node < length nodes.now) × (node < 4096) × Rising 2 rows.now }
-    requires runnable { Runnable (held_rows row_conditions.now row_weights.now rows.now guard_bounds.now guard_nodes.now) figureLimit
+    requires runnable { Runnable (held_rows row_conditions.now row_weights.now rows.now guard_bounds.now guard_nodes.now) figure_limit
         (live_of figures.old cursors.old sure.old never.old node_queue.old row_queues.old rings) }
     ensures { ((x : Index) → Holds x (held_rows row_conditions.now row_weights.now rows.now guard_bounds.now guard_nodes.now)
         → HoldsGuards x nodes.now bounds.now → CountsLinks x rows.now
@@ -190,7 +190,7 @@ pub fn guard_at(
         };
     }
     let row = rows::row_of_node(nodes, node);
-    let bound = bound_of(bounds, t);
+    let bound = bound_of_lem(bounds, t);
     let links = rows::links_count(rows, row);
     threshold_guard(
         row_conditions,
@@ -214,7 +214,7 @@ pub fn guard_at(
 
 // What a row answers that was told something new: at least that it changed.
 fn tell(step: Step) -> Step
-    ensures { result ≡ toldStep step }
+    ensures { result ≡ told_step step }
 {
     if step.contradicts() {
         return Step::Contradiction;
@@ -239,11 +239,11 @@ fn note(
     row: usize,
     state: State,
 ) -> Rings
-    requires { (row < length (statesOf figures.old cursors.old)) × Held 1024 (queue (column 0 row_queues.old) rings.rows) × (row < 1024) }
-    ensures { (statesOf figures.new cursors.new ≡ set (statesOf figures.old cursors.old) row state)
+    requires { (row < length (states_of figures.old cursors.old)) × Held 1024 (queue (column 0 row_queues.old) rings.rows) × (row < 1024) }
+    ensures { (states_of figures.new cursors.new ≡ set (states_of figures.old cursors.old) row state)
         × (Tidy figures.old cursors.old → Tidy figures.new cursors.new)
-        × (rowsIn 0 row_queues.new result.rows ≡ queueRow (rowsIn 0 row_queues.old rings.rows) row)
-        × (rowsIn 2 row_queues.new result.residuals ≡ rowsIn 2 row_queues.old rings.residuals) × (result.nodes ≡ rings.nodes) }
+        × (rows_in 0 row_queues.new result.rows ≡ queue_row (rows_in 0 row_queues.old rings.rows) row)
+        × (rows_in 2 row_queues.new result.residuals ≡ rows_in 2 row_queues.old rings.residuals) × (result.nodes ≡ rings.nodes) }
 {
     let nodes = rings.nodes;
     let waiting = rings.rows;
@@ -277,13 +277,13 @@ fn hand_on(
     row: usize,
     own: usize,
 ) -> Did
-    requires shaped { Shaped (held_rows row_conditions.now row_weights.now rows.now guard_bounds.now guard_nodes.now) × (row < length rows.now) × (mag source.lower < figureLimit) × (mag (limit source.upper) < figureLimit) }
-    requires runnable { Runnable (held_rows row_conditions.now row_weights.now rows.now guard_bounds.now guard_nodes.now) figureLimit
+    requires shaped { Shaped (held_rows row_conditions.now row_weights.now rows.now guard_bounds.now guard_nodes.now) × (row < length rows.now) × (mag source.lower < figure_limit) × (mag (limit source.upper) < figure_limit) }
+    requires runnable { Runnable (held_rows row_conditions.now row_weights.now rows.now guard_bounds.now guard_nodes.now) figure_limit
         (live_of figures.old cursors.old sure.old never.old node_queue.old row_queues.old rings) }
     ensures { (did (live_of figures.new cursors.new sure.new never.new node_queue.new row_queues.new result.rings) result.step
-        ≡ handedOn (heldRow (held_rows row_conditions.now row_weights.now rows.now guard_bounds.now guard_nodes.now) row)
+        ≡ handed_on (held_row (held_rows row_conditions.now row_weights.now rows.now guard_bounds.now guard_nodes.now) row)
         (live_of figures.old cursors.old sure.old never.old node_queue.old row_queues.old rings) row
-        (movedState source (get_or (statesOf figures.old cursors.old) row noState) many own))
+        (moved_state source (get_or (states_of figures.old cursors.old) row no_state) many own))
         × (Tidy figures.old cursors.old → Tidy figures.new cursors.new) }
 {
     let state = row_moves::load(figures, cursors, row);
@@ -355,12 +355,12 @@ pub fn threshold_prefixes(
 ) -> Did
     requires shaped { Shaped (held_rows row_conditions.now row_weights.now rows.now guard_bounds.now guard_nodes.now) × LinksShaped (held_rows row_conditions.now row_weights.now rows.now guard_bounds.now guard_nodes.now) links.now
         × (row < length rows.now) }
-    requires runnable { Runnable (held_rows row_conditions.now row_weights.now rows.now guard_bounds.now guard_nodes.now) figureLimit
+    requires runnable { Runnable (held_rows row_conditions.now row_weights.now rows.now guard_bounds.now guard_nodes.now) figure_limit
         (live_of figures.old cursors.old sure.old never.old node_queue.old row_queues.old rings) }
     ensures { ((x : Index) → Holds x (held_rows row_conditions.now row_weights.now rows.now guard_bounds.now guard_nodes.now)
         → HoldsLinks x (held_rows row_conditions.now row_weights.now rows.now guard_bounds.now guard_nodes.now) links.now
         → did (live_of figures.new cursors.new sure.new never.new node_queue.new row_queues.new result.rings) result.step
-        ≡ thresholdPrefixes x (live_of figures.old cursors.old sure.old never.old node_queue.old row_queues.old rings) row)
+        ≡ threshold_prefixes x (live_of figures.old cursors.old sure.old never.old node_queue.old row_queues.old rings) row)
         × (Tidy figures.old cursors.old → Tidy figures.new cursors.new) }
 {
     let source = row_moves::load(figures, cursors, row);

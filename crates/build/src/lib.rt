@@ -1,11 +1,11 @@
 // What the seal builds of the raw buffers: rows, guards, edges, links.
 ghost use Rattle.std.specs.Prelude.{◌≡◌, [], ◌-◌, ◌≤◌, length};
 ghost use Rattle.rows.specs.Rows.{rows_of};
-ghost use Rattle.memory.specs.Limits.{maxThresholds, maxLinks};
+ghost use Rattle.memory.specs.Limits.{max_thresholds, max_links};
 ghost use Rattle.memory.specs.Buffers.{held_rows, built};
-ghost use Rattle.job.specs.JobBuffers.{builtOf};
-ghost use Rattle.prepare.specs.Prepare.{unlinkedOf};
-ghost use Rattle.job.specs.Gathered.{Gathered, jobIn};
+ghost use Rattle.job.specs.JobBuffers.{built_of};
+ghost use Rattle.prepare.specs.Prepare.{unlinked_of};
+ghost use Rattle.job.specs.Gathered.{Gathered, job_in};
 ghost use Rattle.build.specs.Built.{Roomy, Spare, Builds};
 ghost use Rattle.job.specs.Rooms.{BuiltRoom};
 
@@ -31,9 +31,9 @@ fn build_rows(
     requires { Gathered standing raw_conditions.now raw_weights.now thresholds.now bounds.now
         × Roomy (built (held_rows row_conditions.old row_weights.old rows.old guard_bounds.old guard_nodes.old) nodes.old edges.old [])
         × Spare scratch.old }
-    ensures { (result ≡ length (rows_of (jobIn standing raw_conditions.now raw_weights.now thresholds.now bounds.now))) × (result ≤ maxThresholds)
+    ensures { (result ≡ length (rows_of (job_in standing raw_conditions.now raw_weights.now thresholds.now bounds.now))) × (result ≤ max_thresholds)
         × (built (held_rows row_conditions.new row_weights.new rows.new guard_bounds.new guard_nodes.new) nodes.new edges.new []
-        ≡ unlinkedOf (jobIn standing raw_conditions.now raw_weights.now thresholds.now bounds.now)
+        ≡ unlinked_of (job_in standing raw_conditions.now raw_weights.now thresholds.now bounds.now)
         (built (held_rows row_conditions.old row_weights.old rows.old guard_bounds.old guard_nodes.old) nodes.old edges.old []))
         × (scratch.new ≡ scratch.old) }
 {
@@ -76,9 +76,9 @@ pub fn build_job(
     requires { Gathered standing raw_conditions.now raw_weights.now thresholds.now bounds.now
         × Roomy (built (held_rows row_conditions.old row_weights.old rows.old guard_bounds.old guard_nodes.old) nodes.old edges.old links.old)
         × (2048 ≤ length links.old) }
-    ensures { (result ≡ length (rows_of (jobIn standing raw_conditions.now raw_weights.now thresholds.now bounds.now)))
+    ensures { (result ≡ length (rows_of (job_in standing raw_conditions.now raw_weights.now thresholds.now bounds.now)))
         × (built (held_rows row_conditions.new row_weights.new rows.new guard_bounds.new guard_nodes.new) nodes.new edges.new links.new
-        ≡ builtOf (jobIn standing raw_conditions.now raw_weights.now thresholds.now bounds.now)
+        ≡ built_of (job_in standing raw_conditions.now raw_weights.now thresholds.now bounds.now)
         (built (held_rows row_conditions.old row_weights.old rows.old guard_bounds.old guard_nodes.old) nodes.old edges.old links.old)) }
 {
     let mut scratch = [0u64; 3072];
@@ -119,8 +119,8 @@ pub fn build(
 ) -> usize
     requires { Gathered read.standing raw_conditions.now raw_weights.now thresholds.now bounds.now
         × BuiltRoom (built (held_rows row_conditions.old row_weights.old rows.old guard_bounds.old guard_nodes.old) nodes.old edges.old links.old)
-        × (maxLinks ≤ length links.old) }
-    ensures { Builds (jobIn read.standing raw_conditions.now raw_weights.now thresholds.now bounds.now) read.sealing
+        × (max_links ≤ length links.old) }
+    ensures { Builds (job_in read.standing raw_conditions.now raw_weights.now thresholds.now bounds.now) read.sealing
         (built (held_rows row_conditions.old row_weights.old rows.old guard_bounds.old guard_nodes.old) nodes.old edges.old links.old)
         (built (held_rows row_conditions.new row_weights.new rows.new guard_bounds.new guard_nodes.new) nodes.new edges.new links.new) result }
 {

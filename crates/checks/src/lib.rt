@@ -2,7 +2,7 @@
 ghost use Rattle.std.specs.Prelude.{◌≡◌, ◌+◌, ◌<◌, length, true, [], ◌∷◌};
 ghost use Rattle.records.specs.declared.Record.TheVariants.{Adds};
 ghost use Rattle.records.specs.Facts.{building, within, ofTerms, action};
-ghost use Rattle.checks.specs.Checks.{wrongTurn, notRising, badBound, tooMany, check, first, refusedBy};
+ghost use Rattle.checks.specs.Checks.{wrong_turn, not_rising, bad_bound, too_many, check, first, refused_by};
 ghost use Rattle.checks.specs.Next.{closing, next_at, EntryNext};
 
 use records::{Record, Standing};
@@ -51,37 +51,37 @@ fn first_number(
 }
 
 fn not_building(standing: Standing) -> bool
-    ensures { result ≡ wrongTurn standing building }
+    ensures { result ≡ wrong_turn standing building }
 {
     !standing.started | standing.sealed
 }
 
 fn not_within(standing: Standing) -> bool
-    ensures { result ≡ wrongTurn standing within }
+    ensures { result ≡ wrong_turn standing within }
 {
     !standing.started | standing.sealed | (standing.thresholds == 0)
 }
 
 fn not_rising(standing: Standing, node: u16) -> bool
-    ensures { result ≡ notRising standing node }
+    ensures { result ≡ not_rising standing node }
 {
     (standing.thresholds != 0) & (node as usize <= standing.last_node)
 }
 
 fn bad_bound(bound: i64) -> bool
-    ensures { result ≡ badBound bound }
+    ensures { result ≡ bad_bound bound }
 {
     (bound < -4503599627370496) | (bound > 4503599627370496)
 }
 
 fn too_many_terms(standing: Standing) -> bool
-    ensures { result ≡ tooMany standing ofTerms }
+    ensures { result ≡ too_many standing ofTerms }
 {
     (standing.last_terms >= 1024) | (standing.terms >= 4096)
 }
 
 fn term_refusal(standing: Standing, condition: u16) -> u8
-    ensures { result ≡ refusedBy standing (Adds condition 0) }
+    ensures { result ≡ refused_by standing (Adds condition 0) }
 {
     let outside = condition as usize >= standing.nodes;
     let past = standing.contradicted;
@@ -122,7 +122,7 @@ fn plain_refusal(standing: Standing, turn: bool, count: bool) -> u8
 
 // The number that refuses a record, 0 for none: what its turn, its node, its bound or value and its count say.
 fn refusal(standing: Standing, entry: Record) -> u8
-    ensures { result ≡ refusedBy standing entry }
+    ensures { result ≡ refused_by standing entry }
 {
     let past = standing.contradicted;
     match entry {

@@ -1,12 +1,12 @@
 // A drained condition: every row in which it stands takes its weight and is run (`threshold_condition` of propagate.rs).
 ghost use Rattle.std.specs.Prelude.{◌≡◌, ◌-◌, ◌<◌, length, get_or, []};
 ghost use Rattle.memory.specs.Buffers.{held_rows};
-ghost use Rattle.state.specs.State.{noState, drained};
+ghost use Rattle.state.specs.State.{no_state, drained};
 ghost use Rattle.queues.specs.declared.Ring.{Ring};
-ghost use Rattle.row_moves.specs.Between.{Index, did, withState, runWith, thresholdCondition};
-ghost use Rattle.row_moves.specs.Numbers.{statesOf, live_of, Tidy};
-ghost use Rattle.memory.specs.Ranges.{figureLimit, roomLimit, weightLimit, drainLimit};
-ghost use Rattle.row_moves.specs.Held.{heldRow, edgeIn, Shaped, EdgesShaped, Holds, HoldsEdges};
+ghost use Rattle.row_moves.specs.Between.{Index, did, with_state, run_with, threshold_condition};
+ghost use Rattle.row_moves.specs.Numbers.{states_of, live_of, Tidy};
+ghost use Rattle.memory.specs.Ranges.{figure_limit, room_limit, weight_limit, drain_limit};
+ghost use Rattle.row_moves.specs.Held.{held_row, edge_in, Shaped, EdgesShaped, Holds, HoldsEdges};
 ghost use Rattle.row_moves.specs.Ready.{ReadyLive};
 
 use queues::Rings;
@@ -31,13 +31,13 @@ fn drain_edge(
     weight: u64,
     value: bool,
 ) -> Did
-    requires shaped { Shaped (held_rows row_conditions.now row_weights.now rows.now guard_bounds.now guard_nodes.now) × (row < length rows.now) × (weight < weightLimit) }
-    requires ready_live { ReadyLive (held_rows row_conditions.now row_weights.now rows.now guard_bounds.now guard_nodes.now) (figureLimit - drainLimit)
+    requires shaped { Shaped (held_rows row_conditions.now row_weights.now rows.now guard_bounds.now guard_nodes.now) × (row < length rows.now) × (weight < weight_limit) }
+    requires ready_live { ReadyLive (held_rows row_conditions.now row_weights.now rows.now guard_bounds.now guard_nodes.now) (figure_limit - drain_limit)
         (live_of figures.old cursors.old sure.old never.old node_queue.old row_queues.old rings) }
     ensures { (did (live_of figures.new cursors.new sure.new never.new node_queue.new row_queues.new result.rings) result.step
-        ≡ runWith (heldRow (held_rows row_conditions.now row_weights.now rows.now guard_bounds.now guard_nodes.now) row)
-        (withState (live_of figures.old cursors.old sure.old never.old node_queue.old row_queues.old rings) row
-        (drained value weight (get_or (statesOf figures.old cursors.old) row noState))) row)
+        ≡ run_with (held_row (held_rows row_conditions.now row_weights.now rows.now guard_bounds.now guard_nodes.now) row)
+        (with_state (live_of figures.old cursors.old sure.old never.old node_queue.old row_queues.old rings) row
+        (drained value weight (get_or (states_of figures.old cursors.old) row no_state))) row)
         × (Tidy figures.old cursors.old → Tidy figures.new cursors.new) }
 {
     let state = row_moves::load(figures, cursors, row);
@@ -63,7 +63,7 @@ fn drain_edge(
 // An edge: its row and its weight.
 fn edge_row(edges: &[[u64; 2]], at: usize) -> usize
     requires { at < length edges.now }
-    ensures { result ≡ (edgeIn (get_or edges.now at [])).row }
+    ensures { result ≡ (edge_in (get_or edges.now at [])).row }
 {
     let edge = edges[at];
     edge[0] as usize
@@ -71,7 +71,7 @@ fn edge_row(edges: &[[u64; 2]], at: usize) -> usize
 
 fn edge_weight(edges: &[[u64; 2]], at: usize) -> u64
     requires { at < length edges.now }
-    ensures { result ≡ (edgeIn (get_or edges.now at [])).weight }
+    ensures { result ≡ (edge_in (get_or edges.now at [])).weight }
 {
     let edge = edges[at];
     edge[1]
@@ -97,11 +97,11 @@ pub fn threshold_condition(
 ) -> Did
     requires shaped { Shaped (held_rows row_conditions.now row_weights.now rows.now guard_bounds.now guard_nodes.now) × EdgesShaped (held_rows row_conditions.now row_weights.now rows.now guard_bounds.now guard_nodes.now) nodes.now edges.now
         × (node < length nodes.now) × (node < 4096) }
-    requires ready_live { ReadyLive (held_rows row_conditions.now row_weights.now rows.now guard_bounds.now guard_nodes.now) roomLimit
+    requires ready_live { ReadyLive (held_rows row_conditions.now row_weights.now rows.now guard_bounds.now guard_nodes.now) room_limit
         (live_of figures.old cursors.old sure.old never.old node_queue.old row_queues.old rings) }
     ensures { ((x : Index) → Holds x (held_rows row_conditions.now row_weights.now rows.now guard_bounds.now guard_nodes.now) → HoldsEdges x nodes.now edges.now
         → did (live_of figures.new cursors.new sure.new never.new node_queue.new row_queues.new result.rings) result.step
-        ≡ thresholdCondition x (live_of figures.old cursors.old sure.old never.old node_queue.old row_queues.old rings) node)
+        ≡ threshold_condition x (live_of figures.old cursors.old sure.old never.old node_queue.old row_queues.old rings) node)
         × (Tidy figures.old cursors.old → Tidy figures.new cursors.new) }
 {
     let value = words::bit(sure, node);

@@ -12,5 +12,5 @@ all_below zero test = true
 all_below (suc n) test = test n && all_below n test
 
 -- Every entry is the gcd of its row and its column.
-unfoldable pub allRight : List (List (List ℕ)) → Bool
-allRight groups = all_below 64 (λ left. all_below 64 (λ right. eqb (entry groups left right) (gcd left right)))
+unfoldable pub all_right : List (List (List ℕ)) → Bool
+all_right groups = all_below 64 (λ left. all_below 64 (λ right. eqb (entry groups left right) (gcd left right)))

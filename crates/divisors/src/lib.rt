@@ -1,7 +1,7 @@
 // The greatest common divisor of two small numbers, from a table.
 ghost use Rattle.std.specs.Prelude.{◌≡◌, true, [], ◌<◌, get_or};
 ghost use Rattle.divisors.specs.Gcd.{gcd};
-ghost use Rattle.divisors.specs.Table.{entry, allRight};
+ghost use Rattle.divisors.specs.Table.{entry, all_right};
 
 mod table;
 
@@ -55,7 +55,7 @@ fn in_table(groups: [[[u8; 64]; 8]; 8], left: u64, right: u64) -> u64
 
 // The table, of which every entry is right.
 fn small_gcds() -> [[[u8; 64]; 8]; 8]
-    ensures { allRight result ≡ true }
+    ensures { all_right result ≡ true }
 {
     table::SMALL_GCDS
 }

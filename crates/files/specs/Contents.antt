@@ -2,35 +2,35 @@
 use Rattle.std.specs.Prelude.{ℕ, ◌+◌, true, false, cond, List, map, length}
 use Rattle.base.specs.Laid.{over, pairs, quads}
 use Rattle.state.specs.declared.Step.TheVariants.{Unchanged}
-use Rattle.state.specs.Step.{stepNumber}
+use Rattle.state.specs.Step.{step_number}
 use Rattle.rows.specs.Rows.{rows_of}
 use Rattle.numeric.specs.Area.{job_of}
-use Rattle.job.specs.JobBuffers.{rawOf, builtOf}
-use Rattle.state.specs.State.{figuresOf, cursorsOf}
+use Rattle.job.specs.JobBuffers.{raw_of, built_of}
+use Rattle.state.specs.State.{figures_of, cursors_of}
 use Rattle.memory.specs.Buffers.{Kept, Work, kept, work, fits, cleared}
 use Rattle.files.specs.declared.Given.{Given}
-use Rattle.files.specs.File.{File, Answer, settled, sifted, Outcome, fileOf}
+use Rattle.files.specs.File.{File, Answer, settled, sifted, Outcome, file_of}
 
 -- An answer as a number: that of its step, and 4 more for a sift.
-abbrev pub answerNumber : Answer → ℕ
-answerNumber (settled k) = stepNumber k
-answerNumber (sifted k n) = 4 + stepNumber k
+abbrev pub answer_number : Answer → ℕ
+answer_number (settled k) = step_number k
+answer_number (sifted k n) = 4 + step_number k
 
-abbrev pub answerVisits : Answer → ℕ
-answerVisits (settled k) = 0
-answerVisits (sifted k n) = n
+abbrev pub answer_visits : Answer → ℕ
+answer_visits (settled k) = 0
+answer_visits (sifted k n) = n
 
-unfoldable pub keptOf : File → Kept → Kept
-keptOf f w =
+unfoldable pub kept_of : File → Kept → Kept
+kept_of f w =
     let v = f.live in
-    kept (over (map figuresOf v.states) w.figures) (over (map cursorsOf v.states) w.cursors) (over v.marks.sure w.sure)
-    (over v.marks.never w.never) w.search (over f.gcds w.gcds) (over v.marks.nodes.items w.node-queue)
-    (over (quads v.dirty.queue.items v.dirty.pending v.residuals.queue.items v.residuals.pending) w.row-queues)
-    (over (pairs (map answerNumber f.answers) (map answerVisits f.answers)) w.answers)
+    kept (over (map figures_of v.states) w.figures) (over (map cursors_of v.states) w.cursors) (over v.marks.sure w.sure)
+    (over v.marks.never w.never) w.search (over f.gcds w.gcds) (over v.marks.nodes.items w.node_queue)
+    (over (quads v.dirty.queue.items v.dirty.pending v.residuals.queue.items v.residuals.pending) w.row_queues)
+    (over (pairs (map answer_number f.answers) (map answer_visits f.answers)) w.answers)
 
 -- What a file left, laid into cleared buffers; the seal fills those of the rows.
 unfoldable pub laid : File → Work → Work
-laid f w = work (rawOf (job_of f.draft) w.raw) (cond f.sealed (builtOf f.closed w.built) w.built) (keptOf f w.kept)
+laid f w = work (raw_of (job_of f.draft) w.raw) (cond f.sealed (built_of f.closed w.built) w.built) (kept_of f w.kept)
 
 -- What is given back of an outcome.
 abbrev pub given_of : Outcome → Given
@@ -58,4 +58,4 @@ abbrev pub untouched : Work → Out
 untouched w = out nothing w
 
 unfoldable pub whole : List ℕ → Work → Out
-whole input w = elim (fits input w) [ true ↦ served (fileOf input) w | false ↦ untouched w ]
+whole input w = elim (fits input w) [ true ↦ served (file_of input) w | false ↦ untouched w ]

@@ -4,128 +4,128 @@ use Rattle.std.proofs.Common.{le_refl, arith, sym, ◌∙◌, subst, length-drop
 use Rattle.std.proofs.Math.Path.{ap, ap₂}
 use Rattle.base.specs.TestLaws.{true-false, unequal}
 use Rattle.records.specs.declared.Record.{Record}
-use Rattle.records.specs.Record.{kind_of, bodyLength, recordAt}
+use Rattle.records.specs.Record.{kind_of, body_length, record_at}
 use Rattle.records.specs.Facts.{action}
 use Rattle.checks.specs.Next.{closing}
-use Rattle.files.specs.File.{File, begun, apply, refusalAt, outcome, readFrom, fileOf}
-use Rattle.files.specs.FileLaws.{zero_or, read-on, read-stop, read-enough}
-use Rattle.files.specs.JobPart.{JobPart, jobPart, readJob, jobPartFrom, jobPartOf}
+use Rattle.files.specs.File.{File, begun, apply, refusal_at, outcome, read_from, file_of}
+use Rattle.files.specs.FileLaws.{zero_or, read_on, read_stop, read_enough}
+use Rattle.files.specs.JobPart.{JobPart, job_part, read_job, job_part_from, job_part_of}
 
 -- ---- one record: it is refused, a seal, or taken
 module _ (n o kind : ℕ) (rest : List ℕ) (f : File) (taken : List Record) where
   abbrev size : ℕ
-  size = bodyLength (kind_of kind)
+  size = body_length (kind_of kind)
 
   abbrev this : Record
-  this = recordAt kind rest
+  this = record_at kind rest
 
   abbrev on : JobPart
-  on = readJob n (o + 1 + size) (drop size rest) (apply f this) (taken ++ (this ∷ []))
+  on = read_job n (o + 1 + size) (drop size rest) (apply f this) (taken ++ (this ∷ []))
 
   goes : Bool → Bool → JobPart
-  goes b c = elim b [ true ↦ elim c [ true ↦ jobPart f taken 0 o true | false ↦ on ] | false ↦ jobPart f taken (refusalAt f kind rest) o false ]
+  goes b c = elim b [ true ↦ elim c [ true ↦ job_part f taken 0 o true | false ↦ on ] | false ↦ job_part f taken (refusal_at f kind rest) o false ]
 
-  pub job-refused : (refusalAt f kind rest ≡ 0 → ⊥) → readJob (suc n) o (kind ∷ rest) f taken ≡ jobPart f taken (refusalAt f kind rest) o false
-  unfolding readJob goes
-  job-refused h = ap (λ (b : Bool). goes b (closing (action this))) (ne_eqb (refusalAt f kind rest) 0 h)
+  pub job_refused : (refusal_at f kind rest ≡ 0 → ⊥) → read_job (suc n) o (kind ∷ rest) f taken ≡ job_part f taken (refusal_at f kind rest) o false
+  unfolding read_job goes
+  job_refused h = ap (λ (b : Bool). goes b (closing (action this))) (ne_eqb (refusal_at f kind rest) 0 h)
 
-  module _ (h : refusalAt f kind rest ≡ 0) where
-    pub job-sealing : closing (action this) ≡ true → readJob (suc n) o (kind ∷ rest) f taken ≡ jobPart f taken 0 o true
-    unfolding readJob goes
-    job-sealing c = ap₂ goes (eq-eqb (refusalAt f kind rest) 0 h) c
+  module _ (h : refusal_at f kind rest ≡ 0) where
+    pub job_sealing : closing (action this) ≡ true → read_job (suc n) o (kind ∷ rest) f taken ≡ job_part f taken 0 o true
+    unfolding read_job goes
+    job_sealing c = ap₂ goes (eq-eqb (refusal_at f kind rest) 0 h) c
 
-    pub job-next : closing (action this) ≡ false → readJob (suc n) o (kind ∷ rest) f taken ≡ on
-    unfolding readJob goes
-    job-next c = ap₂ goes (eq-eqb (refusalAt f kind rest) 0 h) c
+    pub job_next : closing (action this) ≡ false → read_job (suc n) o (kind ∷ rest) f taken ≡ on
+    unfolding read_job goes
+    job_next c = ap₂ goes (eq-eqb (refusal_at f kind rest) 0 h) c
 
 -- ---- THE WHOLE FILE is the job, and what comes from there on
 
 abbrev GoesOn : ℕ → ℕ → List ℕ → File → List Record → JobPart → Type 0
-GoesOn n o bytes f taken j = (o ≤ j.at) × (readFrom n o bytes f taken ≡ readFrom n j.at (drop (j.at - o) bytes) j.file j.records)
+GoesOn n o bytes f taken j = (o ≤ j.at) × (read_from n o bytes f taken ≡ read_from n j.at (drop (j.at - o) bytes) j.file j.records)
 
-pub goes_on : (n o : ℕ) (bytes : List ℕ) (f : File) (taken : List Record) → length bytes ≤ n → GoesOn n o bytes f taken (readJob n o bytes f taken)
-unfolding readJob
-goes_on zero o bytes f taken h = (le_refl o, (let e : o - o ≡ 0 = omega arith in ap (λ (k : ℕ). readFrom zero o (drop k bytes) f taken) (sym e)))
-goes_on (suc n) o [] f taken h = (le_refl o, (let e : o - o ≡ 0 = omega arith in ap (λ (k : ℕ). readFrom (suc n) o (drop k []) f taken) (sym e)))
-goes_on (suc n) o (kind ∷ rest) f taken h =
+pub goes_on_lem : (n o : ℕ) (bytes : List ℕ) (f : File) (taken : List Record) → length bytes ≤ n → GoesOn n o bytes f taken (read_job n o bytes f taken)
+unfolding read_job
+goes_on_lem zero o bytes f taken h = (le_refl o, (let e : o - o ≡ 0 = omega arith in ap (λ (k : ℕ). read_from zero o (drop k bytes) f taken) (sym e)))
+goes_on_lem (suc n) o [] f taken h = (le_refl o, (let e : o - o ≡ 0 = omega arith in ap (λ (k : ℕ). read_from (suc n) o (drop k []) f taken) (sym e)))
+goes_on_lem (suc n) o (kind ∷ rest) f taken h =
     ⊎_elim
-    (λ (e : refusalAt f kind rest ≡ 0).
-    ⊎_elim (λ (c : closing (action x) ≡ true). subst (GoesOn (suc n) o (kind ∷ rest) f taken) (sym (job-sealing n o kind rest f taken e c)) (stop 0 true))
+    (λ (e : refusal_at f kind rest ≡ 0).
+    ⊎_elim (λ (c : closing (action x) ≡ true). subst (GoesOn (suc n) o (kind ∷ rest) f taken) (sym (job_sealing n o kind rest f taken e c)) (stop 0 true))
     (λ (c : closing (action x) ≡ false).
-    subst (GoesOn (suc n) o (kind ∷ rest) f taken) (sym (job-next n o kind rest f taken e c))
-    (further e (readJob n (o + 1 + room) (drop room rest) (apply f x) (taken ++ (x ∷ []))) (goes_on n (o + 1 + room) (drop room rest) (apply f x) (taken ++ (x ∷ [])) (let d = length-drop room rest in omega (arith, d, h)))))
+    subst (GoesOn (suc n) o (kind ∷ rest) f taken) (sym (job_next n o kind rest f taken e c))
+    (further e (read_job n (o + 1 + room) (drop room rest) (apply f x) (taken ++ (x ∷ []))) (goes_on_lem n (o + 1 + room) (drop room rest) (apply f x) (taken ++ (x ∷ [])) (let d = length-drop room rest in omega (arith, d, h)))))
     (true-false (closing (action x))))
-    (λ (e : refusalAt f kind rest ≡ 0 → ⊥). subst (GoesOn (suc n) o (kind ∷ rest) f taken) (sym (job-refused n o kind rest f taken e)) (stop (refusalAt f kind rest) false))
-    (zero_or (refusalAt f kind rest))
+    (λ (e : refusal_at f kind rest ≡ 0 → ⊥). subst (GoesOn (suc n) o (kind ∷ rest) f taken) (sym (job_refused n o kind rest f taken e)) (stop (refusal_at f kind rest) false))
+    (zero_or (refusal_at f kind rest))
   where
     room : ℕ
-    room = bodyLength (kind_of kind)
+    room = body_length (kind_of kind)
 
     x : Record
-    x = recordAt kind rest
+    x = record_at kind rest
 
-    stop : (r : ℕ) (s : Bool) → GoesOn (suc n) o (kind ∷ rest) f taken (jobPart f taken r o s)
-    stop r s = (le_refl o, (let e : 0 ≡ o - o = omega arith in ap (λ (k : ℕ). readFrom (suc n) o (drop k (kind ∷ rest)) f taken) e))
+    stop : (r : ℕ) (s : Bool) → GoesOn (suc n) o (kind ∷ rest) f taken (job_part f taken r o s)
+    stop r s = (le_refl o, (let e : 0 ≡ o - o = omega arith in ap (λ (k : ℕ). read_from (suc n) o (drop k (kind ∷ rest)) f taken) e))
 
-    further : refusalAt f kind rest ≡ 0 → (j : JobPart) → GoesOn n (o + 1 + room) (drop room rest) (apply f x) (taken ++ (x ∷ [])) j → GoesOn (suc n) o (kind ∷ rest) f taken j
+    further : refusal_at f kind rest ≡ 0 → (j : JobPart) → GoesOn n (o + 1 + room) (drop room rest) (apply f x) (taken ++ (x ∷ [])) j → GoesOn (suc n) o (kind ∷ rest) f taken j
     further e j g =
         let b = g.0 in
         let k = j.at - (o + 1 + room) in
         let a : suc (k + room) ≡ j.at - o = omega arith in
         let d = length-drop (j.at - o) (kind ∷ rest) in (
           omega arith,
-          read-on n o kind rest f taken e ∙ g.1 ∙ ap (λ (l : List ℕ). readFrom n j.at l j.file j.records) (drop-drop k room rest ∙ ap (λ (i : ℕ). drop i rest) {x = room + k} {y = k + room} (omega arith))
-              ∙ ap (λ (i : ℕ). readFrom n j.at (drop i (kind ∷ rest)) j.file j.records) a
-              ∙ read-enough n (suc n) j.at (drop (j.at - o) (kind ∷ rest)) j.file j.records (let q : length (kind ∷ rest) ≤ suc n = h in omega (arith, d, q, a)) (let q : length (kind ∷ rest) ≤ suc n = h in omega (arith, d, q)),
+          read_on n o kind rest f taken e ∙ g.1 ∙ ap (λ (l : List ℕ). read_from n j.at l j.file j.records) (drop-drop k room rest ∙ ap (λ (i : ℕ). drop i rest) {x = room + k} {y = k + room} (omega arith))
+              ∙ ap (λ (i : ℕ). read_from n j.at (drop i (kind ∷ rest)) j.file j.records) a
+              ∙ read_enough n (suc n) j.at (drop (j.at - o) (kind ∷ rest)) j.file j.records (let q : length (kind ∷ rest) ≤ suc n = h in omega (arith, d, q, a)) (let q : length (kind ∷ rest) ≤ suc n = h in omega (arith, d, q)),
         )
 
 -- From any file and offset.
-pub part-goes-on : (bytes : List ℕ) (o : ℕ) (f : File) (taken : List Record) → let j = jobPartFrom bytes o f taken in
-    (o ≤ j.at) × (readFrom (length bytes) o (drop o bytes) f taken ≡ readFrom (length bytes) j.at (drop j.at bytes) j.file j.records)
-part-goes-on bytes o f taken =
-    let j = jobPartFrom bytes o f taken in
-    let g = goes_on (length bytes) o (drop o bytes) f taken (let d = length-drop o bytes in omega (arith, d)) in
+pub part_goes_on : (bytes : List ℕ) (o : ℕ) (f : File) (taken : List Record) → let j = job_part_from bytes o f taken in
+    (o ≤ j.at) × (read_from (length bytes) o (drop o bytes) f taken ≡ read_from (length bytes) j.at (drop j.at bytes) j.file j.records)
+part_goes_on bytes o f taken =
+    let j = job_part_from bytes o f taken in
+    let g = goes_on_lem (length bytes) o (drop o bytes) f taken (let d = length-drop o bytes in omega (arith, d)) in
     let b = g.0 in (
       b,
-      g.1 ∙ ap (λ (l : List ℕ). readFrom (length bytes) j.at l j.file j.records) (drop-drop (j.at - o) o bytes ∙ ap (λ (k : ℕ). drop k bytes) {x = o + (j.at - o)} {y = j.at} (omega (arith, b))),
+      g.1 ∙ ap (λ (l : List ℕ). read_from (length bytes) j.at l j.file j.records) (drop-drop (j.at - o) o bytes ∙ ap (λ (k : ℕ). drop k bytes) {x = o + (j.at - o)} {y = j.at} (omega (arith, b))),
     )
 
-pub file-goes-on : (bytes : List ℕ) → let j = jobPartOf bytes in fileOf bytes ≡ readFrom (length bytes) j.at (drop j.at bytes) j.file j.records
-unfolding fileOf jobPartOf
-file-goes-on bytes = (part-goes-on bytes 0 begun []).1
+pub file_goes_on : (bytes : List ℕ) → let j = job_part_of bytes in file_of bytes ≡ read_from (length bytes) j.at (drop j.at bytes) j.file j.records
+unfolding file_of job_part_of
+file_goes_on bytes = (part_goes_on bytes 0 begun []).1
 
 -- Where no seal is next, the file ends there: with the input, or refused.
 
 abbrev EndsThere : ℕ → ℕ → List ℕ → File → List Record → JobPart → Type 0
-EndsThere n o bytes f taken j = j.sealing ≡ false → readFrom n o bytes f taken ≡ outcome j.file j.records j.refused j.at
+EndsThere n o bytes f taken j = j.sealing ≡ false → read_from n o bytes f taken ≡ outcome j.file j.records j.refused j.at
 
-ends_there : (n o : ℕ) (bytes : List ℕ) (f : File) (taken : List Record) → EndsThere n o bytes f taken (readJob n o bytes f taken)
-unfolding readJob readFrom
+ends_there : (n o : ℕ) (bytes : List ℕ) (f : File) (taken : List Record) → EndsThere n o bytes f taken (read_job n o bytes f taken)
+unfolding read_job read_from
 ends_there zero o bytes f taken = λ q. refl
 ends_there (suc n) o [] f taken = λ q. refl
 ends_there (suc n) o (kind ∷ rest) f taken =
     ⊎_elim
-    (λ (e : refusalAt f kind rest ≡ 0).
+    (λ (e : refusal_at f kind rest ≡ 0).
     ⊎_elim
     (λ (c : closing (action x) ≡ true).
-    subst (EndsThere (suc n) o (kind ∷ rest) f taken) (sym (job-sealing n o kind rest f taken e c)) (λ q. absurd (unequal cc)))
+    subst (EndsThere (suc n) o (kind ∷ rest) f taken) (sym (job_sealing n o kind rest f taken e c)) (λ q. absurd (unequal cc)))
     (λ (c : closing (action x) ≡ false).
-    subst (EndsThere (suc n) o (kind ∷ rest) f taken) (sym (job-next n o kind rest f taken e c))
-    (λ q. read-on n o kind rest f taken e ∙ ends_there n (o + 1 + room) (drop room rest) (apply f x) (taken ++ (x ∷ [])) q))
+    subst (EndsThere (suc n) o (kind ∷ rest) f taken) (sym (job_next n o kind rest f taken e c))
+    (λ q. read_on n o kind rest f taken e ∙ ends_there n (o + 1 + room) (drop room rest) (apply f x) (taken ++ (x ∷ [])) q))
     (true-false (closing (action x))))
-    (λ (e : refusalAt f kind rest ≡ 0 → ⊥). subst (EndsThere (suc n) o (kind ∷ rest) f taken) (sym (job-refused n o kind rest f taken e)) (λ q. read-stop n o kind rest f taken e))
-    (zero_or (refusalAt f kind rest))
+    (λ (e : refusal_at f kind rest ≡ 0 → ⊥). subst (EndsThere (suc n) o (kind ∷ rest) f taken) (sym (job_refused n o kind rest f taken e)) (λ q. read_stop n o kind rest f taken e))
+    (zero_or (refusal_at f kind rest))
   where
     room : ℕ
-    room = bodyLength (kind_of kind)
+    room = body_length (kind_of kind)
 
     x : Record
-    x = recordAt kind rest
+    x = record_at kind rest
 
-pub part-ends : (bytes : List ℕ) (o : ℕ) (f : File) (taken : List Record) → let j = jobPartFrom bytes o f taken in
-    j.sealing ≡ false → readFrom (length bytes) o (drop o bytes) f taken ≡ outcome j.file j.records j.refused j.at
-part-ends bytes o f taken q = ends_there (length bytes) o (drop o bytes) f taken q
+pub part_ends : (bytes : List ℕ) (o : ℕ) (f : File) (taken : List Record) → let j = job_part_from bytes o f taken in
+    j.sealing ≡ false → read_from (length bytes) o (drop o bytes) f taken ≡ outcome j.file j.records j.refused j.at
+part_ends bytes o f taken q = ends_there (length bytes) o (drop o bytes) f taken q
 
-pub file-ends : (bytes : List ℕ) → let j = jobPartOf bytes in j.sealing ≡ false → fileOf bytes ≡ outcome j.file j.records j.refused j.at
-unfolding fileOf jobPartOf
-file-ends bytes q = part-ends bytes 0 begun [] q
+pub file-ends : (bytes : List ℕ) → let j = job_part_of bytes in j.sealing ≡ false → file_of bytes ≡ outcome j.file j.records j.refused j.at
+unfolding file_of job_part_of
+file-ends bytes q = part_ends bytes 0 begun [] q

@@ -1,10 +1,10 @@
 // The job while its records come in: thresholds, terms and areas stored in the raw buffers.
 ghost use Rattle.std.specs.Prelude.{◌≡◌, [], ◌∷◌, ◌-◌, ◌<◌, ◌≤◌, length, get_or, set};
-ghost use Rattle.rows.specs.Guards.{nodeAt};
-ghost use Rattle.memory.specs.Ranges.{rawLimit};
+ghost use Rattle.rows.specs.Guards.{node_at};
+ghost use Rattle.memory.specs.Ranges.{raw_limit};
 ghost use Rattle.records.specs.declared.Record.TheVariants.{Opens, Adds, Areas};
-ghost use Rattle.checks.specs.Checks.{refusedBy};
-ghost use Rattle.job.specs.Gathered.{Listed, Bounded, Termed, Opened, Added, openStart, Joinable, FirstArea, MoreArea, AreaTaken};
+ghost use Rattle.checks.specs.Checks.{refused_by};
+ghost use Rattle.job.specs.Gathered.{Listed, Bounded, Termed, Opened, Added, open_start, Joinable, FirstArea, MoreArea, AreaTaken};
 
 use numeric::weight_of_area;
 use records::Standing;
@@ -18,7 +18,7 @@ pub fn open_threshold(
     thresholds: &mut [[u16; 2]],
     bounds: &mut [i64],
 ) -> Standing
-    requires { Listed standing thresholds.old × Bounded standing bounds.old × (refusedBy standing (Opens node bound) ≡ 0) }
+    requires { Listed standing thresholds.old × Bounded standing bounds.old × (refused_by standing (Opens node bound) ≡ 0) }
     ensures { Opened standing node bound thresholds.old bounds.old result thresholds.new bounds.new }
 {
     let at = standing.thresholds;
@@ -42,7 +42,7 @@ pub fn open_threshold(
 
 fn set_end(thresholds: &mut [[u16; 2]], t: usize, end: usize)
     requires { (t < length thresholds.old) × (end < 65536) }
-    ensures { thresholds.new ≡ set thresholds.old t (nodeAt thresholds.old t ∷ end ∷ []) }
+    ensures { thresholds.new ≡ set thresholds.old t (node_at thresholds.old t ∷ end ∷ []) }
 {
     let pair = thresholds[t];
     let entry = [pair[0], end as u16];
@@ -59,7 +59,7 @@ pub fn add_term(
     thresholds: &mut [[u16; 2]],
 ) -> Standing
     requires { Listed standing thresholds.old × Termed standing raw_conditions.old raw_weights.old
-        × (weight < rawLimit) × (refusedBy standing (Adds condition weight) ≡ 0) }
+        × (weight < raw_limit) × (refused_by standing (Adds condition weight) ≡ 0) }
     ensures { Added standing condition weight raw_conditions.old raw_weights.old thresholds.old
         result raw_conditions.new raw_weights.new thresholds.new }
 {
@@ -94,7 +94,7 @@ fn first_area(
     sums: &mut [u64],
 ) -> Standing
     requires { Listed standing thresholds.old × Termed standing raw_conditions.old raw_weights.old × Joinable standing thresholds.old places.old sums.old
-        × (area < 4294967296) × (refusedBy standing (Areas condition area) ≡ 0) × (get_or places.old condition 0 ≤ openStart standing thresholds.old) }
+        × (area < 4294967296) × (refused_by standing (Areas condition area) ≡ 0) × (get_or places.old condition 0 ≤ open_start standing thresholds.old) }
     ensures { FirstArea standing condition area raw_conditions.old raw_weights.old thresholds.old places.old sums.old
         result raw_conditions.new raw_weights.new thresholds.new places.new sums.new }
 {
@@ -125,7 +125,7 @@ fn more_area(
     sums: &mut [u64],
 ) -> Standing
     requires { Listed standing thresholds.now × Termed standing raw_conditions.now raw_weights.old × Joinable standing thresholds.now places.now sums.old
-        × (area < 4294967296) × (refusedBy standing (Areas condition area) ≡ 0) × (openStart standing thresholds.now < get_or places.now condition 0) }
+        × (area < 4294967296) × (refused_by standing (Areas condition area) ≡ 0) × (open_start standing thresholds.now < get_or places.now condition 0) }
     ensures { MoreArea standing condition area raw_conditions.now raw_weights.old thresholds.now places.now sums.old
         result raw_weights.new sums.new }
 {
@@ -160,7 +160,7 @@ pub fn add_area(
     sums: &mut [u64],
 ) -> Standing
     requires { Listed standing thresholds.old × Termed standing raw_conditions.old raw_weights.old × Joinable standing thresholds.old places.old sums.old
-        × (area < 4294967296) × (refusedBy standing (Areas condition area) ≡ 0) }
+        × (area < 4294967296) × (refused_by standing (Areas condition area) ≡ 0) }
     ensures { AreaTaken standing condition area raw_conditions.old raw_weights.old thresholds.old places.old sums.old
         result raw_conditions.new raw_weights.new thresholds.new places.new sums.new }
 {

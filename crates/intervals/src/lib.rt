@@ -4,7 +4,7 @@ ghost use Rattle.base.specs.Signed.{natural as naturalOf};
 ghost use Rattle.state.specs.State.{limit};
 ghost use Rattle.misses.specs.Misses.{misses};
 ghost use Rattle.intervals.specs.Shape.{Window};
-ghost use Rattle.intervals.specs.Residual.{interval, stopsAt, tooWide, bothFit, offMisses, onMisses};
+ghost use Rattle.intervals.specs.Residual.{interval, stops_at, too_wide, both_fit, off_misses, on_misses};
 
 use state::{State, Upper};
 
@@ -68,7 +68,7 @@ fn first_fits(i: Interval, divisor: u64, weight: u64) -> bool
 // With this weight a sum is allowed for sure, whatever the weights above it.
 pub fn stops(i: Interval, divisor: u64, weight: u64, next: u64) -> bool
     requires { Window i }
-    ensures { result ≡ stopsAt i divisor weight next }
+    ensures { result ≡ stops_at i divisor weight next }
 {
     if first_fits(i, divisor, weight) {
         return true;
@@ -85,7 +85,7 @@ pub fn stops(i: Interval, divisor: u64, weight: u64, next: u64) -> bool
 
 // No weight fits yet, and this one does not.
 pub fn too_wide(i: Interval, fitting: bool, weight: u64) -> bool
-    ensures { result ≡ tooWide i fitting weight }
+    ensures { result ≡ too_wide i fitting weight }
 {
     if fitting {
         return false;
@@ -96,7 +96,7 @@ pub fn too_wide(i: Interval, fitting: bool, weight: u64) -> bool
 
 // Beside a weight that fits, another one or the gcd of the others fits. No gcd, 0, is no witness.
 pub fn both_fit(i: Interval, weight: u64, next: u64) -> bool
-    ensures { result ≡ bothFit i weight next }
+    ensures { result ≡ both_fit i weight next }
 {
     let width = i.width;
     if weight <= width {
@@ -110,7 +110,7 @@ pub fn both_fit(i: Interval, weight: u64, next: u64) -> bool
 
 // No sum is allowed where a term of this weight is left out.
 pub fn off_misses(i: Interval, weight: u64, divisor: u64) -> bool
-    ensures { result ≡ offMisses i weight divisor }
+    ensures { result ≡ off_misses i weight divisor }
 {
     let maximum = minus(i.possible, weight);
     misses::branch_misses(i.known, maximum, i.lower, i.upper, divisor)
@@ -119,7 +119,7 @@ pub fn off_misses(i: Interval, weight: u64, divisor: u64) -> bool
 // No sum is allowed where it is taken.
 pub fn on_misses(i: Interval, weight: u64, divisor: u64) -> bool
     requires { i.known + weight < 2 ^ 64 }
-    ensures { result ≡ onMisses i weight divisor }
+    ensures { result ≡ on_misses i weight divisor }
 {
     let known = i.known;
     misses::branch_misses(known + weight, i.possible, i.lower, i.upper, divisor)

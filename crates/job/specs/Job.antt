@@ -6,23 +6,23 @@ use Rattle.records.specs.declared.Standing.{Standing}
 use Rattle.records.specs.Facts.{Change, opens, adds}
 
 -- The last threshold of the list is the open one: its node, and what is listed in it.
-unfoldable pub lastNode : {X : Type 0} → List (ThresholdOf X) → ℕ
-lastNode [] = 0
-lastNode (t ∷ []) = t.node
-lastNode (t ∷ u ∷ us) = lastNode (u ∷ us)
+unfoldable pub last_node_of : {X : Type 0} → List (ThresholdOf X) → ℕ
+last_node_of [] = 0
+last_node_of (t ∷ []) = t.node
+last_node_of (t ∷ u ∷ us) = last_node_of (u ∷ us)
 
-unfoldable pub lastList : {X : Type 0} → List (ThresholdOf X) → List X
-lastList [] = []
-lastList (t ∷ []) = t.terms
-lastList (t ∷ u ∷ us) = lastList (u ∷ us)
+unfoldable pub last_list : {X : Type 0} → List (ThresholdOf X) → List X
+last_list [] = []
+last_list (t ∷ []) = t.terms
+last_list (t ∷ u ∷ us) = last_list (u ∷ us)
 
-unfoldable pub allTerms : {X : Type 0} → List (ThresholdOf X) → ℕ
-allTerms [] = 0
-allTerms (t ∷ ts) = length t.terms + allTerms ts
+unfoldable pub all_terms : {X : Type 0} → List (ThresholdOf X) → ℕ
+all_terms [] = 0
+all_terms (t ∷ ts) = length t.terms + all_terms ts
 
 -- What the checks read of a file with this draft, in which each record counts, joined or not; and how many terms its raw lists have.
-abbrev pub standingOf : (started sealed contradicted : Bool) → Draft → (answers : ℕ) → Standing
-standingOf s e c d n =
+abbrev pub standing_of : (started sealed contradicted : Bool) → Draft → (answers : ℕ) → Standing
+standing_of s e c d n =
     let ts = d.thresholds in
     record {
       started = s;
@@ -30,26 +30,26 @@ standingOf s e c d n =
       contradicted = c;
       nodes = d.nodes;
       thresholds = length ts;
-      last_node = lastNode ts;
-      last_terms = length (lastList ts);
-      terms = allTerms ts;
-      raw_terms = allTerms (job_of d).thresholds;
+      last_node = last_node_of ts;
+      last_terms = length (last_list ts);
+      terms = all_terms ts;
+      raw_terms = all_terms (job_of d).thresholds;
       answers = n;
     }
 
 -- The open threshold with its list changed.
-unfoldable pub onLast : {X : Type 0} → (List X → List X) → List (ThresholdOf X) → List (ThresholdOf X)
-onLast g [] = []
-onLast g (t ∷ []) = record { node = t.node; bound = t.bound; terms = g t.terms } ∷ []
-onLast g (t ∷ u ∷ us) = t ∷ onLast g (u ∷ us)
+unfoldable pub on_last : {X : Type 0} → (List X → List X) → List (ThresholdOf X) → List (ThresholdOf X)
+on_last g [] = []
+on_last g (t ∷ []) = record { node = t.node; bound = t.bound; terms = g t.terms } ∷ []
+on_last g (t ∷ u ∷ us) = t ∷ on_last g (u ∷ us)
 
 -- What a change makes of the thresholds.
-abbrev pub addTerm : {X : Type 0} → X → List (ThresholdOf X) → List (ThresholdOf X)
-addTerm x ts = onLast (λ l. l ++ (x ∷ [])) ts
+abbrev pub add_term : {X : Type 0} → X → List (ThresholdOf X) → List (ThresholdOf X)
+add_term x ts = on_last (λ l. l ++ (x ∷ [])) ts
 
 abbrev pub changed : Change → List (ThresholdOf Entry) → List (ThresholdOf Entry)
 changed (opens n b) ts = ts ++ (record { node = n; bound = b; terms = [] } ∷ [])
-changed (adds x) ts = addTerm x ts
+changed (adds x) ts = add_term x ts
 
-abbrev pub withChange : Draft → Change → Draft
-withChange d c = record { nodes = d.nodes; thresholds = changed c d.thresholds }
+abbrev pub with_change : Draft → Change → Draft
+with_change d c = record { nodes = d.nodes; thresholds = changed c d.thresholds }

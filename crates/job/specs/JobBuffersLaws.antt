@@ -6,41 +6,41 @@ use Rattle.base.specs.Laid.{over, ends, triples, numbers}
 use Rattle.base.specs.Columns.{column}
 use Rattle.base.specs.ColumnsLaws.{length-column}
 use Rattle.numeric.specs.Threshold.{Job}
-use Rattle.rows.specs.Rows.{Row, rows_of, edgesOf}
-use Rattle.rows.specs.Laid.{termLists, guardLists, thresholdOf, rowOfNode, edgeLists}
+use Rattle.rows.specs.Rows.{Row, rows_of, edges_of}
+use Rattle.rows.specs.Laid.{term_lists, guard_lists, threshold_of, row_of_node, edge_lists}
 use Rattle.base.specs.LaidLaws.{length-numbers}
-use Rattle.links.specs.Links.{neighbourLists}
+use Rattle.links.specs.Links.{neighbour_lists}
 use Rattle.job.specs.RowsGivenLaidLaws.{length-ends}
-use Rattle.job.specs.NodesGivenLaws.{triples-columns}
-use Rattle.job.specs.JobBuffers.{rowEntries, nodeEntries}
+use Rattle.job.specs.NodesGivenLaws.{triples_columns}
+use Rattle.job.specs.JobBuffers.{row_entries, node_entries}
 
 -- Lists over the first numbers, and triples, have their lengths.
 pub length-first : {X : Type 0} (f : ℕ → X) (n : ℕ) → length (map f (numbers 0 n)) ≡ n
 length-first f n = length-map (numbers 0 n) f ∙ length-numbers 0 n
 
-triples-long : (xs ys zs : List ℕ) → length ys ≡ length xs → length zs ≡ length xs → length (triples xs ys zs) ≡ length xs
-triples-long xs ys zs a b = sym (length-column 0 (triples xs ys zs)) ∙ ap length (triples-columns xs ys zs a b).0
+triples_long : (xs ys zs : List ℕ) → length ys ≡ length xs → length zs ≡ length xs → length (triples xs ys zs) ≡ length xs
+triples_long xs ys zs a b = sym (length-column 0 (triples xs ys zs)) ∙ ap length (triples_columns xs ys zs a b).0
 
 module _ (j : Job) where
-  pub guards-even : length (ends 0 (guardLists (rows_of j))) ≡ length (ends 0 (termLists (rows_of j)))
-  guards-even =
-      length-ends 0 (guardLists (rows_of j)) ∙ length-map (rows_of j) (λ (r : Row). r.guards)
-      ∙ sym (length-ends 0 (termLists (rows_of j)) ∙ length-map (rows_of j) (λ (r : Row). r.terms))
+  pub guards_even : length (ends 0 (guard_lists (rows_of j))) ≡ length (ends 0 (term_lists (rows_of j)))
+  guards_even =
+      length-ends 0 (guard_lists (rows_of j)) ∙ length-map (rows_of j) (λ (r : Row). r.guards)
+      ∙ sym (length-ends 0 (term_lists (rows_of j)) ∙ length-map (rows_of j) (λ (r : Row). r.terms))
 
-  pub rows-even : length (ends 0 (termLists (rows_of j))) ≡ length (rows_of j)
-  rows-even = length-ends 0 (termLists (rows_of j)) ∙ length-map (rows_of j) (λ (r : Row). r.terms)
+  pub rows_even : length (ends 0 (term_lists (rows_of j))) ≡ length (rows_of j)
+  rows_even = length-ends 0 (term_lists (rows_of j)) ∙ length-map (rows_of j) (λ (r : Row). r.terms)
 
-  pub entries-long : (links : List ℕ) → length links ≡ length (rows_of j) → length (rowEntries j links) ≡ length (rows_of j)
-  entries-long links e = triples-long (ends 0 (termLists (rows_of j))) (ends 0 (guardLists (rows_of j))) links guards-even (e ∙ sym rows-even) ∙ rows-even
+  pub entries_long : (links : List ℕ) → length links ≡ length (rows_of j) → length (row_entries j links) ≡ length (rows_of j)
+  entries_long links e = triples_long (ends 0 (term_lists (rows_of j))) (ends 0 (guard_lists (rows_of j))) links guards_even (e ∙ sym rows_even) ∙ rows_even
 
   -- The columns of the rows, whatever stands behind.
-  pub entries-columns : (links : List ℕ) (b : List (List ℕ)) → length links ≡ length (rows_of j)
-      → let l = rowEntries j links in
-      (column 0 (over l b) ≡ ends 0 (termLists (rows_of j)) ++ column 0 (drop (length l) b))
-      × ((column 1 (over l b) ≡ ends 0 (guardLists (rows_of j)) ++ column 1 (drop (length l) b)) × (column 2 (over l b) ≡ links ++ column 2 (drop (length l) b)))
-  entries-columns links b e =
-      let l = rowEntries j links in
-      let t = triples-columns (ends 0 (termLists (rows_of j))) (ends 0 (guardLists (rows_of j))) links guards-even (e ∙ sym rows-even) in (
+  pub entries_columns : (links : List ℕ) (b : List (List ℕ)) → length links ≡ length (rows_of j)
+      → let l = row_entries j links in
+      (column 0 (over l b) ≡ ends 0 (term_lists (rows_of j)) ++ column 0 (drop (length l) b))
+      × ((column 1 (over l b) ≡ ends 0 (guard_lists (rows_of j)) ++ column 1 (drop (length l) b)) × (column 2 (over l b) ≡ links ++ column 2 (drop (length l) b)))
+  entries_columns links b e =
+      let l = row_entries j links in
+      let t = triples_columns (ends 0 (term_lists (rows_of j))) (ends 0 (guard_lists (rows_of j))) links guards_even (e ∙ sym rows_even) in (
         map-append (λ (v : List ℕ). get_or v 0 0) l (drop (length l) b) ∙ ap (λ (x : List ℕ). x ++ column 0 (drop (length l) b)) t.0,
         (
           map-append (λ (v : List ℕ). get_or v 1 0) l (drop (length l) b) ∙ ap (λ (x : List ℕ). x ++ column 1 (drop (length l) b)) t.1,
@@ -48,29 +48,29 @@ module _ (j : Job) where
         ),
       )
 
-  firsts-long : length (map (thresholdOf 0 j.thresholds) (numbers 0 j.nodes)) ≡ j.nodes
-  firsts-long = length-first (thresholdOf 0 j.thresholds) j.nodes
+  firsts-long : length (map (threshold_of 0 j.thresholds) (numbers 0 j.nodes)) ≡ j.nodes
+  firsts-long = length-first (threshold_of 0 j.thresholds) j.nodes
 
-  seconds-even : length (map (rowOfNode (rows_of j) j.thresholds) (numbers 0 j.nodes)) ≡ length (map (thresholdOf 0 j.thresholds) (numbers 0 j.nodes))
-  seconds-even = length-first (rowOfNode (rows_of j) j.thresholds) j.nodes ∙ sym firsts-long
+  seconds-even : length (map (row_of_node (rows_of j) j.thresholds) (numbers 0 j.nodes)) ≡ length (map (threshold_of 0 j.thresholds) (numbers 0 j.nodes))
+  seconds-even = length-first (row_of_node (rows_of j) j.thresholds) j.nodes ∙ sym firsts-long
 
-  thirds-even : length (ends 0 (edgeLists j.nodes (rows_of j))) ≡ length (map (thresholdOf 0 j.thresholds) (numbers 0 j.nodes))
-  thirds-even = length-ends 0 (edgeLists j.nodes (rows_of j)) ∙ length-first (edgesOf (rows_of j)) j.nodes ∙ sym firsts-long
+  thirds-even : length (ends 0 (edge_lists j.nodes (rows_of j))) ≡ length (map (threshold_of 0 j.thresholds) (numbers 0 j.nodes))
+  thirds-even = length-ends 0 (edge_lists j.nodes (rows_of j)) ∙ length-first (edges_of (rows_of j)) j.nodes ∙ sym firsts-long
 
-  pub nodes-long : length (nodeEntries j) ≡ j.nodes
-  nodes-long =
-      triples-long (map (thresholdOf 0 j.thresholds) (numbers 0 j.nodes)) (map (rowOfNode (rows_of j) j.thresholds) (numbers 0 j.nodes))
-      (ends 0 (edgeLists j.nodes (rows_of j))) seconds-even thirds-even
+  pub nodes_long : length (node_entries j) ≡ j.nodes
+  nodes_long =
+      triples_long (map (threshold_of 0 j.thresholds) (numbers 0 j.nodes)) (map (row_of_node (rows_of j) j.thresholds) (numbers 0 j.nodes))
+      (ends 0 (edge_lists j.nodes (rows_of j))) seconds-even thirds-even
       ∙ firsts-long
 
   -- Where the edges of each node end, whatever stands behind.
-  pub nodes-column : (b : List (List ℕ)) → column 2 (over (nodeEntries j) b) ≡ ends 0 (edgeLists j.nodes (rows_of j)) ++ column 2 (drop (length (nodeEntries j)) b)
-  nodes-column b =
-      let l = nodeEntries j in
+  pub nodes_column : (b : List (List ℕ)) → column 2 (over (node_entries j) b) ≡ ends 0 (edge_lists j.nodes (rows_of j)) ++ column 2 (drop (length (node_entries j)) b)
+  nodes_column b =
+      let l = node_entries j in
       map-append (λ (v : List ℕ). get_or v 2 0) l (drop (length l) b)
       ∙ ap (λ (x : List ℕ). x ++ column 2 (drop (length l) b))
-      (triples-columns (map (thresholdOf 0 j.thresholds) (numbers 0 j.nodes)) (map (rowOfNode (rows_of j) j.thresholds) (numbers 0 j.nodes))
-      (ends 0 (edgeLists j.nodes (rows_of j))) seconds-even thirds-even).2
+      (triples_columns (map (threshold_of 0 j.thresholds) (numbers 0 j.nodes)) (map (row_of_node (rows_of j) j.thresholds) (numbers 0 j.nodes))
+      (ends 0 (edge_lists j.nodes (rows_of j))) seconds-even thirds-even).2
 
-pub neighbours-long : (rs : List Row) → length (ends 0 (neighbourLists rs)) ≡ length rs
-neighbours-long rs = length-ends 0 (neighbourLists rs) ∙ length-first _ (length rs)
+pub neighbours_long : (rs : List Row) → length (ends 0 (neighbour_lists rs)) ≡ length rs
+neighbours_long rs = length-ends 0 (neighbour_lists rs) ∙ length-first _ (length rs)

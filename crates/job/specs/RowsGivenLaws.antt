@@ -4,112 +4,112 @@ use Rattle.std.proofs.Common.{not-suc-le-zero, add-zero, zero-add, add-one, arit
 use Rattle.std.proofs.lemmas.List.{length-map}
 use Rattle.base.specs.Laid.{numbers}
 use Rattle.numeric.specs.Threshold.{Term}
-use Rattle.row.specs.Terms.{rowTerms, sameTerms}
+use Rattle.row.specs.Terms.{row_terms, same_terms}
 use Rattle.memory.specs.Buffers.{RawLists}
-use Rattle.job.specs.Shared.{number_in, joined, rawsTo, rowTo, termsTo}
-use Rattle.rows.specs.Lists.{listAt}
-use Rattle.job.specs.RowsLaws.{number-most, raws, number-raws, raws-place, all_made, made-terms}
+use Rattle.job.specs.Shared.{number_in, joined, raws_to, row_to, terms_to}
+use Rattle.rows.specs.Lists.{list_at}
+use Rattle.job.specs.RowsLaws.{number_most, raws, number_raws, raws_place, all_made, made_terms}
 use Rattle.rows.specs.ListsLaws.{same_refl}
-use Rattle.rows.specs.Rows.{Row, place, placeAll, rowNumber}
-use Rattle.rows.specs.Laid.{termLists}
-use Rattle.job.specs.Given.{thresholdAt, given, givenRows}
+use Rattle.rows.specs.Rows.{Row, place, place_all, row_number}
+use Rattle.rows.specs.Laid.{term_lists}
+use Rattle.job.specs.Given.{threshold_at, given, given_rows}
 
 -- ---- raw lists
 
-raws-from : (r : RawLists) (bounds : List ℤ) (t k : ℕ) (rs : List Row) → raws rs ≡ rawsTo r t
-    → raws (placeAll (map (thresholdAt r bounds) (numbers t k)) rs) ≡ rawsTo r (t + k)
-unfolding placeAll numbers rawsTo
-raws-from r bounds t zero rs e = e ∙ ap (rawsTo r) (sym (add-zero t))
-raws-from r bounds t (suc k) rs e =
-    raws-from r bounds (t + 1) k (place (thresholdAt r bounds t) rs)
-    (raws-place (thresholdAt r bounds t) rs ∙ ap (λ (ls : List (List Term)). joined ls (listAt r t)) e ∙ sym (ap (rawsTo r) (add-one t)))
-    ∙ ap (rawsTo r) (let q : t + 1 + k ≡ t + suc k = omega arith in q)
+raws_from : (r : RawLists) (bounds : List ℤ) (t k : ℕ) (rs : List Row) → raws rs ≡ raws_to r t
+    → raws (place_all (map (threshold_at r bounds) (numbers t k)) rs) ≡ raws_to r (t + k)
+unfolding place_all numbers raws_to
+raws_from r bounds t zero rs e = e ∙ ap (raws_to r) (sym (add-zero t))
+raws_from r bounds t (suc k) rs e =
+    raws_from r bounds (t + 1) k (place (threshold_at r bounds t) rs)
+    (raws_place (threshold_at r bounds t) rs ∙ ap (λ (ls : List (List Term)). joined ls (list_at r t)) e ∙ sym (ap (raws_to r) (add-one t)))
+    ∙ ap (raws_to r) (let q : t + 1 + k ≡ t + suc k = omega arith in q)
 
 -- THE LOOP'S RAW LISTS ARE THOSE OF THE JOB'S ROWS, whatever the bounds.
-pub raws-given : (r : RawLists) (bounds : List ℤ) → rawsTo r (length r.thresholds) ≡ map (λ (row : Row). row.raw) (givenRows r bounds)
-unfolding rawsTo
-raws-given r bounds = sym (raws-from r bounds 0 (length r.thresholds) [] refl ∙ ap (rawsTo r) (zero-add (length r.thresholds)))
+pub raws_given : (r : RawLists) (bounds : List ℤ) → raws_to r (length r.thresholds) ≡ map (λ (row : Row). row.raw) (given_rows r bounds)
+unfolding raws_to
+raws_given r bounds = sym (raws_from r bounds 0 (length r.thresholds) [] refl ∙ ap (raws_to r) (zero-add (length r.thresholds)))
 
 -- ---- terms
 
 -- THE LOOP'S TERMS ARE THOSE OF THE JOB'S ROWS.
-pub terms-given : (r : RawLists) (bounds : List ℤ) → termsTo r (length r.thresholds) ≡ termLists (givenRows r bounds)
+pub terms-given : (r : RawLists) (bounds : List ℤ) → terms_to r (length r.thresholds) ≡ term_lists (given_rows r bounds)
 terms-given r bounds =
-    ap (map (λ (l : List Term). rowTerms l)) (raws-given r bounds) ∙ sym (made-terms (givenRows r bounds) (all_made (given r bounds) [] tt))
+    ap (map (λ (l : List Term). row_terms l)) (raws_given r bounds) ∙ sym (made_terms (given_rows r bounds) (all_made (given r bounds) [] tt))
 
 -- There are as many rows as raw lists.
-pub rows-given : (r : RawLists) (bounds : List ℤ) → length (rawsTo r (length r.thresholds)) ≡ length (givenRows r bounds)
-rows-given r bounds = ap length (raws-given r bounds) ∙ length-map (givenRows r bounds) (λ (row : Row). row.raw)
+pub rows-given : (r : RawLists) (bounds : List ℤ) → length (raws_to r (length r.thresholds)) ≡ length (given_rows r bounds)
+rows-given r bounds = ap length (raws_given r bounds) ∙ length-map (given_rows r bounds) (λ (row : Row). row.raw)
 
 -- ---- numbers
 
 number_append : (ls ys : List (List Term)) (x : List Term) → number_in ls x < length ls → number_in (ls ++ ys) x ≡ number_in ls x
 unfolding number_in
 number_append [] ys x h = absurd (not-suc-le-zero h)
-number_append (l ∷ ls) ys x h = by (λ q. number_append ls ys x q) (sameTerms l x) refl
+number_append (l ∷ ls) ys x h = by (λ q. number_append ls ys x q) (same_terms l x) refl
   where
-    by : (number_in ls x < length ls → number_in (ls ++ ys) x ≡ number_in ls x) → (b : Bool) → sameTerms l x ≡ b
+    by : (number_in ls x < length ls → number_in (ls ++ ys) x ≡ number_in ls x) → (b : Bool) → same_terms l x ≡ b
         → number_in ((l ∷ ls) ++ ys) x ≡ number_in (l ∷ ls) x
     by ih true e = rw (e, number_in)
     by ih false e =
         let g : 1 + number_in ls x < suc (length ls) = rw (e, number_in) at h in
         rw (e, number_in) (ap (λ (n : ℕ). 1 + n) (ih (omega arith)))
 
-number-last : (ls : List (List Term)) (x : List Term) → number_in (ls ++ (x ∷ [])) x ≡ number_in ls x
+number_last : (ls : List (List Term)) (x : List Term) → number_in (ls ++ (x ∷ [])) x ≡ number_in ls x
 unfolding number_in
-number-last [] x = rw (same_refl x, number_in)
-number-last (l ∷ ls) x = by (number-last ls x) (sameTerms l x) refl
+number_last [] x = rw (same_refl x, number_in)
+number_last (l ∷ ls) x = by (number_last ls x) (same_terms l x) refl
   where
-    by : number_in (ls ++ (x ∷ [])) x ≡ number_in ls x → (b : Bool) → sameTerms l x ≡ b → number_in ((l ∷ ls) ++ (x ∷ [])) x ≡ number_in (l ∷ ls) x
+    by : number_in (ls ++ (x ∷ [])) x ≡ number_in ls x → (b : Bool) → same_terms l x ≡ b → number_in ((l ∷ ls) ++ (x ∷ [])) x ≡ number_in (l ∷ ls) x
     by ih true e = rw (e, number_in)
     by ih false e = rw (e, number_in) (ap (λ (n : ℕ). 1 + n) ih)
 
 -- A list that has a number keeps it when another is joined.
-number-kept : (ls : List (List Term)) (y x : List Term) → number_in ls x < length ls
+number_kept : (ls : List (List Term)) (y x : List Term) → number_in ls x < length ls
     → (number_in (joined ls y) x ≡ number_in ls x) × (number_in ls x < length (joined ls y))
-number-kept ls y x h = by (ltb (number_in ls y) (length ls))
+number_kept ls y x h = by (ltb (number_in ls y) (length ls))
   where
     by : (b : Bool) → (number_in (cond b ls (ls ++ (y ∷ []))) x ≡ number_in ls x) × (number_in ls x < length (cond b ls (ls ++ (y ∷ []))))
     by true = (refl, h)
     by false = (number_append ls (y ∷ []) x h, rw (length-append ls (y ∷ [])) (omega arith))
 
 -- A list that is joined has its number from then on.
-number-joined : (ls : List (List Term)) (x : List Term) → (number_in (joined ls x) x ≡ number_in ls x) × (number_in ls x < length (joined ls x))
-number-joined ls x = by (ltb (number_in ls x) (length ls)) refl
+number_joined : (ls : List (List Term)) (x : List Term) → (number_in (joined ls x) x ≡ number_in ls x) × (number_in ls x < length (joined ls x))
+number_joined ls x = by (ltb (number_in ls x) (length ls)) refl
   where
     by : (b : Bool) → ltb (number_in ls x) (length ls) ≡ b
         → (number_in (cond b ls (ls ++ (x ∷ []))) x ≡ number_in ls x) × (number_in ls x < length (cond b ls (ls ++ (x ∷ []))))
     by true e = (refl, ltb-true (number_in ls x) (length ls) e)
-    by false e = (number-last ls x, rw (length-append ls (x ∷ [])) (let q = number-most ls x in omega arith))
+    by false e = (number_last ls x, rw (length-append ls (x ∷ [])) (let q = number_most ls x in omega arith))
 
-number-to : (r : RawLists) (x : List Term) (n t k : ℕ) → n ≡ t + k → number_in (rawsTo r t) x < length (rawsTo r t)
-    → (number_in (rawsTo r n) x ≡ number_in (rawsTo r t) x) × (number_in (rawsTo r t) x < length (rawsTo r n))
-unfolding rawsTo
-number-to r x n t zero e h =
+number_to : (r : RawLists) (x : List Term) (n t k : ℕ) → n ≡ t + k → number_in (raws_to r t) x < length (raws_to r t)
+    → (number_in (raws_to r n) x ≡ number_in (raws_to r t) x) × (number_in (raws_to r t) x < length (raws_to r n))
+unfolding raws_to
+number_to r x n t zero e h =
     let q : t ≡ n = omega arith in
-    (sym (ap (λ (m : ℕ). number_in (rawsTo r m) x) q), subst (λ (m : ℕ). number_in (rawsTo r t) x < length (rawsTo r m)) q h)
-number-to r x zero t (suc k) e h = absurd (omega arith)
-number-to r x (suc n) t (suc k) e h =
-    let p = number-to r x n t k (omega arith) h in
-    let q = number-kept (rawsTo r n) (listAt r n) x (subst (λ (m : ℕ). m < length (rawsTo r n)) (sym p.0) p.1) in
-    (q.0 ∙ p.0, subst (λ (m : ℕ). m < length (joined (rawsTo r n) (listAt r n))) p.0 q.1)
+    (sym (ap (λ (m : ℕ). number_in (raws_to r m) x) q), subst (λ (m : ℕ). number_in (raws_to r t) x < length (raws_to r m)) q h)
+number_to r x zero t (suc k) e h = absurd (omega arith)
+number_to r x (suc n) t (suc k) e h =
+    let p = number_to r x n t k (omega arith) h in
+    let q = number_kept (raws_to r n) (list_at r n) x (subst (λ (m : ℕ). m < length (raws_to r n)) (sym p.0) p.1) in
+    (q.0 ∙ p.0, subst (λ (m : ℕ). m < length (joined (raws_to r n) (list_at r n))) p.0 q.1)
 
 -- A threshold's row keeps its number to the end of the loop, and is there.
-pub row_stays : (r : RawLists) (n t : ℕ) → t < n → (number_in (rawsTo r n) (listAt r t) ≡ rowTo r t) × (rowTo r t < length (rawsTo r n))
-unfolding rawsTo
+pub row_stays : (r : RawLists) (n t : ℕ) → t < n → (number_in (raws_to r n) (list_at r t) ≡ row_to r t) × (row_to r t < length (raws_to r n))
+unfolding raws_to
 row_stays r n t h =
-    let x = listAt r t in
-    let p = number-joined (rawsTo r t) x in
-    let q = number-to r x n (suc t) (n - suc t) (omega arith) (subst (λ (m : ℕ). m < length (joined (rawsTo r t) x)) (sym p.0) p.1) in
-    (q.0 ∙ p.0, subst (λ (m : ℕ). m < length (rawsTo r n)) p.0 q.1)
+    let x = list_at r t in
+    let p = number_joined (raws_to r t) x in
+    let q = number_to r x n (suc t) (n - suc t) (omega arith) (subst (λ (m : ℕ). m < length (joined (raws_to r t) x)) (sym p.0) p.1) in
+    (q.0 ∙ p.0, subst (λ (m : ℕ). m < length (raws_to r n)) p.0 q.1)
 
 -- THE ROW OF A THRESHOLD, AS THE LOOP NUMBERS IT, IS THE JOB'S.
-pub row-given : (r : RawLists) (bounds : List ℤ) (t : ℕ) → t < length r.thresholds → rowTo r t ≡ rowNumber (givenRows r bounds) (listAt r t)
+pub row-given : (r : RawLists) (bounds : List ℤ) (t : ℕ) → t < length r.thresholds → row_to r t ≡ row_number (given_rows r bounds) (list_at r t)
 row-given r bounds t h =
     sym (row_stays r (length r.thresholds) t h).0
-    ∙ ap (λ (ls : List (List Term)). number_in ls (listAt r t)) (raws-given r bounds) ∙ sym (number-raws (givenRows r bounds) (listAt r t))
+    ∙ ap (λ (ls : List (List Term)). number_in ls (list_at r t)) (raws_given r bounds) ∙ sym (number_raws (given_rows r bounds) (list_at r t))
 
-pub row-there : (r : RawLists) (bounds : List ℤ) (t : ℕ) → t < length r.thresholds → rowNumber (givenRows r bounds) (listAt r t) < length (givenRows r bounds)
-row-there r bounds t h =
-    subst (λ (n : ℕ). n < length (givenRows r bounds)) (row-given r bounds t h)
-    (subst (λ (n : ℕ). rowTo r t < n) (rows-given r bounds) (row_stays r (length r.thresholds) t h).1)
+pub row_there : (r : RawLists) (bounds : List ℤ) (t : ℕ) → t < length r.thresholds → row_number (given_rows r bounds) (list_at r t) < length (given_rows r bounds)
+row_there r bounds t h =
+    subst (λ (n : ℕ). n < length (given_rows r bounds)) (row-given r bounds t h)
+    (subst (λ (n : ℕ). row_to r t < n) (rows-given r bounds) (row_stays r (length r.thresholds) t h).1)

@@ -2,11 +2,11 @@
 use Rattle.std.specs.Prelude.{ℕ, ◌+◌, List, [], ◌∷◌, ◌++◌, ℤ, get_or, set}
 use Rattle.numeric.specs.Threshold.{Term, term, JobOf, Job}
 use Rattle.records.specs.declared.Standing.{Standing}
-use Rattle.job.specs.Job.{onLast, addTerm}
+use Rattle.job.specs.Job.{on_last, add_term}
 
 -- What is read after a threshold, and after a term or an area that leaves so many terms in the raw lists.
-abbrev pub openedBy : Standing → ℕ → Standing
-openedBy s n = record {
+abbrev pub opened_by : Standing → ℕ → Standing
+opened_by s n = record {
   started = s.started;
   sealed = s.sealed;
   contradicted = s.contradicted;
@@ -19,8 +19,8 @@ openedBy s n = record {
   answers = s.answers;
 }
 
-abbrev pub addedTo : Standing → ℕ → Standing
-addedTo s n = record {
+abbrev pub added_to : Standing → ℕ → Standing
+added_to s n = record {
   started = s.started;
   sealed = s.sealed;
   contradicted = s.contradicted;
@@ -33,15 +33,15 @@ addedTo s n = record {
   answers = s.answers;
 }
 
-abbrev pub withThreshold : {X : Type 0} → JobOf X → ℕ → ℤ → JobOf X
-withThreshold j n b = record { nodes = j.nodes; thresholds = j.thresholds ++ (record { node = n; bound = b; terms = [] } ∷ []) }
+abbrev pub with_threshold : {X : Type 0} → JobOf X → ℕ → ℤ → JobOf X
+with_threshold j n b = record { nodes = j.nodes; thresholds = j.thresholds ++ (record { node = n; bound = b; terms = [] } ∷ []) }
 
-abbrev pub withTerm : {X : Type 0} → JobOf X → X → JobOf X
-withTerm j x = record { nodes = j.nodes; thresholds = addTerm x j.thresholds }
+abbrev pub with_term : {X : Type 0} → JobOf X → X → JobOf X
+with_term j x = record { nodes = j.nodes; thresholds = add_term x j.thresholds }
 
 -- The term at a place of the open threshold with another weight.
 abbrev pub weighing : ℕ → ℕ → List Term → List Term
 weighing i w l = set l i (term (get_or l i (term 0 0)).condition w)
 
-abbrev pub withWeight : Job → ℕ → ℕ → Job
-withWeight j i w = record { nodes = j.nodes; thresholds = onLast (weighing i w) j.thresholds }
+abbrev pub with_weight : Job → ℕ → ℕ → Job
+with_weight j i w = record { nodes = j.nodes; thresholds = on_last (weighing i w) j.thresholds }

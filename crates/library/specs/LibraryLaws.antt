@@ -2,7 +2,7 @@
 use Rattle.std.specs.Prelude.{ℕ, ◌≡◌, cond, List}
 use Rattle.std.proofs.Common.{ap, ap₂, ◌∙◌}
 use Rattle.memory.specs.Buffers.{Work}
-use Rattle.state.specs.Step.{stepNumber}
+use Rattle.state.specs.Step.{step_number}
 use Rattle.files.specs.declared.Given.{Given}
 use Rattle.files.specs.Contents.{Out, out}
 use Rattle.report.specs.declared.Planned.{Planned}
@@ -14,7 +14,7 @@ use Rattle.library.specs.Library.{Export, export, exported, Lists}
 abbrev told : Given → (last sealed : ℕ) → Numbers
 told g last sealed = record { refused = g.refused; last = last; sealed = sealed; at = g.at; nodes = g.nodes; rows = g.rows; answered = g.answered }
 
-pub exports : (g : Given) (last sealed : ℕ) (w : Work) (o : Out) → last ≡ stepNumber g.last → sealed ≡ cond g.sealed 1 0 → out g w ≡ o
+pub exports : (g : Given) (last sealed : ℕ) (w : Work) (o : Out) → last ≡ step_number g.last → sealed ≡ cond g.sealed 1 0 → out g w ≡ o
     → export (told g last sealed) w ≡ exported o
 exports g last sealed w o e h q = ap₂ (λ (n m : ℕ). export (told g n m) w) e h ∙ ap exported q
 

@@ -1,6 +1,6 @@
 // The library for programs in other languages: the call and its listing, exported for C. Neither requires anything of its caller.
 ghost use Rattle.std.specs.Prelude.{◌≡◌, cond};
-ghost use Rattle.memory.specs.Buffers.{rawLists, raw, held_rows, built, kept, work};
+ghost use Rattle.memory.specs.Buffers.{raw_lists, raw, held_rows, built, kept, work};
 ghost use Rattle.files.specs.Contents.{whole};
 ghost use Rattle.library.specs.Library.{export, exported, Lists};
 
@@ -53,10 +53,10 @@ pub extern "C" fn planner_run(
     row_queues: &mut [[u16; 4]],
     answers: &mut [[u16; 2]],
 ) -> Numbers
-    ensures { export result (work (raw (rawLists raw_conditions.new raw_weights.new thresholds.new) bounds.new)
+    ensures { export result (work (raw (raw_lists raw_conditions.new raw_weights.new thresholds.new) bounds.new)
         (built (held_rows row_conditions.new row_weights.new rows.new guard_bounds.new guard_nodes.new) nodes.new edges.new links.new)
         (kept figures.new cursors.new sure.new never.new search.new gcds.new node_queue.new row_queues.new answers.new))
-        ≡ exported (whole input.now (work (raw (rawLists raw_conditions.old raw_weights.old thresholds.old) bounds.old)
+        ≡ exported (whole input.now (work (raw (raw_lists raw_conditions.old raw_weights.old thresholds.old) bounds.old)
         (built (held_rows row_conditions.old row_weights.old rows.old guard_bounds.old guard_nodes.old) nodes.old edges.old links.old)
         (kept figures.old cursors.old sure.old never.old search.old gcds.old node_queue.old row_queues.old answers.old))) }
 {

@@ -10,18 +10,18 @@ use Rattle.base.specs.TestLaws.{unequal}
 use Rattle.base.specs.Laid.{pairs}
 use Rattle.state.specs.declared.Step.TheVariants.{Unchanged, Changed, Contradiction}
 use Rattle.state.specs.declared.State.{State}
-use Rattle.state.specs.State.{noState}
+use Rattle.state.specs.State.{no_state}
 use Rattle.words.specs.Mask.{digit, bit, count}
-use Rattle.words.specs.CountLaws.{count-above}
+use Rattle.words.specs.CountLaws.{count_above}
 use Rattle.rows.specs.Rows.{Row, rows_of}
-use Rattle.memory.specs.Limits.{maxNodes}
+use Rattle.memory.specs.Limits.{max_nodes}
 use Rattle.files.specs.File.{File, Answer, settled, sifted, Outcome, begun}
-use Rattle.files.specs.Contents.{answerNumber, answerVisits, given_of}
-use Rattle.files.specs.Listing.{text, answerLine, answerLines, nodeLines, row_lines, stateLines, lastLine, listing}
+use Rattle.files.specs.Contents.{answer_number, answer_visits, given_of}
+use Rattle.files.specs.Listing.{text, answer_line, answer_lines, node_lines, row_lines, state_lines, last_line, listing}
 use Rattle.text.specs.Decimal.{digits, decimal}
 use Rattle.files.specs.declared.Given.{Given}
 use Rattle.text.specs.Text.{joined}
-use Rattle.listing.specs.Lines.{step_of, answer_of, answerAt, nodeAt, row_line, row_at, endLine, refusedLine, decided, nodeText, rowCount, lastText, listed, Listable}
+use Rattle.listing.specs.Lines.{step_of, answer_of, answer_at, node_at, row_line, row_at, end_line, refused_line, decided, node_text, row_count_of, last_text, listed, Listable}
 use Rattle.listing.specs.Shows.{Inside, Held, ten, Shows, untouched, held}
 
 -- ---- texts by number
@@ -44,62 +44,62 @@ joined-front f (suc n) =
 
 -- ---- answers
 
-answer-read : (a : Answer) → answer_of (answerNumber a) (answerVisits a) ≡ a
+answer_read : (a : Answer) → answer_of (answer_number a) (answer_visits a) ≡ a
 unfolding answer_of step_of
-answer-read (settled Unchanged) = refl
-answer-read (settled Changed) = refl
-answer-read (settled Contradiction) = refl
-answer-read (sifted Unchanged n) = refl
-answer-read (sifted Changed n) = refl
-answer-read (sifted Contradiction n) = refl
+answer_read (settled Unchanged) = refl
+answer_read (settled Changed) = refl
+answer_read (settled Contradiction) = refl
+answer_read (sifted Unchanged n) = refl
+answer_read (sifted Changed n) = refl
+answer_read (sifted Contradiction n) = refl
 
 -- All of them, where the buffer holds them and no more.
-answers-read : (as' : List Answer) → joined (answerAt (pairs (map answerNumber as') (map answerVisits as'))) (length as') ≡ answerLines as'
-unfolding answerLines joined answerAt pairs
-answers-read [] = refl
-answers-read (a ∷ as') =
-    joined-front (answerAt (pairs (map answerNumber (a ∷ as')) (map answerVisits (a ∷ as')))) (length as')
-    ∙ ap₂ (λ (x y : List ℕ). x ++ y) (ap answerLine (answer-read a)) (answers-read as')
+answers_read : (as' : List Answer) → joined (answer_at (pairs (map answer_number as') (map answer_visits as'))) (length as') ≡ answer_lines as'
+unfolding answer_lines joined answer_at pairs
+answers_read [] = refl
+answers_read (a ∷ as') =
+    joined-front (answer_at (pairs (map answer_number (a ∷ as')) (map answer_visits (a ∷ as')))) (length as')
+    ∙ ap₂ (λ (x y : List ℕ). x ++ y) (ap answer_line (answer_read a)) (answers_read as')
 
-answers-taken : (answers : List (List ℕ)) (n : ℕ) → joined (answerAt answers) n ≡ joined (answerAt (take n answers)) n
-unfolding answerAt
-answers-taken answers n =
-    joined_same (answerAt answers) (answerAt (take n answers)) n
-    (λ i h. ap (λ (w : List ℕ). answerLine (answer_of (get_or w 0 0) (get_or w 1 0))) (sym (get_or-take n answers i [] h)))
+answers_taken : (answers : List (List ℕ)) (n : ℕ) → joined (answer_at answers) n ≡ joined (answer_at (take n answers)) n
+unfolding answer_at
+answers_taken answers n =
+    joined_same (answer_at answers) (answer_at (take n answers)) n
+    (λ i h. ap (λ (w : List ℕ). answer_line (answer_of (get_or w 0 0) (get_or w 1 0))) (sym (get_or-take n answers i [] h)))
 
 -- ---- nodes
 
-next_place : (n i : ℕ) → n + suc i ≡ n + 1 + i
-next_place n i = omega arith
+next_place_lem : (n i : ℕ) → n + suc i ≡ n + 1 + i
+next_place_lem n i = omega arith
 
 first-place : (n : ℕ) → n + 0 ≡ n
 first-place n = omega arith
 
 module _ (f : File) where
   abbrev line : ℕ → List ℕ
-  line n = nodeAt f.live.marks.sure f.live.marks.never n
+  line n = node_at f.live.marks.sure f.live.marks.never n
 
-  nodes-first : (more n : ℕ) → nodeLines f (suc more) n ≡ line n ++ nodeLines f more (n + 1)
-  unfolding nodeLines nodeAt
+  nodes-first : (more n : ℕ) → node_lines f (suc more) n ≡ line n ++ node_lines f more (n + 1)
+  unfolding node_lines node_at
   nodes-first more n = by (bit f.live.marks.sure n) (bit f.live.marks.never n)
     where
       told : List ℕ → List ℕ
       told word = text "node " ++ decimal n ++ word
 
       by : (a b : Bool)
-          → let l : List ℕ = elim a [ true ↦ told (text " sure\n") ++ nodeLines f more (n + 1) | false ↦ elim b [ true ↦ told (text " never\n") ++ nodeLines f more (n + 1) | false ↦ nodeLines f more (n + 1) ] ]
-          in l ≡ cond a (told (text " sure\n")) (cond b (told (text " never\n")) []) ++ nodeLines f more (n + 1)
+          → let l : List ℕ = elim a [ true ↦ told (text " sure\n") ++ node_lines f more (n + 1) | false ↦ elim b [ true ↦ told (text " never\n") ++ node_lines f more (n + 1) | false ↦ node_lines f more (n + 1) ] ]
+          in l ≡ cond a (told (text " sure\n")) (cond b (told (text " never\n")) []) ++ node_lines f more (n + 1)
       by true b = refl
       by false true = refl
       by false false = refl
 
-  nodes-read : (more n : ℕ) → nodeLines f more n ≡ joined (λ (i : ℕ). line (n + i)) more
-  unfolding nodeLines joined
+  nodes-read : (more n : ℕ) → node_lines f more n ≡ joined (λ (i : ℕ). line (n + i)) more
+  unfolding node_lines joined
   nodes-read zero n = refl
   nodes-read (suc more) n =
       nodes-first more n
       ∙ ap₂ (λ (a b : List ℕ). a ++ b) (ap line (sym (first-place n)))
-      (nodes-read more (n + 1) ∙ joined_same (λ (i : ℕ). line (n + 1 + i)) (λ (i : ℕ). line (n + suc i)) more (λ i h. ap line (sym (next_place n i))))
+      (nodes-read more (n + 1) ∙ joined_same (λ (i : ℕ). line (n + 1 + i)) (λ (i : ℕ). line (n + suc i)) more (λ i h. ap line (sym (next_place_lem n i))))
       ∙ sym (joined-front (λ (i : ℕ). line (n + i)) more)
 
   -- ---- rows
@@ -112,7 +112,7 @@ module _ (f : File) where
   rows-read [] r = refl
   rows-read (x ∷ xs) r =
       ap₂ (λ (a b : List ℕ). a ++ b) (ap row (sym (first-place r)))
-      (rows-read xs (r + 1) ∙ joined_same (λ (i : ℕ). row (r + 1 + i)) (λ (i : ℕ). row (r + suc i)) (length xs) (λ i h. ap row (sym (next_place r i))))
+      (rows-read xs (r + 1) ∙ joined_same (λ (i : ℕ). row (r + 1 + i)) (λ (i : ℕ). row (r + suc i)) (length xs) (λ i h. ap row (sym (next_place_lem r i))))
       ∙ sym (joined-front (λ (i : ℕ). row (r + i)) (length xs))
 
 from_zero : (f : ℕ → List ℕ) (n : ℕ) → joined (λ (i : ℕ). f (0 + i)) n ≡ joined f n
@@ -120,13 +120,13 @@ from_zero f n = joined_same (λ (i : ℕ). f (0 + i)) f n (λ i h. ap f {x = 0 +
 
 -- ---- masks
 
-bit-taken : (mask : List ℕ) (n : ℕ) → n < maxNodes → bit mask n ≡ bit (take 64 mask) n
-bit-taken mask n h = ap (λ (w : ℕ). eqb (digit w (n % 64)) 1) (sym (get_or-take 64 mask (n / 64) 0 (omega arith)))
+bit_taken : (mask : List ℕ) (n : ℕ) → n < max_nodes → bit mask n ≡ bit (take 64 mask) n
+bit_taken mask n h = ap (λ (w : ℕ). eqb (digit w (n % 64)) 1) (sym (get_or-take 64 mask (n / 64) 0 (omega arith)))
 
-count-inside : (mask : List ℕ) (nodes : ℕ) → nodes ≤ maxNodes → Inside nodes mask → count mask maxNodes ≡ count mask nodes
-count-inside mask nodes h i =
-    let e : maxNodes ≡ nodes + (maxNodes - nodes) = omega arith in
-    ap (count mask) e ∙ count-above mask nodes (maxNodes - nodes) (λ m a b. outside m a (bit mask m) refl)
+count_inside : (mask : List ℕ) (nodes : ℕ) → nodes ≤ max_nodes → Inside nodes mask → count mask max_nodes ≡ count mask nodes
+count_inside mask nodes h i =
+    let e : max_nodes ≡ nodes + (max_nodes - nodes) = omega arith in
+    ap (count mask) e ∙ count_above mask nodes (max_nodes - nodes) (λ m a b. outside m a (bit mask m) refl)
   where
     outside : (m : ℕ) → nodes ≤ m → (b : Bool) → bit mask m ≡ b → bit mask m ≡ false
     outside m a true e = absurd (let k = i m e in omega arith)
@@ -141,90 +141,90 @@ module _ (o : Outcome) (answers : List (List ℕ)) (states : List State) (sure n
   abbrev f : File
   f = o.file
 
-  answer-part : joined (answerAt answers) g.answered ≡ answerLines f.answers
+  answer-part : joined (answer_at answers) g.answered ≡ answer_lines f.answers
   answer-part =
-      answers-taken answers g.answered ∙ ap (λ (l : List (List ℕ)). joined (answerAt l) g.answered) h.numbered ∙ answers-read f.answers
+      answers_taken answers g.answered ∙ ap (λ (l : List (List ℕ)). joined (answer_at l) g.answered) h.numbered ∙ answers_read f.answers
 
-  node-part : joined (nodeAt sure never) f.draft.nodes ≡ nodeLines f f.draft.nodes 0
-  unfolding nodeAt
+  node-part : joined (node_at sure never) f.draft.nodes ≡ node_lines f f.draft.nodes 0
+  unfolding node_at
   node-part =
-      let few = h.few-nodes in
-      joined_same (nodeAt sure never) (line f) f.draft.nodes
+      let few = h.few_nodes in
+      joined_same (node_at sure never) (line f) f.draft.nodes
       (λ n k.
-      let s : bit sure n ≡ bit f.live.marks.sure n = bit-taken sure n (omega arith) ∙ ap (λ (l : List ℕ). bit l n) h.sures in
-      let v : bit never n ≡ bit f.live.marks.never n = bit-taken never n (omega arith) ∙ ap (λ (l : List ℕ). bit l n) h.nevers in
+      let s : bit sure n ≡ bit f.live.marks.sure n = bit_taken sure n (omega arith) ∙ ap (λ (l : List ℕ). bit l n) h.sures in
+      let v : bit never n ≡ bit f.live.marks.never n = bit_taken never n (omega arith) ∙ ap (λ (l : List ℕ). bit l n) h.nevers in
       ap₂ (λ (a b : Bool). cond a (text "node " ++ decimal n ++ text " sure\n") (cond b (text "node " ++ decimal n ++ text " never\n") [])) s v)
       ∙ sym (from_zero (line f) f.draft.nodes) ∙ sym (nodes-read f f.draft.nodes 0)
 
   row-part : (n : ℕ) → take n states ≡ take n f.live.states → n ≡ length (rows_of f.closed) → joined (row_at states) n ≡ row_lines f (rows_of f.closed) 0
   row-part n e q =
       joined_same (row_at states) (row f) n
-      (λ r k. ap (row_line r) (sym (get_or-take n states r noState k) ∙ ap (λ (l : List State). get_or l r noState) e ∙ get_or-take n f.live.states r noState k))
+      (λ r k. ap (row_line r) (sym (get_or-take n states r no_state k) ∙ ap (λ (l : List State). get_or l r no_state) e ∙ get_or-take n f.live.states r no_state k))
       ∙ ap (joined (row f)) q ∙ sym (from_zero (row f) (length (rows_of f.closed))) ∙ sym (rows-read f (rows_of f.closed) 0)
 
   -- Nodes and rows, where the file is sealed.
-  state-part : nodeText g sure never ++ joined (row_at states) (rowCount g) ≡ stateLines f
-  unfolding nodeText joined
+  state-part : node_text g sure never ++ joined (row_at states) (row_count_of g) ≡ state_lines f
+  unfolding node_text joined
   state-part = by f.sealed h.closed h.stated
     where
       by : (b : Bool) → (b ≡ true → f.closed.nodes ≡ f.draft.nodes) → let n : ℕ = cond b (length (rows_of f.closed)) 0 in take n states ≡ take n f.live.states
-          → cond b (joined (nodeAt sure never) f.draft.nodes) [] ++ joined (row_at states) (cond b (cond b (length (rows_of f.closed)) 0) 0)
-          ≡ cond b (nodeLines f f.closed.nodes 0 ++ row_lines f (rows_of f.closed) 0) []
+          → cond b (joined (node_at sure never) f.draft.nodes) [] ++ joined (row_at states) (cond b (cond b (length (rows_of f.closed)) 0) 0)
+          ≡ cond b (node_lines f f.closed.nodes 0 ++ row_lines f (rows_of f.closed) 0) []
       by true q e =
-          ap₂ (λ (a b : List ℕ). a ++ b) (node-part ∙ ap (λ (n : ℕ). nodeLines f n 0) (sym (q refl))) (row-part (length (rows_of f.closed)) e refl)
+          ap₂ (λ (a b : List ℕ). a ++ b) (node-part ∙ ap (λ (n : ℕ). node_lines f n 0) (sym (q refl))) (row-part (length (rows_of f.closed)) e refl)
       by false q e = refl
 
   decided-part : (mask left : List ℕ) → take 64 mask ≡ left → Inside f.draft.nodes left → decided mask ≡ count left f.draft.nodes
-  decided-part mask left e i = ap (λ (l : List ℕ). count l maxNodes) e ∙ count-inside left f.draft.nodes h.few-nodes i
+  decided-part mask left e i = ap (λ (l : List ℕ). count l max_nodes) e ∙ count_inside left f.draft.nodes h.few_nodes i
 
-  last-part : lastText g sure never ≡ lastLine o
-  unfolding lastText endLine refusedLine
+  last-part : last_text g sure never ≡ last_line o
+  unfolding last_text end_line refused_line
   last-part =
-      ap₂ (λ (s n : ℕ). cond (eqb o.refused 0) (endLine s n) (refusedLine o.refused o.at))
-      (decided-part sure f.live.marks.sure h.sures h.only-sure) (decided-part never f.live.marks.never h.nevers h.only-never)
+      ap₂ (λ (s n : ℕ). cond (eqb o.refused 0) (end_line s n) (refused_line o.refused o.at))
+      (decided-part sure f.live.marks.sure h.sures h.only_sure) (decided-part never f.live.marks.never h.nevers h.only_never)
 
 -- ---- THE LISTING
 
 ten-listed : (answers : List (List ℕ)) (states : List State) (sure never : List ℕ) → listed (given_of ten) answers states sure never ≡ listing ten
-unfolding listing joined nodeText lastText refusedLine answerLines begun
+unfolding listing joined node_text last_text refused_line answer_lines begun
 ten-listed answers states sure never = refl
 
 -- After refusal 10 it is the one line.
-pub ten-line : listing ten ≡ text "refused 10 at 0\n"
-unfolding listing answerLines text digits begun
-ten-line = refl
+pub ten_line : listing ten ≡ text "refused 10 at 0\n"
+unfolding listing answer_lines text digits begun
+ten_line = refl
 
-pub shows-listing : {o : Outcome} {g : Given} {answers : List (List ℕ)} {states : List State} {sure never : List ℕ} → Shows o g answers states sure never
+pub shows_listing : {o : Outcome} {g : Given} {answers : List (List ℕ)} {states : List State} {sure never : List ℕ} → Shows o g answers states sure never
     → listed g answers states sure never ≡ listing o
 unfolding listing
-shows-listing {o} {g} {answers} {states} {sure} {never} (untouched e q) =
+shows_listing {o} {g} {answers} {states} {sure} {never} (untouched e q) =
     ap (λ (x : Given). listed x answers states sure never) q ∙ ten-listed answers states sure never ∙ ap listing (sym e)
-shows-listing {o} {g} {answers} {states} {sure} {never} (held q h) =
+shows_listing {o} {g} {answers} {states} {sure} {never} (held q h) =
     ap (λ (x : Given). listed x answers states sure never) q
-    ∙ ap (λ (a : List ℕ). a ++ lastText (given_of o) sure never) (append_assoc (joined (answerAt answers) (given_of o).answered) (nodeText (given_of o) sure never) (joined (row_at states) (rowCount (given_of o))))
+    ∙ ap (λ (a : List ℕ). a ++ last_text (given_of o) sure never) (append_assoc (joined (answer_at answers) (given_of o).answered) (node_text (given_of o) sure never) (joined (row_at states) (row_count_of (given_of o))))
     ∙ ap₂ (λ (a b : List ℕ). a ++ b) (ap₂ (λ (a b : List ℕ). a ++ b) (answer-part o answers states sure never h) (state-part o answers states sure never h))
     (last-part o answers states sure never h)
 
-ten-listable : (answers : List (List ℕ)) (states : List State) (sure never : List ℕ) → Listable (given_of ten) answers states sure never
+ten_listable : (answers : List (List ℕ)) (states : List State) (sure never : List ℕ) → Listable (given_of ten) answers states sure never
 unfolding begun
-ten-listable answers states sure never = record {
+ten_listable answers states sure never = record {
   answered = record { few = omega arith; inside = omega arith };
   sealed = λ s. absurd (unequal cc);
   ended = λ z. absurd (omega arith);
 }
 
 -- And it can be made.
-pub shows-listable : {o : Outcome} {g : Given} {answers : List (List ℕ)} {states : List State} {sure never : List ℕ} → Shows o g answers states sure never
+pub shows_listable : {o : Outcome} {g : Given} {answers : List (List ℕ)} {states : List State} {sure never : List ℕ} → Shows o g answers states sure never
     → Listable g answers states sure never
-shows-listable {o} {g} {answers} {states} {sure} {never} (untouched e q) =
-    subst (λ (x : Given). Listable x answers states sure never) (sym q) (ten-listable answers states sure never)
-shows-listable {o} {g} {answers} {states} {sure} {never} (held q h) =
+shows_listable {o} {g} {answers} {states} {sure} {never} (untouched e q) =
+    subst (λ (x : Given). Listable x answers states sure never) (sym q) (ten_listable answers states sure never)
+shows_listable {o} {g} {answers} {states} {sure} {never} (held q h) =
     subst (λ (x : Given). Listable x answers states sure never) (sym q) (record {
-      answered = record { few = h.few-answers; inside = h.in-answers };
+      answered = record { few = h.few_answers; inside = h.in_answers };
       sealed = λ s. record {
-        masks = record { nodes = h.few-nodes; in-sure = omega (arith, h.few-nodes, h.in-sure); in-never = omega (arith, h.few-nodes, h.in-never) };
-        rows = h.few-rows;
-        in-states = h.in-states;
+        masks = record { nodes = h.few_nodes; in_sure_lem = omega (arith, h.few_nodes, h.in_sure_lem); in_never_lem = omega (arith, h.few_nodes, h.in_never_lem) };
+        rows = h.few_rows;
+        in_states = h.in_states;
       };
-      ended = λ z. (h.in-sure, h.in-never);
+      ended = λ z. (h.in_sure_lem, h.in_never_lem);
     })

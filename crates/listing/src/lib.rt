@@ -1,18 +1,18 @@
 // The listing of document 01: what the call gave back and what it left in its buffers, as bytes in a lent buffer of fixed length.
 ghost use Rattle.std.specs.Prelude.{◌≡◌, true, ◌++◌, ◌+◌, ◌*◌, ◌<◌, ◌≤◌, length};
-ghost use Rattle.files.specs.Listing.{text as text_of, upperText, stepWord, figures as figuresText, answerLine, maxListing};
-ghost use Rattle.text.specs.Decimal.{decimal as decimalOf, decimalZ};
+ghost use Rattle.files.specs.Listing.{text as text_of, upper_text, step_word, figures as figuresText, answer_line, max_listing};
+ghost use Rattle.text.specs.Decimal.{decimal as decimalOf, decimal_z};
 ghost use Rattle.text.specs.Text.{Wrote, joined};
-ghost use Rattle.text.specs.Numbers.{maxSigned};
-ghost use Rattle.listing.specs.Lines.{maxStep, maxFigures, maxAnswerLine, maxNodeLine, maxRowLine, maxLastLine, maxNodeLines, maxFront, step_of, answer_of, answerAt, nodeAt, row_line, row_at, endLine, refusedLine, decided, nodeText, frontText, rowCount, lastText, InMasks, Answered, Listable};
+ghost use Rattle.text.specs.Numbers.{max_signed};
+ghost use Rattle.listing.specs.Lines.{max_step, max_figures, max_answer_line, max_node_line, max_row_line, max_last_line, max_node_lines, max_front, step_of, answer_of, answer_at, node_at, row_line, row_at, end_line, refused_line, decided, node_text, front_text, row_count_of, last_text, InMasks, Answered, Listable};
 ghost use Rattle.listing.specs.Shows.{Listed};
 
 use files::Given;
 use state::{State, Upper};
 
 fn step(out: &mut [u8], at: usize, number: u16) -> usize
-    requires { at + maxStep ≤ length out.old }
-    ensures { Wrote maxStep out.old out.new at result (stepWord (step_of number)) }
+    requires { at + max_step ≤ length out.old }
+    ensures { Wrote max_step out.old out.new at result (step_word (step_of number)) }
 {
     if number == 0 {
         return text::put(out, at, b"unchanged");
@@ -24,8 +24,8 @@ fn step(out: &mut [u8], at: usize, number: u16) -> usize
 }
 
 fn answer(out: &mut [u8], at: usize, number: u16, visits: u16) -> usize
-    requires { at + maxAnswerLine ≤ length out.old }
-    ensures { Wrote maxAnswerLine out.old out.new at result (answerLine (answer_of number visits)) }
+    requires { at + max_answer_line ≤ length out.old }
+    ensures { Wrote max_answer_line out.old out.new at result (answer_line (answer_of number visits)) }
 {
     if number < 4 {
         let a = text::put(out, at, b"settle ");
@@ -39,8 +39,8 @@ fn answer(out: &mut [u8], at: usize, number: u16, visits: u16) -> usize
 }
 
 fn answer_lines(out: &mut [u8], at: usize, answers: &[[u16; 2]], count: usize) -> usize
-    requires { (count ≤ length answers.now) × (at + maxAnswerLine * count ≤ length out.old) }
-    ensures { Wrote (maxAnswerLine * count) out.old out.new at result (joined (answerAt answers.now) count) }
+    requires { (count ≤ length answers.now) × (at + max_answer_line * count ≤ length out.old) }
+    ensures { Wrote (max_answer_line * count) out.old out.new at result (joined (answer_at answers.now) count) }
 {
     let mut end = at;
     let mut i = 0;
@@ -65,8 +65,8 @@ fn node(out: &mut [u8], at: usize, n: usize, value: &[u8]) -> usize
 
 // Nothing for a node that is undecided.
 fn node_line(out: &mut [u8], at: usize, n: usize, sure: &[u64], never: &[u64]) -> usize
-    requires { (at + maxNodeLine ≤ length out.old) × (n < 64 * length sure.now) × (n < 64 * length never.now) }
-    ensures { Wrote maxNodeLine out.old out.new at result (nodeAt sure.now never.now n) }
+    requires { (at + max_node_line ≤ length out.old) × (n < 64 * length sure.now) × (n < 64 * length never.now) }
+    ensures { Wrote max_node_line out.old out.new at result (node_at sure.now never.now n) }
 {
     if words::bit(sure, n) {
         return node(out, at, n, b" sure\n");
@@ -78,8 +78,8 @@ fn node_line(out: &mut [u8], at: usize, n: usize, sure: &[u64], never: &[u64]) -
 }
 
 fn node_lines(out: &mut [u8], at: usize, count: usize, sure: &[u64], never: &[u64]) -> usize
-    requires { (at + maxNodeLine * count ≤ length out.old) × (count ≤ 64 * length sure.now) × (count ≤ 64 * length never.now) }
-    ensures { Wrote (maxNodeLine * count) out.old out.new at result (joined (nodeAt sure.now never.now) count) }
+    requires { (at + max_node_line * count ≤ length out.old) × (count ≤ 64 * length sure.now) × (count ≤ 64 * length never.now) }
+    ensures { Wrote (max_node_line * count) out.old out.new at result (joined (node_at sure.now never.now) count) }
 {
     let mut end = at;
     let mut n = 0;
@@ -93,8 +93,8 @@ fn node_lines(out: &mut [u8], at: usize, count: usize, sure: &[u64], never: &[u6
 // ---- rows
 
 fn upper(out: &mut [u8], at: usize, limit: Upper) -> usize
-    requires { at + maxSigned ≤ length out.old }
-    ensures { Wrote maxSigned out.old out.new at result (upperText limit) }
+    requires { at + max_signed ≤ length out.old }
+    ensures { Wrote max_signed out.old out.new at result (upper_text limit) }
 {
     match limit {
         Upper::Open => text::put(out, at, b"-"),
@@ -104,16 +104,16 @@ fn upper(out: &mut [u8], at: usize, limit: Upper) -> usize
 
 // A figure and a space.
 fn figure(out: &mut [u8], at: usize, z: i64) -> usize
-    requires { at + (maxSigned + 1) ≤ length out.old }
-    ensures { Wrote (maxSigned + 1) out.old out.new at result (decimalZ z ++ text_of " ") }
+    requires { at + (max_signed + 1) ≤ length out.old }
+    ensures { Wrote (max_signed + 1) out.old out.new at result (decimal_z z ++ text_of " ") }
 {
     let end = text::signed(out, at, z);
     text::put(out, end, b" ")
 }
 
 fn figures(out: &mut [u8], at: usize, state: State) -> usize
-    requires { at + maxFigures ≤ length out.old }
-    ensures { Wrote maxFigures out.old out.new at result (figuresText state) }
+    requires { at + max_figures ≤ length out.old }
+    ensures { Wrote max_figures out.old out.new at result (figuresText state) }
 {
     let a = figure(out, at, state.known);
     let b = figure(out, a, state.possible);
@@ -123,8 +123,8 @@ fn figures(out: &mut [u8], at: usize, state: State) -> usize
 }
 
 fn row_line(out: &mut [u8], at: usize, r: usize, state: State) -> usize
-    requires { at + maxRowLine ≤ length out.old }
-    ensures { Wrote maxRowLine out.old out.new at result (row_line r state) }
+    requires { at + max_row_line ≤ length out.old }
+    ensures { Wrote max_row_line out.old out.new at result (row_line r state) }
 {
     let a = text::labelled(out, at, b"row ", r as u64);
     let b = text::put(out, a, b" ");
@@ -133,8 +133,8 @@ fn row_line(out: &mut [u8], at: usize, r: usize, state: State) -> usize
 }
 
 fn row_lines(out: &mut [u8], at: usize, count: usize, states: &[State]) -> usize
-    requires { (at + maxRowLine * count ≤ length out.old) × (count ≤ length states.now) }
-    ensures { Wrote (maxRowLine * count) out.old out.new at result (joined (row_at states.now) count) }
+    requires { (at + max_row_line * count ≤ length out.old) × (count ≤ length states.now) }
+    ensures { Wrote (max_row_line * count) out.old out.new at result (joined (row_at states.now) count) }
 {
     let mut end = at;
     let mut r = 0;
@@ -149,8 +149,8 @@ fn row_lines(out: &mut [u8], at: usize, count: usize, states: &[State]) -> usize
 // ---- the last line
 
 fn end_line(out: &mut [u8], at: usize, sure: &[u64], never: &[u64]) -> usize
-    requires { (at + maxLastLine ≤ length out.old) × (64 ≤ length sure.now) × (64 ≤ length never.now) }
-    ensures { Wrote maxLastLine out.old out.new at result (endLine (decided sure.now) (decided never.now)) }
+    requires { (at + max_last_line ≤ length out.old) × (64 ≤ length sure.now) × (64 ≤ length never.now) }
+    ensures { Wrote max_last_line out.old out.new at result (end_line (decided sure.now) (decided never.now)) }
 {
     let sures = words::count(&sure[..64]);
     let nevers = words::count(&never[..64]);
@@ -160,8 +160,8 @@ fn end_line(out: &mut [u8], at: usize, sure: &[u64], never: &[u64]) -> usize
 }
 
 fn refused_line(out: &mut [u8], at: usize, number: u8, offset: usize) -> usize
-    requires { at + maxLastLine ≤ length out.old }
-    ensures { Wrote maxLastLine out.old out.new at result (refusedLine number offset) }
+    requires { at + max_last_line ≤ length out.old }
+    ensures { Wrote max_last_line out.old out.new at result (refused_line number offset) }
 {
     let a = text::labelled(out, at, b"refused ", number as u64);
     let b = text::labelled(out, a, b" at ", offset as u64);
@@ -172,8 +172,8 @@ fn refused_line(out: &mut [u8], at: usize, number: u8, offset: usize) -> usize
 
 // If sealed, the nodes that are decided, rising.
 fn decided_lines(out: &mut [u8], at: usize, given: Given, sure: &[u64], never: &[u64]) -> usize
-    requires { (at + maxNodeLines ≤ length out.old) × (given.sealed ≡ true → InMasks given sure.now never.now) }
-    ensures { Wrote maxNodeLines out.old out.new at result (nodeText given sure.now never.now) }
+    requires { (at + max_node_lines ≤ length out.old) × (given.sealed ≡ true → InMasks given sure.now never.now) }
+    ensures { Wrote max_node_lines out.old out.new at result (node_text given sure.now never.now) }
 {
     let sealed = given.sealed;
     if sealed {
@@ -190,8 +190,8 @@ fn front_lines(
     sure: &[u64],
     never: &[u64],
 ) -> usize
-    requires { (maxFront ≤ length out.old) × Answered given answers.now × (given.sealed ≡ true → InMasks given sure.now never.now) }
-    ensures { Wrote maxFront out.old out.new 0 result (frontText given answers.now sure.now never.now) }
+    requires { (max_front ≤ length out.old) × Answered given answers.now × (given.sealed ≡ true → InMasks given sure.now never.now) }
+    ensures { Wrote max_front out.old out.new 0 result (front_text given answers.now sure.now never.now) }
 {
     let a = answer_lines(out, 0, answers, given.answered);
     decided_lines(out, a, given, sure, never)
@@ -199,7 +199,7 @@ fn front_lines(
 
 // How many rows are listed.
 fn row_count(given: Given) -> usize
-    ensures { result ≡ rowCount given }
+    ensures { result ≡ row_count_of given }
 {
     let sealed = given.sealed;
     if sealed {
@@ -209,8 +209,8 @@ fn row_count(given: Given) -> usize
 }
 
 fn last_line(out: &mut [u8], at: usize, given: Given, sure: &[u64], never: &[u64]) -> usize
-    requires { (at + maxLastLine ≤ length out.old) × (given.refused ≡ 0 → (64 ≤ length sure.now) × (64 ≤ length never.now)) }
-    ensures { Wrote maxLastLine out.old out.new at result (lastText given sure.now never.now) }
+    requires { (at + max_last_line ≤ length out.old) × (given.refused ≡ 0 → (64 ≤ length sure.now) × (64 ≤ length never.now)) }
+    ensures { Wrote max_last_line out.old out.new at result (last_text given sure.now never.now) }
 {
     let refused = given.refused;
     if refused == 0 {
@@ -228,7 +228,7 @@ pub fn list(
     sure: &[u64],
     never: &[u64],
 ) -> usize
-    requires { Listable given answers.now states.now sure.now never.now × (maxListing ≤ length out.old) }
+    requires { Listable given answers.now states.now sure.now never.now × (max_listing ≤ length out.old) }
     ensures { Listed given answers.now states.now sure.now never.now out.old out.new result }
 {
     let a = front_lines(out, given, answers, sure, never);

@@ -8,10 +8,10 @@ unfolding zeros
 zeros-length z [] = refl
 zeros-length z (x ∷ l) = ap suc (zeros-length z l)
 
-pub zeros-are : {X : Type 0} (z : X) (l : List X) → zeros z l ≡ replicate (length (zeros z l)) z
+pub zeros_are : {X : Type 0} (z : X) (l : List X) → zeros z l ≡ replicate (length (zeros z l)) z
 unfolding zeros
-zeros-are z [] = refl
-zeros-are z (x ∷ l) = ap (λ (t : List _). z ∷ t) (zeros-are z l)
+zeros_are z [] = refl
+zeros_are z (x ∷ l) = ap (λ (t : List _). z ∷ t) (zeros_are z l)
 
-pub zeros-room : {X : Type 0} {n : ℕ} (z : X) (l : List X) → n ≤ length l → n ≤ length (zeros z l)
-zeros-room {n = n} z l h = subst (λ (m : ℕ). n ≤ m) (sym (zeros-length z l)) h
+pub zeros_room : {X : Type 0} {n : ℕ} (z : X) (l : List X) → n ≤ length l → n ≤ length (zeros z l)
+zeros_room {n = n} z l h = subst (λ (m : ℕ). n ≤ m) (sym (zeros-length z l)) h

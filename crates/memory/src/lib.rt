@@ -1,6 +1,6 @@
 // The lent buffers: clearing them, a function for each group of docs/BUFFERS.md, and the test of their lengths.
 ghost use Rattle.std.specs.Prelude.{◌≡◌, not, [], ◌∷◌, replicate, pos};
-ghost use Rattle.memory.specs.Buffers.{rawLists, raw, held_rows, built, kept, fits_by, zeros, clearRaw, clearBuilt, clearKept};
+ghost use Rattle.memory.specs.Buffers.{raw_lists, raw, held_rows, built, kept, fits_by, zeros, clear_raw, clear_built, clear_kept};
 
 // One leaf for each type of element, each for buffers of any length.
 pub fn clear_u16(b: &mut [u16])
@@ -106,8 +106,8 @@ pub fn clear_raw(
     thresholds: &mut [[u16; 2]],
     bounds: &mut [i64],
 )
-    ensures { raw (rawLists raw_conditions.new raw_weights.new thresholds.new) bounds.new
-        ≡ clearRaw (raw (rawLists raw_conditions.old raw_weights.old thresholds.old) bounds.old) }
+    ensures { raw (raw_lists raw_conditions.new raw_weights.new thresholds.new) bounds.new
+        ≡ clear_raw (raw (raw_lists raw_conditions.old raw_weights.old thresholds.old) bounds.old) }
 {
     clear_u16(raw_conditions);
     clear_u64(raw_weights);
@@ -127,7 +127,7 @@ pub fn clear_built(
     links: &mut [u16],
 )
     ensures { built (held_rows row_conditions.new row_weights.new rows.new guard_bounds.new guard_nodes.new) nodes.new edges.new links.new
-        ≡ clearBuilt (built (held_rows row_conditions.old row_weights.old rows.old guard_bounds.old guard_nodes.old) nodes.old edges.old links.old) }
+        ≡ clear_built (built (held_rows row_conditions.old row_weights.old rows.old guard_bounds.old guard_nodes.old) nodes.old edges.old links.old) }
 {
     clear_u16(row_conditions);
     clear_u64(row_weights);
@@ -152,7 +152,7 @@ pub fn clear_kept(
     answers: &mut [[u16; 2]],
 )
     ensures { kept figures.new cursors.new sure.new never.new search.new gcds.new node_queue.new row_queues.new answers.new
-        ≡ clearKept (kept figures.old cursors.old sure.old never.old search.old gcds.old node_queue.old row_queues.old answers.old) }
+        ≡ clear_kept (kept figures.old cursors.old sure.old never.old search.old gcds.old node_queue.old row_queues.old answers.old) }
 {
     clear_i64x4(figures);
     clear_usizex5(cursors);

@@ -11,6 +11,6 @@ misses base lower upper divisor =
     cond (eqb divisor 0) (ltb base lower || ltb upper base) (ltb (upper - lower) (distance (lower - base) divisor))
 
 -- The same of the sums from base to maximum.
-unfoldable pub branchMisses : ℕ → ℕ → ℕ → ℕ → ℕ → Bool
-branchMisses base maximum lower upper divisor =
+unfoldable pub branch_misses : ℕ → ℕ → ℕ → ℕ → ℕ → Bool
+branch_misses base maximum lower upper divisor =
     cond (ltb (min maximum upper) (max base lower)) true (misses base (max base lower) (min maximum upper) divisor)

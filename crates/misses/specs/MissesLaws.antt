@@ -1,11 +1,11 @@
--- misses and branchMisses are exact: they are true exactly if no number of the lattice lies in the window.
+-- misses and branch_misses are exact: they are true exactly if no number of the lattice lies in the window.
 use Rattle.std.specs.Prelude.{ℕ, zero, suc, ◌+◌, ◌-◌, ◌*◌, ◌/◌, ◌%◌, ◌<◌, ◌≤◌, min, max, ◌≡◌, refl, Bool, true, false, ◌||◌, ◌↔◌, ◌≢◌, ltb}
 use Rattle.std.specs.Int.{◌∣◌}
 use Rattle.std.proofs.Common.{mod-lt, suc-mul, mul-zero, zero-mul, lt_of_not-le, lt_of_mul-lt-mul_right, mul-le-mul_right, div-add-mod', arith, sym, ap, ◌∙◌, lt-ltb, le-ltb, ltb-true, ltb-false, eq-eqb, ne_eqb}
 use Rattle.std.proofs.Math.Nat.{mod-eq-zero_of_dvd}
 use Rattle.std.proofs.Math.Decide.{dec_lt}
 use Rattle.base.specs.TestLaws.{unequal}
-use Rattle.misses.specs.Misses.{distance, misses, branchMisses}
+use Rattle.misses.specs.Misses.{distance, misses, branch_misses}
 
 pub clash : true ≡ false → ⊥
 clash q = unequal cc
@@ -15,15 +15,15 @@ unless true n = refl
 unless false n = absurd (n refl)
 
 -- A branch whose cut window is empty, and one whose window is not.
-pub branch-empty : (base maximum lower upper divisor : ℕ) → min maximum upper < max base lower
-    → branchMisses base maximum lower upper divisor ≡ true
-unfolding branchMisses
-branch-empty base maximum lower upper divisor h = simp (lt-ltb (min maximum upper) (max base lower) h)
+pub branch_empty : (base maximum lower upper divisor : ℕ) → min maximum upper < max base lower
+    → branch_misses base maximum lower upper divisor ≡ true
+unfolding branch_misses
+branch_empty base maximum lower upper divisor h = simp (lt-ltb (min maximum upper) (max base lower) h)
 
-pub branch-open : (base maximum lower upper divisor : ℕ) → max base lower ≤ min maximum upper
-    → branchMisses base maximum lower upper divisor ≡ misses base (max base lower) (min maximum upper) divisor
-unfolding branchMisses
-branch-open base maximum lower upper divisor h = simp (le-ltb (min maximum upper) (max base lower) h)
+pub branch_open : (base maximum lower upper divisor : ℕ) → max base lower ≤ min maximum upper
+    → branch_misses base maximum lower upper divisor ≡ misses base (max base lower) (min maximum upper) divisor
+unfolding branch_misses
+branch_open base maximum lower upper divisor h = simp (le-ltb (min maximum upper) (max base lower) h)
 
 -- The distance leads to the least multiple that is not below the offset.
 module _ (o d : ℕ) (h : 0 < d) where
@@ -74,8 +74,8 @@ module _ (base lower upper divisor : ℕ) (b : base ≤ lower) (l : lower ≤ up
           let n = ltb-true (upper - lower) (distance (lower - base) divisor) (sym (misses_more p) ∙ m) in
           omega (arith, least (lower - base) divisor p k (omega arith))
 
-  pub misses-some : misses base lower upper divisor ≡ false → Lands base lower upper divisor
-  misses-some m = by divisor refl
+  pub misses_some : misses base lower upper divisor ≡ false → Lands base lower upper divisor
+  misses_some m = by divisor refl
     where
       near : Dec (base < lower) → (ltb base lower || ltb upper base) ≡ false → lower ≤ base
       near (no h) q = omega (arith, lt_of_not-le (λ (x : suc base ≤ lower). h x))
@@ -91,17 +91,17 @@ module _ (base lower upper divisor : ℕ) (b : base ≤ lower) (l : lower ≤ up
           let r = reaches (lower - base) divisor p in
           (r.0, (omega (arith, r.1), omega (arith, r.1)))
 
-  pub misses-exact : (misses base lower upper divisor ≡ true) ↔ (Lands base lower upper divisor → ⊥)
-  misses-exact = (misses-none, λ n. unless (misses base lower upper divisor) (λ e. n (misses-some e)))
+  pub misses_exact : (misses base lower upper divisor ≡ true) ↔ (Lands base lower upper divisor → ⊥)
+  misses_exact = (misses-none, λ n. unless (misses base lower upper divisor) (λ e. n (misses_some e)))
 
 -- A multiple x of the divisor, added to the base, is not in a window that is missed.
-pub multiple-of : (d x : ℕ) → d ∣ x → x ≡ x / d * d
-multiple-of d x h = omega (arith, div-add-mod' x d, mod-eq-zero_of_dvd d h)
+pub multiple_of : (d x : ℕ) → d ∣ x → x ≡ x / d * d
+multiple_of d x h = omega (arith, div-add-mod' x d, mod-eq-zero_of_dvd d h)
 
 pub misses-sum : (base lower upper divisor x : ℕ) → base ≤ lower → lower ≤ upper → misses base lower upper divisor ≡ true → divisor ∣ x
     → lower ≤ base + x → base + x ≤ upper → ⊥
 misses-sum base lower upper divisor x b l m h f t =
-    let e = multiple-of divisor x h in
+    let e = multiple_of divisor x h in
     misses-none base lower upper divisor b l m (x / divisor, (omega arith, omega arith))
 
 -- The same for the sums from base to maximum.
@@ -109,29 +109,29 @@ abbrev pub BranchLands : ℕ → ℕ → ℕ → ℕ → ℕ → Type 0
 BranchLands base maximum lower upper divisor = (k : ℕ) × ((lower ≤ base + k * divisor) × (base + k * divisor ≤ upper) × (base + k * divisor ≤ maximum))
 
 module _ (base maximum lower upper divisor : ℕ) where
-  pub branch-none : branchMisses base maximum lower upper divisor ≡ true → BranchLands base maximum lower upper divisor → ⊥
-  branch-none m (k, (f, t, u)) =
+  pub branch_none : branch_misses base maximum lower upper divisor ≡ true → BranchLands base maximum lower upper divisor → ⊥
+  branch_none m (k, (f, t, u)) =
       let o : max base lower ≤ min maximum upper = omega arith in
       misses-none base (max base lower) (min maximum upper) divisor (omega arith) o
-      (sym (branch-open base maximum lower upper divisor o) ∙ m) (k, (omega arith, omega arith))
+      (sym (branch_open base maximum lower upper divisor o) ∙ m) (k, (omega arith, omega arith))
 
-  pub branch-some : branchMisses base maximum lower upper divisor ≡ false → BranchLands base maximum lower upper divisor
-  branch-some m = by (dec_lt (min maximum upper) (max base lower))
+  pub branch_some : branch_misses base maximum lower upper divisor ≡ false → BranchLands base maximum lower upper divisor
+  branch_some m = by (dec_lt (min maximum upper) (max base lower))
     where
       by : Dec (min maximum upper < max base lower) → BranchLands base maximum lower upper divisor
       by (yes h) =
-          absurd (clash (sym (branch-empty base maximum lower upper divisor h) ∙ m))
+          absurd (clash (sym (branch_empty base maximum lower upper divisor h) ∙ m))
       by (no h) =
           let o : max base lower ≤ min maximum upper = omega (arith, lt_of_not-le (λ (x : suc (min maximum upper) ≤ max base lower). h x)) in
-          let r = misses-some base (max base lower) (min maximum upper) divisor (omega arith) o
-          (sym (branch-open base maximum lower upper divisor o) ∙ m) in
+          let r = misses_some base (max base lower) (min maximum upper) divisor (omega arith) o
+          (sym (branch_open base maximum lower upper divisor o) ∙ m) in
           (r.0, (omega (arith, r.1), omega (arith, r.1), omega (arith, r.1)))
 
-  pub branch-exact : (branchMisses base maximum lower upper divisor ≡ true) ↔ (BranchLands base maximum lower upper divisor → ⊥)
-  branch-exact = (branch-none, λ n. unless (branchMisses base maximum lower upper divisor) (λ e. n (branch-some e)))
+  pub branch_exact : (branch_misses base maximum lower upper divisor ≡ true) ↔ (BranchLands base maximum lower upper divisor → ⊥)
+  branch_exact = (branch_none, λ n. unless (branch_misses base maximum lower upper divisor) (λ e. n (branch_some e)))
 
-  pub branch-sum : (x : ℕ) → branchMisses base maximum lower upper divisor ≡ true → divisor ∣ x
+  pub branch_sum : (x : ℕ) → branch_misses base maximum lower upper divisor ≡ true → divisor ∣ x
       → lower ≤ base + x → base + x ≤ upper → base + x ≤ maximum → ⊥
-  branch-sum x m h f t u =
-      let e = multiple-of divisor x h in
-      branch-none m (x / divisor, (omega arith, omega arith, omega arith))
+  branch_sum x m h f t u =
+      let e = multiple_of divisor x h in
+      branch_none m (x / divisor, (omega arith, omega arith, omega arith))

@@ -1,7 +1,7 @@
 // The gcd, from a table or by its loop, and sums that miss a window by it: the leaves of residual.rs.
 ghost use Rattle.std.specs.Prelude.{◌≡◌, ◌-◌, ◌<◌, ◌≤◌, min, max, false, cond};
 ghost use Rattle.divisors.specs.Gcd.{gcd};
-ghost use Rattle.misses.specs.Misses.{misses, branchMisses};
+ghost use Rattle.misses.specs.Misses.{misses, branch_misses};
 
 // The greatest common divisor, 0 standing for no number: of two numbers below 64 from a table, of others by a loop in which the right
 // number falls at each turn.
@@ -55,7 +55,7 @@ pub fn misses(base: u64, lower: u64, upper: u64, divisor: u64) -> bool
 
 // The same of the sums from base to maximum alone; where none of these is from lower to upper there is nothing to divide.
 pub fn branch_misses(base: u64, maximum: u64, lower: u64, upper: u64, divisor: u64) -> bool
-    ensures { result ≡ branchMisses base maximum lower upper divisor }
+    ensures { result ≡ branch_misses base maximum lower upper divisor }
 {
     let from = larger(base, lower);
     let to = smaller(maximum, upper);

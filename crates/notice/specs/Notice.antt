@@ -20,26 +20,26 @@ meaning number =
     (cond (eqb number 9) (text "an earlier record left no layout")
     (text "the file is longer than 65,536 bytes")))))))))
 
-unfoldable pub refusedText : ℕ → ℕ → List ℕ
-refusedText number offset =
+unfoldable pub refused_text : ℕ → ℕ → List ℕ
+refused_text number offset =
     cond (eqb number 0) [] (text "refused: " ++ meaning number ++ text ", at byte " ++ decimal offset ++ text "\n")
 
-unfoldable pub leftText : Step → List ℕ
-leftText last = cond (contradicts last) (text "no layout is left\n") []
+unfoldable pub left_text : Step → List ℕ
+left_text last = cond (contradicts last) (text "no layout is left\n") []
 
 -- THE NOTICE: a refusal in words, and that no layout is left where the last answer was a contradiction.
 unfoldable pub notice : Given → List ℕ
-notice g = refusedText g.refused g.at ++ leftText g.last
+notice g = refused_text g.refused g.at ++ left_text g.last
 
 -- The most bytes that each takes.
-abbrev pub maxMeaning : ℕ
-maxMeaning = 51
+abbrev pub max_meaning : ℕ
+max_meaning = 51
 
-abbrev pub maxRefused : ℕ
-maxRefused = 92
+abbrev pub max_refused : ℕ
+max_refused = 92
 
-abbrev pub maxLeft : ℕ
-maxLeft = 18
+abbrev pub max_left : ℕ
+max_left = 18
 
-abbrev pub maxNotice : ℕ
-maxNotice = 110
+abbrev pub max_notice : ℕ
+max_notice = 110

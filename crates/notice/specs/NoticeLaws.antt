@@ -5,15 +5,15 @@ use Rattle.state.specs.declared.Step.{Step}
 use Rattle.state.specs.Step.{contradicts}
 use Rattle.files.specs.Listing.{text}
 use Rattle.text.specs.Decimal.{decimal}
-use Rattle.notice.specs.Notice.{meaning, refusedText, leftText}
+use Rattle.notice.specs.Notice.{meaning, refused_text, left_text}
 
 -- No number of the table before 10.
 abbrev pub Other : ℕ → Type 0
 Other n = ((((((((Unit {0} × (n ≡ 1 → ⊥)) × (n ≡ 2 → ⊥)) × (n ≡ 3 → ⊥)) × (n ≡ 4 → ⊥)) × (n ≡ 5 → ⊥)) × (n ≡ 6 → ⊥)) × (n ≡ 7 → ⊥)) × (n ≡ 8 → ⊥)) × (n ≡ 9 → ⊥)
 
-pub meaning-other : (n : ℕ) → Other n → meaning n ≡ text "the file is longer than 65,536 bytes"
+pub meaning_other : (n : ℕ) → Other n → meaning n ≡ text "the file is longer than 65,536 bytes"
 unfolding meaning
-meaning-other n h =
+meaning_other n h =
     rw (
       ne_eqb n 1 h.0.0.0.0.0.0.0.0.1,
       ne_eqb n 2 h.0.0.0.0.0.0.0.1,
@@ -26,18 +26,18 @@ meaning-other n h =
       ne_eqb n 9 h.1,
     ) refl
 
-pub refused_none : (number offset : ℕ) → number ≡ 0 → refusedText number offset ≡ []
-unfolding refusedText
+pub refused_none : (number offset : ℕ) → number ≡ 0 → refused_text number offset ≡ []
+unfolding refused_text
 refused_none number offset h = rw (eq-eqb number 0 h) refl
 
-pub refused-some : (number offset : ℕ) → (number ≡ 0 → ⊥) → refusedText number offset ≡ text "refused: " ++ meaning number ++ text ", at byte " ++ decimal offset ++ text "\n"
-unfolding refusedText
-refused-some number offset h = rw (ne_eqb number 0 h) refl
+pub refused_some : (number offset : ℕ) → (number ≡ 0 → ⊥) → refused_text number offset ≡ text "refused: " ++ meaning number ++ text ", at byte " ++ decimal offset ++ text "\n"
+unfolding refused_text
+refused_some number offset h = rw (ne_eqb number 0 h) refl
 
-pub left-none : (last : Step) → contradicts last ≡ false → leftText last ≡ []
-unfolding leftText
+pub left-none : (last : Step) → contradicts last ≡ false → left_text last ≡ []
+unfolding left_text
 left-none last h = rw h refl
 
-pub left-some : (last : Step) → contradicts last ≡ true → leftText last ≡ text "no layout is left\n"
-unfolding leftText
-left-some last h = rw h refl
+pub left_some : (last : Step) → contradicts last ≡ true → left_text last ≡ text "no layout is left\n"
+unfolding left_text
+left_some last h = rw h refl

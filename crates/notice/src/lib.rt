@@ -1,15 +1,15 @@
 // What the listing does not show, in words for a person: what a refusal means, and that no layout is left.
 ghost use Rattle.std.specs.Prelude.{◌≤◌, ◌+◌, length};
 ghost use Rattle.text.specs.Text.{Wrote};
-ghost use Rattle.notice.specs.Notice.{meaning as meaningOf, refusedText, leftText, notice as noticeOf, maxMeaning, maxRefused, maxLeft, maxNotice};
+ghost use Rattle.notice.specs.Notice.{meaning as meaningOf, refused_text, left_text, notice as noticeOf, max_meaning, max_refused, max_left, max_notice};
 
 use files::Given;
 use state::Step;
 
 // What a refusal's number means.
 fn meaning(out: &mut [u8], at: usize, number: u8) -> usize
-    requires { at + maxMeaning ≤ length out.old }
-    ensures { Wrote maxMeaning out.old out.new at result (meaningOf number) }
+    requires { at + max_meaning ≤ length out.old }
+    ensures { Wrote max_meaning out.old out.new at result (meaningOf number) }
 {
     match number {
         1 => text::put(out, at, b"the file ends inside this record"),
@@ -31,8 +31,8 @@ fn meaning(out: &mut [u8], at: usize, number: u8) -> usize
 
 // The line of a refusal; nothing if there was none.
 fn refused(out: &mut [u8], at: usize, number: u8, offset: usize) -> usize
-    requires { at + maxRefused ≤ length out.old }
-    ensures { Wrote maxRefused out.old out.new at result (refusedText number offset) }
+    requires { at + max_refused ≤ length out.old }
+    ensures { Wrote max_refused out.old out.new at result (refused_text number offset) }
 {
     if number == 0 {
         return at;
@@ -45,8 +45,8 @@ fn refused(out: &mut [u8], at: usize, number: u8, offset: usize) -> usize
 
 // The line of a contradiction, where it was the last answer.
 fn left(out: &mut [u8], at: usize, last: Step) -> usize
-    requires { at + maxLeft ≤ length out.old }
-    ensures { Wrote maxLeft out.old out.new at result (leftText last) }
+    requires { at + max_left ≤ length out.old }
+    ensures { Wrote max_left out.old out.new at result (left_text last) }
 {
     if last.contradicts() {
         return text::put(out, at, b"no layout is left\n");
@@ -56,8 +56,8 @@ fn left(out: &mut [u8], at: usize, last: Step) -> usize
 
 // THE NOTICE of what the call gave back, from the start of the buffer; how many bytes it has.
 pub fn notice(out: &mut [u8], given: Given) -> usize
-    requires { maxNotice ≤ length out.old }
-    ensures { Wrote maxNotice out.old out.new 0 result (noticeOf given) }
+    requires { max_notice ≤ length out.old }
+    ensures { Wrote max_notice out.old out.new 0 result (noticeOf given) }
 {
     let last = given.last;
     let end = refused(out, 0, given.refused, given.at);

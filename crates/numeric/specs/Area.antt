@@ -8,9 +8,9 @@ pub data Entry : Type 0 where
   plain : (condition weight : ℕ) → Entry
   area : (condition hundredths : ℕ) → Entry
 
-abbrev pub conditionOf : Entry → ℕ
-conditionOf (plain c w) = c
-conditionOf (area c h) = c
+abbrev pub condition_of : Entry → ℕ
+condition_of (plain c w) = c
+condition_of (area c h) = c
 
 -- ---- JOINING
 
@@ -40,24 +40,24 @@ Single (area c h ∷ es) = (without c es ≡ es) × Single es
 -- ---- ROUNDING
 
 -- area / 100, rounded to the nearest whole number, a half going up
-abbrev pub weightOfArea : ℕ → ℕ
-weightOfArea hundredths = (hundredths + 50) / 100
+abbrev pub weight_of_area : ℕ → ℕ
+weight_of_area hundredths = (hundredths + 50) / 100
 
 abbrev pub rounded : Entry → Term
 rounded (plain c w) = term c w
-rounded (area c h) = term c (weightOfArea h)
+rounded (area c h) = term c (weight_of_area h)
 
 -- ---- THE JOB of the entries that records gave
 
 abbrev pub weighed : List Entry → List Term
 weighed es = map rounded (joined es)
 
-abbrev pub weighedThreshold : ThresholdOf Entry → Threshold
-weighedThreshold t = record { node = t.node; bound = t.bound; terms = weighed t.terms }
+abbrev pub weighed_threshold : ThresholdOf Entry → Threshold
+weighed_threshold t = record { node = t.node; bound = t.bound; terms = weighed t.terms }
 
 -- A draft: the job as its records give it.
 abbrev pub Draft : Type 0
 Draft = JobOf Entry
 
 abbrev pub job_of : Draft → Job
-job_of d = record { nodes = d.nodes; thresholds = map weighedThreshold d.thresholds }
+job_of d = record { nodes = d.nodes; thresholds = map weighed_threshold d.thresholds }

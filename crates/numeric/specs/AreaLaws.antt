@@ -10,7 +10,7 @@ use Rattle.std.proofs.lemmas.Bool.{eqb-false}
 use Rattle.base.specs.TestLaws.{true-false}
 use Rattle.base.specs.All.{All}
 use Rattle.numeric.specs.Threshold.{Term, term}
-use Rattle.numeric.specs.Area.{Entry, plain, area, conditionOf, hundredths, without, joined, Single, rounded, weighed}
+use Rattle.numeric.specs.Area.{Entry, plain, area, condition_of, hundredths, without, joined, Single, rounded, weighed}
 
 -- ---- WORKED: the sum stands where the first area stood; it is rounded once; a sum that rounds to 0 is listed
 
@@ -76,82 +76,82 @@ none_left c (area d h ∷ es) =
     (λ e. ap (hundredths c) (without-hit c d h es e) ∙ none_left c es)
     (λ e. ap (hundredths c) (without-miss c d h es e) ∙ hundredths-miss c d h (without c es) e ∙ none_left c es)
 
-others-left : (c d : ℕ) (es : List Entry) → eqb d c ≡ false → hundredths d (without c es) ≡ hundredths d es
+others_left : (c d : ℕ) (es : List Entry) → eqb d c ≡ false → hundredths d (without c es) ≡ hundredths d es
 unfolding hundredths without
-others-left c d [] n = refl
-others-left c d (plain a w ∷ es) n = others-left c d es n
-others-left c d (area a h ∷ es) n =
+others_left c d [] n = refl
+others_left c d (plain a w ∷ es) n = others_left c d es n
+others_left c d (area a h ∷ es) n =
     either c a (hundredths d (without c (area a h ∷ es)) ≡ hundredths d (area a h ∷ es))
-    (λ e. ap (hundredths d) (without-hit c a h es e) ∙ others-left c d es n
+    (λ e. ap (hundredths d) (without-hit c a h es e) ∙ others_left c d es n
     ∙ sym (hundredths-miss d a h es (ap (λ (x : ℕ). eqb x d) (eqb-true a c e) ∙ turned false c d n)))
-    (λ e. ap (hundredths d) (without-miss c a h es e) ∙ ap (λ (x : ℕ). cond (eqb a d) h 0 + x) (others-left c d es n))
+    (λ e. ap (hundredths d) (without-miss c a h es e) ∙ ap (λ (x : ℕ). cond (eqb a d) h 0 + x) (others_left c d es n))
 
 -- Left out twice is left out once.
-without-twice : (c : ℕ) (es : List Entry) → without c (without c es) ≡ without c es
+without_twice : (c : ℕ) (es : List Entry) → without c (without c es) ≡ without c es
 unfolding without
-without-twice c [] = refl
-without-twice c (plain d w ∷ es) = ap (λ (l : List Entry). plain d w ∷ l) (without-twice c es)
-without-twice c (area d h ∷ es) =
+without_twice c [] = refl
+without_twice c (plain d w ∷ es) = ap (λ (l : List Entry). plain d w ∷ l) (without_twice c es)
+without_twice c (area d h ∷ es) =
     either c d (without c (without c (area d h ∷ es)) ≡ without c (area d h ∷ es))
-    (λ e. ap (without c) (without-hit c d h es e) ∙ without-twice c es ∙ sym (without-hit c d h es e))
-    (λ e. ap (without c) (without-miss c d h es e) ∙ without-miss c d h (without c es) e ∙ ap (λ (l : List Entry). area d h ∷ l) (without-twice c es)
+    (λ e. ap (without c) (without-hit c d h es e) ∙ without_twice c es ∙ sym (without-hit c d h es e))
+    (λ e. ap (without c) (without-miss c d h es e) ∙ without-miss c d h (without c es) e ∙ ap (λ (l : List Entry). area d h ∷ l) (without_twice c es)
     ∙ sym (without-miss c d h es e))
 
-without-both : (c d : ℕ) (es : List Entry) → without c (without d es) ≡ without d (without c es)
+without_both : (c d : ℕ) (es : List Entry) → without c (without d es) ≡ without d (without c es)
 unfolding without
-without-both c d [] = refl
-without-both c d (plain a w ∷ es) = ap (λ (l : List Entry). plain a w ∷ l) (without-both c d es)
-without-both c d (area a h ∷ es) =
+without_both c d [] = refl
+without_both c d (plain a w ∷ es) = ap (λ (l : List Entry). plain a w ∷ l) (without_both c d es)
+without_both c d (area a h ∷ es) =
     either c a Goal
     (λ e. either d a Goal
-    (λ f. ap (without c) (without-hit d a h es f) ∙ without-both c d es ∙ ap (without d) (sym (without-hit c a h es e)))
-    (λ f. ap (without c) (without-miss d a h es f) ∙ without-hit c a h (without d es) e ∙ without-both c d es ∙ ap (without d) (sym (without-hit c a h es e))))
+    (λ f. ap (without c) (without-hit d a h es f) ∙ without_both c d es ∙ ap (without d) (sym (without-hit c a h es e)))
+    (λ f. ap (without c) (without-miss d a h es f) ∙ without-hit c a h (without d es) e ∙ without_both c d es ∙ ap (without d) (sym (without-hit c a h es e))))
     (λ e. either d a Goal
-    (λ f. ap (without c) (without-hit d a h es f) ∙ without-both c d es ∙ sym (without-hit d a h (without c es) f) ∙ ap (without d) (sym (without-miss c a h es e)))
-    (λ f. ap (without c) (without-miss d a h es f) ∙ without-miss c a h (without d es) e ∙ ap (λ (l : List Entry). area a h ∷ l) (without-both c d es)
+    (λ f. ap (without c) (without-hit d a h es f) ∙ without_both c d es ∙ sym (without-hit d a h (without c es) f) ∙ ap (without d) (sym (without-miss c a h es e)))
+    (λ f. ap (without c) (without-miss d a h es f) ∙ without-miss c a h (without d es) e ∙ ap (λ (l : List Entry). area a h ∷ l) (without_both c d es)
     ∙ sym (without-miss d a h (without c es) f) ∙ ap (without d) (sym (without-miss c a h es e))))
   where
     Goal : Type 0
     Goal = without c (without d (area a h ∷ es)) ≡ without d (without c (area a h ∷ es))
 
 -- ---- THE SUM OF EACH CONDITION STAYS
-pub sum-stays : (c : ℕ) (es : List Entry) → hundredths c (joined es) ≡ hundredths c es
+pub sum_stays : (c : ℕ) (es : List Entry) → hundredths c (joined es) ≡ hundredths c es
 unfolding hundredths joined
-sum-stays c [] = refl
-sum-stays c (plain d w ∷ es) = sum-stays c es
-sum-stays c (area d h ∷ es) =
+sum_stays c [] = refl
+sum_stays c (plain d w ∷ es) = sum_stays c es
+sum_stays c (area d h ∷ es) =
     either c d (hundredths c (joined (area d h ∷ es)) ≡ hundredths c (area d h ∷ es))
     (λ e. let q : d ≡ c = eqb-true d c e in
     hundredths-hit c d (h + hundredths d es) (without d (joined es)) e
     ∙ ap (λ (x : ℕ). h + hundredths x es + hundredths c (without x (joined es))) q
     ∙ ap (λ (n : ℕ). h + hundredths c es + n) (none_left c (joined es)) ∙ add-zero (h + hundredths c es) ∙ sym (hundredths-hit c d h es e))
-    (λ e. hundredths-miss c d (h + hundredths d es) (without d (joined es)) e ∙ others-left d c (joined es) (turned false c d e) ∙ sum-stays c es
+    (λ e. hundredths-miss c d (h + hundredths d es) (without d (joined es)) e ∙ others_left d c (joined es) (turned false c d e) ∙ sum_stays c es
     ∙ sym (hundredths-miss c d h es e))
 
 -- ---- IN ONE AREA
-single-without : (c : ℕ) (es : List Entry) → Single es → Single (without c es)
+single_without : (c : ℕ) (es : List Entry) → Single es → Single (without c es)
 unfolding without dropped
-single-without c [] s = tt
-single-without c (plain d w ∷ es) s = single-without c es s
-single-without c (area d h ∷ es) s = by (single-without c es s.1) (eqb d c)
+single_without c [] s = tt
+single_without c (plain d w ∷ es) s = single_without c es s
+single_without c (area d h ∷ es) s = by (single_without c es s.1) (eqb d c)
   where
     by : Single (without c es) → (b : Bool) → Single (dropped c d h es b)
     by k true = k
-    by k false = (without-both d c es ∙ ap (without c) s.0, k)
+    by k false = (without_both d c es ∙ ap (without c) s.0, k)
 
-pub single-joined : (es : List Entry) → Single (joined es)
+pub single_joined : (es : List Entry) → Single (joined es)
 unfolding joined
-single-joined [] = tt
-single-joined (plain c w ∷ es) = single-joined es
-single-joined (area c h ∷ es) = (without-twice c (joined es), single-without c (joined es) (single-joined es))
+single_joined [] = tt
+single_joined (plain c w ∷ es) = single_joined es
+single_joined (area c h ∷ es) = (without_twice c (joined es), single_without c (joined es) (single_joined es))
 
 -- ---- A LIST IN WHICH NO CONDITION HAS TWO AREAS STAYS AS IT IS
-pub joined-single : (es : List Entry) → Single es → joined es ≡ es
+pub joined_single : (es : List Entry) → Single es → joined es ≡ es
 unfolding joined
-joined-single [] s = refl
-joined-single (plain c w ∷ es) s = ap (λ (l : List Entry). plain c w ∷ l) (joined-single es s)
-joined-single (area c h ∷ es) s =
-    ap₂ (λ (n : ℕ) (l : List Entry). area c (h + n) ∷ l) (sym (ap (hundredths c) s.0) ∙ none_left c es) (ap (without c) (joined-single es s.1) ∙ s.0)
+joined_single [] s = refl
+joined_single (plain c w ∷ es) s = ap (λ (l : List Entry). plain c w ∷ l) (joined_single es s)
+joined_single (area c h ∷ es) s =
+    ap₂ (λ (n : ℕ) (l : List Entry). area c (h + n) ∷ l) (sym (ap (hundredths c) s.0) ∙ none_left c es) (ap (without c) (joined_single es s.1) ∙ s.0)
     ∙ ap (λ (n : ℕ). area c n ∷ es) (add-zero h)
 
 -- ---- AN AREA IS ADDED TO THE ONE OF ITS CONDITION THAT STANDS BEFORE IT
@@ -160,13 +160,13 @@ joined-single (area c h ∷ es) s =
 abbrev Alike : List Entry → List Entry → Type 0
 Alike es fs = (joined es ≡ joined fs) × ((d : ℕ) → hundredths d es ≡ hundredths d fs)
 
-alike-behind : (before es fs : List Entry) → Alike es fs → Alike (before ++ es) (before ++ fs)
+alike_behind : (before es fs : List Entry) → Alike es fs → Alike (before ++ es) (before ++ fs)
 unfolding joined hundredths
-alike-behind [] es fs a = a
-alike-behind (plain c w ∷ before) es fs a =
-    let b = alike-behind before es fs a in (ap (λ (l : List Entry). plain c w ∷ l) b.0, b.1)
-alike-behind (area c h ∷ before) es fs a =
-    let b = alike-behind before es fs a in
+alike_behind [] es fs a = a
+alike_behind (plain c w ∷ before) es fs a =
+    let b = alike_behind before es fs a in (ap (λ (l : List Entry). plain c w ∷ l) b.0, b.1)
+alike_behind (area c h ∷ before) es fs a =
+    let b = alike_behind before es fs a in
     (ap₂ (λ (n : ℕ) (l : List Entry). area c (h + n) ∷ without c l) (b.1 c) b.0, λ d. ap (λ (n : ℕ). cond (eqb c d) h 0 + n) (b.1 d))
 
 module _ (c h : ℕ) (behind : List Entry) where
@@ -182,18 +182,18 @@ module _ (c h : ℕ) (behind : List Entry) where
       let b = hundredths-append d middle behind in
       let k = hundredths-miss d c h behind e in omega (arith, a, b, k)
 
-  rest-same : (middle : List Entry) → without c (joined (middle ++ (area c h ∷ behind))) ≡ without c (joined (middle ++ behind))
+  rest_same : (middle : List Entry) → without c (joined (middle ++ (area c h ∷ behind))) ≡ without c (joined (middle ++ behind))
   unfolding joined without
-  rest-same [] = without-hit c c (h + hundredths c behind) (without c (joined behind)) (self c) ∙ without-twice c (joined behind)
-  rest-same (plain d w ∷ middle) = ap (λ (l : List Entry). plain d w ∷ l) (rest-same middle)
-  rest-same (area d k ∷ middle) =
+  rest_same [] = without-hit c c (h + hundredths c behind) (without c (joined behind)) (self c) ∙ without_twice c (joined behind)
+  rest_same (plain d w ∷ middle) = ap (λ (l : List Entry). plain d w ∷ l) (rest_same middle)
+  rest_same (area d k ∷ middle) =
       either c d Goal
       (λ e. without-hit c d (k + hundredths d (middle ++ (area c h ∷ behind))) (without d (joined (middle ++ (area c h ∷ behind)))) e
-      ∙ without-both c d (joined (middle ++ (area c h ∷ behind))) ∙ ap (without d) (rest-same middle) ∙ without-both d c (joined (middle ++ behind))
+      ∙ without_both c d (joined (middle ++ (area c h ∷ behind))) ∙ ap (without d) (rest_same middle) ∙ without_both d c (joined (middle ++ behind))
       ∙ sym (without-hit c d (k + hundredths d (middle ++ behind)) (without d (joined (middle ++ behind))) e))
       (λ e. without-miss c d (k + hundredths d (middle ++ (area c h ∷ behind))) (without d (joined (middle ++ (area c h ∷ behind)))) e
       ∙ ap₂ (λ (n : ℕ) (l : List Entry). area d (k + n) ∷ l) (others_same d (turned false c d e) middle)
-      (without-both c d (joined (middle ++ (area c h ∷ behind))) ∙ ap (without d) (rest-same middle) ∙ without-both d c (joined (middle ++ behind)))
+      (without_both c d (joined (middle ++ (area c h ∷ behind))) ∙ ap (without d) (rest_same middle) ∙ without_both d c (joined (middle ++ behind)))
       ∙ sym (without-miss c d (k + hundredths d (middle ++ behind)) (without d (joined (middle ++ behind))) e))
     where
       Goal : Type 0
@@ -201,7 +201,7 @@ module _ (c h : ℕ) (behind : List Entry) where
 
   added-alike : (g : ℕ) (middle : List Entry) → Alike (area c g ∷ (middle ++ (area c h ∷ behind))) (area c (g + h) ∷ (middle ++ behind))
   unfolding joined
-  added-alike g middle = (ap₂ (λ (n : ℕ) (l : List Entry). area c n ∷ l) sum (rest-same middle), sums)
+  added-alike g middle = (ap₂ (λ (n : ℕ) (l : List Entry). area c n ∷ l) sum (rest_same middle), sums)
     where
       sum : g + hundredths c (middle ++ (area c h ∷ behind)) ≡ g + h + hundredths c (middle ++ behind)
       sum = let q = moved_out middle in omega (arith, q)
@@ -215,29 +215,29 @@ module _ (c h : ℕ) (behind : List Entry) where
           ∙ ap (λ (x : ℕ). g + h + hundredths x (middle ++ behind)) q ∙ sym (hundredths-hit d c (g + h) (middle ++ behind) e))
           (λ e. hundredths-miss d c g (middle ++ (area c h ∷ behind)) e ∙ others_same d e middle ∙ sym (hundredths-miss d c (g + h) (middle ++ behind) e))
 
-pub joined-adds : (before : List Entry) (c g : ℕ) (middle : List Entry) (h : ℕ) (behind : List Entry)
+pub joined_adds : (before : List Entry) (c g : ℕ) (middle : List Entry) (h : ℕ) (behind : List Entry)
     → joined (before ++ (area c g ∷ (middle ++ (area c h ∷ behind)))) ≡ joined (before ++ (area c (g + h) ∷ (middle ++ behind)))
-joined-adds before c g middle h behind =
-    (alike-behind before (area c g ∷ (middle ++ (area c h ∷ behind))) (area c (g + h) ∷ (middle ++ behind)) (added-alike c h behind g middle)).0
+joined_adds before c g middle h behind =
+    (alike_behind before (area c g ∷ (middle ++ (area c h ∷ behind))) (area c (g + h) ∷ (middle ++ behind)) (added-alike c h behind g middle)).0
 
 -- ---- ONE MORE ENTRY: a term goes to the end; an area is added to the one of its condition, or goes to the end
 
-unfoldable pub addArea : ℕ → ℕ → List Entry → List Entry
-addArea c h [] = area c h ∷ []
-addArea c h (plain d w ∷ es) = plain d w ∷ addArea c h es
-addArea c h (area d g ∷ es) = elim (eqb d c) [ true ↦ area d (g + h) ∷ es | false ↦ area d g ∷ addArea c h es ]
+unfoldable pub add_area : ℕ → ℕ → List Entry → List Entry
+add_area c h [] = area c h ∷ []
+add_area c h (plain d w ∷ es) = plain d w ∷ add_area c h es
+add_area c h (area d g ∷ es) = elim (eqb d c) [ true ↦ area d (g + h) ∷ es | false ↦ area d g ∷ add_area c h es ]
 
 module _ (c h d g : ℕ) (es : List Entry) where
   grown : Bool → List Entry
-  grown b = elim b [ true ↦ area d (g + h) ∷ es | false ↦ area d g ∷ addArea c h es ]
+  grown b = elim b [ true ↦ area d (g + h) ∷ es | false ↦ area d g ∷ add_area c h es ]
 
-  pub add-hit : eqb d c ≡ true → addArea c h (area d g ∷ es) ≡ area d (g + h) ∷ es
-  unfolding addArea grown
-  add-hit e = ap grown e
+  pub add_hit : eqb d c ≡ true → add_area c h (area d g ∷ es) ≡ area d (g + h) ∷ es
+  unfolding add_area grown
+  add_hit e = ap grown e
 
-  pub add-miss : eqb d c ≡ false → addArea c h (area d g ∷ es) ≡ area d g ∷ addArea c h es
-  unfolding addArea grown
-  add-miss e = ap grown e
+  pub add_miss : eqb d c ≡ false → add_area c h (area d g ∷ es) ≡ area d g ∷ add_area c h es
+  unfolding add_area grown
+  add_miss e = ap grown e
 
 without-plain : (a c w : ℕ) (es : List Entry) → without a (es ++ (plain c w ∷ [])) ≡ without a es ++ (plain c w ∷ [])
 unfolding without
@@ -260,48 +260,48 @@ joined-plain c w (area d g ∷ es) =
     same a = hundredths-append a es (plain c w ∷ []) ∙ add-zero (hundredths a es)
 
 -- Without a condition's areas, one of them added makes no difference, and one of another is added as before.
-without-added : (c h : ℕ) (es : List Entry) → without c (addArea c h es) ≡ without c es
-unfolding addArea without
-without-added c h [] = without-hit c c h [] (self c)
-without-added c h (plain d w ∷ es) = ap (λ (l : List Entry). plain d w ∷ l) (without-added c h es)
-without-added c h (area d g ∷ es) =
-    either c d (without c (addArea c h (area d g ∷ es)) ≡ without c (area d g ∷ es))
-    (λ e. ap (without c) (add-hit c h d g es e) ∙ without-hit c d (g + h) es e ∙ sym (without-hit c d g es e))
-    (λ e. ap (without c) (add-miss c h d g es e) ∙ without-miss c d g (addArea c h es) e ∙ ap (λ (l : List Entry). area d g ∷ l) (without-added c h es)
+without_added : (c h : ℕ) (es : List Entry) → without c (add_area c h es) ≡ without c es
+unfolding add_area without
+without_added c h [] = without-hit c c h [] (self c)
+without_added c h (plain d w ∷ es) = ap (λ (l : List Entry). plain d w ∷ l) (without_added c h es)
+without_added c h (area d g ∷ es) =
+    either c d (without c (add_area c h (area d g ∷ es)) ≡ without c (area d g ∷ es))
+    (λ e. ap (without c) (add_hit c h d g es e) ∙ without-hit c d (g + h) es e ∙ sym (without-hit c d g es e))
+    (λ e. ap (without c) (add_miss c h d g es e) ∙ without-miss c d g (add_area c h es) e ∙ ap (λ (l : List Entry). area d g ∷ l) (without_added c h es)
     ∙ sym (without-miss c d g es e))
 
-without_other : (a c h : ℕ) (es : List Entry) → eqb c a ≡ false → without a (addArea c h es) ≡ addArea c h (without a es)
-unfolding addArea without
+without_other : (a c h : ℕ) (es : List Entry) → eqb c a ≡ false → without a (add_area c h es) ≡ add_area c h (without a es)
+unfolding add_area without
 without_other a c h [] n = without-miss a c h [] n
 without_other a c h (plain d w ∷ es) n = ap (λ (l : List Entry). plain d w ∷ l) (without_other a c h es n)
 without_other a c h (area d g ∷ es) n =
     either c d Goal
     (λ e. let k : eqb d a ≡ false = ap (λ (x : ℕ). eqb x a) (eqb-true d c e) ∙ n in
-    ap (without a) (add-hit c h d g es e) ∙ without-miss a d (g + h) es k ∙ sym (add-hit c h d g (without a es) e) ∙ ap (addArea c h) (sym (without-miss a d g es k)))
-    (λ e. ap (without a) (add-miss c h d g es e) ∙ either a d (without a (area d g ∷ addArea c h es) ≡ addArea c h (without a (area d g ∷ es)))
-    (λ f. without-hit a d g (addArea c h es) f ∙ without_other a c h es n ∙ ap (addArea c h) (sym (without-hit a d g es f)))
-    (λ f. without-miss a d g (addArea c h es) f ∙ ap (λ (l : List Entry). area d g ∷ l) (without_other a c h es n) ∙ sym (add-miss c h d g (without a es) e)
-    ∙ ap (addArea c h) (sym (without-miss a d g es f))))
+    ap (without a) (add_hit c h d g es e) ∙ without-miss a d (g + h) es k ∙ sym (add_hit c h d g (without a es) e) ∙ ap (add_area c h) (sym (without-miss a d g es k)))
+    (λ e. ap (without a) (add_miss c h d g es e) ∙ either a d (without a (area d g ∷ add_area c h es) ≡ add_area c h (without a (area d g ∷ es)))
+    (λ f. without-hit a d g (add_area c h es) f ∙ without_other a c h es n ∙ ap (add_area c h) (sym (without-hit a d g es f)))
+    (λ f. without-miss a d g (add_area c h es) f ∙ ap (λ (l : List Entry). area d g ∷ l) (without_other a c h es n) ∙ sym (add_miss c h d g (without a es) e)
+    ∙ ap (add_area c h) (sym (without-miss a d g es f))))
   where
     Goal : Type 0
-    Goal = without a (addArea c h (area d g ∷ es)) ≡ addArea c h (without a (area d g ∷ es))
+    Goal = without a (add_area c h (area d g ∷ es)) ≡ add_area c h (without a (area d g ∷ es))
 
-pub joined-area : (c h : ℕ) (es : List Entry) → joined (es ++ (area c h ∷ [])) ≡ addArea c h (joined es)
-unfolding joined addArea hundredths without
-joined-area c h [] = ap (λ (n : ℕ). area c n ∷ []) (add-zero h)
-joined-area c h (plain d w ∷ es) = ap (λ (l : List Entry). plain d w ∷ l) (joined-area c h es)
-joined-area c h (area d g ∷ es) =
+pub joined_area : (c h : ℕ) (es : List Entry) → joined (es ++ (area c h ∷ [])) ≡ add_area c h (joined es)
+unfolding joined add_area hundredths without
+joined_area c h [] = ap (λ (n : ℕ). area c n ∷ []) (add-zero h)
+joined_area c h (plain d w ∷ es) = ap (λ (l : List Entry). plain d w ∷ l) (joined_area c h es)
+joined_area c h (area d g ∷ es) =
     either c d Goal
     (λ e. let q : d ≡ c = eqb-true d c e in
     ap₂ (λ (n : ℕ) (l : List Entry). area d (g + n) ∷ l) (more e)
-    (ap (without d) (joined-area c h es) ∙ ap (λ (x : ℕ). without d (addArea x h (joined es))) (sym q) ∙ without-added d h (joined es))
+    (ap (without d) (joined_area c h es) ∙ ap (λ (x : ℕ). without d (add_area x h (joined es))) (sym q) ∙ without_added d h (joined es))
     ∙ ap (λ (n : ℕ). area d n ∷ without d (joined es)) {x = g + (hundredths d es + h)} {y = g + hundredths d es + h} (omega arith)
-    ∙ sym (add-hit c h d (g + hundredths d es) (without d (joined es)) e))
-    (λ e. ap₂ (λ (n : ℕ) (l : List Entry). area d (g + n) ∷ l) (same e) (ap (without d) (joined-area c h es) ∙ without_other d c h (joined es) (turned false c d e))
-    ∙ sym (add-miss c h d (g + hundredths d es) (without d (joined es)) e))
+    ∙ sym (add_hit c h d (g + hundredths d es) (without d (joined es)) e))
+    (λ e. ap₂ (λ (n : ℕ) (l : List Entry). area d (g + n) ∷ l) (same e) (ap (without d) (joined_area c h es) ∙ without_other d c h (joined es) (turned false c d e))
+    ∙ sym (add_miss c h d (g + hundredths d es) (without d (joined es)) e))
   where
     Goal : Type 0
-    Goal = joined (area d g ∷ (es ++ (area c h ∷ []))) ≡ addArea c h (joined (area d g ∷ es))
+    Goal = joined (area d g ∷ (es ++ (area c h ∷ []))) ≡ add_area c h (joined (area d g ∷ es))
 
     more : eqb d c ≡ true → hundredths d (es ++ (area c h ∷ [])) ≡ hundredths d es + h
     more e = let a = hundredths-append d es (area c h ∷ []) in let k = hundredths-hit d c h [] (turned true c d e) in omega (arith, a, k)
@@ -321,36 +321,36 @@ without_all P c (area d h ∷ es) a = by (without_all P c es a.1) (eqb d c)
     by k true = k
     by k false = (a.0, k)
 
-without-long : (c : ℕ) (es : List Entry) → length (without c es) ≤ length es
+without_long : (c : ℕ) (es : List Entry) → length (without c es) ≤ length es
 unfolding without dropped
-without-long c [] = omega arith
-without-long c (plain d w ∷ es) = let q = without-long c es in omega (arith, q)
-without-long c (area d h ∷ es) = by (without-long c es) (eqb d c)
+without_long c [] = omega arith
+without_long c (plain d w ∷ es) = let q = without_long c es in omega (arith, q)
+without_long c (area d h ∷ es) = by (without_long c es) (eqb d c)
   where
     by : length (without c es) ≤ length es → (b : Bool) → length (dropped c d h es b) ≤ length (area d h ∷ es)
     by k true = omega (arith, k)
     by k false = omega (arith, k)
 
-pub joined-long : (es : List Entry) → length (joined es) ≤ length es
+pub joined_long : (es : List Entry) → length (joined es) ≤ length es
 unfolding joined
-joined-long [] = omega arith
-joined-long (plain c w ∷ es) = let q = joined-long es in omega (arith, q)
-joined-long (area c h ∷ es) = let q = joined-long es in let r = without-long c (joined es) in omega (arith, q, r)
+joined_long [] = omega arith
+joined_long (plain c w ∷ es) = let q = joined_long es in omega (arith, q)
+joined_long (area c h ∷ es) = let q = joined_long es in let r = without_long c (joined es) in omega (arith, q, r)
 
-rounded-all : (P : Entry → Type 0) (Q : Term → Type 0) → ((c w : ℕ) → P (plain c w) → Q (term c w)) → ((c h : ℕ) → P (area c h) → Q (rounded (area c h)))
+rounded_all : (P : Entry → Type 0) (Q : Term → Type 0) → ((c w : ℕ) → P (plain c w) → Q (term c w)) → ((c h : ℕ) → P (area c h) → Q (rounded (area c h)))
     → (es : List Entry) → All P es → All Q (map rounded es)
-rounded-all P Q f g [] a = tt
-rounded-all P Q f g (plain c w ∷ es) a = (f c w a.0, rounded-all P Q f g es a.1)
-rounded-all P Q f g (area c h ∷ es) a = (g c h a.0, rounded-all P Q f g es a.1)
+rounded_all P Q f g [] a = tt
+rounded_all P Q f g (plain c w ∷ es) a = (f c w a.0, rounded_all P Q f g es a.1)
+rounded_all P Q f g (area c h ∷ es) a = (g c h a.0, rounded_all P Q f g es a.1)
 
-pub weighed-conditions : (P : ℕ → Type 0) (es : List Entry) → All (λ (e : Entry). P (conditionOf e)) es → All (λ (u : Term). P u.condition) (weighed es)
+pub weighed-conditions : (P : ℕ → Type 0) (es : List Entry) → All (λ (e : Entry). P (condition_of e)) es → All (λ (u : Term). P u.condition) (weighed es)
 unfolding joined
-weighed-conditions P es a = rounded-all (λ (e : Entry). P (conditionOf e)) (λ (u : Term). P u.condition) (λ c w p. p) (λ c h p. p) (joined es) (kept es a)
+weighed-conditions P es a = rounded_all (λ (e : Entry). P (condition_of e)) (λ (u : Term). P u.condition) (λ c w p. p) (λ c h p. p) (joined es) (kept es a)
   where
-    kept : (es : List Entry) → All (λ (e : Entry). P (conditionOf e)) es → All (λ (e : Entry). P (conditionOf e)) (joined es)
+    kept : (es : List Entry) → All (λ (e : Entry). P (condition_of e)) es → All (λ (e : Entry). P (condition_of e)) (joined es)
     kept [] a = tt
     kept (plain c w ∷ es) a = (a.0, kept es a.1)
-    kept (area c h ∷ es) a = (a.0, without_all (λ (e : Entry). P (conditionOf e)) c (joined es) (kept es a.1))
+    kept (area c h ∷ es) a = (a.0, without_all (λ (e : Entry). P (condition_of e)) c (joined es) (kept es a.1))
 
 -- ---- weights of joined areas stay small: up to 1,024 figures of 32 bits, rounded, are below 2 ^ 36
 
@@ -385,4 +385,4 @@ joined-most n (area c h ∷ es) l a = (
 
 pub weighed-light : (es : List Entry) → length es ≤ 1024 → All Small es → All (λ (u : Term). u.weight < 2 ^ 36) (weighed es)
 weighed-light es l a =
-    rounded-all (Summed 1024) (λ (u : Term). u.weight < 2 ^ 36) (λ c w p. omega (arith, p)) (λ c h p. omega (arith, p)) (joined es) (joined-most 1024 es l a)
+    rounded_all (Summed 1024) (λ (u : Term). u.weight < 2 ^ 36) (λ c w p. omega (arith, p)) (λ c h p. omega (arith, p)) (joined es) (joined-most 1024 es l a)

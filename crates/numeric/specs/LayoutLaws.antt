@@ -4,7 +4,7 @@ use Rattle.std.proofs.Common.{le_refl, sym, ap, ◌∙◌, subst, le-leb}
 use native.Mathlib.Omega.{arith}
 use mathlib.Core.List.{List, [], ◌∷◌, map}
 use Rattle.std.specs.Int.Signed.{le_z}
-use Rattle.base.specs.SignedLaws.{leZ-trans}
+use Rattle.base.specs.SignedLaws.{le_z_trans}
 use Rattle.numeric.specs.Threshold.{Term, Threshold}
 use Rattle.numeric.specs.Layout.{Layout, value, weighted, asked}
 
@@ -27,19 +27,19 @@ value-sum v (t ∷ ts) = ap (λ (z : ℤ). cond (v t.condition) (pos t.weight) (
 abbrev pub Included : Layout → Layout → Type 0
 Included v w = (n : ℕ) → v n ≡ true → w n ≡ true
 
-pub one-rises : (a b : Bool) (w : ℕ) → (a ≡ true → b ≡ true) → cond a w 0 ≤ cond b w 0
-one-rises true b w h = subst (λ (c : Bool). w ≤ cond c w 0) (sym (h refl)) (le_refl w)
-one-rises false b w h = omega arith
+pub one_rises : (a b : Bool) (w : ℕ) → (a ≡ true → b ≡ true) → cond a w 0 ≤ cond b w 0
+one_rises true b w h = subst (λ (c : Bool). w ≤ cond c w 0) (sym (h refl)) (le_refl w)
+one_rises false b w h = omega arith
 
 module _ (v w : Layout) (i : Included v w) where
-  pub sum-rises : (ts : List Term) → sum_of v ts ≤ sum_of w ts
+  pub sum_rises : (ts : List Term) → sum_of v ts ≤ sum_of w ts
   unfolding sum_of
-  sum-rises [] = omega arith
-  sum-rises (t ∷ ts) = omega (arith, one-rises (v t.condition) (w t.condition) t.weight (i t.condition), sum-rises ts)
+  sum_rises [] = omega arith
+  sum_rises (t ∷ ts) = omega (arith, one_rises (v t.condition) (w t.condition) t.weight (i t.condition), sum_rises ts)
 
   -- THE LAW: with more nodes true, a threshold that asks for true goes on asking
-  pub asked-rises : (t : Threshold) → asked v t ≡ true → asked w t ≡ true
-  asked-rises t h =
+  pub asked_rises : (t : Threshold) → asked v t ≡ true → asked w t ≡ true
+  asked_rises t h =
       let ts = t.terms in
       ap (le_z t.bound) (value-sum w ts)
-      ∙ leZ-trans t.bound (pos (sum_of v ts)) (pos (sum_of w ts)) (sym (ap (le_z t.bound) (value-sum v ts)) ∙ h) (le-leb (sum_of v ts) (sum_of w ts) (sum-rises ts))
+      ∙ le_z_trans t.bound (pos (sum_of v ts)) (pos (sum_of w ts)) (sym (ap (le_z t.bound) (value-sum v ts)) ∙ h) (le-leb (sum_of v ts) (sum_of w ts) (sum_rises ts))

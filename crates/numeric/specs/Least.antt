@@ -11,24 +11,24 @@ among [] n = false
 among (m ∷ ms) n = eqb m n || among ms n
 
 -- The nodes that a layout asks to be true.
-unfoldable pub askedNodes : Layout → List Threshold → List ℕ
-askedNodes v [] = []
-askedNodes v (t ∷ ts) = elim (asked v t) [ true ↦ t.node ∷ askedNodes v ts | false ↦ askedNodes v ts ]
+unfoldable pub asked_nodes : Layout → List Threshold → List ℕ
+asked_nodes v [] = []
+asked_nodes v (t ∷ ts) = elim (asked v t) [ true ↦ t.node ∷ asked_nodes v ts | false ↦ asked_nodes v ts ]
 
 -- Rounds from some true nodes on: in each, the nodes that are asked to be true become so, until there are no more than before. The first
 -- argument bounds the rounds.
 unfoldable pub grown : ℕ → List Threshold → List ℕ → List ℕ
 grown zero ts ns = ns
 grown (suc k) ts ns =
-    let more = askedNodes (among ns) ts in
+    let more = asked_nodes (among ns) ts in
     elim (eqb (length more) (length ns)) [ true ↦ ns | false ↦ grown k ts more ]
 
 -- From no node on. Every round but the last adds a threshold, so that as many rounds as thresholds are enough.
-abbrev pub leastNodes : Job → List ℕ
-leastNodes j = grown (length j.thresholds) j.thresholds []
+abbrev pub least_nodes : Job → List ℕ
+least_nodes j = grown (length j.thresholds) j.thresholds []
 
-abbrev pub leastLayout : Job → Layout
-leastLayout j = among (leastNodes j)
+abbrev pub least_layout : Job → Layout
+least_layout j = among (least_nodes j)
 
 -- Nodes of thresholds rise in the order of the list, as refusal 6 has it: each has a node of its own.
 abbrev pub NodesRise : {X : Type 0} → List (ThresholdOf X) → Type 0

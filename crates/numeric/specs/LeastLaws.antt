@@ -1,5 +1,5 @@
 -- THE LAYOUT THAT IS EXHIBITED IS ONE, and the least: what is true in it is true in every layout of the job. All of this stays on one law,
--- `asked-rises`: what a threshold asks rises with the layout.
+-- `asked_rises`: what a threshold asks rises with the layout.
 use Prim.Native.Nat.{ℕ, zero, suc, ◌+◌, ◌≤◌, ◌<◌}
 use Rattle.std.proofs.Common.{arith, sym, ◌∙◌, subst, eqb-true, eq-eqb, ne_eqb}
 use Rattle.std.specs.Prelude.{◌≡◌, Bool, ◌||◌, length, ℤ, pos, negsuc}
@@ -12,11 +12,11 @@ use Rattle.std.proofs.Math.Dec.{eqb}
 use Rattle.std.proofs.lemmas.Bool.{eqb-false}
 use Rattle.base.specs.TestLaws.{clash, or-true, or_left, or_right}
 use Rattle.base.specs.All.{All}
-use Rattle.base.specs.AllLaws.{all-each}
+use Rattle.base.specs.AllLaws.{all_each}
 use Rattle.numeric.specs.Threshold.{Term, term, Threshold, Job}
 use Rattle.numeric.specs.Layout.{Layout, value, asked, IsLayout}
-use Rattle.numeric.specs.LayoutLaws.{Included, asked-rises}
-use Rattle.numeric.specs.Least.{among, askedNodes, grown, leastNodes, leastLayout, NodesRise}
+use Rattle.numeric.specs.LayoutLaws.{Included, asked_rises}
+use Rattle.numeric.specs.Least.{among, asked_nodes, grown, least_nodes, least_layout, NodesRise}
 
 -- ---- WORKED: two thresholds that list each other stay false, and one that lists itself, unless its bound is 0 or less; a chain grows
 -- from its end
@@ -25,18 +25,18 @@ abbrev asking : ℕ → ℤ → List Term → Threshold
 asking n b ts = record { node = n; bound = b; terms = ts }
 
 abbrev grows : List Threshold → List ℕ
-grows ts = leastNodes (record { nodes = length ts; thresholds = ts })
+grows ts = least_nodes (record { nodes = length ts; thresholds = ts })
 
-each-other : grows (asking 0 (pos 1) (term 1 1 ∷ []) ∷ asking 1 (pos 1) (term 0 1 ∷ []) ∷ []) ≡ []
-unfolding grown askedNodes among value
-each-other = refl
+each_other : grows (asking 0 (pos 1) (term 1 1 ∷ []) ∷ asking 1 (pos 1) (term 0 1 ∷ []) ∷ []) ≡ []
+unfolding grown asked_nodes among value
+each_other = refl
 
 itself : grows (asking 0 (pos 3) (term 0 3 ∷ []) ∷ asking 1 (pos 0) (term 1 3 ∷ []) ∷ []) ≡ 1 ∷ []
-unfolding grown askedNodes among value
+unfolding grown asked_nodes among value
 itself = refl
 
 chain : grows (asking 0 (pos 2) (term 1 2 ∷ []) ∷ asking 1 (pos 5) (term 2 5 ∷ []) ∷ asking 2 (negsuc 0) [] ∷ []) ≡ 0 ∷ 1 ∷ 2 ∷ []
-unfolding grown askedNodes among value
+unfolding grown asked_nodes among value
 chain = refl
 
 -- ---- A ROUND
@@ -76,40 +76,40 @@ within_both m ns ms h = record {
 }
 
 -- With more nodes true, more are asked to be.
-round-rises : (v w : Layout) → Included v w → (ts : List Threshold) → Within (askedNodes v ts) (askedNodes w ts)
-unfolding askedNodes
-round-rises v w b [] = within_none []
-round-rises v w b (t ∷ ts) = by (round-rises v w b ts) (asked v t) (asked w t) (asked-rises v w b t)
+round_rises : (v w : Layout) → Included v w → (ts : List Threshold) → Within (asked_nodes v ts) (asked_nodes w ts)
+unfolding asked_nodes
+round_rises v w b [] = within_none []
+round_rises v w b (t ∷ ts) = by (round_rises v w b ts) (asked v t) (asked w t) (asked_rises v w b t)
   where
-    by : Within (askedNodes v ts) (askedNodes w ts) → (x y : Bool) → (x ≡ true → y ≡ true)
-        → Within (next x t.node (askedNodes v ts)) (next y t.node (askedNodes w ts))
+    by : Within (asked_nodes v ts) (asked_nodes w ts) → (x y : Bool) → (x ≡ true → y ≡ true)
+        → Within (next x t.node (asked_nodes v ts)) (next y t.node (asked_nodes w ts))
     by ih true true h = within_both t.node _ _ ih
     by ih true false h = absurd (clash false (h refl) refl)
     by ih false true h = within_more t.node _ _ ih
     by ih false false h = ih
 
 -- No more than there are thresholds.
-round-few : (v : Layout) (ts : List Threshold) → length (askedNodes v ts) ≤ length ts
-unfolding askedNodes
-round-few v [] = omega arith
-round-few v (t ∷ ts) = by (asked v t) (round-few v ts)
+round_few : (v : Layout) (ts : List Threshold) → length (asked_nodes v ts) ≤ length ts
+unfolding asked_nodes
+round_few v [] = omega arith
+round_few v (t ∷ ts) = by (asked v t) (round_few v ts)
   where
-    by : (x : Bool) → length (askedNodes v ts) ≤ length ts → length (next x t.node (askedNodes v ts)) ≤ suc (length ts)
+    by : (x : Bool) → length (asked_nodes v ts) ≤ length ts → length (next x t.node (asked_nodes v ts)) ≤ suc (length ts)
     by true h = omega arith
     by false h = omega arith
 
 -- ---- THE LAST ROUND adds none
 
 abbrev Stays : List Threshold → List ℕ → Type 0
-Stays ts ns = ns ≡ askedNodes (among ns) ts
+Stays ts ns = ns ≡ asked_nodes (among ns) ts
 
-stays : (k : ℕ) (ts : List Threshold) (ns : List ℕ) → Within ns (askedNodes (among ns) ts) → length ts ≤ k + length ns → Stays ts (grown k ts ns)
+stays : (k : ℕ) (ts : List Threshold) (ns : List ℕ) → Within ns (asked_nodes (among ns) ts) → length ts ≤ k + length ns → Stays ts (grown k ts ns)
 unfolding grown
-stays zero ts ns h l = h.same (omega (arith, round-few (among ns) ts, h.short))
-stays (suc k) ts ns h l = by (λ q. stays k ts more (round-rises (among ns) (among more) h.below ts) q) (eqb (length more) (length ns)) refl
+stays zero ts ns h l = h.same (omega (arith, round_few (among ns) ts, h.short))
+stays (suc k) ts ns h l = by (λ q. stays k ts more (round_rises (among ns) (among more) h.below ts) q) (eqb (length more) (length ns)) refl
   where
     more : List ℕ
-    more = askedNodes (among ns) ts
+    more = asked_nodes (among ns) ts
 
     by : (length ts ≤ k + length more → Stays ts (grown k ts more)) → (b : Bool) → eqb (length more) (length ns) ≡ b → Stays ts (elim b [ true ↦ ns | false ↦ grown k ts more ])
     by ih true e = h.same (sym (eqb-true (length more) (length ns) e))
@@ -118,49 +118,49 @@ stays (suc k) ts ns h l = by (λ q. stays k ts more (round-rises (among ns) (amo
 -- ---- IT IS A LAYOUT
 
 -- A node below those of all thresholds is not asked to be true.
-absent : (v : Layout) (n : ℕ) (ts : List Threshold) → All (λ (u : Threshold). n < u.node) ts → among (askedNodes v ts) n ≡ false
-unfolding askedNodes among
+absent : (v : Layout) (n : ℕ) (ts : List Threshold) → All (λ (u : Threshold). n < u.node) ts → among (asked_nodes v ts) n ≡ false
+unfolding asked_nodes among
 absent v n [] h = refl
 absent v n (t ∷ ts) h = by (absent v n ts h.1) (asked v t)
   where
-    by : among (askedNodes v ts) n ≡ false → (x : Bool) → among (next x t.node (askedNodes v ts)) n ≡ false
-    by ih true = ap (λ (b : Bool). b || among (askedNodes v ts) n) (ne_eqb t.node n (λ e. let k = h.0 in omega arith)) ∙ ih
+    by : among (asked_nodes v ts) n ≡ false → (x : Bool) → among (next x t.node (asked_nodes v ts)) n ≡ false
+    by ih true = ap (λ (b : Bool). b || among (asked_nodes v ts) n) (ne_eqb t.node n (λ e. let k = h.0 in omega arith)) ∙ ih
     by ih false = ih
 
 -- Where nodes rise, a threshold's node is among those asked to be true exactly if this threshold asks for it.
-own-node : (v : Layout) (ts : List Threshold) → NodesRise ts → (t : Threshold) → Memᴰ t ts → among (askedNodes v ts) t.node ≡ asked v t
-unfolding askedNodes among
-own-node v [] h t m = absurd (Memᴰ.not-nil m)
-own-node v (u ∷ us) h t m =
-    ⊎_elim (λ (e : t ≡ u). subst (λ (y : Threshold). among (askedNodes v (u ∷ us)) y.node ≡ asked v y) (sym e) (first (asked v u)))
-    (λ (k : Memᴰ t us). later (own-node v us h.1 t k) (all-each (λ (y : Threshold). u.node < y.node) us h.0 t k) (asked v u)) (Memᴰ.cases_cons m)
+own_node : (v : Layout) (ts : List Threshold) → NodesRise ts → (t : Threshold) → Memᴰ t ts → among (asked_nodes v ts) t.node ≡ asked v t
+unfolding asked_nodes among
+own_node v [] h t m = absurd (Memᴰ.not-nil m)
+own_node v (u ∷ us) h t m =
+    ⊎_elim (λ (e : t ≡ u). subst (λ (y : Threshold). among (asked_nodes v (u ∷ us)) y.node ≡ asked v y) (sym e) (first (asked v u)))
+    (λ (k : Memᴰ t us). later (own_node v us h.1 t k) (all_each (λ (y : Threshold). u.node < y.node) us h.0 t k) (asked v u)) (Memᴰ.cases_cons m)
   where
-    first : (x : Bool) → among (next x u.node (askedNodes v us)) u.node ≡ x
-    first true = or_left (eqb u.node u.node) (among (askedNodes v us) u.node) (eq-eqb u.node u.node refl)
+    first : (x : Bool) → among (next x u.node (asked_nodes v us)) u.node ≡ x
+    first true = or_left (eqb u.node u.node) (among (asked_nodes v us) u.node) (eq-eqb u.node u.node refl)
     first false = absent v u.node us h.0
 
-    later : among (askedNodes v us) t.node ≡ asked v t → u.node < t.node → (x : Bool) → among (next x u.node (askedNodes v us)) t.node ≡ asked v t
-    later ih l true = ap (λ (b : Bool). b || among (askedNodes v us) t.node) (ne_eqb u.node t.node (λ e. omega arith)) ∙ ih
+    later : among (asked_nodes v us) t.node ≡ asked v t → u.node < t.node → (x : Bool) → among (next x u.node (asked_nodes v us)) t.node ≡ asked v t
+    later ih l true = ap (λ (b : Bool). b || among (asked_nodes v us) t.node) (ne_eqb u.node t.node (λ e. omega arith)) ∙ ih
     later ih l false = ih
 
-pub least-layout : (j : Job) → NodesRise j.thresholds → IsLayout j (leastLayout j)
-least-layout j h t m = ap (λ (l : List ℕ). among l t.node) still ∙ own-node (leastLayout j) j.thresholds h t m
+pub least_layout_lem : (j : Job) → NodesRise j.thresholds → IsLayout j (least_layout j)
+least_layout_lem j h t m = ap (λ (l : List ℕ). among l t.node) still ∙ own_node (least_layout j) j.thresholds h t m
   where
-    still : Stays j.thresholds (leastNodes j)
+    still : Stays j.thresholds (least_nodes j)
     still = stays _ j.thresholds [] (within_none _) (omega arith)
 
 -- ---- AND THE LEAST: what a part of a layout asks to be true is true in it
 
 module _ (j : Job) (v : Layout) (is : IsLayout j v) where
-  round-below : (u : Layout) → Included u v → (ts : List Threshold) → ((t : Threshold) → Memᴰ t ts → Memᴰ t j.thresholds) → Included (among (askedNodes u ts)) v
-  unfolding askedNodes among
+  round-below : (u : Layout) → Included u v → (ts : List Threshold) → ((t : Threshold) → Memᴰ t ts → Memᴰ t j.thresholds) → Included (among (asked_nodes u ts)) v
+  unfolding asked_nodes among
   round-below u b [] s n h = absurd (clash false h refl)
   round-below u b (t ∷ ts) s n h = by (round-below u b ts (λ x m. s x (Memᴰ.tail m)) n) (asked u t) refl h
     where
-      by : (among (askedNodes u ts) n ≡ true → v n ≡ true) → (x : Bool) → asked u t ≡ x → among (next x t.node (askedNodes u ts)) n ≡ true → v n ≡ true
+      by : (among (asked_nodes u ts) n ≡ true → v n ≡ true) → (x : Bool) → asked u t ≡ x → among (next x t.node (asked_nodes u ts)) n ≡ true → v n ≡ true
       by ih true e k =
-          ⊎_elim (λ (q : eqb t.node n ≡ true). ap v (sym (eqb-true t.node n q)) ∙ is t (s t (Memᴰ.head refl)) ∙ asked-rises u v b t e) ih
-          (or-true (eqb t.node n) (among (askedNodes u ts) n) k)
+          ⊎_elim (λ (q : eqb t.node n ≡ true). ap v (sym (eqb-true t.node n q)) ∙ is t (s t (Memᴰ.head refl)) ∙ asked_rises u v b t e) ih
+          (or-true (eqb t.node n) (among (asked_nodes u ts) n) k)
       by ih false e k = ih k
 
   grown-below : (k : ℕ) (ns : List ℕ) → Included (among ns) v → Included (among (grown k j.thresholds ns)) v
@@ -169,12 +169,12 @@ module _ (j : Job) (v : Layout) (is : IsLayout j v) where
   grown-below (suc k) ns b = by (grown-below k more (round-below (among ns) b j.thresholds (λ t m. m))) (eqb (length more) (length ns))
     where
       more : List ℕ
-      more = askedNodes (among ns) j.thresholds
+      more = asked_nodes (among ns) j.thresholds
 
       by : Included (among (grown k j.thresholds more)) v → (x : Bool) → Included (among (elim x [ true ↦ ns | false ↦ grown k j.thresholds more ])) v
       by ih true = b
       by ih false = ih
 
-  pub least-below : Included (leastLayout j) v
+  pub least_below : Included (least_layout j) v
   unfolding among
-  least-below = grown-below _ [] (λ n h. absurd (clash false h refl))
+  least_below = grown-below _ [] (λ n h. absurd (clash false h refl))

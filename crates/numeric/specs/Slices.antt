@@ -9,8 +9,8 @@ Below n l = (i : ℕ) → i < length l → get_or l i 0 < n
 pub record Shape (conditions weights sure never : List ℕ) : Type 0 where
   pub same : length conditions ≡ length weights
   pub below : Below 4096 conditions
-  pub inSure : 64 ≤ length sure
-  pub inNever : 64 ≤ length never
+  pub in_sure : 64 ≤ length sure
+  pub in_never : 64 ≤ length never
 
 -- Terms stand in two parallel slices, of conditions and of weights.
 unfoldable pub terms : List ℕ → List ℕ → List Term

@@ -1,13 +1,13 @@
 // Rows placed one threshold after the other: each finds a row with its raw list, or makes one.
 ghost use Rattle.std.specs.Prelude.{◌≡◌, ◌+◌, ◌-◌, ◌/◌, ◌%◌, ◌<◌, ◌≤◌, length, take, set, get_or};
 ghost use Rattle.base.specs.Laid.{over};
-ghost use Rattle.rows.specs.Guards.{nodeAt, NodesIn};
-ghost use Rattle.memory.specs.Buffers.{rawLists};
+ghost use Rattle.rows.specs.Guards.{node_at, NodesIn};
+ghost use Rattle.memory.specs.Buffers.{raw_lists};
 ghost use Rattle.thresholds.specs.Raw.{prints, fingerprint};
-ghost use Rattle.rows.specs.Lists.{listAt};
-ghost use Rattle.thresholds.specs.Tree.{link_in, classOf, Came, linkedMarks, linkedHeads};
-ghost use Rattle.job.specs.Shared.{rowTo, rowEntry, nodeEntry, nodesTo};
-ghost use Rattle.placing.specs.Place.{Placing, Ready, Blank, rowEnds, nodesNext, rowsNext};
+ghost use Rattle.rows.specs.Lists.{list_at};
+ghost use Rattle.thresholds.specs.Tree.{link_in, class_of, Came, linked_marks, linked_heads};
+ghost use Rattle.job.specs.Shared.{row_to, row_entry, node_entry, nodes_to};
+ghost use Rattle.placing.specs.Place.{Placing, Ready, Blank, row_ends, nodes_next, rows_next};
 
 use rows::{end_of, node_of, place, start_of};
 use thresholds::{Found, build_at, class_of, find_row, print_of, with_link};
@@ -24,8 +24,8 @@ pub struct Extent {
 
 // The node of threshold t names the threshold, counted from 1, and its row.
 fn enter_node(thresholds: &[[u16; 2]], t: usize, row: usize, nodes: &mut [[u16; 3]])
-    requires { (t < length thresholds.now) × (t < 1024) × (row < 65536) × (nodeAt thresholds.now t < length nodes.old) }
-    ensures { nodes.new ≡ set nodes.old (nodeAt thresholds.now t) (nodeEntry t row) }
+    requires { (t < length thresholds.now) × (t < 1024) × (row < 65536) × (node_at thresholds.now t < length nodes.old) }
+    ensures { nodes.new ≡ set nodes.old (node_at thresholds.now t) (node_entry t row) }
 {
     let node = node_of(thresholds, t);
     let entry = [(t + 1) as u16, row as u16, 0];
@@ -36,8 +36,8 @@ fn enter_node(thresholds: &[[u16; 2]], t: usize, row: usize, nodes: &mut [[u16; 
 fn link_row(print: u64, link: usize, row: usize, heads: &mut [u16], marks: &mut [u64])
     requires { (print < prints) × (row < 1024) × (1024 ≤ length heads.old)
         × (0 < link → (link / 3 - 1 < length marks.old) × (0 < link / 3) × (link_in (link % 3) (get_or marks.old (link / 3 - 1) 0) ≡ 0)) }
-    ensures { (heads.new ≡ linkedHeads link (classOf print) (row + 1) heads.old)
-        × (marks.new ≡ linkedMarks link (row + 1) marks.old) }
+    ensures { (heads.new ≡ linked_heads link (class_of print) (row + 1) heads.old)
+        × (marks.new ≡ linked_marks link (row + 1) marks.old) }
 {
     if link == 0 {
         let class = class_of(print);
@@ -63,15 +63,15 @@ fn add_row(
     scratch: &mut [u64],
     heads: &mut [u16],
 ) -> Extent
-    requires { (Ready (rawLists raw_conditions.now raw_weights.now thresholds.now) row_conditions.old row_weights.old rows.old scratch.old)
-        × (t < length thresholds.now) × (print ≡ fingerprint (listAt (rawLists raw_conditions.now raw_weights.now thresholds.now) t))
-        × (Placing (rawLists raw_conditions.now raw_weights.now thresholds.now) t so row_conditions.old row_weights.old scratch.old heads.old)
-        × (rowTo (rawLists raw_conditions.now raw_weights.now thresholds.now) t ≡ so.rows)
-        × (Came (rawLists raw_conditions.now raw_weights.now thresholds.now) (take so.rows scratch.old) heads.old
-        (listAt (rawLists raw_conditions.now raw_weights.now thresholds.now) t) link 0) }
-    ensures { (Placing (rawLists raw_conditions.now raw_weights.now thresholds.now) (t + 1) result
+    requires { (Ready (raw_lists raw_conditions.now raw_weights.now thresholds.now) row_conditions.old row_weights.old rows.old scratch.old)
+        × (t < length thresholds.now) × (print ≡ fingerprint (list_at (raw_lists raw_conditions.now raw_weights.now thresholds.now) t))
+        × (Placing (raw_lists raw_conditions.now raw_weights.now thresholds.now) t so row_conditions.old row_weights.old scratch.old heads.old)
+        × (row_to (raw_lists raw_conditions.now raw_weights.now thresholds.now) t ≡ so.rows)
+        × (Came (raw_lists raw_conditions.now raw_weights.now thresholds.now) (take so.rows scratch.old) heads.old
+        (list_at (raw_lists raw_conditions.now raw_weights.now thresholds.now) t) link 0) }
+    ensures { (Placing (raw_lists raw_conditions.now raw_weights.now thresholds.now) (t + 1) result
         row_conditions.new row_weights.new scratch.new heads.new)
-        × (rows.new ≡ set rows.old so.rows (rowEntry result.end)) }
+        × (rows.new ≡ set rows.old so.rows (row_entry result.end)) }
 {
     let row = so.rows;
     let at = so.end;
@@ -111,13 +111,13 @@ fn place_one(
     scratch: &mut [u64],
     heads: &mut [u16],
 ) -> Extent
-    requires { (Ready (rawLists raw_conditions.now raw_weights.now thresholds.now) row_conditions.old row_weights.old rows.old scratch.old)
-        × (t < length thresholds.now) × (nodeAt thresholds.now t < length nodes.old)
-        × (Placing (rawLists raw_conditions.now raw_weights.now thresholds.now) t so row_conditions.old row_weights.old scratch.old heads.old) }
-    ensures { (Placing (rawLists raw_conditions.now raw_weights.now thresholds.now) (t + 1) result
+    requires { (Ready (raw_lists raw_conditions.now raw_weights.now thresholds.now) row_conditions.old row_weights.old rows.old scratch.old)
+        × (t < length thresholds.now) × (node_at thresholds.now t < length nodes.old)
+        × (Placing (raw_lists raw_conditions.now raw_weights.now thresholds.now) t so row_conditions.old row_weights.old scratch.old heads.old) }
+    ensures { (Placing (raw_lists raw_conditions.now raw_weights.now thresholds.now) (t + 1) result
         row_conditions.new row_weights.new scratch.new heads.new)
-        × (rows.new ≡ rowsNext (rawLists raw_conditions.now raw_weights.now thresholds.now) t rows.old)
-        × (nodes.new ≡ nodesNext (rawLists raw_conditions.now raw_weights.now thresholds.now) t nodes.old) }
+        × (rows.new ≡ rows_next (raw_lists raw_conditions.now raw_weights.now thresholds.now) t rows.old)
+        × (nodes.new ≡ nodes_next (raw_lists raw_conditions.now raw_weights.now thresholds.now) t nodes.old) }
 {
     let count = so.rows;
     let print = print_of(raw_conditions, raw_weights, thresholds, t);
@@ -167,13 +167,13 @@ pub fn place_rows(
     scratch: &mut [u64],
     heads: &mut [u16],
 ) -> Extent
-    requires { (Ready (rawLists raw_conditions.now raw_weights.now thresholds.now) row_conditions.old row_weights.old rows.old scratch.old)
+    requires { (Ready (raw_lists raw_conditions.now raw_weights.now thresholds.now) row_conditions.old row_weights.old rows.old scratch.old)
         × (NodesIn thresholds.now nodes.old) × (Blank row_conditions.old) × (Blank row_weights.old) × (Blank scratch.old)
         × (Blank heads.old) × (1024 ≤ length heads.old) }
-    ensures { (Placing (rawLists raw_conditions.now raw_weights.now thresholds.now) (length thresholds.now) result
+    ensures { (Placing (raw_lists raw_conditions.now raw_weights.now thresholds.now) (length thresholds.now) result
         row_conditions.new row_weights.new scratch.new heads.new)
-        × (rows.new ≡ over (rowEnds (rawLists raw_conditions.now raw_weights.now thresholds.now) (length thresholds.now)) rows.old)
-        × (nodes.new ≡ nodesTo (rawLists raw_conditions.now raw_weights.now thresholds.now) nodes.old (length thresholds.now)) }
+        × (rows.new ≡ over (row_ends (raw_lists raw_conditions.now raw_weights.now thresholds.now) (length thresholds.now)) rows.old)
+        × (nodes.new ≡ nodes_to (raw_lists raw_conditions.now raw_weights.now thresholds.now) nodes.old (length thresholds.now)) }
 {
     let mut so = Extent { rows: 0, end: 0 };
     let mut t: usize = 0;

@@ -1,6 +1,6 @@
 // THE PUBLIC CALL: a whole file over every lent buffer, the row states among them as records.
 ghost use Rattle.std.specs.Prelude.{◌≡◌, eqb};
-ghost use Rattle.memory.specs.Buffers.{rawLists, raw, held_rows, built, kept, work};
+ghost use Rattle.memory.specs.Buffers.{raw_lists, raw, held_rows, built, kept, work};
 ghost use Rattle.files.specs.Contents.{out, nothing};
 ghost use Rattle.files.specs.Planner.{left, plan};
 
@@ -54,10 +54,10 @@ pub fn run(
     row_queues: &mut [[u16; 4]],
     answers: &mut [[u16; 2]],
 ) -> Given
-    ensures { left (out result (work (raw (rawLists raw_conditions.new raw_weights.new thresholds.new) bounds.new)
+    ensures { left (out result (work (raw (raw_lists raw_conditions.new raw_weights.new thresholds.new) bounds.new)
         (built (held_rows row_conditions.new row_weights.new rows.new guard_bounds.new guard_nodes.new) nodes.new edges.new links.new)
         (kept figures.new cursors.new sure.new never.new search.new gcds.new node_queue.new row_queues.new answers.new))) states.new
-        ≡ plan input.now states.old (work (raw (rawLists raw_conditions.old raw_weights.old thresholds.old) bounds.old)
+        ≡ plan input.now states.old (work (raw (raw_lists raw_conditions.old raw_weights.old thresholds.old) bounds.old)
         (built (held_rows row_conditions.old row_weights.old rows.old guard_bounds.old guard_nodes.old) nodes.old edges.old links.old)
         (kept figures.old cursors.old sure.old never.old search.old gcds.old node_queue.old row_queues.old answers.old)) }
 {

@@ -1,9 +1,9 @@
 // The planner: reads a job file from standard input, plans it and writes its listing to standard output. On standard error it says in
 // words what the listing does not show.
 ghost use Rattle.std.specs.Prelude.{◌<◌, ◌≤◌, ◌≡◌, false, length};
-ghost use Rattle.memory.specs.Buffers.{longestInput};
-ghost use Rattle.files.specs.Listing.{maxListing};
-ghost use Rattle.notice.specs.Notice.{maxNotice};
+ghost use Rattle.memory.specs.Buffers.{longest_input};
+ghost use Rattle.files.specs.Listing.{max_listing};
+ghost use Rattle.notice.specs.Notice.{max_notice};
 ghost use Rattle.planner_main.specs.Reads.{Got, Reads, Prints, Tells};
 
 use libc::{STDERR_FILENO, STDIN_FILENO, STDOUT_FILENO};
@@ -79,7 +79,7 @@ fn say(text: &[u8]) {
 
 // Plans what was read, writes its listing at once, and says what the listing does not show.
 fn answer(read: &[u8], ended: bool, out: &mut [u8], words: &mut [u8])
-    requires { (ended ≡ false → longestInput < length read.now) × (maxListing ≤ length out.old) × (maxNotice ≤ length words.old) }
+    requires { (ended ≡ false → longest_input < length read.now) × (max_listing ≤ length out.old) × (max_notice ≤ length words.old) }
 {
     let planned = report::plan(read, out);
     let given = planned.given;
@@ -93,7 +93,7 @@ fn answer(read: &[u8], ended: bool, out: &mut [u8], words: &mut [u8])
 
 // The whole program, over room for more than the longest input, for the listing and for the notice.
 fn run(buffer: &mut [u8], out: &mut [u8], words: &mut [u8])
-    requires { (longestInput < length buffer.old) × (maxListing ≤ length out.old) × (maxNotice ≤ length words.old) }
+    requires { (longest_input < length buffer.old) × (max_listing ≤ length out.old) × (max_notice ≤ length words.old) }
 {
     let input = read_input(buffer);
     match input {

@@ -2,9 +2,9 @@
 ghost use Rattle.std.specs.Prelude.{◌≡◌, ◌+◌, ◌-◌, ◌/◌, ◌<◌, ◌≤◌, min, reverse, length, replicate, set};
 ghost use Rattle.numeric.specs.Slices.{Shape, terms};
 ghost use Rattle.state.specs.Shape.{Figures};
-ghost use Rattle.words.specs.Mask.{inEither};
+ghost use Rattle.words.specs.Mask.{in_either};
 ghost use Rattle.searches.specs.Shape.{Zeros, Prepared};
-ghost use Rattle.searches.specs.Search.{searchFrom, search};
+ghost use Rattle.searches.specs.Search.{search_from, search};
 
 use searches::{Plan, Search, Window};
 use state::State;
@@ -53,7 +53,7 @@ fn search_from(
     requires shape { Shape conditions.now weights.now sure.now never.now }
     requires prepared { Prepared w × (allowance ≤ w.visits) }
     ensures { result
-        ≡ searchFrom w (inEither sure.now never.now) (reverse (terms conditions.now weights.now))
+        ≡ search_from w (in_either sure.now never.now) (reverse (terms conditions.now weights.now))
         words.old 0 allowance }
 {
     let limit = w.maximum;
@@ -105,7 +105,7 @@ fn attempt(
     requires shape { Shape conditions.now weights.now sure.now never.now }
     requires prepared { Prepared w × (length words.old ≡ w.words) }
     ensures searched { result
-        ≡ searchFrom w (inEither sure.now never.now) (reverse (terms conditions.now weights.now))
+        ≡ search_from w (in_either sure.now never.now) (reverse (terms conditions.now weights.now))
         (set (replicate w.words 0) 0 1) 0 (w.visits - (w.words + 2)) }
     ensures cleared { words.new ≡ replicate (length words.old) 0 }
 {
@@ -127,7 +127,7 @@ pub fn threshold_possible_sums(
     requires shape { Shape conditions.now weights.now sure.now never.now × (length weights.now ≤ 1024) × Figures state }
     requires in_bounds { (4096 ≤ length words.old) × Zeros words.old }
     ensures found { result
-        ≡ search (terms conditions.now weights.now) state (inEither sure.now never.now) }
+        ≡ search (terms conditions.now weights.now) state (in_either sure.now never.now) }
     ensures kept { words.new ≡ words.old }
 {
     let Plan::Planned(w) = Plan::for_row(conditions, weights, state) else {

@@ -3,9 +3,9 @@ ghost use Rattle.std.specs.Prelude.{◌≡◌, [], ◌≤◌, length, take};
 ghost use Rattle.base.specs.Laid.{over};
 ghost use Rattle.sort.specs.Sorted.{sorted};
 ghost use Rattle.sort.specs.Runs.{cleared};
-ghost use Rattle.rows.specs.Guards.{Bounds, guardKeys, NodesIn};
-ghost use Rattle.job.specs.Incidents.{heldItems};
-ghost use Rattle.memory.specs.Buffers.{rawLists, held_rows, built};
+ghost use Rattle.rows.specs.Guards.{Bounds, guard_keys, NodesIn};
+ghost use Rattle.job.specs.Incidents.{held_items};
+ghost use Rattle.memory.specs.Buffers.{raw_lists, held_rows, built};
 ghost use Rattle.prepare.specs.Prepare.{Sound, Ample, Prepared, Placeable, Rowed, Dealable, Guarded, Indexable, Edged};
 ghost use Rattle.placing.specs.Place.{Ready, Blank};
 
@@ -26,10 +26,10 @@ fn place_all(
     scratch: &mut [u64],
     heads: &mut [u16],
 ) -> Extent
-    requires { (Ready (rawLists raw_conditions.now raw_weights.now thresholds.now) row_conditions.old row_weights.old rows.old scratch.old)
+    requires { (Ready (raw_lists raw_conditions.now raw_weights.now thresholds.now) row_conditions.old row_weights.old rows.old scratch.old)
         × (NodesIn thresholds.now nodes.old) × (Blank row_conditions.old) × (Blank row_weights.old) × (Blank scratch.old)
         × (Blank heads.old) × (1024 ≤ length heads.old) }
-    ensures { (Rowed (rawLists raw_conditions.now raw_weights.now thresholds.now) result
+    ensures { (Rowed (raw_lists raw_conditions.now raw_weights.now thresholds.now) result
         row_conditions.old row_weights.old rows.old nodes.old
         row_conditions.new row_weights.new rows.new nodes.new)
         × (scratch.new ≡ scratch.old) × (heads.new ≡ heads.old) }
@@ -63,8 +63,8 @@ fn place_in(
     scratch: &mut [u64],
     heads: &mut [u16],
 ) -> Extent
-    requires { Placeable (rawLists raw_conditions.now raw_weights.now thresholds.now) row_conditions.old row_weights.old rows.old nodes.old scratch.old heads.old }
-    ensures { (Rowed (rawLists raw_conditions.now raw_weights.now thresholds.now) result
+    requires { Placeable (raw_lists raw_conditions.now raw_weights.now thresholds.now) row_conditions.old row_weights.old rows.old nodes.old scratch.old heads.old }
+    ensures { (Rowed (raw_lists raw_conditions.now raw_weights.now thresholds.now) result
         row_conditions.old row_weights.old rows.old nodes.old
         row_conditions.new row_weights.new rows.new nodes.new)
         × (scratch.new ≡ scratch.old) × (heads.new ≡ heads.old) }
@@ -87,7 +87,7 @@ fn place_in(
 fn order_keys(bounds: &[i64], row_weights: &mut [u64], scratch: &mut [u64])
     requires { (length bounds.now ≤ 1024) × (Bounds bounds.now) × (length bounds.now ≤ length row_weights.old) × (length bounds.now ≤ length scratch.old)
         × (Blank row_weights.old) }
-    ensures { (row_weights.new ≡ row_weights.old) × (scratch.new ≡ over (sorted (guardKeys 0 bounds.now)) scratch.old) }
+    ensures { (row_weights.new ≡ row_weights.old) × (scratch.new ≡ over (sorted (guard_keys 0 bounds.now)) scratch.old) }
 {
     let count = bounds.len();
     order_guards(bounds, &mut scratch[..count], &mut row_weights[..count]);
@@ -135,7 +135,7 @@ fn edges_in(
 )
     requires { (end ≤ length row_conditions.now) × (end ≤ length row_weights.now) × (count ≤ length rows.now)
         × (Indexable (take end row_conditions.now) (take end row_weights.now) (take count rows.now) nodes.old edges.old) }
-    ensures { Edged (heldItems (take end row_conditions.now) (take end row_weights.now) (take count rows.now))
+    ensures { Edged (held_items (take end row_conditions.now) (take end row_weights.now) (take count rows.now))
         nodes.old edges.old nodes.new edges.new }
 {
     index_edges(
@@ -162,11 +162,11 @@ pub fn prepare(
     edges: &mut [[u64; 2]],
     scratch: &mut [u64],
 ) -> Extent
-    requires { Sound (rawLists raw_conditions.now raw_weights.now thresholds.now) bounds.now (length nodes.old)
+    requires { Sound (raw_lists raw_conditions.now raw_weights.now thresholds.now) bounds.now (length nodes.old)
         × Ample (length raw_conditions.now) (length thresholds.now)
         (built (held_rows row_conditions.old row_weights.old rows.old guard_bounds.old guard_nodes.old) nodes.old edges.old [])
         scratch.old }
-    ensures { Prepared (rawLists raw_conditions.now raw_weights.now thresholds.now) bounds.now result
+    ensures { Prepared (raw_lists raw_conditions.now raw_weights.now thresholds.now) bounds.now result
         (built (held_rows row_conditions.old row_weights.old rows.old guard_bounds.old guard_nodes.old) nodes.old edges.old [])
         (built (held_rows row_conditions.new row_weights.new rows.new guard_bounds.new guard_nodes.new) nodes.new edges.new [])
         × (scratch.new ≡ scratch.old) }

@@ -2,10 +2,10 @@
 ghost use Rattle.std.specs.Prelude.{◌≡◌, true, false, not, ◌&&◌, ◌+◌, ◌-◌, ◌<◌, ◌≤◌, ◌^◌, length, drop, List};
 ghost use Rattle.numeric.specs.Threshold.{Term};
 ghost use Rattle.numeric.specs.Slices.{terms};
-ghost use Rattle.state.specs.State.{limit, withTerms};
+ghost use Rattle.state.specs.State.{limit, with_terms};
 ghost use Rattle.state.specs.Shape.{Figures};
 ghost use Rattle.queues.specs.Queue.{queue};
-ghost use Rattle.queues.specs.Marks.{Marks, marks, isDecided, decided, decide};
+ghost use Rattle.queues.specs.Marks.{Marks, marks, is_decided, decided, decide};
 ghost use Rattle.queues.specs.Waiting.{Waits};
 ghost use Rattle.rows.specs.Rows.{row_of};
 ghost use Rattle.state.specs.declared.Step.TheVariants.{Unchanged};
@@ -13,7 +13,7 @@ ghost use Rattle.row_runs.specs.Scan.{scanned, force};
 ghost use Rattle.row_runs.specs.Turns.{turn as turn_of, turned, light};
 ghost use Rattle.row_runs.specs.Shape.{TermSlices, GuardSlices};
 ghost use Rattle.row_runs.specs.Guards.{guards};
-ghost use Rattle.row_runs.specs.Row.{ran as ranOf, sureGuards, neverGuards, thresholdGuards, forced, trueTerms, falseTerms, rowTerms, thresholdRow};
+ghost use Rattle.row_runs.specs.Row.{ran as ranOf, sure_guards, never_guards, threshold_guards, forced, true_terms, false_terms, row_terms, threshold_row};
 
 use queues::{Decision, Ring};
 use row_runs::Cutoff;
@@ -113,7 +113,7 @@ fn term_turn(
 ) -> Turn
     requires { Waits (marks sure.old never.old (queue node_queue.old scan.ring)) × (node < 4096) × (scan.passed + 1 < 2 ^ 64) }
     ensures { turn_of (scanned result.scan.passed (marks sure.new never.new (queue node_queue.new result.scan.ring)) result.scan.step) result.ends
-        ≡ turned (not (isDecided (marks sure.old never.old (queue node_queue.old scan.ring)) node) && waits)
+        ≡ turned (not (is_decided (marks sure.old never.old (queue node_queue.old scan.ring)) node) && waits)
         (force value (marks sure.old never.old (queue node_queue.old scan.ring)) node)
         (scanned scan.passed (marks sure.old never.old (queue node_queue.old scan.ring)) scan.step) }
 {
@@ -140,7 +140,7 @@ fn sure_guards(
 ) -> Scan
     requires { GuardSlices bounds.now names.now × Waits (marks sure.old never.old (queue node_queue.old ring)) }
     ensures { scanned result.passed (marks sure.new never.new (queue node_queue.new result.ring)) result.step
-        ≡ sureGuards (guards bounds.now names.now) state (marks sure.old never.old (queue node_queue.old ring)) }
+        ≡ sure_guards (guards bounds.now names.now) state (marks sure.old never.old (queue node_queue.old ring)) }
 {
     let mut at = state.sure_guard;
     let mut so_far = Scan {
@@ -176,7 +176,7 @@ fn never_guards(
 ) -> Scan
     requires { GuardSlices bounds.now names.now × (state.never_guard ≤ length bounds.now) × Waits (marks sure.old never.old (queue node_queue.old ring)) }
     ensures { scanned result.passed (marks sure.new never.new (queue node_queue.new result.ring)) result.step
-        ≡ neverGuards (guards bounds.now names.now) state (marks sure.old never.old (queue node_queue.old ring)) before }
+        ≡ never_guards (guards bounds.now names.now) state (marks sure.old never.old (queue node_queue.old ring)) before }
 {
     let mut at = state.never_guard;
     let mut so_far = Scan {
@@ -211,7 +211,7 @@ fn threshold_guards(
 ) -> Ran
     requires { GuardSlices bounds.now names.now × (state.never_guard ≤ length bounds.now) × Waits (marks sure.old never.old (queue node_queue.old ring)) }
     ensures { ranOf result.state (marks sure.new never.new (queue node_queue.new result.ring)) result.step
-        ≡ thresholdGuards (guards bounds.now names.now) state (marks sure.old never.old (queue node_queue.old ring)) }
+        ≡ threshold_guards (guards bounds.now names.now) state (marks sure.old never.old (queue node_queue.old ring)) }
 {
     let low = state.never_guard;
     let first = sure_guards(bounds, names, state, sure, never, node_queue, ring);
@@ -285,8 +285,8 @@ fn true_terms(
     ring: Ring,
 ) -> Scan
     requires { TermSlices conditions.now weights.now × Figures state × Waits (marks sure.old never.old (queue node_queue.old ring)) }
-    ensures { (ranOf (withTerms state (state.true_term + result.passed) state.false_term) (marks sure.new never.new (queue node_queue.new result.ring)) result.step
-        ≡ trueTerms (terms conditions.now weights.now) state (marks sure.old never.old (queue node_queue.old ring)))
+    ensures { (ranOf (with_terms state (state.true_term + result.passed) state.false_term) (marks sure.new never.new (queue node_queue.new result.ring)) result.step
+        ≡ true_terms (terms conditions.now weights.now) state (marks sure.old never.old (queue node_queue.old ring)))
         × (result.passed ≤ length weights.now - state.true_term) }
 {
     let known = state.known;
@@ -320,8 +320,8 @@ fn false_terms(
     ring: Ring,
 ) -> Scan
     requires { TermSlices conditions.now weights.now × Figures state × Waits (marks sure.old never.old (queue node_queue.old ring)) }
-    ensures { (ranOf (withTerms state state.true_term (state.false_term + result.passed)) (marks sure.new never.new (queue node_queue.new result.ring)) result.step
-        ≡ falseTerms (terms conditions.now weights.now) state (marks sure.old never.old (queue node_queue.old ring)))
+    ensures { (ranOf (with_terms state state.true_term (state.false_term + result.passed)) (marks sure.new never.new (queue node_queue.new result.ring)) result.step
+        ≡ false_terms (terms conditions.now weights.now) state (marks sure.old never.old (queue node_queue.old ring)))
         × (result.passed ≤ length weights.now - state.false_term) }
 {
     let known = state.known;
@@ -356,7 +356,7 @@ fn threshold_terms(
 ) -> Ran
     requires { TermSlices conditions.now weights.now × Figures before.state × Waits (marks sure.old never.old (queue node_queue.old before.ring)) }
     ensures { ranOf result.state (marks sure.new never.new (queue node_queue.new result.ring)) result.step
-        ≡ rowTerms (terms conditions.now weights.now)
+        ≡ row_terms (terms conditions.now weights.now)
         (ranOf before.state (marks sure.old never.old (queue node_queue.old before.ring)) before.step) }
 {
     let start = before.state;
@@ -400,7 +400,7 @@ pub fn threshold_row(
 ) -> Ran
     requires { TermSlices conditions.now weights.now × GuardSlices bounds.now names.now × Figures state × (state.never_guard ≤ length bounds.now) × Waits (marks sure.old never.old (queue node_queue.old ring)) }
     ensures { (raw : List Term) → ranOf result.state (marks sure.new never.new (queue node_queue.new result.ring)) result.step
-        ≡ thresholdRow (row_of raw (terms conditions.now weights.now) (guards bounds.now names.now)) state (marks sure.old never.old (queue node_queue.old ring)) }
+        ≡ threshold_row (row_of raw (terms conditions.now weights.now) (guards bounds.now names.now)) state (marks sure.old never.old (queue node_queue.old ring)) }
 {
     if state.conflict() {
         return Ran {

@@ -1,9 +1,9 @@
 -- Deciding a node: it goes into its mask and waits to be drained. `sure` and `never` of regions.rs.
 use Rattle.std.specs.Prelude.{ℕ, Bool, true, false, List}
-use Rattle.memory.specs.Limits.{maxNodes}
+use Rattle.memory.specs.Limits.{max_nodes}
 use Rattle.state.specs.declared.Step.{Step}
 use Rattle.state.specs.declared.Step.TheVariants.{Unchanged, Changed, Contradiction}
-use Rattle.words.specs.Mask.{inEither, learn}
+use Rattle.words.specs.Mask.{in_either, learn}
 use Rattle.queues.specs.Queue.{Queue, push}
 
 -- The decided nodes, and those of them that wait to be drained.
@@ -20,8 +20,8 @@ abbrev pub mask : Bool → Marks → List ℕ
 mask true m = m.sure
 mask false m = m.never
 
-abbrev pub isDecided : Marks → ℕ → Bool
-isDecided m n = inEither m.sure m.never n
+abbrev pub is_decided : Marks → ℕ → Bool
+is_decided m n = in_either m.sure m.never n
 
 pub record Decided : Type 0 where
   pub marks : Marks
@@ -33,7 +33,7 @@ decided m s = record { marks = m; step = s }
 -- Only a node that is new waits.
 abbrev pub waiting : Step → Queue → ℕ → Queue
 waiting Unchanged q n = q
-waiting Changed q n = push maxNodes q n
+waiting Changed q n = push max_nodes q n
 waiting Contradiction q n = q
 
 -- The node is sure (true) or never (false).

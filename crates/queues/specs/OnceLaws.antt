@@ -10,13 +10,13 @@ pub times_none : (r : ℕ) → times r [] ≡ 0
 unfolding times
 times_none r = refl
 
-pub times-same : (x : ℕ) (xs : List ℕ) → times x (x ∷ xs) ≡ 1 + times x xs
+pub times_same : (x : ℕ) (xs : List ℕ) → times x (x ∷ xs) ≡ 1 + times x xs
 unfolding times
-times-same x xs = rw (eq-eqb x x refl)
+times_same x xs = rw (eq-eqb x x refl)
 
-pub times-other : (r x : ℕ) (xs : List ℕ) → r ≢ x → times r (x ∷ xs) ≡ times r xs
+pub times_other : (r x : ℕ) (xs : List ℕ) → r ≢ x → times r (x ∷ xs) ≡ times r xs
 unfolding times
-times-other r x xs n = rw (ne_eqb x r (λ (e : x ≡ r). n (sym e))) (omega arith)
+times_other r x xs n = rw (ne_eqb x r (λ (e : x ≡ r). n (sym e))) (omega arith)
 
 -- What stands behind the first stands in the whole.
 pub times-behind : (r x : ℕ) (xs : List ℕ) → times r xs ≤ times r (x ∷ xs)
@@ -29,9 +29,9 @@ times-append r [] m = omega arith
 times-append r (x ∷ l) m = omega (arith, times-append r l m)
 
 -- An entry at the end counts as one at the start.
-pub times-last : (r : ℕ) (l : List ℕ) (x : ℕ) → times r (l ++ (x ∷ [])) ≡ times r (x ∷ l)
+pub times_last : (r : ℕ) (l : List ℕ) (x : ℕ) → times r (l ++ (x ∷ [])) ≡ times r (x ∷ l)
 unfolding times
-times-last r l x = times-append r l (x ∷ []) ∙ omega arith
+times_last r l x = times-append r l (x ∷ []) ∙ omega arith
 
 -- ---- as many flags as entries
 
@@ -66,16 +66,16 @@ counted : (l f : List ℕ) → ((r : ℕ) → times r l ≡ get_or f r 0) → le
 unfolding times
 counted [] f h = sym (sum-none f (λ i. sym (h i)))
 counted (x ∷ l) f h =
-    let e = sym (times-same x l) ∙ h x in
+    let e = sym (times_same x l) ∙ h x in
     let k = within f x (omega arith) in
     let rest = counted l (set f x (get_or f x 0 - 1)) (λ r. by k r (ℕ_discrete r x)) in
     omega (arith, sum-set f x (get_or f x 0 - 1) k)
   where
     by : x < length f → (r : ℕ) → Dec (r ≡ x) → times r l ≡ get_or (set f x (get_or f x 0 - 1)) r 0
     by k r (yes e) =
-        let s = sym (times-same x l) ∙ h x in
+        let s = sym (times_same x l) ∙ h x in
         rw e (sym (get_or-set_same f x (get_or f x 0 - 1) 0 k ∙ (omega arith)))
-    by k r (no n) = sym (times-other r x l n) ∙ h r ∙ sym (get_or-set_other f x r (get_or f x 0 - 1) 0 n)
+    by k r (no n) = sym (times_other r x l n) ∙ h r ∙ sym (get_or-set_other f x r (get_or f x 0 - 1) 0 n)
 
 -- ---- at most once
 
@@ -107,8 +107,8 @@ pub room : (n : ℕ) (l : List ℕ) → ((r : ℕ) → times r l ≤ 1) → ((r 
     → (x : ℕ) → x < n → times x l ≡ 0 → length l < n
 room n l once none x h z =
     at_most n (x ∷ l) (λ r. by r (ℕ_discrete r x))
-    (λ r k. times-other r x l (λ (e : r ≡ x). omega arith) ∙ none r k)
+    (λ r k. times_other r x l (λ (e : r ≡ x). omega arith) ∙ none r k)
   where
     by : (r : ℕ) → Dec (r ≡ x) → times r (x ∷ l) ≤ 1
-    by r (yes e) = rw e (omega (arith, times-same x l))
-    by r (no d) = omega (arith, times-other r x l d, once r)
+    by r (yes e) = rw e (omega (arith, times_same x l))
+    by r (no d) = omega (arith, times_other r x l d, once r)

@@ -5,8 +5,8 @@ use Rattle.queues.specs.declared.Ring.{Ring}
 use Rattle.queues.specs.Queue.{queue, Rows, rows}
 
 -- The queue whose entries stand in column k, and its flags, by row, in the column behind it.
-abbrev pub rowsIn : ℕ → List (List ℕ) → Ring → Rows
-rowsIn k slots r = rows (queue (column k slots) r) (column (k + 1) slots)
+abbrev pub rows_in : ℕ → List (List ℕ) → Ring → Rows
+rows_in k slots r = rows (queue (column k slots) r) (column (k + 1) slots)
 
 -- The four numbers of a slot.
 abbrev pub slot : List ℕ → List ℕ

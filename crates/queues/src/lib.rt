@@ -2,8 +2,8 @@
 ghost use Rattle.std.specs.Prelude.{◌≡◌, ◌+◌, ◌-◌, ◌<◌, ◌≤◌, ◌%◌, ◌^◌, length, get_or};
 ghost use Rattle.base.specs.Columns.{column};
 ghost use Rattle.queues.specs.declared.Ring.{Ring};
-ghost use Rattle.queues.specs.Queue.{queue, push as pushed, behind as behindAll, longerRing, poppedRing, queueRow, nextRow};
-ghost use Rattle.queues.specs.Slot.{rowsIn, put as puts};
+ghost use Rattle.queues.specs.Queue.{queue, push as pushed, behind as behindAll, longer_ring, popped_ring, queue_row, next_row};
+ghost use Rattle.queues.specs.Slot.{rows_in, put as puts};
 ghost use Rattle.queues.specs.Shape.{Held};
 ghost use Rattle.queues.specs.Marks.{marks, decided, waiting, decide as decides};
 
@@ -78,7 +78,7 @@ fn push(items: &mut [u16], ring: Ring, places: usize, x: u16) -> Ring
 // One more waits.
 fn longer(ring: Ring) -> Ring
     requires { ring.count < 2 ^ 63 }
-    ensures { result ≡ longerRing ring }
+    ensures { result ≡ longer_ring ring }
 {
     let head = ring.head;
     let count = ring.count;
@@ -91,7 +91,7 @@ fn longer(ring: Ring) -> Ring
 // The oldest entry, which stands at `head`, waits no longer.
 pub fn popped(ring: Ring, places: usize) -> Ring
     requires { (ring.head < places) × (0 < ring.count) }
-    ensures { result ≡ poppedRing places ring }
+    ensures { result ≡ popped_ring places ring }
 {
     let head = ring.head;
     let count = ring.count;
@@ -116,8 +116,8 @@ fn put(row_queues: &mut [[u16; 4]], at: usize, j: usize, x: u16)
 // The queue of rows whose columns begin at k. A row that waits already is not queued again.
 pub fn queue_row(row_queues: &mut [[u16; 4]], k: usize, ring: Ring, row: usize) -> Ring
     requires { (k < 4) × (k % 2 ≡ 0) × Held 1024 (queue (column k row_queues.old) ring) × (row < 1024) }
-    ensures { (rowsIn k row_queues.new result ≡ queueRow (rowsIn k row_queues.old ring) row)
-        × ((other : Ring) → rowsIn (2 - k) row_queues.new other ≡ rowsIn (2 - k) row_queues.old other) }
+    ensures { (rows_in k row_queues.new result ≡ queue_row (rows_in k row_queues.old ring) row)
+        × ((other : Ring) → rows_in (2 - k) row_queues.new other ≡ rows_in (2 - k) row_queues.old other) }
 {
     let slot = row_queues[row];
     if slot[k + 1] == 1 {
@@ -139,8 +139,8 @@ fn place(x: u16) -> usize
 // The oldest row is taken: its flag falls.
 pub fn next_row(row_queues: &mut [[u16; 4]], k: usize, ring: Ring) -> Ring
     requires { (k < 4) × (k % 2 ≡ 0) × Held 1024 (queue (column k row_queues.old) ring) × (0 < ring.count) × (get_or (column k row_queues.old) ring.head 0 < length row_queues.old) }
-    ensures { (rowsIn k row_queues.new result ≡ nextRow (rowsIn k row_queues.old ring))
-        × ((other : Ring) → rowsIn (2 - k) row_queues.new other ≡ rowsIn (2 - k) row_queues.old other) }
+    ensures { (rows_in k row_queues.new result ≡ next_row (rows_in k row_queues.old ring))
+        × ((other : Ring) → rows_in (2 - k) row_queues.new other ≡ rows_in (2 - k) row_queues.old other) }
 {
     let head = ring.head;
     let slot = row_queues[head];

@@ -1,21 +1,21 @@
 -- What the raw buffers hold while a job is read: the job of the file so far, word by word, and what the checks read of it.
 use Rattle.std.specs.Prelude.{ℕ, ◌+◌, ◌-◌, ◌<◌, ◌≤◌, ◌≡◌, Bool, true, false, List, [], length, get_or, drop, ℤ, ltb}
 use Rattle.numeric.specs.Area.{Entry, plain, area, joined, job_of}
-use Rattle.memory.specs.Limits.{maxNodes, maxTerms, maxThresholds, listTerms}
-use Rattle.memory.specs.Buffers.{Raw, rawLists, raw}
-use Rattle.job.specs.JobBuffers.{rawOf}
+use Rattle.memory.specs.Limits.{max_nodes, max_terms, max_thresholds, list_terms}
+use Rattle.memory.specs.Buffers.{Raw, raw_lists, raw}
+use Rattle.job.specs.JobBuffers.{raw_of}
 use Rattle.records.specs.declared.Standing.{Standing}
 use Rattle.records.specs.declared.Record.{Record}
 use Rattle.records.specs.declared.Record.TheVariants.{Header, Opens, Adds, Areas, Seal, Mark, Settle, Sift, Unknown}
 use Rattle.checks.specs.declared.Next.TheVariants.{Taken}
 use Rattle.checks.specs.Next.{next_at}
 use Rattle.records.specs.Facts.{within, serving}
-use Rattle.checks.specs.Checks.{wrongTurn}
-use Rattle.job.specs.Job.{lastList}
-use Rattle.job.specs.Gathered.{jobIn, Gathered, openStart, Joinable}
+use Rattle.checks.specs.Checks.{wrong_turn}
+use Rattle.job.specs.Job.{last_list}
+use Rattle.job.specs.Gathered.{job_in, Gathered, open_start, Joinable}
 use Rattle.files.specs.declared.JobRead.{JobRead}
 use Rattle.files.specs.File.{File, standing, apply}
-use Rattle.files.specs.JobPart.{JobPart, readJob, jobPartFrom}
+use Rattle.files.specs.JobPart.{JobPart, read_job, job_part_from}
 
 -- What the checks read behind a header.
 abbrev pub headed : Standing → ℕ → Standing
@@ -33,8 +33,8 @@ headed s n = record {
 }
 
 -- Read up to an offset, and neither refused nor at a seal there.
-abbrev pub readTo : ℕ → Standing → JobRead
-readTo o s = record { at = o; refusal = 0; sealing = false; standing = s }
+abbrev pub read_to : ℕ → Standing → JobRead
+read_to o s = record { at = o; refusal = 0; sealing = false; standing = s }
 
 -- Nothing is read yet.
 abbrev pub blank : Standing
@@ -42,14 +42,14 @@ blank = record { started = false; sealed = false; contradicted = false; nodes = 
 
 -- Buffers of the lengths of docs/BUFFERS.md.
 pub record Room (w : Raw) : Type 0 where
-  pub conditions : maxTerms ≤ length w.lists.raw-conditions
-  pub weights : maxTerms ≤ length w.lists.raw-weights
-  pub thresholds : maxThresholds ≤ length w.lists.thresholds
-  pub bounds : maxThresholds ≤ length w.bounds
+  pub conditions : max_terms ≤ length w.lists.raw-conditions
+  pub weights : max_terms ≤ length w.lists.raw-weights
+  pub thresholds : max_thresholds ≤ length w.lists.thresholds
+  pub bounds : max_thresholds ≤ length w.bounds
 
 -- Whether a threshold is open: one that no seal has closed.
-abbrev pub anyOpen : File → Bool
-anyOpen f = ltb (length f.closed.thresholds) (length f.draft.thresholds)
+abbrev pub any_open : File → Bool
+any_open f = ltb (length f.closed.thresholds) (length f.draft.thresholds)
 
 -- Records of a job, its seal among them.
 abbrev pub OfJob : Record → Type 0
@@ -70,42 +70,42 @@ NextOfJob bytes o s = (x : Record) → Taken x ≡ next_at s bytes o → OfJob x
 -- The job of a file, laid into buffers that were w before any record.
 pub record Held (f : File) (w : Raw) (s : Standing) (cs ws : List ℕ) (ts : List (List ℕ)) (bs : List ℤ) : Type 0 where
   pub stands : s ≡ standing f
-  pub words : raw (rawLists cs ws ts) bs ≡ rawOf (job_of f.draft) w
-  pub job : jobIn s cs ws ts bs ≡ job_of f.draft
+  pub words : raw (raw_lists cs ws ts) bs ≡ raw_of (job_of f.draft) w
+  pub job : job_in s cs ws ts bs ≡ job_of f.draft
   pub gathered : Gathered s cs ws ts bs
   pub unstarted : f.started ≡ false → f.draft.thresholds ≡ []
-  pub unserved : f.started ≡ false → wrongTurn (standing f) serving ≡ true
+  pub unserved : f.started ≡ false → wrong_turn (standing f) serving ≡ true
   pub fewer : length f.closed.thresholds ≤ length f.draft.thresholds
-  pub opened : wrongTurn (standing f) within ≡ false → anyOpen f ≡ true
+  pub opened : wrong_turn (standing f) within ≡ false → any_open f ≡ true
 
 -- What stands outside a list.
-abbrev pub noEntry : Entry
-noEntry = plain 0 0
+abbrev pub no_entry : Entry
+no_entry = plain 0 0
 
 -- What is noted of the areas in the open threshold's list, areas joined: each one's place by its condition, and its hundredths.
 pub record Noted (es : List Entry) (s : Standing) (ts : List (List ℕ)) (ps ss : List ℕ) : Type 0 where
   pub joinable : Joinable s ts ps ss
-  pub long : openStart s ts + length es ≡ s.raw_terms
-  pub found : (c : ℕ) → openStart s ts < get_or ps c 0 → let i = get_or ps c 0 - 1 - openStart s ts in get_or es i noEntry ≡ area c (get_or ss i 0)
-  pub only : (i c h : ℕ) → get_or es i noEntry ≡ area c h → get_or ps c 0 ≡ openStart s ts + i + 1
+  pub long : open_start s ts + length es ≡ s.raw_terms
+  pub found : (c : ℕ) → open_start s ts < get_or ps c 0 → let i = get_or ps c 0 - 1 - open_start s ts in get_or es i no_entry ≡ area c (get_or ss i 0)
+  pub only : (i c h : ℕ) → get_or es i no_entry ≡ area c h → get_or ps c 0 ≡ open_start s ts + i + 1
 
 -- Notes are of the open threshold; where none is open they say nothing, and the next one can be noted.
 pub record Reading (f : File) (w : Raw) (s : Standing) (cs ws : List ℕ) (ts : List (List ℕ)) (bs : List ℤ) (ps ss : List ℕ) : Type 0 where
   pub held : Held f w s cs ws ts bs
   pub joinable : Joinable s ts ps ss
-  pub noted : anyOpen f ≡ true → Noted (joined (lastList f.draft.thresholds)) s ts ps ss
+  pub noted : any_open f ≡ true → Noted (joined (last_list f.draft.thresholds)) s ts ps ss
 
 -- Nothing is noted yet.
 pub record Unnoted (ps ss : List ℕ) : Type 0 where
-  pub places : maxNodes ≤ length ps
-  pub sums : listTerms ≤ length ss
+  pub places : max_nodes ≤ length ps
+  pub sums : list_terms ≤ length ss
   pub blank : (c : ℕ) → get_or ps c 0 ≡ 0
 
 -- Whatever file the buffers held, they hold it with the record done; and then marks, settles and sifts are not in their turn.
 pub record Takes (x : Record) (s : Standing) (cs ws : List ℕ) (ts : List (List ℕ)) (bs : List ℤ) (ps ss : List ℕ)
     (r : Standing) (cs' ws' : List ℕ) (ts' : List (List ℕ)) (bs' : List ℤ) (ps' ss' : List ℕ) : Type 0 where
   pub done : (f : File) (w : Raw) → Room w → Reading f w s cs ws ts bs ps ss → Reading (apply f x) w r cs' ws' ts' bs' ps' ss'
-  pub building : (f : File) (w : Raw) → Reading f w s cs ws ts bs ps ss → wrongTurn r serving ≡ true
+  pub building : (f : File) (w : Raw) → Reading f w s cs ws ts bs ps ss → wrong_turn r serving ≡ true
 
 -- What was read, as the code gives it back: each equals what the definition gives.
 pub record HeldPart (j : JobPart) (w : Raw) (r : JobRead) (cs ws : List ℕ) (ts : List (List ℕ)) (bs : List ℤ) : Type 0 where
@@ -118,12 +118,12 @@ pub record HeldPart (j : JobPart) (w : Raw) (r : JobRead) (cs ws : List ℕ) (ts
 pub record ReadPart (j : JobPart) (w : Raw) (r : JobRead) (cs ws : List ℕ) (ts : List (List ℕ)) (bs : List ℤ) (ps ss : List ℕ) : Type 0 where
   pub part : HeldPart j w r cs ws ts bs
   pub joinable : Joinable r.standing ts ps ss
-  pub noted : anyOpen j.file ≡ true → Noted (joined (lastList j.file.draft.thresholds)) r.standing ts ps ss
-  pub building : r.refusal ≡ 0 → r.sealing ≡ false → wrongTurn r.standing serving ≡ true
+  pub noted : any_open j.file ≡ true → Noted (joined (last_list j.file.draft.thresholds)) r.standing ts ps ss
+  pub building : r.refusal ≡ 0 → r.sealing ≡ false → wrong_turn r.standing serving ≡ true
 
 pub record Reads (bytes : List ℕ) (o : ℕ) (s : Standing) (cs ws : List ℕ) (ts : List (List ℕ)) (bs : List ℤ) (ps ss : List ℕ)
     (r : JobRead) (cs' ws' : List ℕ) (ts' : List (List ℕ)) (bs' : List ℤ) (ps' ss' : List ℕ) : Type 0 where
-  pub part : (f : File) (w : Raw) → Room w → Reading f w s cs ws ts bs ps ss → ReadPart (readJob 1 o (drop o bytes) f []) w r cs' ws' ts' bs' ps' ss'
+  pub part : (f : File) (w : Raw) → Room w → Reading f w s cs ws ts bs ps ss → ReadPart (read_job 1 o (drop o bytes) f []) w r cs' ws' ts' bs' ps' ss'
 
 -- Between two records: some number of records is enough, and reading on from here gives the whole.
 pub record Going (bytes : List ℕ) (whole : JobPart) (w : Raw) (r : JobRead) (cs ws : List ℕ) (ts : List (List ℕ)) (bs : List ℤ) (ps ss : List ℕ) : Type 0 where
@@ -131,7 +131,7 @@ pub record Going (bytes : List ℕ) (whole : JobPart) (w : Raw) (r : JobRead) (c
   pub taken : List Record
   pub left : ℕ
   pub enough : length bytes ≤ left + r.at
-  pub same : readJob left r.at (drop r.at bytes) file taken ≡ whole
+  pub same : read_job left r.at (drop r.at bytes) file taken ≡ whole
   pub reading : Reading file w r.standing cs ws ts bs ps ss
   pub builds : NextOfJob bytes r.at r.standing
   pub refusal : r.refusal ≡ 0
@@ -140,14 +140,14 @@ pub record Going (bytes : List ℕ) (whole : JobPart) (w : Raw) (r : JobRead) (c
 -- The same from an offset on, whatever file the buffers held there.
 pub record GoesFrom (bytes : List ℕ) (o : ℕ) (s : Standing) (cs ws : List ℕ) (ts : List (List ℕ)) (bs : List ℤ) (ps ss : List ℕ)
     (r : JobRead) (cs' ws' : List ℕ) (ts' : List (List ℕ)) (bs' : List ℤ) (ps' ss' : List ℕ) : Type 0 where
-  pub going : (f : File) (w : Raw) → Room w → Reading f w s cs ws ts bs ps ss → Going bytes (jobPartFrom bytes o f []) w r cs' ws' ts' bs' ps' ss'
+  pub going : (f : File) (w : Raw) → Room w → Reading f w s cs ws ts bs ps ss → Going bytes (job_part_from bytes o f []) w r cs' ws' ts' bs' ps' ss'
 
 -- What reading from there on gives, whatever file the buffers held.
 pub record ReadsOn (bytes : List ℕ) (o : ℕ) (s : Standing) (cs ws : List ℕ) (ts : List (List ℕ)) (bs : List ℤ) (ps ss : List ℕ)
     (r : JobRead) (cs' ws' : List ℕ) (ts' : List (List ℕ)) (bs' : List ℤ) : Type 0 where
-  pub part : (f : File) (w : Raw) → Room w → Reading f w s cs ws ts bs ps ss → HeldPart (jobPartFrom bytes o f []) w r cs' ws' ts' bs'
+  pub part : (f : File) (w : Raw) → Room w → Reading f w s cs ws ts bs ps ss → HeldPart (job_part_from bytes o f []) w r cs' ws' ts' bs'
 
 -- The same of buffers whose file has no threshold open, so that notes start anew.
 pub record ReadsJob (bytes : List ℕ) (o : ℕ) (s : Standing) (cs ws : List ℕ) (ts : List (List ℕ)) (bs : List ℤ)
     (r : JobRead) (cs' ws' : List ℕ) (ts' : List (List ℕ)) (bs' : List ℤ) : Type 0 where
-  pub part : (f : File) (w : Raw) → Room w → Held f w s cs ws ts bs → anyOpen f ≡ false → HeldPart (jobPartFrom bytes o f []) w r cs' ws' ts' bs'
+  pub part : (f : File) (w : Raw) → Room w → Held f w s cs ws ts bs → any_open f ≡ false → HeldPart (job_part_from bytes o f []) w r cs' ws' ts' bs'

@@ -1,13 +1,13 @@
 // The records of a job read into the raw buffers, from an offset on up to the next seal.
 ghost use Rattle.std.specs.Prelude.{◌≡◌, false, ◌<◌, List, length, ℤ};
-ghost use Rattle.memory.specs.Buffers.{Raw, rawLists, raw, clearRaw};
+ghost use Rattle.memory.specs.Buffers.{Raw, raw_lists, raw, clear_raw};
 ghost use Rattle.records.specs.Facts.{action};
 ghost use Rattle.checks.specs.Next.{closing, EntryNext};
-ghost use Rattle.checks.specs.Checks.{refusedBy};
+ghost use Rattle.checks.specs.Checks.{refused_by};
 ghost use Rattle.job.specs.Gathered.{Listed, Termed, Gathered, Joinable};
 ghost use Rattle.files.specs.File.{File};
-ghost use Rattle.reading.specs.Held.{headed, blank, Room, anyOpen, OfJob, NextOfJob, Held, Reading, Takes, Reads, ReadsOn, ReadsJob, HeldPart};
-ghost use Rattle.files.specs.JobPart.{jobPartOf};
+ghost use Rattle.reading.specs.Held.{headed, blank, Room, any_open, OfJob, NextOfJob, Held, Reading, Takes, Reads, ReadsOn, ReadsJob, HeldPart};
+ghost use Rattle.files.specs.JobPart.{job_part_of};
 
 use checks::Next;
 use files::JobRead;
@@ -43,7 +43,7 @@ fn take_record(
     sums: &mut [u64],
 ) -> Standing
     requires { Gathered standing raw_conditions.old raw_weights.old thresholds.old bounds.old × Joinable standing thresholds.old places.old sums.old
-        × (refusedBy standing entry ≡ 0) × OfJob entry × (closing (action entry) ≡ false) }
+        × (refused_by standing entry ≡ 0) × OfJob entry × (closing (action entry) ≡ false) }
     ensures { Takes entry standing raw_conditions.old raw_weights.old thresholds.old bounds.old places.old sums.old
         result raw_conditions.new raw_weights.new thresholds.new bounds.new places.new sums.new }
 {
@@ -280,7 +280,7 @@ pub fn read_job(
     thresholds: &mut [[u16; 2]],
     bounds: &mut [i64],
 ) -> JobRead
-    requires { ((f : File) × (w : Raw) × Room w × Held f w standing raw_conditions.old raw_weights.old thresholds.old bounds.old × (anyOpen f ≡ false)) × NextOfJob input.now at standing }
+    requires { ((f : File) × (w : Raw) × Room w × Held f w standing raw_conditions.old raw_weights.old thresholds.old bounds.old × (any_open f ≡ false)) × NextOfJob input.now at standing }
     ensures { ReadsJob input.now at standing
         raw_conditions.old raw_weights.old thresholds.old bounds.old result
         raw_conditions.new raw_weights.new thresholds.new bounds.new }
@@ -308,9 +308,9 @@ pub fn read(
     thresholds: &mut [[u16; 2]],
     bounds: &mut [i64],
 ) -> JobRead
-    requires { Room (raw (rawLists raw_conditions.old raw_weights.old thresholds.old) bounds.old) }
-    ensures { HeldPart (jobPartOf input.now)
-        (clearRaw (raw (rawLists raw_conditions.old raw_weights.old thresholds.old) bounds.old)) result
+    requires { Room (raw (raw_lists raw_conditions.old raw_weights.old thresholds.old) bounds.old) }
+    ensures { HeldPart (job_part_of input.now)
+        (clear_raw (raw (raw_lists raw_conditions.old raw_weights.old thresholds.old) bounds.old)) result
         raw_conditions.new raw_weights.new thresholds.new bounds.new }
 {
     memory::clear_raw(raw_conditions, raw_weights, thresholds, bounds);

@@ -1,6 +1,6 @@
 -- What a record does, and what the checks read of it.
 use Rattle.std.specs.Prelude.{ℕ, List, [], ◌∷◌, ℤ}
-use Rattle.numeric.specs.Area.{Entry, plain, area, conditionOf}
+use Rattle.numeric.specs.Area.{Entry, plain, area, condition_of}
 use Rattle.records.specs.declared.Record.{Record}
 use Rattle.records.specs.declared.Record.TheVariants.{Header, Opens, Adds, Areas, Seal, Mark, Settle, Sift, Unknown}
 
@@ -55,7 +55,7 @@ action Unknown = idles (facing whenever [] [] [] [] ofNothing)
 abbrev pub facts : Action → Facts
 facts (begins n) = facing opening [] [] [] [] (ofNodes n)
 facts (changes (opens n b)) = facing building (n ∷ []) (n ∷ []) (b ∷ []) [] ofThresholds
-facts (changes (adds x)) = facing within (conditionOf x ∷ []) [] [] [] ofTerms
+facts (changes (adds x)) = facing within (condition_of x ∷ []) [] [] [] ofTerms
 facts closes = facing building [] [] [] [] ofNothing
 facts (decides n v) = facing serving (n ∷ []) [] [] (v ∷ []) ofNothing
 facts settles = facing serving [] [] [] [] ofAnswers

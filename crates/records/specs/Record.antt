@@ -4,9 +4,9 @@ use Rattle.records.specs.declared.Record.{Record}
 use Rattle.records.specs.declared.Record.TheVariants.{Header, Opens, Adds, Areas, Seal, Mark, Settle, Sift, Unknown}
 
 -- Bytes as a number, the lowest first.
-unfoldable pub littleEndian : List ℕ → ℕ
-littleEndian [] = 0
-littleEndian (b ∷ bs) = b + 256 * littleEndian bs
+unfoldable pub little_endian : List ℕ → ℕ
+little_endian [] = 0
+little_endian (b ∷ bs) = b + 256 * little_endian bs
 
 -- Eight bytes as a signed number.
 abbrev pub signed : ℕ → ℤ
@@ -14,10 +14,10 @@ signed n = cond (ltb n (2 ^ 63)) (pos n) (negsuc (2 ^ 64 - 1 - n))
 
 -- The field of two bytes with which most bodies begin, and the field behind it.
 abbrev pub front : List ℕ → ℕ
-front body = littleEndian (take 2 body)
+front body = little_endian (take 2 body)
 
 abbrev pub behind : List ℕ → ℕ
-behind body = littleEndian (drop 2 body)
+behind body = little_endian (drop 2 body)
 
 -- A kind: how many bytes of body follow, and the record that they make.
 pub record Kind : Type 0 where
@@ -27,14 +27,14 @@ pub record Kind : Type 0 where
 abbrev pub kind : ℕ → (List ℕ → Record) → Kind
 kind n f = record { size = n; made = f }
 
-abbrev pub noKind : Kind
-noKind = kind 0 (λ (body : List ℕ). Unknown)
+abbrev pub no_kind : Kind
+no_kind = kind 0 (λ (body : List ℕ). Unknown)
 
 -- Document 01's table of kinds, by the byte.
 abbrev pub kinds : List Kind
 kinds =
-    noKind
-    ∷ kind 2 (λ (body : List ℕ). Header (littleEndian body))  -- 0x01
+    no_kind
+    ∷ kind 2 (λ (body : List ℕ). Header (little_endian body))  -- 0x01
     ∷ kind 10 (λ (body : List ℕ). Opens (front body) (signed (behind body)))
     ∷ kind 6 (λ (body : List ℕ). Adds (front body) (behind body))
     ∷ kind 0 (λ (body : List ℕ). Seal)
@@ -45,14 +45,14 @@ kinds =
     ∷ []
 
 abbrev pub kind_of : ℕ → Kind
-kind_of b = get_or kinds b noKind
+kind_of b = get_or kinds b no_kind
 
-abbrev pub bodyLength : Kind → ℕ
-bodyLength k = k.size
+abbrev pub body_length : Kind → ℕ
+body_length k = k.size
 
 -- The record that begins with this kind.
 abbrev pub body_of : ℕ → List ℕ → List ℕ
-body_of kind rest = take (bodyLength (kind_of kind)) rest
+body_of kind rest = take (body_length (kind_of kind)) rest
 
-abbrev pub recordAt : ℕ → List ℕ → Record
-recordAt kind rest = (kind_of kind).made (body_of kind rest)
+abbrev pub record_at : ℕ → List ℕ → Record
+record_at kind rest = (kind_of kind).made (body_of kind rest)

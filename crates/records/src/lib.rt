@@ -1,8 +1,8 @@
 // Records of a job file: kinds, bodies and their fields, read at an offset.
 ghost use Rattle.std.specs.Prelude.{◌≡◌, ◌+◌, ◌<◌, ◌≤◌, length, get_or, take, drop};
 ghost use Rattle.records.specs.declared.Record.TheVariants.{Adds};
-ghost use Rattle.records.specs.Record.{kind_of, bodyLength, littleEndian, signed};
-ghost use Rattle.records.specs.At.{kind_at, recordIn};
+ghost use Rattle.records.specs.Record.{kind_of, body_length, little_endian, signed};
+ghost use Rattle.records.specs.At.{kind_at, record_in};
 
 // A record with its fields: nodes; node and bound; condition and weight; condition and area; node and value.
 #[derive(Drop)]
@@ -37,7 +37,7 @@ pub struct Standing {
 
 // How many bytes of body follow a kind.
 pub fn body_length(kind: u8) -> usize
-    ensures { result ≡ bodyLength (kind_of kind) }
+    ensures { result ≡ body_length (kind_of kind) }
 {
     match kind {
         1 => 2,
@@ -61,7 +61,7 @@ fn byte_at(input: &[u8], at: usize) -> u64
 
 pub fn u16_at(input: &[u8], at: usize) -> u16
     requires { at + 2 ≤ length input.now }
-    ensures { result ≡ littleEndian (take 2 (drop at input.now)) }
+    ensures { result ≡ little_endian (take 2 (drop at input.now)) }
 {
     let low = byte_at(input, at);
     let high = byte_at(input, at + 1);
@@ -70,7 +70,7 @@ pub fn u16_at(input: &[u8], at: usize) -> u16
 
 pub fn u32_at(input: &[u8], at: usize) -> u32
     requires { at + 4 ≤ length input.now }
-    ensures { result ≡ littleEndian (take 4 (drop at input.now)) }
+    ensures { result ≡ little_endian (take 4 (drop at input.now)) }
 {
     let low = u16_at(input, at);
     let high = u16_at(input, at + 2);
@@ -79,7 +79,7 @@ pub fn u32_at(input: &[u8], at: usize) -> u32
 
 fn u64_at(input: &[u8], at: usize) -> u64
     requires { at + 8 ≤ length input.now }
-    ensures { result ≡ littleEndian (take 8 (drop at input.now)) }
+    ensures { result ≡ little_endian (take 8 (drop at input.now)) }
 {
     let low = u32_at(input, at);
     let high = u32_at(input, at + 4);
@@ -88,7 +88,7 @@ fn u64_at(input: &[u8], at: usize) -> u64
 
 fn i64_at(input: &[u8], at: usize) -> i64
     requires { at + 8 ≤ length input.now }
-    ensures { result ≡ signed (littleEndian (take 8 (drop at input.now))) }
+    ensures { result ≡ signed (little_endian (take 8 (drop at input.now))) }
 {
     let n = u64_at(input, at);
     if n < 9223372036854775808 {
@@ -100,8 +100,8 @@ fn i64_at(input: &[u8], at: usize) -> i64
 
 // The record that begins at an offset, all of whose body is there.
 pub fn record_at(input: &[u8], at: usize) -> Record
-    requires { at + 1 + bodyLength (kind_at input.now at) ≤ length input.now }
-    ensures { result ≡ recordIn input.now at }
+    requires { at + 1 + body_length (kind_at input.now at) ≤ length input.now }
+    ensures { result ≡ record_in input.now at }
 {
     let kind = input[at];
     match kind {

@@ -3,7 +3,7 @@ use Rattle.std.specs.Prelude.{ℕ, ◌≡◌, true, false, List, length, leb}
 use Rattle.base.specs.Laid.{over}
 use Rattle.files.specs.declared.Given.{Given}
 use Rattle.files.specs.File.{planned}
-use Rattle.files.specs.Listing.{maxListing, listing}
+use Rattle.files.specs.Listing.{max_listing, listing}
 use Rattle.files.specs.Contents.{given_of, nothing}
 use Rattle.report.specs.declared.Planned.{Planned}
 
@@ -23,7 +23,7 @@ report planned out = record { planned = planned; out = out }
 unfoldable pub reported : List ℕ → List ℕ → Report
 reported input out =
     let o = planned input in
-    elim (leb maxListing (length out))
+    elim (leb max_listing (length out))
     [ true ↦ report (plan_of (given_of o) (length (listing o))) (over (listing o) out) | false ↦ report (plan_of nothing 0) out ]
 
 abbrev pub Plans : (input before after : List ℕ) → Planned → Type 0

@@ -2,12 +2,12 @@
 use Rattle.std.specs.Prelude.{ℕ, ◌≤◌, ◌<◌, ◌≡◌, List, length}
 use Rattle.base.specs.All.{All}
 use Rattle.memory.specs.Buffers.{Work, needed, lengths}
-use Rattle.files.specs.Listing.{maxListing}
+use Rattle.files.specs.Listing.{max_listing}
 
 abbrev pub IsByte : ℕ → Type 0
 IsByte b = b < 256
 
 pub record Ready (input out : List ℕ) (w : Work) : Type 0 where
   pub bytes : All IsByte input
-  pub room : maxListing ≤ length out
+  pub room : max_listing ≤ length out
   pub long : lengths w ≡ needed

@@ -1,6 +1,6 @@
 // The plan of an input, over buffers of its own: the public call, then the listing.
 ghost use Rattle.std.specs.Prelude.{◌≡◌};
-ghost use Rattle.memory.specs.Buffers.{rawLists, raw, held_rows, built, kept, work};
+ghost use Rattle.memory.specs.Buffers.{raw_lists, raw, held_rows, built, kept, work};
 ghost use Rattle.files.specs.Contents.{nothing};
 ghost use Rattle.report.specs.Plan.{plan_of, Plans};
 ghost use Rattle.report.specs.Ready.{Ready};
@@ -66,7 +66,7 @@ fn plan_in(
     row_queues: &mut [[u16; 4]],
     answers: &mut [[u16; 2]],
 ) -> Planned
-    requires { Ready input.now out.old (work (raw (rawLists raw_conditions.old raw_weights.old thresholds.old) bounds.old)
+    requires { Ready input.now out.old (work (raw (raw_lists raw_conditions.old raw_weights.old thresholds.old) bounds.old)
         (built (held_rows row_conditions.old row_weights.old rows.old guard_bounds.old guard_nodes.old) nodes.old edges.old links.old)
         (kept figures.old cursors.old sure.old never.old search.old gcds.old node_queue.old row_queues.old answers.old)) }
     ensures { Plans input.now out.old out.new result }

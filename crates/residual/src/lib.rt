@@ -3,7 +3,7 @@ ghost use Rattle.std.specs.Prelude.{◌≡◌, ◌+◌, ◌-◌, ◌^◌, ◌<�
 ghost use Rattle.numeric.specs.Threshold.{term};
 ghost use Rattle.numeric.specs.Slices.{Below, Shape, terms};
 ghost use Rattle.state.specs.Step.{joined};
-ghost use Rattle.words.specs.Mask.{inEither};
+ghost use Rattle.words.specs.Mask.{in_either};
 ghost use Rattle.queues.specs.Queue.{queue};
 ghost use Rattle.queues.specs.Shape.{Held};
 ghost use Rattle.state.specs.declared.Step.TheVariants.{Unchanged};
@@ -13,17 +13,17 @@ ghost use Rattle.divisors.specs.Gcd.{gcd};
 ghost use Rattle.misses.specs.Misses.{misses};
 ghost use Rattle.intervals.specs.Shape.{Window};
 ghost use Rattle.intervals.specs.Residual.{
-  checkFrom,
-  residualCheck,
-  fitsFrom,
+  check_from,
+  residual_check,
+  fits_from,
   suffixes,
   placed,
   over,
-  forceTerm,
-  forceFrom,
-  nothingForced,
+  force_term,
+  force_from,
+  nothing_forced,
   residual,
-  thresholdResidual,
+  threshold_residual,
 };
 
 use intervals::Interval;
@@ -41,7 +41,7 @@ fn prepare_suffix(
     requires shape { Shape conditions.now weights.now sure.now never.now }
     requires weights_in_bounds { length weights.now < length gcds.old }
     ensures { gcds.new
-        ≡ over (suffixes (inEither sure.now never.now) (terms conditions.now weights.now)) gcds.old }
+        ≡ over (suffixes (in_either sure.now never.now) (terms conditions.now weights.now)) gcds.old }
 {
     let count = weights.len();
     let mut left = count;
@@ -61,7 +61,7 @@ fn check_from(conditions: &[u16], weights: &[u64], i: Interval, sure: &[u64], ne
     requires shape { Shape conditions.now weights.now sure.now never.now }
     requires window { Window i }
     ensures { result
-        ≡ checkFrom i (inEither sure.now never.now) (reverse (terms conditions.now weights.now)) 0 }
+        ≡ check_from i (in_either sure.now never.now) (reverse (terms conditions.now weights.now)) 0 }
 {
     let mut remaining = weights.len();
     let mut divisor: u64 = 0;
@@ -98,7 +98,7 @@ fn threshold_residual_check(
 ) -> Step
     requires { Shape conditions.now weights.now sure.now never.now }
     ensures { result
-        ≡ residualCheck (terms conditions.now weights.now) state (inEither sure.now never.now) }
+        ≡ residual_check (terms conditions.now weights.now) state (in_either sure.now never.now) }
 {
     if !rows::has_nonunit(conditions, weights) {
         return Step::Unchanged;
@@ -128,7 +128,7 @@ fn threshold_residual_check(
 fn fits_from(conditions: &[u16], weights: &[u64], i: Interval, sure: &[u64], never: &[u64]) -> bool
     requires { Shape conditions.now weights.now sure.now never.now }
     ensures { result
-        ≡ fitsFrom i (inEither sure.now never.now) (reverse (terms conditions.now weights.now)) false 0 }
+        ≡ fits_from i (in_either sure.now never.now) (reverse (terms conditions.now weights.now)) false 0 }
 {
     let mut unread = weights.len();
     let mut fitting = false;
@@ -168,7 +168,7 @@ fn force_term(
     requires weight_bound { i.known + weight < 2 ^ 64 }
     requires held { Held 4096 (queue node_queue.old ring) × (node < 4096) × (64 ≤ length sure.old) × (64 ≤ length never.old) }
     ensures { decidedOf (marks sure.new never.new (queue node_queue.new result.ring)) result.step
-        ≡ forceTerm i (marks sure.old never.old (queue node_queue.old ring)) (term node weight) divisor }
+        ≡ force_term i (marks sure.old never.old (queue node_queue.old ring)) (term node weight) divisor }
 {
     let same = Decision {
         step: Step::Unchanged,
@@ -223,7 +223,7 @@ fn force_from(
 ) -> Decision
     requires shape { Shape conditions.now weights.now sure.old never.old }
     requires weights_in_bounds { (length weights.now < length gcds.now) × (i.known < 2 ^ 63) × Below (2 ^ 63) weights.now × Waits (marks sure.old never.old (queue node_queue.old ring)) }
-    ensures { decidedOf (marks sure.new never.new (queue node_queue.new result.ring)) result.step ≡ forceFrom i (placed gcds.now) (terms conditions.now weights.now) 0 (marks sure.old never.old (queue node_queue.old ring)) Unchanged }
+    ensures { decidedOf (marks sure.new never.new (queue node_queue.new result.ring)) result.step ≡ force_from i (placed gcds.now) (terms conditions.now weights.now) 0 (marks sure.old never.old (queue node_queue.old ring)) Unchanged }
 {
     let mut position: usize = 0;
     let mut prefix: u64 = 0;
@@ -270,7 +270,7 @@ fn nothing_forced(
 ) -> bool
     requires { Shape conditions.now weights.now sure.now never.now }
     ensures { result
-        ≡ nothingForced (terms conditions.now weights.now) state (inEither sure.now never.now) }
+        ≡ nothing_forced (terms conditions.now weights.now) state (in_either sure.now never.now) }
 {
     if !rows::has_nonunit(conditions, weights) {
         return true;
@@ -301,7 +301,7 @@ pub fn threshold_residual(
 ) -> Decision
     requires shape { Shape conditions.now weights.now sure.old never.old }
     requires weights_in_bounds { (length weights.now < length gcds.old) × Below (2 ^ 63) weights.now × Waits (marks sure.old never.old (queue node_queue.old ring)) }
-    ensures { residual (marks sure.new never.new (queue node_queue.new result.ring)) result.step gcds.new ≡ thresholdResidual (terms conditions.now weights.now) state (marks sure.old never.old (queue node_queue.old ring)) gcds.old }
+    ensures { residual (marks sure.new never.new (queue node_queue.new result.ring)) result.step gcds.new ≡ threshold_residual (terms conditions.now weights.now) state (marks sure.old never.old (queue node_queue.old ring)) gcds.old }
 {
     let checked = threshold_residual_check(conditions, weights, state, sure, never);
     if checked.contradicts() {

@@ -7,11 +7,11 @@ use Rattle.state.specs.declared.State.{State}
 use Rattle.state.specs.Step.{joined, contradicts}
 use Rattle.state.specs.State.{drained}
 use Rattle.words.specs.Mask.{bit}
-use Rattle.rows.specs.Rows.{Row, no_row, Edge, rowNumber}
+use Rattle.rows.specs.Rows.{Row, no_row, Edge, row_number}
 use Rattle.links.specs.Links.{neighbours}
 use Rattle.tightening.specs.declared.Tightened.{Tightened}
-use Rattle.tightening.specs.Told.{guardState, movedState}
-use Rattle.row_moves.specs.Between.{Index, Live, stateAt, withState, withDirty, withBound, Did, did, runWith, run_row, termCount}
+use Rattle.tightening.specs.Told.{guard_state, moved_state}
+use Rattle.row_moves.specs.Between.{Index, Live, state_at, with_state, with_dirty, with_bound, Did, did, run_with, run_row, term_count}
 
 -- ---- as the code takes them
 
@@ -20,45 +20,45 @@ abbrev pub after : Step → Did → Did
 after k d = did d.live (joined k d.step)
 
 -- A row that was told something new has changed, whatever its run answers, unless that is a contradiction.
-abbrev pub toldStep : Step → Step
-toldStep k = cond (contradicts k) Contradiction Changed
+abbrev pub told_step : Step → Step
+told_step k = cond (contradicts k) Contradiction Changed
 
 abbrev pub after-told : Did → Did
-after-told d = did d.live (toldStep d.step)
+after-told d = did d.live (told_step d.step)
 
 -- One neighbour: a new bound is stored, the row waits to hand it on, and is run.
-unfoldable pub handedOn : Row → Live → ℕ → Tightened → Did
-handedOn row v r t =
-    let d = runWith row (withDirty (withState v r t.state) r) r in
-    cond t.changed (did d.live (toldStep d.step)) (did v Unchanged)
+unfoldable pub handed_on : Row → Live → ℕ → Tightened → Did
+handed_on row v r t =
+    let d = run_with row (with_dirty (with_state v r t.state) r) r in
+    cond t.changed (did d.live (told_step d.step)) (did v Unchanged)
 
 -- ---- of a whole job
 
 -- An edge is drained, and its row run.
-abbrev pub edgeRun : Index → Bool → Edge → Live → Did
-edgeRun x value e v = run_row x (withState v e.row (drained value e.weight (stateAt v e.row))) e.row
+abbrev pub edge_run : Index → Bool → Edge → Live → Did
+edge_run x value e v = run_row x (with_state v e.row (drained value e.weight (state_at v e.row))) e.row
 
 -- What a neighbour takes of the source; with it, it waits to hand it on, and is run.
 abbrev pub moved : Index → ℕ → State → ℕ → Live → Tightened
-moved x row source r v = movedState source (stateAt v r) (termCount x row) (termCount x r)
+moved x row source r v = moved_state source (state_at v r) (term_count x row) (term_count x r)
 
-abbrev pub movedRun : Index → ℕ → State → ℕ → Live → Did
-movedRun x row source r v = run_row x (withDirty (withState v r (moved x row source r v).state) r) r
+abbrev pub moved_run : Index → ℕ → State → ℕ → Live → Did
+moved_run x row source r v = run_row x (with_dirty (with_state v r (moved x row source r v).state) r) r
 
 -- One neighbour, whether it takes anything or not.
-abbrev pub handRun : Index → ℕ → State → ℕ → Live → Did
-handRun x row source r v = handedOn (get_or x.rows r no_row) v r (moved x row source r v)
+abbrev pub hand_run : Index → ℕ → State → ℕ → Live → Did
+hand_run x row source r v = handed_on (get_or x.rows r no_row) v r (moved x row source r v)
 
 -- The row of a guard, what the row takes of it, and its run with that.
-abbrev pub guardRow : Index → Threshold → ℕ
-guardRow x t = rowNumber x.rows t.terms
+abbrev pub guard_row : Index → Threshold → ℕ
+guard_row x t = row_number x.rows t.terms
 
 module _ (x : Index) (v : Live) (t : Threshold) where
-  abbrev pub guardTold : Tightened
-  guardTold = guardState (stateAt v (guardRow x t)) (bit v.marks.sure t.node) t.bound
+  abbrev pub guard_told : Tightened
+  guard_told = guard_state (state_at v (guard_row x t)) (bit v.marks.sure t.node) t.bound
 
-  abbrev pub guardRun : Did
-  guardRun = run_row x (withBound v (guardRow x t) guardTold.state (length (neighbours (guardRow x t) x.links))) (guardRow x t)
+  abbrev pub guard_run : Did
+  guard_run = run_row x (with_bound v (guard_row x t) guard_told.state (length (neighbours (guard_row x t) x.links))) (guard_row x t)
 
 -- ---- where
 

@@ -1,7 +1,7 @@
 -- Rows in buffers: stretches place by place, and a row run as the buffers hold it. Assumes nothing.
 use Rattle.std.specs.Prelude.{ℕ, suc, ◌+◌, ◌-◌, ◌<◌, ◌≤◌, ◌^◌, ◌≡◌, refl, List, [], ◌∷◌, map, length, get_or, drop}
 use Rattle.std.proofs.Common.{add-one, arith, sym, ap, ap₂, subst, ◌∙◌, length-take, length-drop, drop-cons, get_or-drop, get_or-take}
-use Rattle.memory.specs.Limits.{maxNodes}
+use Rattle.memory.specs.Limits.{max_nodes}
 use Rattle.memory.specs.Buffers.{HeldRows}
 use Rattle.numeric.specs.Threshold.{Term}
 use Rattle.state.specs.declared.State.{State}
@@ -9,20 +9,20 @@ use Rattle.queues.specs.Marks.{Marks}
 use Rattle.rows.specs.Rows.{Row, row_of, no_row, Guard, Edge}
 use Rattle.base.specs.Parts.{stretch}
 use Rattle.rows.specs.ListsLaws.{stretch-length}
-use Rattle.rows.specs.Laid.{edgeRow}
+use Rattle.rows.specs.Laid.{edge_row}
 use Rattle.numeric.specs.Slices.{Below, terms}
 use Rattle.row_runs.specs.Shape.{TermSlices, GuardSlices}
 use Rattle.row_runs.specs.Guards.{guards}
-use Rattle.row_runs.specs.Row.{Ran, wantsResidual}
+use Rattle.row_runs.specs.Row.{Ran, wants_residual}
 use Rattle.row_runs.specs.RowLaws.{row-raw}
 use Rattle.resting.specs.Rest.{Rests}
-use Rattle.row_moves.specs.Between.{Index, Live, Did, did, stateAt, residualQueued, runWith, run_row, withMarks, withResiduals, withState}
-use Rattle.row_moves.specs.Held.{endBy, start_by, heldRow, edgesIn, Shaped, Holds}
+use Rattle.row_moves.specs.Between.{Index, Live, Did, did, state_at, residual_queued, run_with, run_row, with_marks, with_residuals, with_state}
+use Rattle.row_moves.specs.Held.{end_by, start_by, held_row, edges_in, Shaped, Holds}
 
 -- ---- stretches
 
-pub stretch-cons : {X : Type 0} (d : X) (l : List X) (a e : ℕ) → a < e → e ≤ length l → stretch a e l ≡ get_or l a d ∷ stretch (a + 1) e l
-stretch-cons d l a e h k =
+pub stretch_cons : {X : Type 0} (d : X) (l : List X) (a e : ℕ) → a < e → e ≤ length l → stretch a e l ≡ get_or l a d ∷ stretch (a + 1) e l
+stretch_cons d l a e h k =
     let z : e - a ≡ suc (e - (a + 1)) = omega arith in
     rw (z, drop-cons l a d (omega arith), ← add-one a)
 
@@ -39,55 +39,55 @@ below-stretch n l a e h i k =
 -- ---- a row's own slices
 
 module _ (h : HeldRows) (s : Shaped h) (r : ℕ) (k : r < length h.rows) where
-  pub term-slices : (a e : ℕ) → a ≡ start_by 0 h.rows r → e ≡ endBy 0 h.rows r → TermSlices (stretch a e h.row-conditions) (stretch a e h.row-weights)
-  term-slices a e p q = record {
+  pub term_slices : (a e : ℕ) → a ≡ start_by 0 h.rows r → e ≡ end_by 0 h.rows r → TermSlices (stretch a e h.row-conditions) (stretch a e h.row-weights)
+  term_slices a e p q = record {
     same =
         stretch-length a e h.row-conditions (omega (arith, s.terms.ends r k))
         ∙ sym (stretch-length a e h.row-weights (omega (arith, s.terms.ends r k, s.weighed)));
-    below = below-stretch maxNodes h.row-conditions a e s.nodes;
+    below = below-stretch max_nodes h.row-conditions a e s.nodes;
     light = below-stretch (2 ^ 63) h.row-weights a e s.light;
   }
 
-  pub guard-slices : (a e : ℕ) → a ≡ start_by 1 h.rows r → e ≡ endBy 1 h.rows r → GuardSlices (stretch a e h.guard-bounds) (stretch a e h.guard-nodes)
-  guard-slices a e p q = record {
+  pub guard_slices : (a e : ℕ) → a ≡ start_by 1 h.rows r → e ≡ end_by 1 h.rows r → GuardSlices (stretch a e h.guard_bounds) (stretch a e h.guard_nodes)
+  guard_slices a e p q = record {
     same =
-        stretch-length a e h.guard-bounds (omega (arith, s.guards.ends r k))
-        ∙ sym (stretch-length a e h.guard-nodes (omega (arith, s.guards.ends r k, s.named)));
-    below = below-stretch maxNodes h.guard-nodes a e s.guarded;
+        stretch-length a e h.guard_bounds (omega (arith, s.guards.ends r k))
+        ∙ sym (stretch-length a e h.guard_nodes (omega (arith, s.guards.ends r k, s.named)));
+    below = below-stretch max_nodes h.guard_nodes a e s.guarded;
   }
 
 -- ---- a row that the buffers hold
 
-pub run-raw : (raw raw' ts : List Term) (gs : List Guard) (v : Live) (r : ℕ) → runWith (row_of raw ts gs) v r ≡ runWith (row_of raw' ts gs) v r
-unfolding runWith wantsResidual
-run-raw raw raw' ts gs v r =
-    ap (λ (a : Ran). did (withResiduals (withMarks (withState v r a.state) a.marks) (residualQueued (row_of raw ts gs) (stateAt v r) v.residuals r)) a.step)
-    (row-raw raw raw' ts gs (stateAt v r) v.marks)
+pub run_raw : (raw raw' ts : List Term) (gs : List Guard) (v : Live) (r : ℕ) → run_with (row_of raw ts gs) v r ≡ run_with (row_of raw' ts gs) v r
+unfolding run_with wants_residual
+run_raw raw raw' ts gs v r =
+    ap (λ (a : Ran). did (with_residuals (with_marks (with_state v r a.state) a.marks) (residual_queued (row_of raw ts gs) (state_at v r) v.residuals r)) a.step)
+    (row-raw raw raw' ts gs (state_at v r) v.marks)
 
 -- It is run as the row of the index.
-pub run-held : (x : Index) (h : HeldRows) → Holds x h → (v : Live) (r : ℕ) → r < length h.rows → runWith (heldRow h r) v r ≡ run_row x v r
+pub run_held : (x : Index) (h : HeldRows) → Holds x h → (v : Live) (r : ℕ) → r < length h.rows → run_with (held_row h r) v r ≡ run_row x v r
 unfolding run_row
-run-held x h y v r k =
+run_held x h y v r k =
     let row = get_or x.rows r no_row in
-    ap₂ (λ (ts : List Term) (gs : List Guard). runWith (row_of [] ts gs) v r) (sym (y.terms r k)) (sym (y.guards r k))
-    ∙ run-raw [] row.raw row.terms row.guards v r
+    ap₂ (λ (ts : List Term) (gs : List Guard). run_with (row_of [] ts gs) v r) (sym (y.terms r k)) (sym (y.guards r k))
+    ∙ run_raw [] row.raw row.terms row.guards v r
 
 -- ---- edges
 
-pub edges-back : (es : List Edge) → edgesIn (map edgeRow es) ≡ es
-edges-back [] = refl
-edges-back (e ∷ es) = ap (λ (l : List Edge). e ∷ l) (edges-back es)
+pub edges_back : (es : List Edge) → edges_in (map edge_row es) ≡ es
+edges_back [] = refl
+edges_back (e ∷ es) = ap (λ (l : List Edge). e ∷ l) (edges_back es)
 
 -- A row cut out of the buffers is the row that they hold.
-pub run-cut : (h : HeldRows) (r a e b f : ℕ) → a ≡ start_by 0 h.rows r → e ≡ endBy 0 h.rows r → b ≡ start_by 1 h.rows r → f ≡ endBy 1 h.rows r → (v : Live) (o : Did)
-    → o ≡ runWith (row_of [] (terms (stretch a e h.row-conditions) (stretch a e h.row-weights)) (guards (stretch b f h.guard-bounds) (stretch b f h.guard-nodes))) v r
-    → o ≡ runWith (heldRow h r) v r
-run-cut h r a e b f p q s t v o made = made ∙ rw (p, q, s, t)
+pub run_cut : (h : HeldRows) (r a e b f : ℕ) → a ≡ start_by 0 h.rows r → e ≡ end_by 0 h.rows r → b ≡ start_by 1 h.rows r → f ≡ end_by 1 h.rows r → (v : Live) (o : Did)
+    → o ≡ run_with (row_of [] (terms (stretch a e h.row-conditions) (stretch a e h.row-weights)) (guards (stretch b f h.guard_bounds) (stretch b f h.guard_nodes))) v r
+    → o ≡ run_with (held_row h r) v r
+run_cut h r a e b f p q s t v o made = made ∙ rw (p, q, s, t)
 
-pub rests-cut : (h : HeldRows) (r a e b f : ℕ) → a ≡ start_by 0 h.rows r → e ≡ endBy 0 h.rows r → b ≡ start_by 1 h.rows r → f ≡ endBy 1 h.rows r → (s : State) (m : Marks)
-    → Rests (row_of [] (terms (stretch a e h.row-conditions) (stretch a e h.row-weights)) (guards (stretch b f h.guard-bounds) (stretch b f h.guard-nodes))) s m
-    → Rests (heldRow h r) s m
-rests-cut h r a e b f p q i j s m y =
-    let cut = row_of [] (terms (stretch a e h.row-conditions) (stretch a e h.row-weights)) (guards (stretch b f h.guard-bounds) (stretch b f h.guard-nodes)) in
-    let same : cut ≡ heldRow h r = rw (p, q, i, j) in
+pub rests_cut : (h : HeldRows) (r a e b f : ℕ) → a ≡ start_by 0 h.rows r → e ≡ end_by 0 h.rows r → b ≡ start_by 1 h.rows r → f ≡ end_by 1 h.rows r → (s : State) (m : Marks)
+    → Rests (row_of [] (terms (stretch a e h.row-conditions) (stretch a e h.row-weights)) (guards (stretch b f h.guard_bounds) (stretch b f h.guard_nodes))) s m
+    → Rests (held_row h r) s m
+rests_cut h r a e b f p q i j s m y =
+    let cut = row_of [] (terms (stretch a e h.row-conditions) (stretch a e h.row-weights)) (guards (stretch b f h.guard_bounds) (stretch b f h.guard_nodes)) in
+    let same : cut ≡ held_row h r = rw (p, q, i, j) in
     subst (λ (x : Row). Rests x s m) same y

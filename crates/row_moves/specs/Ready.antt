@@ -4,13 +4,13 @@ use mathlib.Core.List.{List, Memᴰ}
 use Rattle.std.specs.Int.Signed.{mag}
 use Rattle.memory.specs.Buffers.{HeldRows}
 use Rattle.state.specs.declared.State.{State}
-use Rattle.state.specs.State.{noState, limit, firstState}
+use Rattle.state.specs.State.{no_state, limit, first_state}
 use Rattle.queues.specs.Queue.{Rows}
 use Rattle.queues.specs.Marks.{Marks}
 use Rattle.queues.specs.Waiting.{Waits, Flags}
-use Rattle.memory.specs.Ranges.{figureLimit}
+use Rattle.memory.specs.Ranges.{figure_limit}
 use Rattle.row_moves.specs.Between.{Live}
-use Rattle.row_moves.specs.Held.{endBy, start_by, stretchBy}
+use Rattle.row_moves.specs.Held.{end_by, start_by, stretch_by}
 use Rattle.numeric.specs.Slices.{terms}
 use Rattle.row.specs.Terms.{total}
 use Rattle.numeric.specs.Threshold.{Term}
@@ -22,13 +22,13 @@ use Rattle.rows.specs.Rows.{Row, Guard}
 pub record Fit (h : HeldRows) (n r : ℕ) (s : State) : Type 0 where
   pub known : mag s.known < n
   pub possible : mag s.possible < n
-  pub lower : mag s.lower < figureLimit
-  pub upper : mag (limit s.upper) < figureLimit
-  pub inside : s.never_guard ≤ endBy 1 h.rows r - start_by 1 h.rows r
+  pub lower : mag s.lower < figure_limit
+  pub upper : mag (limit s.upper) < figure_limit
+  pub inside : s.never_guard ≤ end_by 1 h.rows r - start_by 1 h.rows r
 
 pub record Ready (h : HeldRows) (n : ℕ) (ss : List State) (m : Marks) (q : Rows) : Type 0 where
   pub long : length h.rows ≤ length ss
-  pub fit : (r : ℕ) → r < length h.rows → Fit h n r (get_or ss r noState)
+  pub fit : (r : ℕ) → r < length h.rows → Fit h n r (get_or ss r no_state)
   pub waits : Waits m
   pub flags : Flags q
 
@@ -42,11 +42,11 @@ pub record Runnable (h : HeldRows) (n : ℕ) (v : Live) : Type 0 where
 
 -- The first state of row r, as the buffers hold the row.
 abbrev pub first_at : List ℕ → List ℕ → List (List ℕ) → ℕ → State
-first_at cs ws rows r = firstState (total (terms (stretchBy 0 rows r cs) (stretchBy 0 rows r ws))) (endBy 1 rows r - start_by 1 rows r)
+first_at cs ws rows r = first_state (total (terms (stretch_by 0 rows r cs) (stretch_by 0 rows r ws))) (end_by 1 rows r - start_by 1 rows r)
 
 -- Every row's total is below n.
 abbrev pub Totals : ℕ → List ℕ → List ℕ → List (List ℕ) → Type 0
-Totals n cs ws rows = (r : ℕ) → r < length rows → total (terms (stretchBy 0 rows r cs) (stretchBy 0 rows r ws)) < n
+Totals n cs ws rows = (r : ℕ) → r < length rows → total (terms (stretch_by 0 rows r cs) (stretch_by 0 rows r ws)) < n
 
 -- The guards and the terms of a row are such nodes.
 pub record Names (Ok : ℕ → Type 0) (row : Row) : Type 0 where

@@ -4,19 +4,19 @@ ghost use Rattle.memory.specs.Buffers.{held_rows};
 ghost use Rattle.base.specs.Columns.{column};
 ghost use Rattle.numeric.specs.Threshold.{Term};
 ghost use Rattle.numeric.specs.Slices.{terms};
-ghost use Rattle.state.specs.State.{limit, limited, noState, figuresOf, cursorsOf};
+ghost use Rattle.state.specs.State.{limit, limited, no_state, figures_of, cursors_of};
 ghost use Rattle.queues.specs.declared.Ring.{Ring};
 ghost use Rattle.queues.specs.Queue.{Queue, queue};
-ghost use Rattle.queues.specs.Slot.{rowsIn};
+ghost use Rattle.queues.specs.Slot.{rows_in};
 ghost use Rattle.queues.specs.Shape.{Held};
 ghost use Rattle.queues.specs.Marks.{marks};
 ghost use Rattle.queues.specs.Waiting.{Waits};
 ghost use Rattle.rows.specs.Rows.{Guard, row_of};
-ghost use Rattle.row_moves.specs.Between.{did, withState, residualQueued, runWith};
-ghost use Rattle.row_moves.specs.Stored.{sumWords, cursorWords};
-ghost use Rattle.row_moves.specs.Numbers.{rowState, statesOf, live_of, standing, Runs, Tidy};
-ghost use Rattle.memory.specs.Ranges.{figureLimit};
-ghost use Rattle.row_moves.specs.Held.{heldRow, Shaped};
+ghost use Rattle.row_moves.specs.Between.{did, with_state, residual_queued, run_with};
+ghost use Rattle.row_moves.specs.Stored.{sum_words, cursor_words};
+ghost use Rattle.row_moves.specs.Numbers.{row_state, states_of, live_of, standing, Runs, Tidy};
+ghost use Rattle.memory.specs.Ranges.{figure_limit};
+ghost use Rattle.row_moves.specs.Held.{held_row, Shaped};
 ghost use Rattle.row_moves.specs.Ready.{Fit, Ready, ReadyLive};
 ghost use Rattle.row_runs.specs.Shape.{TermSlices, GuardSlices};
 ghost use Rattle.row_runs.specs.Guards.{guards};
@@ -35,7 +35,7 @@ pub struct Did {
 
 // A row state from its figures and cursors.
 fn make(figures: [i64; 4], cursors: [usize; 5]) -> State
-    ensures { result ≡ rowState figures cursors }
+    ensures { result ≡ row_state figures cursors }
 {
     let known = figures[0];
     let possible = figures[1];
@@ -71,8 +71,8 @@ fn make(figures: [i64; 4], cursors: [usize; 5]) -> State
 
 // The state of a row, read from the buffers.
 pub fn load(figures: &[[i64; 4]], cursors: &[[usize; 5]], row: usize) -> State
-    requires { row < length (statesOf figures.now cursors.now) }
-    ensures { result ≡ get_or (statesOf figures.now cursors.now) row noState }
+    requires { row < length (states_of figures.now cursors.now) }
+    ensures { result ≡ get_or (states_of figures.now cursors.now) row no_state }
 {
     let f = figures[row];
     let c = cursors[row];
@@ -100,8 +100,8 @@ fn flag_of(upper: Upper) -> usize
 
 // The state of a row, written to the buffers.
 pub fn store(figures: &mut [[i64; 4]], cursors: &mut [[usize; 5]], row: usize, state: State)
-    requires { row < length (statesOf figures.old cursors.old) }
-    ensures { (figures.new ≡ set figures.old row (figuresOf state)) × (cursors.new ≡ set cursors.old row (cursorsOf state)) }
+    requires { row < length (states_of figures.old cursors.old) }
+    ensures { (figures.new ≡ set figures.old row (figures_of state)) × (cursors.new ≡ set cursors.old row (cursors_of state)) }
 {
     let upper = state.upper;
     let limit = limit_of(upper);
@@ -122,7 +122,7 @@ pub fn store(figures: &mut [[i64; 4]], cursors: &mut [[usize; 5]], row: usize, s
 // The sums of a row, written to the buffer; its other words stay.
 pub fn store_sums(figures: &mut [[i64; 4]], row: usize, known: i64, possible: i64)
     requires { row < length figures.old }
-    ensures { figures.new ≡ set figures.old row (sumWords (get_or figures.old row []) known possible) }
+    ensures { figures.new ≡ set figures.old row (sum_words (get_or figures.old row []) known possible) }
 {
     let old = figures[row];
     let f = [known, possible, old[2], old[3]];
@@ -132,7 +132,7 @@ pub fn store_sums(figures: &mut [[i64; 4]], row: usize, known: i64, possible: i6
 // The cursors of a row, written to the buffer; its flag stays.
 fn store_cursors(cursors: &mut [[usize; 5]], row: usize, state: State)
     requires { row < length cursors.old }
-    ensures { cursors.new ≡ set cursors.old row (cursorWords (get_or cursors.old row []) state) }
+    ensures { cursors.new ≡ set cursors.old row (cursor_words (get_or cursors.old row []) state) }
 {
     let old = cursors[row];
     let sure_guard = state.sure_guard;
@@ -153,9 +153,9 @@ fn queue_residual(
     row: usize,
 ) -> Ring
     requires { (length row_conditions.now ≡ length row_weights.now) × Held 1024 (queue (column 2 row_queues.old) ring) × (row < 1024) }
-    ensures { ((raw : List Term) (gs : List Guard) → rowsIn 2 row_queues.new result
-        ≡ residualQueued (row_of raw (terms row_conditions.now row_weights.now) gs) state (rowsIn 2 row_queues.old ring) row)
-        × ((other : Ring) → rowsIn 0 row_queues.new other ≡ rowsIn 0 row_queues.old other) }
+    ensures { ((raw : List Term) (gs : List Guard) → rows_in 2 row_queues.new result
+        ≡ residual_queued (row_of raw (terms row_conditions.now row_weights.now) gs) state (rows_in 2 row_queues.old ring) row)
+        × ((other : Ring) → rows_in 0 row_queues.new other ≡ rows_in 0 row_queues.old other) }
 {
     if row_runs::wants_residual(row_conditions, row_weights, state) {
         return queues::queue_row(row_queues, 2, ring, row);
@@ -188,11 +188,11 @@ fn run_row(
     residuals: Ring,
     row: usize,
 ) -> Outcome
-    requires row_in_bounds { (row < length (statesOf figures.old cursors.old)) × TermSlices row_conditions.now row_weights.now × GuardSlices guard_bounds.now guard_nodes.now }
-    requires runs { Runs (get_or (statesOf figures.old cursors.old) row noState) guard_bounds.now × Waits (marks sure.old never.old (queue node_queue.old nodes)) }
+    requires row_in_bounds { (row < length (states_of figures.old cursors.old)) × TermSlices row_conditions.now row_weights.now × GuardSlices guard_bounds.now guard_nodes.now }
+    requires runs { Runs (get_or (states_of figures.old cursors.old) row no_state) guard_bounds.now × Waits (marks sure.old never.old (queue node_queue.old nodes)) }
     requires held { Held 1024 (queue (column 2 row_queues.old) residuals) × (row < 1024) }
     ensures { ((w : Ring) → did (live_of figures.new cursors.new sure.new never.new node_queue.new row_queues.new (standing result.nodes w result.residuals)) result.step
-        ≡ runWith (row_of [] (terms row_conditions.now row_weights.now) (guards guard_bounds.now guard_nodes.now))
+        ≡ run_with (row_of [] (terms row_conditions.now row_weights.now) (guards guard_bounds.now guard_nodes.now))
         (live_of figures.old cursors.old sure.old never.old node_queue.old row_queues.old (standing nodes w residuals)) row)
         × (Tidy figures.old cursors.old → Tidy figures.new cursors.new) }
 {
@@ -263,10 +263,10 @@ fn run_cut(
     row: usize,
 ) -> Outcome
     requires shaped { Shaped (held_rows row_conditions.now row_weights.now rows.now guard_bounds.now guard_nodes.now) × (row < length rows.now) }
-    requires ready { Ready (held_rows row_conditions.now row_weights.now rows.now guard_bounds.now guard_nodes.now) figureLimit
-        (statesOf figures.old cursors.old) (marks sure.old never.old (queue node_queue.old nodes)) (rowsIn 2 row_queues.old residuals) }
+    requires ready { Ready (held_rows row_conditions.now row_weights.now rows.now guard_bounds.now guard_nodes.now) figure_limit
+        (states_of figures.old cursors.old) (marks sure.old never.old (queue node_queue.old nodes)) (rows_in 2 row_queues.old residuals) }
     ensures { ((w : Ring) → did (live_of figures.new cursors.new sure.new never.new node_queue.new row_queues.new (standing result.nodes w result.residuals)) result.step
-        ≡ runWith (heldRow (held_rows row_conditions.now row_weights.now rows.now guard_bounds.now guard_nodes.now) row)
+        ≡ run_with (held_row (held_rows row_conditions.now row_weights.now rows.now guard_bounds.now guard_nodes.now) row)
         (live_of figures.old cursors.old sure.old never.old node_queue.old row_queues.old (standing nodes w residuals)) row)
         × (Tidy figures.old cursors.old → Tidy figures.new cursors.new) }
 {
@@ -302,10 +302,10 @@ pub fn rests_at(
     row: usize,
     state: State,
 ) -> bool
-    requires { ((ns : List ℕ) × Shaped (held_rows row_conditions.now row_weights.now rows.now guard_bounds.now ns) × Fit (held_rows row_conditions.now row_weights.now rows.now guard_bounds.now ns) figureLimit row state)
+    requires { ((ns : List ℕ) × Shaped (held_rows row_conditions.now row_weights.now rows.now guard_bounds.now ns) × Fit (held_rows row_conditions.now row_weights.now rows.now guard_bounds.now ns) figure_limit row state)
         × (row < length rows.now) × (64 ≤ length sure.now) × (64 ≤ length never.now) }
     ensures { result ≡ true → (ns : List ℕ) (q : Queue) → Shaped (held_rows row_conditions.now row_weights.now rows.now guard_bounds.now ns)
-        → Rests (heldRow (held_rows row_conditions.now row_weights.now rows.now guard_bounds.now ns) row) state (marks sure.now never.now q) }
+        → Rests (held_row (held_rows row_conditions.now row_weights.now rows.now guard_bounds.now ns) row) state (marks sure.now never.now q) }
 {
     let a = rows::terms_start(rows, row);
     let e = rows::terms_end(rows, row);
@@ -338,10 +338,10 @@ pub fn run_at(
     row: usize,
 ) -> Did
     requires shaped { Shaped (held_rows row_conditions.now row_weights.now rows.now guard_bounds.now guard_nodes.now) × (row < length rows.now) }
-    requires ready_live { ReadyLive (held_rows row_conditions.now row_weights.now rows.now guard_bounds.now guard_nodes.now) figureLimit
+    requires ready_live { ReadyLive (held_rows row_conditions.now row_weights.now rows.now guard_bounds.now guard_nodes.now) figure_limit
         (live_of figures.old cursors.old sure.old never.old node_queue.old row_queues.old rings) }
     ensures { (did (live_of figures.new cursors.new sure.new never.new node_queue.new row_queues.new result.rings) result.step
-        ≡ runWith (heldRow (held_rows row_conditions.now row_weights.now rows.now guard_bounds.now guard_nodes.now) row)
+        ≡ run_with (held_row (held_rows row_conditions.now row_weights.now rows.now guard_bounds.now guard_nodes.now) row)
         (live_of figures.old cursors.old sure.old never.old node_queue.old row_queues.old rings) row)
         × (Tidy figures.old cursors.old → Tidy figures.new cursors.new) }
 {
@@ -402,12 +402,12 @@ pub fn run_from(
     row: usize,
     state: State,
 ) -> Did
-    requires shaped { Shaped (held_rows row_conditions.now row_weights.now rows.now guard_bounds.now guard_nodes.now) × (row < length rows.now) × Fit (held_rows row_conditions.now row_weights.now rows.now guard_bounds.now guard_nodes.now) figureLimit row state }
-    requires ready_live { ReadyLive (held_rows row_conditions.now row_weights.now rows.now guard_bounds.now guard_nodes.now) figureLimit
+    requires shaped { Shaped (held_rows row_conditions.now row_weights.now rows.now guard_bounds.now guard_nodes.now) × (row < length rows.now) × Fit (held_rows row_conditions.now row_weights.now rows.now guard_bounds.now guard_nodes.now) figure_limit row state }
+    requires ready_live { ReadyLive (held_rows row_conditions.now row_weights.now rows.now guard_bounds.now guard_nodes.now) figure_limit
         (live_of figures.old cursors.old sure.old never.old node_queue.old row_queues.old rings) }
     ensures { (did (live_of figures.new cursors.new sure.new never.new node_queue.new row_queues.new result.rings) result.step
-        ≡ runWith (heldRow (held_rows row_conditions.now row_weights.now rows.now guard_bounds.now guard_nodes.now) row)
-        (withState (live_of figures.old cursors.old sure.old never.old node_queue.old row_queues.old rings) row state) row)
+        ≡ run_with (held_row (held_rows row_conditions.now row_weights.now rows.now guard_bounds.now guard_nodes.now) row)
+        (with_state (live_of figures.old cursors.old sure.old never.old node_queue.old row_queues.old rings) row state) row)
         × (Tidy figures.old cursors.old → Tidy figures.new cursors.new) }
 {
     store(figures, cursors, row, state);

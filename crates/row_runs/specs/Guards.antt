@@ -8,8 +8,8 @@ guards [] ns = []
 guards (b ∷ bs) [] = []
 guards (b ∷ bs) (n ∷ ns) = guard b n ∷ guards bs ns
 
-abbrev pub noGuard : Guard
-noGuard = guard (pos 0) 0
+abbrev pub no_guard : Guard
+no_guard = guard (pos 0) 0
 
 abbrev pub Node : Guard → Type 0
 Node g = g.node < 4096

@@ -11,21 +11,21 @@ use Rattle.state.specs.declared.Step.{Step}
 use Rattle.state.specs.declared.Step.TheVariants.{Unchanged, Contradiction}
 use Rattle.state.specs.declared.State.{State}
 use Rattle.state.specs.Step.{joined, contradicts}
-use Rattle.state.specs.State.{limit, limited, conflict, hasResidualInterval, with_guards, withTerms}
+use Rattle.state.specs.State.{limit, limited, conflict, has_residual_interval, with_guards, with_terms}
 use Rattle.state.specs.Shape.{Figures}
 use Rattle.queues.specs.Marks.{Marks, decided, decide}
 use Rattle.queues.specs.MarksLaws.{waits-decide}
 use Rattle.queues.specs.Waiting.{Waits}
-use Rattle.rows.specs.Rows.{Row, row_of, Guard, hasNonunit}
+use Rattle.rows.specs.Rows.{Row, row_of, Guard, has_nonunit}
 use Rattle.row_runs.specs.Scan.{Scanned}
-use Rattle.row_runs.specs.ScanLaws.{all_drop, all_take, all-reverse, scan-keeps, scan-within, force-keeps}
+use Rattle.row_runs.specs.ScanLaws.{all_drop, all_take, all_reverse, scan_keeps, scan_within, force_keeps}
 use Rattle.row_runs.specs.Guards.{Node, Condition}
-use Rattle.row_runs.specs.Row.{Ran, ran, deciding, decides, sureWaits, sureGuards, neverWaits, neverGuards, thresholdGuards, termWaits, forces, forced, trueTerms, falseTerms, rowTerms, scans, thresholdRow, wantsResidual}
+use Rattle.row_runs.specs.Row.{Ran, ran, deciding, decides, sure_waits, sure_guards, never_waits, never_guards, threshold_guards, term_waits, forces, forced, true_terms, false_terms, row_terms, scans, threshold_row, wants_residual}
 use Rattle.row_runs.specs.Turns.{light, cut}
 
 -- What a decision of its node keeps, passing a guard keeps.
-pub decides-keeps : (P : Marks → Type 0) (value : Bool) (g : Guard) (m : Marks) → P m → P (decide value m g.node).marks → P (decides value g m).marks
-decides-keeps P value g m p q = by (deciding value g)
+pub decides_keeps : (P : Marks → Type 0) (value : Bool) (g : Guard) (m : Marks) → P m → P (decide value m g.node).marks → P (decides value g m).marks
+decides_keeps P value g m p q = by (deciding value g)
   where
     by : (b : Bool) → P (cond b (decide value m g.node) (decided m Unchanged)).marks
     by true = q
@@ -33,81 +33,81 @@ decides-keeps P value g m p q = by (deciding value g)
 
 module _ (gs : List Guard) (s : State) (m : Marks) where
   -- The cursors stay within the list.
-  pub sure-within : (sureGuards gs s m).passed ≤ length gs - s.sure_guard
-  sure-within =
-      omega (arith, scan-within (sureWaits s) (decides true) (drop s.sure_guard gs) 0 m Unchanged, length-drop s.sure_guard gs)
+  pub sure_within : (sure_guards gs s m).passed ≤ length gs - s.sure_guard
+  sure_within =
+      omega (arith, scan_within (sure_waits s) (decides true) (drop s.sure_guard gs) 0 m Unchanged, length-drop s.sure_guard gs)
 
-  pub never-within : (k : Step) → (neverGuards gs s m k).passed ≤ s.never_guard
-  never-within k =
+  pub never_within : (k : Step) → (never_guards gs s m k).passed ≤ s.never_guard
+  never_within k =
       let l = reverse (take s.never_guard gs) in
-      omega (arith, scan-within (neverWaits s) (decides false) l 0 m k, length-reverse (take s.never_guard gs), length-take s.never_guard gs)
+      omega (arith, scan_within (never_waits s) (decides false) l 0 m k, length-reverse (take s.never_guard gs), length-take s.never_guard gs)
 
   module _ (nodes : All Node gs) (w : Waits m) where
-    pub sure-keeps : Waits (sureGuards gs s m).marks
-    sure-keeps =
-        scan-keeps (sureWaits s) (decides true) Waits Node (λ (g : Guard) (k : Marks) h v. decides-keeps Waits true g k v (waits-decide k v true g.node h))
+    pub sure_keeps : Waits (sure_guards gs s m).marks
+    sure_keeps =
+        scan_keeps (sure_waits s) (decides true) Waits Node (λ (g : Guard) (k : Marks) h v. decides_keeps Waits true g k v (waits-decide k v true g.node h))
         (drop s.sure_guard gs) 0 m Unchanged (all_drop Node s.sure_guard gs nodes) w
 
-    pub never-keeps : (k : Step) → Waits (neverGuards gs s m k).marks
-    never-keeps k =
-        scan-keeps (neverWaits s) (decides false) Waits Node (λ (g : Guard) (n : Marks) h v. decides-keeps Waits false g n v (waits-decide n v false g.node h))
-        (reverse (take s.never_guard gs)) 0 m k (all-reverse Node (take s.never_guard gs) (all_take Node s.never_guard gs nodes)) w
+    pub never_keeps : (k : Step) → Waits (never_guards gs s m k).marks
+    never_keeps k =
+        scan_keeps (never_waits s) (decides false) Waits Node (λ (g : Guard) (n : Marks) h v. decides_keeps Waits false g n v (waits-decide n v false g.node h))
+        (reverse (take s.never_guard gs)) 0 m k (all_reverse Node (take s.never_guard gs) (all_take Node s.never_guard gs nodes)) w
 
   -- The scan up contradicts, or the scan down follows.
-  module _ (a : Scanned) (e : a ≡ sureGuards gs s m) (t : State) where
-    pub guards-stop : contradicts a.step ≡ true → t ≡ with_guards s (s.sure_guard + a.passed) s.never_guard → ran t a.marks Contradiction ≡ thresholdGuards gs s m
-    unfolding thresholdGuards
-    guards-stop h f =
+  module _ (a : Scanned) (e : a ≡ sure_guards gs s m) (t : State) where
+    pub guards_stop : contradicts a.step ≡ true → t ≡ with_guards s (s.sure_guard + a.passed) s.never_guard → ran t a.marks Contradiction ≡ threshold_guards gs s m
+    unfolding threshold_guards
+    guards_stop h f =
         let k = rw e at h in
-        rw (thresholdGuards, k) (rw (f, e))
+        rw (threshold_guards, k) (rw (f, e))
 
-    pub guards_more : contradicts a.step ≡ false → (b : Scanned) → b ≡ neverGuards gs s a.marks a.step
-        → t ≡ with_guards s (s.sure_guard + a.passed) (s.never_guard - b.passed) → ran t b.marks b.step ≡ thresholdGuards gs s m
-    unfolding thresholdGuards with_guards
+    pub guards_more : contradicts a.step ≡ false → (b : Scanned) → b ≡ never_guards gs s a.marks a.step
+        → t ≡ with_guards s (s.sure_guard + a.passed) (s.never_guard - b.passed) → ran t b.marks b.step ≡ threshold_guards gs s m
+    unfolding threshold_guards with_guards
     guards_more h b g f =
         let k = rw e at h in
-        rw (thresholdGuards, k) (rw (f, g, e))
+        rw (threshold_guards, k) (rw (f, g, e))
 
-pub forced-within : (value : Bool) (waits : ℕ → Bool) (ts : List Term) (from : ℕ) (m : Marks) → (forced value waits (drop from ts) m).passed ≤ length ts - from
-forced-within value waits ts from m =
-    omega (arith, scan-within (termWaits waits) (forces value) (drop from ts) 0 m Unchanged, length-drop from ts)
+pub forced_within : (value : Bool) (waits : ℕ → Bool) (ts : List Term) (from : ℕ) (m : Marks) → (forced value waits (drop from ts) m).passed ≤ length ts - from
+forced_within value waits ts from m =
+    omega (arith, scan_within (term_waits waits) (forces value) (drop from ts) 0 m Unchanged, length-drop from ts)
 
-pub forced-keeps : (value : Bool) (waits : ℕ → Bool) (ts : List Term) (from : ℕ) (m : Marks) → All Condition ts → Waits m
+pub forced_keeps : (value : Bool) (waits : ℕ → Bool) (ts : List Term) (from : ℕ) (m : Marks) → All Condition ts → Waits m
     → Waits (forced value waits (drop from ts) m).marks
-forced-keeps value waits ts from m conditions w =
-    scan-keeps (termWaits waits) (forces value) Waits Condition (λ (t : Term) (k : Marks) h v. force-keeps value k t.condition h v)
+forced_keeps value waits ts from m conditions w =
+    scan_keeps (term_waits waits) (forces value) Waits Condition (λ (t : Term) (k : Marks) h v. force_keeps value k t.condition h v)
     (drop from ts) 0 m Unchanged (all_drop Condition from ts conditions) w
 
 -- A cursor that passes nothing stays.
-pub stay-true : (s : State) → s ≡ withTerms s (s.true_term + 0) s.false_term
-unfolding withTerms
-stay-true s = let z : s.true_term ≡ s.true_term + 0 = omega arith in ap (λ (j : ℕ). withTerms s j s.false_term) z
+pub stay_true : (s : State) → s ≡ with_terms s (s.true_term + 0) s.false_term
+unfolding with_terms
+stay_true s = let z : s.true_term ≡ s.true_term + 0 = omega arith in ap (λ (j : ℕ). with_terms s j s.false_term) z
 
-pub stay-false : (s : State) → s ≡ withTerms s s.true_term (s.false_term + 0)
-unfolding withTerms
-stay-false s = let z : s.false_term ≡ s.false_term + 0 = omega arith in ap (λ (j : ℕ). withTerms s s.true_term j) z
+pub stay_false : (s : State) → s ≡ with_terms s s.true_term (s.false_term + 0)
+unfolding with_terms
+stay_false s = let z : s.false_term ≡ s.false_term + 0 = omega arith in ap (λ (j : ℕ). with_terms s s.true_term j) z
 
 -- Terms are forced only where something is required, and the cutoff is a difference of two figures.
 module _ (ts : List Term) (s : State) (m : Marks) where
-  pub true-none : le_z s.lower s.known ≡ true → ran s m Unchanged ≡ trueTerms ts s m
-  unfolding trueTerms
+  pub true-none : le_z s.lower s.known ≡ true → ran s m Unchanged ≡ true_terms ts s m
+  unfolding true_terms
   true-none h = rw h
 
-  pub false-none : limited s.upper ≡ false → ran s m Unchanged ≡ falseTerms ts s m
-  unfolding falseTerms
+  pub false-none : limited s.upper ≡ false → ran s m Unchanged ≡ false_terms ts s m
+  unfolding false_terms
   false-none h = rw h
 
   module _ (z : ℤ) (a : Scanned) (t : State) where
     pub true-forced : le_z s.lower s.known ≡ false → z ≡ s.possible -ℤ s.lower → a ≡ forced true (light (cut true z)) (drop s.true_term ts) m
-        → t ≡ withTerms s (s.true_term + a.passed) s.false_term → ran t a.marks a.step ≡ trueTerms ts s m
-    unfolding trueTerms
+        → t ≡ with_terms s (s.true_term + a.passed) s.false_term → ran t a.marks a.step ≡ true_terms ts s m
+    unfolding true_terms
     true-forced h c e f =
         let g = rw c at e in
         rw h (rw (f, g))
 
     pub false-forced : limited s.upper ≡ true → z ≡ limit s.upper -ℤ s.known → a ≡ forced false (light (cut false z)) (drop s.false_term ts) m
-        → t ≡ withTerms s s.true_term (s.false_term + a.passed) → ran t a.marks a.step ≡ falseTerms ts s m
-    unfolding falseTerms
+        → t ≡ with_terms s s.true_term (s.false_term + a.passed) → ran t a.marks a.step ≡ false_terms ts s m
+    unfolding false_terms
     false-forced h c e f =
         let g = rw c at e in
         rw h (rw (f, g))
@@ -122,11 +122,11 @@ pub record Moved (s t : State) : Type 0 where
   pub upper : t.upper ≡ s.upper
   pub up : s.sure_guard ≤ t.sure_guard
   pub down : t.never_guard ≤ s.never_guard
-  pub true-on : s.true_term ≤ t.true_term
-  pub false-on : s.false_term ≤ t.false_term
+  pub true_on : s.true_term ≤ t.true_term
+  pub false_on : s.false_term ≤ t.false_term
 
 moved-not : (s : State) → Moved s s
-moved-not s = record { known = refl; possible = refl; lower = refl; upper = refl; up = omega arith; down = omega arith; true-on = omega arith; false-on = omega arith }
+moved-not s = record { known = refl; possible = refl; lower = refl; upper = refl; up = omega arith; down = omega arith; true_on = omega arith; false_on = omega arith }
 
 moved_then : (s t u : State) → Moved s t → Moved t u → Moved s u
 moved_then s t u a b = record {
@@ -136,17 +136,17 @@ moved_then s t u a b = record {
   upper = b.upper ∙ a.upper;
   up = omega (arith, a.up, b.up);
   down = omega (arith, a.down, b.down);
-  true-on = omega (arith, a.true-on, b.true-on);
-  false-on = omega (arith, a.false-on, b.false-on);
+  true_on = omega (arith, a.true_on, b.true_on);
+  false_on = omega (arith, a.false_on, b.false_on);
 }
 
 moved-guards : (s : State) (x y : ℕ) → s.sure_guard ≤ x → y ≤ s.never_guard → Moved s (with_guards s x y)
 unfolding with_guards
-moved-guards s x y h k = record { known = refl; possible = refl; lower = refl; upper = refl; up = h; down = k; true-on = omega arith; false-on = omega arith }
+moved-guards s x y h k = record { known = refl; possible = refl; lower = refl; upper = refl; up = h; down = k; true_on = omega arith; false_on = omega arith }
 
-moved-terms : (s : State) (x y : ℕ) → s.true_term ≤ x → s.false_term ≤ y → Moved s (withTerms s x y)
-unfolding withTerms
-moved-terms s x y h k = record { known = refl; possible = refl; lower = refl; upper = refl; up = omega arith; down = omega arith; true-on = h; false-on = k }
+moved-terms : (s : State) (x y : ℕ) → s.true_term ≤ x → s.false_term ≤ y → Moved s (with_terms s x y)
+unfolding with_terms
+moved-terms s x y h k = record { known = refl; possible = refl; lower = refl; upper = refl; up = omega arith; down = omega arith; true_on = h; false_on = k }
 
 pub figures-moved : (s t : State) → Moved s t → Figures s → Figures t
 figures-moved s t v f = record {
@@ -164,150 +164,150 @@ pub record Kept (s : State) (a : Ran) : Type 0 where
 kept_then : (s : State) (a b : Ran) → Kept s a → Kept a.state b → Kept s b
 kept_then s a b f g = record { moved = moved_then s a.state b.state f.moved g.moved; waits = g.waits }
 
-pub kept_by : (s : State) (a b : Ran) → a ≡ b → Kept s b → Kept s a
-kept_by s a b e k = rw e k
+pub kept_by_lem : (s : State) (a b : Ran) → a ≡ b → Kept s b → Kept s a
+kept_by_lem s a b e k = rw e k
 
 kept_step : (s : State) (a : Ran) (k : Step) → Kept s a → Kept s (ran a.state a.marks k)
 kept_step s a k f = record { moved = f.moved; waits = f.waits }
 
-pub kept-guards : (gs : List Guard) (s : State) (m : Marks) → All Node gs → Waits m → Kept s (thresholdGuards gs s m)
+pub kept-guards : (gs : List Guard) (s : State) (m : Marks) → All Node gs → Waits m → Kept s (threshold_guards gs s m)
 kept-guards gs s m nodes w = by (contradicts a.step) refl
   where
     a : Scanned
-    a = sureGuards gs s m
+    a = sure_guards gs s m
 
-    by : (c : Bool) → contradicts a.step ≡ c → Kept s (thresholdGuards gs s m)
+    by : (c : Bool) → contradicts a.step ≡ c → Kept s (threshold_guards gs s m)
     by true e =
-        rw (sym (guards-stop gs s m a refl (with_guards s (s.sure_guard + a.passed) s.never_guard) e refl))
-        (record { moved = moved-guards s (s.sure_guard + a.passed) s.never_guard (omega arith) (omega arith); waits = sure-keeps gs s m nodes w })
+        rw (sym (guards_stop gs s m a refl (with_guards s (s.sure_guard + a.passed) s.never_guard) e refl))
+        (record { moved = moved-guards s (s.sure_guard + a.passed) s.never_guard (omega arith) (omega arith); waits = sure_keeps gs s m nodes w })
     by false e =
-        let b = neverGuards gs s a.marks a.step in
+        let b = never_guards gs s a.marks a.step in
         rw (sym (guards_more gs s m a refl (with_guards s (s.sure_guard + a.passed) (s.never_guard - b.passed)) e b refl refl))
         (record {
           moved = moved-guards s (s.sure_guard + a.passed) (s.never_guard - b.passed) (omega arith) (omega arith);
-          waits = never-keeps gs s a.marks nodes (sure-keeps gs s m nodes w) a.step;
+          waits = never_keeps gs s a.marks nodes (sure_keeps gs s m nodes w) a.step;
         })
 
 module _ (ts : List Term) (s : State) (m : Marks) (conditions : All Condition ts) (w : Waits m) where
-  pub kept-true : Kept s (trueTerms ts s m)
+  pub kept-true : Kept s (true_terms ts s m)
   kept-true = by (le_z s.lower s.known) refl
     where
-      by : (c : Bool) → le_z s.lower s.known ≡ c → Kept s (trueTerms ts s m)
+      by : (c : Bool) → le_z s.lower s.known ≡ c → Kept s (true_terms ts s m)
       by true e = rw (sym (true-none ts s m e)) (record { moved = moved-not s; waits = w })
       by false e =
           let z = s.possible -ℤ s.lower in
           let a = forced true (light (cut true z)) (drop s.true_term ts) m in
-          rw (sym (true-forced ts s m z a (withTerms s (s.true_term + a.passed) s.false_term) e refl refl refl))
+          rw (sym (true-forced ts s m z a (with_terms s (s.true_term + a.passed) s.false_term) e refl refl refl))
           (record {
             moved = moved-terms s (s.true_term + a.passed) s.false_term (omega arith) (omega arith);
-            waits = forced-keeps true (light (cut true z)) ts s.true_term m conditions w;
+            waits = forced_keeps true (light (cut true z)) ts s.true_term m conditions w;
           })
 
-  pub kept-false : Kept s (falseTerms ts s m)
+  pub kept-false : Kept s (false_terms ts s m)
   kept-false = by (limited s.upper) refl
     where
-      by : (c : Bool) → limited s.upper ≡ c → Kept s (falseTerms ts s m)
+      by : (c : Bool) → limited s.upper ≡ c → Kept s (false_terms ts s m)
       by false e = rw (sym (false-none ts s m e)) (record { moved = moved-not s; waits = w })
       by true e =
           let z = limit s.upper -ℤ s.known in
           let a = forced false (light (cut false z)) (drop s.false_term ts) m in
-          rw (sym (false-forced ts s m z a (withTerms s s.true_term (s.false_term + a.passed)) e refl refl refl))
+          rw (sym (false-forced ts s m z a (with_terms s s.true_term (s.false_term + a.passed)) e refl refl refl))
           (record {
             moved = moved-terms s s.true_term (s.false_term + a.passed) (omega arith) (omega arith);
-            waits = forced-keeps false (light (cut false z)) ts s.false_term m conditions w;
+            waits = forced_keeps false (light (cut false z)) ts s.false_term m conditions w;
           })
 
 -- Terms behind the guards.
-module _ (ts : List Term) (a b : Ran) (e : b ≡ trueTerms ts a.state a.marks) where
-  pub terms-stop : contradicts b.step ≡ true → b ≡ rowTerms ts a
-  terms-stop h =
+module _ (ts : List Term) (a b : Ran) (e : b ≡ true_terms ts a.state a.marks) where
+  pub terms_stop : contradicts b.step ≡ true → b ≡ row_terms ts a
+  terms_stop h =
       let k = rw e at h in
-      rw (rowTerms, k) e
+      rw (row_terms, k) e
 
-  pub terms-more : contradicts b.step ≡ false → (d : Ran) → d ≡ falseTerms ts b.state b.marks
-      → (k : Step) → k ≡ joined (joined a.step b.step) d.step → ran d.state d.marks k ≡ rowTerms ts a
-  terms-more h d f k g =
+  pub terms_more : contradicts b.step ≡ false → (d : Ran) → d ≡ false_terms ts b.state b.marks
+      → (k : Step) → k ≡ joined (joined a.step b.step) d.step → ran d.state d.marks k ≡ row_terms ts a
+  terms_more h d f k g =
       let l = rw e at h in
-      rw (rowTerms, l) (rw (g, f, e))
+      rw (row_terms, l) (rw (g, f, e))
 
-pub kept-terms : (ts : List Term) (a : Ran) → All Condition ts → Waits a.marks → Kept a.state (rowTerms ts a)
+pub kept-terms : (ts : List Term) (a : Ran) → All Condition ts → Waits a.marks → Kept a.state (row_terms ts a)
 kept-terms ts a conditions w = by (contradicts b.step) refl
   where
     b : Ran
-    b = trueTerms ts a.state a.marks
+    b = true_terms ts a.state a.marks
 
     first : Kept a.state b
     first = kept-true ts a.state a.marks conditions w
 
-    by : (c : Bool) → contradicts b.step ≡ c → Kept a.state (rowTerms ts a)
-    by true e = rw (sym (terms-stop ts a b refl e)) first
+    by : (c : Bool) → contradicts b.step ≡ c → Kept a.state (row_terms ts a)
+    by true e = rw (sym (terms_stop ts a b refl e)) first
     by false e =
-        let d = falseTerms ts b.state b.marks in
+        let d = false_terms ts b.state b.marks in
         let k = joined (joined a.step b.step) d.step in
-        rw (sym (terms-more ts a b refl e d refl k refl))
+        rw (sym (terms_more ts a b refl e d refl k refl))
         (kept_step a.state d k (kept_then a.state b d first (kept-false ts b.state b.marks conditions first.waits)))
 
 -- The row: a conflict, a contradiction of the guards, or its terms.
 module _ (r : Row) (s : State) (m : Marks) where
-  pub row-conflict : conflict s ≡ true → ran s m Contradiction ≡ thresholdRow r s m
-  unfolding thresholdRow
-  row-conflict h = rw (thresholdRow, h)
+  pub row-conflict : conflict s ≡ true → ran s m Contradiction ≡ threshold_row r s m
+  unfolding threshold_row
+  row-conflict h = rw (threshold_row, h)
 
-  module _ (free : conflict s ≡ false) (a : Ran) (e : a ≡ thresholdGuards r.guards s m) where
-    pub row-guards : contradicts a.step ≡ true → a ≡ thresholdRow r s m
-    unfolding thresholdRow scans
+  module _ (free : conflict s ≡ false) (a : Ran) (e : a ≡ threshold_guards r.guards s m) where
+    pub row-guards : contradicts a.step ≡ true → a ≡ threshold_row r s m
+    unfolding threshold_row scans
     row-guards h =
         let k = rw e at h in
-        rw (thresholdRow, free, scans, k) e
+        rw (threshold_row, free, scans, k) e
 
-    pub row-terms : contradicts a.step ≡ false → (b : Ran) → b ≡ rowTerms r.terms a → b ≡ thresholdRow r s m
-    unfolding thresholdRow scans
+    pub row-terms : contradicts a.step ≡ false → (b : Ran) → b ≡ row_terms r.terms a → b ≡ threshold_row r s m
+    unfolding threshold_row scans
     row-terms h b f =
         let k = rw e at h in
-        rw (thresholdRow, free, scans, k) (f ∙ ap (rowTerms r.terms) e)
+        rw (threshold_row, free, scans, k) (f ∙ ap (row_terms r.terms) e)
 
   -- A run moves cursors only forward, and each node waits at most once after it.
-  pub kept_row : All Node r.guards → All Condition r.terms → Waits m → Kept s (thresholdRow r s m)
+  pub kept_row : All Node r.guards → All Condition r.terms → Waits m → Kept s (threshold_row r s m)
   kept_row nodes conditions w = by (conflict s) refl
     where
       a : Ran
-      a = thresholdGuards r.guards s m
+      a = threshold_guards r.guards s m
 
       first : Kept s a
       first = kept-guards r.guards s m nodes w
 
-      then : conflict s ≡ false → (c : Bool) → contradicts a.step ≡ c → Kept s (thresholdRow r s m)
+      then : conflict s ≡ false → (c : Bool) → contradicts a.step ≡ c → Kept s (threshold_row r s m)
       then f true e = rw (sym (row-guards f a refl e)) first
       then f false e =
-          rw (sym (row-terms f a refl e (rowTerms r.terms a) refl))
-          (kept_then s a (rowTerms r.terms a) first (kept-terms r.terms a conditions first.waits))
+          rw (sym (row-terms f a refl e (row_terms r.terms a) refl))
+          (kept_then s a (row_terms r.terms a) first (kept-terms r.terms a conditions first.waits))
 
-      by : (c : Bool) → conflict s ≡ c → Kept s (thresholdRow r s m)
+      by : (c : Bool) → conflict s ≡ c → Kept s (threshold_row r s m)
       by true e = rw (sym (row-conflict e)) (record { moved = moved-not s; waits = w })
       by false e = then e (contradicts a.step) refl
 
 -- The list that the records gave is not read.
-pub row-raw : (raw raw' : List Term) (ts : List Term) (gs : List Guard) (s : State) (m : Marks) → thresholdRow (row_of raw ts gs) s m ≡ thresholdRow (row_of raw' ts gs) s m
-unfolding thresholdRow scans
+pub row-raw : (raw raw' : List Term) (ts : List Term) (gs : List Guard) (s : State) (m : Marks) → threshold_row (row_of raw ts gs) s m ≡ threshold_row (row_of raw' ts gs) s m
+unfolding threshold_row scans
 row-raw raw raw' ts gs s m = by (conflict s) refl
   where
-    by : (c : Bool) → conflict s ≡ c → thresholdRow (row_of raw ts gs) s m ≡ thresholdRow (row_of raw' ts gs) s m
-    by true e = rw (thresholdRow, e)
-    by false e = rw (thresholdRow, e, scans)
+    by : (c : Bool) → conflict s ≡ c → threshold_row (row_of raw ts gs) s m ≡ threshold_row (row_of raw' ts gs) s m
+    by true e = rw (threshold_row, e)
+    by false e = rw (threshold_row, e, scans)
 
 -- Whether a row wants a residual, from its slices.
 module _ (r : Row) (s : State) where
-  pub wants-conflict : conflict s ≡ true → wantsResidual r s ≡ false
-  unfolding wantsResidual
-  wants-conflict h = rw h
+  pub wants_conflict : conflict s ≡ true → wants_residual r s ≡ false
+  unfolding wants_residual
+  wants_conflict h = rw h
 
-  pub wants-unit : conflict s ≡ false → hasNonunit r.terms ≡ false → wantsResidual r s ≡ false
-  unfolding wantsResidual
-  wants-unit h k = rw (h, k)
+  pub wants_unit : conflict s ≡ false → has_nonunit r.terms ≡ false → wants_residual r s ≡ false
+  unfolding wants_residual
+  wants_unit h k = rw (h, k)
 
-  pub wants-interval : conflict s ≡ false → hasNonunit r.terms ≡ true → wantsResidual r s ≡ hasResidualInterval s
-  unfolding wantsResidual
-  wants-interval h k = rw (h, k)
+  pub wants_interval : conflict s ≡ false → has_nonunit r.terms ≡ true → wants_residual r s ≡ has_residual_interval s
+  unfolding wants_residual
+  wants_interval h k = rw (h, k)
 
 -- A number in this range is what its bits say.
 pub signed : (z : ℤ) → mag z < 2 ^ 61 → to_z w64 (of_z w64 z) ≡ z

@@ -4,7 +4,7 @@ use Rattle.std.specs.Prelude.{ℕ, ◌+◌, Bool, true, false, cond, List, [], �
 use Rattle.state.specs.declared.Step.{Step}
 use Rattle.state.specs.declared.Step.TheVariants.{Unchanged, Contradiction}
 use Rattle.state.specs.Step.{joined, contradicts}
-use Rattle.queues.specs.Marks.{Marks, isDecided, Decided, decided, decide}
+use Rattle.queues.specs.Marks.{Marks, is_decided, Decided, decided, decide}
 
 pub record Scanned : Type 0 where
   pub passed : ℕ
@@ -29,4 +29,4 @@ scan waits act (x ∷ xs) n m k =
 
 -- A term that is decided is passed as it is.
 abbrev pub force : Bool → Marks → ℕ → Decided
-force value m n = cond (isDecided m n) (decided m Unchanged) (decide value m n)
+force value m n = cond (is_decided m n) (decided m Unchanged) (decide value m n)

@@ -6,7 +6,7 @@ ghost use Rattle.numeric.specs.Slices.{terms};
 ghost use Rattle.state.specs.State.{reached};
 ghost use Rattle.rows.specs.Rows.{Guard, row_of};
 ghost use Rattle.row_runs.specs.Turns.{light};
-ghost use Rattle.row_runs.specs.Row.{reachable, wantsResidual};
+ghost use Rattle.row_runs.specs.Row.{reachable, wants_residual};
 
 use state::State;
 
@@ -53,7 +53,7 @@ impl Cutoff {
 // A row in no conflict with a weight above 1 waits for a residual when both its limits cut.
 pub fn wants_residual(conditions: &[u16], weights: &[u64], state: State) -> bool
     requires { length conditions.now ≡ length weights.now }
-    ensures { (raw : List Term) (gs : List Guard) → result ≡ wantsResidual (row_of raw (terms conditions.now weights.now) gs) state }
+    ensures { (raw : List Term) (gs : List Guard) → result ≡ wants_residual (row_of raw (terms conditions.now weights.now) gs) state }
 {
     if state.conflict() {
         return false;

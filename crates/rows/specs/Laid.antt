@@ -1,8 +1,8 @@
 -- Rows as the buffers hold them: terms and guards of all rows one behind the other, and for each node its threshold and its edges.
 use Rattle.std.specs.Prelude.{ℕ, ◌+◌, Bool, true, false, List, [], ◌∷◌, map, eqb, ℤ}
-use Rattle.base.specs.Laid.{joinAll, ends, numbers}
+use Rattle.base.specs.Laid.{join_all, ends, numbers}
 use Rattle.numeric.specs.Threshold.{Term, Threshold, Job}
-use Rattle.rows.specs.Rows.{Row, Guard, Edge, edgesOf, rowNumber}
+use Rattle.rows.specs.Rows.{Row, Guard, Edge, edges_of, row_number}
 
 abbrev pub conditions : List Term → List ℕ
 conditions ts = map (λ (t : Term). t.condition) ts
@@ -11,30 +11,30 @@ abbrev pub weights : List Term → List ℕ
 weights ts = map (λ (t : Term). t.weight) ts
 
 -- The terms and the guards of each row.
-abbrev pub termLists : List Row → List (List Term)
-termLists rs = map (λ (r : Row). r.terms) rs
+abbrev pub term_lists : List Row → List (List Term)
+term_lists rs = map (λ (r : Row). r.terms) rs
 
-abbrev pub guardLists : List Row → List (List Guard)
-guardLists rs = map (λ (r : Row). r.guards) rs
+abbrev pub guard_lists : List Row → List (List Guard)
+guard_lists rs = map (λ (r : Row). r.guards) rs
 
-abbrev pub guardBounds : List Row → List ℤ
-guardBounds rs = map (λ (g : Guard). g.bound) (joinAll (guardLists rs))
+abbrev pub guard_bounds_of : List Row → List ℤ
+guard_bounds_of rs = map (λ (g : Guard). g.bound) (join_all (guard_lists rs))
 
-abbrev pub guardNodes : List Row → List ℕ
-guardNodes rs = map (λ (g : Guard). g.node) (joinAll (guardLists rs))
+abbrev pub guard_nodes_of : List Row → List ℕ
+guard_nodes_of rs = map (λ (g : Guard). g.node) (join_all (guard_lists rs))
 
 -- The threshold of a node, counted from 1, 0 for none; and that threshold's row.
-unfoldable pub thresholdOf : ℕ → List Threshold → ℕ → ℕ
-thresholdOf k [] n = 0
-thresholdOf k (t ∷ ts) n = elim (eqb t.node n) [ true ↦ k + 1 | false ↦ thresholdOf (k + 1) ts n ]
+unfoldable pub threshold_of : ℕ → List Threshold → ℕ → ℕ
+threshold_of k [] n = 0
+threshold_of k (t ∷ ts) n = elim (eqb t.node n) [ true ↦ k + 1 | false ↦ threshold_of (k + 1) ts n ]
 
-unfoldable pub rowOfNode : List Row → List Threshold → ℕ → ℕ
-rowOfNode rs [] n = 0
-rowOfNode rs (t ∷ ts) n = elim (eqb t.node n) [ true ↦ rowNumber rs t.terms | false ↦ rowOfNode rs ts n ]
+unfoldable pub row_of_node : List Row → List Threshold → ℕ → ℕ
+row_of_node rs [] n = 0
+row_of_node rs (t ∷ ts) n = elim (eqb t.node n) [ true ↦ row_number rs t.terms | false ↦ row_of_node rs ts n ]
 
 -- The edges of nodes 0, 1 .. of which there are so many.
-abbrev pub edgeLists : ℕ → List Row → List (List Edge)
-edgeLists nodes rs = map (edgesOf rs) (numbers 0 nodes)
+abbrev pub edge_lists : ℕ → List Row → List (List Edge)
+edge_lists nodes rs = map (edges_of rs) (numbers 0 nodes)
 
-abbrev pub edgeRow : Edge → List ℕ
-edgeRow e = e.row ∷ e.weight ∷ []
+abbrev pub edge_row : Edge → List ℕ
+edge_row e = e.row ∷ e.weight ∷ []

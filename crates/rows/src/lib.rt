@@ -3,11 +3,11 @@
 ghost use Rattle.std.specs.Prelude.{◌≡◌, ◌+◌, ◌-◌, ◌^◌, ◌≤◌, ◌<◌, length};
 ghost use Rattle.numeric.specs.Slices.{terms};
 ghost use Rattle.row.specs.Terms.{total};
-ghost use Rattle.base.specs.Parts.{endBy, start_by};
+ghost use Rattle.base.specs.Parts.{end_by, start_by};
 ghost use Rattle.base.specs.Deal.{begins, sum_to};
-ghost use Rattle.base.specs.Columns.{column, withColumn, Wide};
-ghost use Rattle.rows.specs.Guards.{nodeAt};
-ghost use Rattle.rows.specs.Rows.{hasNonunit};
+ghost use Rattle.base.specs.Columns.{column, with_column, Wide};
+ghost use Rattle.rows.specs.Guards.{node_at};
+ghost use Rattle.rows.specs.Rows.{has_nonunit};
 
 // Where the raw list of a threshold starts.
 pub fn start_of(thresholds: &[[u16; 2]], t: usize) -> usize
@@ -22,7 +22,7 @@ pub fn start_of(thresholds: &[[u16; 2]], t: usize) -> usize
 
 pub fn end_of(thresholds: &[[u16; 2]], t: usize) -> usize
     requires { t < length thresholds.now }
-    ensures { result ≡ endBy 1 thresholds.now t }
+    ensures { result ≡ end_by 1 thresholds.now t }
 {
     let pair = thresholds[t];
     place(pair[1])
@@ -38,7 +38,7 @@ pub fn place(x: u16) -> usize
 // Some merged weight of a row is above 1; the first is the heaviest.
 pub fn has_nonunit(conditions: &[u16], weights: &[u64]) -> bool
     requires { length weights.now ≡ length conditions.now }
-    ensures { result ≡ hasNonunit (terms conditions.now weights.now) }
+    ensures { result ≡ has_nonunit (terms conditions.now weights.now) }
 {
     if weights.len() == 0 {
         return false;
@@ -63,7 +63,7 @@ pub fn total(conditions: &[u16], weights: &[u64]) -> u64
 // Counts in a column become the places where the items begin.
 pub fn sum_column(rows: &mut [[u16; 3]], j: usize)
     requires { (j < 3) × (Wide j rows.old) × (sum_to (column j rows.old) (length rows.old) < 65536) }
-    ensures { rows.new ≡ withColumn j rows.old (begins 0 (column j rows.old)) }
+    ensures { rows.new ≡ with_column j rows.old (begins 0 (column j rows.old)) }
 {
     let mut sum: u16 = 0;
     let mut i: usize = 0;
@@ -92,7 +92,7 @@ fn start_by(table: &[[u16; 3]], j: usize, n: usize) -> usize
 // By column j, where the stretch of an entry ends.
 fn end_by(table: &[[u16; 3]], j: usize, n: usize) -> usize
     requires { (n < length table.now) × (j < 3) }
-    ensures { (result ≡ endBy j table.now n) × (result < 65536) }
+    ensures { (result ≡ end_by j table.now n) × (result < 65536) }
 {
     let entry = table[n];
     place(entry[j])
@@ -100,8 +100,8 @@ fn end_by(table: &[[u16; 3]], j: usize, n: usize) -> usize
 
 // By column j, how long the stretch of an entry is.
 fn count_by(table: &[[u16; 3]], j: usize, n: usize) -> usize
-    requires { (n < length table.now) × (j < 3) × (start_by j table.now n ≤ endBy j table.now n) }
-    ensures { result ≡ endBy j table.now n - start_by j table.now n }
+    requires { (n < length table.now) × (j < 3) × (start_by j table.now n ≤ end_by j table.now n) }
+    ensures { result ≡ end_by j table.now n - start_by j table.now n }
 {
     let a = start_by(table, j, n);
     let e = end_by(table, j, n);
@@ -119,15 +119,15 @@ pub fn terms_start(rows: &[[u16; 3]], row: usize) -> usize
 // Where the terms of a row end.
 pub fn terms_end(rows: &[[u16; 3]], row: usize) -> usize
     requires { row < length rows.now }
-    ensures { (result ≡ endBy 0 rows.now row) × (result < 65536) }
+    ensures { (result ≡ end_by 0 rows.now row) × (result < 65536) }
 {
     end_by(rows, 0, row)
 }
 
 // How many terms a row has.
 pub fn terms_count(rows: &[[u16; 3]], row: usize) -> usize
-    requires { (row < length rows.now) × (start_by 0 rows.now row ≤ endBy 0 rows.now row) }
-    ensures { result ≡ endBy 0 rows.now row - start_by 0 rows.now row }
+    requires { (row < length rows.now) × (start_by 0 rows.now row ≤ end_by 0 rows.now row) }
+    ensures { result ≡ end_by 0 rows.now row - start_by 0 rows.now row }
 {
     count_by(rows, 0, row)
 }
@@ -143,15 +143,15 @@ pub fn guards_start(rows: &[[u16; 3]], row: usize) -> usize
 // Where the guards of a row end.
 pub fn guards_end(rows: &[[u16; 3]], row: usize) -> usize
     requires { row < length rows.now }
-    ensures { (result ≡ endBy 1 rows.now row) × (result < 65536) }
+    ensures { (result ≡ end_by 1 rows.now row) × (result < 65536) }
 {
     end_by(rows, 1, row)
 }
 
 // How many guards a row has.
 pub fn guards_count(rows: &[[u16; 3]], row: usize) -> usize
-    requires { (row < length rows.now) × (start_by 1 rows.now row ≤ endBy 1 rows.now row) }
-    ensures { result ≡ endBy 1 rows.now row - start_by 1 rows.now row }
+    requires { (row < length rows.now) × (start_by 1 rows.now row ≤ end_by 1 rows.now row) }
+    ensures { result ≡ end_by 1 rows.now row - start_by 1 rows.now row }
 {
     count_by(rows, 1, row)
 }
@@ -167,15 +167,15 @@ pub fn links_start(rows: &[[u16; 3]], row: usize) -> usize
 // Where the neighbours of a row end.
 pub fn links_end(rows: &[[u16; 3]], row: usize) -> usize
     requires { row < length rows.now }
-    ensures { (result ≡ endBy 2 rows.now row) × (result < 65536) }
+    ensures { (result ≡ end_by 2 rows.now row) × (result < 65536) }
 {
     end_by(rows, 2, row)
 }
 
 // How many neighbours a row has.
 pub fn links_count(rows: &[[u16; 3]], row: usize) -> usize
-    requires { (row < length rows.now) × (start_by 2 rows.now row ≤ endBy 2 rows.now row) }
-    ensures { result ≡ endBy 2 rows.now row - start_by 2 rows.now row }
+    requires { (row < length rows.now) × (start_by 2 rows.now row ≤ end_by 2 rows.now row) }
+    ensures { result ≡ end_by 2 rows.now row - start_by 2 rows.now row }
 {
     count_by(rows, 2, row)
 }
@@ -183,7 +183,7 @@ pub fn links_count(rows: &[[u16; 3]], row: usize) -> usize
 // The number of a node's threshold, counted from 1; 0 for none.
 pub fn threshold_of(nodes: &[[u16; 3]], node: usize) -> usize
     requires { node < length nodes.now }
-    ensures { (result ≡ endBy 0 nodes.now node) × (result < 65536) }
+    ensures { (result ≡ end_by 0 nodes.now node) × (result < 65536) }
 {
     end_by(nodes, 0, node)
 }
@@ -191,7 +191,7 @@ pub fn threshold_of(nodes: &[[u16; 3]], node: usize) -> usize
 // The row of a node's threshold.
 pub fn row_of_node(nodes: &[[u16; 3]], node: usize) -> usize
     requires { node < length nodes.now }
-    ensures { (result ≡ endBy 1 nodes.now node) × (result < 65536) }
+    ensures { (result ≡ end_by 1 nodes.now node) × (result < 65536) }
 {
     end_by(nodes, 1, node)
 }
@@ -207,7 +207,7 @@ pub fn edges_start(nodes: &[[u16; 3]], node: usize) -> usize
 // Where the edges of a node end.
 pub fn edges_end(nodes: &[[u16; 3]], node: usize) -> usize
     requires { node < length nodes.now }
-    ensures { (result ≡ endBy 2 nodes.now node) × (result < 65536) }
+    ensures { (result ≡ end_by 2 nodes.now node) × (result < 65536) }
 {
     end_by(nodes, 2, node)
 }
@@ -215,7 +215,7 @@ pub fn edges_end(nodes: &[[u16; 3]], node: usize) -> usize
 // The node of a threshold.
 pub fn node_of(thresholds: &[[u16; 2]], t: usize) -> usize
     requires { t < length thresholds.now }
-    ensures { (result ≡ nodeAt thresholds.now t) × (result < 65536) }
+    ensures { (result ≡ node_at thresholds.now t) × (result < 65536) }
 {
     let pair = thresholds[t];
     place(pair[0])

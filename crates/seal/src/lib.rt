@@ -1,14 +1,14 @@
 // A seal and a mark over the buffers.
 ghost use Rattle.std.specs.Prelude.{◌≡◌, ◌<◌, ◌≤◌, length};
-ghost use Rattle.memory.specs.Limits.{maxNodes};
-ghost use Rattle.memory.specs.Ranges.{totalLimit};
+ghost use Rattle.memory.specs.Limits.{max_nodes};
+ghost use Rattle.memory.specs.Ranges.{total_limit};
 ghost use Rattle.memory.specs.Buffers.{held_rows};
 ghost use Rattle.queues.specs.Queue.{queue};
-ghost use Rattle.queues.specs.Slot.{rowsIn};
+ghost use Rattle.queues.specs.Slot.{rows_in};
 ghost use Rattle.queues.specs.Marks.{marks};
 ghost use Rattle.queues.specs.Waiting.{Waits, Flags};
 ghost use Rattle.row_moves.specs.Between.{Index, did};
-ghost use Rattle.row_moves.specs.Numbers.{statesOf, Tidy, live_of};
+ghost use Rattle.row_moves.specs.Numbers.{states_of, Tidy, live_of};
 ghost use Rattle.row_moves.specs.Held.{Shaped, Holds};
 ghost use Rattle.row_moves.specs.Ready.{Totals};
 ghost use Rattle.drain.specs.Drain.{mark as marked, seal as seals};
@@ -28,7 +28,7 @@ pub fn mark(
     node: usize,
     value: bool,
 ) -> Did
-    requires { Waits (marks sure.old never.old (queue node_queue.old rings.nodes)) × (node < maxNodes) }
+    requires { Waits (marks sure.old never.old (queue node_queue.old rings.nodes)) × (node < max_nodes) }
     ensures { (did (live_of figures.new cursors.new sure.new never.new node_queue.new row_queues.new result.rings) result.step
         ≡ marked (live_of figures.old cursors.old sure.old never.old node_queue.old row_queues.old rings) node value)
         × (Tidy figures.old cursors.old → Tidy figures.new cursors.new) }
@@ -67,8 +67,8 @@ pub fn seal(
 ) -> Did
     requires shaped { ((x : Index) × Holds x (held_rows row_conditions.now row_weights.now rows.now guard_bounds.now guard_nodes.now))
         × Shaped (held_rows row_conditions.now row_weights.now rows.now guard_bounds.now guard_nodes.now)
-        × Totals totalLimit row_conditions.now row_weights.now rows.now × (length rows.now ≤ length (statesOf figures.old cursors.old)) }
-    requires waits { Waits (marks sure.old never.old (queue node_queue.old rings.nodes)) × Flags (rowsIn 2 row_queues.old rings.residuals) }
+        × Totals total_limit row_conditions.now row_weights.now rows.now × (length rows.now ≤ length (states_of figures.old cursors.old)) }
+    requires waits { Waits (marks sure.old never.old (queue node_queue.old rings.nodes)) × Flags (rows_in 2 row_queues.old rings.residuals) }
     ensures { ((x : Index) → Holds x (held_rows row_conditions.now row_weights.now rows.now guard_bounds.now guard_nodes.now)
         → did (live_of figures.new cursors.new sure.new never.new node_queue.new row_queues.new result.rings) result.step
         ≡ seals x (live_of figures.old cursors.old sure.old never.old node_queue.old row_queues.old rings))

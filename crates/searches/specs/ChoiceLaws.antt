@@ -14,11 +14,11 @@ use Rattle.searches.specs.RowLaws.{Fresh}
 abbrev pub changed : (ℕ → Bool) → ℕ → Bool → ℕ → Bool
 changed choice c b n = cond (eqb n c) b (choice n)
 
-pub changed-here : (choice : ℕ → Bool) (c : ℕ) (b : Bool) → changed choice c b c ≡ b
-changed-here choice c b = rw (eq-eqb c c refl)
+pub changed_here : (choice : ℕ → Bool) (c : ℕ) (b : Bool) → changed choice c b c ≡ b
+changed_here choice c b = rw (eq-eqb c c refl)
 
-pub changed-there : (choice : ℕ → Bool) (c : ℕ) (b : Bool) (n : ℕ) → n ≢ c → changed choice c b n ≡ choice n
-changed-there choice c b n h = rw (ne_eqb n c h)
+pub changed_there : (choice : ℕ → Bool) (c : ℕ) (b : Bool) (n : ℕ) → n ≢ c → changed choice c b n ≡ choice n
+changed_there choice c b n h = rw (ne_eqb n c h)
 
 module _ (d : ℕ → Bool) where
   pub chosen_none : (choice : ℕ → Bool) → chosen d choice [] ≡ 0
@@ -31,18 +31,18 @@ module _ (d : ℕ → Bool) where
     chosen-decided h = rw (h, chosen) (omega arith)
 
     module _ (h : d t.condition ≡ false) where
-      pub chosen-taken : choice t.condition ≡ true → chosen d choice (t ∷ ts) ≡ t.weight + chosen d choice ts
+      pub chosen_taken : choice t.condition ≡ true → chosen d choice (t ∷ ts) ≡ t.weight + chosen d choice ts
       unfolding chosen
-      chosen-taken k = rw (h, k, chosen)
+      chosen_taken k = rw (h, k, chosen)
 
       pub chosen-left : choice t.condition ≡ false → chosen d choice (t ∷ ts) ≡ chosen d choice ts
       unfolding chosen
       chosen-left k = rw (h, k, chosen) (omega arith)
 
     -- A term that goes from one list to another.
-    pub chosen-moves : (us : List Term) → chosen d choice (t ∷ us) + chosen d choice ts ≡ chosen d choice us + chosen d choice (t ∷ ts)
+    pub chosen_moves : (us : List Term) → chosen d choice (t ∷ us) + chosen d choice ts ≡ chosen d choice us + chosen d choice (t ∷ ts)
     unfolding chosen
-    chosen-moves us = omega arith
+    chosen_moves us = omega arith
 
   -- A choice of a condition that no term has changes nothing.
   pub chosen-changed : (choice : ℕ → Bool) (c : ℕ) (b : Bool) (ts : List Term) → Fresh c ts → chosen d (changed choice c b) ts ≡ chosen d choice ts
@@ -50,7 +50,7 @@ module _ (d : ℕ → Bool) where
   chosen-changed choice c b [] f = refl
   chosen-changed choice c b (t ∷ ts) f =
       ap₂ (λ (x : Bool) (n : ℕ). cond (d t.condition) 0 (cond x t.weight 0) + n)
-      (changed-there choice c b t.condition f.0) (chosen-changed choice c b ts f.1)
+      (changed_there choice c b t.condition f.0) (chosen-changed choice c b ts f.1)
 
   -- With no choice the sum is 0.
   pub chosen-nothing : (ts : List Term) → chosen d (λ (n : ℕ). false) ts ≡ 0
@@ -63,16 +63,16 @@ module _ (d : ℕ → Bool) where
       by false e = omega arith
 
   -- Terms that are all heavier than m: none of them is chosen, or more than m.
-  pub chosen-heavy : (choice : ℕ → Bool) (m : ℕ) (ts : List Term) → All (λ (t : Term). m < t.weight) ts
+  pub chosen_heavy : (choice : ℕ → Bool) (m : ℕ) (ts : List Term) → All (λ (t : Term). m < t.weight) ts
       → (chosen d choice ts ≡ 0) ⊎ (m < chosen d choice ts)
-  chosen-heavy choice m [] h = inl (chosen_none choice)
-  chosen-heavy choice m (t ∷ ts) h = by (d t.condition) refl (choice t.condition) refl (chosen-heavy choice m ts h.1)
+  chosen_heavy choice m [] h = inl (chosen_none choice)
+  chosen_heavy choice m (t ∷ ts) h = by (d t.condition) refl (choice t.condition) refl (chosen_heavy choice m ts h.1)
     where
       by : (x : Bool) → d t.condition ≡ x → (y : Bool) → choice t.condition ≡ y → (chosen d choice ts ≡ 0) ⊎ (m < chosen d choice ts)
           → (chosen d choice (t ∷ ts) ≡ 0) ⊎ (m < chosen d choice (t ∷ ts))
       by true e y f (inl z) = inl (chosen-decided choice t ts e ∙ z)
       by true e y f (inr z) = inr (rw (chosen-decided choice t ts e) z)
-      by false e true f z = let k = h.0 in inr (rw (chosen-taken choice t ts e f) (omega arith))
+      by false e true f z = let k = h.0 in inr (rw (chosen_taken choice t ts e f) (omega arith))
       by false e false f (inl z) = inl (chosen-left choice t ts e f ∙ z)
       by false e false f (inr z) = inr (rw (chosen-left choice t ts e f) z)
 

@@ -3,8 +3,8 @@ use Rattle.std.specs.Prelude.{ℕ, ◌≤◌, ◌≢◌}
 use mathlib.Core.List.{List, [], ◌∷◌, reverse, reverse_aux}
 use Rattle.base.specs.All.{All}
 use Rattle.numeric.specs.Threshold.{Term}
-use Rattle.row.specs.Terms.{rowTerms}
-use Rattle.row.specs.TermsLaws.{Falling, Distinct, sorted-falling, distinct}
+use Rattle.row.specs.Terms.{row_terms}
+use Rattle.row.specs.TermsLaws.{Falling, Distinct, sorted_falling, distinct}
 
 -- The condition is none of a list's.
 abbrev pub Fresh : ℕ → List Term → Type 0
@@ -34,5 +34,5 @@ turned (t ∷ ts) acc f d r a =
     (all_both (λ (u : Term). Later u t) (λ (u : Term). All (Later u) acc) ts
     (all_both (λ (u : Term). u.weight ≤ t.weight) (λ (u : Term). u.condition ≢ t.condition) ts f.0 d.0) a.1)
 
-pub rising : (raw : List Term) → Rising (reverse (rowTerms raw))
-rising raw = turned (rowTerms raw) [] (sorted-falling raw) (distinct raw) tt (all_of (λ t. tt) (rowTerms raw))
+pub rising : (raw : List Term) → Rising (reverse (row_terms raw))
+rising raw = turned (row_terms raw) [] (sorted_falling raw) (distinct raw) tt (all_of (λ t. tt) (row_terms raw))

@@ -10,10 +10,10 @@ use Rattle.searches.specs.declared.Search.TheVariants.{Skipped, Fits, Nothing, C
 use Rattle.state.specs.declared.Step.{Step}
 use Rattle.state.specs.declared.Step.TheVariants.{Unchanged, Contradiction}
 use Rattle.state.specs.declared.State.{State}
-use Rattle.state.specs.State.{natural, limit, hasResidualInterval}
+use Rattle.state.specs.State.{natural, limit, has_residual_interval}
 use Rattle.words.specs.declared.Ended.TheVariants.{Hit, Complete, Stopped}
-use Rattle.words.specs.Shift.{unionShifted}
-use Rattle.rows.specs.Rows.{hasNonunit}
+use Rattle.words.specs.Shift.{union_shifted}
+use Rattle.rows.specs.Rows.{has_nonunit}
 
 -- The sums from lower - known to upper - known - 1, and 4 visits for each term.
 abbrev pub window : List Term → State → Window
@@ -24,37 +24,37 @@ window ts s =
 -- `Plan::for_row`
 unfoldable pub plan : List Term → State → Plan
 plan ts s =
-    cond (hasNonunit ts && hasResidualInterval s && lt_z s.known (limit s.upper) && leb ((window ts s).words + 5) (window ts s).visits) (Planned (window ts s)) Unplanned
+    cond (has_nonunit ts && has_residual_interval s && lt_z s.known (limit s.upper) && leb ((window ts s).words + 5) (window ts s).visits) (Planned (window ts s)) Unplanned
 
 -- Document 01's answer, and the visits.
-abbrev pub searchStep : Search → Step
-searchStep Skipped = Unchanged
-searchStep (Fits n) = Unchanged
-searchStep (Nothing n) = Contradiction
-searchStep (Cut n) = Unchanged
+abbrev pub search_step : Search → Step
+search_step Skipped = Unchanged
+search_step (Fits n) = Unchanged
+search_step (Nothing n) = Contradiction
+search_step (Cut n) = Unchanged
 
 -- The visits of the last search, where the first argument is that of the searches before.
-abbrev pub searchVisits : ℕ → Search → ℕ
-searchVisits before Skipped = before
-searchVisits before (Fits n) = n
-searchVisits before (Nothing n) = n
-searchVisits before (Cut n) = n
+abbrev pub search_visits : ℕ → Search → ℕ
+search_visits before Skipped = before
+search_visits before (Fits n) = n
+search_visits before (Nothing n) = n
+search_visits before (Cut n) = n
 
 -- `d` tells which nodes are decided. Terms from the light end; `maximum` is the largest sum that a bit stands for, `left` the visits that are left.
-unfoldable pub searchFrom : Window → (ℕ → Bool) → List Term → List ℕ → ℕ → ℕ → Search
-searchFrom w d [] sums maximum left = Nothing (w.visits - left)
-searchFrom w d (t ∷ ts) sums maximum zero = Cut w.visits
-searchFrom w d (t ∷ ts) sums maximum (suc left) =
+unfoldable pub search_from : Window → (ℕ → Bool) → List Term → List ℕ → ℕ → ℕ → Search
+search_from w d [] sums maximum left = Nothing (w.visits - left)
+search_from w d (t ∷ ts) sums maximum zero = Cut w.visits
+search_from w d (t ∷ ts) sums maximum (suc left) =
     elim (ltb w.maximum t.weight) [
       | true ↦ Nothing (w.visits - left)
       | false ↦
           elim (d t.condition) [
-            | true ↦ searchFrom w d ts sums maximum left
+            | true ↦ search_from w d ts sums maximum left
             | false ↦
-                let r = unionShifted sums (maximum / 64 + 1) t.weight w.lower w.maximum left in
+                let r = union_shifted sums (maximum / 64 + 1) t.weight w.lower w.maximum left in
                 elim r.ended [
                   | Hit after ↦ Fits (w.visits - after)
-                  | Complete after ↦ searchFrom w d ts r.words (min (maximum + t.weight) w.maximum) after
+                  | Complete after ↦ search_from w d ts r.words (min (maximum + t.weight) w.maximum) after
                   | Stopped ↦ Cut w.visits
                 ]
           ]
@@ -65,7 +65,7 @@ unfoldable pub search : List Term → State → (ℕ → Bool) → Search
 search ts s d =
     elim (plan ts s) [
       | Unplanned ↦ Skipped
-      | Planned w ↦ searchFrom w d (reverse ts) (set (replicate w.words 0) 0 1) 0 (w.visits - (w.words + 2))
+      | Planned w ↦ search_from w d (reverse ts) (set (replicate w.words 0) 0 1) 0 (w.visits - (w.words + 2))
     ]
 
 -- WHAT IS RIGHT, apart from words and visits.

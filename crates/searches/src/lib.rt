@@ -2,7 +2,7 @@
 ghost use Rattle.std.specs.Prelude.{◌≡◌, ◌+◌, ◌-◌, ◌/◌, ◌<◌, ◌≤◌, length};
 ghost use Rattle.numeric.specs.Slices.{terms};
 ghost use Rattle.state.specs.Shape.{Figures};
-ghost use Rattle.searches.specs.Search.{plan, searchStep, searchVisits};
+ghost use Rattle.searches.specs.Search.{plan, search_step, search_visits};
 
 use state::{State, Step, Upper};
 
@@ -38,7 +38,7 @@ pub enum Search {
 impl Search {
     // Only a search that ended with no sum in the window contradicts.
     pub fn step(self) -> Step
-        ensures { result ≡ searchStep self }
+        ensures { result ≡ search_step self }
     {
         match self {
             Search::Skipped => Step::Unchanged,
@@ -50,7 +50,7 @@ impl Search {
 
     // The visits that this search used, those of the last one before where none was planned.
     pub fn visits(self, before: usize) -> usize
-        ensures { result ≡ searchVisits before self }
+        ensures { result ≡ search_visits before self }
     {
         match self {
             Search::Skipped => before,

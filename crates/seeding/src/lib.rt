@@ -4,10 +4,10 @@ ghost use Rattle.memory.specs.Buffers.{held_rows};
 ghost use Rattle.numeric.specs.Slices.{terms};
 ghost use Rattle.row.specs.Terms.{total};
 ghost use Rattle.queues.specs.declared.Ring.{Ring};
-ghost use Rattle.row_moves.specs.Between.{Index, did, firstStates, seedFrom};
-ghost use Rattle.row_moves.specs.Numbers.{statesOf, live_of, Tidy};
-ghost use Rattle.memory.specs.Ranges.{figureLimit, roomLimit};
-ghost use Rattle.row_moves.specs.Held.{stretchBy, Inside, Rising, Shaped, Holds};
+ghost use Rattle.row_moves.specs.Between.{Index, did, first_states, seed_from};
+ghost use Rattle.row_moves.specs.Numbers.{states_of, live_of, Tidy};
+ghost use Rattle.memory.specs.Ranges.{figure_limit, room_limit};
+ghost use Rattle.row_moves.specs.Held.{stretch_by, Inside, Rising, Shaped, Holds};
 ghost use Rattle.row_moves.specs.Ready.{ReadyLive, first_at, Totals};
 ghost use Rattle.row_runs.specs.Guards.{guards};
 
@@ -18,7 +18,7 @@ use state::{State, Step};
 // The first state of a row: nothing is drained and nothing required.
 fn first_at(row_conditions: &[u16], row_weights: &[u64], rows: &[[u16; 3]], row: usize) -> State
     requires { Inside 0 rows.now (length row_conditions.now) × (length row_weights.now ≡ length row_conditions.now) × Rising 1 rows.now × (row < length rows.now)
-        × (total (terms (stretchBy 0 rows.now row row_conditions.now) (stretchBy 0 rows.now row row_weights.now)) < roomLimit) }
+        × (total (terms (stretch_by 0 rows.now row row_conditions.now) (stretch_by 0 rows.now row row_weights.now)) < room_limit) }
     ensures { result ≡ first_at row_conditions.now row_weights.now rows.now row }
 {
     let a = rows::terms_start(rows, row);
@@ -37,10 +37,10 @@ pub fn first_states(
     cursors: &mut [[usize; 5]],
 )
     requires { Inside 0 rows.now (length row_conditions.now) × (length row_weights.now ≡ length row_conditions.now) × Rising 1 rows.now × (length rows.now ≤ 1024)
-        × Totals (roomLimit) row_conditions.now row_weights.now rows.now × (length rows.now ≤ length (statesOf figures.old cursors.old)) }
+        × Totals (room_limit) row_conditions.now row_weights.now rows.now × (length rows.now ≤ length (states_of figures.old cursors.old)) }
     ensures { ((x : Index) (bs : List ℤ) (ns : List ℕ) → Shaped (held_rows row_conditions.now row_weights.now rows.now bs ns)
         → Holds x (held_rows row_conditions.now row_weights.now rows.now bs ns)
-        → statesOf figures.new cursors.new ≡ firstStates 0 x.rows (statesOf figures.old cursors.old))
+        → states_of figures.new cursors.new ≡ first_states 0 x.rows (states_of figures.old cursors.old))
         × (Tidy figures.old cursors.old → Tidy figures.new cursors.new) }
 {
     let mut at: usize = 0;
@@ -67,11 +67,11 @@ pub fn seed_thresholds(
     rings: Rings,
 ) -> Did
     requires shaped { Shaped (held_rows row_conditions.now row_weights.now rows.now guard_bounds.now guard_nodes.now) }
-    requires ready_live { ReadyLive (held_rows row_conditions.now row_weights.now rows.now guard_bounds.now guard_nodes.now) figureLimit
+    requires ready_live { ReadyLive (held_rows row_conditions.now row_weights.now rows.now guard_bounds.now guard_nodes.now) figure_limit
         (live_of figures.old cursors.old sure.old never.old node_queue.old row_queues.old rings) }
     ensures { ((x : Index) → Holds x (held_rows row_conditions.now row_weights.now rows.now guard_bounds.now guard_nodes.now)
         → did (live_of figures.new cursors.new sure.new never.new node_queue.new row_queues.new result.rings) result.step
-        ≡ seedFrom x 0 x.rows (live_of figures.old cursors.old sure.old never.old node_queue.old row_queues.old rings) Step.Unchanged)
+        ≡ seed_from x 0 x.rows (live_of figures.old cursors.old sure.old never.old node_queue.old row_queues.old rings) Step.Unchanged)
         × (Tidy figures.old cursors.old → Tidy figures.new cursors.new) }
 {
     let mut row: usize = 0;

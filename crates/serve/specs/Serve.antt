@@ -1,6 +1,6 @@
 -- What the buffers hold of a file behind its seal, what a record comes to there, and how far the records were taken.
 use Rattle.std.specs.Prelude.{ℕ, ◌≤◌, ◌≡◌, true, List, [], length, drop, eqb, ℤ}
-use Rattle.memory.specs.Ranges.{rawLimit}
+use Rattle.memory.specs.Ranges.{raw_limit}
 use Rattle.memory.specs.Buffers.{Built, Kept}
 use Rattle.base.specs.Columns.{column}
 use Rattle.base.specs.Laid.{over, quads}
@@ -20,14 +20,14 @@ use Rattle.drain.specs.Sift.{Sifted}
 use Rattle.records.specs.declared.Record.{Record}
 use Rattle.records.specs.declared.Record.TheVariants.{Header, Opens, Adds, Areas, Seal, Mark, Settle, Sift, Unknown}
 use Rattle.records.specs.declared.Standing.{Standing}
-use Rattle.job.specs.JobBuffers.{builtOf}
-use Rattle.files.specs.File.{File, sifted, standing, refusal, Outcome, readFrom}
+use Rattle.job.specs.JobBuffers.{built_of}
+use Rattle.files.specs.File.{File, sifted, standing, refusal, Outcome, read_from}
 use Rattle.theorem_limits.specs.Good.{Fits, Light, Good}
 use Rattle.theorem_keeps.specs.Serves.{Fresh}
 use Rattle.theorem_keeps.specs.Tries.{Scratch}
 use Rattle.theorem_holds.specs.Lent.{bounds_of, lent_of, Lendable, Serving}
 use Rattle.serve.specs.declared.Reached.{Reached}
-use Rattle.answers.specs.Answers.{answersOf}
+use Rattle.answers.specs.Answers.{answers_of}
 
 -- THE BUFFERS OF A FILE
 
@@ -35,15 +35,15 @@ use Rattle.answers.specs.Answers.{answersOf}
 pub record Lent (bs : List ℤ) (b : Built) (f : File) : Type 0 where
   pub job : Job
   pub fits : Fits job
-  pub light : Light rawLimit job
+  pub light : Light raw_limit job
   pub from : Built
   pub lendable : Lendable from
-  pub built : b ≡ lent_of job (builtOf job from)
+  pub built : b ≡ lent_of job (built_of job from)
   pub bounds : bs ≡ bounds_of job
   pub serving : Serving job from f
 
 abbrev pub live_in : Kept → Rings → Live
-live_in k rings = live_of k.figures k.cursors k.sure k.never k.node-queue k.row-queues rings
+live_in k rings = live_of k.figures k.cursors k.sure k.never k.node_queue k.row_queues rings
 
 -- The live state, the gcds and the answers, these laid over what stood in their buffer; the search's words are clear.
 pub record Lies (base : List (List ℕ)) (f : File) (k : Kept) (rings : Rings) : Type 0 where
@@ -51,21 +51,21 @@ pub record Lies (base : List (List ℕ)) (f : File) (k : Kept) (rings : Rings) :
   pub tidy : Tidy k.figures k.cursors
   pub gcds : k.gcds ≡ f.gcds
   pub scratch : Scratch k.gcds k.search
-  pub answers : k.answers ≡ over (answersOf f.answers) base
+  pub answers : k.answers ≡ over (answers_of f.answers) base
   pub room : 64 ≤ length base
 
 -- A job whose seal comes next: what `build` made of it is lent on, and memory can be sealed.
 pub record Seals (bs : List ℤ) (b : Built) (f : File) : Type 0 where
   pub good : Good f
-  pub light : Light rawLimit (job_of f.draft)
+  pub light : Light raw_limit (job_of f.draft)
   pub from : Built
   pub lendable : Lendable from
-  pub built : b ≡ lent_of (job_of f.draft) (builtOf (job_of f.draft) from)
+  pub built : b ≡ lent_of (job_of f.draft) (built_of (job_of f.draft) from)
   pub bounds : bs ≡ bounds_of (job_of f.draft)
   pub fresh : Fresh b f.live
 
-abbrev pub noRings : Rings
-noRings = record { nodes = ring 0 0; rows = ring 0 0; residuals = ring 0 0 }
+abbrev pub no_rings : Rings
+no_rings = record { nodes = ring 0 0; rows = ring 0 0; residuals = ring 0 0 }
 
 -- ONE RECORD
 
@@ -131,8 +131,8 @@ pub record Reaches (bounds : List ℤ) (b : Built) (base : List (List ℕ)) (k :
   pub at : r.at ≡ o.at
 
 -- The records of an input from an offset on, at most so many.
-abbrev pub readAt : ℕ → List ℕ → ℕ → File → Outcome
-readAt n input at f = readFrom n at (drop at input) f []
+abbrev pub read_at : ℕ → List ℕ → ℕ → File → Outcome
+read_at n input at f = read_from n at (drop at input) f []
 
 -- Buffers as long as they were.
 pub record Same (k₀ k : Kept) : Type 0 where
@@ -142,8 +142,8 @@ pub record Same (k₀ k : Kept) : Type 0 where
   pub never : length k.never ≡ length k₀.never
   pub search : length k.search ≡ length k₀.search
   pub gcds : length k.gcds ≡ length k₀.gcds
-  pub node-queue : length k.node-queue ≡ length k₀.node-queue
-  pub row-queues : length k.row-queues ≡ length k₀.row-queues
+  pub node_queue : length k.node_queue ≡ length k₀.node_queue
+  pub row_queues : length k.row_queues ≡ length k₀.row_queues
   pub answers : length k.answers ≡ length k₀.answers
 
 -- Slots of four numbers.

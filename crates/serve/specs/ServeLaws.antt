@@ -3,7 +3,7 @@
 use Rattle.std.specs.Prelude.{ℕ, ◌+◌, ◌-◌, ◌<◌, ◌≤◌, ◌≡◌, refl, List, [], ◌++◌, length, get_or, drop, eqb, ℤ}
 use Rattle.std.proofs.Common.{not-suc-le-zero, arith, subst, ◌∙◌, append-nil, length-append, length-drop, leb-false}
 use Rattle.std.proofs.Math.Path.{sym, ap, ap₂}
-use Rattle.memory.specs.Limits.{maxNodes}
+use Rattle.memory.specs.Limits.{max_nodes}
 use Rattle.memory.specs.Buffers.{Built, Kept}
 use Rattle.base.specs.Laid.{over}
 use Rattle.numeric.specs.Area as Area
@@ -11,42 +11,42 @@ use Rattle.numeric.specs.Threshold.{Job}
 use Rattle.state.specs.declared.Step.{Step}
 use Rattle.queues.specs.declared.Rings.{Rings}
 use Rattle.queues.specs.Queue.{oldest}
-use Rattle.queues.specs.Marks.{isDecided}
+use Rattle.queues.specs.Marks.{is_decided}
 use Rattle.rows.specs.Rows.{no_row}
 use Rattle.searches.specs.declared.Search.{Search}
 use Rattle.searches.specs.declared.Search.TheVariants.{Skipped, Fits, Nothing, Cut}
-use Rattle.searches.specs.Search.{search, searchVisits}
-use Rattle.searches.specs.SearchLaws.{search-visits}
-use Rattle.row_moves.specs.Between.{Index, Live, live, Did, stateAt}
+use Rattle.searches.specs.Search.{search, search_visits}
+use Rattle.searches.specs.SearchLaws.{search_visits_lem}
+use Rattle.row_moves.specs.Between.{Index, Live, live, Did, state_at}
 use Rattle.row_moves.specs.Numbers.{Tidy}
 use Rattle.drain.specs.Drain as Drain
 use Rattle.drain.specs.Drain.{index_of}
 use Rattle.drain.specs.Sift as Sift
-use Rattle.drain.specs.Sift.{Sifted, tryRow}
-use Rattle.drain.specs.SiftLaws.{try-ends, sift-keeps}
-use Rattle.drain.specs.Steps.{tryTerms, tryResidual, trySearch}
+use Rattle.drain.specs.Sift.{Sifted, try_row}
+use Rattle.drain.specs.SiftLaws.{try_ends, sift_keeps}
+use Rattle.drain.specs.Steps.{try_terms, try_residual, try_search}
 use Rattle.records.specs.declared.Record.{Record}
 use Rattle.records.specs.declared.Record.TheVariants.{Header, Opens, Adds, Areas, Seal, Mark, Settle, Sift, Unknown}
 use Rattle.records.specs.declared.Standing.{Standing}
 use Rattle.checks.specs.declared.Next.{Next}
 use Rattle.checks.specs.declared.Next.TheVariants.{Refused, Taken}
-use Rattle.records.specs.Record.{bodyLength}
+use Rattle.records.specs.Record.{body_length}
 use Rattle.checks.specs.Next.{next_at}
 use Rattle.records.specs.At.{kind_at}
 use Rattle.records.specs.Facts.{adds}
-use Rattle.files.specs.File.{File, Answer, sifted, standing, refusal, told, markedFile, settledFile, siftedFile, act, apply, Outcome, outcome}
-use Rattle.theorem_limits.specs.FilesLaws.{both, taken, building-turn, change-turn}
-use Rattle.theorem_limits.specs.SizeLaws.{row-terms-few}
+use Rattle.files.specs.File.{File, Answer, sifted, standing, refusal, told, marked_file, settled_file, sifted_file, act, apply, Outcome, outcome}
+use Rattle.theorem_limits.specs.FilesLaws.{both, taken, building_turn, change_turn}
+use Rattle.theorem_limits.specs.SizeLaws.{row-terms_few}
 use Rattle.theorem_keeps.specs.Serves.{Serves, Going}
 use Rattle.theorem_keeps.specs.Tries.{Short}
-use Rattle.theorem_keeps.specs.SiftingLaws.{scratch-next}
+use Rattle.theorem_keeps.specs.SiftingLaws.{scratch_next}
 use Rattle.theorem_holds.specs.ServedLaws.{Served}
 use Rattle.theorem_holds.specs.LentLaws.{served-built}
-use Rattle.theorem_holds.specs.FilesLaws.{serving-apply}
+use Rattle.theorem_holds.specs.FilesLaws.{serving_apply}
 use Rattle.serve.specs.declared.Reached.{Reached}
-use Rattle.serve.specs.Serve.{Lent, live_in, Lies, Asks, plain, came, Takes, stood, Reaches, readAt}
-use Rattle.answers.specs.Answers.{answersOf, answered}
-use Rattle.serve.specs.ReadLaws.{ended, refused-next, taken_next, known_next, read_goes, read-stops, read_none}
+use Rattle.serve.specs.Serve.{Lent, live_in, Lies, Asks, plain, came, Takes, stood, Reaches, read_at}
+use Rattle.answers.specs.Answers.{answers_of, answered}
+use Rattle.serve.specs.ReadLaws.{ended, refused_next, taken_next, known_next, read_goes, read_stops, read_none}
 
 -- ---- what the seal built serves
 
@@ -54,20 +54,20 @@ module _ (bs : List ℤ) (b : Built) (f : File) (l : Lent bs b f) where
   served : Served l.job b
   served = subst (Served l.job) (sym l.built) (served-built l.job l.fits l.light l.from l.lendable)
 
-  pub lent-serves : Serves (index_of f.closed) bs b
-  lent-serves =
+  pub lent_serves : Serves (index_of f.closed) bs b
+  lent_serves =
       subst (λ (j : Job). Serves (index_of j) bs b) (sym l.serving.closed)
       (subst (λ (z : List ℤ). Serves (index_of l.job) z b) (sym l.bounds) served.serves)
 
-  pub lent-short : Short b.held.rows
-  lent-short = served.short
+  pub lent_short : Short b.held.rows
+  lent_short = served.short
 
-  pub lent-going : Going b.held b.nodes f.live
-  lent-going = subst (λ (z : Built). Going z.held z.nodes f.live) (sym l.built) l.serving.going
+  pub lent_going : Going b.held b.nodes f.live
+  lent_going = subst (λ (z : Built). Going z.held z.nodes f.live) (sym l.built) l.serving.going
 
   -- BEHIND A RECORD THAT IS TAKEN it still does.
-  pub lent-apply : (r : Record) → refusal f r ≡ 0 → Lent bs b (apply f r)
-  lent-apply r h = record {
+  pub lent_apply : (r : Record) → refusal f r ≡ 0 → Lent bs b (apply f r)
+  lent_apply r h = record {
     job = l.job;
     fits = l.fits;
     light = l.light;
@@ -75,23 +75,23 @@ module _ (bs : List ℤ) (b : Built) (f : File) (l : Lent bs b f) where
     lendable = l.lendable;
     built = l.built;
     bounds = l.bounds;
-    serving = serving-apply l.job l.fits l.light l.from l.lendable f l.serving r h;
+    serving = serving_apply l.job l.fits l.light l.from l.lendable f l.serving r h;
   }
 
-  pub mark-small : (n v : ℕ) → refusal f (Mark n v) ≡ 0 → n < maxNodes
-  mark-small n v h = omega (arith, leb-false f.draft.nodes n (taken f (Mark n v) h).nodes, l.serving.good.draft.nodes)
+  pub mark_small : (n v : ℕ) → refusal f (Mark n v) ≡ 0 → n < max_nodes
+  mark_small n v h = omega (arith, leb-false f.draft.nodes n (taken f (Mark n v) h).nodes, l.serving.good.draft.nodes)
 
   -- NO OTHER RECORD PASSES THE CHECKS, one of an unknown kind left aside.
-  pub only-asks : (r : Record) → (r ≡ Unknown → ⊥) → refusal f r ≡ 0 → Asks r
-  only-asks (Header n) u h = both l.serving.sealed (l.serving.good.unstarted (taken f (Header n) h).turn)
-  only-asks (Opens n z) u h = both l.serving.sealed (building-turn f (taken f (Opens n z) h).turn).1
-  only-asks (Adds c w) u h = both l.serving.sealed (change-turn f (adds (Area.plain c w)) (taken f (Adds c w) h)).1
-  only-asks (Areas c a) u h = both l.serving.sealed (change-turn f (adds (Area.area c a)) (taken f (Areas c a) h)).1
-  only-asks Seal u h = both l.serving.sealed (building-turn f (taken f Seal h).turn).1
-  only-asks (Mark n v) u h = tt
-  only-asks Settle u h = tt
-  only-asks Sift u h = tt
-  only-asks Unknown u h = u refl
+  pub only_asks : (r : Record) → (r ≡ Unknown → ⊥) → refusal f r ≡ 0 → Asks r
+  only_asks (Header n) u h = both l.serving.sealed (l.serving.good.unstarted (taken f (Header n) h).turn)
+  only_asks (Opens n z) u h = both l.serving.sealed (building_turn f (taken f (Opens n z) h).turn).1
+  only_asks (Adds c w) u h = both l.serving.sealed (change_turn f (adds (Area.plain c w)) (taken f (Adds c w) h)).1
+  only_asks (Areas c a) u h = both l.serving.sealed (change_turn f (adds (Area.area c a)) (taken f (Areas c a) h)).1
+  only_asks Seal u h = both l.serving.sealed (building_turn f (taken f Seal h).turn).1
+  only_asks (Mark n v) u h = tt
+  only_asks Settle u h = tt
+  only_asks Sift u h = tt
+  only_asks Unknown u h = u refl
 
 -- ---- what a record comes to
 
@@ -110,56 +110,56 @@ module _ (f : File) (v : Live) (gs : List ℕ) (e : v ≡ f.live) (g : gs ≡ f.
 
 -- A record that can be taken: what the code's callees require, and that what they make is what it comes to.
 module _ (bs : List ℤ) (b : Built) (f : File) (r : Record) (v : Live) (gs words : List ℕ) (t : Takes bs b f r v gs words) where
-  pub takes-going : Going b.held b.nodes v
-  takes-going = subst (Going b.held b.nodes) (sym t.live) (lent-going bs b f t.lent)
+  pub takes_going : Going b.held b.nodes v
+  takes_going = subst (Going b.held b.nodes) (sym t.live) (lent_going bs b f t.lent)
 
-  pub takes-serves : (x : Index) × Serves x bs b
-  takes-serves = (index_of f.closed, lent-serves bs b f t.lent)
+  pub takes_serves : (x : Index) × Serves x bs b
+  takes_serves = (index_of f.closed, lent_serves bs b f t.lent)
 
-  pub takes-short : Short b.held.rows
-  takes-short = lent-short bs b f t.lent
+  pub takes_short : Short b.held.rows
+  takes_short = lent_short bs b f t.lent
 
-  pub took-mark : (n i : ℕ) → r ≡ Mark n i → (o : Did) → o ≡ Drain.mark v n (eqb i 1) → plain o gs ≡ came f r
-  took-mark n i e o made = mark-came f v gs t.live t.gcds n i o made ∙ ap (came f) (sym e)
+  pub took_mark : (n i : ℕ) → r ≡ Mark n i → (o : Did) → o ≡ Drain.mark v n (eqb i 1) → plain o gs ≡ came f r
+  took_mark n i e o made = mark-came f v gs t.live t.gcds n i o made ∙ ap (came f) (sym e)
 
-  pub takes-mark : (n i : ℕ) → r ≡ Mark n i → n < maxNodes
-  takes-mark n i e = mark-small bs b f t.lent n i (ap (refusal f) (sym e) ∙ t.passed)
+  pub takes_mark : (n i : ℕ) → r ≡ Mark n i → n < max_nodes
+  takes_mark n i e = mark_small bs b f t.lent n i (ap (refusal f) (sym e) ∙ t.passed)
 
-  pub took-settle : r ≡ Settle → (o : Did) → ((x : Index) → Serves x bs b → o ≡ Drain.settle x v) → plain o gs ≡ came f r
-  took-settle e o made = settle-came f v gs t.live t.gcds o (made (index_of f.closed) (lent-serves bs b f t.lent)) ∙ ap (came f) (sym e)
+  pub took_settle : r ≡ Settle → (o : Did) → ((x : Index) → Serves x bs b → o ≡ Drain.settle x v) → plain o gs ≡ came f r
+  took_settle e o made = settle-came f v gs t.live t.gcds o (made (index_of f.closed) (lent_serves bs b f t.lent)) ∙ ap (came f) (sym e)
 
-  pub took-sift : r ≡ Sift → (o : Sifted) → ((x : Index) → Serves x bs b → o ≡ Sift.sift x v gs) → o ≡ came f r
-  took-sift e o made = sift-came f v gs t.live t.gcds o (made (index_of f.closed) (lent-serves bs b f t.lent)) ∙ ap (came f) (sym e)
+  pub took_sift : r ≡ Sift → (o : Sifted) → ((x : Index) → Serves x bs b → o ≡ Sift.sift x v gs) → o ≡ came f r
+  took_sift e o made = sift-came f v gs t.live t.gcds o (made (index_of f.closed) (lent_serves bs b f t.lent)) ∙ ap (came f) (sym e)
 
 -- ---- visits fit
 
 module _ (x : Index) (short : (r : ℕ) → length (get_or x.rows r no_row).terms ≤ 1024) where
-  few : (s : Search) (n m : ℕ) → n ≤ m → searchVisits 0 s ≤ m → searchVisits n s ≤ m
+  few : (s : Search) (n m : ℕ) → n ≤ m → search_visits 0 s ≤ m → search_visits n s ≤ m
   few Skipped n m h k = h
   few (Fits i) n m h k = k
   few (Nothing i) n m h k = k
   few (Cut i) n m h k = k
 
-  try-visits : (v : Live) (gcds : List ℕ) (n : ℕ) → n ≤ 4096 → (tryRow x v gcds n).visits ≤ 4096
+  try-visits : (v : Live) (gcds : List ℕ) (n : ℕ) → n ≤ 4096 → (try_row x v gcds n).visits ≤ 4096
   try-visits v gcds n h =
       let r = oldest v.residuals.queue in
-      try-ends x v gcds n (λ (t : Sifted). t.visits ≤ 4096)
-      (λ e. few (trySearch x v gcds) n 4096 h (omega (arith, search-visits (tryTerms x v) (stateAt v r) (isDecided (tryResidual x v gcds).marks), short r))) (λ e. h)
+      try_ends x v gcds n (λ (t : Sifted). t.visits ≤ 4096)
+      (λ e. few (try_search x v gcds) n 4096 h (omega (arith, search_visits_lem (try_terms x v) (state_at v r) (is_decided (try_residual x v gcds).marks), short r))) (λ e. h)
 
-  sift-visits : (v : Live) (gcds : List ℕ) → (Sift.sift x v gcds).visits ≤ 4096
-  sift-visits v gcds = sift-keeps x (λ (u : Live) (g : List ℕ) (m : ℕ). m ≤ 4096) (λ u g m h. h) (λ u g m e h. try-visits u g m h) v gcds (omega arith)
+  sift_visits : (v : Live) (gcds : List ℕ) → (Sift.sift x v gcds).visits ≤ 4096
+  sift_visits v gcds = sift_keeps x (λ (u : Live) (g : List ℕ) (m : ℕ). m ≤ 4096) (λ u g m h. h) (λ u g m e h. try-visits u g m h) v gcds (omega arith)
 
-pub came-visits : (bs : List ℤ) (b : Built) (f : File) → Lent bs b f → (r : Record) → (came f r).visits ≤ 4096
+pub came_visits : (bs : List ℤ) (b : Built) (f : File) → Lent bs b f → (r : Record) → (came f r).visits ≤ 4096
 unfolding came
-came-visits bs b f l (Header n) = omega arith
-came-visits bs b f l (Opens n z) = omega arith
-came-visits bs b f l (Adds c w) = omega arith
-came-visits bs b f l (Areas c a) = omega arith
-came-visits bs b f l Seal = omega arith
-came-visits bs b f l (Mark n v) = omega arith
-came-visits bs b f l Settle = omega arith
-came-visits bs b f l Sift = sift-visits (index_of f.closed) (row-terms-few f.closed l.serving.good.closed) f.live f.gcds
-came-visits bs b f l Unknown = omega arith
+came_visits bs b f l (Header n) = omega arith
+came_visits bs b f l (Opens n z) = omega arith
+came_visits bs b f l (Adds c w) = omega arith
+came_visits bs b f l (Areas c a) = omega arith
+came_visits bs b f l Seal = omega arith
+came_visits bs b f l (Mark n v) = omega arith
+came_visits bs b f l Settle = omega arith
+came_visits bs b f l Sift = sift_visits (index_of f.closed) (row-terms_few f.closed l.serving.good.closed) f.live f.gcds
+came_visits bs b f l Unknown = omega arith
 
 -- ---- answers in their places
 
@@ -168,57 +168,57 @@ came-visits bs b f l Unknown = omega arith
 abbrev behind : File → Record → Sifted → File
 behind f r c = told f f.closed c.step c.live c.gcds (f.answers ++ answered r c.step c.visits)
 
-came-applied : (f : File) (r : Record) → Asks r → apply f r ≡ behind f r (came f r)
-unfolding came apply act markedFile settledFile siftedFile
-came-applied f (Mark n v) a =
+came_applied : (f : File) (r : Record) → Asks r → apply f r ≡ behind f r (came f r)
+unfolding came apply act marked_file settled_file sifted_file
+came_applied f (Mark n v) a =
     let d = Drain.mark f.live n (eqb v 1) in
     ap (λ (t : List Answer). told f f.closed d.step d.live f.gcds t) (sym (append-nil f.answers))
-came-applied f Settle a = refl
-came-applied f Sift a = refl
+came_applied f Settle a = refl
+came_applied f Sift a = refl
 
 module _ (bs : List ℤ) (b : Built) (base : List (List ℕ)) (f : File) (k : Kept) (at : Reached) (z : Reaches bs b base k at (outcome f [] 0 at.at)) (r : Record) (asks : Asks r) (passed : refusal f r ≡ 0) where
-  pub record-takes : Takes bs b f r (live_in k at.rings) k.gcds k.search
-  record-takes = record { lent = z.lent; live = z.lies.live; gcds = z.lies.gcds; scratch = z.lies.scratch; asks = asks; passed = passed }
+  pub record_takes : Takes bs b f r (live_in k at.rings) k.gcds k.search
+  record_takes = record { lent = z.lent; live = z.lies.live; gcds = z.lies.gcds; scratch = z.lies.scratch; asks = asks; passed = passed }
 
   -- An answer has room.
-  pub record-room : (step : Step) (visits : ℕ) → 0 < length (answered r step visits) → at.standing.answers < 64
-  record-room step visits h = subst (λ (s : Standing). s.answers < 64) (sym z.standing) (by r asks passed h)
+  pub record_room : (step : Step) (visits : ℕ) → 0 < length (answered r step visits) → at.standing.answers < 64
+  record_room step visits h = subst (λ (s : Standing). s.answers < 64) (sym z.standing) (by r asks passed h)
     where
       by : (q : Record) → Asks q → refusal f q ≡ 0 → 0 < length (answered q step visits) → length f.answers < 64
       by (Mark n i) a p k = absurd (not-suc-le-zero k)
       by Settle a p k = leb-false 64 (length f.answers) (taken f Settle p).room
       by Sift a p k = leb-false 64 (length f.answers) (taken f Sift p).room
 
-  pub record-long : 64 ≤ length k.answers
-  record-long =
-      let l = answersOf f.answers in
+  pub record_long : 64 ≤ length k.answers
+  record_long =
+      let l = answers_of f.answers in
       omega (arith, z.lies.room, ap (λ (y : List (List ℕ)). length y) z.lies.answers, length-append l (drop (length l) base), length-drop (length l) base)
 
   module _ (m : Kept) (rings : Rings) (step : Step) (visits : ℕ) (made : Sift.sifted (live_in m rings) m.gcds step visits ≡ came f r) where
-    pub record-visits : visits ≤ 4096
-    record-visits = subst (λ (n : ℕ). n ≤ 4096) (sym (ap (λ (c : Sifted). c.visits) made)) (came-visits bs b f z.lent r)
+    pub record_visits : visits ≤ 4096
+    record_visits = subst (λ (n : ℕ). n ≤ 4096) (sym (ap (λ (c : Sifted). c.visits) made)) (came_visits bs b f z.lent r)
 
     g : File
     g = apply f r
 
     whole : g ≡ behind f r (Sift.sifted (live_in m rings) m.gcds step visits)
     unfolding g
-    whole = came-applied f r asks ∙ ap (behind f r) (sym made)
+    whole = came_applied f r asks ∙ ap (behind f r) (sym made)
 
     -- ALL OF IT IS THE FILE'S
-    pub record-reaches : Tidy m.figures m.cursors → length m.gcds ≡ length k.gcds → m.search ≡ k.search
-        → m.answers ≡ over (answersOf (f.answers ++ answered r step visits)) base
+    pub record_reaches : Tidy m.figures m.cursors → length m.gcds ≡ length k.gcds → m.search ≡ k.search
+        → m.answers ≡ over (answers_of (f.answers ++ answered r step visits)) base
         → (o : Reached) → o.rings ≡ rings → o.last ≡ step → o.refused ≡ 0 → o.standing ≡ stood at.standing step (length (f.answers ++ answered r step visits))
         → Reaches bs b base m o (outcome (apply f r) [] 0 o.at)
     unfolding g
-    record-reaches tidy long same put o er el en es = record {
-      lent = lent-apply bs b f z.lent r passed;
+    record_reaches tidy long same put o er el en es = record {
+      lent = lent_apply bs b f z.lent r passed;
       lies = record {
         live = ap (live_in m) er ∙ sym (ap (λ (h : File). h.live) whole);
         tidy = tidy;
         gcds = sym (ap (λ (h : File). h.gcds) whole);
-        scratch = scratch-next k.gcds m.gcds k.search m.search long same z.lies.scratch;
-        answers = put ∙ ap (λ (h : File). over (answersOf h.answers) base) (sym whole);
+        scratch = scratch_next k.gcds m.gcds k.search m.search long same z.lies.scratch;
+        answers = put ∙ ap (λ (h : File). over (answers_of h.answers) base) (sym whole);
         room = z.lies.room;
       };
       standing = es ∙ ap (λ (s : Standing). stood s step (length (f.answers ++ answered r step visits))) z.standing
@@ -230,8 +230,8 @@ module _ (bs : List ℤ) (b : Built) (base : List (List ℕ)) (f : File) (k : Ke
 
 -- ---- the next record of the input
 
-pub reaches-ended : (bs : List ℤ) (b : Built) (base : List (List ℕ)) (k : Kept) (r : Reached) (o p : Outcome) → ended o ≡ ended p → Reaches bs b base k r o → Reaches bs b base k r p
-reaches-ended bs b base k r o p e z = open_up (subst (Reaches bs b base k r) e (record { lent = z.lent; lies = z.lies; standing = z.standing; last = z.last; refused = z.refused; at = z.at }))
+pub reaches_ended : (bs : List ℤ) (b : Built) (base : List (List ℕ)) (k : Kept) (r : Reached) (o p : Outcome) → ended o ≡ ended p → Reaches bs b base k r o → Reaches bs b base k r p
+reaches_ended bs b base k r o p e z = open_up (subst (Reaches bs b base k r) e (record { lent = z.lent; lies = z.lies; standing = z.standing; last = z.last; refused = z.refused; at = z.at }))
   where
     open_up : Reaches bs b base k r (ended p) → Reaches bs b base k r p
     open_up y = record { lent = y.lent; lies = y.lies; standing = y.standing; last = y.last; refused = y.refused; at = y.at }
@@ -242,10 +242,10 @@ module _ (bs : List ℤ) (b : Built) (base : List (List ℕ)) (f : File) (k : Ke
   found = ap (λ (s : Standing). next_at s input at.at) (sym z.standing) ∙ sym made
 
   -- It is refused.
-  pub next-refused : (n : ℕ) → next ≡ Refused n → (o : Reached) → o.rings ≡ at.rings → o.standing ≡ at.standing → o.last ≡ at.last → o.refused ≡ n → o.at ≡ at.at
-      → Reaches bs b base k o (readAt 1 input at.at f)
-  next-refused n e o er es el en ea =
-      subst (Reaches bs b base k o) (sym (refused-next input at.at f h n (found ∙ e)))
+  pub next_refused : (n : ℕ) → next ≡ Refused n → (o : Reached) → o.rings ≡ at.rings → o.standing ≡ at.standing → o.last ≡ at.last → o.refused ≡ n → o.at ≡ at.at
+      → Reaches bs b base k o (read_at 1 input at.at f)
+  next_refused n e o er es el en ea =
+      subst (Reaches bs b base k o) (sym (refused_next input at.at f h n (found ∙ e)))
       (record {
         lent = z.lent;
         lies = subst (Lies base f k) (sym er) z.lies;
@@ -256,64 +256,64 @@ module _ (bs : List ℤ) (b : Built) (base : List (List ℕ)) (f : File) (k : Ke
       })
 
   -- It can be taken.
-  pub next-passed : (r : Record) → next ≡ Taken r → refusal f r ≡ 0
-  next-passed r e = (taken_next input at.at f h r (found ∙ e)).0
+  pub next_passed : (r : Record) → next ≡ Taken r → refusal f r ≡ 0
+  next_passed r e = (taken_next input at.at f h r (found ∙ e)).0
 
-  pub next-asks : (r : Record) → next ≡ Taken r → Asks r
-  next-asks r e = only-asks bs b f z.lent r (known_next input at.at f h r (found ∙ e)) (next-passed r e)
+  pub next_asks : (r : Record) → next ≡ Taken r → Asks r
+  next_asks r e = only_asks bs b f z.lent r (known_next input at.at f h r (found ∙ e)) (next_passed r e)
 
-  pub next-taken : (r : Record) → next ≡ Taken r → (m : Kept) (o : Reached) (behind : ℕ) → behind ≡ at.at + 1 + bodyLength (kind_at input at.at)
-      → Reaches bs b base m o (outcome (apply f r) [] 0 behind) → Reaches bs b base m o (readAt 1 input at.at f)
-  next-taken r e m o n q y =
-      reaches-ended bs b base m o (outcome (apply f r) [] 0 n) (readAt 1 input at.at f)
+  pub next_taken : (r : Record) → next ≡ Taken r → (m : Kept) (o : Reached) (behind : ℕ) → behind ≡ at.at + 1 + body_length (kind_at input at.at)
+      → Reaches bs b base m o (outcome (apply f r) [] 0 behind) → Reaches bs b base m o (read_at 1 input at.at f)
+  next_taken r e m o n q y =
+      reaches_ended bs b base m o (outcome (apply f r) [] 0 n) (read_at 1 input at.at f)
       (ap (outcome (apply f r) [] 0) q ∙ sym (taken_next input at.at f h r (found ∙ e)).2) y
 
 -- ---- THE LOOP: the records from here on are those from the start.
 
 pub record Loops (input : List ℕ) (bs : List ℤ) (b : Built) (k₀ : Kept) (r₀ : Reached) (k : Kept) (r : Reached) : Type 0 where
   pub so_far : (f : File) (base : List (List ℕ)) → Reaches bs b base k₀ r₀ (outcome f [] 0 r₀.at)
-      → (g : File) × Reaches bs b base k r (outcome g [] 0 r.at) × (ended (readAt (length input) input r.at g) ≡ ended (readAt (length input) input r₀.at f))
+      → (g : File) × Reaches bs b base k r (outcome g [] 0 r.at) × (ended (read_at (length input) input r.at g) ≡ ended (read_at (length input) input r₀.at f))
 
 module _ (input : List ℕ) (bs : List ℤ) (b : Built) (k₀ : Kept) (r₀ : Reached) where
-  pub loops-first : Loops input bs b k₀ r₀ k₀ r₀
-  loops-first = record { so_far = λ f base z. (f, z, refl) }
+  pub loops_first : Loops input bs b k₀ r₀ k₀ r₀
+  loops_first = record { so_far = λ f base z. (f, z, refl) }
 
   module _ (k : Kept) (r : Reached) (l : Loops input bs b k₀ r₀ k r) where
-    pub loops-end : length input ≤ r.at → (f : File) (base : List (List ℕ)) → Reaches bs b base k₀ r₀ (outcome f [] 0 r₀.at)
-        → Reaches bs b base k r (readAt (length input) input r₀.at f)
-    loops-end h f base z =
+    pub loops_end : length input ≤ r.at → (f : File) (base : List (List ℕ)) → Reaches bs b base k₀ r₀ (outcome f [] 0 r₀.at)
+        → Reaches bs b base k r (read_at (length input) input r₀.at f)
+    loops_end h f base z =
         let a = l.so_far f base z in
-        reaches-ended bs b base k r (outcome a.0 [] 0 r.at) (readAt (length input) input r₀.at f) (ap ended (sym (read_none (length input) input r.at a.0 h)) ∙ a.2) a.1
+        reaches_ended bs b base k r (outcome a.0 [] 0 r.at) (read_at (length input) input r₀.at f) (ap ended (sym (read_none (length input) input r.at a.0 h)) ∙ a.2) a.1
 
     -- One more was served.
     module _ (h : r.at < length input) (m : Kept) (o : Reached)
-        (made : (f : File) (base : List (List ℕ)) → Reaches bs b base k r (outcome f [] 0 r.at) → Reaches bs b base m o (readAt 1 input r.at f)) where
-      pub loops-stop : (o.refused ≡ 0 → ⊥) → (f : File) (base : List (List ℕ)) → Reaches bs b base k₀ r₀ (outcome f [] 0 r₀.at)
-          → Reaches bs b base m o (readAt (length input) input r₀.at f)
-      loops-stop s f base z =
+        (made : (f : File) (base : List (List ℕ)) → Reaches bs b base k r (outcome f [] 0 r.at) → Reaches bs b base m o (read_at 1 input r.at f)) where
+      pub loops_stop : (o.refused ≡ 0 → ⊥) → (f : File) (base : List (List ℕ)) → Reaches bs b base k₀ r₀ (outcome f [] 0 r₀.at)
+          → Reaches bs b base m o (read_at (length input) input r₀.at f)
+      loops_stop s f base z =
           let a = l.so_far f base z in
           let y = made a.0 base a.1 in
-          reaches-ended bs b base m o (readAt 1 input r.at a.0) (readAt (length input) input r₀.at f)
-          (sym (read-stops input r.at a.0 h (λ e. s (y.refused ∙ e))) ∙ a.2) y
+          reaches_ended bs b base m o (read_at 1 input r.at a.0) (read_at (length input) input r₀.at f)
+          (sym (read_stops input r.at a.0 h (λ e. s (y.refused ∙ e))) ∙ a.2) y
 
-      goes : o.refused ≡ 0 → (f : File) (base : List (List ℕ)) → Reaches bs b base m o (readAt 1 input r.at f) → (readAt 1 input r.at f).refused ≡ 0
+      goes : o.refused ≡ 0 → (f : File) (base : List (List ℕ)) → Reaches bs b base m o (read_at 1 input r.at f) → (read_at 1 input r.at f).refused ≡ 0
       goes e f base y = sym y.refused ∙ e
 
-      pub loops-next : o.refused ≡ 0 → Loops input bs b k₀ r₀ m o
-      loops-next e = record {
+      pub loops_next : o.refused ≡ 0 → Loops input bs b k₀ r₀ m o
+      loops_next e = record {
         so_far = λ f base z.
             let a = l.so_far f base z in
             let y = made a.0 base a.1 in
-            let one = readAt 1 input r.at a.0 in
+            let one = read_at 1 input r.at a.0 in
             let q = goes e a.0 base y in (
               one.file,
               record { lent = y.lent; lies = y.lies; standing = y.standing; last = y.last; refused = e; at = refl },
-              ap (λ (n : ℕ). ended (readAt (length input) input n one.file)) y.at ∙ sym (read_goes input r.at a.0 h q).1 ∙ a.2,
+              ap (λ (n : ℕ). ended (read_at (length input) input n one.file)) y.at ∙ sym (read_goes input r.at a.0 h q).1 ∙ a.2,
             );
       }
 
-      pub loops-less : o.refused ≡ 0 → (f : File) (base : List (List ℕ)) → Reaches bs b base k₀ r₀ (outcome f [] 0 r₀.at) → length input - o.at < length input - r.at
-      loops-less e f base z =
+      pub loops_less : o.refused ≡ 0 → (f : File) (base : List (List ℕ)) → Reaches bs b base k₀ r₀ (outcome f [] 0 r₀.at) → length input - o.at < length input - r.at
+      loops_less e f base z =
           let a = l.so_far f base z in
           let y = made a.0 base a.1 in
           omega (arith, y.at, (read_goes input r.at a.0 h (goes e a.0 base y)).0)

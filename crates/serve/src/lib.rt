@@ -1,14 +1,14 @@
 // The records after the seal: marks, settles and sifts over the buffers of Kept, up to the end of the input or the first that is
 // refused.
 ghost use Rattle.std.specs.Prelude.{◌≡◌, true, List, [], ℕ, ◌+◌, ◌<◌, ◌≤◌, length};
-ghost use Rattle.memory.specs.Buffers.{held_rows, built, kept, longestInput};
+ghost use Rattle.memory.specs.Buffers.{held_rows, built, kept, longest_input};
 ghost use Rattle.row_moves.specs.Numbers.{live_of, Tidy};
 ghost use Rattle.drain.specs.Sift.{sifted};
-ghost use Rattle.files.specs.File.{File, refusal, outcome, apply, standing as standingOf};
+ghost use Rattle.files.specs.File.{File, refusal, outcome, apply, standing as standing_of};
 ghost use Rattle.records.specs.declared.Record.TheVariants.{Seal};
 ghost use Rattle.checks.specs.declared.Next.TheVariants.{Taken};
 ghost use Rattle.checks.specs.Next.{next_at};
-ghost use Rattle.serve.specs.Serve.{Lies, Seals, Asks, came, Takes, stood as stands, Reaches, readAt, fourfold};
+ghost use Rattle.serve.specs.Serve.{Lies, Seals, Asks, came, Takes, stood as stands, Reaches, read_at, fourfold};
 
 use checks::Next;
 use queues::Rings;
@@ -242,12 +242,12 @@ fn serve_record(
 ) -> Reached
     requires { ((f : File) × (base : List (List ℕ)) × Reaches bounds.now (built (held_rows row_conditions.now row_weights.now rows.now guard_bounds.now guard_nodes.now) nodes.now edges.now links.now)
         base (kept figures.old cursors.old sure.old never.old search.old gcds.old node_queue.old row_queues.old answers.old) reached (outcome f [] 0 reached.at))
-        × (reached.at < length input.now) × (length input.now ≤ longestInput) }
+        × (reached.at < length input.now) × (length input.now ≤ longest_input) }
     ensures { (f : File) (base : List (List ℕ)) → Reaches bounds.now (built (held_rows row_conditions.now row_weights.now rows.now guard_bounds.now
         guard_nodes.now) nodes.now edges.now links.now)
         base (kept figures.old cursors.old sure.old never.old search.old gcds.old node_queue.old row_queues.old answers.old) reached (outcome f [] 0 reached.at)
         → Reaches bounds.now (built (held_rows row_conditions.now row_weights.now rows.now guard_bounds.now guard_nodes.now) nodes.now edges.now links.now)
-        base (kept figures.new cursors.new sure.new never.new search.new gcds.new node_queue.new row_queues.new answers.new) result (readAt 1 input.now reached.at f) }
+        base (kept figures.new cursors.new sure.new never.new search.new gcds.new node_queue.new row_queues.new answers.new) result (read_at 1 input.now reached.at f) }
 {
     let at = reached.at;
     let standing = reached.standing;
@@ -319,13 +319,13 @@ fn serve_records(
 ) -> Reached
     requires { ((f : File) × (base : List (List ℕ)) × Reaches bounds.now (built (held_rows row_conditions.now row_weights.now rows.now guard_bounds.now guard_nodes.now) nodes.now edges.now links.now)
         base (kept figures.old cursors.old sure.old never.old search.old gcds.old node_queue.old row_queues.old answers.old) first (outcome f [] 0 first.at))
-        × (length input.now ≤ longestInput) }
+        × (length input.now ≤ longest_input) }
     ensures { (f : File) (base : List (List ℕ)) → Reaches bounds.now (built (held_rows row_conditions.now row_weights.now rows.now guard_bounds.now
         guard_nodes.now) nodes.now edges.now links.now)
         base (kept figures.old cursors.old sure.old never.old search.old gcds.old node_queue.old row_queues.old answers.old) first (outcome f [] 0 first.at)
         → Reaches bounds.now (built (held_rows row_conditions.now row_weights.now rows.now guard_bounds.now guard_nodes.now) nodes.now edges.now links.now)
         base (kept figures.new cursors.new sure.new never.new search.new gcds.new node_queue.new row_queues.new
-        answers.new) result (readAt (length input.now) input.now first.at f) }
+        answers.new) result (read_at (length input.now) input.now first.at f) }
 {
     let mut reached = first;
     while reached.at < input.len() {
@@ -404,14 +404,14 @@ pub fn seal_and_serve(
     rings: Rings,
 ) -> Reached
     requires { ((f : File) × (base : List (List ℕ)) × Seals bounds.now (built (held_rows row_conditions.now row_weights.now rows.now guard_bounds.now guard_nodes.now) nodes.now edges.now links.now)
-        f × Lies base f (kept figures.old cursors.old sure.old never.old search.old gcds.old node_queue.old row_queues.old answers.old) rings × (standing ≡ standingOf f))
-        × (at < length input.now) × (next_at standing input.now at ≡ Taken Seal) × (length input.now ≤ longestInput) }
+        f × Lies base f (kept figures.old cursors.old sure.old never.old search.old gcds.old node_queue.old row_queues.old answers.old) rings × (standing ≡ standing_of f))
+        × (at < length input.now) × (next_at standing input.now at ≡ Taken Seal) × (length input.now ≤ longest_input) }
     ensures { ((f : File) (base : List (List ℕ)) → Seals bounds.now (built (held_rows row_conditions.now row_weights.now rows.now guard_bounds.now
         guard_nodes.now) nodes.now edges.now links.now)
-        f → Lies base f (kept figures.old cursors.old sure.old never.old search.old gcds.old node_queue.old row_queues.old answers.old) rings → standing ≡ standingOf f
+        f → Lies base f (kept figures.old cursors.old sure.old never.old search.old gcds.old node_queue.old row_queues.old answers.old) rings → standing ≡ standing_of f
         → Reaches bounds.now (built (held_rows row_conditions.now row_weights.now rows.now guard_bounds.now guard_nodes.now) nodes.now edges.now links.now)
         base (kept figures.new cursors.new sure.new never.new search.new gcds.new node_queue.new row_queues.new
-        answers.new) result (readAt (length input.now) input.now at f))
+        answers.new) result (read_at (length input.now) input.now at f))
         × (fourfold row_queues.new ≡ row_queues.new) }
 {
     let did = seal::seal(

@@ -1,11 +1,11 @@
 // The last phase of the call, over its own group of buffers, which it clears: the seal and the records after it.
 ghost use Rattle.std.specs.Prelude.{◌≡◌, true, ◌<◌, ◌≤◌, length};
-ghost use Rattle.memory.specs.Buffers.{held_rows, built, Kept, kept, longestInput};
-ghost use Rattle.files.specs.File.{File, standing as standingOf};
+ghost use Rattle.memory.specs.Buffers.{held_rows, built, Kept, kept, longest_input};
+ghost use Rattle.files.specs.File.{File, standing as standing_of};
 ghost use Rattle.records.specs.declared.Record.TheVariants.{Seal};
 ghost use Rattle.checks.specs.declared.Next.TheVariants.{Taken};
 ghost use Rattle.checks.specs.Next.{next_at};
-ghost use Rattle.serve.specs.Serve.{readAt};
+ghost use Rattle.serve.specs.Serve.{read_at};
 ghost use Rattle.serve_phase.specs.Phase.{KeptRoom, Blank, Stops, Sealable, Begins, ending, LeavesOn};
 
 use files::JobRead;
@@ -42,14 +42,14 @@ fn lend(
     rings: Rings,
 ) -> Reached
     requires { ((f : File) × (k : Kept) × Sealable bounds.now (built (held_rows row_conditions.now row_weights.now rows.now guard_bounds.now guard_nodes.now) nodes.now edges.now links.now)
-        f row_count × Begins k f (kept figures.old cursors.old sure.old never.old search.old gcds.old node_queue.old row_queues.old answers.old) rings × (standing ≡ standingOf f))
-        × (at < length input.now) × (next_at standing input.now at ≡ Taken Seal) × (length input.now ≤ longestInput) }
+        f row_count × Begins k f (kept figures.old cursors.old sure.old never.old search.old gcds.old node_queue.old row_queues.old answers.old) rings × (standing ≡ standing_of f))
+        × (at < length input.now) × (next_at standing input.now at ≡ Taken Seal) × (length input.now ≤ longest_input) }
     ensures { (f : File) (k : Kept) → Sealable bounds.now (built (held_rows row_conditions.now row_weights.now rows.now guard_bounds.now
         guard_nodes.now) nodes.now edges.now links.now)
         f row_count → Begins k f (kept figures.old cursors.old sure.old never.old search.old gcds.old node_queue.old
-        row_queues.old answers.old) rings → standing ≡ standingOf f
+        row_queues.old answers.old) rings → standing ≡ standing_of f
         → LeavesOn k (kept figures.new cursors.new sure.new never.new search.new gcds.new node_queue.new row_queues.new
-        answers.new) result (readAt (length input.now) input.now at f) }
+        answers.new) result (read_at (length input.now) input.now at f) }
 {
     let node_count = standing.nodes;
     let many = standing.thresholds;
@@ -103,10 +103,10 @@ pub fn serve(
     read: JobRead,
     row_count: usize,
 ) -> Reached
-    requires { KeptRoom (kept figures.old cursors.old sure.old never.old search.old gcds.old node_queue.old row_queues.old answers.old) × (length input.now ≤ longestInput)
+    requires { KeptRoom (kept figures.old cursors.old sure.old never.old search.old gcds.old node_queue.old row_queues.old answers.old) × (length input.now ≤ longest_input)
         × (read.sealing ≡ true → ((f : File) × Stops bounds.now (built (held_rows row_conditions.now row_weights.now rows.now guard_bounds.now guard_nodes.now) nodes.now edges.now links.now)
-        f row_count × Blank f × (read.standing ≡ standingOf f)) × (read.at < length input.now) × (next_at read.standing input.now read.at ≡ Taken Seal)) }
-    ensures { (f : File) → Blank f → read.standing ≡ standingOf f → (read.sealing ≡ true → Stops bounds.now (built (held_rows row_conditions.now row_weights.now
+        f row_count × Blank f × (read.standing ≡ standing_of f)) × (read.at < length input.now) × (next_at read.standing input.now read.at ≡ Taken Seal)) }
+    ensures { (f : File) → Blank f → read.standing ≡ standing_of f → (read.sealing ≡ true → Stops bounds.now (built (held_rows row_conditions.now row_weights.now
         rows.now guard_bounds.now guard_nodes.now) nodes.now edges.now links.now)
         f row_count) → LeavesOn (kept figures.old cursors.old sure.old never.old search.old gcds.old node_queue.old row_queues.old
         answers.old) (kept figures.new cursors.new sure.new never.new search.new gcds.new node_queue.new row_queues.new

@@ -1,14 +1,14 @@
 // Draining over the buffers: `settle` of regions.rs with its turns. Nodes come before rows, each in the order in which they were queued.
 ghost use Rattle.std.specs.Prelude.{◌≡◌, not, ◌&&◌, List, ℕ, ◌<◌, eqb, length};
-ghost use Rattle.memory.specs.Ranges.{figureLimit};
+ghost use Rattle.memory.specs.Ranges.{figure_limit};
 ghost use Rattle.memory.specs.Buffers.{held_rows, built};
 ghost use Rattle.queues.specs.Queue.{queue, oldest};
-ghost use Rattle.queues.specs.Slot.{rowsIn};
+ghost use Rattle.queues.specs.Slot.{rows_in};
 ghost use Rattle.row_moves.specs.Between.{Index, did};
 ghost use Rattle.row_moves.specs.Numbers.{Tidy, live_of};
 ghost use Rattle.row_moves.specs.Held.{Shaped, LinksShaped, Holds, HoldsLinks};
 ghost use Rattle.row_moves.specs.Ready.{Runnable};
-ghost use Rattle.drain.specs.Drain.{takeNode, take_row, turn as turns, settle as settles};
+ghost use Rattle.drain.specs.Drain.{take_node, take_row, turn as turns, settle as settles};
 ghost use Rattle.theorem_keeps.specs.Serves.{Serves, Among, Going};
 
 use queues::{Ring, Rings};
@@ -27,7 +27,7 @@ fn oldest_node(node_queue: &[u16], ring: Ring) -> usize
 // The row that has waited longest in the queue whose columns begin at k.
 pub fn oldest_row(row_queues: &[[u16; 4]], k: usize, ring: Ring) -> usize
     requires { (ring.head < length row_queues.now) × (k < 4) }
-    ensures { result ≡ oldest (rowsIn k row_queues.now ring).queue }
+    ensures { result ≡ oldest (rows_in k row_queues.now ring).queue }
 {
     let head = ring.head;
     let slot = row_queues[head];
@@ -59,7 +59,7 @@ fn take_node(
     ensures { ((x : Index) (links : List ℕ) → Serves x bounds.now
         (built (held_rows row_conditions.now row_weights.now rows.now guard_bounds.now guard_nodes.now) nodes.now edges.now links)
         → did (live_of figures.new cursors.new sure.new never.new node_queue.new row_queues.new result.rings) result.step
-        ≡ takeNode x (live_of figures.old cursors.old sure.old never.old node_queue.old row_queues.old rings))
+        ≡ take_node x (live_of figures.old cursors.old sure.old never.old node_queue.old row_queues.old rings))
         × (Tidy figures.old cursors.old → Tidy figures.new cursors.new) }
 {
     let ring = rings.nodes;
@@ -137,8 +137,8 @@ fn take_row(
 ) -> Did
     requires shaped { Shaped (held_rows row_conditions.now row_weights.now rows.now guard_bounds.now guard_nodes.now)
         × LinksShaped (held_rows row_conditions.now row_weights.now rows.now guard_bounds.now guard_nodes.now) links.now
-        × (0 < rings.rows.count) × Among (length rows.now) (rowsIn 0 row_queues.old rings.rows) }
-    requires runnable { Runnable (held_rows row_conditions.now row_weights.now rows.now guard_bounds.now guard_nodes.now) figureLimit
+        × (0 < rings.rows.count) × Among (length rows.now) (rows_in 0 row_queues.old rings.rows) }
+    requires runnable { Runnable (held_rows row_conditions.now row_weights.now rows.now guard_bounds.now guard_nodes.now) figure_limit
         (live_of figures.old cursors.old sure.old never.old node_queue.old row_queues.old rings) }
     ensures { ((x : Index) → Holds x (held_rows row_conditions.now row_weights.now rows.now guard_bounds.now guard_nodes.now)
         → HoldsLinks x (held_rows row_conditions.now row_weights.now rows.now guard_bounds.now guard_nodes.now) links.now

@@ -1,6 +1,6 @@
 // Sifting over the buffers: `sift` of regions.rs. Rows that wait for it are tried between settlings.
 ghost use Rattle.std.specs.Prelude.{◌≡◌, List, ℕ, ◌≤◌, length, ℤ};
-ghost use Rattle.memory.specs.Limits.{listTerms};
+ghost use Rattle.memory.specs.Limits.{list_terms};
 ghost use Rattle.memory.specs.Buffers.{held_rows, built};
 ghost use Rattle.numeric.specs.Slices.{terms};
 ghost use Rattle.state.specs.Shape.{Figures};
@@ -8,10 +8,10 @@ ghost use Rattle.queues.specs.Queue.{queue};
 ghost use Rattle.queues.specs.Marks.{marks};
 ghost use Rattle.queues.specs.Waiting.{Waits};
 ghost use Rattle.row_runs.specs.Shape.{TermSlices};
-ghost use Rattle.row_moves.specs.Between.{Index, Live, withMarks};
+ghost use Rattle.row_moves.specs.Between.{Index, Live, with_marks};
 ghost use Rattle.row_moves.specs.Numbers.{live_of, Tidy};
 ghost use Rattle.row_moves.specs.Held.{Holds};
-ghost use Rattle.drain.specs.Sift.{sifted, tryRow, sift as sifts};
+ghost use Rattle.drain.specs.Sift.{sifted, try_row, sift as sifts};
 ghost use Rattle.theorem_keeps.specs.Serves.{Serves, Going};
 ghost use Rattle.theorem_keeps.specs.Tries.{Scratch, Short, Tries, tried, round, once};
 
@@ -39,9 +39,9 @@ fn try_terms(
     ring: Ring,
     visits: usize,
 ) -> Tried
-    requires { TermSlices conditions.now weights.now × (length weights.now ≤ listTerms) × Figures state × Waits (marks sure.old never.old (queue node_queue.old ring)) × Scratch gcds.old search.old }
-    ensures { ((v : Live) → sifted (withMarks v (marks sure.new never.new (queue node_queue.new result.ring))) gcds.new result.step result.visits
-        ≡ tried (terms conditions.now weights.now) state (withMarks v (marks sure.old never.old (queue node_queue.old ring))) gcds.old visits)
+    requires { TermSlices conditions.now weights.now × (length weights.now ≤ list_terms) × Figures state × Waits (marks sure.old never.old (queue node_queue.old ring)) × Scratch gcds.old search.old }
+    ensures { ((v : Live) → sifted (with_marks v (marks sure.new never.new (queue node_queue.new result.ring))) gcds.new result.step result.visits
+        ≡ tried (terms conditions.now weights.now) state (with_marks v (marks sure.old never.old (queue node_queue.old ring))) gcds.old visits)
         × (search.new ≡ search.old) }
 {
     let forced = residual::threshold_residual(
@@ -97,7 +97,7 @@ fn try_row(
         (live_of figures.now cursors.now sure.old never.old node_queue.old row_queues.old rings) gcds.old search.old }
     ensures { ((x : Index) (bs : List ℤ) (ns : List ℕ) → Holds x (held_rows row_conditions.now row_weights.now rows.now bs ns)
         → sifted (live_of figures.now cursors.now sure.new never.new node_queue.new row_queues.new result.rings) gcds.new result.step result.visits
-        ≡ tryRow x (live_of figures.now cursors.now sure.old never.old node_queue.old row_queues.old rings) gcds.old visits)
+        ≡ try_row x (live_of figures.now cursors.now sure.old never.old node_queue.old row_queues.old rings) gcds.old visits)
         × (search.new ≡ search.old) }
 {
     let residuals = rings.residuals;

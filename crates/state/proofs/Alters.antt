@@ -39,7 +39,7 @@ use denote.Triple.Entry.{on_entry}
 use denote.Triple.Spec.{Meets}
 use denote.Triple.Walked.{says, Stays, stay_ref, stay_none, walk_of, AllGo, Goes-none, Goes-ref, Walks, ends_at, walked, walk_Meets}
 use denote.Exit.{yes}
-use Rattle.state.specs.State.{withUpper}
+use Rattle.state.specs.State.{with_upper}
 use Rattle.state.specs.declared.State.{State}
 use Rattle.state.specs.declared.Upper.TheVariants.{Under}
 use Rattle.state.specs.contracts.State as T
@@ -63,9 +63,9 @@ ended = f.ended
 abbrev pub Alters : {M : Type 1} (𝓤 : Ura M) → (State → ℤ → State) → Clauses 𝓤 ended
 Alters 𝓤 to κs a = record { ghost = Unit {0}; requires = λ _. emp 𝓤; ensures = λ _ _ e. fact 𝓤 (e.0.now ≡ to a.0.now a.1.0) }
 
--- What `lower_upper` makes of a state; `raise_lower` makes `withLower`.
-abbrev pub withLimit : State → ℤ → State
-withLimit h z = withUpper h (Under z)
+-- What `lower_upper` makes of a state; `raise_lower` makes `with_lower`.
+abbrev pub with_limit : State → ℤ → State
+with_limit h z = with_upper h (Under z)
 
 abbrev reference : Ty
 reference = ty_ref (named 0) mut (pointee (T.the_row).written)

@@ -68,17 +68,17 @@ module _ {M : Type 1} {𝓤 : Ura M} (𝓛 : Logic 𝓤) where
     abbrev lent : Fml
     lent = (MutRef (named 0) (α ∷ []) T.the_row).own_val args.0 (vptr l 0 ∷ [])
 
-    abbrev to-callee : (Altering 𝓛 to).Ghost
-    to-callee = (((α ∷ [], tt), (full_share, tt), tt, args, (vptr l 0 ∷ [], (num z ∷ [], tt))), tt)
+    abbrev to_callee : (Altering 𝓛 to).Ghost
+    to_callee = (((α ∷ [], tt), (full_share, tt), tt, args, (vptr l 0 ∷ [], (num z ∷ [], tt))), tt)
 
-    goes : mag z < 2 ^ 63 → ent 𝓤 (sep 𝓤 (A.lft (α ∷ []) full_share) (sem 𝓛 lent)) ((Altering 𝓛 to).pre to-callee)
+    goes : mag z < 2 ^ 63 → ent 𝓤 (sep 𝓤 (A.lft (α ∷ []) full_share) (sem 𝓛 lent)) ((Altering 𝓛 to).pre to_callee)
     goes fits =
         qed 𝓛 (‵ (flft (α ∷ []) full_share) ∷ ‵ lent ∷ []) ∵ nothing ! $ owned ! i64 (Is i64) (sint_Makes 𝓛 w64) z (num z ∷ []) (refl, fits) $ fjoin ! $ move ! (2 ∷ 0 ∷ []) $ fjoin ! $
         nothing ! $ move ! (2 ∷ 0 ∷ []) $ join ! $ move ! (1 ∷ 0 ∷ []) $ nothing ! $ move ! (2 ∷ 1 ∷ []) $ join ! $ move ! (0 ∷ 1 ∷ []) $ frame ! $ done !
 
-    gives : (v : Val) → ent 𝓤 ((Altering 𝓛 to).post to-callee v) (H.⇛ (guard 𝓤 (v ≡ vunit) (sep 𝓤 (A.lft (α ∷ []) full_share) (A.res γ ((T.the_row).coded.code (to h z))))))
+    gives : (v : Val) → ent 𝓤 ((Altering 𝓛 to).post to_callee v) (H.⇛ (guard 𝓤 (v ≡ vunit) (sep 𝓤 (A.lft (α ∷ []) full_share) (A.res γ ((T.the_row).coded.code (to h z))))))
     gives v =
-        qed 𝓛 (raw ((Altering 𝓛 to).post to-callee v) ∷ []) ∵ updating ! $
+        qed 𝓛 (raw ((Altering 𝓛 to).post to_callee v) ∷ []) ∵ updating ! $
         use1 𝓛 (later (some (λ (r : Unit {0}). ((‵ (flft (α ∷ []) full_share) ⊛ ‵ ftrue) ⊛ ‵ (Nothing.own r (v ∷ []))) ⊛ raw (ensured 𝓛 ended (Alters 𝓤 to) (α ∷ [], tt) args tt r)))) (id⊢ 𝓤 _) $ await ! tt $ pick ! (λ r.
         split ! $ move ! (1 ∷ []) $ use1 𝓛 (some (λ (zs : State × (Unit {0} × Unit {0})). ‵ (lasts ended (α ∷ [], tt) args zs) ⊛ raw (fact 𝓤 (zs.0 ≡ to h z)))) (id⊢ 𝓤 _) $ pick ! (λ zs.
         split ! $ move ! (1 ∷ []) $ heard ! (zs.0 ≡ to h z) (λ e. fsplit ! $ rewrite ! 0 (λ (w : State). ‵ (fres γ ((T.the_row).coded.code w))) e refl $
@@ -96,8 +96,8 @@ module _ {M : Type 1} {𝓤 : Ura M} {𝓛 : Logic 𝓤} {K : Type 0} {Γ : List
       use1 𝓛 (‵ ((mem T.the_row).own_at h l 0)) (into-mem 𝓛 h is l) $ lft_new t tt (λ α. move t (1 ∷ []) $
       use1 𝓛 (later (some (λ (γ : GName). ‵ (lent 𝓛 to l h z α γ) ⊛ ‵ (flent (α ∷ []) (Body (mem T.the_row) l 0 γ))))) (lends_ref 𝓛 T.the_row (named 0) (α ∷ []) h l 0) $ await t tt $ pick t (λ γ. split t $
       -- [the token; the reference; the lender's part; …]
-      move t (2 ∷ 0 ∷ []) $ use2 𝓛 (raw ((Altering 𝓛 to).pre (to-callee 𝓛 to l h z α γ))) (goes 𝓛 to l h z α γ fits) $
-      calls_at_last t fm (Altering 𝓛 to) met (to-callee 𝓛 to l h z α γ) (os _ _) (λ v.
+      move t (2 ∷ 0 ∷ []) $ use2 𝓛 (raw ((Altering 𝓛 to).pre (to_callee 𝓛 to l h z α γ))) (goes 𝓛 to l h z α γ fits) $
+      calls_at_last t fm (Altering 𝓛 to) met (to_callee 𝓛 to l h z α γ) (os _ _) (λ v.
       use1 𝓛 (later (given (v ≡ vunit) (‵ (flft (α ∷ []) full_share) ⊛ ‵ (fres γ ((T.the_row).coded.code (to h z)))))) (gives 𝓛 to l h z α γ v) $ await t tt $ learn t (λ e. split t $
       lft_end t tt $ move t (0 ∷ 2 ∷ 1 ∷ []) $ use3 𝓛 (later (‵ ((mem T.the_row).own_at (to h z) l 0))) (ref_back 𝓛 T.the_row (α ∷ []) γ (to h z) l 0) $ await t tt $
       use1 𝓛 (given (Is T.the_row (to h z) (vals (to h z))) (‵ (fat full_share T'.mir l 0 (val (to h z))))) (out-of-mem 𝓛 (to h z) l) $ learn t (λ made.

@@ -1,8 +1,8 @@
 // What a row knows: `State` of thresholds.rs and `Step` of regions.rs.
 ghost use Rattle.std.specs.Prelude.{◌≡◌, not, ◌<◌, ◌^◌};
 ghost use Rattle.std.specs.Int.Signed.{le_z};
-ghost use Rattle.state.specs.Step.{joined, stepNumber, contradicts};
-ghost use Rattle.state.specs.State.{reached, conflict, hasResidualInterval, upperAtMost, withLower, withUpper, with_guards, withTerms, drained, firstState};
+ghost use Rattle.state.specs.Step.{joined, step_number, contradicts};
+ghost use Rattle.state.specs.State.{reached, conflict, has_residual_interval, upper_at_most, with_lower, with_upper, with_guards, with_terms, drained, first_state};
 ghost use Rattle.state.specs.Shape.{Drains};
 
 // What a record or a step of it did, the strongest last.
@@ -51,7 +51,7 @@ impl Step {
 
     // The answers by strength, as the listing writes them.
     pub fn number(self) -> u8
-        ensures { result ≡ stepNumber self }
+        ensures { result ≡ step_number self }
     {
         match self {
             Step::Unchanged => 0,
@@ -75,7 +75,7 @@ impl State {
     // `Row::state`: nothing is drained and nothing required.
     pub fn first(total: u64, guards: usize) -> State
         requires { total < 2 ^ 62 }
-        ensures { result ≡ firstState total guards }
+        ensures { result ≡ first_state total guards }
     {
         State {
             known: 0,
@@ -103,7 +103,7 @@ impl State {
 
     // There is an upper limit, and it is at most `bound`.
     pub fn upper_at_most(self, bound: i64) -> bool
-        ensures { result ≡ upperAtMost self.upper bound }
+        ensures { result ≡ upper_at_most self.upper bound }
     {
         let upper = self.upper;
         match upper {
@@ -127,7 +127,7 @@ impl State {
 
     // Both limits cut into what is possible, so that sums between them may be missing.
     pub fn has_residual_interval(self) -> bool
-        ensures { result ≡ hasResidualInterval self }
+        ensures { result ≡ has_residual_interval self }
     {
         let known = self.known;
         let lower = self.lower;
@@ -156,7 +156,7 @@ impl State {
     }
 
     pub fn with_terms(self, true_term: usize, false_term: usize) -> State
-        ensures { result ≡ withTerms self true_term false_term }
+        ensures { result ≡ with_terms self true_term false_term }
     {
         let mut next = self;
         next.true_term = true_term;
@@ -183,14 +183,14 @@ impl State {
 
 // `threshold_guard` raises lower: the state is lent and altered.
 pub fn raise_lower(state: &mut State, bound: i64)
-    ensures { state.new ≡ withLower state.old bound }
+    ensures { state.new ≡ with_lower state.old bound }
 {
     state.lower = bound;
 }
 
 // `threshold_guard` lowers upper: the state is lent and altered.
 pub fn lower_upper(state: &mut State, bound: i64)
-    ensures { state.new ≡ withUpper state.old (Upper.Under bound) }
+    ensures { state.new ≡ with_upper state.old (Upper.Under bound) }
 {
     state.upper = Upper::Under(bound);
 }

@@ -18,8 +18,8 @@ module _ {M : Type 1} {𝓤 : Ura M} (𝓛 : Logic 𝓤) where
       qed 𝓛 ((raw P ⊛ raw (chain 𝓤 Ps X)) ∷ []) ∵ split ! $ move ! (1 ∷ []) $
       use1 𝓛 (raw (chain 𝓤 Ps (emp 𝓤)) ⊛ raw X) (chain-out Ps X) $ split ! $ move ! (2 ∷ 0 ∷ []) $ join ! $ done !
 
-  pub chain-in : (Ps : List (SProp 𝓤)) (X : SProp 𝓤) → ent 𝓤 (sep 𝓤 (chain 𝓤 Ps (emp 𝓤)) X) (chain 𝓤 Ps X)
-  chain-in [] X = qed 𝓛 (raw (emp 𝓤) ∷ raw X ∷ []) ∵ drop ! $ done !
-  chain-in (P ∷ Ps) X =
+  pub chain_in : (Ps : List (SProp 𝓤)) (X : SProp 𝓤) → ent 𝓤 (sep 𝓤 (chain 𝓤 Ps (emp 𝓤)) X) (chain 𝓤 Ps X)
+  chain_in [] X = qed 𝓛 (raw (emp 𝓤) ∷ raw X ∷ []) ∵ drop ! $ done !
+  chain_in (P ∷ Ps) X =
       qed 𝓛 ((raw P ⊛ raw (chain 𝓤 Ps (emp 𝓤))) ∷ raw X ∷ []) ∵ split ! $ move ! (1 ∷ 2 ∷ []) $
-      use2 𝓛 (raw (chain 𝓤 Ps X)) (chain-in Ps X) $ move ! (1 ∷ 0 ∷ []) $ done !
+      use2 𝓛 (raw (chain 𝓤 Ps X)) (chain_in Ps X) $ move ! (1 ∷ 0 ∷ []) $ done !

@@ -7,19 +7,19 @@ use mathlib.Core.List.{List, [], ◌∷◌, ◌++◌}
 use Rattle.std.proofs.Math.Seq.{append_snoc, take-length, drop-length}
 use Rattle.std.proofs.lemmas.List.{set_at}
 use Rattle.base.specs.Laid.{over}
-use Rattle.memory.specs.Limits.{maxThresholds}
+use Rattle.memory.specs.Limits.{max_thresholds}
 use Rattle.memory.specs.Buffers.{zeros}
 use Rattle.state.specs.declared.State.{State}
-use Rattle.state.specs.State.{noState}
+use Rattle.state.specs.State.{no_state}
 use Rattle.states.specs.States.{shown}
 
 -- ---- a list in front of a cleared buffer
 
 module _ {X : Type 0} (z : X) where
-  pub zeros-long : (b : List X) → length (zeros z b) ≡ length b
+  pub zeros_long : (b : List X) → length (zeros z b) ≡ length b
   unfolding zeros
-  zeros-long [] = refl
-  zeros-long (x ∷ b) = ap suc (zeros-long b)
+  zeros_long [] = refl
+  zeros_long (x ∷ b) = ap suc (zeros_long b)
 
   cleared_at : (k : ℕ) (b : List X) (n : ℕ) → get_or (drop k (zeros z b)) n z ≡ z
   unfolding zeros
@@ -40,32 +40,32 @@ module _ {X : Type 0} (z : X) where
 abbrev pub showing : List State → List State → ℕ → List State
 showing states lent n = take n (shown states lent) ++ drop n lent
 
-module _ (states lent : List State) (many : maxThresholds ≤ length states) (room : maxThresholds ≤ length lent) where
-  pub shown-long : length (shown states lent) ≡ length lent
-  shown-long =
-      let k = length-take-le maxThresholds states many in
-      let d = length-drop (length (take maxThresholds states)) (zeros noState lent) in
-      omega (arith, k, d, length-append (take maxThresholds states) (drop (length (take maxThresholds states)) (zeros noState lent)), zeros-long noState lent)
+module _ (states lent : List State) (many : max_thresholds ≤ length states) (room : max_thresholds ≤ length lent) where
+  pub shown_long : length (shown states lent) ≡ length lent
+  shown_long =
+      let k = length-take-le max_thresholds states many in
+      let d = length-drop (length (take max_thresholds states)) (zeros no_state lent) in
+      omega (arith, k, d, length-append (take max_thresholds states) (drop (length (take max_thresholds states)) (zeros no_state lent)), zeros_long no_state lent)
 
-  pub shown-at : (n : ℕ) → get_or (shown states lent) n noState ≡ get_or (take maxThresholds states) n noState
-  shown-at n = behind-cleared noState (take maxThresholds states) (length (take maxThresholds states)) lent n
+  pub shown-at : (n : ℕ) → get_or (shown states lent) n no_state ≡ get_or (take max_thresholds states) n no_state
+  shown-at n = behind-cleared no_state (take max_thresholds states) (length (take max_thresholds states)) lent n
 
-  pub showing-long : (n : ℕ) → n ≤ length lent → length (showing states lent n) ≡ length lent
-  showing-long n h =
-      omega (arith, length-append (take n (shown states lent)) (drop n lent), length-drop n lent, length-take-le n (shown states lent) (omega (arith, shown-long)))
+  pub showing_long : (n : ℕ) → n ≤ length lent → length (showing states lent n) ≡ length lent
+  showing_long n h =
+      omega (arith, length-append (take n (shown states lent)) (drop n lent), length-drop n lent, length-take-le n (shown states lent) (omega (arith, shown_long)))
 
-  pub showing-next : (n : ℕ) (s : State) → n < length lent → s ≡ get_or (take maxThresholds states) n noState → set (showing states lent n) n s ≡ showing states lent (suc n)
-  showing-next n s h e =
+  pub showing_next : (n : ℕ) (s : State) → n < length lent → s ≡ get_or (take max_thresholds states) n no_state → set (showing states lent n) n s ≡ showing states lent (suc n)
+  showing_next n s h e =
       let all = shown states lent in
-      let v : get_or all n noState ≡ s = shown-at n ∙ sym e in
-      ap (λ (l : List State). set (take n all ++ l) n s) (drop-cons lent n noState h)
-      ∙ set_at (take n all) (get_or lent n noState) (drop (suc n) lent) s n (length-take-le n all (omega (arith, shown-long)))
+      let v : get_or all n no_state ≡ s = shown-at n ∙ sym e in
+      ap (λ (l : List State). set (take n all ++ l) n s) (drop-cons lent n no_state h)
+      ∙ set_at (take n all) (get_or lent n no_state) (drop (suc n) lent) s n (length-take-le n all (omega (arith, shown_long)))
       ∙ sym (append_snoc (take n all) s (drop (suc n) lent))
       ∙ ap (λ (x : State). (take n all ++ (x ∷ [])) ++ drop (suc n) lent) (sym v)
-      ∙ sym (ap (λ (l : List State). l ++ drop (suc n) lent) (take-suc all n noState (omega (arith, shown-long))))
+      ∙ sym (ap (λ (l : List State). l ++ drop (suc n) lent) (take-suc all n no_state (omega (arith, shown_long))))
 
-  pub showing-all : (n : ℕ) → n ≡ length lent → showing states lent n ≡ shown states lent
-  showing-all n e = ap (showing states lent) (e ∙ sym shown-long) ∙ ends (shown states lent) lent shown-long
+  pub showing_all : (n : ℕ) → n ≡ length lent → showing states lent n ≡ shown states lent
+  showing_all n e = ap (showing states lent) (e ∙ sym shown_long) ∙ ends (shown states lent) lent shown_long
     where
       ends : (all l : List State) → length all ≡ length l → take (length all) all ++ drop (length all) l ≡ all
       ends all l h = ap (λ (t : List State). t ++ drop (length all) l) (take-length all) ∙ ap (λ (k : ℕ). all ++ drop k l) h ∙ ap (λ (t : List State). all ++ t) (drop-length l) ∙ none all

@@ -1,8 +1,8 @@
 // Row states as a lent slice of records: one state loaded, one stored, and every state written out of the rows of numbers that the core keeps.
 ghost use Rattle.std.specs.Prelude.{◌≡◌, ◌<◌, ◌≤◌, length, get_or, set, take};
-ghost use Rattle.memory.specs.Limits.{maxThresholds};
-ghost use Rattle.state.specs.State.{noState};
-ghost use Rattle.row_moves.specs.Numbers.{statesOf};
+ghost use Rattle.memory.specs.Limits.{max_thresholds};
+ghost use Rattle.state.specs.State.{no_state};
+ghost use Rattle.row_moves.specs.Numbers.{states_of};
 ghost use Rattle.states.specs.States.{shown};
 
 use state::State;
@@ -10,7 +10,7 @@ use state::State;
 // The state of a row.
 pub fn load(states: &[State], row: usize) -> State
     requires { row < length states.now }
-    ensures { result ≡ get_or states.now row noState }
+    ensures { result ≡ get_or states.now row no_state }
 {
     states[row]
 }
@@ -24,8 +24,8 @@ fn store(states: &mut [State], row: usize, state: State)
 
 // The state of a row as the listed places of the rows of numbers hold it; behind them there is none.
 fn row_state(figures: &[[i64; 4]], cursors: &[[usize; 5]], row: usize) -> State
-    requires { maxThresholds ≤ length (statesOf figures.now cursors.now) }
-    ensures { result ≡ get_or (take maxThresholds (statesOf figures.now cursors.now)) row noState }
+    requires { max_thresholds ≤ length (states_of figures.now cursors.now) }
+    ensures { result ≡ get_or (take max_thresholds (states_of figures.now cursors.now)) row no_state }
 {
     if row < 1024 {
         return row_moves::load(figures, cursors, row);
@@ -35,8 +35,8 @@ fn row_state(figures: &[[i64; 4]], cursors: &[[usize; 5]], row: usize) -> State
 
 // Every state, from the rows of numbers to the lent records.
 pub fn show_states(states: &mut [State], figures: &[[i64; 4]], cursors: &[[usize; 5]])
-    requires { (maxThresholds ≤ length states.old) × (maxThresholds ≤ length (statesOf figures.now cursors.now)) }
-    ensures { states.new ≡ shown (statesOf figures.now cursors.now) states.old }
+    requires { (max_thresholds ≤ length states.old) × (max_thresholds ≤ length (states_of figures.now cursors.now)) }
+    ensures { states.new ≡ shown (states_of figures.now cursors.now) states.old }
 {
     let mut row: usize = 0;
     while row < states.len() {

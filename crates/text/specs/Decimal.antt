@@ -9,6 +9,6 @@ digits (suc k) n after = elim (ltb n 10) [ true ↦ (48 + n) ∷ after | false �
 abbrev pub decimal : ℕ → List ℕ
 decimal n = digits 20 n []
 
-abbrev pub decimalZ : ℤ → List ℕ
-decimalZ (pos n) = decimal n
-decimalZ (negsuc n) = 45 ∷ decimal (suc n)
+abbrev pub decimal_z : ℤ → List ℕ
+decimal_z (pos n) = decimal n
+decimal_z (negsuc n) = 45 ∷ decimal (suc n)

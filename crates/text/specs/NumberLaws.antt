@@ -4,7 +4,7 @@ use Rattle.std.proofs.Common.{pow-suc, arith, sym, ap, ap₂, ◌∙◌, subst, 
 use Rattle.std.specs.Int.Signed.{lt_z, non_neg}
 use Rattle.std.specs.Int.{w64}
 use Rattle.base.specs.TestLaws.{unequal}
-use Rattle.text.specs.Decimal.{digits, decimal, decimalZ}
+use Rattle.text.specs.Decimal.{digits, decimal, decimal_z}
 use Rattle.text.specs.Numbers.{unit, four}
 
 -- ---- digits
@@ -51,9 +51,9 @@ next n l k rest d h =
           ∙ sym (more (suc k) rest (drop (suc (suc k)) l) h) ∙ d.same;
     }
 
-pub digits-next : (n : ℕ) (l : List ℕ) (first rest : ℕ) → Digits n l first rest → 10 ≤ rest → (1 ≤ first) × Digits n (set l (first - 1) (48 + rest / 10 % 10)) (first - 1) (rest / 10)
-digits-next n l zero rest d h = absurd (let s = d.small in omega arith)
-digits-next n l (suc k) rest d h = let e : suc k - 1 ≡ k = omega arith in (omega arith, rw e (next n l k rest d h))
+pub digits_next : (n : ℕ) (l : List ℕ) (first rest : ℕ) → Digits n l first rest → 10 ≤ rest → (1 ≤ first) × Digits n (set l (first - 1) (48 + rest / 10 % 10)) (first - 1) (rest / 10)
+digits_next n l zero rest d h = absurd (let s = d.small in omega arith)
+digits_next n l (suc k) rest d h = let e : suc k - 1 ≡ k = omega arith in (omega arith, rw e (next n l k rest d h))
 
 pub digits_last : (n : ℕ) (l : List ℕ) (first rest : ℕ) → Digits n l first rest → rest < 10 → drop first l ≡ decimal n
 digits_last n l first rest d h =
@@ -74,8 +74,8 @@ module _ (k n : ℕ) (after : List ℕ) where
 pub two_digits : (k n : ℕ) (after : List ℕ) → 10 ≤ n → n < 100 → digits (suc (suc k)) n after ≡ unit (n / 10) ∷ unit n ∷ after
 two_digits k n after l h = more (suc k) n after l ∙ one-digit k (n / 10) (unit n ∷ after) (omega arith)
 
-pub three-digits : (k n : ℕ) (after : List ℕ) → 100 ≤ n → n < 1000 → digits (suc (suc (suc k))) n after ≡ unit (n / 100) ∷ unit (n / 10) ∷ unit n ∷ after
-three-digits k n after l h =
+pub three_digits : (k n : ℕ) (after : List ℕ) → 100 ≤ n → n < 1000 → digits (suc (suc (suc k))) n after ≡ unit (n / 100) ∷ unit (n / 10) ∷ unit n ∷ after
+three_digits k n after l h =
     let e : n / 10 / 10 ≡ n / 100 = omega arith in
     more (suc (suc k)) n after (omega arith) ∙ two_digits k (n / 10) (unit n ∷ after) (omega arith) (omega arith)
     ∙ ap (λ (x : ℕ). unit x ∷ unit (n / 10) ∷ unit n ∷ after) e
@@ -85,7 +85,7 @@ pub four-digits : (k n : ℕ) (after : List ℕ) → 1000 ≤ n → n < 10000
 four-digits k n after l h =
     let e : n / 10 / 100 ≡ n / 100 / 10 = omega arith in
     let f : n / 10 / 10 ≡ n / 100 = omega arith in
-    more (suc (suc (suc k))) n after (omega arith) ∙ three-digits k (n / 10) (unit n ∷ after) (omega arith) (omega arith)
+    more (suc (suc (suc k))) n after (omega arith) ∙ three_digits k (n / 10) (unit n ∷ after) (omega arith) (omega arith)
     ∙ ap₂ (λ (x y : ℕ). unit x ∷ unit y ∷ unit (n / 10) ∷ unit n ∷ after) e f
 
 -- Of a longer number the last four, behind the others.
@@ -117,28 +117,28 @@ behind k j m after h = by (leb 10 m) refl (leb 100 m) refl (leb 1000 m) refl
     by true e true f false g =
         let l = leb-true 100 m f in
         let u = leb-false 1000 m g in
-        three-digits (suc k) m after (omega arith) (omega arith) ∙ ap (λ (t : List ℕ). t ++ after) (sym (three-digits (suc j) m [] (omega arith) (omega arith)))
+        three_digits (suc k) m after (omega arith) (omega arith) ∙ ap (λ (t : List ℕ). t ++ after) (sym (three_digits (suc j) m [] (omega arith) (omega arith)))
     by true e true f true g =
         let l = leb-true 1000 m g in
         four-digits k m after (omega arith) h ∙ ap (λ (t : List ℕ). t ++ after) (sym (four-digits j m [] (omega arith) h))
 
-pub in-two-parts : (n : ℕ) → 10000 ≤ n → n < 100000000 → decimal n ≡ decimal (n / 10000) ++ four n
-in-two-parts n l h = front 16 n [] l ∙ behind 12 16 (n / 10000) (four n) (omega arith)
+pub in_two_parts : (n : ℕ) → 10000 ≤ n → n < 100000000 → decimal n ≡ decimal (n / 10000) ++ four n
+in_two_parts n l h = front 16 n [] l ∙ behind 12 16 (n / 10000) (four n) (omega arith)
 
 -- ---- how long
 
-digits-short : (k n : ℕ) (after : List ℕ) → length (digits k n after) ≤ k + length after
+digits_short : (k n : ℕ) (after : List ℕ) → length (digits k n after) ≤ k + length after
 unfolding digits
-digits-short zero n after = omega arith
-digits-short (suc k) n after = by (ltb n 10) (digits-short k (n / 10) ((48 + n % 10) ∷ after))
+digits_short zero n after = omega arith
+digits_short (suc k) n after = by (ltb n 10) (digits_short k (n / 10) ((48 + n % 10) ∷ after))
   where
     by : (b : Bool) → length (digits k (n / 10) ((48 + n % 10) ∷ after)) ≤ k + suc (length after)
         → let l : List ℕ = elim b [ true ↦ (48 + n) ∷ after | false ↦ digits k (n / 10) ((48 + n % 10) ∷ after) ] in length l ≤ suc k + length after
     by true h = omega arith
     by false h = omega arith
 
-pub decimal-short : (n : ℕ) → length (decimal n) ≤ 20
-decimal-short n = omega (arith, digits-short 20 n [])
+pub decimal_short : (n : ℕ) → length (decimal n) ≤ 20
+decimal_short n = omega (arith, digits_short 20 n [])
 
 -- ---- signed numbers
 
@@ -169,10 +169,10 @@ below-zero (negsuc n) f h =
       size = ap (λ (y : ℤ). nat_abs y + 1) back ∙ omega arith;
     }
 
-pub signed_below : (z : ℤ) → lt_z z (pos 0) ≡ true → decimalZ z ≡ 45 ∷ decimal (nat_abs z)
+pub signed_below : (z : ℤ) → lt_z z (pos 0) ≡ true → decimal_z z ≡ 45 ∷ decimal (nat_abs z)
 signed_below (pos n) h = absurd (let q = ltb-true n 0 h in omega (arith, q))
 signed_below (negsuc n) h = refl
 
-pub signed-from : (z : ℤ) → lt_z z (pos 0) ≡ false → decimalZ z ≡ decimal (nat_abs z)
-signed-from (pos n) h = refl
-signed-from (negsuc n) h = absurd (unequal cc)
+pub signed_from : (z : ℤ) → lt_z z (pos 0) ≡ false → decimal_z z ≡ decimal (nat_abs z)
+signed_from (pos n) h = refl
+signed_from (negsuc n) h = absurd (unequal cc)

@@ -11,8 +11,8 @@ abbrev pub four : ℕ → List ℕ
 four n = unit (n / 100 / 10) ∷ unit (n / 100) ∷ unit (n / 10) ∷ unit n ∷ []
 
 -- THE LENGTH: the most bytes that a number, a step's word, the figures of a row and each line take.
-abbrev pub maxDecimal : ℕ
-maxDecimal = 20
+abbrev pub max_decimal : ℕ
+max_decimal = 20
 
-abbrev pub maxSigned : ℕ
-maxSigned = 21
+abbrev pub max_signed : ℕ
+max_signed = 21

@@ -12,8 +12,8 @@ wrote_none d at = record { ended = omega arith; bytes = paste-zero d at []; with
 length_front : (d : List ℕ) (at : ℕ) (s : List ℕ) → at ≤ length d → length (take at d ++ s) ≡ at + length s
 length_front d at s h = omega (arith, length-append (take at d) s, length-take-le at d h)
 
-placed-then : (d : List ℕ) (at : ℕ) (s t : List ℕ) → at ≤ length d → placed (placed d at s) (at + length s) t ≡ placed d at (s ++ t)
-placed-then d at s t h =
+placed_then : (d : List ℕ) (at : ℕ) (s t : List ℕ) → at ≤ length d → placed (placed d at s) (at + length s) t ≡ placed d at (s ++ t)
+placed_then d at s t h =
     let p = take at d ++ s in
     let q = drop (at + length s) d in
     let e = length_front d at s h in
@@ -29,7 +29,7 @@ pub wrote_then : {a b : ℕ} {d e f : List ℕ} {at m r : ℕ} {s t : List ℕ} 
 wrote_then {a} {b} {d} {e} {f} {at} {m} {r} {s} {t} h x y = record {
   ended = omega (arith, x.ended, y.ended, length-append s t);
   bytes =
-      y.bytes ∙ ap (λ (n : ℕ). placed e n t) x.ended ∙ ap (λ (l : List ℕ). placed l (at + length s) t) x.bytes ∙ placed-then d at s t h;
+      y.bytes ∙ ap (λ (n : ℕ). placed e n t) x.ended ∙ ap (λ (l : List ℕ). placed l (at + length s) t) x.bytes ∙ placed_then d at s t h;
   within = omega (arith, x.within, y.within);
 }
 
@@ -41,12 +41,12 @@ wrote_as {a} {b} {d} {e} {at} {r} {s} {t} h q x = record {
   within = omega (arith, x.within);
 }
 
-pub wrote-same : {a : ℕ} {d e : List ℕ} {at r : ℕ} {s t : List ℕ} → s ≡ t → Wrote a d e at r s → Wrote a d e at r t
-wrote-same q x = wrote_as (omega arith) q x
+pub wrote_same : {a : ℕ} {d e : List ℕ} {at r : ℕ} {s t : List ℕ} → s ≡ t → Wrote a d e at r s → Wrote a d e at r t
+wrote_same q x = wrote_as (omega arith) q x
 
 -- Two texts behind another, written at once.
-pub wrote-both : {a b : ℕ} {d e f : List ℕ} {at m r : ℕ} {s : List ℕ} (t u : List ℕ) → at ≤ length d → Wrote a d e at m s → Wrote b e f m r (t ++ u) → Wrote (a + b) d f at r (s ++ t ++ u)
-wrote-both {s} t u h x y = wrote-same (sym (append_assoc s t u)) (wrote_then h x y)
+pub wrote_both : {a b : ℕ} {d e f : List ℕ} {at m r : ℕ} {s : List ℕ} (t u : List ℕ) → at ≤ length d → Wrote a d e at m s → Wrote b e f m r (t ++ u) → Wrote (a + b) d f at r (s ++ t ++ u)
+wrote_both {s} t u h x y = wrote_same (sym (append_assoc s t u)) (wrote_then h x y)
 
 -- ---- byte by byte
 
@@ -55,8 +55,8 @@ pub put_next : (d e : List ℕ) (at : ℕ) (s : List ℕ) (i : ℕ) → at + len
 put_next d e at s i h k q =
     ap (λ (l : List ℕ). set l (at + i) (get_or s i 0)) q ∙ paste-suc d at s i 0 (omega arith) k ∙ ap (paste d at s) (sym (add-one i))
 
-pub put-done : (d e : List ℕ) (at : ℕ) (s : List ℕ) (i : ℕ) → i ≡ length s → e ≡ paste d at s i → Wrote (length s) d e at (at + i) s
-put-done d e at s i h q = record {
+pub put_done : (d e : List ℕ) (at : ℕ) (s : List ℕ) (i : ℕ) → i ≡ length s → e ≡ paste d at s i → Wrote (length s) d e at (at + i) s
+put_done d e at s i h q = record {
   ended = omega arith;
   bytes = q ∙ ap (paste d at s) h ∙ ap (λ (l : List ℕ). take at d ++ l ++ drop (at + length s) d) (take-length s);
   within = omega arith;
@@ -68,35 +68,35 @@ wrote_one d e at x r h q k =
     let s = x ∷ [] in
     let z : at ≡ at + 0 = omega arith in
     let p : e ≡ paste d at s 1 = q ∙ ap (λ (i : ℕ). set d i x) z ∙ put_next d d at s 0 (omega arith) (omega arith) (paste-zero d at s) in
-    subst (λ (i : ℕ). Wrote 1 d e at i s) (sym k) (put-done d e at s 1 refl p)
+    subst (λ (i : ℕ). Wrote 1 d e at i s) (sym k) (put_done d e at s 1 refl p)
 
 -- ---- texts by number
 
-pub joins-none : (size : ℕ) (d : List ℕ) (at : ℕ) (f : ℕ → List ℕ) (n : ℕ) → Joins size d d at at f n 0
+pub joins_none : (size : ℕ) (d : List ℕ) (at : ℕ) (f : ℕ → List ℕ) (n : ℕ) → Joins size d d at at f n 0
 unfolding joined
-joins-none size d at f n = record { passed = omega arith; long = refl; wrote = wrote_as (omega arith) refl (wrote_none d at) }
+joins_none size d at f n = record { passed = omega arith; long = refl; wrote = wrote_as (omega arith) refl (wrote_none d at) }
 
 -- There is room for one more.
-pub joins-room : {k : ℕ} {d e : List ℕ} {at r : ℕ} {f : ℕ → List ℕ} {n i : ℕ} → at + k * n ≤ length d → i < n → Joins k d e at r f n i → r + k ≤ length e
-joins-room {k} {d} {e} {at} {r} {f} {n} {i} room more j = omega (arith, j.wrote.within, j.long, mul-suc k i, mul-le-mul_left k more)
+pub joins_room : {k : ℕ} {d e : List ℕ} {at r : ℕ} {f : ℕ → List ℕ} {n i : ℕ} → at + k * n ≤ length d → i < n → Joins k d e at r f n i → r + k ≤ length e
+joins_room {k} {d} {e} {at} {r} {f} {n} {i} room more j = omega (arith, j.wrote.within, j.long, mul-suc k i, mul-le-mul_left k more)
 
-pub joins-next : {k : ℕ} {d e g : List ℕ} {at m r : ℕ} {f : ℕ → List ℕ} {n i : ℕ} → at ≤ length d → i < n → Joins k d e at m f n i → length g ≡ length e → Wrote k e g m r (f i)
+pub joins_next : {k : ℕ} {d e g : List ℕ} {at m r : ℕ} {f : ℕ → List ℕ} {n i : ℕ} → at ≤ length d → i < n → Joins k d e at m f n i → length g ≡ length e → Wrote k e g m r (f i)
     → Joins k d g at r f n (i + 1)
 unfolding joined
-joins-next {k} {d} {e} {g} {at} {m} {r} {f} {n} {i} h more j l w =
+joins_next {k} {d} {e} {g} {at} {m} {r} {f} {n} {i} h more j l w =
     let q : suc i ≡ i + 1 = sym (add-one i) in
     record { passed = omega arith; long = l ∙ j.long; wrote = wrote_as (omega (arith, mul-suc k i, ap (λ (x : ℕ). k * x) q)) (ap (joined f) q) (wrote_then h j.wrote w) }
 
-pub joins-done : {k : ℕ} {d e : List ℕ} {at r : ℕ} {f : ℕ → List ℕ} {n i : ℕ} → n ≤ i → Joins k d e at r f n i → Wrote (k * n) d e at r (joined f n)
-joins-done {k} {d} {e} {at} {r} {f} {n} {i} h j =
+pub joins_done : {k : ℕ} {d e : List ℕ} {at r : ℕ} {f : ℕ → List ℕ} {n i : ℕ} → n ≤ i → Joins k d e at r f n i → Wrote (k * n) d e at r (joined f n)
+joins_done {k} {d} {e} {at} {r} {f} {n} {i} h j =
     let p = j.passed in
     let q : i ≡ n = omega arith in
     wrote_as (omega (arith, ap (λ (x : ℕ). k * x) q)) (ap (joined f) q) j.wrote
 
 -- ---- what was written
 
-pub wrote-whole : {k : ℕ} {d e : List ℕ} {r : ℕ} {s : List ℕ} → Wrote k d e 0 r s → (take r e ≡ s) × (drop r e ≡ drop r d)
-wrote-whole {k} {d} {e} {r} {s} x =
+pub wrote_whole : {k : ℕ} {d e : List ℕ} {r : ℕ} {s : List ℕ} → Wrote k d e 0 r s → (take r e ≡ s) × (drop r e ≡ drop r d)
+wrote_whole {k} {d} {e} {r} {s} x =
     let n : r ≡ length s = omega (arith, x.ended) in
     let z : 0 + length s ≡ length s = omega arith in
     let b : e ≡ s ++ drop (length s) d = x.bytes ∙ ap (λ (i : ℕ). s ++ drop i d) z in (

@@ -1,8 +1,8 @@
 // Bytes and decimal numbers put into a lent slice, one after the other.
 ghost use Rattle.std.specs.Prelude.{◌≡◌, [], ◌∷◌, ◌++◌, ◌+◌, ◌<◌, ◌≤◌, ◌%◌, length, drop, nat_abs};
-ghost use Rattle.text.specs.Decimal.{decimal as decimalOf, decimalZ};
+ghost use Rattle.text.specs.Decimal.{decimal as decimalOf, decimal_z};
 ghost use Rattle.text.specs.Text.{Wrote};
-ghost use Rattle.text.specs.Numbers.{unit, pair, four as fourOf, maxDecimal, maxSigned};
+ghost use Rattle.text.specs.Numbers.{unit, pair, four as fourOf, max_decimal, max_signed};
 
 // A byte string at a place. This and every function below that writes gives back where its text ends.
 pub fn put(out: &mut [u8], at: usize, text: &[u8]) -> usize
@@ -43,8 +43,8 @@ fn digits(into: &mut [u8], n: u64) -> usize
 
 // A number by way of a buffer of its own.
 fn long(out: &mut [u8], at: usize, n: u64) -> usize
-    requires { at + maxDecimal ≤ length out.old }
-    ensures { Wrote maxDecimal out.old out.new at result (decimalOf n) }
+    requires { at + max_decimal ≤ length out.old }
+    ensures { Wrote max_decimal out.old out.new at result (decimalOf n) }
 {
     let mut buffer = [0; 20];
     let first = digits(&mut buffer, n);
@@ -96,8 +96,8 @@ fn short(out: &mut [u8], at: usize, n: u64) -> usize
 
 // Most numbers have at most eight digits, and are written where they stand.
 pub fn decimal(out: &mut [u8], at: usize, n: u64) -> usize
-    requires { at + maxDecimal ≤ length out.old }
-    ensures { Wrote maxDecimal out.old out.new at result (decimalOf n) }
+    requires { at + max_decimal ≤ length out.old }
+    ensures { Wrote max_decimal out.old out.new at result (decimalOf n) }
 {
     if n < 10000 {
         return short(out, at, n);
@@ -111,8 +111,8 @@ pub fn decimal(out: &mut [u8], at: usize, n: u64) -> usize
 
 // A byte string and a number behind it.
 pub fn labelled(out: &mut [u8], at: usize, label: &[u8], n: u64) -> usize
-    requires { at + (length label.now + maxDecimal) ≤ length out.old }
-    ensures { Wrote (length label.now + maxDecimal) out.old out.new at result (label.now ++ decimalOf n) }
+    requires { at + (length label.now + max_decimal) ≤ length out.old }
+    ensures { Wrote (length label.now + max_decimal) out.old out.new at result (label.now ++ decimalOf n) }
 {
     let next = put(out, at, label);
     decimal(out, next, n)
@@ -128,8 +128,8 @@ fn magnitude(z: i64) -> u64
 }
 
 pub fn signed(out: &mut [u8], at: usize, z: i64) -> usize
-    requires { at + maxSigned ≤ length out.old }
-    ensures { Wrote maxSigned out.old out.new at result (decimalZ z) }
+    requires { at + max_signed ≤ length out.old }
+    ensures { Wrote max_signed out.old out.new at result (decimal_z z) }
 {
     let n = magnitude(z);
     if z < 0 {

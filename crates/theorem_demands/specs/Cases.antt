@@ -5,7 +5,7 @@ use Prim.Native.String.{String}
 use Rattle.std.proofs.Common.{arith}
 use mathlib.Core.List.{List, [], ◌∷◌, ◌++◌, Memᴰ}
 use Rattle.base.specs.All.{All}
-use Rattle.base.specs.AllLaws.{all-each}
+use Rattle.base.specs.AllLaws.{all_each}
 use Rattle.base.specs.Insertion as Insertion
 use Rattle.numeric.specs.Area.{area, weighed}
 use Rattle.numeric.specs.Area as Area
@@ -37,7 +37,7 @@ use Rattle.drain.specs.Drain as Drain
 use Rattle.drain.specs.Sift as Sift
 use Rattle.records.specs.declared.Record.{Record}
 use Rattle.records.specs.declared.Record.TheVariants.{Header, Opens, Adds, Areas, Seal, Mark, Settle, Sift, Unknown}
-use Rattle.records.specs.Record.{littleEndian}
+use Rattle.records.specs.Record.{little_endian}
 use Rattle.checks.specs.Checks as Checks
 use Rattle.job.specs.Job as Job
 use Rattle.files.specs.File as File
@@ -67,9 +67,9 @@ written Sift = 7 ∷ []
 written (Areas c a) = 8 ∷ bytes 2 c ++ bytes 4 a
 written Unknown = []
 
-unfoldable pub writtenAll : List Record → List ℕ
-writtenAll [] = []
-writtenAll (r ∷ rs) = written r ++ writtenAll rs
+unfoldable pub written_all : List Record → List ℕ
+written_all [] = []
+written_all (r ∷ rs) = written r ++ written_all rs
 
 -- A case: what is given, and what the papers say of it.
 pub data Case : Type 0 where
@@ -89,39 +89,39 @@ pub data Case : Type 0 where
 
 -- What is claimed of a case: the definitions give it.
 abbrev pub Right : Case → Type 0
-Right (lists f t) = listing (File.planned (writtenAll f)) ≡ text t
+Right (lists f t) = listing (File.planned (written_all f)) ≡ text t
 Right (conflicts s b) = States.conflict s ≡ b
 Right (divides a b g) = Gcd.gcd a b ≡ g
 Right (weighs a w) = weighed (area 0 a ∷ []) ≡ term 0 w ∷ []
-Right (merges raw row) = Terms.rowTerms raw ≡ row
+Right (merges raw row) = Terms.row_terms raw ≡ row
 Right (searches row s r) = Searches.search row s (λ n. false) ≡ r
 Right (misses row s) = (choice : ℕ → Bool) → Searches.Lands (Searches.window row s) (λ n. false) row choice → ⊥
-Right (residual row s k) = (Residuals.thresholdResidual row s (File.cleared).marks []).step ≡ k
+Right (residual row s k) = (Residuals.threshold_residual row s (File.cleared).marks []).step ≡ k
 Right (takes f as' b) =
-    let o = File.planned (writtenAll f) in
+    let o = File.planned (written_all f) in
     (o.refused ≡ 0) × (o.records ≡ f) × (o.file.answers ≡ as') × (File.contradicted o.file ≡ b)
-Right (forces f n) = Mask.bit (File.planned (writtenAll f)).file.live.marks.sure n ≡ true
+Right (forces f n) = Mask.bit (File.planned (written_all f)).file.live.marks.sure n ≡ true
 Right (drains f n) =
     let all = f ++ (Settle ∷ []) in
-    ((File.planned (writtenAll all)).records ≡ all) × ((File.after File.begun f).live.marks.nodes.ring.count ≡ n)
+    ((File.planned (written_all all)).records ≡ all) × ((File.after File.begun f).live.marks.nodes.ring.count ≡ n)
     × (Queues.is_empty (File.after File.begun all).live.marks.nodes ≡ true)
-Right (exhibits f ns t) = let o = File.planned (writtenAll f) in (Least.leastNodes o.file.closed ≡ ns) × (listing o ≡ text t)
+Right (exhibits f ns t) = let o = File.planned (written_all f) in (Least.least_nodes o.file.closed ≡ ns) × (listing o ≡ text t)
 -- read on after the refusal: all its records, each of which passes every check but 9, and a mark that was not taken
 Right (continues f t n) =
-    let o = File.planned (writtenAll f) in
-    (listing o ≡ text t) × (Reading.decoded (writtenAll f) ≡ Reading.records f) × Reading.Passes File.begun f
-    × (Reading.markedNode true o.records n ≡ false) × (Reading.markedNode true f n ≡ true)
+    let o = File.planned (written_all f) in
+    (listing o ≡ text t) × (Reading.decoded (written_all f) ≡ Reading.records f) × Reading.Passes File.begun f
+    × (Reading.marked_node true o.records n ≡ false) × (Reading.marked_node true f n ≡ true)
 
 -- A row state before its scans: known 0, possible, lower, upper.
 abbrev fresh : ℕ → ℕ → ℕ → State
 fresh p l u = States.state_of (pos 0) (pos p) (pos l) (Under (pos u)) 0 0 0 0
 
 -- Files A and B of document 01.
-abbrev pub file-A : List Record
-file-A = Header 5 ∷ Opens 4 (pos 6) ∷ Adds 0 4 ∷ Adds 1 3 ∷ Adds 2 2 ∷ Seal ∷ Mark 4 1 ∷ Settle ∷ []
+abbrev pub file_A : List Record
+file_A = Header 5 ∷ Opens 4 (pos 6) ∷ Adds 0 4 ∷ Adds 1 3 ∷ Adds 2 2 ∷ Seal ∷ Mark 4 1 ∷ Settle ∷ []
 
-abbrev pub file-B : List Record
-file-B =
+abbrev pub file_B : List Record
+file_B =
     Header 6 ∷ Opens 4 (pos 6) ∷ Adds 0 5 ∷ Adds 1 5 ∷ Adds 2 4 ∷ Adds 3 4
     ∷ Opens 5 (pos 8) ∷ Adds 0 5 ∷ Adds 1 5 ∷ Adds 2 4 ∷ Adds 3 4 ∷ Seal ∷ Mark 4 1 ∷ Mark 5 0 ∷ Settle ∷ Sift ∷ []
 
@@ -131,12 +131,12 @@ cases =
     ∷ lists (Header 1 ∷ Opens 0 (pos 1) ∷ Seal ∷ []) "node 0 never\nrow 0 0 0 0 -\nend 0 1\n"  -- P2
     ∷ lists (Header 1 ∷ Opens 0 (negsuc 0) ∷ Seal ∷ []) "node 0 sure\nrow 0 0 0 0 -\nend 1 0\n"  -- P3
     ∷ divides 0 0 0 ∷ divides 0 6 6  -- P4
-    ∷ lists file-A "settle changed\nnode 0 sure\nnode 4 sure\nrow 0 4 9 6 -\nend 2 0\n"  -- P5
+    ∷ lists file_A "settle changed\nnode 0 sure\nnode 4 sure\nrow 0 4 9 6 -\nend 2 0\n"  -- P5
     ∷ lists (Header 3 ∷ Opens 2 (pos 5) ∷ Adds 0 5 ∷ Adds 1 4 ∷ Seal ∷ Mark 2 0 ∷ Settle ∷ [])
     "settle changed\nnode 0 never\nnode 2 never\nrow 0 0 4 0 5\nend 0 2\n"  -- P6
     ∷ conflicts (States.state_of (pos 0) (pos 9) (pos 9) Open 0 0 0 0) false  -- P7
     ∷ conflicts (States.state_of (pos 0) (pos 9) (pos 10) Open 0 0 0 0) true
-    ∷ lists file-B "settle unchanged\nsift contradiction 11\nnode 4 sure\nnode 5 never\nrow 0 0 18 6 8\nend 1 1\n"  -- P8
+    ∷ lists file_B "settle unchanged\nsift contradiction 11\nnode 4 sure\nnode 5 never\nrow 0 0 18 6 8\nend 1 1\n"  -- P8
     ∷ searches (term 0 301 ∷ term 1 299 ∷ term 2 200 ∷ []) (fresh 800 400 431) (Cut 12)  -- P9
     ∷ misses (term 0 301 ∷ term 1 299 ∷ term 2 200 ∷ []) (fresh 800 400 431)
     ∷ lists (Header 5 ∷ Opens 3 (pos 400) ∷ Adds 0 301 ∷ Adds 1 299 ∷ Adds 2 200 ∷ Opens 4 (pos 431) ∷ Adds 0 301 ∷ Adds 1 299 ∷ Adds 2 200
@@ -148,17 +148,17 @@ cases =
     ∷ []
 
 -- The job of file A, and two nodes that wait.
-abbrev pub two-wait : List Record
-two-wait = Header 5 ∷ Opens 4 (pos 6) ∷ Adds 0 4 ∷ Adds 1 3 ∷ Adds 2 2 ∷ Seal ∷ Mark 0 1 ∷ Mark 1 0 ∷ []
+abbrev pub two_wait : List Record
+two_wait = Header 5 ∷ Opens 4 (pos 6) ∷ Adds 0 4 ∷ Adds 1 3 ∷ Adds 2 2 ∷ Seal ∷ Mark 0 1 ∷ Mark 1 0 ∷ []
 
 -- Files A and B once more, as clause c of document 01 needs them: both are taken, with their answers, and A forces node 0. Where two
 -- nodes wait, a settle drains both.
 abbrev pub shown : List Case
 shown =
-    takes file-A (File.settled Changed ∷ []) false
-    ∷ takes file-B (File.settled Unchanged ∷ File.sifted Contradiction 11 ∷ []) true
-    ∷ forces file-A 0
-    ∷ drains two-wait 2
+    takes file_A (File.settled Changed ∷ []) false
+    ∷ takes file_B (File.settled Unchanged ∷ File.sifted Contradiction 11 ∷ []) true
+    ∷ forces file_A 0
+    ∷ drains two_wait 2
     ∷ []
 
 -- An empty input is accepted. A mark against what the seal decided contradicts, the next record is refused by 9, and reading on finds a mark of node 2.
@@ -202,7 +202,7 @@ unmarked =
     ∷ []
 
 computed : All Right cases × All Right shown × All Right joining × All Right unmarked × All Right ended
-unfolding States.firstState States.noState States.withKnown States.withPossible States.withLower States.withUpper States.with_guards States.withTerms States.drained States.conflict States.hasResidualInterval Mask.setBit Mask.learn Mask.count Shift.shiftWord Shift.wordHits Shift.shiftFrom Shift.unionShifted Queues.push Queues.popped Queues.queueRow Queues.nextRow Marks.decide Terms.merge Terms.merged Insertion.insert Insertion.sortBy Terms.total Terms.sameTerms Rows.place Rows.placeAll Rows.rowNumber Rows.hasNonunit Rows.edgesIn Rows.edgesFrom Links.notAfter Links.orderFrom Links.common Links.ancestors Links.stacked Links.linked Links.linksFrom Links.links Links.neighbours Gcd.gcdIn Gcd.gcd Misses.misses Misses.branchMisses Residuals.checkFrom Residuals.residualCheck Residuals.fitsFrom Residuals.suffixFrom Residuals.forceTerm Residuals.forceFrom Residuals.thresholdResidual Searches.plan Searches.chosen Searches.searchFrom Searches.search Scan.scan Row.thresholdGuards Row.trueTerms Row.falseTerms Row.scans Row.thresholdRow Row.wantsResidual Between.runWith Between.run_row Between.bounded Between.thresholdGuard Between.conditionFrom Between.thresholdCondition Between.prefixesFrom Between.thresholdPrefixes Between.firstStates Between.seedFrom Between.guard_of Drain.seal Drain.mark Drain.takeNode Drain.take_row Drain.drain Sift.tryRow Sift.siftFrom File.begun Job.lastNode Job.lastList Job.allTerms Checks.first File.refusal Job.onLast Area.hundredths Area.without Area.joined Layout.value Least.among Least.askedNodes Least.grown File.sealedFile File.markedFile File.settledFile File.siftedFile File.act File.apply File.readFrom File.fileOf File.planned File.after Listing.text Decimal.digits Listing.answerLines Listing.nodeLines Listing.row_lines Listing.listing littleEndian Reading.decode_from Reading.decoded Reading.plain Reading.plainly Reading.Passes Reading.markedNode bytes twos written writtenAll
+unfolding States.first_state States.no_state States.with_known States.with_possible States.with_lower States.with_upper States.with_guards States.with_terms States.drained States.conflict States.has_residual_interval Mask.set_bit Mask.learn Mask.count Shift.shift_word Shift.word_hits Shift.shift_from Shift.union_shifted Queues.push Queues.popped Queues.queue_row Queues.next_row Marks.decide Terms.merge Terms.merged Insertion.insert Insertion.sort_by Terms.total Terms.same_terms Rows.place Rows.place_all Rows.row_number Rows.has_nonunit Rows.edges_in Rows.edges_from Links.not_after Links.order_from Links.common Links.ancestors Links.stacked Links.linked Links.links_from Links.links Links.neighbours Gcd.gcd_in Gcd.gcd Misses.misses Misses.branch_misses Residuals.check_from Residuals.residual_check Residuals.fits_from Residuals.suffix_from Residuals.force_term Residuals.force_from Residuals.threshold_residual Searches.plan Searches.chosen Searches.search_from Searches.search Scan.scan Row.threshold_guards Row.true_terms Row.false_terms Row.scans Row.threshold_row Row.wants_residual Between.run_with Between.run_row Between.bounded Between.threshold_guard Between.condition_from Between.threshold_condition Between.prefixes_from Between.threshold_prefixes Between.first_states Between.seed_from Between.guard_of Drain.seal Drain.mark Drain.take_node Drain.take_row Drain.drain Sift.try_row Sift.sift_from File.begun Job.last_node_of Job.last_list Job.all_terms Checks.first File.refusal Job.on_last Area.hundredths Area.without Area.joined Layout.value Least.among Least.asked_nodes Least.grown File.sealed_file File.marked_file File.settled_file File.sifted_file File.act File.apply File.read_from File.file_of File.planned File.after Listing.text Decimal.digits Listing.answer_lines Listing.node_lines Listing.row_lines Listing.listing little_endian Reading.decode_from Reading.decoded Reading.plain Reading.plainly Reading.Passes Reading.marked_node bytes twos written written_all
 computed = (
   (refl, (refl, (refl, (refl, (refl, (refl, (refl, (refl, (refl, (refl, (refl, (nothing-fits, (refl, (refl, (refl, (refl, (refl, (refl, tt)))))))))))))))))),
   ((refl, refl, refl, refl), ((refl, refl, refl, refl), (refl, ((refl, refl, refl), tt)))),
@@ -216,16 +216,16 @@ computed = (
 
 -- EVERY CASE OF THE TABLE
 pub worked : (c : Case) → Memᴰ c cases → Right c
-worked c m = all-each Right cases computed.0 c m
+worked c m = all_each Right cases computed.0 c m
 
-pub shown-right : (c : Case) → Memᴰ c shown → Right c
-shown-right c m = all-each Right shown computed.1 c m
+pub shown_right : (c : Case) → Memᴰ c shown → Right c
+shown_right c m = all_each Right shown computed.1 c m
 
-pub joining-right : (c : Case) → Memᴰ c joining → Right c
-joining-right c m = all-each Right joining computed.2 c m
+pub joining_right : (c : Case) → Memᴰ c joining → Right c
+joining_right c m = all_each Right joining computed.2 c m
 
-pub unmarked-right : (c : Case) → Memᴰ c unmarked → Right c
-unmarked-right c m = all-each Right unmarked computed.3 c m
+pub unmarked_right : (c : Case) → Memᴰ c unmarked → Right c
+unmarked_right c m = all_each Right unmarked computed.3 c m
 
-pub ended-right : (c : Case) → Memᴰ c ended → Right c
-ended-right c m = all-each Right ended computed.4 c m
+pub ended_right : (c : Case) → Memᴰ c ended → Right c
+ended_right c m = all_each Right ended computed.4 c m

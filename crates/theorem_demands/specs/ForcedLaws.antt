@@ -6,9 +6,9 @@ use Rattle.base.specs.TestLaws.{clash}
 use Rattle.numeric.specs.Layout.{Layout, IsLayout}
 use Rattle.words.specs.Mask.{bit}
 use Rattle.files.specs.File.{File, contradicted, planned}
-use Rattle.theorem_limits.specs.FilesLaws.{planned-passed}
+use Rattle.theorem_limits.specs.FilesLaws.{planned_passed}
 use Rattle.theorem_demands.specs.LayoutTurnsLaws.{Fits}
-use Rattle.theorem_demands.specs.LayoutFilesLaws.{file-layouts}
+use Rattle.theorem_demands.specs.LayoutFilesLaws.{file_layouts}
 use Rattle.theorem_demands.specs.Reading.{Agrees}
 use Rattle.theorem_demands.specs.RefusalLaws.{taken}
 
@@ -16,16 +16,16 @@ use Rattle.theorem_demands.specs.RefusalLaws.{taken}
 agreed : (input : List ℕ) (v : Layout) → IsLayout (planned input).file.closed v → Agrees (planned input).records v
     → Fits v (planned input).file.live.marks × (contradicted (planned input).file ≡ false)
 agreed input v is a =
-    subst (λ (f : File). IsLayout f.closed v → Fits v f.live.marks × (contradicted f ≡ false)) (sym (taken input)) (λ l. file-layouts (planned input).records (planned-passed input) v l a) is
+    subst (λ (f : File). IsLayout f.closed v → Fits v f.live.marks × (contradicted f ≡ false)) (sym (taken input)) (λ l. file_layouts (planned input).records (planned_passed input) v l a) is
 
-pub forced-sure : (input : List ℕ) (v : Layout) → IsLayout (planned input).file.closed v → Agrees (planned input).records v
+pub forced_sure : (input : List ℕ) (v : Layout) → IsLayout (planned input).file.closed v → Agrees (planned input).records v
     → (n : ℕ) → bit (planned input).file.live.marks.sure n ≡ true → v n ≡ true
-forced-sure input v is a n e = (agreed input v is a).0 true n e
+forced_sure input v is a n e = (agreed input v is a).0 true n e
 
-pub forced-never : (input : List ℕ) (v : Layout) → IsLayout (planned input).file.closed v → Agrees (planned input).records v
+pub forced_never : (input : List ℕ) (v : Layout) → IsLayout (planned input).file.closed v → Agrees (planned input).records v
     → (n : ℕ) → bit (planned input).file.live.marks.never n ≡ true → v n ≡ false
-forced-never input v is a n e = (agreed input v is a).0 false n e
+forced_never input v is a n e = (agreed input v is a).0 false n e
 
-pub no-layout : (input : List ℕ) → contradicted (planned input).file ≡ true
+pub no_layout : (input : List ℕ) → contradicted (planned input).file ≡ true
     → (v : Layout) → IsLayout (planned input).file.closed v → Agrees (planned input).records v → ⊥
-no-layout input c v is a = clash (contradicted (planned input).file) c (agreed input v is a).1
+no_layout input c v is a = clash (contradicted (planned input).file) c (agreed input v is a).1

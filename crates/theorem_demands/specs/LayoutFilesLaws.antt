@@ -5,34 +5,34 @@ use Rattle.std.proofs.Common.{arith, sym, ap, ◌∙◌, subst, inl, ⊎_elim, e
 use mathlib.Core.List.{List, [], ◌∷◌, map, Memᴰ}
 use Rattle.std.proofs.Math.Logic.{inr}
 use Rattle.std.proofs.lemmas.Bool.{eqb-false}
-use Rattle.memory.specs.Limits.{maxNodes}
+use Rattle.memory.specs.Limits.{max_nodes}
 use Rattle.numeric.specs.Threshold.{Job}
 use Rattle.numeric.specs.Area.{job_of}
 use Rattle.numeric.specs.Layout.{Layout, IsLayout}
 use Rattle.queues.specs.Marks.{Marks, decide}
 use Rattle.rows.specs.Rows.{no_row, rows_of}
 use Rattle.intervals.specs.SoundLaws.{Kept, decide-kept}
-use Rattle.row_moves.specs.Between.{withMarks}
+use Rattle.row_moves.specs.Between.{with_marks}
 use Rattle.drain.specs.Drain as Drain
 use Rattle.drain.specs.Drain.{index_of}
 use Rattle.records.specs.declared.Record.{Record}
 use Rattle.records.specs.Facts.{Action, closes, decides, settles, sifts, action, facts}
-use Rattle.files.specs.File.{File, contradicted, begun, sealedFile, markedFile, settledFile, siftedFile, act, apply, after, Passed}
+use Rattle.files.specs.File.{File, contradicted, begun, sealed_file, marked_file, settled_file, sifted_file, act, apply, after, Passed}
 use Rattle.theorem_table.specs.Table.{IsRow}
-use Rattle.theorem_limits.specs.BuiltLaws.{fits-of, fits-node, fits-condition, rows_few, indexed}
+use Rattle.theorem_limits.specs.BuiltLaws.{fits_of, fits_node, fits_condition, rows_few, indexed}
 use Rattle.theorem_limits.specs.Good.{Fits as JobFits, Good}
 use Rattle.theorem_limits.specs.BlankLaws.{blank-begun}
-use Rattle.theorem_limits.specs.FilesLaws.{good-begun, both, Taken, taken, building-turn, node-small, good_apply}
-use Rattle.theorem_limits.specs.ActionLaws.{act-unsealed, act-sealed, act-served}
+use Rattle.theorem_limits.specs.FilesLaws.{good_begun, both, Taken, taken, building_turn, node_small, good_apply}
+use Rattle.theorem_limits.specs.ActionLaws.{act_unsealed, act_sealed, act-served}
 use Rattle.theorem_follows.specs.Ordered.{Ordered}
-use Rattle.theorem_follows.specs.StandsLaws.{apart-decide}
-use Rattle.queues.specs.StayLaws.{stay-same, stay-decide}
+use Rattle.theorem_follows.specs.StandsLaws.{apart_decide}
+use Rattle.queues.specs.StayLaws.{stay_same, stay_decide}
 use Rattle.theorem_follows.specs.BuiltLaws.{Built, built, rows-ordered}
-use Rattle.theorem_follows.specs.WaitingLaws.{queued-decide}
-use Rattle.theorem_follows.specs.FirstLaws.{Undrained, undrained-from, undrained-none}
-use Rattle.theorem_demands.specs.LayoutTurnsLaws.{Fits, Holds, Between, agrees-fits, marked, settle-fine}
-use Rattle.theorem_demands.specs.LayoutSiftsLaws.{sift-fine}
-use Rattle.theorem_demands.specs.LayoutSealsLaws.{seal-fine}
+use Rattle.theorem_follows.specs.WaitingLaws.{queued_decide}
+use Rattle.theorem_follows.specs.FirstLaws.{Undrained, undrained_from, undrained_none}
+use Rattle.theorem_demands.specs.LayoutTurnsLaws.{Fits, Holds, Between, agrees_fits, marked, settle_fine}
+use Rattle.theorem_demands.specs.LayoutSiftsLaws.{sift_fine}
+use Rattle.theorem_demands.specs.LayoutSealsLaws.{seal_fine}
 
 -- WHAT A SEAL BUILDS of a job within the limits
 
@@ -40,7 +40,7 @@ builds : (j : Job) → Built j (index_of j)
 builds j = built j (index_of j) refl refl refl
 
 orders : (j : Job) → JobFits j → (r : ℕ) → IsRow (rows_of j) r → Ordered (get_or (rows_of j) r no_row)
-orders j f = rows-ordered j (record { nodes = fits-node j f; conditions = fits-condition j f })
+orders j f = rows-ordered j (record { nodes = fits_node j f; conditions = fits_condition j f })
 
 -- THE STAGES of a file: before its seal every decided node waits and the layout agrees with them; after it, with the rows as well
 
@@ -50,12 +50,12 @@ pub record Open (w : Layout) (f : File) : Type 0 where
   pub undrained : Undrained 0 f.live
   pub fits : Fits w f.live.marks
 
-begun-open : (w : Layout) → Open w begun
+begun_open : (w : Layout) → Open w begun
 unfolding begun
-begun-open w = record {
+begun_open w = record {
   sealed = refl;
   fine = refl;
-  undrained = undrained-none begun.live good-begun.live.waits blank-begun.states blank-begun.bits;
+  undrained = undrained_none begun.live good_begun.live.waits blank-begun.states blank-begun.bits;
   fits = λ b n e. absurd (both e (blank-begun.bits b n));
 }
 
@@ -80,26 +80,26 @@ module _ (f : File) (started : f.started ≡ true) (sealed : f.sealed ≡ true) 
   same-job : (a : Action) → Taken f (facts a) → Same (act f a)
   same-job = act-served f Same (started, sealed, refl) started sealed (λ k v g as'. (started, refl, refl))
 
-job-stays : (f : File) (rs : List Record) → f.started ≡ true → f.sealed ≡ true → Passed f rs → (after f rs).closed ≡ f.closed
+job_stays : (f : File) (rs : List Record) → f.started ≡ true → f.sealed ≡ true → Passed f rs → (after f rs).closed ≡ f.closed
 unfolding after apply
-job-stays f [] a b p = refl
-job-stays f (r ∷ rs) a b p = let s = same-job f a b (action r) (taken f r p.0) in job-stays (apply f r) rs s.0 s.1 p.1 ∙ s.2
+job_stays f [] a b p = refl
+job_stays f (r ∷ rs) a b p = let s = same-job f a b (action r) (taken f r p.0) in job_stays (apply f r) rs s.0 s.1 p.1 ∙ s.2
 
 module _ (w : Layout) (f : File) (g : Good f) where
   -- ---- before the seal
 
   sealed-fine : Open w f → Taken f (facts closes) → ((act f closes).started ≡ true → (act f closes).sealed ≡ true → IsLayout (act f closes).closed w) → Stage w (act f closes)
-  unfolding act sealedFile
+  unfolding act sealed_file
   sealed-fine o t is =
-      let started = (building-turn f t.turn).0 in
+      let started = (building_turn f t.turn).0 in
       let j = job_of f.draft in
-      let d = seal-fine j (index_of j) (builds j) (orders j (fits-of g.draft)) w (is started refl) f.live
-      (undrained-from 0 (length (rows_of j)) f.live (omega arith) o.undrained) o.fits g.live (rows_few j (fits-of g.draft)) in
+      let d = seal_fine j (index_of j) (builds j) (orders j (fits_of g.draft)) w (is started refl) f.live
+      (undrained_from 0 (length (rows_of j)) f.live (omega arith) o.undrained) o.fits g.live (rows_few j (fits_of g.draft)) in
       inr (record { started = started; sealed = refl; fine = d.0; between = d.1 })
 
   opened : Open w f → (a : Action) → Taken f (facts a) → ((act f a).started ≡ true → (act f a).sealed ≡ true → IsLayout (act f a).closed w) → Stage w (act f a)
   opened o =
-      act-unsealed f (λ (a : Action) (h : File). (h.started ≡ true → h.sealed ≡ true → IsLayout h.closed w) → Stage w h) (λ x is. inl o) o.sealed
+      act_unsealed f (λ (a : Action) (h : File). (h.started ≡ true → h.sealed ≡ true → IsLayout h.closed w) → Stage w h) (λ x is. inl o) o.sealed
       (λ a d is. inl (record { sealed = o.sealed; fine = o.fine; undrained = o.undrained; fits = o.fits })) (sealed-fine o)
 
   -- ---- after it
@@ -113,39 +113,39 @@ module _ (w : Layout) (f : File) (g : Good f) where
 
   module _ (c : Closed w f) (is : IsLayout f.closed w) where
     marked-closed : (n v : ℕ) → Taken f (facts (decides n v)) → w n ≡ eqb v 1 → Closed w (act f (decides n v))
-    unfolding act markedFile Drain.mark
+    unfolding act marked_file Drain.mark
     marked-closed n v t e = record { started = c.started; sealed = refl; fine = k.1; between = (c.between.0, holds) }
       where
         m : Marks
         m = f.live.marks
 
-        small : n < maxNodes
-        small = node-small f g n t.nodes
+        small : n < max_nodes
+        small = node_small f g n t.nodes
 
         k : Kept w (decide (eqb v 1) m n)
-        k = decide-kept w (eqb v 1) m n e (agrees-fits (index_of f.closed) w f.live c.between.1.agrees)
+        k = decide-kept w (eqb v 1) m n e (agrees_fits (index_of f.closed) w f.live c.between.1.agrees)
 
-        holds : Holds (index_of f.closed) w c.between.0 c.between.0 (withMarks f.live (decide (eqb v 1) m n).marks)
+        holds : Holds (index_of f.closed) w c.between.0 c.between.0 (with_marks f.live (decide (eqb v 1) m n).marks)
         holds =
             marked (index_of f.closed) w c.between.0 c.between.0 c.between.0 f.live (decide (eqb v 1) m n).marks f.live.dirty f.live.residuals c.between.1
-            (stay-decide m (eqb v 1) m n (stay-same m)) (apart-decide (eqb v 1) m n c.between.1.stands.apart) k.0
-            (queued-decide c.between.0 (eqb v 1) m n small c.between.1.queued)
+            (stay_decide m (eqb v 1) m n (stay_same m)) (apart_decide (eqb v 1) m n c.between.1.stands.apart) k.0
+            (queued_decide c.between.0 (eqb v 1) m n small c.between.1.queued)
 
     settled-closed : Closed w (act f settles)
-    unfolding act settledFile
+    unfolding act settled_file
     settled-closed =
-        let d = settle-fine f.closed (index_of f.closed) (builds f.closed) (orders f.closed g.closed) w is f.live c.between in
+        let d = settle_fine f.closed (index_of f.closed) (builds f.closed) (orders f.closed g.closed) w is f.live c.between in
         record { started = c.started; sealed = refl; fine = d.0; between = d.1 }
 
     sifted-closed : Closed w (act f sifts)
-    unfolding act siftedFile
+    unfolding act sifted_file
     sifted-closed =
-        let d = sift-fine f.closed (index_of f.closed) (builds f.closed) (orders f.closed g.closed) (indexed f.closed g.closed) w is f.live f.gcds g.live c.between in
+        let d = sift_fine f.closed (index_of f.closed) (builds f.closed) (orders f.closed g.closed) (indexed f.closed g.closed) w is f.live f.gcds g.live c.between in
         record { started = c.started; sealed = refl; fine = d.0; between = d.1 }
 
     closed : (a : Action) → Taken f (facts a) → AgreesOne w a → Stage w (act f a)
     closed =
-        act-sealed f (λ (a : Action) (h : File). AgreesOne w a → Stage w h) (λ x a. inr c) c.started c.sealed
+        act_sealed f (λ (a : Action) (h : File). AgreesOne w a → Stage w h) (λ x a. inr c) c.started c.sealed
         (λ n v t a. inr (marked-closed n v t (a n (eqb v 1) (ap (decides n) (value-is v t.values))))) (λ t a. inr settled-closed) (λ t a. inr sifted-closed)
 
 -- ONE RECORD AFTER THE OTHER
@@ -156,19 +156,19 @@ stages w f [] g p is a s = s
 stages w f (r ∷ rs) g p is a s =
     stages w (apply f r) rs (good_apply f g r p.0) p.1 is (λ n b m. a n b (Memᴰ.tail m))
     (⊎_elim
-    (λ (o : Open w f). opened w f g o (action r) t (λ d e. subst (λ (j : Job). IsLayout j w) (job-stays (apply f r) rs d e p.1) is))
+    (λ (o : Open w f). opened w f g o (action r) t (λ d e. subst (λ (j : Job). IsLayout j w) (job_stays (apply f r) rs d e p.1) is))
     (λ (c : Closed w f).
     let k = same-job f c.started c.sealed (action r) t in
-    closed w f g c (subst (λ (j : Job). IsLayout j w) (job-stays (apply f r) rs k.0 k.1 p.1 ∙ k.2) is) (action r) t (λ n b e. a n b (Memᴰ.head e))) s)
+    closed w f g c (subst (λ (j : Job). IsLayout j w) (job_stays (apply f r) rs k.0 k.1 p.1 ∙ k.2) is) (action r) t (λ n b e. a n b (Memᴰ.head e))) s)
   where
     t : Taken f (facts (action r))
     t = taken f r p.0
 
-stage-fits : (w : Layout) (f : File) → Stage w f → Fits w f.live.marks × (contradicted f ≡ false)
-stage-fits w f (inl o) = (o.fits, o.fine)
-stage-fits w f (inr c) = (agrees-fits (index_of f.closed) w f.live c.between.1.agrees, c.fine)
+stage_fits : (w : Layout) (f : File) → Stage w f → Fits w f.live.marks × (contradicted f ≡ false)
+stage_fits w f (inl o) = (o.fits, o.fine)
+stage_fits w f (inr c) = (agrees_fits (index_of f.closed) w f.live c.between.1.agrees, c.fine)
 
 -- EVERY LAYOUT OF THE JOB THAT AGREES WITH THE MARKS agrees with the nodes that records leave, which do not contradict
-pub file-layouts : (rs : List Record) → Passed begun rs → (w : Layout) → let f = after begun rs in IsLayout f.closed w
+pub file_layouts : (rs : List Record) → Passed begun rs → (w : Layout) → let f = after begun rs in IsLayout f.closed w
     → ((n : ℕ) (b : Bool) → Memᴰ (decides n (cond b 1 0)) (map action rs) → w n ≡ b) → Fits w f.live.marks × (contradicted f ≡ false)
-file-layouts rs p w is a = stage-fits w (after begun rs) (stages w begun rs good-begun p is a (inl (begun-open w)))
+file_layouts rs p w is a = stage_fits w (after begun rs) (stages w begun rs good_begun p is a (inl (begun_open w)))

@@ -14,15 +14,15 @@ use Rattle.theorem_table.specs.Table.{Table}
 use Rattle.records.specs.declared.Record.{Record}
 use Rattle.records.specs.declared.Record.TheVariants.{Settle}
 use Rattle.records.specs.Facts.{Action, begins, changes, closes, decides, settles, sifts, idles, action, facts}
-use Rattle.files.specs.File.{File, contradicted, begun, sealedFile, markedFile, settledFile, act, apply, after, planned, Passed}
+use Rattle.files.specs.File.{File, contradicted, begun, sealed_file, marked_file, settled_file, act, apply, after, planned, Passed}
 use Rattle.theorem_limits.specs.BlankLaws.{blank-begun}
-use Rattle.theorem_limits.specs.FilesLaws.{both, Taken, taken, building-turn, change-turn}
-use Rattle.theorem_follows.specs.DecideLaws.{decideAs}
-use Rattle.theorem_demands.specs.TableSealsLaws.{ownStart}
-use Rattle.theorem_demands.specs.TableRecordsLaws.{From, Breaks, Keeps, keeps-begun, keeps-apply, seal-from, mark-from, settle-from}
-use Rattle.theorem_demands.specs.Reading.{NoSift, marks, markedNode, marksOnly}
+use Rattle.theorem_limits.specs.FilesLaws.{both, Taken, taken, building_turn, change_turn}
+use Rattle.theorem_follows.specs.DecideLaws.{decide_as}
+use Rattle.theorem_demands.specs.TableSealsLaws.{own_start}
+use Rattle.theorem_demands.specs.TableRecordsLaws.{From, Breaks, Keeps, keeps_begun, keeps_apply, seal_from, mark_from, settle_from}
+use Rattle.theorem_demands.specs.Reading.{NoSift, marks, marked_node, marks_only}
 use Rattle.theorem_demands.specs.Demands.{ExactlyTheTable}
-use Rattle.theorem_demands.specs.SettleLaws.{start-same, Ending, exactly, stood}
+use Rattle.theorem_demands.specs.SettleLaws.{start_same, Ending, exactly, stood}
 
 -- ---- marked nodes
 
@@ -30,20 +30,20 @@ or_assoc : (a b c : Bool) → ((a || b) || c) ≡ (a || (b || c))
 or_assoc true b c = refl
 or_assoc false b c = refl
 
-pub marked_append : (b : Bool) (rs qs : List Record) (n : ℕ) → markedNode b (rs ++ qs) n ≡ (markedNode b rs n || markedNode b qs n)
-unfolding markedNode
+pub marked_append : (b : Bool) (rs qs : List Record) (n : ℕ) → marked_node b (rs ++ qs) n ≡ (marked_node b rs n || marked_node b qs n)
+unfolding marked_node
 marked_append b [] qs n = refl
 marked_append b (r ∷ rs) qs n =
-    ap (λ (y : Bool). marks b (action r) n || y) (marked_append b rs qs n) ∙ sym (or_assoc (marks b (action r) n) (markedNode b rs n) (markedNode b qs n))
+    ap (λ (y : Bool). marks b (action r) n || y) (marked_append b rs qs n) ∙ sym (or_assoc (marks b (action r) n) (marked_node b rs n) (marked_node b qs n))
 
 -- a record that is no mark adds none
-pub marked-same : (b : Bool) (rs : List Record) (r : Record) (n : ℕ) → marks b (action r) n ≡ false → markedNode b (rs ++ (r ∷ [])) n ≡ markedNode b rs n
-unfolding markedNode
-marked-same b rs r n h =
-    marked_append b rs (r ∷ []) n ∙ ap (λ (y : Bool). markedNode b rs n || (y || false)) h ∙ B.or-false (markedNode b rs n)
+pub marked_same : (b : Bool) (rs : List Record) (r : Record) (n : ℕ) → marks b (action r) n ≡ false → marked_node b (rs ++ (r ∷ [])) n ≡ marked_node b rs n
+unfolding marked_node
+marked_same b rs r n h =
+    marked_append b rs (r ∷ []) n ∙ ap (λ (y : Bool). marked_node b rs n || (y || false)) h ∙ B.or-false (marked_node b rs n)
 
-pub marks-same : (rs : List Record) (r : Record) → ((b : Bool) (n : ℕ) → marks b (action r) n ≡ false) → marksOnly rs ≡ marksOnly (rs ++ (r ∷ []))
-marks-same rs r h = start-same _ _ _ _ (λ n. sym (marked-same true rs r n (h true n))) (λ n. sym (marked-same false rs r n (h false n)))
+pub marks_same : (rs : List Record) (r : Record) → ((b : Bool) (n : ℕ) → marks b (action r) n ≡ false) → marks_only rs ≡ marks_only (rs ++ (r ∷ []))
+marks_same rs r h = start_same _ _ _ _ (λ n. sym (marked_same true rs r n (h true n))) (λ n. sym (marked_same false rs r n (h false n)))
 
 eqb-turned : (m n : ℕ) → eqb m n ≡ eqb n m
 eqb-turned m n = by (ℕ_discrete m n)
@@ -69,29 +69,29 @@ module _ (rs : List Record) (r : Record) (n v : ℕ) (is : action r ≡ decides 
   one-marked : (b : Bool) (m : ℕ) → marks b (action r) m ≡ (eqb n m && eqb v (cond b 1 0))
   one-marked b m = ap (λ (a : Action). marks b a m) is
 
-  added : (b : Bool) → eqb v (cond b 1 0) ≡ true → (m : ℕ) → cond (eqb m n) true (markedNode b rs m) ≡ markedNode b (rs ++ (r ∷ [])) m
-  unfolding markedNode
+  added : (b : Bool) → eqb v (cond b 1 0) ≡ true → (m : ℕ) → cond (eqb m n) true (marked_node b rs m) ≡ marked_node b (rs ++ (r ∷ [])) m
+  unfolding marked_node
   added b e m =
-      put_in (eqb m n) (markedNode b rs m) ∙ ap₂ (λ (x y : Bool). markedNode b rs m || ((x && y) || false)) (eqb-turned m n) (sym e)
-      ∙ ap (λ (y : Bool). markedNode b rs m || (y || false)) (sym (one-marked b m)) ∙ sym (marked_append b rs (r ∷ []) m)
+      put_in (eqb m n) (marked_node b rs m) ∙ ap₂ (λ (x y : Bool). marked_node b rs m || ((x && y) || false)) (eqb-turned m n) (sym e)
+      ∙ ap (λ (y : Bool). marked_node b rs m || (y || false)) (sym (one-marked b m)) ∙ sym (marked_append b rs (r ∷ []) m)
 
-  others : (b : Bool) → eqb v (cond b 1 0) ≡ false → (m : ℕ) → markedNode b rs m ≡ markedNode b (rs ++ (r ∷ [])) m
-  unfolding markedNode
+  others : (b : Bool) → eqb v (cond b 1 0) ≡ false → (m : ℕ) → marked_node b rs m ≡ marked_node b (rs ++ (r ∷ [])) m
+  unfolding marked_node
   others b e m =
-      put-out (eqb n m) (markedNode b rs m) ∙ ap (λ (y : Bool). markedNode b rs m || ((eqb n m && y) || false)) (sym e)
-      ∙ ap (λ (y : Bool). markedNode b rs m || (y || false)) (sym (one-marked b m)) ∙ sym (marked_append b rs (r ∷ []) m)
+      put-out (eqb n m) (marked_node b rs m) ∙ ap (λ (y : Bool). marked_node b rs m || ((eqb n m && y) || false)) (sym e)
+      ∙ ap (λ (y : Bool). marked_node b rs m || (y || false)) (sym (one-marked b m)) ∙ sym (marked_append b rs (r ∷ []) m)
 
-  pub mark-start : ltb 1 v ≡ false → decideAs (eqb v 1) (marksOnly rs) n ≡ marksOnly (rs ++ (r ∷ []))
+  pub mark-start : ltb 1 v ≡ false → decide_as (eqb v 1) (marks_only rs) n ≡ marks_only (rs ++ (r ∷ []))
   mark-start h = by (ℕ_discrete v 1)
     where
-      by : Dec (v ≡ 1) → decideAs (eqb v 1) (marksOnly rs) n ≡ marksOnly (rs ++ (r ∷ []))
+      by : Dec (v ≡ 1) → decide_as (eqb v 1) (marks_only rs) n ≡ marks_only (rs ++ (r ∷ []))
       by (yes e) =
-          ap (λ (b : Bool). decideAs b (marksOnly rs) n) (eq-eqb v 1 e)
-          ∙ start-same _ _ _ _ (added true (eq-eqb v 1 e)) (others false (ne_eqb v 0 (λ q. absurd (omega arith))))
+          ap (λ (b : Bool). decide_as b (marks_only rs) n) (eq-eqb v 1 e)
+          ∙ start_same _ _ _ _ (added true (eq-eqb v 1 e)) (others false (ne_eqb v 0 (λ q. absurd (omega arith))))
       by (no e) =
           let k = ltb-false 1 v h in
-          ap (λ (b : Bool). decideAs b (marksOnly rs) n) (ne_eqb v 1 e)
-          ∙ start-same _ _ _ _ (others true (ne_eqb v 1 e)) (added false (eq-eqb v 0 (omega arith)))
+          ap (λ (b : Bool). decide_as b (marks_only rs) n) (ne_eqb v 1 e)
+          ∙ start_same _ _ _ _ (others true (ne_eqb v 1 e)) (added false (eq-eqb v 0 (omega arith)))
 
 -- A record marks a node, or none.
 pub marks-cases : (P : Action → Type 0) → ((n v : ℕ) → P (decides n v)) → ((a : Action) → ((b : Bool) (n : ℕ) → marks b a n ≡ false) → P a) → (a : Action) → P a
@@ -104,26 +104,26 @@ marks-cases P one none sifts = none sifts (λ b n. refl)
 marks-cases P one none (idles x) = none (idles x) (λ b n. refl)
 
 -- marks end somewhere
-pub marks-end : (rs : List Record) → Ending (markedNode true rs)
-unfolding markedNode
-marks-end [] = (0, λ m h. refl)
-marks-end (r ∷ rs) = by (marks-end rs) (action r)
+pub marks_end : (rs : List Record) → Ending (marked_node true rs)
+unfolding marked_node
+marks_end [] = (0, λ m h. refl)
+marks_end (r ∷ rs) = by (marks_end rs) (action r)
   where
-    by : Ending (markedNode true rs) → (a : Action) → Ending (λ (m : ℕ). marks true a m || markedNode true rs m)
+    by : Ending (marked_node true rs) → (a : Action) → Ending (λ (m : ℕ). marks true a m || marked_node true rs m)
     by e =
-        marks-cases (λ (a : Action). Ending (λ (m : ℕ). marks true a m || markedNode true rs m))
+        marks-cases (λ (a : Action). Ending (λ (m : ℕ). marks true a m || marked_node true rs m))
         (λ k v. (k + 1 + e.0, λ m h. ap₂ (λ (x y : Bool). (x && eqb v 1) || y) (ne_eqb k m (λ q. omega arith)) (e.1 m (omega arith))))
-        (λ a none. (e.0, λ m h. ap (λ (x : Bool). x || markedNode true rs m) (none true m) ∙ e.1 m h))
+        (λ a none. (e.0, λ m h. ap (λ (x : Bool). x || marked_node true rs m) (none true m) ∙ e.1 m h))
 
 -- ---- WHAT A FILE KEEPS of its marks, as long as no sifting came: before the seal they are what is decided
 pub record Marking (f : File) (done : List Record) : Type 0 where
-  pub bits : f.sealed ≡ false → (b : Bool) (n : ℕ) → bit (mask b f.live.marks) n ≡ markedNode b done n
-  pub from : From f (marksOnly done)
-  pub breaks : Breaks f (marksOnly done)
+  pub bits : f.sealed ≡ false → (b : Bool) (n : ℕ) → bit (mask b f.live.marks) n ≡ marked_node b done n
+  pub from : From f (marks_only done)
+  pub breaks : Breaks f (marks_only done)
 
-marking-begun : Marking begun []
-unfolding begun markedNode
-marking-begun = record { bits = λ e b n. blank-begun.bits b n; from = λ e. absurd (both e refl); breaks = λ e. absurd (both e refl) }
+marking_begun : Marking begun []
+unfolding begun marked_node
+marking_begun = record { bits = λ e b n. blank-begun.bits b n; from = λ e. absurd (both e refl); breaks = λ e. absurd (both e refl) }
 
 module _ (f : File) (k : Keeps f) (done : List Record) (m : Marking f done) (r : Record) where
   abbrev more : List Record
@@ -135,51 +135,51 @@ module _ (f : File) (k : Keeps f) (done : List Record) (m : Marking f done) (r :
   -- records before the seal; behind it
   early : (h : File) → h.live ≡ f.live → f.sealed ≡ false → h.sealed ≡ false → contradicted h ≡ false → Unmarking → Marking h more
   early h l s t c none = record {
-    bits = λ e b n. ap (λ (v : Live). bit (mask b v.marks) n) l ∙ m.bits s b n ∙ sym (marked-same b done r n (none b n));
+    bits = λ e b n. ap (λ (v : Live). bit (mask b v.marks) n) l ∙ m.bits s b n ∙ sym (marked_same b done r n (none b n));
     from = λ e. absurd (both e t);
     breaks = λ e. absurd (both e c);
   }
 
-  later : (h : File) (s : Table) → h.sealed ≡ true → From h s × Breaks h s → s ≡ marksOnly more → Marking h more
+  later : (h : File) (s : Table) → h.sealed ≡ true → From h s × Breaks h s → s ≡ marks_only more → Marking h more
   later h s e a q = record { bits = λ z. absurd (both e z); from = subst (From h) q a.0; breaks = subst (Breaks h) q a.1 }
 
   marked : (a : Action) → action r ≡ a → (sifts ≡ a → ⊥) → Taken f (facts a) → Marking (act f a) more
-  unfolding act sealedFile markedFile settledFile
+  unfolding act sealed_file marked_file settled_file
   marked (begins n) is unsifted t =
       let s = k.good.unstarted t.turn in
       early (act f (begins n)) refl s s t.fine (λ b i. ap (λ (a : Action). marks b a i) is)
   marked (changes c) is unsifted t =
-      let s = (change-turn f c t).1 in
+      let s = (change_turn f c t).1 in
       early (act f (changes c)) refl s s t.fine (λ b i. ap (λ (a : Action). marks b a i) is)
   marked closes is unsifted t =
-      let s = (building-turn f t.turn).1 in
-      later (act f closes) (ownStart f.live) refl (seal-from f k t)
-      (start-same _ _ _ _ (m.bits s true) (m.bits s false)
-      ∙ marks-same done r (λ b i. ap (λ (a : Action). marks b a i) is))
+      let s = (building_turn f t.turn).1 in
+      later (act f closes) (own_start f.live) refl (seal_from f k t)
+      (start_same _ _ _ _ (m.bits s true) (m.bits s false)
+      ∙ marks_same done r (λ b i. ap (λ (a : Action). marks b a i) is))
   marked (decides n v) is unsifted t =
-      later (act f (decides n v)) (decideAs (eqb v 1) (marksOnly done) n) refl (mark-from f k n v (marksOnly done) t m.from) (mark-start done r n v is t.values)
+      later (act f (decides n v)) (decide_as (eqb v 1) (marks_only done) n) refl (mark_from f k n v (marks_only done) t m.from) (mark-start done r n v is t.values)
   marked settles is unsifted t =
-      later (act f settles) (marksOnly done) refl (settle-from f k (marksOnly done) t m.from) (marks-same done r (λ b i. ap (λ (a : Action). marks b a i) is))
+      later (act f settles) (marks_only done) refl (settle_from f k (marks_only done) t m.from) (marks_same done r (λ b i. ap (λ (a : Action). marks b a i) is))
   marked sifts is unsifted t = absurd (unsifted refl)
   marked (idles x) is unsifted t =
       let none : Unmarking = λ b i. ap (λ (a : Action). marks b a i) is in
-      let q = marks-same done r none in
-      record { bits = λ e b n. m.bits e b n ∙ sym (marked-same b done r n (none b n)); from = subst (From f) q m.from; breaks = subst (Breaks f) q m.breaks }
+      let q = marks_same done r none in
+      record { bits = λ e b n. m.bits e b n ∙ sym (marked_same b done r n (none b n)); from = subst (From f) q m.from; breaks = subst (Breaks f) q m.breaks }
 
-marking-after : (f : File) (done rs : List Record) → Keeps f → Marking f done → Passed f rs → NoSift rs → Marking (after f rs) (done ++ rs)
+marking_after : (f : File) (done rs : List Record) → Keeps f → Marking f done → Passed f rs → NoSift rs → Marking (after f rs) (done ++ rs)
 unfolding after apply
-marking-after f done [] k m p unsifted = subst (Marking f) (sym (append-nil done)) m
-marking-after f done (r ∷ rs) k m p unsifted =
+marking_after f done [] k m p unsifted = subst (Marking f) (sym (append-nil done)) m
+marking_after f done (r ∷ rs) k m p unsifted =
     subst (Marking (after (apply f r) rs)) (append_assoc done (r ∷ []) rs)
-    (marking-after (apply f r) (done ++ (r ∷ [])) rs (keeps-apply f k r p.0) (marked f k done m r (action r) refl (λ e. unsifted (Memᴰ.head e)) (taken f r p.0)) p.1 (λ i. unsifted (Memᴰ.tail i)))
+    (marking_after (apply f r) (done ++ (r ∷ [])) rs (keeps_apply f k r p.0) (marked f k done m r (action r) refl (λ e. unsifted (Memᴰ.head e)) (taken f r p.0)) p.1 (λ i. unsifted (Memᴰ.tail i)))
 
 -- EVERY FILE WITHOUT A SIFTING STANDS BY ITS MARKS
 pub marking : (rs : List Record) → Passed begun rs → NoSift rs → Marking (after begun rs) rs
-marking rs p unsifted = marking-after begun [] rs keeps-begun marking-begun p unsifted
+marking rs p unsifted = marking_after begun [] rs keeps_begun marking_begun p unsifted
 
 -- ---- THE CLAIM
-pub settles-from-marks : (input : List ℕ) (before later : List Record) → (planned input).records ≡ before ++ (Settle ∷ later) → NoSift before
-    → let f = after begun before in ExactlyTheTable (rows_of f.closed) (marksOnly before) (apply f Settle)
-settles-from-marks input before later e unsifted =
+pub settles_from_marks : (input : List ℕ) (before later : List Record) → (planned input).records ≡ before ++ (Settle ∷ later) → NoSift before
+    → let f = after begun before in ExactlyTheTable (rows_of f.closed) (marks_only before) (apply f Settle)
+settles_from_marks input before later e unsifted =
     let h = stood input before later Settle e in
-    exactly (after begun before) h.keeps h.accepted (markedNode true before) (markedNode false before) (marks-end before) (marking before h.passed unsifted).from
+    exactly (after begun before) h.keeps h.accepted (marked_node true before) (marked_node false before) (marks_end before) (marking before h.passed unsifted).from

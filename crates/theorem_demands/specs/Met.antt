@@ -2,7 +2,7 @@
 use Rattle.numeric.specs.AreaLaws as AreaLaws
 use Rattle.numeric.specs.LeastLaws as LeastLaws
 use Rattle.searches.specs.SearchLaws as SearchLaws
-use Rattle.job.specs.JobLaws.{last-added, all-added}
+use Rattle.job.specs.JobLaws.{last_added, all_added}
 use Rattle.files.specs.File.{act}
 use Rattle.theorem_limits.specs.FilesLaws as Files
 use Rattle.theorem_table.specs.TableLaws as Table
@@ -27,10 +27,10 @@ demand1 = record {
   numbers = Refusals.numbers;
   refused = Refusals.refused;
   ten = Refusals.ten;
-  ten-touches-nothing = Refusals.ten-touches-nothing;
+  ten_touches_nothing = Refusals.ten_touches_nothing;
   spelled = Reads.spelled;
   taken = Refusals.taken;
-  passed = Files.planned-passed;
+  passed = Files.planned_passed;
   read_all = Reads.read_all;
   first-check = Reads.first-check;
   ends = Files.ends;
@@ -40,11 +40,11 @@ demand1 = record {
 -- DEMAND 2, whole
 pub demand2 : Demand2
 demand2 = record {
-  closed-job = Refusals.closed-job;
-  forced-sure = Forced.forced-sure;
-  forced-never = Forced.forced-never;
-  no-layout = Forced.no-layout;
-  search-exact = SearchLaws.search-exact;
+  closed_job = Refusals.closed_job;
+  forced_sure = Forced.forced_sure;
+  forced_never = Forced.forced_never;
+  no_layout = Forced.no_layout;
+  search_exact = SearchLaws.search_exact;
   cut_short = SearchLaws.cut_short;
 }
 
@@ -55,74 +55,74 @@ demand3 = record {
   seals = Settles.seals;
   marks = Settles.marks;
   settles = Settles.settles;
-  settles-from-marks = Marks.settles-from-marks;
-  order-does-not-matter = Order.order-does-not-matter;
-  accepted-pass = Passes.accepted-pass;
+  settles_from_marks = Marks.settles_from_marks;
+  order_does_not_matter = Order.order_does_not_matter;
+  accepted_pass = Passes.accepted_pass;
 }
 
 -- AREAS, whole
-pub areas-added : AreasAdded
+pub areas_added : AreasAdded
 unfolding act
-areas-added = record {
-  added = AreaLaws.joined-adds;
-  nothing-else = AreaLaws.joined-single;
-  once = AreaLaws.single-joined;
-  sums = AreaLaws.sum-stays;
-  counted = λ f x h. let d = f.draft in (last-added x d.thresholds h, all-added x d.thresholds h);
+areas_added = record {
+  added = AreaLaws.joined_adds;
+  nothing_else = AreaLaws.joined_single;
+  once = AreaLaws.single_joined;
+  sums = AreaLaws.sum_stays;
+  counted = λ f x h. let d = f.draft in (last_added x d.thresholds h, all_added x d.thresholds h);
 }
 
 -- UNMARKED JOBS, whole
-pub unmarked-has-layout : UnmarkedHasLayout
-unmarked-has-layout = record {
-  layout = LeastLaws.least-layout;
-  least = LeastLaws.least-below;
+pub unmarked_has_layout : UnmarkedHasLayout
+unmarked_has_layout = record {
+  layout = LeastLaws.least_layout_lem;
+  least = LeastLaws.least_below;
   files = Unmarked.layouts;
   fine = Unmarked.fine;
-  not-nine = Unmarked.not-nine;
-  call-fine = Unmarked.call-fine;
-  call-not-nine = Unmarked.call-not-nine;
+  not_nine = Unmarked.not_nine;
+  call_fine = Unmarked.call_fine;
+  call-not_nine = Unmarked.call-not_nine;
 }
 
 -- BOTH DEMANDS, of the call and the words in its buffers
 pub call : Call
 call = record {
-  forced-sure = Calls.forced-sure;
-  forced-never = Calls.forced-never;
-  no-layout = Calls.no-layout;
+  forced_sure = Calls.forced_sure;
+  forced_never = Calls.forced_never;
+  no_layout = Calls.no_layout;
   seals = Calls.seals;
   marks = Calls.marks;
   settles = Calls.settles;
-  settles-from-marks = Calls.settles-from-marks;
-  order-does-not-matter = Calls.order-does-not-matter;
+  settles_from_marks = Calls.settles_from_marks;
+  order_does_not_matter = Calls.order_does_not_matter;
 }
 
 -- CLAUSE A, whole
-pub clauseA : ClauseA
-clauseA = record { memory = Memory.memory; lengths = Lengths.lengths; files = Refusals.files }
+pub clause_a : ClauseA
+clause_a = record { memory = Memory.memory; lengths = Lengths.lengths; files = Refusals.files }
 
 -- BOTH, of the public call
-pub public-call : PublicCall
-public-call = record {
+pub public_call : PublicCall
+public_call = record {
   numbers = Public.numbers;
   refused = Public.refused;
   ten = Public.ten;
-  ten-touches-nothing = Public.ten-touches-nothing;
+  ten_touches_nothing = Public.ten_touches_nothing;
   memory = Public.memory;
   lengths = Public.lengths;
   files = Public.files;
-  as-whole = Public.as-whole;
+  as_whole = Public.as_whole;
   rows = Public.rows;
 }
 
 -- CLAUSE C, whole
-pub clauseC : ClauseC
-clauseC = record {
-  cuts-each-search = ShutOut.cuts-each-search;
-  invents-visits = ShutOut.invents-visits;
-  sift-visits = ShutOut.sift-visits;
-  visits-allowed = SearchLaws.search-visits;
-  drains-one-node = ShutOut.drains-one-node;
-  leaves-all-undecided = ShutOut.leaves-all-undecided;
-  always-contradicts = ShutOut.always-contradicts;
-  refuses-each-file = ShutOut.refuses-each-file;
+pub clause_c : ClauseC
+clause_c = record {
+  cuts_each_search = ShutOut.cuts_each_search;
+  invents_visits = ShutOut.invents_visits;
+  sift_visits = ShutOut.sift_visits;
+  visits_allowed = SearchLaws.search_visits_lem;
+  drains_one_node = ShutOut.drains_one_node;
+  leaves_all_undecided = ShutOut.leaves_all_undecided;
+  always_contradicts = ShutOut.always_contradicts;
+  refuses_each_file = ShutOut.refuses_each_file;
 }

@@ -14,16 +14,16 @@ use Rattle.std.proofs.Math.Dec.{ltb}
 use borrow.Author.Tests.{eqb-true, eqb-false, ltb-false}
 use Rattle.base.specs.TestLaws.{or-false}
 use Rattle.records.specs.declared.Record.{Record}
-use Rattle.records.specs.Record.{kind_of, bodyLength}
-use Rattle.files.specs.File.{File, begun, apply, Outcome, outcome, body_of, recordAt, unknownKind, cutBody, refusal, refusalAt, readFrom, fileOf, planned}
+use Rattle.records.specs.Record.{kind_of, body_length}
+use Rattle.files.specs.File.{File, begun, apply, Outcome, outcome, body_of, record_at, unknown_kind, cut_body, refusal, refusal_at, read_from, file_of, planned}
 use Rattle.files.specs.FileLaws.{checked, drop-take, same_body}
 use Rattle.theorem_demands.specs.Reading.{Decoded, records, damaged, decode_from, decoded}
 
 -- A record that is not refused has a known kind and a whole body.
-whole-body : (f : File) (kind : ℕ) (rest : List ℕ) → refusalAt f kind rest ≡ 0 → (unknownKind kind || cutBody kind rest) ≡ false
-whole-body f kind rest h = by (unknownKind kind) (cutBody kind rest) (sym (checked f kind rest) ∙ h)
+whole_body : (f : File) (kind : ℕ) (rest : List ℕ) → refusal_at f kind rest ≡ 0 → (unknown_kind kind || cut_body kind rest) ≡ false
+whole_body f kind rest h = by (unknown_kind kind) (cut_body kind rest) (sym (checked f kind rest) ∙ h)
   where
-    by : (a b : Bool) → ◌≡◌ {A = ℕ} (cond a 2 (cond b 1 (refusal f (recordAt kind rest)))) 0 → (a || b) ≡ false
+    by : (a b : Bool) → ◌≡◌ {A = ℕ} (cond a 2 (cond b 1 (refusal f (record_at kind rest)))) 0 → (a || b) ≡ false
     by true b e = absurd (omega arith)
     by false true e = absurd (omega arith)
     by false false e = refl
@@ -31,38 +31,38 @@ whole-body f kind rest h = by (unknownKind kind) (cutBody kind rest) (sym (check
 -- One record more, of a kind that is known, with its whole body.
 module _ (n kind : ℕ) (rest : List ℕ) (taken : List Record) where
   goes : Bool → Decoded
-  goes b = elim b [ true ↦ damaged | false ↦ decode_from n (drop (bodyLength (kind_of kind)) rest) (taken ++ (recordAt kind rest ∷ [])) ]
+  goes b = elim b [ true ↦ damaged | false ↦ decode_from n (drop (body_length (kind_of kind)) rest) (taken ++ (record_at kind rest ∷ [])) ]
 
-  decode-on : (unknownKind kind || cutBody kind rest) ≡ false
-      → decode_from (suc n) (kind ∷ rest) taken ≡ decode_from n (drop (bodyLength (kind_of kind)) rest) (taken ++ (recordAt kind rest ∷ []))
+  decode-on : (unknown_kind kind || cut_body kind rest) ≡ false
+      → decode_from (suc n) (kind ∷ rest) taken ≡ decode_from n (drop (body_length (kind_of kind)) rest) (taken ++ (record_at kind rest ∷ []))
   unfolding decode_from goes
   decode-on h = ap goes h
 
-  decode-damaged : (unknownKind kind || cutBody kind rest) ≡ true → decode_from (suc n) (kind ∷ rest) taken ≡ damaged
+  decode-damaged : (unknown_kind kind || cut_body kind rest) ≡ true → decode_from (suc n) (kind ∷ rest) taken ≡ damaged
   unfolding decode_from goes
   decode-damaged h = ap goes h
 
 -- Enough is enough: the bound on the number of records is never met.
-decode-enough : (n m : ℕ) (bytes : List ℕ) (taken : List Record) → length bytes ≤ n → length bytes ≤ m → decode_from n bytes taken ≡ decode_from m bytes taken
+decode_enough : (n m : ℕ) (bytes : List ℕ) (taken : List Record) → length bytes ≤ n → length bytes ≤ m → decode_from n bytes taken ≡ decode_from m bytes taken
 unfolding decode_from
-decode-enough zero zero bytes taken h k = refl
-decode-enough zero (suc m) [] taken h k = refl
-decode-enough zero (suc m) (kind ∷ rest) taken h k = absurd (not-suc-le-zero h)
-decode-enough (suc n) zero [] taken h k = refl
-decode-enough (suc n) zero (kind ∷ rest) taken h k = absurd (not-suc-le-zero k)
-decode-enough (suc n) (suc m) [] taken h k = refl
-decode-enough (suc n) (suc m) (kind ∷ rest) taken h k = by (λ l t p q. decode-enough n m l t p q) (unknownKind kind || cutBody kind rest) refl
+decode_enough zero zero bytes taken h k = refl
+decode_enough zero (suc m) [] taken h k = refl
+decode_enough zero (suc m) (kind ∷ rest) taken h k = absurd (not-suc-le-zero h)
+decode_enough (suc n) zero [] taken h k = refl
+decode_enough (suc n) zero (kind ∷ rest) taken h k = absurd (not-suc-le-zero k)
+decode_enough (suc n) (suc m) [] taken h k = refl
+decode_enough (suc n) (suc m) (kind ∷ rest) taken h k = by (λ l t p q. decode_enough n m l t p q) (unknown_kind kind || cut_body kind rest) refl
   where
-    by : ((l : List ℕ) (t : List Record) → length l ≤ n → length l ≤ m → decode_from n l t ≡ decode_from m l t) → (b : Bool) → (unknownKind kind || cutBody kind rest) ≡ b
+    by : ((l : List ℕ) (t : List Record) → length l ≤ n → length l ≤ m → decode_from n l t ≡ decode_from m l t) → (b : Bool) → (unknown_kind kind || cut_body kind rest) ≡ b
         → decode_from (suc n) (kind ∷ rest) taken ≡ decode_from (suc m) (kind ∷ rest) taken
     by ih true e = decode-damaged n kind rest taken e ∙ sym (decode-damaged m kind rest taken e)
     by ih false e =
-        let d = length-drop (bodyLength (kind_of kind)) rest in
+        let d = length-drop (body_length (kind_of kind)) rest in
         decode-on n kind rest taken e ∙ ih _ _ (omega arith) (omega arith) ∙ sym (decode-on m kind rest taken e)
 
 -- The record at which the reading stopped, and the first check that applies to it.
 abbrev Stopped : List ℕ → Outcome → Type 0
-Stopped l r = (kind : ℕ) × (rest : List ℕ) × (l ≡ kind ∷ rest) × (r.refused ≡ refusalAt r.file kind rest)
+Stopped l r = (kind : ℕ) × (rest : List ℕ) × (l ≡ kind ∷ rest) × (r.refused ≡ refusal_at r.file kind rest)
 
 -- What was read from an offset on.
 record Read (n o : ℕ) (bytes : List ℕ) (taken : List Record) (r : Outcome) : Type 0 where
@@ -73,9 +73,9 @@ record Read (n o : ℕ) (bytes : List ℕ) (taken : List Record) (r : Outcome) :
 
 module _ (n o kind : ℕ) (rest : List ℕ) (f : File) (taken : List Record) where
   size : ℕ
-  size = bodyLength (kind_of kind)
+  size = body_length (kind_of kind)
 
-  read_next : refusalAt f kind rest ≡ 0 → (r : Outcome) → Read n (o + 1 + bodyLength (kind_of kind)) (drop (bodyLength (kind_of kind)) rest) (taken ++ (recordAt kind rest ∷ [])) r
+  read_next : refusal_at f kind rest ≡ 0 → (r : Outcome) → Read n (o + 1 + body_length (kind_of kind)) (drop (body_length (kind_of kind)) rest) (taken ++ (record_at kind rest ∷ [])) r
       → Read (suc n) o (kind ∷ rest) taken r
   unfolding size
   read_next e r i =
@@ -84,16 +84,16 @@ module _ (n o kind : ℕ) (rest : List ℕ) (f : File) (taken : List Record) whe
       let w : size ≤ k = omega arith in
       let a : r.at - o ≡ suc k = omega arith in
       let same = same_body kind k rest w in
-      let known = whole-body f kind rest e in
+      let known = whole_body f kind rest e in
       let d : drop size (take k rest) ≡ take (r.at - (o + 1 + size)) (drop size rest) =
       drop-take size k rest ∙ (let g : k - size ≡ r.at - (o + 1 + size) = omega arith in ap (λ (j : ℕ). take j (drop size rest)) g) in
       let body : size ≤ length rest =
-      let c = ltb-false (length (body_of kind rest)) size (or-false (unknownKind kind) (cutBody kind rest) known).1 in
+      let c = ltb-false (length (body_of kind rest)) size (or-false (unknown_kind kind) (cut_body kind rest) known).1 in
       omega (arith, c, length-take size rest) in
       record {
         from = omega (arith, b);
         spelled = ap (λ (j : ℕ). decode_from (suc n) (take j (kind ∷ rest)) taken) a
-            ∙ decode-on n kind (take k rest) taken (ap (λ (l : List ℕ). unknownKind kind || ltb (length l) size) same ∙ known)
+            ∙ decode-on n kind (take k rest) taken (ap (λ (l : List ℕ). unknown_kind kind || ltb (length l) size) same ∙ known)
             ∙ ap₂ (λ (l : List ℕ) (y : Record). decode_from n l (taken ++ (y ∷ []))) d (ap (kind_of kind).made same)
             ∙ i.spelled;
         all = λ h z. omega (arith, i.all (omega (arith, length-drop size rest)) z, length-drop size rest, body);
@@ -107,9 +107,9 @@ module _ (n o kind : ℕ) (rest : List ℕ) (f : File) (taken : List Record) whe
             );
       }
 
-  read-stop : (refusalAt f kind rest ≡ 0 → ⊥) → Read (suc n) o (kind ∷ rest) taken (outcome f taken (refusalAt f kind rest) o)
+  read_stop : (refusal_at f kind rest ≡ 0 → ⊥) → Read (suc n) o (kind ∷ rest) taken (outcome f taken (refusal_at f kind rest) o)
   unfolding decode_from
-  read-stop h =
+  read_stop h =
       let z : o - o ≡ 0 = omega arith in
       record {
         from = le_refl o;
@@ -118,8 +118,8 @@ module _ (n o kind : ℕ) (rest : List ℕ) (f : File) (taken : List Record) whe
         stops = λ k. (kind, rest, ap (λ (j : ℕ). drop j (kind ∷ rest)) z, refl);
       }
 
-read : (n o : ℕ) (bytes : List ℕ) (f : File) (taken : List Record) → Read n o bytes taken (readFrom n o bytes f taken)
-unfolding readFrom decode_from
+read : (n o : ℕ) (bytes : List ℕ) (f : File) (taken : List Record) → Read n o bytes taken (read_from n o bytes f taken)
+unfolding read_from decode_from
 read zero o bytes f taken = record { from = le_refl o; spelled = refl; all = λ h z. omega arith; stops = λ h. absurd (h refl) }
 read (suc n) o [] f taken = record {
   from = le_refl o;
@@ -127,15 +127,15 @@ read (suc n) o [] f taken = record {
   all = λ h z. omega arith;
   stops = λ h. absurd (h refl);
 }
-read (suc n) o (kind ∷ rest) f taken = by (λ o b f t. read n o b f t) (eqb (refusalAt f kind rest) 0) refl
+read (suc n) o (kind ∷ rest) f taken = by (λ o b f t. read n o b f t) (eqb (refusal_at f kind rest) 0) refl
   where
-    by : ((o : ℕ) (b : List ℕ) (f : File) (t : List Record) → Read n o b t (readFrom n o b f t)) → (b : Bool) → eqb (refusalAt f kind rest) 0 ≡ b
+    by : ((o : ℕ) (b : List ℕ) (f : File) (t : List Record) → Read n o b t (read_from n o b f t)) → (b : Bool) → eqb (refusal_at f kind rest) 0 ≡ b
         → Read (suc n) o (kind ∷ rest) taken (elim b [
-          | true ↦ readFrom n (o + 1 + bodyLength (kind_of kind)) (drop (bodyLength (kind_of kind)) rest) (apply f (recordAt kind rest)) (taken ++ (recordAt kind rest ∷ []))
-          | false ↦ outcome f taken (refusalAt f kind rest) o
+          | true ↦ read_from n (o + 1 + body_length (kind_of kind)) (drop (body_length (kind_of kind)) rest) (apply f (record_at kind rest)) (taken ++ (record_at kind rest ∷ []))
+          | false ↦ outcome f taken (refusal_at f kind rest) o
         ])
-    by ih true e = read_next n o kind rest f taken (eqb-true (refusalAt f kind rest) 0 e) _ (ih _ _ _ _)
-    by ih false e = read-stop n o kind rest f taken (eqb-false (refusalAt f kind rest) 0 e)
+    by ih true e = read_next n o kind rest f taken (eqb-true (refusal_at f kind rest) 0 e) _ (ih _ _ _ _)
+    by ih false e = read_stop n o kind rest f taken (eqb-false (refusal_at f kind rest) 0 e)
 
 -- ---- the file, with the test before its first byte
 
@@ -143,12 +143,12 @@ module _ (input : List ℕ) where
   minus-none : (n : ℕ) → n - 0 ≡ n
   minus-none n = omega arith
 
-  file-read : Read (length input) 0 input [] (fileOf input)
-  unfolding fileOf
+  file-read : Read (length input) 0 input [] (file_of input)
+  unfolding file_of
   file-read = read (length input) 0 input begun []
 
   abbrev ways : Bool → Outcome
-  ways b = elim b [ true ↦ outcome begun [] 10 0 | false ↦ fileOf input ]
+  ways b = elim b [ true ↦ outcome begun [] 10 0 | false ↦ file_of input ]
 
   -- THE RECORDS THAT WERE TAKEN ARE THOSE THAT THE BYTES BEFORE THE OFFSET SPELL,
   pub spelled : decoded (take (planned input).at input) ≡ records (planned input).records
@@ -158,9 +158,9 @@ module _ (input : List ℕ) where
       by : (b : Bool) → decoded (take (ways b).at input) ≡ records (ways b).records
       by true = refl
       by false =
-          let a = (fileOf input).at in
+          let a = (file_of input).at in
           let t = length-take a input in
-          decode-enough (length (take a input)) (length input) (take a input) [] (le_refl (length (take a input))) (omega arith)
+          decode_enough (length (take a input)) (length input) (take a input) [] (le_refl (length (take a input))) (omega arith)
           ∙ ap (λ (k : ℕ). decode_from (length input) (take k input) []) (sym (minus-none a)) ∙ file-read.spelled
 
   -- with no refusal all bytes were read,
@@ -174,7 +174,7 @@ module _ (input : List ℕ) where
 
   -- and a refusal is the first check that applies to the record at its offset.
   pub first-check : (planned input).refused ≢ 0 → (planned input).refused ≢ 10
-      → (kind : ℕ) × (rest : List ℕ) × (drop (planned input).at input ≡ kind ∷ rest) × ((planned input).refused ≡ refusalAt (planned input).file kind rest)
+      → (kind : ℕ) × (rest : List ℕ) × (drop (planned input).at input ≡ kind ∷ rest) × ((planned input).refused ≡ refusal_at (planned input).file kind rest)
   unfolding planned
   first-check h k = by (ltb 65536 (length input)) h k
     where
@@ -182,4 +182,4 @@ module _ (input : List ℕ) where
       by true u v = absurd (v refl)
       by false u v =
           let s = file-read.stops u in
-          (s.0, s.1, ap (λ (j : ℕ). drop j input) (sym (minus-none (fileOf input).at)) ∙ s.2, s.3)
+          (s.0, s.1, ap (λ (j : ℕ). drop j input) (sym (minus-none (file_of input).at)) ∙ s.2, s.3)

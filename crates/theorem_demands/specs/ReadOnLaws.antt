@@ -7,13 +7,13 @@ use Rattle.std.proofs.lemmas.Bool.{eqb-false}
 use Rattle.base.specs.TestLaws.{clash}
 use Rattle.numeric.specs.Area.{Draft}
 use Rattle.records.specs.declared.Record.{Record}
-use Rattle.records.specs.Record.{kind_of, bodyLength}
+use Rattle.records.specs.Record.{kind_of, body_length}
 use Rattle.records.specs.Facts.{Action, begins, changes, closes, decides, settles, sifts, idles, action, facts}
-use Rattle.checks.specs.Checks.{any_of, wrongTurn, notRising, badBound, tooMany, Check, check, first}
-use Rattle.job.specs.Job.{withChange}
-use Rattle.files.specs.File.{File, contradicted, begun, standing, refusal, sealedFile, markedFile, settledFile, siftedFile, act, apply, Outcome, outcome, recordAt, unknownKind, cutBody, refusalAt, readFrom, fileOf, planned, after}
-use Rattle.theorem_limits.specs.FilesLaws.{both, Taken, taken, building-turn, change-turn, serving-turn, refused-by}
-use Rattle.theorem_demands.specs.Reading.{Decoded, records, damaged, decode_from, decoded, plain, plainly, plainlyAll, Passes}
+use Rattle.checks.specs.Checks.{any_of, wrong_turn, not_rising, bad_bound, too_many, Check, check, first}
+use Rattle.job.specs.Job.{with_change}
+use Rattle.files.specs.File.{File, contradicted, begun, standing, refusal, sealed_file, marked_file, settled_file, sifted_file, act, apply, Outcome, outcome, record_at, unknown_kind, cut_body, refusal_at, read_from, file_of, planned, after}
+use Rattle.theorem_limits.specs.FilesLaws.{both, Taken, taken, building_turn, change_turn, serving_turn, refused_by_lem}
+use Rattle.theorem_demands.specs.Reading.{Decoded, records, damaged, decode_from, decoded, plain, plainly, plainly_all, Passes}
 
 -- ---- READING
 
@@ -25,27 +25,27 @@ is_whole : Decoded → Bool
 is_whole (records rs) = true
 is_whole damaged = false
 
-records-same : (rs qs : List Record) → records rs ≡ records qs → rs ≡ qs
+records_same : (rs qs : List Record) → records rs ≡ records qs → rs ≡ qs
 unfolding list_of
-records-same rs qs e = ap list_of e
+records_same rs qs e = ap list_of e
 
-not-damaged : (rs : List Record) → damaged ≡ records rs → ⊥
+not_damaged : (rs : List Record) → damaged ≡ records rs → ⊥
 unfolding is_whole
-not-damaged rs e = clash false (ap is_whole e) refl
+not_damaged rs e = clash false (ap is_whole e) refl
 
 -- what is taken stands first
 extends : (n : ℕ) (bytes : List ℕ) (done all : List Record) → decode_from n bytes done ≡ records all → (rest : List Record) × (all ≡ done ++ rest)
 unfolding decode_from
-extends zero bytes done all e = ([], sym (records-same done all e) ∙ sym (append-nil done))
-extends (suc n) [] done all e = ([], sym (records-same done all e) ∙ sym (append-nil done))
-extends (suc n) (kind ∷ bytes) done all e = by (λ b t q. extends n b t all q) (unknownKind kind || cutBody kind bytes) e
+extends zero bytes done all e = ([], sym (records_same done all e) ∙ sym (append-nil done))
+extends (suc n) [] done all e = ([], sym (records_same done all e) ∙ sym (append-nil done))
+extends (suc n) (kind ∷ bytes) done all e = by (λ b t q. extends n b t all q) (unknown_kind kind || cut_body kind bytes) e
   where
     x : Record
-    x = recordAt kind bytes
+    x = record_at kind bytes
 
     by : ((b : List ℕ) (t : List Record) → decode_from n b t ≡ records all → (rest : List Record) × (all ≡ t ++ rest)) → (c : Bool)
-        → ◌≡◌ {A = Decoded} (elim c [ true ↦ damaged | false ↦ decode_from n (drop (bodyLength (kind_of kind)) bytes) (done ++ (x ∷ [])) ]) (records all) → (rest : List Record) × (all ≡ done ++ rest)
-    by ih true q = absurd (not-damaged all q)
+        → ◌≡◌ {A = Decoded} (elim c [ true ↦ damaged | false ↦ decode_from n (drop (body_length (kind_of kind)) bytes) (done ++ (x ∷ [])) ]) (records all) → (rest : List Record) × (all ≡ done ++ rest)
+    by ih true q = absurd (not_damaged all q)
     by ih false q = let a = ih _ _ q in (x ∷ a.0, a.1 ∙ append_assoc done (x ∷ []) a.0)
 
 -- 9 is given only behind a contradiction
@@ -59,23 +59,23 @@ unfolding first
 nine true cs e = inl refl
 nine false cs e = inr e
 
-none-nine : first [] ≡ 9 → ⊥
+none_nine : first [] ≡ 9 → ⊥
 unfolding first
-none-nine e = omega arith
+none_nine e = omega arith
 
-refusal-nine : (f : File) (r : Record) → refusal f r ≡ 9 → contradicted f ≡ true
+refusal_nine : (f : File) (r : Record) → refusal f r ≡ 9 → contradicted f ≡ true
 unfolding refusal
-refusal-nine f r h =
+refusal_nine f r h =
     let s = standing f in
     let x = facts (action r) in
     ⊎_elim (λ (e : contradicted f ≡ true). e)
-    (λ e. absurd (none-nine (skip (tooMany s x.counts) 4 _ (λ q. omega arith) (skip (any_of (ltb 1) x.values) 8 _ (λ q. omega arith)
-    (skip (any_of badBound x.bounds) 7 _ (λ q. omega arith) (skip (any_of (notRising s) x.rising) 6 _ (λ q. omega arith)
+    (λ e. absurd (none_nine (skip (too_many s x.counts) 4 _ (λ q. omega arith) (skip (any_of (ltb 1) x.values) 8 _ (λ q. omega arith)
+    (skip (any_of bad_bound x.bounds) 7 _ (λ q. omega arith) (skip (any_of (not_rising s) x.rising) 6 _ (λ q. omega arith)
     (skip (any_of (leb s.nodes) x.nodes) 5 _ (λ q. omega arith) e)))))))
-    (nine (contradicted f) _ (skip (wrongTurn s x.turn) 3 _ (λ q. omega arith) (skip false 1 _ (λ q. omega arith) (skip false 2 _ (λ q. omega arith) h))))
+    (nine (contradicted f) _ (skip (wrong_turn s x.turn) 3 _ (λ q. omega arith) (skip false 1 _ (λ q. omega arith) (skip false 2 _ (λ q. omega arith) h))))
 
-pub refused-nine : (f : File) (kind : ℕ) (bytes : List ℕ) → refusalAt f kind bytes ≡ 9 → contradicted f ≡ true
-refused-nine f kind bytes h = refusal-nine f (recordAt kind bytes) (refused-by 9 (λ q. omega arith) (λ q. omega arith) f kind bytes h)
+pub refused_nine : (f : File) (kind : ℕ) (bytes : List ℕ) → refusal_at f kind bytes ≡ 9 → contradicted f ≡ true
+refused_nine f kind bytes h = refusal_nine f (record_at kind bytes) (refused_by_lem 9 (λ q. omega arith) (λ q. omega arith) f kind bytes h)
 
 -- An outcome over all records of an input.
 pub record Over (all : List Record) (o : Outcome) : Type 0 where
@@ -87,42 +87,42 @@ pub record Over (all : List Record) (o : Outcome) : Type 0 where
 ended : (f : File) (done all : List Record) (o : ℕ) → all ≡ done → Over all (outcome f done 0 o)
 ended f done all o e = record { rest = []; begins = e ∙ sym (append-nil done); accepted = λ q. e; broken = λ q. absurd (omega arith) }
 
-read-over : (n o : ℕ) (bytes : List ℕ) (f : File) (done all : List Record) → decode_from n bytes done ≡ records all → Over all (readFrom n o bytes f done)
-unfolding decode_from readFrom
-read-over zero o bytes f done all e = ended f done all o (sym (records-same done all e))
-read-over (suc n) o [] f done all e = ended f done all o (sym (records-same done all e))
-read-over (suc n) o (kind ∷ bytes) f done all e =
-    by (λ i b g t q. read-over n i b g t all q) (unknownKind kind || cutBody kind bytes) e (eqb (refusalAt f kind bytes) 0) refl
+read_over : (n o : ℕ) (bytes : List ℕ) (f : File) (done all : List Record) → decode_from n bytes done ≡ records all → Over all (read_from n o bytes f done)
+unfolding decode_from read_from
+read_over zero o bytes f done all e = ended f done all o (sym (records_same done all e))
+read_over (suc n) o [] f done all e = ended f done all o (sym (records_same done all e))
+read_over (suc n) o (kind ∷ bytes) f done all e =
+    by (λ i b g t q. read_over n i b g t all q) (unknown_kind kind || cut_body kind bytes) e (eqb (refusal_at f kind bytes) 0) refl
   where
     x : Record
-    x = recordAt kind bytes
+    x = record_at kind bytes
 
     size : ℕ
-    size = bodyLength (kind_of kind)
+    size = body_length (kind_of kind)
 
-    by : ((i : ℕ) (b : List ℕ) (g : File) (t : List Record) → decode_from n b t ≡ records all → Over all (readFrom n i b g t)) → (c : Bool)
+    by : ((i : ℕ) (b : List ℕ) (g : File) (t : List Record) → decode_from n b t ≡ records all → Over all (read_from n i b g t)) → (c : Bool)
         → ◌≡◌ {A = Decoded} (elim c [ true ↦ damaged | false ↦ decode_from n (drop size bytes) (done ++ (x ∷ [])) ]) (records all)
-        → (d : Bool) → eqb (refusalAt f kind bytes) 0 ≡ d
-        → let r : Outcome = elim d [ true ↦ readFrom n (o + 1 + size) (drop size bytes) (apply f x) (done ++ (x ∷ [])) | false ↦ outcome f done (refusalAt f kind bytes) o ] in Over all r
-    by ih true q d z = absurd (not-damaged all q)
+        → (d : Bool) → eqb (refusal_at f kind bytes) 0 ≡ d
+        → let r : Outcome = elim d [ true ↦ read_from n (o + 1 + size) (drop size bytes) (apply f x) (done ++ (x ∷ [])) | false ↦ outcome f done (refusal_at f kind bytes) o ] in Over all r
+    by ih true q d z = absurd (not_damaged all q)
     by ih false q true z = ih _ _ _ _ q
     by ih false q false z =
         let a = extends n (drop size bytes) (done ++ (x ∷ [])) all q in
         record {
           rest = x ∷ a.0;
           begins = a.1 ∙ append_assoc done (x ∷ []) a.0;
-          accepted = λ k. absurd (eqb-false (refusalAt f kind bytes) 0 z k);
-          broken = λ k. refused-nine f kind bytes k;
+          accepted = λ k. absurd (eqb-false (refusal_at f kind bytes) 0 z k);
+          broken = λ k. refused_nine f kind bytes k;
         }
 
 -- EVERY INPUT that is not refused by 10
 pub planned-over : (input : List ℕ) (all : List Record) → decoded input ≡ records all → (planned input).refused ≢ 10 → Over all (planned input)
-unfolding planned fileOf decoded
+unfolding planned file_of decoded
 planned-over input all e h = by (ltb 65536 (length input)) h
   where
-    by : (b : Bool) → let o : Outcome = elim b [ true ↦ outcome begun [] 10 0 | false ↦ readFrom (length input) 0 input begun [] ] in o.refused ≢ 10 → Over all o
+    by : (b : Bool) → let o : Outcome = elim b [ true ↦ outcome begun [] 10 0 | false ↦ read_from (length input) 0 input begun [] ] in o.refused ≢ 10 → Over all o
     by true k = absurd (k refl)
-    by false k = read-over (length input) 0 input begun [] all e
+    by false k = read_over (length input) 0 input begun [] all e
 
 -- ---- THE JOB
 
@@ -132,32 +132,32 @@ pub record Level (f g : File) : Type 0 where
   pub started : f.started ≡ g.started
   pub sealed : f.sealed ≡ g.sealed
 
-pub level-same : (f : File) → Level f f
-level-same f = record { draft = refl; started = refl; sealed = refl }
+pub level_same : (f : File) → Level f f
+level_same f = record { draft = refl; started = refl; sealed = refl }
 
 module _ (f g : File) (l : Level f g) where
   level-act : (a : Action) → Taken g (facts a) → Level (act f a) (plain g a)
-  unfolding act sealedFile markedFile settledFile siftedFile plain
+  unfolding act sealed_file marked_file settled_file sifted_file plain
   level-act (begins n) t = record { draft = refl; started = refl; sealed = l.sealed }
   level-act (changes c) t = record {
-    draft = ap (λ (d : Draft). withChange d c) l.draft;
+    draft = ap (λ (d : Draft). with_change d c) l.draft;
     started = refl;
     sealed = l.sealed;
   }
   level-act closes t = record { draft = l.draft; started = l.started; sealed = refl }
-  level-act (decides n v) t = record { draft = l.draft; started = l.started; sealed = sym (serving-turn g t.turn) }
+  level-act (decides n v) t = record { draft = l.draft; started = l.started; sealed = sym (serving_turn g t.turn) }
   level-act settles t = record { draft = l.draft; started = l.started; sealed = refl }
   level-act sifts t = record { draft = l.draft; started = l.started; sealed = refl }
   level-act (idles x) t = l
 
-  pub level-apply : (r : Record) → Taken g (facts (action r)) → Level (apply f r) (plainly g r)
+  pub level_apply : (r : Record) → Taken g (facts (action r)) → Level (apply f r) (plainly g r)
   unfolding apply plainly
-  level-apply r t = level-act (action r) t
+  level_apply r t = level-act (action r) t
 
-pub level-after : (f g : File) (rs : List Record) → Level f g → Passes g rs → Level (after f rs) (plainlyAll g rs)
-unfolding after plainlyAll Passes
-level-after f g [] l p = l
-level-after f g (r ∷ rs) l p = level-after (apply f r) (plainly g r) rs (level-apply f g l r (taken g r p.0)) p.1
+pub level_after : (f g : File) (rs : List Record) → Level f g → Passes g rs → Level (after f rs) (plainly_all g rs)
+unfolding after plainly_all Passes
+level_after f g [] l p = l
+level_after f g (r ∷ rs) l p = level_after (apply f r) (plainly g r) rs (level_apply f g l r (taken g r p.0)) p.1
 
 -- behind the seal the draft stays
 record Closed (f g : File) : Type 0 where
@@ -165,28 +165,28 @@ record Closed (f g : File) : Type 0 where
   pub started : g.started ≡ true
   pub sealed : g.sealed ≡ true
 
-closed-plain : (f : File) → f.started ≡ true → f.sealed ≡ true → (a : Action) → Taken f (facts a) → Closed f (plain f a)
+closed_plain : (f : File) → f.started ≡ true → f.sealed ≡ true → (a : Action) → Taken f (facts a) → Closed f (plain f a)
 unfolding plain
-closed-plain f s k (begins n) t = absurd (both s t.turn)
-closed-plain f s k (changes c) t = absurd (both k (change-turn f c t).1)
-closed-plain f s k closes t = absurd (both k (building-turn f t.turn).1)
-closed-plain f s k (decides n v) t = record { draft = refl; started = s; sealed = k }
-closed-plain f s k settles t = record { draft = refl; started = s; sealed = refl }
-closed-plain f s k sifts t = record { draft = refl; started = s; sealed = refl }
-closed-plain f s k (idles x) t = record { draft = refl; started = s; sealed = k }
+closed_plain f s k (begins n) t = absurd (both s t.turn)
+closed_plain f s k (changes c) t = absurd (both k (change_turn f c t).1)
+closed_plain f s k closes t = absurd (both k (building_turn f t.turn).1)
+closed_plain f s k (decides n v) t = record { draft = refl; started = s; sealed = k }
+closed_plain f s k settles t = record { draft = refl; started = s; sealed = refl }
+closed_plain f s k sifts t = record { draft = refl; started = s; sealed = refl }
+closed_plain f s k (idles x) t = record { draft = refl; started = s; sealed = k }
 
-pub draft-stays : (f : File) (rs : List Record) → f.started ≡ true → f.sealed ≡ true → Passes f rs → (plainlyAll f rs).draft ≡ f.draft
-unfolding plainlyAll plainly Passes
-draft-stays f [] s k p = refl
-draft-stays f (r ∷ rs) s k p = let c = closed-plain f s k (action r) (taken f r p.0) in draft-stays (plainly f r) rs c.started c.sealed p.1 ∙ c.draft
+pub draft_stays : (f : File) (rs : List Record) → f.started ≡ true → f.sealed ≡ true → Passes f rs → (plainly_all f rs).draft ≡ f.draft
+unfolding plainly_all plainly Passes
+draft_stays f [] s k p = refl
+draft_stays f (r ∷ rs) s k p = let c = closed_plain f s k (action r) (taken f r p.0) in draft_stays (plainly f r) rs c.started c.sealed p.1 ∙ c.draft
 
 -- lists of records one behind the other
-pub plainly-append : (f : File) (rs qs : List Record) → plainlyAll f (rs ++ qs) ≡ plainlyAll (plainlyAll f rs) qs
-unfolding plainlyAll
+pub plainly-append : (f : File) (rs qs : List Record) → plainly_all f (rs ++ qs) ≡ plainly_all (plainly_all f rs) qs
+unfolding plainly_all
 plainly-append f [] qs = refl
 plainly-append f (r ∷ rs) qs = plainly-append (plainly f r) rs qs
 
-pub passes-split : (f : File) (rs qs : List Record) → Passes f (rs ++ qs) → Passes f rs × Passes (plainlyAll f rs) qs
-unfolding Passes plainlyAll
-passes-split f [] qs p = (tt, p)
-passes-split f (r ∷ rs) qs p = let a = passes-split (plainly f r) rs qs p.1 in ((p.0, a.0), a.1)
+pub passes_split : (f : File) (rs qs : List Record) → Passes f (rs ++ qs) → Passes f rs × Passes (plainly_all f rs) qs
+unfolding Passes plainly_all
+passes_split f [] qs p = (tt, p)
+passes_split f (r ∷ rs) qs p = let a = passes_split (plainly f r) rs qs p.1 in ((p.0, a.0), a.1)

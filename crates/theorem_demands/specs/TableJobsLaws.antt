@@ -6,30 +6,30 @@ use native.Mathlib.Omega.{arith}
 use mathlib.Core.List.Memᴰ
 use mathlib.Core.List.{List, [], ◌∷◌, ◌++◌, map, Memᴰ}
 use Rattle.base.specs.All.{All}
-use Rattle.base.specs.AllLaws.{all-each}
+use Rattle.base.specs.AllLaws.{all_each}
 use Rattle.numeric.specs.Threshold.{ThresholdOf, Threshold, Job}
-use Rattle.numeric.specs.Area.{Entry, weighedThreshold}
+use Rattle.numeric.specs.Area.{Entry, weighed_threshold}
 use Rattle.numeric.specs.Least.{NodesRise}
 use Rattle.row.specs.TermsLaws.{all_map}
 use Rattle.rows.specs.Rows.{no_row, rows_of}
 use Rattle.drain.specs.Drain.{index_of}
-use Rattle.job.specs.Job.{lastNode, onLast}
-use Rattle.job.specs.JobLaws.{every-on}
-use Rattle.theorem_limits.specs.BuiltLaws.{every-last, fits-node, fits-condition}
+use Rattle.job.specs.Job.{last_node_of, on_last}
+use Rattle.job.specs.JobLaws.{every_on}
+use Rattle.theorem_limits.specs.BuiltLaws.{every_last, fits_node, fits_condition}
 use Rattle.theorem_limits.specs.Good.{Fits}
 use Rattle.theorem_table.specs.Table.{IsRow}
 use Rattle.theorem_follows.specs.Ordered.{Ordered}
 use Rattle.theorem_follows.specs.BuiltLaws.{Built, built, rows-ordered}
-use Rattle.theorem_follows.specs.ToldLaws.{Single, rows-single}
+use Rattle.theorem_follows.specs.ToldLaws.{Single, rows_single}
 
 -- ---- nodes that rise
 
-rises-unique : (ts : List Threshold) → NodesRise ts → (t u : Threshold) → Memᴰ t ts → Memᴰ u ts → t.node ≡ u.node → t ≡ u
-rises-unique [] h t u m n e = absurd (Memᴰ.not-nil m)
-rises-unique (y ∷ ys) h t u m n e = by (λ a b. rises-unique ys h.1 t u a b e) (Memᴰ.cases_cons m) (Memᴰ.cases_cons n)
+rises_unique : (ts : List Threshold) → NodesRise ts → (t u : Threshold) → Memᴰ t ts → Memᴰ u ts → t.node ≡ u.node → t ≡ u
+rises_unique [] h t u m n e = absurd (Memᴰ.not-nil m)
+rises_unique (y ∷ ys) h t u m n e = by (λ a b. rises_unique ys h.1 t u a b e) (Memᴰ.cases_cons m) (Memᴰ.cases_cons n)
   where
     above : (w : Threshold) → Memᴰ w ys → y.node < w.node
-    above w k = all-each (λ (z : Threshold). y.node < z.node) ys h.0 w k
+    above w k = all_each (λ (z : Threshold). y.node < z.node) ys h.0 w k
 
     by : (Memᴰ t ys → Memᴰ u ys → t ≡ u) → (t ≡ y) ⊎ Memᴰ t ys → (u ≡ y) ⊎ Memᴰ u ys → t ≡ u
     by ih (inl a) (inl b) = a ∙ sym b
@@ -39,46 +39,46 @@ rises-unique (y ∷ ys) h t u m n e = by (λ a b. rises-unique ys h.1 t u a b e)
 
 -- the last is the highest
 module _ {X : Type 0} where
-  below_last : (t : ThresholdOf X) (ts : List (ThresholdOf X)) → NodesRise (t ∷ ts) → All (λ (u : ThresholdOf X). u.node ≤ lastNode (t ∷ ts)) (t ∷ ts)
-  unfolding lastNode
+  below_last : (t : ThresholdOf X) (ts : List (ThresholdOf X)) → NodesRise (t ∷ ts) → All (λ (u : ThresholdOf X). u.node ≤ last_node_of (t ∷ ts)) (t ∷ ts)
+  unfolding last_node_of
   below_last t [] h = (le_refl t.node, tt)
   below_last t (u ∷ us) h = let k = below_last u us h.1 in (let a = h.0.0 in let c = k.0 in omega arith, k)
 
   rises-last : (ts : List (ThresholdOf X)) (x : ThresholdOf X) → NodesRise ts → All (λ (u : ThresholdOf X). u.node < x.node) ts → NodesRise (ts ++ (x ∷ []))
   rises-last [] x h e = (tt, tt)
-  rises-last (t ∷ ts) x h e = (every-last (λ (u : ThresholdOf X). t.node < u.node) ts x h.0 e.0, rises-last ts x h.1 e.1)
+  rises-last (t ∷ ts) x h e = (every_last (λ (u : ThresholdOf X). t.node < u.node) ts x h.0 e.0, rises-last ts x h.1 e.1)
 
-  pub rises-opens : (ts : List (ThresholdOf X)) (x : ThresholdOf X) → NodesRise ts → (not (eqb (length ts) 0) && leb x.node (lastNode ts)) ≡ false → NodesRise (ts ++ (x ∷ []))
-  rises-opens [] x h e = (tt, tt)
-  rises-opens (t ∷ ts) x h e =
+  pub rises_opens : (ts : List (ThresholdOf X)) (x : ThresholdOf X) → NodesRise ts → (not (eqb (length ts) 0) && leb x.node (last_node_of ts)) ≡ false → NodesRise (ts ++ (x ∷ []))
+  rises_opens [] x h e = (tt, tt)
+  rises_opens (t ∷ ts) x h e =
       let some = ne_eqb (length (t ∷ ts)) 0 (λ (z : suc (length ts) ≡ 0). omega arith) in
-      let k = leb-false x.node (lastNode (t ∷ ts)) (sym (ap (λ (b : Bool). not b && leb x.node (lastNode (t ∷ ts))) some) ∙ e) in
+      let k = leb-false x.node (last_node_of (t ∷ ts)) (sym (ap (λ (b : Bool). not b && leb x.node (last_node_of (t ∷ ts))) some) ∙ e) in
       rises-last (t ∷ ts) x h
-      (all_map (λ (u : ThresholdOf X). u.node ≤ lastNode (t ∷ ts)) (λ (u : ThresholdOf X). u.node < x.node) (t ∷ ts) (λ u l. omega arith) (below_last t ts h))
+      (all_map (λ (u : ThresholdOf X). u.node ≤ last_node_of (t ∷ ts)) (λ (u : ThresholdOf X). u.node < x.node) (t ∷ ts) (λ u l. omega arith) (below_last t ts h))
 
   -- another list leaves all nodes as they were
-  pub rises-on : (g : List X → List X) (ts : List (ThresholdOf X)) → NodesRise ts → NodesRise (onLast g ts)
-  unfolding onLast
-  rises-on g [] h = tt
-  rises-on g (t ∷ []) h = (tt, tt)
-  rises-on g (t ∷ u ∷ us) h = (every-on (λ (y : ThresholdOf X). t.node < y.node) g (u ∷ us) h.0 (λ y e q. q), rises-on g (u ∷ us) h.1)
+  pub rises_on : (g : List X → List X) (ts : List (ThresholdOf X)) → NodesRise ts → NodesRise (on_last g ts)
+  unfolding on_last
+  rises_on g [] h = tt
+  rises_on g (t ∷ []) h = (tt, tt)
+  rises_on g (t ∷ u ∷ us) h = (every_on (λ (y : ThresholdOf X). t.node < y.node) g (u ∷ us) h.0 (λ y e q. q), rises_on g (u ∷ us) h.1)
 
 -- and so does weighing what was listed
-pub rises-weighed : (ds : List (ThresholdOf Entry)) → NodesRise ds → NodesRise (map weighedThreshold ds)
-rises-weighed [] h = tt
-rises-weighed (t ∷ ds) h = (above ds h.0, rises-weighed ds h.1)
+pub rises_weighed : (ds : List (ThresholdOf Entry)) → NodesRise ds → NodesRise (map weighed_threshold ds)
+rises_weighed [] h = tt
+rises_weighed (t ∷ ds) h = (above ds h.0, rises_weighed ds h.1)
   where
-    above : (us : List (ThresholdOf Entry)) → All (λ (u : ThresholdOf Entry). t.node < u.node) us → All (λ (u : Threshold). t.node < u.node) (map weighedThreshold us)
+    above : (us : List (ThresholdOf Entry)) → All (λ (u : ThresholdOf Entry). t.node < u.node) us → All (λ (u : Threshold). t.node < u.node) (map weighed_threshold us)
     above [] a = tt
     above (u ∷ us) a = (a.0, above us a.1)
 
 -- ---- what the invariant asks
 
-pub job-built : (j : Job) → Built j (index_of j)
-job-built j = built j (index_of j) refl refl refl
+pub job_built : (j : Job) → Built j (index_of j)
+job_built j = built j (index_of j) refl refl refl
 
-pub job-ordered : (j : Job) → Fits j → (r : ℕ) → IsRow (rows_of j) r → Ordered (get_or (rows_of j) r no_row)
-job-ordered j f = rows-ordered j (record { nodes = fits-node j f; conditions = fits-condition j f })
+pub job_ordered : (j : Job) → Fits j → (r : ℕ) → IsRow (rows_of j) r → Ordered (get_or (rows_of j) r no_row)
+job_ordered j f = rows-ordered j (record { nodes = fits_node j f; conditions = fits_condition j f })
 
-pub job-single : (j : Job) → NodesRise j.thresholds → Single (rows_of j)
-job-single j h = rows-single j (rises-unique j.thresholds h)
+pub job_single : (j : Job) → NodesRise j.thresholds → Single (rows_of j)
+job_single j h = rows_single j (rises_unique j.thresholds h)

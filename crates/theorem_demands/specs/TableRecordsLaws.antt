@@ -13,18 +13,18 @@ use Rattle.drain.specs.Drain.{index_of}
 use Rattle.records.specs.declared.Record.{Record}
 use Rattle.records.specs.Facts.{Change, opens, adds, Action, begins, changes, closes, decides, settles, sifts, idles, action, facts}
 use Rattle.job.specs.Job.{changed}
-use Rattle.files.specs.File.{File, contradicted, begun, refusal, sealedFile, markedFile, settledFile, siftedFile, act, apply, after, Passed}
+use Rattle.files.specs.File.{File, contradicted, begun, refusal, sealed_file, marked_file, settled_file, sifted_file, act, apply, after, Passed}
 use Rattle.theorem_limits.specs.BlankLaws.{blank-begun}
-use Rattle.theorem_limits.specs.BuiltLaws.{fits-of}
-use Rattle.theorem_limits.specs.FilesLaws.{good-begun, both, Taken, taken, building-turn, change-turn, serving-turn, node-small, good_apply}
+use Rattle.theorem_limits.specs.BuiltLaws.{fits_of}
+use Rattle.theorem_limits.specs.FilesLaws.{good_begun, both, Taken, taken, building_turn, change_turn, serving_turn, node_small, good_apply}
 use Rattle.theorem_limits.specs.Good.{Good}
 use Rattle.theorem_table.specs.Table.{Table}
-use Rattle.theorem_follows.specs.DecideLaws.{Broken, decideAs}
-use Rattle.theorem_follows.specs.FirstLaws.{Undrained, undrained-from, undrained-none}
-use Rattle.theorem_demands.specs.TableJobsLaws.{rises-opens, rises-on, rises-weighed, job-built, job-ordered, job-single}
+use Rattle.theorem_follows.specs.DecideLaws.{Broken, decide_as}
+use Rattle.theorem_follows.specs.FirstLaws.{Undrained, undrained_from, undrained_none}
+use Rattle.theorem_demands.specs.TableJobsLaws.{rises_opens, rises_on, rises_weighed, job_built, job_ordered, job_single}
 use Rattle.theorem_demands.specs.TableTurnsLaws.{Steady, settle_goes}
-use Rattle.theorem_demands.specs.TableSealsLaws.{ownStart, seal-goes}
-use Rattle.theorem_demands.specs.TableSiftsLaws.{mark-goes, steady-own, sift-keeps}
+use Rattle.theorem_demands.specs.TableSealsLaws.{own_start, seal_goes}
+use Rattle.theorem_demands.specs.TableSiftsLaws.{mark_goes, steady_own, sift_keeps}
 
 -- ---- what a file keeps
 
@@ -42,52 +42,52 @@ pub record Keeps (f : File) : Type 0 where
   pub closed : NodesRise f.closed.thresholds
   pub undrained : f.sealed ≡ false → Undrained 0 f.live
   pub late : contradicted f ≡ true → f.sealed ≡ true
-  pub steady : From f (ownStart f.live)
+  pub steady : From f (own_start f.live)
 
-pub keeps-begun : Keeps begun
+pub keeps_begun : Keeps begun
 unfolding begun
-keeps-begun = record {
-  good = good-begun;
+keeps_begun = record {
+  good = good_begun;
   rises = tt;
   closed = tt;
-  undrained = λ e. undrained-none begun.live good-begun.live.waits blank-begun.states blank-begun.bits;
+  undrained = λ e. undrained_none begun.live good_begun.live.waits blank-begun.states blank-begun.bits;
   late = λ e. absurd (both e refl);
   steady = λ e. absurd (both e refl);
 }
 
 module _ (f : File) (k : Keeps f) where
   -- A SEAL
-  pub seal-from : Taken f (facts closes) → From (act f closes) (ownStart f.live) × Breaks (act f closes) (ownStart f.live)
-  unfolding act sealedFile
-  seal-from t =
+  pub seal_from : Taken f (facts closes) → From (act f closes) (own_start f.live) × Breaks (act f closes) (own_start f.live)
+  unfolding act sealed_file
+  seal_from t =
       let j = job_of f.draft in
-      let a = seal-goes j (fits-of k.good.draft) (rises-weighed f.draft.thresholds k.rises) f.live k.good.live (undrained-from 0 (length (rows_of j)) f.live (omega arith) (k.undrained (building-turn f t.turn).1)) in
+      let a = seal_goes j (fits_of k.good.draft) (rises_weighed f.draft.thresholds k.rises) f.live k.good.live (undrained_from 0 (length (rows_of j)) f.live (omega arith) (k.undrained (building_turn f t.turn).1)) in
       (λ e c. a.0 c, a.1)
 
   -- A MARK
-  pub mark-from : (n v : ℕ) (s : Table) → Taken f (facts (decides n v)) → From f s
-      → From (act f (decides n v)) (decideAs (eqb v 1) s n) × Breaks (act f (decides n v)) (decideAs (eqb v 1) s n)
-  unfolding act markedFile
-  mark-from n v s t p =
-      let a = mark-goes (index_of f.closed) s f.live n (eqb v 1) (node-small f k.good n t.nodes) (p (serving-turn f t.turn) t.fine) in
+  pub mark_from : (n v : ℕ) (s : Table) → Taken f (facts (decides n v)) → From f s
+      → From (act f (decides n v)) (decide_as (eqb v 1) s n) × Breaks (act f (decides n v)) (decide_as (eqb v 1) s n)
+  unfolding act marked_file
+  mark_from n v s t p =
+      let a = mark_goes (index_of f.closed) s f.live n (eqb v 1) (node_small f k.good n t.nodes) (p (serving_turn f t.turn) t.fine) in
       (λ e c. a.0 c, a.1)
 
   -- A SETTLING
-  pub settle-from : (s : Table) → Taken f (facts settles) → From f s → From (act f settles) s × Breaks (act f settles) s
-  unfolding act settledFile
-  settle-from s t p =
+  pub settle_from : (s : Table) → Taken f (facts settles) → From f s → From (act f settles) s × Breaks (act f settles) s
+  unfolding act settled_file
+  settle_from s t p =
       let j = f.closed in
-      let a = settle_goes j (index_of j) (job-built j) (job-ordered j k.good.closed) (job-single j k.closed) s f.live (p (serving-turn f t.turn) t.fine) in
+      let a = settle_goes j (index_of j) (job_built j) (job_ordered j k.good.closed) (job_single j k.closed) s f.live (p (serving_turn f t.turn) t.fine) in
       (λ e c. a.0 c, a.1)
 
   -- its own start
-  own-marked : (value : Bool) (n : ℕ) (v w : Live) → Steady (index_of f.closed) (decideAs value (ownStart v) n) w → Steady (index_of f.closed) (ownStart w) w
-  own-marked true n v w h = steady-own (index_of f.closed) _ _ w h
-  own-marked false n v w h = steady-own (index_of f.closed) _ _ w h
+  own-marked : (value : Bool) (n : ℕ) (v w : Live) → Steady (index_of f.closed) (decide_as value (own_start v) n) w → Steady (index_of f.closed) (own_start w) w
+  own-marked true n v w h = steady_own (index_of f.closed) _ _ w h
+  own-marked false n v w h = steady_own (index_of f.closed) _ _ w h
 
   rises-changed : (c : Change) → Taken f (facts (changes c)) → NodesRise (changed c f.draft.thresholds)
-  rises-changed (opens n b) t = rises-opens f.draft.thresholds (record { node = n; bound = b; terms = [] }) k.rises t.rising
-  rises-changed (adds x) t = rises-on (λ l. l ++ (x ∷ [])) f.draft.thresholds k.rises
+  rises-changed (opens n b) t = rises_opens f.draft.thresholds (record { node = n; bound = b; terms = [] }) k.rises t.rising
+  rises-changed (adds x) t = rises_on (λ l. l ++ (x ∷ [])) f.draft.thresholds k.rises
 
   -- before the seal; behind it
   early : (h : File) → Good h → NodesRise h.draft.thresholds → h.closed ≡ f.closed → h.live ≡ f.live → h.sealed ≡ false → f.sealed ≡ false → contradicted h ≡ false → Keeps h
@@ -100,7 +100,7 @@ module _ (f : File) (k : Keeps f) where
     steady = λ z. absurd (both z e);
   }
 
-  later : (h : File) → Good h → h.draft ≡ f.draft → NodesRise h.closed.thresholds → h.sealed ≡ true → From h (ownStart h.live) → Keeps h
+  later : (h : File) → Good h → h.draft ≡ f.draft → NodesRise h.closed.thresholds → h.sealed ≡ true → From h (own_start h.live) → Keeps h
   later h g j r e from = record {
     good = g;
     rises = subst (λ (y : Draft). NodesRise y.thresholds) (sym j) k.rises;
@@ -111,29 +111,29 @@ module _ (f : File) (k : Keeps f) where
   }
 
   kept : (a : Action) → Taken f (facts a) → Good (act f a) → Keeps (act f a)
-  unfolding act sealedFile markedFile settledFile siftedFile Drain.mark
+  unfolding act sealed_file marked_file settled_file sifted_file Drain.mark
   kept (begins n) t g = let q = k.good.unstarted t.turn in early (act f (begins n)) g tt refl refl q q t.fine
-  kept (changes c) t g = let q = (change-turn f c t).1 in early (act f (changes c)) g (rises-changed c t) refl refl q q t.fine
+  kept (changes c) t g = let q = (change_turn f c t).1 in early (act f (changes c)) g (rises-changed c t) refl refl q q t.fine
   kept closes t g =
-      later (act f closes) g refl (rises-weighed f.draft.thresholds k.rises) refl (λ e c. steady-own (index_of (job_of f.draft)) _ _ (act f closes).live ((seal-from t).0 e c))
+      later (act f closes) g refl (rises_weighed f.draft.thresholds k.rises) refl (λ e c. steady_own (index_of (job_of f.draft)) _ _ (act f closes).live ((seal_from t).0 e c))
   kept (decides n v) t g =
       later (act f (decides n v)) g refl k.closed refl
-      (λ e c. own-marked (eqb v 1) n f.live (act f (decides n v)).live ((mark-from n v (ownStart f.live) t k.steady).0 e c))
+      (λ e c. own-marked (eqb v 1) n f.live (act f (decides n v)).live ((mark_from n v (own_start f.live) t k.steady).0 e c))
   kept settles t g =
       later (act f settles) g refl k.closed refl
-      (λ e c. steady-own (index_of f.closed) _ _ (act f settles).live ((settle-from (ownStart f.live) t k.steady).0 e c))
+      (λ e c. steady_own (index_of f.closed) _ _ (act f settles).live ((settle_from (own_start f.live) t k.steady).0 e c))
   kept sifts t g =
       later (act f sifts) g refl k.closed refl
-      (λ e c. sift-keeps f.closed k.good.closed k.closed f.live f.gcds (k.steady (serving-turn f t.turn) t.fine) c)
+      (λ e c. sift_keeps f.closed k.good.closed k.closed f.live f.gcds (k.steady (serving_turn f t.turn) t.fine) c)
   kept (idles x) t g = k
 
   -- EVERY RECORD
-  pub keeps-apply : (r : Record) → refusal f r ≡ 0 → Keeps (apply f r)
+  pub keeps_apply : (r : Record) → refusal f r ≡ 0 → Keeps (apply f r)
   unfolding apply
-  keeps-apply r h = kept (action r) (taken f r h) (good_apply f k.good r h)
+  keeps_apply r h = kept (action r) (taken f r h) (good_apply f k.good r h)
 
 -- AND EVERY LIST OF THEM
-pub keeps-after : (f : File) (rs : List Record) → Keeps f → Passed f rs → Keeps (after f rs)
+pub keeps_after : (f : File) (rs : List Record) → Keeps f → Passed f rs → Keeps (after f rs)
 unfolding after
-keeps-after f [] k p = k
-keeps-after f (r ∷ rs) k p = keeps-after (apply f r) rs (keeps-apply f k r p.0) p.1
+keeps_after f [] k p = k
+keeps_after f (r ∷ rs) k p = keeps_after (apply f r) rs (keeps_apply f k r p.0) p.1

@@ -13,31 +13,31 @@ use Rattle.numeric.specs.Threshold.{Threshold}
 use Rattle.state.specs.declared.State.{State}
 use Rattle.state.specs.declared.Upper.{Upper}
 use Rattle.state.specs.declared.Upper.TheVariants.{Open, Under}
-use Rattle.state.specs.State.{withLower, withUpper, drained}
+use Rattle.state.specs.State.{with_lower, with_upper, drained}
 use Rattle.words.specs.Mask.{bit}
-use Rattle.queues.specs.Marks.{Marks, isDecided, decide}
+use Rattle.queues.specs.Marks.{Marks, is_decided, decide}
 use Rattle.queues.specs.Queue.{Rows}
-use Rattle.rows.specs.Rows.{Row, no_row, Guard, guard, alone, Edge, edgesOf, rowNumber}
+use Rattle.rows.specs.Rows.{Row, no_row, Guard, guard, alone, Edge, edges_of, row_number}
 use Rattle.links.specs.Links.{neighbours}
 use Rattle.tightening.specs.declared.Tightened.{Tightened}
-use Rattle.row_runs.specs.Row.{thresholdRow}
-use Rattle.tightening.specs.Told.{movedLower, movedUpper, movedState}
-use Rattle.tightening.specs.ToldLaws.{guard-cases, lower-cases, upper-cases}
-use Rattle.row_moves.specs.Between.{Index, Live, stateAt, withState, withDirty, Did, run_row, runWith, thresholdGuard, thresholdCondition, termCount, thresholdPrefixes, withDirtyRows, withResiduals}
-use Rattle.row_moves.specs.LoopLaws.{drained-lower, drained-upper}
-use Rattle.row_moves.specs.Handing.{moved, movedRun, guardRow, guardTold}
-use Rattle.row_moves.specs.WalkLaws.{guard-ends, condition-keeps, prefix-keeps}
+use Rattle.row_runs.specs.Row.{threshold_row}
+use Rattle.tightening.specs.Told.{moved_lower, moved_upper, moved_state}
+use Rattle.tightening.specs.ToldLaws.{guard-cases, lower_cases, upper_cases}
+use Rattle.row_moves.specs.Between.{Index, Live, state_at, with_state, with_dirty, Did, run_row, run_with, threshold_guard, threshold_condition, term_count, threshold_prefixes, with_dirty_rows, with_residuals}
+use Rattle.row_moves.specs.LoopLaws.{drained_lower, drained_upper}
+use Rattle.row_moves.specs.Handing.{moved, moved_run, guard_row, guard_told}
+use Rattle.row_moves.specs.WalkLaws.{guard-ends, condition_keeps, prefix_keeps}
 use Rattle.theorem_table.specs.Table.{Table, IsRow, Guards, IsPrefix}
-use Rattle.theorem_table.specs.OrderLaws.{≤ℤ-trans, UpLe, up-refl, up-trans}
-use Rattle.theorem_table.specs.TableLaws.{alone-reached}
+use Rattle.theorem_table.specs.OrderLaws.{≤ℤ_trans, UpLe, up_refl, up_trans}
+use Rattle.theorem_table.specs.TableLaws.{alone_reached}
 use Rattle.theorem_table.specs.Judged.{Calm}
-use Rattle.theorem_table.specs.JudgedLaws.{calm-sure, calm-never, calm-longer, calm-shorter}
+use Rattle.theorem_table.specs.JudgedLaws.{calm_sure, calm_never, calm_longer, calm_shorter}
 use Rattle.theorem_follows.specs.Ordered.{Ordered}
 use Rattle.theorem_follows.specs.CursorsLaws.{row_goes}
-use Rattle.theorem_follows.specs.MovesLaws.{prefix-by}
-use Rattle.theorem_follows.specs.StandsLaws.{put-state}
+use Rattle.theorem_follows.specs.MovesLaws.{prefix_by}
+use Rattle.theorem_follows.specs.StandsLaws.{put_state}
 use Rattle.theorem_follows.specs.CompleteLaws.{Wide}
-use Rattle.theorem_follows.specs.DoneLaws.{Grows, run-grows}
+use Rattle.theorem_follows.specs.DoneLaws.{Grows, run_grows}
 
 -- The table has all decided nodes.
 abbrev pub Covers : Marks → Table → Type 0
@@ -47,74 +47,74 @@ module _ (x : Index) (ordered : (r : ℕ) → IsRow x.rows r → Ordered (get_or
   pub record Leans (v : Live) : Type 0 where
     pub sized : length x.rows ≤ length v.states
     pub wide : Wide v.marks
-    pub bounds : (u : Table) → Covers v.marks u → Calm x.rows u → (r : ℕ) → ((stateAt v r).lower ≤ℤ u.lower r) × UpLe (u.upper r) (stateAt v r).upper
+    pub bounds : (u : Table) → Covers v.marks u → Calm x.rows u → (r : ℕ) → ((state_at v r).lower ≤ℤ u.lower r) × UpLe (u.upper r) (state_at v r).upper
 
   -- bounds put anew that every such table has
   put-leans : (v : Live) (r : ℕ) (st : State) (d q : Rows) → IsRow x.rows r → Leans v
-      → ((u : Table) → Covers v.marks u → Calm x.rows u → (st.lower ≤ℤ u.lower r) × UpLe (u.upper r) st.upper) → Leans (withResiduals (withDirtyRows (withState v r st) d) q)
+      → ((u : Table) → Covers v.marks u → Calm x.rows u → (st.lower ≤ℤ u.lower r) × UpLe (u.upper r) st.upper) → Leans (with_residuals (with_dirty_rows (with_state v r st) d) q)
   put-leans v r st d q i h better = record {
     sized = subst (λ (n : ℕ). length x.rows ≤ n) (sym (length-set v.states r st)) h.sized;
     wide = h.wide;
-    bounds = λ u c k. put-state (λ (p : ℕ) (t : State). (t.lower ≤ℤ u.lower p) × UpLe (u.upper p) t.upper) v.states r st (let z = h.sized in omega arith) (better u c k) (λ p e. h.bounds u c k p);
+    bounds = λ u c k. put_state (λ (p : ℕ) (t : State). (t.lower ≤ℤ u.lower p) × UpLe (u.upper p) t.upper) v.states r st (let z = h.sized in omega arith) (better u c k) (λ p e. h.bounds u c k p);
   }
 
   -- A ROW RUN: bounds stay, nodes are added
-  pub run-leans : (v : Live) (r : ℕ) → IsRow x.rows r → Leans v → Leans (run_row x v r).live
-  unfolding run_row runWith
-  run-leans v r i h =
-      let a = thresholdRow (get_or x.rows r no_row) (stateAt v r) v.marks in
-      let goes = (row_goes (get_or x.rows r no_row) (stateAt v r) v.marks).0 in
-      let grown = run-grows x ordered v r h.wide in
+  pub run_leans : (v : Live) (r : ℕ) → IsRow x.rows r → Leans v → Leans (run_row x v r).live
+  unfolding run_row run_with
+  run_leans v r i h =
+      let a = threshold_row (get_or x.rows r no_row) (state_at v r) v.marks in
+      let goes = (row_goes (get_or x.rows r no_row) (state_at v r) v.marks).0 in
+      let grown = run_grows x ordered v r h.wide in
       record {
         sized = subst (λ (n : ℕ). length x.rows ≤ n) (sym (length-set v.states r a.state)) h.sized;
         wide = grown.1;
         bounds = λ u c k.
             let o = h.bounds u ((λ n e. c.0 n (grown.0 true n e)), λ n e. c.1 n (grown.0 false n e)) k in
-            put-state (λ (p : ℕ) (t : State). (t.lower ≤ℤ u.lower p) × UpLe (u.upper p) t.upper) v.states r a.state (let z = h.sized in omega arith)
+            put_state (λ (p : ℕ) (t : State). (t.lower ≤ℤ u.lower p) × UpLe (u.upper p) t.upper) v.states r a.state (let z = h.sized in omega arith)
             (subst (λ (z : ℤ). z ≤ℤ u.lower r) (sym goes.lower) (o r).0, subst (UpLe (u.upper r)) (sym goes.upper) (o r).1) (λ p e. o p);
       }
 
   -- A DRAINED GUARD: rule 1
-  pub guard-leans : (v : Live) (t : Threshold) → Guards x.rows (rowNumber x.rows t.terms) (guard t.bound t.node) → isDecided v.marks t.node ≡ true
-      → Leans v → Leans (thresholdGuard x v t).live
-  unfolding withLower withUpper
-  guard-leans v t i d h = guard-ends x v t (λ (o : Did). Leans o.live) (λ e. h) (λ e. run-leans _ r i.0 (put-leans v r (guardTold x v t).state _ _ i.0 h better))
+  pub guard_leans : (v : Live) (t : Threshold) → Guards x.rows (row_number x.rows t.terms) (guard t.bound t.node) → is_decided v.marks t.node ≡ true
+      → Leans v → Leans (threshold_guard x v t).live
+  unfolding with_lower with_upper
+  guard_leans v t i d h = guard-ends x v t (λ (o : Did). Leans o.live) (λ e. h) (λ e. run_leans _ r i.0 (put-leans v r (guard_told x v t).state _ _ i.0 h better))
     where
       r : ℕ
-      r = guardRow x t
+      r = guard_row x t
 
       is_never : bit v.marks.sure t.node ≡ false → bit v.marks.never t.node ≡ true
       is_never e = ap (λ (b : Bool). b || bit v.marks.never t.node) (sym e) ∙ d
 
-      better : (u : Table) → Covers v.marks u → Calm x.rows u → ((guardTold x v t).state.lower ≤ℤ u.lower r) × UpLe (u.upper r) (guardTold x v t).state.upper
-      better u c k = guard-cases (stateAt v r) (bit v.marks.sure t.node) t.bound (λ (o : Tightened). (o.state.lower ≤ℤ u.lower r) × UpLe (u.upper r) o.state.upper)
-          (λ e. h.bounds u c k r) (λ e f. (calm-sure x.rows u k r (guard t.bound t.node) i (c.0 t.node e), (h.bounds u c k r).1))
-          (λ e f. ((h.bounds u c k r).0, calm-never x.rows u k r (guard t.bound t.node) i (c.1 t.node (is_never e), alone-reached x.rows u alone refl)))
+      better : (u : Table) → Covers v.marks u → Calm x.rows u → ((guard_told x v t).state.lower ≤ℤ u.lower r) × UpLe (u.upper r) (guard_told x v t).state.upper
+      better u c k = guard-cases (state_at v r) (bit v.marks.sure t.node) t.bound (λ (o : Tightened). (o.state.lower ≤ℤ u.lower r) × UpLe (u.upper r) o.state.upper)
+          (λ e. h.bounds u c k r) (λ e f. (calm_sure x.rows u k r (guard t.bound t.node) i (c.0 t.node e), (h.bounds u c k r).1))
+          (λ e f. ((h.bounds u c k r).0, calm_never x.rows u k r (guard t.bound t.node) i (c.1 t.node (is_never e), alone_reached x.rows u alone refl)))
 
   -- A DRAINED CONDITION: sums move, bounds stay
-  pub condition-leans : (v : Live) (n : ℕ) → ((e : Edge) → Memᴰ e (edgesOf x.rows n) → IsRow x.rows e.row) → Leans v → Leans (thresholdCondition x v n).live
-  unfolding thresholdCondition
-  condition-leans v n are h = condition-keeps x Leans (bit v.marks.sure n) (edgesOf x.rows n) (λ e u m p.
-      let st = drained (bit v.marks.sure n) e.weight (stateAt u e.row) in
-      run-leans _ e.row (are e m) (put-leans u e.row st u.dirty u.residuals (are e m) p (λ t c k. (
-        subst (λ (z : ℤ). z ≤ℤ t.lower e.row) (sym (drained-lower (bit v.marks.sure n) e.weight (stateAt u e.row))) (p.bounds t c k e.row).0,
-        subst (UpLe (t.upper e.row)) (sym (drained-upper (bit v.marks.sure n) e.weight (stateAt u e.row))) (p.bounds t c k e.row).1,
+  pub condition_leans : (v : Live) (n : ℕ) → ((e : Edge) → Memᴰ e (edges_of x.rows n) → IsRow x.rows e.row) → Leans v → Leans (threshold_condition x v n).live
+  unfolding threshold_condition
+  condition_leans v n are h = condition_keeps x Leans (bit v.marks.sure n) (edges_of x.rows n) (λ e u m p.
+      let st = drained (bit v.marks.sure n) e.weight (state_at u e.row) in
+      run_leans _ e.row (are e m) (put-leans u e.row st u.dirty u.residuals (are e m) p (λ t c k. (
+        subst (λ (z : ℤ). z ≤ℤ t.lower e.row) (sym (drained_lower (bit v.marks.sure n) e.weight (state_at u e.row))) (p.bounds t c k e.row).0,
+        subst (UpLe (t.upper e.row)) (sym (drained_upper (bit v.marks.sure n) e.weight (state_at u e.row))) (p.bounds t c k e.row).1,
       )))) v h
 
   -- BOUNDS HANDED ON: rule 6
-  pub prefixes-leans : (v : Live) (row : ℕ) → ((r : ℕ) → Memᴰ r (neighbours row x.links) → IsPrefix x.rows row r ⊎ IsPrefix x.rows r row)
-      → Leans v → Leans (thresholdPrefixes x v row).live
-  unfolding thresholdPrefixes withLower withUpper
-  prefixes-leans v row links h = (prefix-keeps x Q row source (neighbours row x.links) one v (h, λ b n e. e)).0
+  pub prefixes_leans : (v : Live) (row : ℕ) → ((r : ℕ) → Memᴰ r (neighbours row x.links) → IsPrefix x.rows row r ⊎ IsPrefix x.rows r row)
+      → Leans v → Leans (threshold_prefixes x v row).live
+  unfolding threshold_prefixes with_lower with_upper
+  prefixes_leans v row links h = (prefix_keeps x Q row source (neighbours row x.links) one v (h, λ b n e. e)).0
     where
       source : State
-      source = stateAt v row
+      source = state_at v row
 
       Q : Live → Type 0
       Q w = Leans w × Grows v.marks w.marks
 
-      one : (r : ℕ) (w : Live) → Memᴰ r (neighbours row x.links) → (moved x row source r w).changed ≡ true → Q w → Q (movedRun x row source r w).live
-      one r w m e (k, g) = (run-leans _ r is (put-leans w r _ _ _ is k better), λ b n d. (run-grows x ordered _ r k.wide).0 b n (g b n d))
+      one : (r : ℕ) (w : Live) → Memᴰ r (neighbours row x.links) → (moved x row source r w).changed ≡ true → Q w → Q (moved_run x row source r w).live
+      one r w m e (k, g) = (run_leans _ r is (put-leans w r _ _ _ is k better), λ b n d. (run_grows x ordered _ r k.wide).0 b n (g b n d))
         where
           link : IsPrefix x.rows row r ⊎ IsPrefix x.rows r row
           link = links r m
@@ -126,9 +126,9 @@ module _ (x : Index) (ordered : (r : ℕ) → IsRow x.rows r → Ordered (get_or
           is = ⊎_elim (λ (i : IsPrefix x.rows row r). i.1) (λ (i : IsPrefix x.rows r row). i.0) link
 
           better : (u : Table) → Covers w.marks u → Calm x.rows u
-              → ((movedState source (stateAt w r) (termCount x row) (termCount x r)).state.lower ≤ℤ u.lower r) × UpLe (u.upper r) (movedState source (stateAt w r) (termCount x row) (termCount x r)).state.upper
-          better u c q = upper-cases source (termCount x row) (termCount x r) Fine (movedLower source (stateAt w r) (termCount x row) (termCount x r))
-              (λ d. (first.0, up-trans (u.upper r) (u.upper row) source.upper (calm-shorter x.rows u q r row (prefix-by x.rows r row turned (leb-true (termCount x r) (termCount x row) (and_left (leb (termCount x r) (termCount x row)) _ d)))) from.1)) (λ d. first)
+              → ((moved_state source (state_at w r) (term_count x row) (term_count x r)).state.lower ≤ℤ u.lower r) × UpLe (u.upper r) (moved_state source (state_at w r) (term_count x row) (term_count x r)).state.upper
+          better u c q = upper_cases source (term_count x row) (term_count x r) Fine (moved_lower source (state_at w r) (term_count x row) (term_count x r))
+              (λ d. (first.0, up_trans (u.upper r) (u.upper row) source.upper (calm_shorter x.rows u q r row (prefix_by x.rows r row turned (leb-true (term_count x r) (term_count x row) (and_left (leb (term_count x r) (term_count x row)) _ d)))) from.1)) (λ d. first)
             where
               Fine : Tightened → Type 0
               Fine o = (o.state.lower ≤ℤ u.lower r) × UpLe (u.upper r) o.state.upper
@@ -136,6 +136,6 @@ module _ (x : Index) (ordered : (r : ℕ) → IsRow x.rows r → Ordered (get_or
               from : (source.lower ≤ℤ u.lower row) × UpLe (u.upper row) source.upper
               from = h.bounds u ((λ n d. c.0 n (g true n d)), λ n d. c.1 n (g false n d)) q row
 
-              first : Fine (movedLower source (stateAt w r) (termCount x row) (termCount x r))
-              first = lower-cases source (termCount x row) (termCount x r) Fine (stateAt w r)
-                  (λ d. (≤ℤ-trans from.0 (calm-longer x.rows u q row r (prefix-by x.rows row r link (leb-true (termCount x row) (termCount x r) (and_left (leb (termCount x row) (termCount x r)) _ d)))), (k.bounds u c q r).1)) (λ d. k.bounds u c q r)
+              first : Fine (moved_lower source (state_at w r) (term_count x row) (term_count x r))
+              first = lower_cases source (term_count x row) (term_count x r) Fine (state_at w r)
+                  (λ d. (≤ℤ_trans from.0 (calm_longer x.rows u q row r (prefix_by x.rows row r link (leb-true (term_count x row) (term_count x r) (and_left (leb (term_count x row) (term_count x r)) _ d)))), (k.bounds u c q r).1)) (λ d. k.bounds u c q r)

@@ -4,7 +4,7 @@ use mathlib.Core.List.{List, [], ◌∷◌, Memᴰ}
 use Rattle.std.specs.Int.Signed.{le_z}
 use Rattle.numeric.specs.Threshold.{Term}
 use Rattle.rows.specs.Rows.{Guard, Row}
-use Rattle.memory.specs.Limits.{maxNodes}
+use Rattle.memory.specs.Limits.{max_nodes}
 
 -- Every element has a property.
 abbrev pub Each : {X : Type 0} → (X → Type 0) → List X → Type 0
@@ -24,5 +24,5 @@ Falling (t ∷ ts) = Each (λ (u : Term). u.weight ≤ t.weight) ts × Falling t
 pub record Ordered (row : Row) : Type 0 where
   pub rising : Rising row.guards
   pub falling : Falling row.terms
-  pub guards : Each (λ (g : Guard). g.node < maxNodes) row.guards
-  pub terms : Each (λ (t : Term). t.condition < maxNodes) row.terms
+  pub guards : Each (λ (g : Guard). g.node < max_nodes) row.guards
+  pub terms : Each (λ (t : Term). t.condition < max_nodes) row.terms

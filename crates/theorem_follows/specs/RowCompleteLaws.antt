@@ -6,9 +6,9 @@ use Rattle.std.proofs.Math.Path.{refl}
 use Rattle.std.proofs.Math.Bool.{Bool}
 use mathlib.Core.List.{List, Memᴰ, reverse}
 use Rattle.std.specs.Int.Signed.{le_z, lt_z}
-use Rattle.state.specs.StepLaws.{joined-right}
+use Rattle.state.specs.StepLaws.{joined_right}
 use Rattle.base.specs.TestLaws.{clash, unequal}
-use Rattle.base.specs.SignedLaws.{leZ-trans, leZ-ltZ, leZ-pos}
+use Rattle.base.specs.SignedLaws.{le_z_trans, le_z-lt_z, le_z-pos}
 use Rattle.numeric.specs.Threshold.{Term}
 use Rattle.state.specs.declared.Step.{Step}
 use Rattle.state.specs.declared.Step.TheVariants.{Unchanged, Contradiction}
@@ -16,16 +16,16 @@ use Rattle.state.specs.declared.State.{State}
 use Rattle.state.specs.declared.Upper.{Upper}
 use Rattle.state.specs.declared.Upper.TheVariants.{Open, Under}
 use Rattle.state.specs.Step.{joined, contradicts}
-use Rattle.state.specs.State.{maxZ, reached, upperAtMost, limited, limit, with_guards, withTerms}
-use Rattle.queues.specs.Marks.{Marks, isDecided, Decided}
+use Rattle.state.specs.State.{max_z, reached, upper_at_most, limited, limit, with_guards, with_terms}
+use Rattle.queues.specs.Marks.{Marks, is_decided, Decided}
 use Rattle.rows.specs.Rows.{Row, Guard}
 use Rattle.row_runs.specs.Scan.{Scanned, scan}
-use Rattle.row_runs.specs.Row.{Ran, ran, decides, sureWaits, sureGuards, reachable, neverWaits, neverGuards, thresholdGuards, termWaits, forces, forced, trueTerms, falseTerms, thresholdRow}
-use Rattle.row_runs.specs.RowLaws.{decides-keeps}
+use Rattle.row_runs.specs.Row.{Ran, ran, decides, sure_waits, sure_guards, reachable, never_waits, never_guards, threshold_guards, term_waits, forces, forced, true_terms, false_terms, threshold_row}
+use Rattle.row_runs.specs.RowLaws.{decides_keeps}
 use Rattle.row_runs.specs.RunsLaws.{run_ends}
-use Rattle.row_runs.specs.Runs.{guardsRun, trueRun, falseRun, wholeRun}
-use Rattle.theorem_follows.specs.DecideLaws.{scan-keeps}
-use Rattle.theorem_follows.specs.CompleteLaws.{Wide, Has, Meets, wide-decides, wide-force, decides-stays, decided-stays, force-stays, force-has, sure-complete, never-complete, forced-complete}
+use Rattle.row_runs.specs.Runs.{guards_run, true_run, false_run, whole_run}
+use Rattle.theorem_follows.specs.DecideLaws.{scan_keeps}
+use Rattle.theorem_follows.specs.CompleteLaws.{Wide, Has, Meets, wide_decides, wide_force, decides_stays, decided_stays, force_stays, force_has, sure_complete, never_complete, forced_complete}
 use Rattle.theorem_follows.specs.Ordered.{Each, Ordered}
 
 -- The sure cursor passed only guards that the figures reach; what the others passed is decided.
@@ -34,30 +34,30 @@ pub record Passed (row : Row) (st : State) (m : Marks) : Type 0 where
   pub inside : st.never_guard ≤ length row.guards
   pub sure : Each (λ (g : Guard). le_z g.bound (reached st) ≡ true) (take st.sure_guard row.guards)
   pub never : Each (λ (g : Guard). Meets false g m) (drop st.never_guard row.guards)
-  pub true-terms : Each (λ (t : Term). isDecided m t.condition ≡ true) (take st.true_term row.terms)
-  pub false-terms : Each (λ (t : Term). isDecided m t.condition ≡ true) (take st.false_term row.terms)
+  pub true-terms : Each (λ (t : Term). is_decided m t.condition ≡ true) (take st.true_term row.terms)
+  pub false-terms : Each (λ (t : Term). is_decided m t.condition ≡ true) (take st.false_term row.terms)
 
 -- Nothing that the figures decide is left: they reach no guard behind the sure cursor, all else is decided.
 pub record Complete (row : Row) (st : State) (m : Marks) : Type 0 where
   pub all : Each (λ (g : Guard). le_z g.bound (reached st) ≡ false) (drop st.sure_guard row.guards)
-  pub out-of-reach : Each (λ (g : Guard). reachable st g.bound ≡ false → Meets false g m) row.guards
-  pub needed : le_z st.lower st.known ≡ false → Each (λ (t : Term). le_z (pos t.weight) (st.possible -ℤ st.lower) ≡ false → isDecided m t.condition ≡ true) row.terms
-  pub too-heavy : (b : ℤ) → st.upper ≡ Under b → Each (λ (t : Term). lt_z (pos t.weight) (b -ℤ st.known) ≡ false → isDecided m t.condition ≡ true) row.terms
+  pub out_of_reach : Each (λ (g : Guard). reachable st g.bound ≡ false → Meets false g m) row.guards
+  pub needed : le_z st.lower st.known ≡ false → Each (λ (t : Term). le_z (pos t.weight) (st.possible -ℤ st.lower) ≡ false → is_decided m t.condition ≡ true) row.terms
+  pub too_heavy : (b : ℤ) → st.upper ≡ Under b → Each (λ (t : Term). lt_z (pos t.weight) (b -ℤ st.known) ≡ false → is_decided m t.condition ≡ true) row.terms
 
 -- A guard that the sure cursor passed on its way from one state to another, and that decides, is sure.
 abbrev pub Fresh : Row → State → State → Marks → Type 0
 Fresh row a b m = Each (λ (g : Guard). Meets true g m) (drop a.sure_guard (take b.sure_guard row.guards))
 
 -- A scan keeps what its places keep, whether it contradicts or not.
-scan-stays : {X : Type 0} (P : Marks → Type 0) (waits : X → Marks → Bool) (act : X → Marks → Decided) → ((x : X) (m : Marks) → P m → P (act x m).marks)
+scan_stays : {X : Type 0} (P : Marks → Type 0) (waits : X → Marks → Bool) (act : X → Marks → Decided) → ((x : X) (m : Marks) → P m → P (act x m).marks)
     → (xs : List X) (n : ℕ) (m : Marks) (k : Step) → contradicts k ≡ false → P m → P (scan waits act xs n m k).marks
-scan-stays P waits act h xs n m k c p = (scan-keeps P (Unit {0}) waits act xs (λ x a i q v. (h x a q, λ _. tt)) n m k p c).0
+scan_stays P waits act h xs n m k c p = (scan_keeps P (Unit {0}) waits act xs (λ x a i q v. (h x a q, λ _. tt)) n m k p c).0
 
 light-true : (st : State) (a b : ℕ) → a ≤ b → le_z (pos b) (st.possible -ℤ st.lower) ≡ true → le_z (pos a) (st.possible -ℤ st.lower) ≡ true
-light-true st a b h k = leZ-trans (pos a) (pos b) (st.possible -ℤ st.lower) (leZ-pos a b ∙ le-leb a b h) k
+light-true st a b h k = le_z_trans (pos a) (pos b) (st.possible -ℤ st.lower) (le_z-pos a b ∙ le-leb a b h) k
 
 light-false : (z : ℤ) (a b : ℕ) → a ≤ b → lt_z (pos b) z ≡ true → lt_z (pos a) z ≡ true
-light-false z a b h k = leZ-ltZ (pos a) (pos b) z (leZ-pos a b ∙ le-leb a b h) k
+light-false z a b h k = le_z-lt_z (pos a) (pos b) z (le_z-pos a b ∙ le-leb a b h) k
 
 module _ (row : Row) (o : Ordered row) where
   -- THE GUARDS
@@ -65,20 +65,20 @@ module _ (row : Row) (o : Ordered row) where
     pub passed : Passed row r.state r.marks
     pub all : Each (λ (g : Guard). le_z g.bound (reached st) ≡ false) (drop r.state.sure_guard row.guards)
     pub fresh : Fresh row st r.state r.marks
-    pub out-of-reach : Each (λ (g : Guard). reachable st g.bound ≡ false → Meets false g r.marks) row.guards
+    pub out_of_reach : Each (λ (g : Guard). reachable st g.bound ≡ false → Meets false g r.marks) row.guards
 
-  guards-done : (st : State) (m : Marks) → Passed row st m → contradicts (thresholdGuards row.guards st m).step ≡ false → GuardsDone st (thresholdGuards row.guards st m)
-  unfolding thresholdGuards with_guards
+  guards-done : (st : State) (m : Marks) → Passed row st m → contradicts (threshold_guards row.guards st m).step ≡ false → GuardsDone st (threshold_guards row.guards st m)
+  unfolding threshold_guards with_guards
   guards-done st m p h = by (contradicts a.step) refl h
     where
       gs : List Guard
       gs = row.guards
 
       a : Scanned
-      a = sureGuards gs st m
+      a = sure_guards gs st m
 
       b : Scanned
-      b = neverGuards gs st a.marks a.step
+      b = never_guards gs st a.marks a.step
 
       up : State
       up = with_guards st (st.sure_guard + a.passed) st.never_guard
@@ -89,19 +89,19 @@ module _ (row : Row) (o : Ordered row) where
       by : (t : Bool) → contradicts a.step ≡ t → contradicts (ends t).step ≡ false → GuardsDone st (ends t)
       by true e d = absurd (unequal cc)
       by false e d =
-          let s = sure-complete gs st m o.rising o.guards p.wide e in
-          let w : Wide a.marks = scan-stays Wide (sureWaits st) (decides true) (λ g k q. wide-decides true g k q) (drop st.sure_guard gs) 0 m Unchanged refl p.wide in
+          let s = sure_complete gs st m o.rising o.guards p.wide e in
+          let w : Wide a.marks = scan_stays Wide (sure_waits st) (decides true) (λ g k q. wide_decides true g k q) (drop st.sure_guard gs) 0 m Unchanged refl p.wide in
           let old : Each (λ (g : Guard). Meets false g a.marks) (drop st.never_guard gs) =
-          λ g i d. scan-stays (Has false g.node) (sureWaits st) (decides true) (λ x k q. decides-stays false g.node true x k q) (drop st.sure_guard gs) 0 m Unchanged refl (p.never g i d) in
-          let n = never-complete gs st a.marks a.step o.rising o.guards w p.inside old e d in
+          λ g i d. scan_stays (Has false g.node) (sure_waits st) (decides true) (λ x k q. decides_stays false g.node true x k q) (drop st.sure_guard gs) 0 m Unchanged refl (p.never g i d) in
+          let n = never_complete gs st a.marks a.step o.rising o.guards w p.inside old e d in
           let later : (P : Marks → Type 0) → ((x : Guard) (k : Marks) → P k → P (decides false x k).marks) → P a.marks → P b.marks =
-          λ P q x. scan-stays P (neverWaits st) (decides false) q (reverse (take st.never_guard gs)) 0 a.marks a.step e x in
-          let terms : (t : ℕ) → isDecided m t ≡ true → isDecided b.marks t ≡ true =
-          λ t q. later (λ (k : Marks). isDecided k t ≡ true) (λ x k y. decides-keeps (λ (n : Marks). isDecided n t ≡ true) false x k y (decided-stays t false k x.node y))
-          (scan-stays (λ (k : Marks). isDecided k t ≡ true) (sureWaits st) (decides true) (λ x k y. decides-keeps (λ (n : Marks). isDecided n t ≡ true) true x k y (decided-stays t true k x.node y)) (drop st.sure_guard gs) 0 m Unchanged refl q) in
+          λ P q x. scan_stays P (never_waits st) (decides false) q (reverse (take st.never_guard gs)) 0 a.marks a.step e x in
+          let terms : (t : ℕ) → is_decided m t ≡ true → is_decided b.marks t ≡ true =
+          λ t q. later (λ (k : Marks). is_decided k t ≡ true) (λ x k y. decides_keeps (λ (n : Marks). is_decided n t ≡ true) false x k y (decided_stays t false k x.node y))
+          (scan_stays (λ (k : Marks). is_decided k t ≡ true) (sure_waits st) (decides true) (λ x k y. decides_keeps (λ (n : Marks). is_decided n t ≡ true) true x k y (decided_stays t true k x.node y)) (drop st.sure_guard gs) 0 m Unchanged refl q) in
           record {
             passed = record {
-              wide = later Wide (λ g k q. wide-decides false g k q) w;
+              wide = later Wide (λ g k q. wide_decides false g k q) w;
               inside = let i = p.inside in omega arith;
               sure = s.inside p.sure;
               never = n.0;
@@ -109,28 +109,28 @@ module _ (row : Row) (o : Ordered row) where
               false-terms = λ t i. terms t.condition (p.false-terms t i);
             };
             all = s.all;
-            fresh = λ g i d. later (Has true g.node) (λ x k y. decides-stays true g.node false x k y) (s.fresh g i d);
-            out-of-reach = n.1;
+            fresh = λ g i d. later (Has true g.node) (λ x k y. decides_stays true g.node false x k y) (s.fresh g i d);
+            out_of_reach = n.1;
           }
 
   -- THE TERMS of one value: what holds before holds after, what the cutoff forces is decided
   module _ (value : Bool) (light : ℕ → Bool) (down : (a b : ℕ) → a ≤ b → light b ≡ true → light a ≡ true) (n : ℕ) (m : Marks) where
     terms-stay : (P : Marks → Type 0) → ((t : Term) (k : Marks) → P k → P (forces value t k).marks) → P m → P (forced value light (drop n row.terms) m).marks
-    terms-stay P h p = scan-stays P (termWaits light) (forces value) h (drop n row.terms) 0 m Unchanged refl p
+    terms-stay P h p = scan_stays P (term_waits light) (forces value) h (drop n row.terms) 0 m Unchanged refl p
 
     stays-has : (v : Bool) (k : ℕ) → Has v k m → Has v k (forced value light (drop n row.terms) m).marks
-    stays-has v k h = terms-stay (Has v k) (λ t a q. force-has v k value a t.condition q) h
+    stays-has v k h = terms-stay (Has v k) (λ t a q. force_has v k value a t.condition q) h
 
-    stays-decided : (k : ℕ) → isDecided m k ≡ true → isDecided (forced value light (drop n row.terms) m).marks k ≡ true
-    stays-decided k h = terms-stay (λ (a : Marks). isDecided a k ≡ true) (λ t a q. force-stays k value a t.condition q) h
+    stays-decided : (k : ℕ) → is_decided m k ≡ true → is_decided (forced value light (drop n row.terms) m).marks k ≡ true
+    stays-decided k h = terms-stay (λ (a : Marks). is_decided a k ≡ true) (λ t a q. force_stays k value a t.condition q) h
 
     stays_wide : Wide m → Wide (forced value light (drop n row.terms) m).marks
-    stays_wide h = terms-stay Wide (λ t a q. wide-force value a t.condition q) h
+    stays_wide h = terms-stay Wide (λ t a q. wide_force value a t.condition q) h
 
     stays-passed : (st st' : State) → Passed row st m
         → st'.sure_guard ≡ st.sure_guard → st'.never_guard ≡ st.never_guard → reached st' ≡ reached st
-        → Each (λ (t : Term). isDecided (forced value light (drop n row.terms) m).marks t.condition ≡ true) (take st'.true_term row.terms)
-        → Each (λ (t : Term). isDecided (forced value light (drop n row.terms) m).marks t.condition ≡ true) (take st'.false_term row.terms)
+        → Each (λ (t : Term). is_decided (forced value light (drop n row.terms) m).marks t.condition ≡ true) (take st'.true_term row.terms)
+        → Each (λ (t : Term). is_decided (forced value light (drop n row.terms) m).marks t.condition ≡ true) (take st'.false_term row.terms)
         → Passed row st' (forced value light (drop n row.terms) m).marks
     stays-passed st st' p e f same a b = record {
       wide = stays_wide p.wide;
@@ -143,13 +143,13 @@ module _ (row : Row) (o : Ordered row) where
 
   -- what a run over terms keeps of what was decided
   abbrev Stays : Marks → Marks → Type 0
-  Stays m m' = ((v : Bool) (k : ℕ) → Has v k m → Has v k m') × ((k : ℕ) → isDecided m k ≡ true → isDecided m' k ≡ true)
+  Stays m m' = ((v : Bool) (k : ℕ) → Has v k m → Has v k m') × ((k : ℕ) → is_decided m k ≡ true → is_decided m' k ≡ true)
 
-  true-done : (st : State) (m : Marks) → Passed row st m → contradicts (trueTerms row.terms st m).step ≡ false
-      → let r = trueTerms row.terms st m in
+  true-done : (st : State) (m : Marks) → Passed row st m → contradicts (true_terms row.terms st m).step ≡ false
+      → let r = true_terms row.terms st m in
       Passed row r.state r.marks × Stays m r.marks
-      × (le_z st.lower st.known ≡ false → Each (λ (t : Term). le_z (pos t.weight) (st.possible -ℤ st.lower) ≡ false → isDecided r.marks t.condition ≡ true) row.terms)
-  unfolding trueTerms withTerms
+      × (le_z st.lower st.known ≡ false → Each (λ (t : Term). le_z (pos t.weight) (st.possible -ℤ st.lower) ≡ false → is_decided r.marks t.condition ≡ true) row.terms)
+  unfolding true_terms with_terms
   true-done st m p h = by (le_z st.lower st.known) refl h
     where
       light : ℕ → Bool
@@ -159,25 +159,25 @@ module _ (row : Row) (o : Ordered row) where
       a = forced true light (drop st.true_term row.terms) m
 
       ends : Bool → Ran
-      ends b = cond b (ran st m Unchanged) (ran (withTerms st (st.true_term + a.passed) st.false_term) a.marks a.step)
+      ends b = cond b (ran st m Unchanged) (ran (with_terms st (st.true_term + a.passed) st.false_term) a.marks a.step)
 
       by : (b : Bool) → le_z st.lower st.known ≡ b → contradicts (ends b).step ≡ false
           → Passed row (ends b).state (ends b).marks × Stays m (ends b).marks
-          × (le_z st.lower st.known ≡ false → Each (λ (t : Term). light t.weight ≡ false → isDecided (ends b).marks t.condition ≡ true) row.terms)
+          × (le_z st.lower st.known ≡ false → Each (λ (t : Term). light t.weight ≡ false → is_decided (ends b).marks t.condition ≡ true) row.terms)
       by true e d = (p, ((λ v k q. q), (λ k q. q)), λ f. absurd (unequal cc))
       by false e d =
-          let c = forced-complete true light (light-true st) row.terms st.true_term m o.falling o.terms p.wide p.true-terms d in (
-            stays-passed true light (light-true st) st.true_term m st (withTerms st (st.true_term + a.passed) st.false_term) p refl refl refl c.0
+          let c = forced_complete true light (light-true st) row.terms st.true_term m o.falling o.terms p.wide p.true-terms d in (
+            stays-passed true light (light-true st) st.true_term m st (with_terms st (st.true_term + a.passed) st.false_term) p refl refl refl c.0
                 (λ t i. stays-decided true light (light-true st) st.true_term m t.condition (p.false-terms t i)),
             (stays-has true light (light-true st) st.true_term m, stays-decided true light (light-true st) st.true_term m),
             λ f. c.1,
           )
 
-  false-done : (st : State) (m : Marks) → Passed row st m → contradicts (falseTerms row.terms st m).step ≡ false
-      → let r = falseTerms row.terms st m in
+  false-done : (st : State) (m : Marks) → Passed row st m → contradicts (false_terms row.terms st m).step ≡ false
+      → let r = false_terms row.terms st m in
       Passed row r.state r.marks × Stays m r.marks
-      × ((b : ℤ) → st.upper ≡ Under b → Each (λ (t : Term). lt_z (pos t.weight) (b -ℤ st.known) ≡ false → isDecided r.marks t.condition ≡ true) row.terms)
-  unfolding falseTerms withTerms
+      × ((b : ℤ) → st.upper ≡ Under b → Each (λ (t : Term). lt_z (pos t.weight) (b -ℤ st.known) ≡ false → is_decided r.marks t.condition ≡ true) row.terms)
+  unfolding false_terms with_terms
   false-done st m p h = by st.upper refl h
     where
       light : Upper → ℕ → Bool
@@ -187,15 +187,15 @@ module _ (row : Row) (o : Ordered row) where
       a x = forced false (light x) (drop st.false_term row.terms) m
 
       ends : Upper → Ran
-      ends x = cond (limited x) (ran (withTerms st st.true_term (st.false_term + (a x).passed)) (a x).marks (a x).step) (ran st m Unchanged)
+      ends x = cond (limited x) (ran (with_terms st st.true_term (st.false_term + (a x).passed)) (a x).marks (a x).step) (ran st m Unchanged)
 
       by : (x : Upper) → st.upper ≡ x → contradicts (ends x).step ≡ false
           → Passed row (ends x).state (ends x).marks × Stays m (ends x).marks
-          × ((b : ℤ) → st.upper ≡ Under b → Each (λ (t : Term). lt_z (pos t.weight) (b -ℤ st.known) ≡ false → isDecided (ends x).marks t.condition ≡ true) row.terms)
+          × ((b : ℤ) → st.upper ≡ Under b → Each (λ (t : Term). lt_z (pos t.weight) (b -ℤ st.known) ≡ false → is_decided (ends x).marks t.condition ≡ true) row.terms)
       by Open e d = (p, ((λ v k q. q), (λ k q. q)), λ b f. absurd (let g : Open ≡ Under b = sym e ∙ f in unequal cc))
       by (Under b) e d =
-          let c = forced-complete false (light (Under b)) (light-false (b -ℤ st.known)) row.terms st.false_term m o.falling o.terms p.wide p.false-terms d in (
-            stays-passed false (light (Under b)) (light-false (b -ℤ st.known)) st.false_term m st (withTerms st st.true_term (st.false_term + (a (Under b)).passed)) p refl refl refl
+          let c = forced_complete false (light (Under b)) (light-false (b -ℤ st.known)) row.terms st.false_term m o.falling o.terms p.wide p.false-terms d in (
+            stays-passed false (light (Under b)) (light-false (b -ℤ st.known)) st.false_term m st (with_terms st st.true_term (st.false_term + (a (Under b)).passed)) p refl refl refl
                 (λ t i. stays-decided false (light (Under b)) (light-false (b -ℤ st.known)) st.false_term m t.condition (p.true-terms t i)) c.0,
             (stays-has false (light (Under b)) (light-false (b -ℤ st.known)) st.false_term m, stays-decided false (light (Under b)) (light-false (b -ℤ st.known)) st.false_term m),
             λ b' f. let g : b ≡ b' = (let q : Under b ≡ Under b' = sym e ∙ f in cc) in
@@ -215,15 +215,15 @@ same_then a b c e f = record { known = e.known ∙ f.known; possible = e.possibl
 same : (a : State) → SameFigures a a
 same a = record { known = refl; possible = refl; lower = refl; upper = refl }
 
-pub guards-figures : (gs : List Guard) (st : State) (m : Marks) → SameFigures (thresholdGuards gs st m).state st
-unfolding thresholdGuards with_guards
-guards-figures gs st m = by (contradicts (sureGuards gs st m).step)
+pub guards-figures : (gs : List Guard) (st : State) (m : Marks) → SameFigures (threshold_guards gs st m).state st
+unfolding threshold_guards with_guards
+guards-figures gs st m = by (contradicts (sure_guards gs st m).step)
   where
     a : Scanned
-    a = sureGuards gs st m
+    a = sure_guards gs st m
 
     b : Scanned
-    b = neverGuards gs st a.marks a.step
+    b = never_guards gs st a.marks a.step
 
     ends : Bool → Ran
     ends t = elim t [
@@ -235,41 +235,41 @@ guards-figures gs st m = by (contradicts (sureGuards gs st m).step)
     by true = record { known = refl; possible = refl; lower = refl; upper = refl }
     by false = record { known = refl; possible = refl; lower = refl; upper = refl }
 
-pub true-figures : (ts : List Term) (st : State) (m : Marks) → SameFigures (trueTerms ts st m).state st
-unfolding trueTerms withTerms
+pub true-figures : (ts : List Term) (st : State) (m : Marks) → SameFigures (true_terms ts st m).state st
+unfolding true_terms with_terms
 true-figures ts st m = by (le_z st.lower st.known) _ _ _
   where
-    by : (t : Bool) (n : ℕ) (k : Marks) (s : Step) → SameFigures (cond t (ran st m Unchanged) (ran (withTerms st n st.false_term) k s)).state st
+    by : (t : Bool) (n : ℕ) (k : Marks) (s : Step) → SameFigures (cond t (ran st m Unchanged) (ran (with_terms st n st.false_term) k s)).state st
     by true n k s = same st
     by false n k s = record { known = refl; possible = refl; lower = refl; upper = refl }
 
-pub false-figures : (ts : List Term) (st : State) (m : Marks) → SameFigures (falseTerms ts st m).state st
-unfolding falseTerms withTerms
+pub false-figures : (ts : List Term) (st : State) (m : Marks) → SameFigures (false_terms ts st m).state st
+unfolding false_terms with_terms
 false-figures ts st m = by (limited st.upper) _ _ _
   where
-    by : (t : Bool) (n : ℕ) (k : Marks) (s : Step) → SameFigures (cond t (ran (withTerms st st.true_term n) k s) (ran st m Unchanged)).state st
+    by : (t : Bool) (n : ℕ) (k : Marks) (s : Step) → SameFigures (cond t (ran (with_terms st st.true_term n) k s) (ran st m Unchanged)).state st
     by true n k s = record { known = refl; possible = refl; lower = refl; upper = refl }
     by false n k s = same st
 
-pub true-cursor : (ts : List Term) (st : State) (m : Marks) → (trueTerms ts st m).state.sure_guard ≡ st.sure_guard
-unfolding trueTerms withTerms
-true-cursor ts st m = by (le_z st.lower st.known) _ _ _
+pub true_cursor : (ts : List Term) (st : State) (m : Marks) → (true_terms ts st m).state.sure_guard ≡ st.sure_guard
+unfolding true_terms with_terms
+true_cursor ts st m = by (le_z st.lower st.known) _ _ _
   where
-    by : (t : Bool) (n : ℕ) (k : Marks) (s : Step) → (cond t (ran st m Unchanged) (ran (withTerms st n st.false_term) k s)).state.sure_guard ≡ st.sure_guard
+    by : (t : Bool) (n : ℕ) (k : Marks) (s : Step) → (cond t (ran st m Unchanged) (ran (with_terms st n st.false_term) k s)).state.sure_guard ≡ st.sure_guard
     by true n k s = refl
     by false n k s = refl
 
-pub false-cursor : (ts : List Term) (st : State) (m : Marks) → (falseTerms ts st m).state.sure_guard ≡ st.sure_guard
-unfolding falseTerms withTerms
-false-cursor ts st m = by (limited st.upper) _ _ _
+pub false_cursor : (ts : List Term) (st : State) (m : Marks) → (false_terms ts st m).state.sure_guard ≡ st.sure_guard
+unfolding false_terms with_terms
+false_cursor ts st m = by (limited st.upper) _ _ _
   where
-    by : (t : Bool) (n : ℕ) (k : Marks) (s : Step) → (cond t (ran (withTerms st st.true_term n) k s) (ran st m Unchanged)).state.sure_guard ≡ st.sure_guard
+    by : (t : Bool) (n : ℕ) (k : Marks) (s : Step) → (cond t (ran (with_terms st st.true_term n) k s) (ran st m Unchanged)).state.sure_guard ≡ st.sure_guard
     by true n k s = refl
     by false n k s = refl
 
 -- THE SAME FIGURES AND THE SAME SURE CURSOR: complete as well
-reached-same : (a b : State) → SameFigures b a → reached a ≡ reached b
-reached-same a b e = ap₂ maxZ (sym e.known) (sym e.lower)
+reached_same : (a b : State) → SameFigures b a → reached a ≡ reached b
+reached_same a b e = ap₂ max_z (sym e.known) (sym e.lower)
 
 -- A ROW RUN ONCE without a contradiction: none of rules 2 to 5 is left that its figures give, the cursors passed only what they may,
 -- each guard passed now is sure if it decides, and the figures are as they were.
@@ -279,19 +279,19 @@ pub record RowDone (row : Row) (st : State) (r : Ran) : Type 0 where
   pub figures : SameFigures r.state st
   pub fresh : Fresh row st r.state r.marks
 
-pub row-complete : (row : Row) → Ordered row → (st : State) (m : Marks) → Passed row st m → contradicts (thresholdRow row st m).step ≡ false → RowDone row st (thresholdRow row st m)
-row-complete row o st m p h =
+pub row_complete : (row : Row) → Ordered row → (st : State) (m : Marks) → Passed row st m → contradicts (threshold_row row st m).step ≡ false → RowDone row st (threshold_row row st m)
+row_complete row o st m p h =
     run_ends row st m (λ (r : Ran). contradicts r.step ≡ false → Goal r) (λ e d. absurd (clash true refl d)) (λ e d. absurd (clash (contradicts a.step) e d))
-    (λ e f d. absurd (clash (contradicts b.step) f d)) (λ e f d. done e f (joined-right (joined a.step b.step) c.step d)) h
+    (λ e f d. absurd (clash (contradicts b.step) f d)) (λ e f d. done e f (joined_right (joined a.step b.step) c.step d)) h
   where
     a : Ran
-    a = guardsRun row st m
+    a = guards_run row st m
 
     b : Ran
-    b = trueRun row st m
+    b = true_run row st m
 
     c : Ran
-    c = falseRun row st m
+    c = false_run row st m
 
     Goal : Ran → Type 0
     Goal r = RowDone row st r
@@ -302,22 +302,22 @@ row-complete row o st m p h =
     fb : SameFigures b.state st
     fb = same_then b.state a.state st (true-figures row.terms a.state a.marks) fa
 
-    done : contradicts a.step ≡ false → contradicts b.step ≡ false → contradicts c.step ≡ false → Goal (wholeRun row st m)
+    done : contradicts a.step ≡ false → contradicts b.step ≡ false → contradicts c.step ≡ false → Goal (whole_run row st m)
     done ea eb ec =
         let ga = guards-done row o st m p ea in
         let gb = true-done row o a.state a.marks ga.passed eb in
         let gc = false-done row o b.state b.marks gb.0 ec in
         let fc = same_then c.state b.state st (false-figures row.terms b.state b.marks) fb in
-        let at : c.state.sure_guard ≡ a.state.sure_guard = false-cursor row.terms b.state b.marks ∙ true-cursor row.terms a.state a.marks in
+        let at : c.state.sure_guard ≡ a.state.sure_guard = false_cursor row.terms b.state b.marks ∙ true_cursor row.terms a.state a.marks in
         record {
           passed = gc.0;
           complete = record {
-            all = λ g i. ap (le_z g.bound) (sym (reached-same st c.state fc)) ∙ ga.all g (subst (λ (n : ℕ). Memᴰ g (drop n row.guards)) at i);
-            out-of-reach = λ g i q d. gc.1.0 false g.node (gb.1.0 false g.node (ga.out-of-reach g i
-                (ap₂ (λ (p : ℤ) (u : Upper). le_z g.bound p && not (upperAtMost u g.bound)) (sym fc.possible) (sym fc.upper) ∙ q) d));
+            all = λ g i. ap (le_z g.bound) (sym (reached_same st c.state fc)) ∙ ga.all g (subst (λ (n : ℕ). Memᴰ g (drop n row.guards)) at i);
+            out_of_reach = λ g i q d. gc.1.0 false g.node (gb.1.0 false g.node (ga.out_of_reach g i
+                (ap₂ (λ (p : ℤ) (u : Upper). le_z g.bound p && not (upper_at_most u g.bound)) (sym fc.possible) (sym fc.upper) ∙ q) d));
             needed = λ f t i q. gc.1.1 t.condition (gb.2 (ap₂ le_z (fa.lower ∙ sym fc.lower) (fa.known ∙ sym fc.known) ∙ f) t i
                 (ap (le_z (pos t.weight)) (ap₂ (λ (x y : ℤ). x -ℤ y) (fa.possible ∙ sym fc.possible) (fa.lower ∙ sym fc.lower)) ∙ q));
-            too-heavy = λ z f t i q. gc.2 z (fb.upper ∙ sym fc.upper ∙ f) t i (ap (λ (x : ℤ). lt_z (pos t.weight) (z -ℤ x)) (fb.known ∙ sym fc.known) ∙ q);
+            too_heavy = λ z f t i q. gc.2 z (fb.upper ∙ sym fc.upper ∙ f) t i (ap (λ (x : ℤ). lt_z (pos t.weight) (z -ℤ x)) (fb.known ∙ sym fc.known) ∙ q);
           };
           figures = fc;
           fresh = λ g i d. gc.1.0 true g.node (gb.1.0 true g.node (ga.fresh g (subst (λ (n : ℕ). Memᴰ g (drop st.sure_guard (take n row.guards))) at i) d));

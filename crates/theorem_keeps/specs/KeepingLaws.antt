@@ -4,28 +4,28 @@ use Rattle.std.specs.Prelude.{ℕ, ◌<◌, ◌≡◌, Bool, true, false, cond, 
 use native.Mathlib.Decide.{ℕ_discrete}
 use Rattle.std.proofs.Common.{arith, sym, ap, ap₂, ◌∙◌, get_or-set_same, get_or-set_other}
 use Rattle.base.specs.All.{All}
-use Rattle.base.specs.AllLaws.{all-each}
+use Rattle.base.specs.AllLaws.{all_each}
 use Rattle.memory.specs.Buffers.{HeldRows}
 use Rattle.state.specs.declared.State.{State}
-use Rattle.queues.specs.Queue.{Rows, oldest, queueRow, nextRow}
+use Rattle.queues.specs.Queue.{Rows, oldest, queue_row, next_row}
 use Rattle.queues.specs.QueueLaws.{row-waits, row_new}
-use Rattle.queues.specs.RowsLaws.{flags-oldest, oldest-row}
+use Rattle.queues.specs.RowsLaws.{flags_oldest, oldest-row}
 use Rattle.queues.specs.Waiting.{Flags, Queued}
 use Rattle.queues.specs.Marks.{Marks, decide}
-use Rattle.queues.specs.MarksLaws.{decide-other}
-use Rattle.rows.specs.Rows.{Row, no_row, edgesOf}
+use Rattle.queues.specs.MarksLaws.{decide_other}
+use Rattle.rows.specs.Rows.{Row, no_row, edges_of}
 use Rattle.links.specs.Links.{neighbours}
-use Rattle.row_runs.specs.Row.{wantsResidual}
-use Rattle.row_moves.specs.Between.{Index, Live, Did, stateAt, residualQueued, runWith, run_row, guard_of, thresholdCondition, thresholdPrefixes}
+use Rattle.row_runs.specs.Row.{wants_residual}
+use Rattle.row_moves.specs.Between.{Index, Live, Did, state_at, residual_queued, run_with, run_row, guard_of, threshold_condition, threshold_prefixes}
 use Rattle.row_moves.specs.Held.{GuardsShaped, LinksShaped, HoldsGuards, HoldsLinks}
-use Rattle.row_moves.specs.GuardLaws.{guard-held}
-use Rattle.row_moves.specs.WalkLaws.{Moves, keep-guard, keep-condition, keep-prefixes}
+use Rattle.row_moves.specs.GuardLaws.{guard_held}
+use Rattle.row_moves.specs.WalkLaws.{Moves, keep_guard, keep_condition, keep_prefixes}
 use Rattle.row_moves.specs.KeptLaws.{Light}
-use Rattle.row_moves.specs.KeptHeldLaws.{links-inside}
-use Rattle.theorem_follows.specs.WaitingLaws.{queued-decide}
-use Rattle.row_moves.specs.KeepsLaws.{run-named}
+use Rattle.row_moves.specs.KeptHeldLaws.{links_inside}
+use Rattle.theorem_follows.specs.WaitingLaws.{queued_decide}
+use Rattle.row_moves.specs.KeepsLaws.{run_named}
 use Rattle.row_moves.specs.Ready.{Names}
-use Rattle.theorem_follows.specs.KeepsLaws.{run-keeps}
+use Rattle.theorem_follows.specs.KeepsLaws.{run_keeps}
 use Rattle.theorem_follows.specs.Ordered.{Ordered}
 use Rattle.theorem_keeps.specs.Serves.{Among, Low, Tracked}
 
@@ -34,27 +34,27 @@ abbrev pub Inside : HeldRows → ℕ → Type 0
 Inside h r = r < length h.rows
 
 module _ (x : Index) (h : HeldRows) (Q : Live → Type 0) (m : Moves x (Inside h) Q) where
-  pub keep-guard-of : (nodes : List (List ℕ)) (bounds : List ℤ) → GuardsShaped h nodes bounds → HoldsGuards x nodes bounds → (n : ℕ) → n < length nodes
+  pub keep_guard_of : (nodes : List (List ℕ)) (bounds : List ℤ) → GuardsShaped h nodes bounds → HoldsGuards x nodes bounds → (n : ℕ) → n < length nodes
       → (v : Live) → Q v → Q (guard_of x v x.thresholds n).live
-  keep-guard-of nodes bounds y z n k v q = guard-held x h nodes bounds y z n k v (λ (d : Did). Q d.live) q (λ t r c. keep-guard x (Inside h) Q m v t r q)
+  keep_guard_of nodes bounds y z n k v q = guard_held x h nodes bounds y z n k v (λ (d : Did). Q d.live) q (λ t r c. keep_guard x (Inside h) Q m v t r q)
 
-  pub keep-edges : (v : Live) (n : ℕ) → All (Light h) (edgesOf x.rows n) → Q v → Q (thresholdCondition x v n).live
-  keep-edges v n l q = keep-condition x (Inside h) Q m v n (λ e i. (all-each (Light h) (edgesOf x.rows n) l e i).row) q
+  pub keep_edges : (v : Live) (n : ℕ) → All (Light h) (edges_of x.rows n) → Q v → Q (threshold_condition x v n).live
+  keep_edges v n l q = keep_condition x (Inside h) Q m v n (λ e i. (all_each (Light h) (edges_of x.rows n) l e i).row) q
 
-  pub keep-links : (links : List ℕ) → LinksShaped h links → HoldsLinks x h links → (r : ℕ) → r < length h.rows → (v : Live) → Q v → Q (thresholdPrefixes x v r).live
-  keep-links links y z r k v q = keep-prefixes x (Inside h) Q m v r (all-each (Inside h) (neighbours r x.links) (links-inside x h links y z r k)) q
+  pub keep_links : (links : List ℕ) → LinksShaped h links → HoldsLinks x h links → (r : ℕ) → r < length h.rows → (v : Live) → Q v → Q (threshold_prefixes x v r).live
+  keep_links links y z r k v q = keep_prefixes x (Inside h) Q m v r (all_each (Inside h) (neighbours r x.links) (links_inside x h links y z r k)) q
 
 -- ---- rows that wait
 
-pub among-queue : (n : ℕ) (q : Rows) (r : ℕ) → r < n → Among n q → Among n (queueRow q r)
+pub among-queue : (n : ℕ) (q : Rows) (r : ℕ) → r < n → Among n q → Among n (queue_row q r)
 among-queue n q r k a i l = by (ℕ_discrete (get_or q.pending r 0) 1)
   where
-    by : Dec (get_or q.pending r 0 ≡ 1) → get_or (queueRow q r).pending i 0 ≡ 0
+    by : Dec (get_or q.pending r 0 ≡ 1) → get_or (queue_row q r).pending i 0 ≡ 0
     by (yes e) = rw (row-waits q r e) (a i l)
     by (no e) = rw (row_new q r e) (get_or-set_other q.pending r i 1 0 (λ (f : i ≡ r). omega arith) ∙ a i l)
 
-pub among_next : (n : ℕ) (q : Rows) → Flags q → 0 < q.queue.ring.count → Among n q → Among n (nextRow q)
-unfolding nextRow
+pub among_next : (n : ℕ) (q : Rows) → Flags q → 0 < q.queue.ring.count → Among n q → Among n (next_row q)
+unfolding next_row
 among_next n q f some a i l = by (ℕ_discrete i (oldest q.queue))
   where
     o : ℕ
@@ -70,40 +70,40 @@ oldest-among n q f some a = by (native.Mathlib.Decide.dec_lt (oldest q.queue) n)
   where
     by : Dec (oldest q.queue < n) → oldest q.queue < n
     by (yes k) = k
-    by (no k) = absurd (omega (arith, flags-oldest q f some, a (oldest q.queue) (omega arith)))
+    by (no k) = absurd (omega (arith, flags_oldest q f some, a (oldest q.queue) (omega arith)))
 
-among-residual : (n : ℕ) (row : Row) (s : State) (q : Rows) (r : ℕ) → r < n → Among n q → Among n (residualQueued row s q r)
-among-residual n row s q r k a = by (wantsResidual row s)
+among-residual : (n : ℕ) (row : Row) (s : State) (q : Rows) (r : ℕ) → r < n → Among n q → Among n (residual_queued row s q r)
+among-residual n row s q r k a = by (wants_residual row s)
   where
-    by : (b : Bool) → Among n (cond b (queueRow q r) q)
+    by : (b : Bool) → Among n (cond b (queue_row q r) q)
     by true = among-queue n q r k a
     by false = a
 
 -- ---- which nodes are decided
 
-pub low-decide : (count : ℕ) (value : Bool) (m : Marks) (n : ℕ) → n < count → Low count m → Low count (decide value m n).marks
-low-decide count value m n k l i d = by (ℕ_discrete i n)
+pub low_decide : (count : ℕ) (value : Bool) (m : Marks) (n : ℕ) → n < count → Low count m → Low count (decide value m n).marks
+low_decide count value m n k l i d = by (ℕ_discrete i n)
   where
     by : Dec (i ≡ n) → i < count
     by (yes e) = omega arith
-    by (no e) = l i (sym (ap₂ (λ (a b : Bool). a || b) (decide-other value m n true i e) (decide-other value m n false i e)) ∙ d)
+    by (no e) = l i (sym (ap₂ (λ (a b : Bool). a || b) (decide_other value m n true i e) (decide_other value m n false i e)) ∙ d)
 
 -- ---- what is tracked stays so
 
 module _ (x : Index) (count n : ℕ) (taken : ℕ → Bool) (ordered : (r : ℕ) → r < length x.rows → Ordered (get_or x.rows r no_row))
     (names : (r : ℕ) → r < length x.rows → Names (λ (i : ℕ). i < count) (get_or x.rows r no_row)) where
-  pub tracked-run : (v : Live) (r : ℕ) → r < n → Tracked count n taken v → Tracked count n taken (run_row x v r).live
-  unfolding run_row runWith
-  tracked-run v r k t = record {
-    queued = run-keeps (Queued taken) (queued-decide taken) x ordered v r t.queued;
-    low = run-named (Low count) (λ (i : ℕ). i < count) (low-decide count) x names v r t.low;
+  pub tracked_run : (v : Live) (r : ℕ) → r < n → Tracked count n taken v → Tracked count n taken (run_row x v r).live
+  unfolding run_row run_with
+  tracked_run v r k t = record {
+    queued = run_keeps (Queued taken) (queued_decide taken) x ordered v r t.queued;
+    low = run_named (Low count) (λ (i : ℕ). i < count) (low_decide count) x names v r t.low;
     dirty = t.dirty;
-    residuals = among-residual n (get_or x.rows r no_row) (stateAt v r) v.residuals r k t.residuals;
+    residuals = among-residual n (get_or x.rows r no_row) (state_at v r) v.residuals r k t.residuals;
   }
 
-  pub tracked-moves : Moves x (λ (r : ℕ). r < n) (Tracked count n taken)
-  tracked-moves = record {
-    run = tracked-run;
+  pub tracked_moves : Moves x (λ (r : ℕ). r < n) (Tracked count n taken)
+  tracked_moves = record {
+    run = tracked_run;
     put = λ v r s t. record { queued = t.queued; low = t.low; dirty = t.dirty; residuals = t.residuals };
     wait = λ v r k t. record { queued = t.queued; low = t.low; dirty = among-queue n v.dirty r k t.dirty; residuals = t.residuals };
   }

@@ -3,10 +3,10 @@ use Rattle.std.specs.Prelude.{ℕ, ◌<◌, ◌≤◌, ◌≡◌, true, false, l
 use Rattle.base.specs.All.{All}
 use Rattle.state.specs.State.{limit}
 use Rattle.rows.specs.Guards.{Bound}
-use Rattle.memory.specs.Limits.{maxThresholds, maxNodes, maxTerms, listTerms}
+use Rattle.memory.specs.Limits.{max_thresholds, max_nodes, max_terms, list_terms}
 use Rattle.numeric.specs.Threshold.{Term, ThresholdOf, Threshold, JobOf, Job}
-use Rattle.numeric.specs.Area.{Entry, conditionOf, Draft, job_of}
-use Rattle.job.specs.Job.{allTerms}
+use Rattle.numeric.specs.Area.{Entry, condition_of, Draft, job_of}
+use Rattle.job.specs.Job.{all_terms}
 use Rattle.files.specs.File.{File}
 use Rattle.theorem_ends.specs.Sound.{Sound}
 
@@ -15,12 +15,12 @@ pub record FitBy {X : Type 0} (condition : X → ℕ) (nodes : ℕ) (t : Thresho
   pub node : t.node < nodes
   pub bound : Bound t.bound
   pub conditions : All (λ (u : X). condition u < nodes) t.terms
-  pub short : length t.terms ≤ listTerms
+  pub short : length t.terms ≤ list_terms
 
 pub record FitsBy {X : Type 0} (condition : X → ℕ) (j : JobOf X) : Type 0 where
-  pub nodes : j.nodes ≤ maxNodes
-  pub few : length j.thresholds ≤ maxThresholds
-  pub terms : allTerms j.thresholds ≤ maxTerms
+  pub nodes : j.nodes ≤ max_nodes
+  pub few : length j.thresholds ≤ max_thresholds
+  pub terms : all_terms j.thresholds ≤ max_terms
   pub each : All (FitBy condition j.nodes) j.thresholds
 
 abbrev pub Fit : ℕ → Threshold → Type 0
@@ -30,7 +30,7 @@ abbrev pub Fits : Job → Type 0
 Fits = FitsBy (λ (u : Term). u.condition)
 
 abbrev pub Drafted : Draft → Type 0
-Drafted = FitsBy (λ (e : Entry). conditionOf e)
+Drafted = FitsBy (λ (e : Entry). condition_of e)
 
 -- Its weights are below a limit. This stands apart since a file of any numbers fits, but only one of bytes is light.
 abbrev pub Light : ℕ → Job → Type 0

@@ -8,7 +8,7 @@ use Rattle.base.specs.TestLaws.{clash}
 use Rattle.numeric.specs.Threshold.{Term, term}
 use Rattle.state.specs.declared.Upper.TheVariants.{Under}
 use Rattle.rows.specs.Rows.{Row, row_of, no_row, Guard, Other, alone, beside}
-use Rattle.theorem_table.specs.Table.{Table, known, possible, start, decideSure, decideNever, raiseLower, lowerUpper, OtherReached, FallsShort, Reached, OutOfReach, Prefixed, Step, never-guard, bound-reached, bound-out-of-reach, longer-lower}
+use Rattle.theorem_table.specs.Table.{Table, known, possible, start, decide_sure, decide_never, raise_lower, lower_upper, OtherReached, FallsShort, Reached, OutOfReach, Prefixed, Step, never-guard, bound-reached, bound-out-of-reach, longer-lower}
 use Rattle.theorem_table.specs.OrderLaws.{le, lt, of_le}
 
 abbrev row : List Term → List Guard → Row
@@ -31,19 +31,19 @@ lonely b may = row [] (lone b may ∷ []) ∷ []
 abbrev unmarked : Table
 unmarked = start none none
 
-reached-decides : Step (lonely (pos 0) true) unmarked (decideSure unmarked 9)
+reached-decides : Step (lonely (pos 0) true) unmarked (decide_sure unmarked 9)
 unfolding known OtherReached
 reached-decides = bound-reached 0 (lone (pos 0) true) (omega arith, Memᴰ.head refl) (refl, le refl, tt) refl
 
-reached-without-leave : Reached (lonely (pos 0) false) unmarked 0 (lone (pos 0) false) → ⊥
-reached-without-leave h = clash false h.0 refl
+reached-without_leave : Reached (lonely (pos 0) false) unmarked 0 (lone (pos 0) false) → ⊥
+reached-without_leave h = clash false h.0 refl
 
-out-of-reach-decides : Step (lonely (pos 1) true) unmarked (decideNever unmarked 9)
+out_of_reach_decides : Step (lonely (pos 1) true) unmarked (decide_never unmarked 9)
 unfolding possible
-out-of-reach-decides = bound-out-of-reach 0 (lone (pos 1) true) (omega arith, Memᴰ.head refl) (refl, inl (lt refl)) refl
+out_of_reach_decides = bound-out-of-reach 0 (lone (pos 1) true) (omega arith, Memᴰ.head refl) (refl, inl (lt refl)) refl
 
-out-of-reach-without-leave : OutOfReach (lonely (pos 1) false) unmarked 0 (lone (pos 1) false) → ⊥
-out-of-reach-without-leave h = clash false h.0 refl
+out_of_reach_without_leave : OutOfReach (lonely (pos 1) false) unmarked 0 (lone (pos 1) false) → ⊥
+out_of_reach_without_leave h = clash false h.0 refl
 
 -- TWO MEASURES: node 9 asks two rows for 1 each; row 0 has node 0, row 1 node 1, each of weight 1
 abbrev asks : ℕ → Guard
@@ -58,21 +58,21 @@ two m = ltb m 2
 unreached : pos 1 ≤ℤ pos 0 → ⊥
 unreached h = clash (le_z (pos 1) (pos 0)) (of_le h) refl
 
-both-reached-decide : Step pair (start two none) (decideSure (start two none) 9)
+both_reached-decide : Step pair (start two none) (decide_sure (start two none) 9)
 unfolding known OtherReached
-both-reached-decide = bound-reached 0 (asks 1) (omega arith, Memᴰ.head refl) (refl, le refl, le refl) refl
+both_reached-decide = bound-reached 0 (asks 1) (omega arith, Memᴰ.head refl) (refl, le refl, le refl) refl
 
-one-reached-alone : Reached pair (start (one 0) none) 0 (asks 1) → ⊥
+one-reached_alone : Reached pair (start (one 0) none) 0 (asks 1) → ⊥
 unfolding known OtherReached
-one-reached-alone h = unreached h.2
+one-reached_alone h = unreached h.2
 
-never-beside-reached : Step pair (start (one 1) (one 9)) (lowerUpper (start (one 1) (one 9)) 0 (Under (pos 1)))
+never_beside_reached : Step pair (start (one 1) (one 9)) (lower_upper (start (one 1) (one 9)) 0 (Under (pos 1)))
 unfolding known OtherReached
-never-beside-reached = never-guard 0 (asks 1) (omega arith, Memᴰ.head refl) (refl, le refl) tt
+never_beside_reached = never-guard 0 (asks 1) (omega arith, Memᴰ.head refl) (refl, le refl) tt
 
-never-beside-unreached : FallsShort pair (start none (one 9)) (asks 1) → ⊥
+never_beside_unreached : FallsShort pair (start none (one 9)) (asks 1) → ⊥
 unfolding known OtherReached
-never-beside-unreached h = unreached h.1
+never_beside_unreached h = unreached h.1
 
 -- LINKS: row 0 begins row 1, and has a lower of 1
 abbrev linked : Bool → Guard
@@ -82,13 +82,13 @@ abbrev chain : Bool → Bool → List Row
 chain a b = row (term 0 1 ∷ []) (linked a ∷ []) ∷ row (term 0 1 ∷ term 1 1 ∷ []) (linked b ∷ []) ∷ []
 
 abbrev raised : Table
-raised = raiseLower (start none none) 0 (pos 1)
+raised = raise_lower (start none none) 0 (pos 1)
 
-linked-hands-on : Step (chain true true) raised (raiseLower raised 1 (pos 1))
-linked-hands-on = longer-lower 0 1 (omega arith, omega arith, (term 1 1 ∷ [], refl, refl, refl)) (lt refl)
+linked_hands_on : Step (chain true true) raised (raise_lower raised 1 (pos 1))
+linked_hands_on = longer-lower 0 1 (omega arith, omega arith, (term 1 1 ∷ [], refl, refl, refl)) (lt refl)
 
-unlinked-hands-nothing-on : Prefixed (chain false true) 0 1 → ⊥
-unlinked-hands-nothing-on h = clash false h.2 refl
+unlinked_hands_nothing_on : Prefixed (chain false true) 0 1 → ⊥
+unlinked_hands_nothing_on h = clash false h.2 refl
 
-unlinked-takes-nothing : Prefixed (chain true false) 0 1 → ⊥
-unlinked-takes-nothing h = clash false h.3 refl
+unlinked_takes_nothing : Prefixed (chain true false) 0 1 → ⊥
+unlinked_takes_nothing h = clash false h.3 refl

@@ -11,10 +11,10 @@ use Rattle.base.specs.TestLaws.{unequal}
 use Rattle.numeric.specs.Threshold.{Term}
 use Rattle.state.specs.declared.Upper.{Upper}
 use Rattle.state.specs.declared.Upper.TheVariants.{Open, Under}
-use Rattle.rows.specs.Rows.{Row, Guard, Other, alone, beside, MayDecide, linkedBy, Linked, no_row}
-use Rattle.theorem_table.specs.Table.{Table, AtMost, Below, decideSure, decideNever, raiseLower, lowerUpper, IsRow, termsOf, Guards, HasTerm, known_of, possibleOf, reachedOf, OtherReached, Undecided, Step, sure-guard, never-guard, bound-reached, bound-out-of-reach, term-needed, term-too-heavy, longer-lower, shorter-upper, Conflict, both, lower-above, upper-reached, FallsShort, Reached, OutOfReach, Prefixed}
-use Rattle.theorem_table.specs.OrderLaws.{≤ℤ-or-<ℤ, UpLe, le-or-below}
-use Rattle.theorem_table.specs.Ends.{nodesOf, Finite}
+use Rattle.rows.specs.Rows.{Row, Guard, Other, alone, beside, MayDecide, linked_by, Linked, no_row}
+use Rattle.theorem_table.specs.Table.{Table, AtMost, Below, decide_sure, decide_never, raise_lower, lower_upper, IsRow, terms_of, Guards, HasTerm, known_of, possible_of, reached_of, OtherReached, Undecided, Step, sure-guard, never-guard, bound-reached, bound-out-of-reach, term-needed, term-too-heavy, longer-lower, shorter-upper, Conflict, both, lower-above, upper-reached, FallsShort, Reached, OutOfReach, Prefixed}
+use Rattle.theorem_table.specs.OrderLaws.{≤ℤ_or_<ℤ, UpLe, le-or-below}
+use Rattle.theorem_table.specs.Ends.{nodes_of, Finite}
 
 -- PREMISES
 
@@ -35,33 +35,33 @@ same_number a b = by (eqb a b) refl
     by false e = inr (eqb-false a b e)
 
 at_most : (a b : ℤ) → Decided (a ≤ℤ b)
-at_most a b = by (≤ℤ-or-<ℤ a b)
+at_most a b = by (≤ℤ_or_<ℤ a b)
   where
     by : (a ≤ℤ b) ⊎ (b <ℤ a) → Decided (a ≤ℤ b)
     by (inl h) = inl h
     by (inr h) = inr (λ k. clash_ℤ h k)
 
 less : (a b : ℤ) → Decided (a <ℤ b)
-less a b = by (≤ℤ-or-<ℤ b a)
+less a b = by (≤ℤ_or_<ℤ b a)
   where
     by : (b ≤ℤ a) ⊎ (a <ℤ b) → Decided (a <ℤ b)
     by (inl h) = inr (λ k. clash_ℤ k h)
     by (inr h) = inl h
 
-upper-at-most : (u : Upper) (z : ℤ) → Decided (AtMost u z)
-upper-at-most Open z = inr (λ h. h)
-upper-at-most (Under u) z = at_most u z
+upper_at-most : (u : Upper) (z : ℤ) → Decided (AtMost u z)
+upper_at-most Open z = inr (λ h. h)
+upper_at-most (Under u) z = at_most u z
 
-below-clash : (a b : Upper) → UpLe b a → Below a b → ⊥
-below-clash Open b h k = k
-below-clash (Under a) Open h k = h
-below-clash (Under a) (Under b) h k = clash_ℤ k h
+below_clash : (a b : Upper) → UpLe b a → Below a b → ⊥
+below_clash Open b h k = k
+below_clash (Under a) Open h k = h
+below_clash (Under a) (Under b) h k = clash_ℤ k h
 
-lies-below : (a b : Upper) → Decided (Below a b)
-lies-below a b = by (le-or-below b a)
+lies_below : (a b : Upper) → Decided (Below a b)
+lies_below a b = by (le-or-below b a)
   where
     by : UpLe b a ⊎ Below a b → Decided (Below a b)
-    by (inl h) = inr (below-clash a b h)
+    by (inl h) = inr (below_clash a b h)
     by (inr h) = inl h
 
 either : {A B : Type 0} → Decided A → Decided B → Decided (A ⊎ B)
@@ -74,11 +74,11 @@ and (inl a) (inl b) = inl (a, b)
 and (inl a) (inr m) = inr (λ h. m h.1)
 and (inr n) d = inr (λ h. n h.0)
 
-and-three : {A B C : Type 0} → Decided A → Decided B → Decided C → Decided (A × B × C)
-and-three (inl a) (inl b) (inl c) = inl (a, b, c)
-and-three (inl a) (inl b) (inr n) = inr (λ h. n h.2)
-and-three (inl a) (inr n) c = inr (λ h. n h.1)
-and-three (inr n) b c = inr (λ h. n h.0)
+and_three : {A B C : Type 0} → Decided A → Decided B → Decided C → Decided (A × B × C)
+and_three (inl a) (inl b) (inl c) = inl (a, b, c)
+and_three (inl a) (inl b) (inr n) = inr (λ h. n h.2)
+and_three (inl a) (inr n) c = inr (λ h. n h.1)
+and_three (inr n) b c = inr (λ h. n h.0)
 
 and-two : {A C D : Type 0} {B : A → Type 0} → Decided ((a : A) × B a) → Decided C → Decided D → Decided ((a : A) × B a × C × D)
 and-two (inl p) (inl c) (inl d) = inl (p.0, p.1, c, d)
@@ -87,8 +87,8 @@ and-two (inl p) (inr n) d = inr (λ h. n h.2)
 and-two (inr n) c d = inr (λ h. n (h.0, h.1))
 
 -- two terms, and whether one list of terms stands at the start of another
-same-term : (t u : Term) → Decided (t ≡ u)
-same-term t u = by (same_number t.condition u.condition) (same_number t.weight u.weight)
+same_term_lem : (t u : Term) → Decided (t ≡ u)
+same_term_lem t u = by (same_number t.condition u.condition) (same_number t.weight u.weight)
   where
     by : Decided (t.condition ≡ u.condition) → Decided (t.weight ≡ u.weight) → Decided (t ≡ u)
     by (inl c) (inl w) = inl (λ i. record { condition = c i; weight = w i })
@@ -98,7 +98,7 @@ same-term t u = by (same_number t.condition u.condition) (same_number t.weight u
 starts : (ts us : List Term) → Decided ((rest : List Term) × (us ≡ ts ++ rest))
 starts [] us = inl (us, refl)
 starts (t ∷ ts) [] = inr (λ h. nil≢cons h.1)
-starts (t ∷ ts) (u ∷ us) = by (same-term t u) (starts ts us)
+starts (t ∷ ts) (u ∷ us) = by (same_term_lem t u) (starts ts us)
   where
     by : Decided (t ≡ u) → Decided ((rest : List Term) × (us ≡ ts ++ rest)) → Decided ((rest : List Term) × (u ∷ us ≡ (t ∷ ts) ++ rest))
     by (inl e) (inl h) = inl (h.0, ap₂ (λ (x : Term) (xs : List Term). x ∷ xs) (sym e) h.1)
@@ -147,9 +147,9 @@ module _ {A : Type 0} where
 -- STEPS
 
 -- the number of an upper that is one
-abbrev boundOf : Upper → ℤ
-boundOf Open = pos 0
-boundOf (Under u) = u
+abbrev bound_of : Upper → ℤ
+bound_of Open = pos 0
+bound_of (Under u) = u
 
 module _ (rows : List Row) where
   abbrev pub SomeStep : Table → Type 0
@@ -163,7 +163,7 @@ module _ (rows : List Row) where
 
   abbrev StillTerm : Table → ℕ → Term → Type 0
   StillTerm s r t =
-      (Undecided rows s t.condition → (possibleOf rows s r -ℤ s.lower r) <ℤ pos t.weight → ⊥)
+      (Undecided rows s t.condition → (possible_of rows s r -ℤ s.lower r) <ℤ pos t.weight → ⊥)
       × (Undecided rows s t.condition → ((u : ℤ) × (s.upper r ≡ Under u) × ((u -ℤ known_of rows s r) ≤ℤ pos t.weight)) → ⊥)
 
   abbrev StillPair : Table → ℕ → ℕ → Type 0
@@ -172,30 +172,30 @@ module _ (rows : List Row) where
   other : (s : Table) (o : Other) → Decided (OtherReached rows s o)
   unfolding OtherReached
   other s alone = inl tt
-  other s (beside q b) = at_most b (reachedOf rows s q)
+  other s (beside q b) = at_most b (reached_of rows s q)
 
   at-guard : (s : Table) (r : ℕ) (g : Guard) → Guards rows r g → SomeStep s ⊎ StillGuard s r g
   at-guard s r g i =
       also
-      (also (rule (is (s.sure g.node) true) (less (s.lower r) g.bound) (λ e h. (raiseLower s r g.bound, sure-guard r g i e h)))
-      (rule (and (is _ true) (other s _)) (lies-below (Under g.bound) (s.upper r)) (λ e h. (lowerUpper s r (Under g.bound), never-guard r g i e h))))
-      (also (rule (and-three (is _ true) (at_most _ _) (other s _)) (is (s.sure g.node) false) (λ h e. (decideSure s g.node, bound-reached r g i h e)))
-      (rule (and (is _ true) (either (less _ _) (upper-at-most (s.upper r) g.bound))) (is (s.never g.node) false) (λ h e. (decideNever s g.node, bound-out-of-reach r g i h e))))
+      (also (rule (is (s.sure g.node) true) (less (s.lower r) g.bound) (λ e h. (raise_lower s r g.bound, sure-guard r g i e h)))
+      (rule (and (is _ true) (other s _)) (lies_below (Under g.bound) (s.upper r)) (λ e h. (lower_upper s r (Under g.bound), never-guard r g i e h))))
+      (also (rule (and_three (is _ true) (at_most _ _) (other s _)) (is (s.sure g.node) false) (λ h e. (decide_sure s g.node, bound-reached r g i h e)))
+      (rule (and (is _ true) (either (less _ _) (upper_at-most (s.upper r) g.bound))) (is (s.never g.node) false) (λ h e. (decide_never s g.node, bound-out-of-reach r g i h e))))
 
   -- a row's upper and the weight that it leaves
-  too-heavy : (s : Table) (r w : ℕ) (c : Upper) → s.upper r ≡ c → Decided ((u : ℤ) × (s.upper r ≡ Under u) × ((u -ℤ known_of rows s r) ≤ℤ pos w))
-  too-heavy s r w Open e = inr (λ h. subst⁻¹ (λ (c : Upper). AtMost c h.0) (sym e ∙ h.1) (≤ℤ_refl h.0))
-  too-heavy s r w (Under u) e = by (at_most (u -ℤ known_of rows s r) (pos w))
+  too_heavy : (s : Table) (r w : ℕ) (c : Upper) → s.upper r ≡ c → Decided ((u : ℤ) × (s.upper r ≡ Under u) × ((u -ℤ known_of rows s r) ≤ℤ pos w))
+  too_heavy s r w Open e = inr (λ h. subst⁻¹ (λ (c : Upper). AtMost c h.0) (sym e ∙ h.1) (≤ℤ_refl h.0))
+  too_heavy s r w (Under u) e = by (at_most (u -ℤ known_of rows s r) (pos w))
     where
       by : Decided ((u -ℤ known_of rows s r) ≤ℤ pos w) → Decided ((v : ℤ) × (s.upper r ≡ Under v) × ((v -ℤ known_of rows s r) ≤ℤ pos w))
       by (inl h) = inl (u, e, h)
-      by (inr n) = inr (λ h. n (subst⁻¹ (λ (v : ℤ). (v -ℤ known_of rows s r) ≤ℤ pos w) (ap boundOf (sym e ∙ h.1)) h.2))
+      by (inr n) = inr (λ h. n (subst⁻¹ (λ (v : ℤ). (v -ℤ known_of rows s r) ≤ℤ pos w) (ap bound_of (sym e ∙ h.1)) h.2))
 
   at-term : (s : Table) (r : ℕ) (t : Term) → HasTerm rows r t → SomeStep s ⊎ StillTerm s r t
   at-term s r t i =
       also
-      (rule undecided (less (possibleOf rows s r -ℤ s.lower r) (pos t.weight)) (λ d h. (decideSure s t.condition, term-needed r t i d h)))
-      (rule undecided (too-heavy s r t.weight (s.upper r) refl) (λ d h. (decideNever s t.condition, term-too-heavy r t h.0 i d h.1 h.2)))
+      (rule undecided (less (possible_of rows s r -ℤ s.lower r) (pos t.weight)) (λ d h. (decide_sure s t.condition, term-needed r t i d h)))
+      (rule undecided (too_heavy s r t.weight (s.upper r) refl) (λ d h. (decide_never s t.condition, term-too-heavy r t h.0 i d h.1 h.2)))
     where
       undecided : Decided (Undecided rows s t.condition)
       undecided = and (is (s.sure t.condition) false) (is (s.never t.condition) false)
@@ -203,30 +203,30 @@ module _ (rows : List Row) where
   at_pair : (s : Table) (r q : ℕ) → IsRow rows r → IsRow rows q → SomeStep s ⊎ StillPair s r q
   at_pair s r q i j =
       also
-      (rule prefix (less (s.lower q) (s.lower r)) (λ p h. (raiseLower s q (s.lower r), longer-lower r q (i, j, p) h)))
-      (rule prefix (lies-below (s.upper q) (s.upper r)) (λ p h. (lowerUpper s r (s.upper q), shorter-upper r q (i, j, p) h)))
+      (rule prefix (less (s.lower q) (s.lower r)) (λ p h. (raise_lower s q (s.lower r), longer-lower r q (i, j, p) h)))
+      (rule prefix (lies_below (s.upper q) (s.upper r)) (λ p h. (lower_upper s r (s.upper q), shorter-upper r q (i, j, p) h)))
     where
       prefix : Decided (Prefixed rows r q)
-      prefix = and-two (starts (termsOf rows r) (termsOf rows q)) (is _ true) (is _ true)
+      prefix = and-two (starts (terms_of rows r) (terms_of rows q)) (is _ true) (is _ true)
 
   abbrev StillGuards : Table → Type 0
   StillGuards s = (r : ℕ) → IsRow rows r → (g : Guard) → Memᴰ g (get_or rows r no_row).guards → StillGuard s r g
 
   abbrev StillTerms : Table → Type 0
-  StillTerms s = (r : ℕ) → IsRow rows r → (t : Term) → Memᴰ t (termsOf rows r) → StillTerm s r t
+  StillTerms s = (r : ℕ) → IsRow rows r → (t : Term) → Memᴰ t (terms_of rows r) → StillTerm s r t
 
   abbrev StillPairs : Table → Type 0
   StillPairs s = (r : ℕ) → IsRow rows r → (q : ℕ) → IsRow rows q → StillPair s r q
 
-  all-guards : (s : Table) → SomeStep s ⊎ StillGuards s
-  all-guards s =
+  all_guards : (s : Table) → SomeStep s ⊎ StillGuards s
+  all_guards s =
       each_below (λ (r : ℕ). (g : Guard) → Memᴰ g (get_or rows r no_row).guards → StillGuard s r g) (length rows)
       (λ r i. each_of (StillGuard s r) (get_or rows r no_row).guards (λ g m. at-guard s r g (i, m)))
 
-  all-terms : (s : Table) → SomeStep s ⊎ StillTerms s
-  all-terms s =
-      each_below (λ (r : ℕ). (t : Term) → Memᴰ t (termsOf rows r) → StillTerm s r t) (length rows)
-      (λ r i. each_of (StillTerm s r) (termsOf rows r) (λ t m. at-term s r t (i, m)))
+  all_terms_lem : (s : Table) → SomeStep s ⊎ StillTerms s
+  all_terms_lem s =
+      each_below (λ (r : ℕ). (t : Term) → Memᴰ t (terms_of rows r) → StillTerm s r t) (length rows)
+      (λ r i. each_of (StillTerm s r) (terms_of rows r) (λ t m. at-term s r t (i, m)))
 
   all-pairs : (s : Table) → SomeStep s ⊎ StillPairs s
   all-pairs s =
@@ -244,8 +244,8 @@ module _ (rows : List Row) where
   no_step s u gs ts ps (shorter-upper r q i h) = (ps r i.0 q i.1).1 i.2 h
 
   -- A STEP IS LEFT, or none
-  pub step-or-none : (s : Table) → SomeStep s ⊎ ((u : Table) → Step rows s u → ⊥)
-  step-or-none s = by (also (also (all-guards s) (all-terms s)) (all-pairs s))
+  pub step_or-none : (s : Table) → SomeStep s ⊎ ((u : Table) → Step rows s u → ⊥)
+  step_or-none s = by (also (also (all_guards s) (all_terms_lem s)) (all-pairs s))
     where
       by : SomeStep s ⊎ ((StillGuards s × StillTerms s) × StillPairs s) → SomeStep s ⊎ ((u : Table) → Step rows s u → ⊥)
       by (inl a) = inl a
@@ -257,19 +257,19 @@ module _ (rows : List Row) where
   Apart s n = s.sure n ≡ true → s.never n ≡ true → ⊥
 
   abbrev Unbroken : Table → ℕ → Type 0
-  Unbroken s r = (possibleOf rows s r <ℤ s.lower r → ⊥) × (AtMost (s.upper r) (reachedOf rows s r) → ⊥)
+  Unbroken s r = (possible_of rows s r <ℤ s.lower r → ⊥) × (AtMost (s.upper r) (reached_of rows s r) → ⊥)
 
   at-node : (s : Table) (n : ℕ) → Conflict rows s ⊎ Apart s n
   at-node s n = rule (is (s.sure n) true) (is (s.never n) true) (λ e d. both n e d)
 
   at_row : (s : Table) (r : ℕ) → IsRow rows r → Conflict rows s ⊎ Unbroken s r
   at_row s r i =
-      also (premise (less (possibleOf rows s r) (s.lower r)) (λ h. lower-above r i h))
-      (premise (upper-at-most (s.upper r) (reachedOf rows s r)) (λ h. upper-reached r i h))
+      also (premise (less (possible_of rows s r) (s.lower r)) (λ h. lower-above r i h))
+      (premise (upper_at-most (s.upper r) (reached_of rows s r)) (λ h. upper-reached r i h))
 
-  no-conflict : (n : ℕ) (s : Table) → Finite rows n s → ((m : ℕ) → m < n → Apart s m) → ((m : ℕ) → Memᴰ m (nodesOf rows) → Apart s m)
+  no-conflict : (n : ℕ) (s : Table) → Finite rows n s → ((m : ℕ) → m < n → Apart s m) → ((m : ℕ) → Memᴰ m (nodes_of rows) → Apart s m)
       → ((r : ℕ) → IsRow rows r → Unbroken s r) → Conflict rows s → ⊥
-  no-conflict n s f ns ms rs (both m h k) = ⊎_elim (λ (l : m < n). ns m l h k) (λ (l : Memᴰ m (nodesOf rows)). ms m l h k) (f.sure m h)
+  no-conflict n s f ns ms rs (both m h k) = ⊎_elim (λ (l : m < n). ns m l h k) (λ (l : Memᴰ m (nodes_of rows)). ms m l h k) (f.sure m h)
   no-conflict n s f ns ms rs (lower-above r i h) = (rs r i).0 h
   no-conflict n s f ns ms rs (upper-reached r i h) = (rs r i).1 h
 
@@ -277,10 +277,10 @@ module _ (rows : List Row) where
   pub conflict-or-none : (n : ℕ) (s : Table) → Finite rows n s → Conflict rows s ⊎ (Conflict rows s → ⊥)
   conflict-or-none n s f =
       by (also
-      (also (each_below (Apart s) n (λ m h. at-node s m)) (each_of (Apart s) (nodesOf rows) (λ m h. at-node s m)))
+      (also (each_below (Apart s) n (λ m h. at-node s m)) (each_of (Apart s) (nodes_of rows) (λ m h. at-node s m)))
       (each_below (Unbroken s) (length rows) (at_row s)))
     where
-      by : Conflict rows s ⊎ ((((m : ℕ) → m < n → Apart s m) × ((m : ℕ) → Memᴰ m (nodesOf rows) → Apart s m)) × ((r : ℕ) → IsRow rows r → Unbroken s r))
+      by : Conflict rows s ⊎ ((((m : ℕ) → m < n → Apart s m) × ((m : ℕ) → Memᴰ m (nodes_of rows) → Apart s m)) × ((r : ℕ) → IsRow rows r → Unbroken s r))
           → Conflict rows s ⊎ (Conflict rows s → ⊥)
       by (inl a) = inl a
       by (inr k) = inr (no-conflict n s f k.0.0 k.0.1 k.1)

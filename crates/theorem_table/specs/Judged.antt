@@ -1,11 +1,11 @@
 -- What a single step is judged by: bounds that rules 1 and 6 alone give, a conflict ending nothing, and rules 2 to 5 on the figures of rows.
 use Rattle.std.specs.Prelude.{ℕ, ◌≡◌, Bool, true, false, List, ◌⊎◌, ℤ, pos, ◌-ℤ◌, ◌≤ℤ◌, ◌<ℤ◌}
 use Rattle.numeric.specs.Threshold.{Term}
-use Rattle.state.specs.State.{maxZ}
+use Rattle.state.specs.State.{max_z}
 use Rattle.state.specs.declared.Upper.{Upper}
 use Rattle.state.specs.declared.Upper.TheVariants.{Under}
 use Rattle.rows.specs.Rows.{Row, Guard, Other, alone, beside, MayDecide}
-use Rattle.theorem_table.specs.Table.{Table, AtMost, Guards, HasTerm, known_of, possibleOf, Step, sure-guard, never-guard, bound-reached, bound-out-of-reach, term-needed, term-too-heavy, longer-lower, shorter-upper}
+use Rattle.theorem_table.specs.Table.{Table, AtMost, Guards, HasTerm, known_of, possible_of, Step, sure-guard, never-guard, bound-reached, bound-out-of-reach, term-needed, term-too-heavy, longer-lower, shorter-upper}
 
 -- The four figures of a row.
 pub record RowFigures : Type 0 where
@@ -16,7 +16,7 @@ pub record RowFigures : Type 0 where
 
 -- A bound is reached by the figures of a row; the other measure of a guard's node is, if it has one.
 abbrev pub ReachedBy : RowFigures → ℤ → Type 0
-ReachedBy f b = b ≤ℤ maxZ f.known f.lower
+ReachedBy f b = b ≤ℤ max_z f.known f.lower
 
 abbrev pub OtherReachedBy : (ℕ → RowFigures) → Other → Type 0
 OtherReachedBy f alone = Unit {0}
@@ -39,8 +39,8 @@ module _ (rows : List Row) where
   Calm u = (t : Table) (a : Step rows u t) → MovesBound a ≡ true → ⊥
 
   -- The figures of a table's rows.
-  abbrev pub figuresOf : Table → ℕ → RowFigures
-  figuresOf t r = record { known = known_of rows t r; possible = possibleOf rows t r; lower = t.lower r; upper = t.upper r }
+  abbrev pub figures_of : Table → ℕ → RowFigures
+  figures_of t r = record { known = known_of rows t r; possible = possible_of rows t r; lower = t.lower r; upper = t.upper r }
 
   -- By the figures of all rows, row r gives a node a value by one of the rules 2 to 5.
   pub data By (f : ℕ → RowFigures) (r : ℕ) : ℕ → Bool → ℕ → Type 0 where

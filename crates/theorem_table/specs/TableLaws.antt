@@ -8,12 +8,12 @@ use mathlib.Core.List.{List, [], ◌∷◌, Memᴰ}
 use Rattle.std.specs.Int.Signed.{≤ℤ_refl, <ℤ-≤ℤ_trans}
 use Rattle.base.specs.TestLaws.{same_bool, true-false, unequal}
 use Rattle.numeric.specs.Threshold.{Term}
-use Rattle.numeric.specs.LayoutLaws.{sum_of, one-rises, sum-rises}
+use Rattle.numeric.specs.LayoutLaws.{sum_of, one_rises, sum_rises}
 use Rattle.state.specs.declared.Upper.{Upper}
 use Rattle.state.specs.declared.Upper.TheVariants.{Open, Under}
-use Rattle.rows.specs.Rows.{Row, Other, alone, beside, isAlone}
-use Rattle.theorem_table.specs.Table.{Table, known, possible, AtMost, Below, at, decideSure, decideNever, raiseLower, lowerUpper, termsOf, HasTerm, known_of, possibleOf, reachedOf, OtherReached, Undecided, Step, sure-guard, never-guard, bound-reached, bound-out-of-reach, term-needed, term-too-heavy, longer-lower, shorter-upper, Conflict, both, lower-above, upper-reached, Run, done, more, AtRest, Ended}
-use Rattle.theorem_table.specs.OrderLaws.{≤ℤ-trans, ≤ℤ-<ℤ-trans, ≤ℤ-anti, <ℤ-≤ℤ, ≤ℤ-or-<ℤ, pos-≤ℤ, max-up, max-above, sub-up, needed-clash, heavy-clash, UpLe, up-refl, up-trans, up-anti, below-le, le-or-below, at-most-up}
+use Rattle.rows.specs.Rows.{Row, Other, alone, beside, is_alone}
+use Rattle.theorem_table.specs.Table.{Table, known, possible, AtMost, Below, at, decide_sure, decide_never, raise_lower, lower_upper, terms_of, HasTerm, known_of, possible_of, reached_of, OtherReached, Undecided, Step, sure-guard, never-guard, bound-reached, bound-out-of-reach, term-needed, term-too-heavy, longer-lower, shorter-upper, Conflict, both, lower-above, upper-reached, Run, done, more, AtRest, Ended}
+use Rattle.theorem_table.specs.OrderLaws.{≤ℤ_trans, ≤ℤ_<ℤ_trans, ≤ℤ_anti, <ℤ_≤ℤ, ≤ℤ_or_<ℤ, pos_≤ℤ, max_up, max_above, sub_up, needed_clash, heavy_clash, UpLe, up_refl, up_trans, up_anti, below-le, le-or-below, at-most_up}
 
 -- THE ORDER: more nodes decided, lowers higher, uppers lower
 pub record Le (s u : Table) : Type 0 where
@@ -23,22 +23,22 @@ pub record Le (s u : Table) : Type 0 where
   pub upper : (r : ℕ) → UpLe (u.upper r) (s.upper r)
 
 pub le_same : (s : Table) → Le s s
-le_same s = record { sure = λ n h. h; never = λ n h. h; lower = λ r. ≤ℤ_refl (s.lower r); upper = λ r. up-refl (s.upper r) }
+le_same s = record { sure = λ n h. h; never = λ n h. h; lower = λ r. ≤ℤ_refl (s.lower r); upper = λ r. up_refl (s.upper r) }
 
 pub le_then : (s t u : Table) → Le s t → Le t u → Le s u
 le_then s t u a b = record {
   sure = λ n h. b.sure n (a.sure n h);
   never = λ n h. b.never n (a.never n h);
-  lower = λ r. ≤ℤ-trans (a.lower r) (b.lower r);
-  upper = λ r. up-trans (u.upper r) (t.upper r) (s.upper r) (b.upper r) (a.upper r);
+  lower = λ r. ≤ℤ_trans (a.lower r) (b.lower r);
+  upper = λ r. up_trans (u.upper r) (t.upper r) (s.upper r) (b.upper r) (a.upper r);
 }
 
-pub le-both : (s t : Table) → Le s t → Le t s → s ≡ t
-le-both s t a b = λ i. record {
+pub le_both : (s t : Table) → Le s t → Le t s → s ≡ t
+le_both s t a b = λ i. record {
   sure = fun_ext (λ (n : ℕ). same_bool (s.sure n) (t.sure n) (a.sure n) (b.sure n)) i;
   never = fun_ext (λ (n : ℕ). same_bool (s.never n) (t.never n) (a.never n) (b.never n)) i;
-  lower = fun_ext (λ (r : ℕ). ≤ℤ-anti (a.lower r) (b.lower r)) i;
-  upper = fun_ext (λ (r : ℕ). up-anti (s.upper r) (t.upper r) (b.upper r) (a.upper r)) i;
+  lower = fun_ext (λ (r : ℕ). ≤ℤ_anti (a.lower r) (b.lower r)) i;
+  upper = fun_ext (λ (r : ℕ). up_anti (s.upper r) (t.upper r) (b.upper r) (a.upper r)) i;
 }
 
 -- SUMS OF THE MASKS
@@ -54,20 +54,20 @@ one-possible false true w h = omega arith
 one-possible false false w h = le_refl w
 
 pub known_up : (f g : ℕ → Bool) (ts : List Term) → ((n : ℕ) → f n ≡ true → g n ≡ true) → known f ts ≤ known g ts
-known_up f g ts h = omega (arith, known-sum f ts, known-sum g ts, sum-rises f g h ts)
+known_up f g ts h = omega (arith, known-sum f ts, known-sum g ts, sum_rises f g h ts)
 
-pub possible-down : (f g : ℕ → Bool) (ts : List Term) → ((n : ℕ) → f n ≡ true → g n ≡ true) → possible g ts ≤ possible f ts
+pub possible_down : (f g : ℕ → Bool) (ts : List Term) → ((n : ℕ) → f n ≡ true → g n ≡ true) → possible g ts ≤ possible f ts
 unfolding possible
-possible-down f g [] h = le_refl 0
-possible-down f g (t ∷ ts) h =
-    let a = possible-down f g ts h in let b = one-possible (f t.condition) (g t.condition) t.weight (h t.condition) in omega arith
+possible_down f g [] h = le_refl 0
+possible_down f g (t ∷ ts) h =
+    let a = possible_down f g ts h in let b = one-possible (f t.condition) (g t.condition) t.weight (h t.condition) in omega arith
 
 -- one term of the list that is true now and was not
-pub known-rise : (f g : ℕ → Bool) (ts : List Term) (t : Term) → ((n : ℕ) → f n ≡ true → g n ≡ true) → Memᴰ t ts → f t.condition ≡ false → g t.condition ≡ true
+pub known_rise : (f g : ℕ → Bool) (ts : List Term) (t : Term) → ((n : ℕ) → f n ≡ true → g n ≡ true) → Memᴰ t ts → f t.condition ≡ false → g t.condition ≡ true
     → known f ts + t.weight ≤ known g ts
 unfolding known
-known-rise f g [] t h m e d = absurd (Memᴰ.not-nil m)
-known-rise f g (x ∷ xs) t h m e d =
+known_rise f g [] t h m e d = absurd (Memᴰ.not-nil m)
+known_rise f g (x ∷ xs) t h m e d =
     ⊎_elim
     (λ (q : t ≡ x).
     let a = known_up f g xs h in
@@ -76,7 +76,7 @@ known-rise f g (x ∷ xs) t h m e d =
     let z : t.weight ≡ x.weight = ap (λ (y : Term). y.weight) q in
     omega arith)
     (λ (n : Memᴰ t xs).
-    let a = known-rise f g xs t h n e d in let b = one-rises (f x.condition) (g x.condition) x.weight (h x.condition) in omega arith)
+    let a = known_rise f g xs t h n e d in let b = one_rises (f x.condition) (g x.condition) x.weight (h x.condition) in omega arith)
     (Memᴰ.cases_cons m)
 
 pub possible-drop : (f g : ℕ → Bool) (ts : List Term) (t : Term) → ((n : ℕ) → f n ≡ true → g n ≡ true) → Memᴰ t ts → f t.condition ≡ false → g t.condition ≡ true
@@ -86,7 +86,7 @@ possible-drop f g [] t h m e d = absurd (Memᴰ.not-nil m)
 possible-drop f g (x ∷ xs) t h m e d =
     ⊎_elim
     (λ (q : t ≡ x).
-    let a = possible-down f g xs h in
+    let a = possible_down f g xs h in
     let b : cond (f x.condition) 0 x.weight ≡ x.weight = ap (λ (c : Bool). cond c 0 x.weight) (ap (λ (y : Term). f y.condition) (sym q) ∙ e) in
     let c : cond (g x.condition) 0 x.weight ≡ 0 = ap (λ (c : Bool). cond c 0 x.weight) (ap (λ (y : Term). g y.condition) (sym q) ∙ d) in
     let z : t.weight ≡ x.weight = ap (λ (y : Term). y.weight) q in
@@ -104,32 +104,32 @@ changed P n x f h k m = by (eqb m n) refl
     by false e = k m
 
 -- each conclusion stays below whatever is above and has it
-sure-below : (s u : Table) (n : ℕ) → Le s u → u.sure n ≡ true → Le (decideSure s n) u
-sure-below s u n a h = record {
+sure_below : (s u : Table) (n : ℕ) → Le s u → u.sure n ≡ true → Le (decide_sure s n) u
+sure_below s u n a h = record {
   sure = changed (λ (m : ℕ) (b : Bool). b ≡ true → u.sure m ≡ true) n true s.sure (λ _. h) a.sure;
   never = a.never;
   lower = a.lower;
   upper = a.upper;
 }
 
-never-below : (s u : Table) (n : ℕ) → Le s u → u.never n ≡ true → Le (decideNever s n) u
-never-below s u n a h = record {
+never_below : (s u : Table) (n : ℕ) → Le s u → u.never n ≡ true → Le (decide_never s n) u
+never_below s u n a h = record {
   sure = a.sure;
   never = changed (λ (m : ℕ) (b : Bool). b ≡ true → u.never m ≡ true) n true s.never (λ _. h) a.never;
   lower = a.lower;
   upper = a.upper;
 }
 
-lower-below : (s u : Table) (r : ℕ) (b : ℤ) → Le s u → b ≤ℤ u.lower r → Le (raiseLower s r b) u
-lower-below s u r b a h = record {
+lower_below : (s u : Table) (r : ℕ) (b : ℤ) → Le s u → b ≤ℤ u.lower r → Le (raise_lower s r b) u
+lower_below s u r b a h = record {
   sure = a.sure;
   never = a.never;
   lower = changed (λ (m : ℕ) (z : ℤ). z ≤ℤ u.lower m) r b s.lower h a.lower;
   upper = a.upper;
 }
 
-upper-below : (s u : Table) (r : ℕ) (b : Upper) → Le s u → UpLe (u.upper r) b → Le (lowerUpper s r b) u
-upper-below s u r b a h = record {
+upper_below : (s u : Table) (r : ℕ) (b : Upper) → Le s u → UpLe (u.upper r) b → Le (lower_upper s r b) u
+upper_below s u r b a h = record {
   sure = a.sure;
   never = a.never;
   lower = a.lower;
@@ -137,74 +137,74 @@ upper-below s u r b a h = record {
 }
 
 -- and above what was there
-sure-above : (s : Table) (n : ℕ) → Le s (decideSure s n)
-sure-above s n = record {
+sure_above : (s : Table) (n : ℕ) → Le s (decide_sure s n)
+sure_above s n = record {
   sure = changed (λ (m : ℕ) (b : Bool). s.sure m ≡ true → b ≡ true) n true s.sure (λ _. refl) (λ m h. h);
   never = λ m h. h;
   lower = λ r. ≤ℤ_refl (s.lower r);
-  upper = λ r. up-refl (s.upper r);
+  upper = λ r. up_refl (s.upper r);
 }
 
-never-above : (s : Table) (n : ℕ) → Le s (decideNever s n)
-never-above s n = record {
+never_above : (s : Table) (n : ℕ) → Le s (decide_never s n)
+never_above s n = record {
   sure = λ m h. h;
   never = changed (λ (m : ℕ) (b : Bool). s.never m ≡ true → b ≡ true) n true s.never (λ _. refl) (λ m h. h);
   lower = λ r. ≤ℤ_refl (s.lower r);
-  upper = λ r. up-refl (s.upper r);
+  upper = λ r. up_refl (s.upper r);
 }
 
-lower-raised : (s : Table) (r : ℕ) (b : ℤ) → s.lower r <ℤ b → Le s (raiseLower s r b)
-lower-raised s r b h = record {
+lower_raised : (s : Table) (r : ℕ) (b : ℤ) → s.lower r <ℤ b → Le s (raise_lower s r b)
+lower_raised s r b h = record {
   sure = λ m k. k;
   never = λ m k. k;
-  lower = changed (λ (m : ℕ) (z : ℤ). s.lower m ≤ℤ z) r b s.lower (<ℤ-≤ℤ h) (λ m. ≤ℤ_refl (s.lower m));
-  upper = λ q. up-refl (s.upper q);
+  lower = changed (λ (m : ℕ) (z : ℤ). s.lower m ≤ℤ z) r b s.lower (<ℤ_≤ℤ h) (λ m. ≤ℤ_refl (s.lower m));
+  upper = λ q. up_refl (s.upper q);
 }
 
-upper-lowered : (s : Table) (r : ℕ) (b : Upper) → Below b (s.upper r) → Le s (lowerUpper s r b)
-upper-lowered s r b h = record {
+upper_lowered : (s : Table) (r : ℕ) (b : Upper) → Below b (s.upper r) → Le s (lower_upper s r b)
+upper_lowered s r b h = record {
   sure = λ m k. k;
   never = λ m k. k;
   lower = λ q. ≤ℤ_refl (s.lower q);
-  upper = changed (λ (m : ℕ) (z : Upper). UpLe z (s.upper m)) r b s.upper (below-le b (s.upper r) h) (λ m. up-refl (s.upper m));
+  upper = changed (λ (m : ℕ) (z : Upper). UpLe z (s.upper m)) r b s.upper (below-le b (s.upper r) h) (λ m. up_refl (s.upper m));
 }
 
 module _ (rows : List Row) where
-  reached-up : (s u : Table) (r : ℕ) → Le s u → reachedOf rows s r ≤ℤ reachedOf rows u r
+  reached-up : (s u : Table) (r : ℕ) → Le s u → reached_of rows s r ≤ℤ reached_of rows u r
   reached-up s u r a =
-      max-up {a = known_of rows s r} {b = s.lower r} {c = known_of rows u r} {d = u.lower r}
-      (pos-≤ℤ (known_up s.sure u.sure (termsOf rows r) a.sure)) (a.lower r)
+      max_up {a = known_of rows s r} {b = s.lower r} {c = known_of rows u r} {d = u.lower r}
+      (pos_≤ℤ (known_up s.sure u.sure (terms_of rows r) a.sure)) (a.lower r)
 
-  possible-up : (s u : Table) (r : ℕ) → Le s u → possibleOf rows u r ≤ℤ possibleOf rows s r
-  possible-up s u r a = pos-≤ℤ (possible-down s.never u.never (termsOf rows r) a.never)
+  possible-up : (s u : Table) (r : ℕ) → Le s u → possible_of rows u r ≤ℤ possible_of rows s r
+  possible-up s u r a = pos_≤ℤ (possible_down s.never u.never (terms_of rows r) a.never)
 
   -- what stands alone asks nothing more; what is reached stays reached
-  pub alone-reached : (s : Table) (o : Other) → isAlone o ≡ true → OtherReached rows s o
+  pub alone_reached : (s : Table) (o : Other) → is_alone o ≡ true → OtherReached rows s o
   unfolding OtherReached
-  alone-reached s alone e = tt
-  alone-reached s (beside q b) e = absurd (unequal cc)
+  alone_reached s alone e = tt
+  alone_reached s (beside q b) e = absurd (unequal cc)
 
-  pub other-up : (s u : Table) (o : Other) → Le s u → OtherReached rows s o → OtherReached rows u o
+  pub other_up : (s u : Table) (o : Other) → Le s u → OtherReached rows s o → OtherReached rows u o
   unfolding OtherReached
-  other-up s u alone a h = h
-  other-up s u (beside q b) a h = ≤ℤ-trans h (reached-up s u q a)
+  other_up s u alone a h = h
+  other_up s u (beside q b) a h = ≤ℤ_trans h (reached-up s u q a)
 
   -- a conflict stays one
-  pub conflict-up : (s u : Table) → Le s u → Conflict rows s → Conflict rows u
-  conflict-up s u a (both n h k) = both n (a.sure n h) (a.never n k)
-  conflict-up s u a (lower-above r i h) = lower-above r i (≤ℤ-<ℤ-trans (possible-up s u r a) (<ℤ-≤ℤ_trans h (a.lower r)))
-  conflict-up s u a (upper-reached r i h) = upper-reached r i (at-most-up (u.upper r) (s.upper r) (a.upper r) (reached-up s u r a) h)
+  pub conflict_up : (s u : Table) → Le s u → Conflict rows s → Conflict rows u
+  conflict_up s u a (both n h k) = both n (a.sure n h) (a.never n k)
+  conflict_up s u a (lower-above r i h) = lower-above r i (≤ℤ_<ℤ_trans (possible-up s u r a) (<ℤ-≤ℤ_trans h (a.lower r)))
+  conflict_up s u a (upper-reached r i h) = upper-reached r i (at-most_up (u.upper r) (s.upper r) (a.upper r) (reached-up s u r a) h)
 
   -- a step only adds
   pub grows : (s t : Table) → Step rows s t → Le s t
-  grows s t (sure-guard r g i e h) = lower-raised s r g.bound h
-  grows s t (never-guard r g i e h) = upper-lowered s r (Under g.bound) h
-  grows s t (bound-reached r g i h e) = sure-above s g.node
-  grows s t (bound-out-of-reach r g i h e) = never-above s g.node
-  grows s t (term-needed r x i d h) = sure-above s x.condition
-  grows s t (term-too-heavy r x u i d e h) = never-above s x.condition
-  grows s t (longer-lower r q i h) = lower-raised s q (s.lower r) h
-  grows s t (shorter-upper r q i h) = upper-lowered s r (s.upper q) h
+  grows s t (sure-guard r g i e h) = lower_raised s r g.bound h
+  grows s t (never-guard r g i e h) = upper_lowered s r (Under g.bound) h
+  grows s t (bound-reached r g i h e) = sure_above s g.node
+  grows s t (bound-out-of-reach r g i h e) = never_above s g.node
+  grows s t (term-needed r x i d h) = sure_above s x.condition
+  grows s t (term-too-heavy r x u i d e h) = never_above s x.condition
+  grows s t (longer-lower r q i h) = lower_raised s q (s.lower r) h
+  grows s t (shorter-upper r q i h) = upper_lowered s r (s.upper q) h
 
   -- WHAT A RULE CONCLUDES, every rest above has: else the rule holds there
   heavy : (s u : Table) (r : ℕ) (t : Term) (b : ℤ) → Le s u → AtRest rows u → HasTerm rows r t → Undecided rows s t.condition → s.upper r ≡ Under b
@@ -215,83 +215,83 @@ module _ (rows : List Row) where
       (λ (n : u.never t.condition ≡ false).
       ⊎_elim
       (λ (y : u.sure t.condition ≡ true).
-      absurd (rest.0 (upper-reached r i.0 (subst (λ (z : Upper). AtMost z (reachedOf rows u r)) (sym q)
-      (≤ℤ-trans (≤ℤ-trans l (heavy-clash (known s.sure (termsOf rows r)) (known u.sure (termsOf rows r)) t.weight b
-      (known-rise s.sure u.sure (termsOf rows r) t a.sure i.1 d.0 y) h))
-      (max-above (known_of rows u r) (u.lower r)))))))
+      absurd (rest.0 (upper-reached r i.0 (subst (λ (z : Upper). AtMost z (reached_of rows u r)) (sym q)
+      (≤ℤ_trans (≤ℤ_trans l (heavy_clash (known s.sure (terms_of rows r)) (known u.sure (terms_of rows r)) t.weight b
+      (known_rise s.sure u.sure (terms_of rows r) t a.sure i.1 d.0 y) h))
+      (max_above (known_of rows u r) (u.lower r)))))))
       (λ (y : u.sure t.condition ≡ false).
-      absurd (rest.1 (decideNever u t.condition) (term-too-heavy r t c i (y, n) q
-      (≤ℤ-trans (sub-up l (pos-≤ℤ (known_up s.sure u.sure (termsOf rows r) a.sure))) h))))
+      absurd (rest.1 (decide_never u t.condition) (term-too-heavy r t c i (y, n) q
+      (≤ℤ_trans (sub_up l (pos_≤ℤ (known_up s.sure u.sure (terms_of rows r) a.sure))) h))))
       (true-false (u.sure t.condition)))
       (true-false (u.never t.condition))
 
   pub kept : (s t u : Table) → Step rows s t → Le s u → AtRest rows u → Le t u
   kept s t u (sure-guard r g i e h) a rest =
-      lower-below s u r g.bound a
+      lower_below s u r g.bound a
       (⊎_elim (λ (k : g.bound ≤ℤ u.lower r). k)
-      (λ (k : u.lower r <ℤ g.bound). absurd (rest.1 (raiseLower u r g.bound) (sure-guard r g i (a.sure g.node e) k)))
-      (≤ℤ-or-<ℤ g.bound (u.lower r)))
+      (λ (k : u.lower r <ℤ g.bound). absurd (rest.1 (raise_lower u r g.bound) (sure-guard r g i (a.sure g.node e) k)))
+      (≤ℤ_or_<ℤ g.bound (u.lower r)))
   kept s t u (never-guard r g i e h) a rest =
-      upper-below s u r (Under g.bound) a
+      upper_below s u r (Under g.bound) a
       (⊎_elim (λ (k : UpLe (u.upper r) (Under g.bound)). k)
-      (λ (k : Below (Under g.bound) (u.upper r)). absurd (rest.1 (lowerUpper u r (Under g.bound)) (never-guard r g i (a.never g.node e.0, other-up s u _ a e.1) k)))
+      (λ (k : Below (Under g.bound) (u.upper r)). absurd (rest.1 (lower_upper u r (Under g.bound)) (never-guard r g i (a.never g.node e.0, other_up s u _ a e.1) k)))
       (le-or-below (u.upper r) (Under g.bound)))
   kept s t u (bound-reached r g i h e) a rest =
-      sure-below s u g.node a
+      sure_below s u g.node a
       (⊎_elim (λ (k : u.sure g.node ≡ true). k)
-      (λ (k : u.sure g.node ≡ false). absurd (rest.1 (decideSure u g.node) (bound-reached r g i (h.0, ≤ℤ-trans h.1 (reached-up s u r a), other-up s u _ a h.2) k)))
+      (λ (k : u.sure g.node ≡ false). absurd (rest.1 (decide_sure u g.node) (bound-reached r g i (h.0, ≤ℤ_trans h.1 (reached-up s u r a), other_up s u _ a h.2) k)))
       (true-false (u.sure g.node)))
   kept s t u (bound-out-of-reach r g i h e) a rest =
-      never-below s u g.node a
+      never_below s u g.node a
       (⊎_elim (λ (k : u.never g.node ≡ true). k)
       (λ (k : u.never g.node ≡ false).
-      absurd (rest.1 (decideNever u g.node) (bound-out-of-reach r g i (
+      absurd (rest.1 (decide_never u g.node) (bound-out-of-reach r g i (
         h.0,
-        ⊎_elim (λ (x : possibleOf rows s r <ℤ g.bound). inl (≤ℤ-<ℤ-trans (possible-up s u r a) x))
-            (λ (x : AtMost (s.upper r) g.bound). inr (at-most-up (u.upper r) (s.upper r) (a.upper r) (≤ℤ_refl g.bound) x)) h.1,
+        ⊎_elim (λ (x : possible_of rows s r <ℤ g.bound). inl (≤ℤ_<ℤ_trans (possible-up s u r a) x))
+            (λ (x : AtMost (s.upper r) g.bound). inr (at-most_up (u.upper r) (s.upper r) (a.upper r) (≤ℤ_refl g.bound) x)) h.1,
       ) k)))
       (true-false (u.never g.node)))
   kept s t u (term-needed r x i d h) a rest =
-      sure-below s u x.condition a
+      sure_below s u x.condition a
       (⊎_elim (λ (k : u.sure x.condition ≡ true). k)
       (λ (k : u.sure x.condition ≡ false).
       ⊎_elim
       (λ (y : u.never x.condition ≡ true).
       absurd (rest.0 (lower-above r i.0 (<ℤ-≤ℤ_trans
-      (needed-clash (possible s.never (termsOf rows r)) (possible u.never (termsOf rows r)) x.weight (s.lower r)
-      (possible-drop s.never u.never (termsOf rows r) x a.never i.1 d.1 y) h)
+      (needed_clash (possible s.never (terms_of rows r)) (possible u.never (terms_of rows r)) x.weight (s.lower r)
+      (possible-drop s.never u.never (terms_of rows r) x a.never i.1 d.1 y) h)
       (a.lower r)))))
       (λ (y : u.never x.condition ≡ false).
-      absurd (rest.1 (decideSure u x.condition) (term-needed r x i (k, y) (≤ℤ-<ℤ-trans (sub-up (possible-up s u r a) (a.lower r)) h))))
+      absurd (rest.1 (decide_sure u x.condition) (term-needed r x i (k, y) (≤ℤ_<ℤ_trans (sub_up (possible-up s u r a) (a.lower r)) h))))
       (true-false (u.never x.condition)))
       (true-false (u.sure x.condition)))
   kept s t u (term-too-heavy r x b i d e h) a rest =
-      never-below s u x.condition a
+      never_below s u x.condition a
       (heavy s u r x b a rest i d e h (u.upper r) refl (subst (λ (z : Upper). UpLe (u.upper r) z) e (a.upper r)))
   kept s t u (longer-lower r q i h) a rest =
-      lower-below s u q (s.lower r) a
-      (≤ℤ-trans (a.lower r)
+      lower_below s u q (s.lower r) a
+      (≤ℤ_trans (a.lower r)
       (⊎_elim (λ (k : u.lower r ≤ℤ u.lower q). k)
-      (λ (k : u.lower q <ℤ u.lower r). absurd (rest.1 (raiseLower u q (u.lower r)) (longer-lower r q i k)))
-      (≤ℤ-or-<ℤ (u.lower r) (u.lower q))))
+      (λ (k : u.lower q <ℤ u.lower r). absurd (rest.1 (raise_lower u q (u.lower r)) (longer-lower r q i k)))
+      (≤ℤ_or_<ℤ (u.lower r) (u.lower q))))
   kept s t u (shorter-upper r q i h) a rest =
-      upper-below s u r (s.upper q) a
-      (up-trans (u.upper r) (u.upper q) (s.upper q)
+      upper_below s u r (s.upper q) a
+      (up_trans (u.upper r) (u.upper q) (s.upper q)
       (⊎_elim (λ (k : UpLe (u.upper r) (u.upper q)). k)
-      (λ (k : Below (u.upper q) (u.upper r)). absurd (rest.1 (lowerUpper u r (u.upper q)) (shorter-upper r q i k)))
+      (λ (k : Below (u.upper q) (u.upper r)). absurd (rest.1 (lower_upper u r (u.upper q)) (shorter-upper r q i k)))
       (le-or-below (u.upper r) (u.upper q)))
       (a.upper q))
 
   -- RUNS
 
-  pub run-above : {s t : Table} → Run rows s t → Le s t
-  run-above (done {s}) = le_same s
-  run-above (more {s} {t} {u} n a r) = le_then s t u (grows s t a) (run-above r)
+  pub run_above : {s t : Table} → Run rows s t → Le s t
+  run_above (done {s}) = le_same s
+  run_above (more {s} {t} {u} n a r) = le_then s t u (grows s t a) (run_above r)
 
   -- a run stays below every rest above its start
-  pub run-below : {s t : Table} (u : Table) → Run rows s t → Le s u → AtRest rows u → Le t u
-  run-below u done h rest = h
-  run-below u (more {s} {t} n a r) h rest = run-below u r (kept s t u a h rest) rest
+  pub run_below : {s t : Table} (u : Table) → Run rows s t → Le s u → AtRest rows u → Le t u
+  run_below u done h rest = h
+  run_below u (more {s} {t} n a r) h rest = run_below u r (kept s t u a h rest) rest
 
   -- ONE END: two runs from one start that went on to their ends both end in a conflict, or in the same state
   pub one_end : {s t u : Table} → Ended rows s t → Ended rows s u → (Conflict rows t × Conflict rows u) ⊎ (t ≡ u)
@@ -299,35 +299,35 @@ module _ (rows : List Row) where
     where
       by : Conflict rows t ⊎ AtRest rows t → Conflict rows u ⊎ AtRest rows u → (Conflict rows t × Conflict rows u) ⊎ (t ≡ u)
       by (inl x) (inl y) = inl (x, y)
-      by (inl x) (inr y) = absurd (y.0 (conflict-up t u (run-below u a.0 (run-above b.0) y) x))
-      by (inr x) (inl y) = absurd (x.0 (conflict-up u t (run-below t b.0 (run-above a.0) x) y))
-      by (inr x) (inr y) = inr (le-both t u (run-below u a.0 (run-above b.0) y) (run-below t b.0 (run-above a.0) x))
+      by (inl x) (inr y) = absurd (y.0 (conflict_up t u (run_below u a.0 (run_above b.0) y) x))
+      by (inr x) (inl y) = absurd (x.0 (conflict_up u t (run_below t b.0 (run_above a.0) x) y))
+      by (inr x) (inr y) = inr (le_both t u (run_below u a.0 (run_above b.0) y) (run_below t b.0 (run_above a.0) x))
 
   -- FOLLOWS: t lies below every rest above s. It needs no run, and is kept when the start grows
   abbrev pub Follows : Table → Table → Type 0
   Follows s t = (u : Table) → Le s u → AtRest rows u → Le t u
 
-  pub follows-start : (s : Table) → Follows s s
-  follows-start s u h rest = h
+  pub follows_start : (s : Table) → Follows s s
+  follows_start s u h rest = h
 
-  pub follows-more : (s s' t : Table) → Le s s' → Follows s t → Follows s' t
-  follows-more s s' t l f u h rest = f u (le_then s s' u l h) rest
+  pub follows_more : (s s' t : Table) → Le s s' → Follows s t → Follows s' t
+  follows_more s s' t l f u h rest = f u (le_then s s' u l h) rest
 
-  pub follows-step : (s t t' : Table) → Follows s t → Step rows t t' → Follows s t'
-  follows-step s t t' f a u h rest = kept t t' u a (f u h rest) rest
+  pub follows_step : (s t t' : Table) → Follows s t → Step rows t t' → Follows s t'
+  follows_step s t t' f a u h rest = kept t t' u a (f u h rest) rest
 
   -- a rest that follows from the start is where every run from it ends
   pub only_end : {s t u : Table} → Follows s t → Le s t → AtRest rows t → Ended rows s u → u ≡ t
   only_end {s} {t} {u} f l rest e = by e.1
     where
       by : Conflict rows u ⊎ AtRest rows u → u ≡ t
-      by (inl x) = absurd (rest.0 (conflict-up u t (run-below t e.0 l rest) x))
-      by (inr x) = le-both u t (run-below t e.0 l rest) (f u (run-above e.0) x)
+      by (inl x) = absurd (rest.0 (conflict_up u t (run_below t e.0 l rest) x))
+      by (inr x) = le_both u t (run_below t e.0 l rest) (f u (run_above e.0) x)
 
   -- and where a conflict follows from it, every run ends in one
-  pub only-conflict : {s t u : Table} → Follows s t → Conflict rows t → Ended rows s u → Conflict rows u
-  only-conflict {s} {t} {u} f c e = by e.1
+  pub only_conflict : {s t u : Table} → Follows s t → Conflict rows t → Ended rows s u → Conflict rows u
+  only_conflict {s} {t} {u} f c e = by e.1
     where
       by : Conflict rows u ⊎ AtRest rows u → Conflict rows u
       by (inl x) = x
-      by (inr x) = absurd (x.0 (conflict-up t u (f u (run-above e.0) x) c))
+      by (inr x) = absurd (x.0 (conflict_up t u (f u (run_above e.0) x) c))

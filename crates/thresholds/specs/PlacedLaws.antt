@@ -34,9 +34,9 @@ laid-behind b at m l x e f h k =
     ∙ sym (append_assoc l x (zeros (n - length (l ++ x))))
 
 -- Zeros that are cleared again.
-pub clear-again : (b : List ℕ) (k n : ℕ) → k ≤ length b → drop k b ≡ zeros (length b - k) → n ≤ length b - k
+pub clear_again : (b : List ℕ) (k n : ℕ) → k ≤ length b → drop k b ≡ zeros (length b - k) → n ≤ length b - k
     → take k b ++ (cleared n (drop k b) ++ drop (length b - k) (drop k b)) ≡ b
-clear-again b k n h e f =
+clear_again b k n h e f =
     let m = length b - k in
     let c : cleared n (drop k b) ≡ drop k b =
     ap (λ (y : List ℕ). zeros n ++ drop n y) e ∙ ap (λ (y : List ℕ). zeros n ++ y) (drop-replicate n m)
@@ -56,32 +56,32 @@ laid-fits f xs l n e h =
     let m = length-map f xs in
     omega arith
 
-pub raw-by : (cs ws cs' ws' : List ℕ) → cs' ≡ cs → ws' ≡ ws → Raw cs ws → Raw cs' ws'
-raw-by cs ws cs' ws' e f r = subst (λ (l : List ℕ). Raw l ws') (sym e) (subst (λ (l : List ℕ). Raw cs l) (sym f) r)
+pub raw_by : (cs ws cs' ws' : List ℕ) → cs' ≡ cs → ws' ≡ ws → Raw cs ws → Raw cs' ws'
+raw_by cs ws cs' ws' e f r = subst (λ (l : List ℕ). Raw l ws') (sym e) (subst (λ (l : List ℕ). Raw cs l) (sym f) r)
 
-pub clear-part : (b : List ℕ) (k n : ℕ) → k ≤ length b → drop k b ≡ zeros (length b - k) → n ≤ length b - k
+pub clear_part : (b : List ℕ) (k n : ℕ) → k ≤ length b → drop k b ≡ zeros (length b - k) → n ≤ length b - k
     → take k b ++ (cleared n (stretch k (length b) b) ++ drop (length b - k) (drop k b)) ≡ b
-clear-part b k n h e f =
+clear_part b k n h e f =
     ap (λ (y : List ℕ). take k b ++ (cleared n y ++ drop (length b - k) (drop k b)))
     (take_all (length b - k) (drop k b) (let u = length-drop k b in let v : length (drop k b) ≤ length b - k = omega arith in v))
-    ∙ clear-again b k n h e f
+    ∙ clear_again b k n h e f
 
-take-small : (n : ℕ) (l : List ℕ) (b : ℕ) → ((i : ℕ) → get_or l i 0 < b) → (i : ℕ) → get_or (take n l) i 0 < b
-take-small zero l b h i = let q = h (length l) in subst (λ (x : ℕ). x < b) (sym (none i)) (let z = h 0 in omega arith)
+take_small : (n : ℕ) (l : List ℕ) (b : ℕ) → ((i : ℕ) → get_or l i 0 < b) → (i : ℕ) → get_or (take n l) i 0 < b
+take_small zero l b h i = let q = h (length l) in subst (λ (x : ℕ). x < b) (sym (none i)) (let z = h 0 in omega arith)
   where
     none : (i : ℕ) → get_or {A = ℕ} [] i 0 ≡ 0
     none i = refl
-take-small (suc n) [] b h i = h i
-take-small (suc n) (x ∷ l) b h zero = h 0
-take-small (suc n) (x ∷ l) b h (suc i) = take-small n l b (λ j. h (suc j)) i
+take_small (suc n) [] b h i = h i
+take_small (suc n) (x ∷ l) b h zero = h 0
+take_small (suc n) (x ∷ l) b h (suc i) = take_small n l b (λ j. h (suc j)) i
 
-drop-small : (n : ℕ) (l : List ℕ) (b : ℕ) → ((i : ℕ) → get_or l i 0 < b) → (i : ℕ) → get_or (drop n l) i 0 < b
-drop-small zero l b h i = h i
-drop-small (suc n) [] b h i = h i
-drop-small (suc n) (x ∷ l) b h i = drop-small n l b (λ j. h (suc j)) i
+drop_small : (n : ℕ) (l : List ℕ) (b : ℕ) → ((i : ℕ) → get_or l i 0 < b) → (i : ℕ) → get_or (drop n l) i 0 < b
+drop_small zero l b h i = h i
+drop_small (suc n) [] b h i = h i
+drop_small (suc n) (x ∷ l) b h i = drop_small n l b (λ j. h (suc j)) i
 
-pub stretch-small : (a e : ℕ) (l : List ℕ) (b : ℕ) → ((i : ℕ) → get_or l i 0 < b) → (i : ℕ) → get_or (stretch a e l) i 0 < b
-stretch-small a e l b h = take-small (e - a) (drop a l) b (drop-small a l b h)
+pub stretch_small : (a e : ℕ) (l : List ℕ) (b : ℕ) → ((i : ℕ) → get_or l i 0 < b) → (i : ℕ) → get_or (stretch a e l) i 0 < b
+stretch_small a e l b h = take_small (e - a) (drop a l) b (drop_small a l b h)
 
-pub splice-by : (at m m' n : ℕ) (l x y : List ℕ) → x ≡ laid n y → n ≡ m → m' ≡ m → spliced at m' l x ≡ spliced at m l (laid m y)
-splice-by at m m' n l x y e f g = ap₂ (λ (v : List ℕ) (k : ℕ). spliced at k l v) (e ∙ ap (λ (k : ℕ). laid k y) f) g
+pub splice_by : (at m m' n : ℕ) (l x y : List ℕ) → x ≡ laid n y → n ≡ m → m' ≡ m → spliced at m' l x ≡ spliced at m l (laid m y)
+splice_by at m m' n l x y e f g = ap₂ (λ (v : List ℕ) (k : ℕ). spliced at k l v) (e ∙ ap (λ (k : ℕ). laid k y) f) g

@@ -3,85 +3,85 @@ use Rattle.std.specs.Prelude.{ℕ, ◌≤◌, ◌<◌, ◌≡◌, refl, Bool, tr
 use Rattle.std.proofs.Common.{sym, ap, le-leb}
 use Rattle.std.specs.Int.Signed.{le_z, lt_z}
 use Rattle.std.proofs.lemmas.Bool.{lt-leb, not-true, not-false}
-use Rattle.base.specs.SignedLaws.{nle-ltZ, leZ-nlt}
+use Rattle.base.specs.SignedLaws.{nle-lt_z, le_z-nlt}
 use Rattle.state.specs.declared.State.{State}
 use Rattle.state.specs.declared.Upper.TheVariants.{Open, Under}
-use Rattle.state.specs.State.{upperAtMost, withLower, withUpper}
+use Rattle.state.specs.State.{upper_at_most, with_lower, with_upper}
 use Rattle.tightening.specs.declared.Tightened.{Tightened}
-use Rattle.tightening.specs.Told.{tight, guardState, movedLower, under, movedUpper}
+use Rattle.tightening.specs.Told.{tight, guard_state, moved_lower, under, moved_upper}
 use Rattle.base.specs.TestLaws.{contrary}
 
 -- A guard's bound: new, or not.
 module _ (s : State) (value : Bool) (b : ℤ) where
-  pub guard-raises : value ≡ true → not (le_z b s.lower) ≡ true → (t : State) → t ≡ withLower s b → tight t true ≡ guardState s value b
-  guard-raises v h t e = rw (v, guardState, not-true (le_z b s.lower) h) (ap (λ (x : State). tight x true) e)
+  pub guard_raises : value ≡ true → not (le_z b s.lower) ≡ true → (t : State) → t ≡ with_lower s b → tight t true ≡ guard_state s value b
+  guard_raises v h t e = rw (v, guard_state, not-true (le_z b s.lower) h) (ap (λ (x : State). tight x true) e)
 
-  pub guard-reached : value ≡ true → not (le_z b s.lower) ≡ false → tight s false ≡ guardState s value b
-  guard-reached v h = rw (v, guardState, not-false (le_z b s.lower) h)
+  pub guard-reached : value ≡ true → not (le_z b s.lower) ≡ false → tight s false ≡ guard_state s value b
+  guard-reached v h = rw (v, guard_state, not-false (le_z b s.lower) h)
 
-  pub guard-lowers : value ≡ false → upperAtMost s.upper b ≡ false → (t : State) → t ≡ withUpper s (Under b) → tight t true ≡ guardState s value b
-  guard-lowers v h t e = rw (v, guardState, h) (ap (λ (x : State). tight x true) e)
+  pub guard_lowers : value ≡ false → upper_at_most s.upper b ≡ false → (t : State) → t ≡ with_upper s (Under b) → tight t true ≡ guard_state s value b
+  guard_lowers v h t e = rw (v, guard_state, h) (ap (λ (x : State). tight x true) e)
 
-  pub guard-limited : value ≡ false → upperAtMost s.upper b ≡ true → tight s false ≡ guardState s value b
-  guard-limited v h = rw (v, guardState, h)
+  pub guard-limited : value ≡ false → upper_at_most s.upper b ≡ true → tight s false ≡ guard_state s value b
+  guard-limited v h = rw (v, guard_state, h)
 
 -- A neighbour's lower and upper: new, not new, or not for this row.
 module _ (source s : State) (n k : ℕ) where
-  pub lower-moves : n ≤ k → not (le_z source.lower s.lower) ≡ true → (t : State) → t ≡ withLower s source.lower → tight t true ≡ movedLower source s n k
-  lower-moves h g t e =
-      rw (le-leb n k h, nle-ltZ s.lower source.lower (not-true (le_z source.lower s.lower) g)) (ap (λ (x : State). tight x true) e)
+  pub lower_moves : n ≤ k → not (le_z source.lower s.lower) ≡ true → (t : State) → t ≡ with_lower s source.lower → tight t true ≡ moved_lower source s n k
+  lower_moves h g t e =
+      rw (le-leb n k h, nle-lt_z s.lower source.lower (not-true (le_z source.lower s.lower) g)) (ap (λ (x : State). tight x true) e)
 
-  pub lower-stays : n ≤ k → not (le_z source.lower s.lower) ≡ false → tight s false ≡ movedLower source s n k
-  lower-stays h g = rw (le-leb n k h, leZ-nlt s.lower source.lower (not-false (le_z source.lower s.lower) g))
+  pub lower_stays : n ≤ k → not (le_z source.lower s.lower) ≡ false → tight s false ≡ moved_lower source s n k
+  lower_stays h g = rw (le-leb n k h, le_z-nlt s.lower source.lower (not-false (le_z source.lower s.lower) g))
 
-  pub lower-not : k < n → tight s false ≡ movedLower source s n k
-  lower-not h = rw (lt-leb n k h)
+  pub lower_not : k < n → tight s false ≡ moved_lower source s n k
+  lower_not h = rw (lt-leb n k h)
 
 module _ (source : State) (t : Tightened) (n k : ℕ) where
-  pub upper-not : n < k → t ≡ movedUpper source t n k
-  upper-not h = rw (lt-leb k n h)
+  pub upper_not : n < k → t ≡ moved_upper source t n k
+  upper_not h = rw (lt-leb k n h)
 
   module _ (h : k ≤ n) where
-    pub upper-none : source.upper ≡ Open → t ≡ movedUpper source t n k
-    upper-none e = rw (le-leb k n h, e)
+    pub upper_none : source.upper ≡ Open → t ≡ moved_upper source t n k
+    upper_none e = rw (le-leb k n h, e)
 
-    pub upper-stays : (b : ℤ) → source.upper ≡ Under b → upperAtMost t.state.upper b ≡ true → t ≡ movedUpper source t n k
-    upper-stays b e g = rw (le-leb k n h, e, g)
+    pub upper_stays : (b : ℤ) → source.upper ≡ Under b → upper_at_most t.state.upper b ≡ true → t ≡ moved_upper source t n k
+    upper_stays b e g = rw (le-leb k n h, e, g)
 
-    pub upper-moves : (b : ℤ) → source.upper ≡ Under b → upperAtMost t.state.upper b ≡ false
-        → (u : State) → u ≡ withUpper t.state (Under b) → tight u true ≡ movedUpper source t n k
-    upper-moves b e g u f = rw (le-leb k n h, e, g) (ap (λ (x : State). tight x true) f)
+    pub upper_moves : (b : ℤ) → source.upper ≡ Under b → upper_at_most t.state.upper b ≡ false
+        → (u : State) → u ≡ with_upper t.state (Under b) → tight u true ≡ moved_upper source t n k
+    upper_moves b e g u f = rw (le-leb k n h, e, g) (ap (λ (x : State). tight x true) f)
 
 -- ---- for laws of what was told: what holds in each case holds
 
 -- A guard tells nothing new, raises the lower or lowers the upper.
-pub guard-cases : (s : State) (value : Bool) (b : ℤ) (G : Tightened → Type 0) → ((value ≡ true → le_z b s.lower ≡ true) × (value ≡ false → upperAtMost s.upper b ≡ true) → G (tight s false))
-    → (value ≡ true → le_z b s.lower ≡ false → G (tight (withLower s b) true)) → (value ≡ false → upperAtMost s.upper b ≡ false → G (tight (withUpper s (Under b)) true)) → G (guardState s value b)
+pub guard-cases : (s : State) (value : Bool) (b : ℤ) (G : Tightened → Type 0) → ((value ≡ true → le_z b s.lower ≡ true) × (value ≡ false → upper_at_most s.upper b ≡ true) → G (tight s false))
+    → (value ≡ true → le_z b s.lower ≡ false → G (tight (with_lower s b) true)) → (value ≡ false → upper_at_most s.upper b ≡ false → G (tight (with_upper s (Under b)) true)) → G (guard_state s value b)
 guard-cases s true b G none raised lowered = by (le_z b s.lower) refl
   where
-    by : (c : Bool) → le_z b s.lower ≡ c → G (elim c [ true ↦ tight s false | false ↦ tight (withLower s b) true ])
+    by : (c : Bool) → le_z b s.lower ≡ c → G (elim c [ true ↦ tight s false | false ↦ tight (with_lower s b) true ])
     by true e = none ((λ f. e), λ f. contrary f)
     by false e = raised refl e
-guard-cases s false b G none raised lowered = by (upperAtMost s.upper b) refl
+guard-cases s false b G none raised lowered = by (upper_at_most s.upper b) refl
   where
-    by : (c : Bool) → upperAtMost s.upper b ≡ c → G (elim c [ true ↦ tight s false | false ↦ tight (withUpper s (Under b)) true ])
+    by : (c : Bool) → upper_at_most s.upper b ≡ c → G (elim c [ true ↦ tight s false | false ↦ tight (with_upper s (Under b)) true ])
     by true e = none ((λ f. contrary (sym f)), λ f. e)
     by false e = lowered refl e
 
 -- Another row's lower is taken, or not; then its upper.
 module _ (source : State) (n k : ℕ) (G : Tightened → Type 0) where
-  pub lower-cases : (s : State) → let test = leb n k && lt_z s.lower source.lower in
-      (test ≡ true → G (tight (withLower s source.lower) true)) → (test ≡ false → G (tight s false)) → G (movedLower source s n k)
-  lower-cases s taken not_taken = by (leb n k && lt_z s.lower source.lower) refl
+  pub lower_cases : (s : State) → let test = leb n k && lt_z s.lower source.lower in
+      (test ≡ true → G (tight (with_lower s source.lower) true)) → (test ≡ false → G (tight s false)) → G (moved_lower source s n k)
+  lower_cases s taken not_taken = by (leb n k && lt_z s.lower source.lower) refl
     where
-      by : (c : Bool) → (leb n k && lt_z s.lower source.lower) ≡ c → G (cond c (tight (withLower s source.lower) true) (tight s false))
+      by : (c : Bool) → (leb n k && lt_z s.lower source.lower) ≡ c → G (cond c (tight (with_lower s source.lower) true) (tight s false))
       by true e = taken e
       by false e = not_taken e
 
-  pub upper-cases : (t : Tightened) → let test = leb k n && under source.upper t.state.upper in
-      (test ≡ true → G (tight (withUpper t.state source.upper) true)) → (test ≡ false → G t) → G (movedUpper source t n k)
-  upper-cases t taken not_taken = by (leb k n && under source.upper t.state.upper) refl
+  pub upper_cases : (t : Tightened) → let test = leb k n && under source.upper t.state.upper in
+      (test ≡ true → G (tight (with_upper t.state source.upper) true)) → (test ≡ false → G t) → G (moved_upper source t n k)
+  upper_cases t taken not_taken = by (leb k n && under source.upper t.state.upper) refl
     where
-      by : (c : Bool) → (leb k n && under source.upper t.state.upper) ≡ c → G (cond c (tight (withUpper t.state source.upper) true) t)
+      by : (c : Bool) → (leb k n && under source.upper t.state.upper) ≡ c → G (cond c (tight (with_upper t.state source.upper) true) t)
       by true e = taken e
       by false e = not_taken e

@@ -1,7 +1,7 @@
 // What a row's bounds take from a guard or from a neighbour: a state and whether it is new.
 ghost use Rattle.std.specs.Prelude.{◌≡◌, cond, true, false, ◌-◌, ◌<◌};
-ghost use Rattle.state.specs.State.{limit, withLower, withUpper};
-ghost use Rattle.tightening.specs.Told.{guardState, movedLower, movedUpper, movedState};
+ghost use Rattle.state.specs.State.{limit, with_lower, with_upper};
+ghost use Rattle.tightening.specs.Told.{guard_state, moved_lower, moved_upper, moved_state};
 
 use state::{State, Upper};
 
@@ -14,7 +14,7 @@ pub struct Tightened {
 
 // One state is lent and altered: its lower becomes the bound, or its upper.
 fn tighten(mut state: State, value: bool, bound: i64) -> State
-    ensures { result ≡ cond value (withLower state bound) (withUpper state (Upper.Under bound)) }
+    ensures { result ≡ cond value (with_lower state bound) (with_upper state (Upper.Under bound)) }
 {
     if value {
         state::raise_lower(&mut state, bound);
@@ -26,7 +26,7 @@ fn tighten(mut state: State, value: bool, bound: i64) -> State
 
 // `threshold_guard` on its row's state: a sure guard raises lower to its bound, a never one lowers upper.
 pub fn guard_state(state: State, value: bool, bound: i64) -> Tightened
-    ensures { result ≡ guardState state value bound }
+    ensures { result ≡ guard_state state value bound }
 {
     if value {
         if state.needs_lower(bound) {
@@ -56,7 +56,7 @@ pub fn guard_state(state: State, value: bool, bound: i64) -> Tightened
 
 // The longer of two rows with equal first terms has at least the shorter's lower.
 fn moved_lower(source: State, state: State, from: usize, to: usize) -> Tightened
-    ensures { result ≡ movedLower source state from to }
+    ensures { result ≡ moved_lower source state from to }
 {
     let lower = source.lower;
     if from <= to {
@@ -76,7 +76,7 @@ fn moved_lower(source: State, state: State, from: usize, to: usize) -> Tightened
 
 // The shorter has at most the longer's upper.
 fn moved_upper(source: State, before: Tightened, from: usize, to: usize) -> Tightened
-    ensures { result ≡ movedUpper source before from to }
+    ensures { result ≡ moved_upper source before from to }
 {
     let upper = source.upper;
     if from < to {
@@ -100,7 +100,7 @@ fn moved_upper(source: State, before: Tightened, from: usize, to: usize) -> Tigh
 
 // `threshold_prefixes` on one neighbour's state; `from` and `to` are the terms of the two rows.
 pub fn moved_state(source: State, state: State, from: usize, to: usize) -> Tightened
-    ensures { result ≡ movedState source state from to }
+    ensures { result ≡ moved_state source state from to }
 {
     let raised = moved_lower(source, state, from, to);
     moved_upper(source, raised, from, to)

@@ -9,18 +9,18 @@ abbrev pub digit : ℕ → ℕ → ℕ
 digit w k = w / 2 ^ k % 2
 
 -- Place n of a list of words; 0 behind its end.
-abbrev pub digitAt : List ℕ → ℕ → ℕ
-digitAt l n = digit (get_or l (n / 64) 0) (n % 64)
+abbrev pub digit_at : List ℕ → ℕ → ℕ
+digit_at l n = digit (get_or l (n / 64) 0) (n % 64)
 
 abbrev pub bit : List ℕ → ℕ → Bool
-bit mask n = eqb (digitAt mask n) 1
+bit mask n = eqb (digit_at mask n) 1
 
 -- In one mask or the other: decided.
-abbrev pub inEither : List ℕ → List ℕ → ℕ → Bool
-inEither sure never n = bit sure n || bit never n
+abbrev pub in_either : List ℕ → List ℕ → ℕ → Bool
+in_either sure never n = bit sure n || bit never n
 
-unfoldable pub setBit : List ℕ → ℕ → List ℕ
-setBit mask n = set mask (n / 64) (bit_or (get_or mask (n / 64) 0) (2 ^ (n % 64)))
+unfoldable pub set_bit : List ℕ → ℕ → List ℕ
+set_bit mask n = set mask (n / 64) (bit_or (get_or mask (n / 64) 0) (2 ^ (n % 64)))
 
 -- How many of the first n nodes the mask has.
 unfoldable pub count : List ℕ → ℕ → ℕ
@@ -38,4 +38,4 @@ learned l s = record { mask = l; step = s }
 -- A node that the mask has already is nothing new; one that the opposite mask has is a contradiction; else it is put in.
 unfoldable pub learn : List ℕ → List ℕ → ℕ → Learned
 learn mask opposite n =
-    cond (bit mask n) (learned mask Unchanged) (cond (bit opposite n) (learned mask Contradiction) (learned (setBit mask n) Changed))
+    cond (bit mask n) (learned mask Unchanged) (cond (bit opposite n) (learned mask Contradiction) (learned (set_bit mask n) Changed))

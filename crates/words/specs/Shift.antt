@@ -19,49 +19,49 @@ abbrev pub up_to : ℕ → ℕ → ℕ
 up_to position end = min (end + 1 - 64 * position) 64
 
 -- The bits of the word that stands at a position, those outside the places from start to end left out.
-abbrev pub inWindow : ℕ → ℕ → ℕ → ℕ → ℕ
-inWindow position bits start end = bits % 2 ^ up_to position end / 2 ^ before position start
+abbrev pub in_window : ℕ → ℕ → ℕ → ℕ → ℕ
+in_window position bits start end = bits % 2 ^ up_to position end / 2 ^ before position start
 
 -- Some bit of the word lies in the window.
 abbrev pub meets : ℕ → ℕ → ℕ → ℕ → Bool
-meets position bits start end = not (eqb (inWindow position bits start end) 0)
+meets position bits start end = not (eqb (in_window position bits start end) 0)
 
 -- The two parts of a word moved up by an offset below 64.
-abbrev pub lowPart : ℕ → ℕ → ℕ
-lowPart w offset = (w * 2 ^ offset) % 2 ^ 64
+abbrev pub low_part : ℕ → ℕ → ℕ
+low_part w offset = (w * 2 ^ offset) % 2 ^ 64
 
-abbrev pub highPart : ℕ → ℕ → ℕ
-highPart w offset = w / 2 ^ (64 - offset)
+abbrev pub high_part : ℕ → ℕ → ℕ
+high_part w offset = w / 2 ^ (64 - offset)
 
-abbrev pub orInto : List ℕ → ℕ → ℕ → List ℕ
-orInto l i bits = set l i (bit_or (get_or l i 0) bits)
+abbrev pub or_into : List ℕ → ℕ → ℕ → List ℕ
+or_into l i bits = set l i (bit_or (get_or l i 0) bits)
 
 -- The upper part of a moved word has a word of its own.
 abbrev pub spills : List ℕ → ℕ → ℕ → Bool
 spills l target offset = not (eqb offset 0) && ltb target (length l - 1)
 
 -- One source word, moved and joined to what stands there.
-unfoldable pub shiftWord : List ℕ → ℕ → ℕ → List ℕ
-shiftWord l source shift =
+unfoldable pub shift_word : List ℕ → ℕ → ℕ → List ℕ
+shift_word l source shift =
     let target = source + shift / 64 in
-    let low = orInto l target (lowPart (get_or l source 0) (shift % 64)) in
-    cond (spills l target (shift % 64)) (orInto low (target + 1) (highPart (get_or l source 0) (shift % 64))) low
+    let low = or_into l target (low_part (get_or l source 0) (shift % 64)) in
+    cond (spills l target (shift % 64)) (or_into low (target + 1) (high_part (get_or l source 0) (shift % 64))) low
 
 -- One of the bits just moved lies in the window.
-unfoldable pub wordHits : List ℕ → ℕ → ℕ → ℕ → ℕ → Bool
-wordHits l source shift start end =
+unfoldable pub word_hits : List ℕ → ℕ → ℕ → ℕ → ℕ → Bool
+word_hits l source shift start end =
     let target = source + shift / 64 in
-    meets target (lowPart (get_or l source 0) (shift % 64)) start end
-    || (spills l target (shift % 64) && meets (target + 1) (highPart (get_or l source 0) (shift % 64)) start end)
+    meets target (low_part (get_or l source 0) (shift % 64)) start end
+    || (spills l target (shift % 64) && meets (target + 1) (high_part (get_or l source 0) (shift % 64)) start end)
 
 -- The source words below `source`, the highest first, one visit for each.
-unfoldable pub shiftFrom : ℕ → ℕ → ℕ → ℕ → List ℕ → ℕ → Shifted
-shiftFrom shift start end zero l left = shifted l (Complete left)
-shiftFrom shift start end (suc source) l zero = shifted l Stopped
-shiftFrom shift start end (suc source) l (suc left) =
-    elim (wordHits l source shift start end)
-    [ true ↦ shifted (shiftWord l source shift) (Hit left) | false ↦ shiftFrom shift start end source (shiftWord l source shift) left ]
+unfoldable pub shift_from : ℕ → ℕ → ℕ → ℕ → List ℕ → ℕ → Shifted
+shift_from shift start end zero l left = shifted l (Complete left)
+shift_from shift start end (suc source) l zero = shifted l Stopped
+shift_from shift start end (suc source) l (suc left) =
+    elim (word_hits l source shift start end)
+    [ true ↦ shifted (shift_word l source shift) (Hit left) | false ↦ shift_from shift start end source (shift_word l source shift) left ]
 
 -- The first `sources` words of l, as far as they stay inside it.
-unfoldable pub unionShifted : List ℕ → ℕ → ℕ → ℕ → ℕ → ℕ → Shifted
-unionShifted l sources shift start end allowance = shiftFrom shift start end (min sources (length l - shift / 64)) l allowance
+unfoldable pub union_shifted : List ℕ → ℕ → ℕ → ℕ → ℕ → ℕ → Shifted
+union_shifted l sources shift start end allowance = shift_from shift start end (min sources (length l - shift / 64)) l allowance

@@ -11,11 +11,11 @@ use native.Nat.{ℕᴺ_discrete as dec_eq}
 use Rattle.std.proofs.lemmas.Nat.{shr_le}
 use Rattle.std.proofs.lemmas.Bool.{eqb-false, not-true}
 use Rattle.base.specs.TestLaws.{unequal}
-use Rattle.words.specs.Mask.{digit, digitAt}
-use Rattle.words.specs.DigitsLaws.{shr-digit, mod-digit, digit-high}
-use Rattle.words.specs.Shift.{before, up_to, inWindow, meets, spills, wordHits}
-use Rattle.words.specs.ShiftStepsLaws.{target, low_of, high_of, spills-over, hits-low}
-use Rattle.words.specs.ShiftPlacesLaws.{source-digit, low_up, low-none, high-at, high-none}
+use Rattle.words.specs.Mask.{digit, digit_at}
+use Rattle.words.specs.DigitsLaws.{shr_digit, mod-digit, digit_high}
+use Rattle.words.specs.Shift.{before, up_to, in_window, meets, spills, word_hits}
+use Rattle.words.specs.ShiftStepsLaws.{target, low_of, high_of, spills-over, hits_low}
+use Rattle.words.specs.ShiftPlacesLaws.{source_digit, low_up, low_none, high_at, high_none}
 
 -- A number that is not 0 has a set place.
 set-place : (n x : ℕ) → x < 2 ^ n → (x ≡ 0 → ⊥) → (j : ℕ) × (digit x j ≡ 1)
@@ -26,7 +26,7 @@ set-place (suc n) x h z = by (λ y. set-place n (x / 2) (omega (arith, pow-suc 2
     by rest (yes e) = (0, let f : x / 1 ≡ x = omega arith in rw f e)
     by rest (no e) =
         let r = rest (λ y. z (omega arith)) in
-        (1 + r.0, sym (shr-digit x 1 r.0) ∙ r.1)
+        (1 + r.0, sym (shr_digit x 1 r.0) ∙ r.1)
 
 digit-none : (k : ℕ) → digit 0 k ≡ 0
 digit-none k = ap (λ (x : ℕ). x % 2) (zero-div (2 ^ k)) ∙ zero-mod 2
@@ -47,21 +47,21 @@ meets-set position bits start end m =
     let a : f ≤ k = omega arith in
     let b : k < u = omega arith in
     let e : f + (k - f) ≡ k = omega arith in
-    let d : digit (inWindow position bits start end) (k - f) ≡ 1 =
-    shr-digit (bits % 2 ^ u) f (k - f) ∙ ap (digit (bits % 2 ^ u)) e ∙ mod-digit bits u k b ∙ m.set
+    let d : digit (in_window position bits start end) (k - f) ≡ 1 =
+    shr_digit (bits % 2 ^ u) f (k - f) ∙ ap (digit (bits % 2 ^ u)) e ∙ mod-digit bits u k b ∙ m.set
     in
-    ap not (ne_eqb (inWindow position bits start end) 0
+    ap not (ne_eqb (in_window position bits start end) 0
     (λ z. let y : ◌≡◌ {A = ℕ} 0 1 = sym (digit-none (k - f)) ∙ ap (λ (x : ℕ). digit x (k - f)) (sym z) ∙ d in omega arith))
 
-pub meets-only : (position bits start end : ℕ) → meets position bits start end ≡ true → Met position bits start end
-meets-only position bits start end h =
+pub meets_only : (position bits start end : ℕ) → meets position bits start end ≡ true → Met position bits start end
+meets_only position bits start end h =
     let f = before position start in
     let u = up_to position end in
     let small : bits % 2 ^ u < 2 ^ u = mod-lt bits (pow_pos u) in
-    let r = set-place u (inWindow position bits start end) (lt_of_le_of_lt (shr_le (bits % 2 ^ u) f) small)
-    (eqb-false (inWindow position bits start end) 0 (not-true (eqb (inWindow position bits start end) 0) h)) in
+    let r = set-place u (in_window position bits start end) (lt_of_le_of_lt (shr_le (bits % 2 ^ u) f) small)
+    (eqb-false (in_window position bits start end) 0 (not-true (eqb (in_window position bits start end) 0) h)) in
     let k = f + r.0 in
-    let d : digit (bits % 2 ^ u) k ≡ 1 = sym (shr-digit (bits % 2 ^ u) f r.0) ∙ r.1 in
+    let d : digit (bits % 2 ^ u) k ≡ 1 = sym (shr_digit (bits % 2 ^ u) f r.0) ∙ r.1 in
     let b = below u k (bits % 2 ^ u) small d in
     record {
       place = k;
@@ -78,7 +78,7 @@ meets-only position bits start end h =
         by (yes g) = g
         by (no g) =
             let v = lt_of_not-le g in
-            let z = digit-high x k (lt_of_lt_of_le s (pow_mono {i = u} {j = k} (omega arith))) in
+            let z = digit_high x k (lt_of_lt_of_le s (pow_mono {i = u} {j = k} (omega arith))) in
             absurd (omega arith)
 
     from : (position start k : ℕ) → before position start ≤ k → k < 64 → start ≤ 64 * position + k
@@ -93,20 +93,20 @@ pub record Hits (l : List ℕ) (s d a b : ℕ) : Type 0 where
   pub up : d ≤ place
   pub word : (place - d) / 64 ≡ s
   pub inside : place / 64 < length l
-  pub was : digitAt l (place - d) ≡ 1
+  pub was : digit_at l (place - d) ≡ 1
   pub from : a ≤ place
   pub to : place ≤ b
 
 module _ (l : List ℕ) (s d a b : ℕ) where
-  pub hits-set : Hits l s d a b → wordHits l s d a b ≡ true
-  unfolding wordHits
-  hits-set r = by (dec_le (d % 64) (r.place % 64))
+  pub hits_set : Hits l s d a b → word_hits l s d a b ≡ true
+  unfolding word_hits
+  hits_set r = by (dec_le (d % 64) (r.place % 64))
     where
       p : ℕ
       p = r.place
 
       source : (k : ℕ) → (p - d) % 64 ≡ k → digit (get_or l s 0) k ≡ 1
-      source k e = source-digit l s (p - d) k r.word e ∙ r.was
+      source k e = source_digit l s (p - d) k r.word e ∙ r.was
 
       high : (d % 64 ≤ p % 64 → ⊥) → meets (target l s d + 1) (high_of l s d) a b ≡ true
       high n =
@@ -118,7 +118,7 @@ module _ (l : List ℕ) (s d a b : ℕ) where
           (record {
             place = p % 64;
             small = mod-lt p (omega arith);
-            set = high-at (get_or l s 0) (d % 64) (p % 64) ∙ source (64 - d % 64 + p % 64) (omega arith);
+            set = high_at (get_or l s 0) (d % 64) (p % 64) ∙ source (64 - d % 64 + p % 64) (omega arith);
             from = omega (arith, r.from);
             to = omega (arith, r.to);
           })
@@ -131,13 +131,13 @@ module _ (l : List ℕ) (s d a b : ℕ) where
           let i = r.inside in
           spills-over l (target l s d) (d % 64) (λ z. omega arith) (omega arith)
 
-      by : Dec (d % 64 ≤ p % 64) → wordHits l s d a b ≡ true
+      by : Dec (d % 64 ≤ p % 64) → word_hits l s d a b ≡ true
       by (yes o) =
           let u = r.up in
           let w = r.word in
           let t : p / 64 ≡ s + d / 64 = omega arith in
           let m = mod-lt p {m = 64} (omega arith) in
-          sym (hits-low l s d a b (meets-set (target l s d) (low_of l s d) a b
+          sym (hits_low l s d a b (meets-set (target l s d) (low_of l s d) a b
           (record {
             place = p % 64;
             small = m;
@@ -147,9 +147,9 @@ module _ (l : List ℕ) (s d a b : ℕ) where
           })))
       by (no n) = rw (two n, high n) (or-true (meets (target l s d) (low_of l s d) a b))
 
-  pub hits-only : get_or l s 0 < 2 ^ 64 → s + d / 64 < length l → wordHits l s d a b ≡ true → Hits l s d a b
-  unfolding wordHits
-  hits-only w i h = by (meets (target l s d) (low_of l s d) a b) refl
+  pub hits_only : get_or l s 0 < 2 ^ 64 → s + d / 64 < length l → word_hits l s d a b ≡ true → Hits l s d a b
+  unfolding word_hits
+  hits_only w i h = by (meets (target l s d) (low_of l s d) a b) refl
     where
       in-low : Met (target l s d) (low_of l s d) a b → Hits l s d a b
       in-low m = at (dec_le (d % 64) m.place)
@@ -172,7 +172,7 @@ module _ (l : List ℕ) (s d a b : ℕ) where
               }
           at (no n) =
               let o = lt_of_not-le n in
-              let y : ◌≡◌ {A = ℕ} 0 1 = sym (low-none (get_or l s 0) (d % 64) m.place m.small (omega arith)) ∙ m.set in
+              let y : ◌≡◌ {A = ℕ} 0 1 = sym (low_none (get_or l s 0) (d % 64) m.place m.small (omega arith)) ∙ m.set in
               absurd (omega arith)
 
       in-high : ltb (s + d / 64) (length l - 1) ≡ true → Met (target l s d + 1) (high_of l s d) a b → Hits l s d a b
@@ -190,13 +190,13 @@ module _ (l : List ℕ) (s d a b : ℕ) where
                 up = omega arith;
                 word = e;
                 inside = omega arith;
-                was = rw (e, f) (sym (high-at (get_or l s 0) (d % 64) k) ∙ m.set);
+                was = rw (e, f) (sym (high_at (get_or l s 0) (d % 64) k) ∙ m.set);
                 from = m.from;
                 to = m.to;
               }
           at (no n) =
               let o = lt_of_not-le n in
-              let y : ◌≡◌ {A = ℕ} 0 1 = sym (high-none (get_or l s 0) (d % 64) m.place w (omega arith)) ∙ m.set in
+              let y : ◌≡◌ {A = ℕ} 0 1 = sym (high_none (get_or l s 0) (d % 64) m.place w (omega arith)) ∙ m.set in
               absurd (omega arith)
 
       both : (x y z : Bool) → ((x && y) && z) ≡ true → (y ≡ true) × (z ≡ true)
@@ -206,7 +206,7 @@ module _ (l : List ℕ) (s d a b : ℕ) where
       both false y z e = absurd (unequal cc)
 
       by : (x : Bool) → meets (target l s d) (low_of l s d) a b ≡ x → Hits l s d a b
-      by true e = in-low (meets-only (target l s d) (low_of l s d) a b e)
+      by true e = in-low (meets_only (target l s d) (low_of l s d) a b e)
       by false e =
           let q = both (not (eqb (d % 64) 0)) (ltb (s + d / 64) (length l - 1)) (meets (target l s d + 1) (high_of l s d) a b) (rw e at h) in
-          in-high q.0 (meets-only (target l s d + 1) (high_of l s d) a b q.1)
+          in-high q.0 (meets_only (target l s d + 1) (high_of l s d) a b q.1)

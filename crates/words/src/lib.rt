@@ -1,7 +1,7 @@
 // Bits of 64-bit words: words.rs, region.rs, and `bit` and `learn` of regions.rs.
 ghost use Rattle.std.specs.Prelude.{◌≡◌, ◌+◌, ◌-◌, ◌*◌, ◌/◌, ◌^◌, ◌<◌, ◌≤◌, min, length};
-ghost use Rattle.words.specs.Mask.{bit as is_set, inEither, count as nodes, learn as learnt};
-ghost use Rattle.words.specs.Shift.{meets as inside, shiftWord, wordHits, unionShifted};
+ghost use Rattle.words.specs.Mask.{bit as is_set, in_either, count as nodes, learn as learnt};
+ghost use Rattle.words.specs.Shift.{meets as inside, shift_word, word_hits, union_shifted};
 
 use state::Step;
 
@@ -37,7 +37,7 @@ pub fn bit(mask: &[u64], n: usize) -> bool
 // Whether a node is in one of the masks.
 pub fn decided(sure: &[u64], never: &[u64], node: u16) -> bool
     requires { (node < 4096) × (64 ≤ length sure.now) × (64 ≤ length never.now) }
-    ensures { result ≡ inEither sure.now never.now node }
+    ensures { result ≡ in_either sure.now never.now node }
 {
     let n = node as usize;
     bit(sure, n) | bit(never, n)
@@ -114,8 +114,8 @@ fn meets(position: usize, bits: u64, start: usize, end: usize) -> bool
 // One source word, moved up and joined to what stands there; whether one of the moved bits lies in the window.
 fn shift_word(words: &mut [u64], source: usize, shift: usize, start: usize, end: usize) -> bool
     requires { source + shift / 64 < length words.old }
-    ensures moved { words.new ≡ shiftWord words.old source shift }
-    ensures hit { result ≡ wordHits words.old source shift start end }
+    ensures moved { words.new ≡ shift_word words.old source shift }
+    ensures hit { result ≡ word_hits words.old source shift start end }
 {
     let bits = words[source];
     let target = source + shift / 64;
@@ -150,8 +150,8 @@ pub fn union_shifted_until_hit(
     end: usize,
     allowance: usize,
 ) -> Ended
-    ensures moved { words.new ≡ (unionShifted words.old source_words shift start end allowance).words }
-    ensures ended { result ≡ (unionShifted words.old source_words shift start end allowance).ended }
+    ensures moved { words.new ≡ (union_shifted words.old source_words shift start end allowance).words }
+    ensures ended { result ≡ (union_shifted words.old source_words shift start end allowance).ended }
 {
     let mut source = readable_words(source_words, words.len(), shift / 64);
     let mut left = allowance;

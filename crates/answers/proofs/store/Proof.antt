@@ -12,7 +12,7 @@ use Rattle.records.specs.contracts.Record.{the_type}
 use Rattle.records.specs.declared.Record.TheVariants.{Header, Opens, Adds, Areas, Seal, Mark, Settle, Sift, Unknown}
 use Rattle.files.specs.File.{Answer, settled, sifted}
 use Rattle.answers.specs.Answers.{answered}
-use Rattle.answers.specs.AnswersLaws.{answer-put, answer-more, answer-none, answer-same}
+use Rattle.answers.specs.AnswersLaws.{answer_put, answer_more, answer_none, answer_same}
 use borrow.Author.Rules.{rules}
 use Rattle.answers.proofs.store.Statement.{statement}
 use Rattle.answers.proofs.store.Tie as tie
@@ -62,8 +62,8 @@ returns c =
     let h = start.requires.0 (room a.given a.step a.visits (settled a.step) e) in
     λ before base long many laid.
     rw e (
-      answer-put before base a.answers.now laid a.count many (omega arith) (settled a.step) after-number.number.result 0 after-number.number.ensures refl after-put.put.new.0 after-put.put.ensures.0,
-      answer-more before (settled a.step) a.count after-put.put.result many after-put.put.ensures.1,
+      answer_put before base a.answers.now laid a.count many (omega arith) (settled a.step) after-number.number.result 0 after-number.number.ensures refl after-put.put.new.0 after-put.put.ensures.0,
+      answer_more before (settled a.step) a.count after-put.put.result many after-put.put.ensures.1,
     )
 
 returns-2 : tie.Need-returns-2
@@ -77,8 +77,8 @@ returns-2 c =
     let h = start.requires.0 (room a.given a.step a.visits (sifted a.step a.visits) e) in
     λ before base long many laid.
     rw e (
-      answer-put before base a.answers.now laid a.count many (omega arith) (sifted a.step a.visits) (after-number.number.result + 4) a.visits (omega (arith, after-number.number.ensures)) refl after-put2.put2.new.0 after-put2.put2.ensures.0,
-      answer-more before (sifted a.step a.visits) a.count after-put2.put2.result many after-put2.put2.ensures.1,
+      answer_put before base a.answers.now laid a.count many (omega arith) (sifted a.step a.visits) (after-number.number.result + 4) a.visits (omega (arith, after-number.number.ensures)) refl after-put2.put2.new.0 after-put2.put2.ensures.0,
+      answer_more before (sifted a.step a.visits) a.count after-put2.put2.result many after-put2.put2.ensures.1,
     )
 
 returns-3 : tie.Need-returns-3
@@ -86,7 +86,7 @@ returns-3 c =
     let start = c.before.before in
     let a = start.args in
     let e = none a.given c.match.keys3 a.step a.visits in
-    λ before base long many laid. rw e (answer-none before base a.answers.now laid, answer-same before a.count many)
+    λ before base long many laid. rw e (answer_none before base a.answers.now laid, answer_same before a.count many)
 
 pub store_spec : {M : Type 1} → statement M
 store_spec =

@@ -3,7 +3,7 @@ use mathlib.Core.Path.{◌≡◌}
 use mir.Syntax.{w64}
 use mir.Val.{to_z, of_z}
 use borrow.Author.Rules.{rules}
-use Rattle.base.specs.SignedLaws.{natural-below, natural-cast, natural-same}
+use Rattle.base.specs.SignedLaws.{natural-below, natural_cast, natural_same}
 use Rattle.base.proofs.natural.Statement.{statement}
 use Rattle.base.proofs.natural.Tie as tie
 
@@ -17,13 +17,13 @@ cast-result : tie.Need-overflow-cast-result
 cast-result c =
     let z = c.before.args.figure in
     let h : to_z w64 (of_z w64 z) ≡ z = search rules in
-    rw h (natural-cast z (simp h at c.if1.false) c.before.ranges.figure)
+    rw h (natural_cast z (simp h at c.if1.false) c.before.ranges.figure)
 
 returns-2 : tie.Need-returns-2
 returns-2 c =
     let z = c.before.args.figure in
     let h : to_z w64 (of_z w64 z) ≡ z = search rules in
-    rw h (natural-same z (simp h at c.if1.false))
+    rw h (natural_same z (simp h at c.if1.false))
 
 pub natural-spec : {M : Type 1} → statement M
 natural-spec = tie.close (tie.spec returns cast-result returns-2)

@@ -5,11 +5,11 @@ use native.Mathlib.Omega.{arith}
 use lib.ListN.{length, get_or}
 use lib.Signed.{mag}
 use Rattle.row_runs.specs.RowLaws.{signed}
-use Rattle.memory.specs.Ranges.{figureLimit}
-use Rattle.row_moves.specs.Between.{did, thresholdGuard}
+use Rattle.memory.specs.Ranges.{figure_limit}
+use Rattle.row_moves.specs.Between.{did, threshold_guard}
 use Rattle.row_moves.specs.Numbers.{live_of}
-use Rattle.row_moves.specs.Held.{noThreshold}
-use Rattle.row_moves.specs.GuardLaws.{guard-not, guard-is, guard-bound, guard-row}
+use Rattle.row_moves.specs.Held.{no_threshold}
+use Rattle.row_moves.specs.GuardLaws.{guard-not, guard_is, guard_bound, guard-row}
 use Rattle.bound_moves.proofs.guard_at.Statement.{statement}
 use Rattle.bound_moves.proofs.guard_at.Tie as tie
 
@@ -32,7 +32,7 @@ returns c =
     let threshold-of = c.before.threshold-of in
     let s = start_of c.before in
     let a = s.args in
-    let v = live_of a.figures.now a.cursors.now a.sure.now a.never.now a.node-queue.now a.row-queues.now a.rings in
+    let v = live_of a.figures.now a.cursors.now a.sure.now a.never.now a.node_queue.now a.row_queues.now a.rings in
     (λ x z y n. guard-not x a.nodes.now a.bounds.now y a.node s.pre.0.2 v threshold-of.result threshold-of.ensures.0 c.if1.true, λ t. t)
 
 row-of-node-requires : tie.Need-row-of-node-requires
@@ -59,7 +59,7 @@ links-count-requires c κs =
 threshold-guard-requires : tie.Need-threshold-guard-requires
 threshold-guard-requires c κs =
     let at-bound-of = (links-count-of c).before in
-    let bound_of = at-bound-of.bound_of in
+    let bound_of_lem = at-bound-of.bound_of_lem in
     let row-of-node = at-bound-of.before.row-of-node in
     let if1 = at-bound-of.before.before.if1 in
     let threshold-of = at-bound-of.before.before.before.threshold-of in
@@ -69,8 +69,8 @@ threshold-guard-requires c κs =
     let y = p.0.1 in
     let n = a.node in
     let k : row-of-node.result < length a.rows.now = omega (arith, row-of-node.ensures.0, y.rows n p.0.2 (omega (arith, threshold-of.ensures.0, if1.left))) in
-    let z : mag bound_of.result < figureLimit = rw bound_of.ensures (y.small (threshold-of.result - 1) (omega (arith, threshold-of.ensures.0, if1.left, y.inside n p.0.2))) in
-    ((p.0.0, k, p.0.3, rw (signed bound_of.result z) z), p.1)
+    let z : mag bound_of_lem.result < figure_limit = rw bound_of_lem.ensures (y.small (threshold-of.result - 1) (omega (arith, threshold-of.ensures.0, if1.left, y.inside n p.0.2))) in
+    ((p.0.0, k, p.0.3, rw (signed bound_of_lem.result z) z), p.1)
 
 same_length : tie.Need-same-length
 same_length c = (threshold-guard-of c).threshold-guard.auto.1.1.1.1.1.0
@@ -96,7 +96,7 @@ returns-2 c =
     let threshold-guard = at-threshold-guard.threshold-guard in
     let at-links-count = links-count-of at-threshold-guard.before in
     let links-count = at-links-count.links-count in
-    let bound_of = at-links-count.before.bound_of in
+    let bound_of_lem = at-links-count.before.bound_of_lem in
     let row-of-node = at-links-count.before.before.row-of-node in
     let if1 = at-links-count.before.before.before.if1 in
     let at-threshold-of = at-links-count.before.before.before.before in
@@ -104,22 +104,22 @@ returns-2 c =
     let s = start_of at-threshold-of in
     let a = s.args in
     let p = s.pre in
-    let v = live_of a.figures.now a.cursors.now a.sure.now a.never.now a.node-queue.now a.row-queues.now a.rings in
+    let v = live_of a.figures.now a.cursors.now a.sure.now a.never.now a.node_queue.now a.row_queues.now a.rings in
     let m = threshold-guard.last.1.1.1.1.1 in
     let o = live_of m.0 m.1.0 m.1.1.0 m.1.1.1.0 m.1.1.1.1.0 m.1.1.1.1.1.0 threshold-guard.result.rings in
     let y = p.0.1 in
     let n = a.node in
     let t = threshold-of.result in
     let k : row-of-node.result < length a.rows.now = omega (arith, row-of-node.ensures.0, y.rows n p.0.2 (omega (arith, threshold-of.ensures.0, if1.left))) in
-    let z : mag bound_of.result < figureLimit = rw bound_of.ensures (y.small (t - 1) (omega (arith, threshold-of.ensures.0, if1.left, y.inside n p.0.2))) in (
+    let z : mag bound_of_lem.result < figure_limit = rw bound_of_lem.ensures (y.small (t - 1) (omega (arith, threshold-of.ensures.0, if1.left, y.inside n p.0.2))) in (
       λ x held holds counts.
           let some : 0 < t = omega (arith, if1.left) in
-          let f = guard-is x a.nodes.now a.bounds.now holds n p.0.2 v t threshold-of.ensures.0 some in
-          let b = guard-bound x a.nodes.now a.bounds.now holds n p.0.2 v t threshold-of.ensures.0 in
+          let f = guard_is x a.nodes.now a.bounds.now holds n p.0.2 v t threshold-of.ensures.0 some in
+          let b = guard_bound x a.nodes.now a.bounds.now holds n p.0.2 v t threshold-of.ensures.0 in
           let row = guard-row x a.nodes.now a.bounds.now holds n p.0.2 v t threshold-of.ensures.0 some row-of-node.result row-of-node.ensures.0 in
-          let th = get_or x.thresholds (t - 1) noThreshold in
-          let bound = b ∙ sym bound_of.ensures ∙ sym (signed bound_of.result z) in
-          ◌∙◌ {a = did o threshold-guard.result.step} {b = thresholdGuard x v th}
+          let th = get_or x.thresholds (t - 1) no_threshold in
+          let bound = b ∙ sym bound_of_lem.ensures ∙ sym (signed bound_of_lem.result z) in
+          ◌∙◌ {a = did o threshold-guard.result.step} {b = threshold_guard x v th}
           (threshold-guard.ensures.0 x th held (counts row-of-node.result k ∙ sym links-count.ensures) row f.node bound) f.guard,
       threshold-guard.ensures.1,
     )

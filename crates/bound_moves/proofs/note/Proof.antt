@@ -1,7 +1,7 @@
 -- `bound_moves::note` meets its contract: the state is stored, and the row waits in one of the queues.
 use mathlib.Core.Path.{◌∙◌, ap}
-use Rattle.queues.specs.Slot.{rowsIn}
-use Rattle.row_moves.specs.NumbersLaws.{states-set, tidy-store}
+use Rattle.queues.specs.Slot.{rows_in}
+use Rattle.row_moves.specs.NumbersLaws.{states_set, tidy_store}
 use borrow.Author.Rules.{rules}
 use Rattle.bound_moves.proofs.note.Statement.{statement}
 use Rattle.bound_moves.proofs.note.Tie as tie
@@ -25,10 +25,10 @@ returns c =
     let p = (start_of (store_of (queue-row-of c))).requires in
     let f = store.last in
     let q = queue-row.last.0 in (
-      states-set a.figures.now f.0 a.cursors.now f.1.0 a.row a.state p.0 store.ensures.0 store.ensures.1,
-      tidy-store a.figures.now f.0 a.cursors.now f.1.0 a.row a.state p.0 store.ensures.0 store.ensures.1,
-      ap (rowsIn 0 q) c.before.taken2.ensures ∙ queue-row.ensures.0,
-      ap (rowsIn 2 q) c.taken3.ensures ∙ queue-row.ensures.1 a.rings.residuals,
+      states_set a.figures.now f.0 a.cursors.now f.1.0 a.row a.state p.0 store.ensures.0 store.ensures.1,
+      tidy_store a.figures.now f.0 a.cursors.now f.1.0 a.row a.state p.0 store.ensures.0 store.ensures.1,
+      ap (rows_in 0 q) c.before.taken2.ensures ∙ queue-row.ensures.0,
+      ap (rows_in 2 q) c.taken3.ensures ∙ queue-row.ensures.1 a.rings.residuals,
       c.before.before.taken.ensures,
     )
 

@@ -3,13 +3,13 @@ use mathlib.Core.Path.{◌∙◌}
 use native.Mathlib.Omega.{arith}
 use lib.ListN.{length}
 use Rattle.memory.specs.Buffers.{held_rows}
-use Rattle.queues.specs.Slot.{rowsIn}
-use Rattle.memory.specs.Ranges.{figureLimit}
+use Rattle.queues.specs.Slot.{rows_in}
+use Rattle.memory.specs.Ranges.{figure_limit}
 use Rattle.row_moves.specs.Between.{did}
 use Rattle.row_moves.specs.Numbers.{live_of}
-use Rattle.row_moves.specs.Held.{heldRow}
-use Rattle.row_moves.specs.BetweenLaws.{linked-run}
-use Rattle.row_moves.specs.ReadyLaws.{ready-queue}
+use Rattle.row_moves.specs.Held.{held_row}
+use Rattle.row_moves.specs.BetweenLaws.{linked_run}
+use Rattle.row_moves.specs.ReadyLaws.{ready_queue}
 use Rattle.bound_moves.proofs.run_bounded.Statement.{statement}
 use Rattle.bound_moves.proofs.run_bounded.Tie as tie
 
@@ -37,10 +37,10 @@ run-from-requires c κs =
     let s = start_of at-queue-linked.before in
     let a = s.args in
     let p = s.pre in
-    let h = held_rows a.row-conditions.now a.row-weights.now a.rows.now a.guard-bounds.now a.guard-nodes.now in
-    let v = live_of a.figures.now a.cursors.now a.sure.now a.never.now a.node-queue.now a.row-queues.now a.rings in
-    let left = rowsIn 2 queue-linked.last.0 a.rings.residuals in
-    ((p.0.0, p.0.1, p.0.2), ready-queue h figureLimit v left (queue-linked.ensures.1 a.rings.residuals) p.1.ready)
+    let h = held_rows a.row-conditions.now a.row-weights.now a.rows.now a.guard_bounds.now a.guard_nodes.now in
+    let v = live_of a.figures.now a.cursors.now a.sure.now a.never.now a.node_queue.now a.row_queues.now a.rings in
+    let left = rows_in 2 queue-linked.last.0 a.rings.residuals in
+    ((p.0.0, p.0.1, p.0.2), ready_queue h figure_limit v left (queue-linked.ensures.1 a.rings.residuals) p.1.ready)
 
 same_length : tie.Need-same-length
 same_length c = (run-from-of c).run-from.auto.1.1.1.1.1.0
@@ -72,12 +72,12 @@ returns c =
     let queue-linked = at-queue-linked.queue-linked in
     let s = start_of at-queue-linked.before in
     let a = s.args in
-    let h = held_rows a.row-conditions.now a.row-weights.now a.rows.now a.guard-bounds.now a.guard-nodes.now in
-    let v = live_of a.figures.now a.cursors.now a.sure.now a.never.now a.node-queue.now a.row-queues.now a.rings in
+    let h = held_rows a.row-conditions.now a.row-weights.now a.rows.now a.guard_bounds.now a.guard_nodes.now in
+    let v = live_of a.figures.now a.cursors.now a.sure.now a.never.now a.node_queue.now a.row_queues.now a.rings in
     let m = run-from.last.1.1.1.1.1 in
     let o = live_of m.0 m.1.0 m.1.1.0 m.1.1.1.0 m.1.1.1.1.0 m.1.1.1.1.1.0 run-from.result.rings in
     let q = queue-linked.last.0 in
-    let e = linked-run (heldRow h a.row) v a.row a.links a.state (rowsIn 0 q queue-linked.result) (rowsIn 2 q a.rings.residuals)
+    let e = linked_run (held_row h a.row) v a.row a.links a.state (rows_in 0 q queue-linked.result) (rows_in 2 q a.rings.residuals)
     queue-linked.ensures.0 (queue-linked.ensures.1 a.rings.residuals) (did o run-from.result.step) run-from.ensures.0 in
     (e, run-from.ensures.1)
 

@@ -6,12 +6,12 @@ use mir.Val.{to_z, of_z}
 use Rattle.memory.specs.Buffers.{held_rows}
 use Rattle.tightening.specs.declared.Tightened.{Tightened}
 use Rattle.row_runs.specs.RowLaws.{signed}
-use Rattle.tightening.specs.Told.{guardState}
-use Rattle.memory.specs.Ranges.{figureLimit}
-use Rattle.row_moves.specs.Between.{did, stateAt}
+use Rattle.tightening.specs.Told.{guard_state}
+use Rattle.memory.specs.Ranges.{figure_limit}
+use Rattle.row_moves.specs.Between.{did, state_at}
 use Rattle.row_moves.specs.Numbers.{live_of}
-use Rattle.row_moves.specs.BetweenLaws.{guard-moves, guard-tells-nothing, bounded-held}
-use Rattle.row_moves.specs.ReadyLaws.{fit-by, fit-guard}
+use Rattle.row_moves.specs.BetweenLaws.{guard_moves, guard_tells_nothing, bounded_held}
+use Rattle.row_moves.specs.ReadyLaws.{fit_by, fit_guard}
 use borrow.Author.Rules.{rules}
 use Rattle.bound_moves.proofs.threshold_guard.Statement.{statement}
 use Rattle.bound_moves.proofs.threshold_guard.Tie as tie
@@ -48,15 +48,15 @@ run-bounded-requires c κs =
     let s = start_of at-guard-state.before.before.before.before in
     let a = s.args in
     let p = s.pre in
-    let h = held_rows a.row-conditions.now a.row-weights.now a.rows.now a.guard-bounds.now a.guard-nodes.now in
-    let v = live_of a.figures.now a.cursors.now a.sure.now a.never.now a.node-queue.now a.row-queues.now a.rings in
+    let h = held_rows a.row-conditions.now a.row-weights.now a.rows.now a.guard_bounds.now a.guard_nodes.now in
+    let v = live_of a.figures.now a.cursors.now a.sure.now a.never.now a.node_queue.now a.row_queues.now a.rings in
     let r = a.row in
     let b = bit.result in
     let bound : to_z w64 (of_z w64 a.bound) ≡ a.bound = signed a.bound p.0.3 in
-    let told = guard-state.ensures ∙ ap (guardState load.result b) bound in
-    let at = fit-by h figureLimit r load.result (stateAt v r) load.ensures (p.1.ready.fit r p.0.1) in
-    let f = fit-guard h figureLimit r load.result b a.bound p.0.3 at in
-    let fit = fit-by h figureLimit r guard-state.result.state (guardState load.result b a.bound).state (ap (λ (y : Tightened). y.state) told) f in
+    let told = guard-state.ensures ∙ ap (guard_state load.result b) bound in
+    let at = fit_by h figure_limit r load.result (state_at v r) load.ensures (p.1.ready.fit r p.0.1) in
+    let f = fit_guard h figure_limit r load.result b a.bound p.0.3 at in
+    let fit = fit_by h figure_limit r guard-state.result.state (guard_state load.result b a.bound).state (ap (λ (y : Tightened). y.state) told) f in
     ((p.0.0, p.0.1, fit), p.1)
 
 same_length : tie.Need-same-length
@@ -90,17 +90,17 @@ returns c =
     let s = start_of at_load.before in
     let a = s.args in
     let p = s.pre in
-    let h = held_rows a.row-conditions.now a.row-weights.now a.rows.now a.guard-bounds.now a.guard-nodes.now in
-    let v = live_of a.figures.now a.cursors.now a.sure.now a.never.now a.node-queue.now a.row-queues.now a.rings in
+    let h = held_rows a.row-conditions.now a.row-weights.now a.rows.now a.guard_bounds.now a.guard_nodes.now in
+    let v = live_of a.figures.now a.cursors.now a.sure.now a.never.now a.node_queue.now a.row_queues.now a.rings in
     let m = ran.last.1.1.1.1.1 in
     let o = live_of m.0 m.1.0 m.1.1.0 m.1.1.1.0 m.1.1.1.1.0 m.1.1.1.1.1.0 ran.result.rings in
     let r = a.row in
     let b = bit.result in
     let bound : to_z w64 (of_z w64 a.bound) ≡ a.bound = signed a.bound p.0.3 in
-    let told = guard-state.ensures ∙ ap (guardState load.result b) bound in (
+    let told = guard-state.ensures ∙ ap (guard_state load.result b) bound in (
       λ x t z many row node is.
-          let moved = bounded-held x h z v r guard-state.result.state a.links p.0.1 many (did o ran.result.step) ran.ensures.0 in
-          guard-moves x v t r row load.result (sym load.ensures) a.node node a.bound is b (sym bit.ensures) guard-state.result told
+          let moved = bounded_held x h z v r guard-state.result.state a.links p.0.1 many (did o ran.result.step) ran.ensures.0 in
+          guard_moves x v t r row load.result (sym load.ensures) a.node node a.bound is b (sym bit.ensures) guard-state.result told
           if1.taken (did o ran.result.step) moved,
       ran.ensures.1,
     )
@@ -113,13 +113,13 @@ returns-2 c =
     let load = at_load.load in
     let s = start_of at_load.before in
     let a = s.args in
-    let v = live_of a.figures.now a.cursors.now a.sure.now a.never.now a.node-queue.now a.row-queues.now a.rings in
+    let v = live_of a.figures.now a.cursors.now a.sure.now a.never.now a.node_queue.now a.row_queues.now a.rings in
     let r = a.row in
     let b = bit.result in
     let bound : to_z w64 (of_z w64 a.bound) ≡ a.bound = signed a.bound s.pre.0.3 in
-    let told = guard-state.ensures ∙ ap (guardState load.result b) bound in (
+    let told = guard-state.ensures ∙ ap (guard_state load.result b) bound in (
       λ x t z many row node is.
-          guard-tells-nothing x v t r row load.result (sym load.ensures) a.node node a.bound is b (sym bit.ensures) guard-state.result told c.if1.false,
+          guard_tells_nothing x v t r row load.result (sym load.ensures) a.node node a.bound is b (sym bit.ensures) guard-state.result told c.if1.false,
       λ y. y,
     )
 

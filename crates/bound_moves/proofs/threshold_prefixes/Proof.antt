@@ -4,25 +4,25 @@ use mathlib.Core.Path.{◌∙◌, sym}
 use native.Mathlib.Omega.{arith}
 use lib.ListN.{length}
 use Rattle.memory.specs.Buffers.{held_rows}
-use Rattle.memory.specs.Ranges.{figureLimit}
-use Rattle.row_moves.specs.Between.{stateAt}
+use Rattle.memory.specs.Ranges.{figure_limit}
+use Rattle.row_moves.specs.Between.{state_at}
 use Rattle.row_moves.specs.NumbersLaws.{same_self}
 use Rattle.row_moves.specs.Numbers.{live_of, Tidy, Same}
-use Rattle.row_moves.specs.ReadyLaws.{fit-by}
-use Rattle.bound_moves.specs.HandingLaws.{Handing, links-of, handing-first, handing-next, handing-stop, handing-end, prefixes-held}
+use Rattle.row_moves.specs.ReadyLaws.{fit_by}
+use Rattle.bound_moves.specs.HandingLaws.{Handing, links_of, handing_first, handing_next, handing_stop, handing_end, prefixes_held}
 use borrow.Author.Rules.{rules}
 use Rattle.bound_moves.proofs.threshold_prefixes.Statement.{statement}
 use Rattle.bound_moves.proofs.threshold_prefixes.Tie as tie
 
 abbrev invariant-loop : tie.invariant-loop
-invariant-loop row-conditions row-weights rows guard-bounds guard-nodes links figures₀ cursors₀ sure₀ never₀ node-queue₀ row-queues₀ row source many end at₀ so-far₀ figures cursors sure never node-queue row-queues at so_far =
-    Handing (held_rows row-conditions row-weights rows guard-bounds guard-nodes) links row source at₀ end (live_of figures₀ cursors₀ sure₀ never₀ node-queue₀ row-queues₀ so-far₀.rings)
-    at so_far.step (live_of figures cursors sure never node-queue row-queues so_far.rings)
-    × Same figures₀ cursors₀ sure₀ never₀ node-queue₀ row-queues₀ figures cursors sure never node-queue row-queues
+invariant-loop row-conditions row-weights rows guard_bounds guard_nodes links figures₀ cursors₀ sure₀ never₀ node-queue₀ row-queues₀ row source many end at₀ so-far₀ figures cursors sure never node_queue row_queues at so_far =
+    Handing (held_rows row-conditions row-weights rows guard_bounds guard_nodes) links row source at₀ end (live_of figures₀ cursors₀ sure₀ never₀ node-queue₀ row-queues₀ so-far₀.rings)
+    at so_far.step (live_of figures cursors sure never node_queue row_queues so_far.rings)
+    × Same figures₀ cursors₀ sure₀ never₀ node-queue₀ row-queues₀ figures cursors sure never node_queue row_queues
     × (Tidy figures₀ cursors₀ → Tidy figures cursors)
 
 abbrev decreases-loop : tie.decreases-loop
-decreases-loop row-conditions row-weights rows guard-bounds guard-nodes links figures₀ cursors₀ sure₀ never₀ node-queue₀ row-queues₀ row source many end at₀ so-far₀ figures cursors sure never node-queue row-queues at so_far =
+decreases-loop row-conditions row-weights rows guard_bounds guard_nodes links figures₀ cursors₀ sure₀ never₀ node-queue₀ row-queues₀ row source many end at₀ so-far₀ figures cursors sure never node_queue row_queues at so_far =
     end - at
 
 -- Ways back to earlier places.
@@ -71,11 +71,11 @@ loop-holds c =
     let s = start-of-links-start c in
     let a = s.args in
     let p = s.pre in
-    let h = held_rows a.row-conditions.now a.row-weights.now a.rows.now a.guard-bounds.now a.guard-nodes.now in
-    let v = live_of a.figures.now a.cursors.now a.sure.now a.never.now a.node-queue.now a.row-queues.now a.rings in
-    let own = links-of h a.links.now p.0.1 a.row p.0.2 links-start.result links_end.result links-start.ensures.0 links_end.ensures.0 in (
-      handing-first h a.links.now a.row load.result links-start.result links_end.result v own p.1,
-      same_self a.figures.now a.cursors.now a.sure.now a.never.now a.node-queue.now a.row-queues.now,
+    let h = held_rows a.row-conditions.now a.row-weights.now a.rows.now a.guard_bounds.now a.guard_nodes.now in
+    let v = live_of a.figures.now a.cursors.now a.sure.now a.never.now a.node_queue.now a.row_queues.now a.rings in
+    let own = links_of h a.links.now p.0.1 a.row p.0.2 links-start.result links_end.result links-start.ensures.0 links_end.ensures.0 in (
+      handing_first h a.links.now a.row load.result links-start.result links_end.result v own p.1,
+      same_self a.figures.now a.cursors.now a.sure.now a.never.now a.node_queue.now a.row_queues.now,
       λ t. t,
     )
 
@@ -102,11 +102,11 @@ hand-on-requires c κs =
     let s = start_of at_load.before in
     let a = s.args in
     let p = s.pre in
-    let h = held_rows a.row-conditions.now a.row-weights.now a.rows.now a.guard-bounds.now a.guard-nodes.now in
-    let v = live_of a.figures.now a.cursors.now a.sure.now a.never.now a.node-queue.now a.row-queues.now a.rings in
+    let h = held_rows a.row-conditions.now a.row-weights.now a.rows.now a.guard_bounds.now a.guard_nodes.now in
+    let v = live_of a.figures.now a.cursors.now a.sure.now a.never.now a.node_queue.now a.row_queues.now a.rings in
     let l = w.inv.0 in
     let k = l.own.rows w.at link_at.result l.above test.taken link_at.ensures in
-    let f = fit-by h figureLimit a.row load.result (stateAt v a.row) load.ensures (p.1.ready.fit a.row p.0.2) in
+    let f = fit_by h figure_limit a.row load.result (state_at v a.row) load.ensures (p.1.ready.fit a.row p.0.2) in
     ((p.0.0, k, f.lower, f.upper), l.runnable)
 
 same_length : tie.Need-same-length invariant-loop decreases-loop
@@ -142,14 +142,14 @@ same-length-5 c =
     let at-hand-on = hand-on-of c.before in
     let hand_on = at-hand-on.hand_on in
     let w = (loop-of at-hand-on).loop in
-    ◌∙◌ {b = length w.node-queue} hand_on.kept.1.1.1.1.1.1.1.1.1.0 w.inv.1.node-queue
+    ◌∙◌ {b = length w.node_queue} hand_on.kept.1.1.1.1.1.1.1.1.1.0 w.inv.1.node_queue
 
 same-length-6 : tie.Need-same-length-6 invariant-loop decreases-loop
 same-length-6 c =
     let at-hand-on = hand-on-of c.before in
     let hand_on = at-hand-on.hand_on in
     let w = (loop-of at-hand-on).loop in
-    ◌∙◌ {b = length w.row-queues} hand_on.kept.1.1.1.1.1.1.1.1.1.1.0 w.inv.1.row-queues
+    ◌∙◌ {b = length w.row_queues} hand_on.kept.1.1.1.1.1.1.1.1.1.1.0 w.inv.1.row_queues
 
 returns : tie.Need-returns invariant-loop decreases-loop
 returns c =
@@ -168,16 +168,16 @@ returns c =
     let s = start-of-links-start at-links-start in
     let a = s.args in
     let p = s.pre in
-    let h = held_rows a.row-conditions.now a.row-weights.now a.rows.now a.guard-bounds.now a.guard-nodes.now in
-    let v = live_of a.figures.now a.cursors.now a.sure.now a.never.now a.node-queue.now a.row-queues.now a.rings in
-    let u = live_of w.figures w.cursors w.sure w.never w.node-queue w.row-queues w.so_far.rings in
+    let h = held_rows a.row-conditions.now a.row-weights.now a.rows.now a.guard_bounds.now a.guard_nodes.now in
+    let v = live_of a.figures.now a.cursors.now a.sure.now a.never.now a.node_queue.now a.row_queues.now a.rings in
+    let u = live_of w.figures w.cursors w.sure w.never w.node_queue w.row_queues w.so_far.rings in
     let m = hand_on.last.1.1.1.1.1 in
     let o = live_of m.0 m.1.0 m.1.1.0 m.1.1.1.0 m.1.1.1.1.0 m.1.1.1.1.1.0 hand_on.result.rings in
-    let stop = handing-stop h a.links.now a.row load.result links-start.result links_end.result v w.at w.so_far.step u w.inv.0
+    let stop = handing_stop h a.links.now a.row load.result links-start.result links_end.result v w.at w.so_far.step u w.inv.0
     p.0.0 test.taken p.0.2 terms-count.result terms-count.ensures link_at.result link_at.ensures terms-count2.result terms-count2.ensures
     o hand_on.result.step hand_on.ensures.0 (sym c.before.contradicts.ensures ∙ c.if1.true) in (
       λ x z y. stop x z
-          ∙ prefixes-held x h a.links.now y a.row p.0.2 links-start.result links_end.result links-start.ensures.0 links_end.ensures.0 v load.result
+          ∙ prefixes_held x h a.links.now y a.row p.0.2 links-start.result links_end.result links-start.ensures.0 links_end.ensures.0 v load.result
           load.ensures,
       λ t. hand_on.ensures.1 (w.inv.2 t),
     )
@@ -212,15 +212,15 @@ loop-again c =
     let s = start-of-links-start at-links-start in
     let a = s.args in
     let p = s.pre in
-    let h = held_rows a.row-conditions.now a.row-weights.now a.rows.now a.guard-bounds.now a.guard-nodes.now in
-    let v = live_of a.figures.now a.cursors.now a.sure.now a.never.now a.node-queue.now a.row-queues.now a.rings in
-    let u = live_of w.figures w.cursors w.sure w.never w.node-queue w.row-queues w.so_far.rings in
+    let h = held_rows a.row-conditions.now a.row-weights.now a.rows.now a.guard_bounds.now a.guard_nodes.now in
+    let v = live_of a.figures.now a.cursors.now a.sure.now a.never.now a.node_queue.now a.row_queues.now a.rings in
+    let u = live_of w.figures w.cursors w.sure w.never w.node_queue w.row_queues w.so_far.rings in
     let m = hand_on.last.1.1.1.1.1 in
     let o = live_of m.0 m.1.0 m.1.1.0 m.1.1.1.0 m.1.1.1.1.0 m.1.1.1.1.1.0 hand_on.result.rings in
     let g = hand_on.kept.1.1.1.1.1 in
     let same = w.inv.1 in
-    let f = fit-by h figureLimit a.row load.result (stateAt v a.row) load.ensures (p.1.ready.fit a.row p.0.2) in
-    let next = handing-next h a.links.now a.row load.result links-start.result links_end.result v w.at w.so_far.step u w.inv.0
+    let f = fit_by h figure_limit a.row load.result (state_at v a.row) load.ensures (p.1.ready.fit a.row p.0.2) in
+    let next = handing_next h a.links.now a.row load.result links-start.result links_end.result v w.at w.so_far.step u w.inv.0
     p.0.0 test.taken p.0.2 terms-count.result terms-count.ensures link_at.result link_at.ensures terms-count2.result terms-count2.ensures
     o hand_on.result.step hand_on.ensures.0 f.lower f.upper (sym contradicts.ensures ∙ if1.false) join.result join.ensures in (
       next,
@@ -229,8 +229,8 @@ loop-again c =
         cursors = ◌∙◌ {b = length w.cursors} g.1.0 same.cursors;
         sure = ◌∙◌ {b = length w.sure} g.1.1.0 same.sure;
         never = ◌∙◌ {b = length w.never} g.1.1.1.0 same.never;
-        node-queue = ◌∙◌ {b = length w.node-queue} g.1.1.1.1.0 same.node-queue;
-        row-queues = ◌∙◌ {b = length w.row-queues} g.1.1.1.1.1.0 same.row-queues;
+        node_queue = ◌∙◌ {b = length w.node_queue} g.1.1.1.1.0 same.node_queue;
+        row_queues = ◌∙◌ {b = length w.row_queues} g.1.1.1.1.1.0 same.row_queues;
       },
       λ t. hand_on.ensures.1 (w.inv.2 t),
     )
@@ -248,10 +248,10 @@ same-length-10 : tie.Need-same-length-10 invariant-loop decreases-loop
 same-length-10 c = c.before.loop.invariant.1.never
 
 same-length-11 : tie.Need-same-length-11 invariant-loop decreases-loop
-same-length-11 c = c.before.loop.invariant.1.node-queue
+same-length-11 c = c.before.loop.invariant.1.node_queue
 
 same-length-12 : tie.Need-same-length-12 invariant-loop decreases-loop
-same-length-12 c = c.before.loop.invariant.1.row-queues
+same-length-12 c = c.before.loop.invariant.1.row_queues
 
 returns-2 : tie.Need-returns-2 invariant-loop decreases-loop
 returns-2 c =
@@ -262,12 +262,12 @@ returns-2 c =
     let load = at_load.load in
     let s = start_of at_load.before in
     let a = s.args in
-    let h = held_rows a.row-conditions.now a.row-weights.now a.rows.now a.guard-bounds.now a.guard-nodes.now in
-    let v = live_of a.figures.now a.cursors.now a.sure.now a.never.now a.node-queue.now a.row-queues.now a.rings in
-    let u = live_of w.figures w.cursors w.sure w.never w.node-queue w.row-queues w.so_far.rings in
-    let last = handing-end h a.links.now a.row load.result links-start.result links_end.result v w.at w.so_far.step u w.invariant.0 c.loop-test.false in (
+    let h = held_rows a.row-conditions.now a.row-weights.now a.rows.now a.guard_bounds.now a.guard_nodes.now in
+    let v = live_of a.figures.now a.cursors.now a.sure.now a.never.now a.node_queue.now a.row_queues.now a.rings in
+    let u = live_of w.figures w.cursors w.sure w.never w.node_queue w.row_queues w.so_far.rings in
+    let last = handing_end h a.links.now a.row load.result links-start.result links_end.result v w.at w.so_far.step u w.invariant.0 c.loop-test.false in (
       λ x z y. last x z
-          ∙ prefixes-held x h a.links.now y a.row s.pre.0.2 links-start.result links_end.result links-start.ensures.0 links_end.ensures.0 v load.result
+          ∙ prefixes_held x h a.links.now y a.row s.pre.0.2 links-start.result links_end.result links-start.ensures.0 links_end.ensures.0 v load.result
           load.ensures,
       w.invariant.2,
     )

@@ -1,8 +1,8 @@
 -- `build` meets its contract: its buffers are cleared, and a job that stopped at its seal is built into them.
 use Rattle.memory.specs.Buffers.{held_rows, Built, built}
 use Rattle.numeric.specs.Threshold.{Job}
-use Rattle.job.specs.Gathered.{jobIn}
-use Rattle.build.specs.ClearedLaws.{build-room, builds-rows, builds-none}
+use Rattle.job.specs.Gathered.{job_in}
+use Rattle.build.specs.ClearedLaws.{build_room, builds_rows, builds_none}
 use borrow.Author.Rules.{rules}
 use Rattle.build.proofs.build.Statement.{statement}
 use Rattle.build.proofs.build.Tie as tie
@@ -27,12 +27,12 @@ build-of p = p.before.before.before.before.before.before.before.before.before.be
 abbrev given : tie.Start → Job
 given p =
     let a = p.args in
-    jobIn a.read.standing a.raw-conditions.now a.raw-weights.now a.thresholds.now a.bounds.now
+    job_in a.read.standing a.raw-conditions.now a.raw-weights.now a.thresholds.now a.bounds.now
 
 abbrev entry : tie.Start → Built
 entry p =
     let a = p.args in
-    built (held_rows a.row-conditions.now a.row-weights.now a.rows.now a.guard-bounds.now a.guard-nodes.now) a.nodes.now a.edges.now a.links.now
+    built (held_rows a.row-conditions.now a.row-weights.now a.rows.now a.guard_bounds.now a.guard_nodes.now) a.nodes.now a.edges.now a.links.now
 
 abbrev cleared : tie.After-clear-built → Built
 cleared p =
@@ -48,7 +48,7 @@ build-job-requires : tie.Need-build-job-requires
 build-job-requires c κs =
     let after-clear = clear-built-of-then1 (then1-of c) in
     let start = start_of after-clear in
-    let r = build-room (entry start) (cleared after-clear) start.pre.1 start.pre.2 after-clear.clear-built.ensures in
+    let r = build_room (entry start) (cleared after-clear) start.pre.1 start.pre.2 after-clear.clear-built.ensures in
     (start.pre.0, r.0, r.1)
 
 returns : tie.Need-returns
@@ -58,7 +58,7 @@ returns c =
     let after-clear = clear-built-of-then1 then1 in
     let start = start_of after-clear in
     let e = after-build.build-job.ensures in
-    let h = builds-rows (given start) start.args.read.sealing (entry start) (cleared after-clear) (after after-build) after-build.build-job.result then1.if1.taken
+    let h = builds_rows (given start) start.args.read.sealing (entry start) (cleared after-clear) (after after-build) after-build.build-job.result then1.if1.taken
     after-clear.clear-built.ensures e.0 e.1 in
     h
 
@@ -66,7 +66,7 @@ returns-2 : tie.Need-returns-2
 returns-2 c =
     let after-clear = clear-built-of c in
     let start = start_of after-clear in
-    let h = builds-none (given start) start.args.read.sealing (entry start) (cleared after-clear) c.if1.false after-clear.clear-built.ensures in
+    let h = builds_none (given start) start.args.read.sealing (entry start) (cleared after-clear) c.if1.false after-clear.clear-built.ensures in
     h
 
 pub build-spec : {M : Type 1} → statement M

@@ -4,9 +4,9 @@ use mathlib.Core.Path.{sym}
 use lib.Seq.{length-take-le}
 use Rattle.memory.specs.Buffers.{Built, held_rows, built}
 use Rattle.numeric.specs.Threshold.{Job}
-use Rattle.job.specs.Gathered.{jobIn}
-use Rattle.build.specs.SoundLaws.{roomy-links}
-use Rattle.build.specs.BuiltLaws.{rows_inside, linkable, zeros-spare, all-built}
+use Rattle.job.specs.Gathered.{job_in}
+use Rattle.build.specs.SoundLaws.{roomy_links}
+use Rattle.build.specs.BuiltLaws.{rows_inside, linkable, zeros_spare, all_built}
 use borrow.Author.Rules.{rules}
 use Rattle.build.proofs.build_job.Statement.{statement}
 use Rattle.build.proofs.build_job.Tie as tie
@@ -21,13 +21,13 @@ build-rows-of p = p.before.before.before.before.before.before.before.before.befo
 
 -- The buffers at the start, and the job.
 abbrev lent : tie.Start → Built
-lent s = let g = s.args in built (held_rows g.row-conditions.now g.row-weights.now g.rows.now g.guard-bounds.now g.guard-nodes.now) g.nodes.now g.edges.now g.links.now
+lent s = let g = s.args in built (held_rows g.row-conditions.now g.row-weights.now g.rows.now g.guard_bounds.now g.guard_nodes.now) g.nodes.now g.edges.now g.links.now
 
 abbrev job_of : tie.Start → Job
-job_of s = let g = s.args in jobIn g.standing g.raw-conditions.now g.raw-weights.now g.thresholds.now g.bounds.now
+job_of s = let g = s.args in job_in g.standing g.raw-conditions.now g.raw-weights.now g.thresholds.now g.bounds.now
 
 build-rows-requires : tie.Need-build-rows-requires
-build-rows-requires c κs = let s = start_of c in (s.pre.0, roomy-links (lent s) [] s.pre.1, zeros-spare)
+build-rows-requires c κs = let s = start_of c in (s.pre.0, roomy_links (lent s) [] s.pre.1, zeros_spare)
 
 slice-aggregate-prepare : tie.Need-slice-aggregate-prepare
 slice-aggregate-prepare c =
@@ -49,7 +49,7 @@ returns c =
     let d = build-rows-of q.before.before.before.before in
     let s = start_of d.before in
     let e = d.build-rows.ensures in
-    (e.0, all-built (job_of s) d.build-rows.result (lent s) _ s.pre.1 e.0 e.1 e.2 _ _ q.prepare.ensures)
+    (e.0, all_built (job_of s) d.build-rows.result (lent s) _ s.pre.1 e.0 e.1 e.2 _ _ q.prepare.ensures)
 
 pub build-job-spec : {M : Type 1} → statement M
 build-job-spec =

@@ -1,9 +1,9 @@
 -- `run` meets its contract: the test of all lengths, then what the three phases leave, one behind the other.
 use mathlib.Core.Path.{◌≡◌}
 use mathlib.Core.Bool.{true}
-use Rattle.memory.specs.Buffers.{rawLists, raw, held_rows, Built, built, Kept, kept, Work, work, fits}
-use Rattle.memory.specs.LengthsLaws.{fits-sized}
-use Rattle.call.specs.RunLaws.{raw-room, built-room, links-room, long, whole-none, serve-asks, whole-all}
+use Rattle.memory.specs.Buffers.{raw_lists, raw, held_rows, Built, built, Kept, kept, Work, work, fits}
+use Rattle.memory.specs.LengthsLaws.{fits_sized}
+use Rattle.call.specs.RunLaws.{raw_room, built_room, links_room, long, whole-none, serve_asks, whole_all}
 use Rattle.call.proofs.run.Statement.{statement}
 use Rattle.call.proofs.run.Tie as tie
 
@@ -40,9 +40,9 @@ serve-of p = p.before.before.before.before.before.before.before.before.before.be
 abbrev entry : tie.Start → Work
 entry p =
     let a = p.args in
-    work (raw (rawLists a.raw-conditions.now a.raw-weights.now a.thresholds.now) a.bounds.now)
-    (built (held_rows a.row-conditions.now a.row-weights.now a.rows.now a.guard-bounds.now a.guard-nodes.now) a.nodes.now a.edges.now a.links.now)
-    (kept a.figures.now a.cursors.now a.sure.now a.never.now a.search.now a.gcds.now a.node-queue.now a.row-queues.now a.answers.now)
+    work (raw (raw_lists a.raw-conditions.now a.raw-weights.now a.thresholds.now) a.bounds.now)
+    (built (held_rows a.row-conditions.now a.row-weights.now a.rows.now a.guard_bounds.now a.guard_nodes.now) a.nodes.now a.edges.now a.links.now)
+    (kept a.figures.now a.cursors.now a.sure.now a.never.now a.search.now a.gcds.now a.node_queue.now a.row_queues.now a.answers.now)
 
 abbrev builds : tie.After-build → Built
 builds p =
@@ -74,7 +74,7 @@ read-requires c κs =
     let x = start.args.input.now in
     let w = entry start in
     let y = fitting else1 in
-    raw-room w (fits-sized x w y)
+    raw_room w (fits_sized x w y)
 
 build-requires : tie.Need-build-requires
 build-requires c κs =
@@ -84,8 +84,8 @@ build-requires c κs =
     let x = start.args.input.now in
     let w = entry start in
     let y = fitting else1 in
-    let s = fits-sized x w y in
-    (after_read.read.ensures.held.gathered, built-room w s, links-room w s)
+    let s = fits_sized x w y in
+    (after_read.read.ensures.held.gathered, built_room w s, links_room w s)
 
 serve-requires : tie.Need-serve-requires
 serve-requires c κs =
@@ -97,7 +97,7 @@ serve-requires c κs =
     let w = entry start in
     let y = fitting else1 in
     let l = after_read.read.last.1 in
-    let h = serve-asks x w y after_read.read.result l.0 l.1.0 l.1.1.0 l.1.1.1.0 after_read.read.ensures (builds after-build) after-build.build.result
+    let h = serve_asks x w y after_read.read.result l.0 l.1.0 l.1.1.0 l.1.1.1.0 after_read.read.ensures (builds after-build) after-build.build.result
     after-build.build.ensures in
     h
 
@@ -175,7 +175,7 @@ returns-2 c =
     let w = entry start in
     let y = fitting else1 in
     let l = after_read.read.last.1 in
-    let h = whole-all x w y after_read.read.result l.0 l.1.0 l.1.1.0 l.1.1.1.0 after_read.read.ensures (builds after-build) after-build.build.result
+    let h = whole_all x w y after_read.read.result l.0 l.1.0 l.1.1.0 l.1.1.1.0 after_read.read.ensures (builds after-build) after-build.build.result
     after-build.build.ensures (keeps after-serve) after-serve.serve.result after-serve.serve.ensures in
     h
 

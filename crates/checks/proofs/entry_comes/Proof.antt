@@ -1,7 +1,7 @@
 -- `checks::entry_comes` meets its contract: kind, body, then the number that would refuse it.
 use borrow.Author.Tests.{eqb-true}
 use Rattle.base.specs.TestLaws.{unequal}
-use Rattle.checks.specs.CheckLaws.{either-kind, entry_next}
+use Rattle.checks.specs.CheckLaws.{either_kind, entry_next}
 use borrow.Author.Rules.{rules}
 use Rattle.checks.proofs.entry_comes.Statement.{statement}
 use Rattle.checks.proofs.entry_comes.Tie as tie
@@ -34,7 +34,7 @@ returns-3 c e =
     let a = s.args in
     let u = c.before.u16-at in
     let n = c.term-refusal in
-    entry_next a.standing a.input.now a.at (either-kind _ at-kind.if1.false) s.requires c.before.before.if2.false u.result n.result u.ensures n.ensures
+    entry_next a.standing a.input.now a.at (either_kind _ at-kind.if1.false) s.requires c.before.before.if2.false u.result n.result u.ensures n.ensures
     (eqb-true n.result 0 e)
 
 pub entry-comes-spec : {M : Type 1} → statement M

@@ -3,8 +3,8 @@ use mathlib.Core.Path.{◌≡◌, ap, ◌∙◌}
 use lib.IntN.{ℤ}
 use mir.Syntax.{w64}
 use mir.Val.{to_z, of_z}
-use Rattle.checks.specs.Checks.{badBound, first}
-use Rattle.checks.specs.CheckLaws.{opens-number, seal-number, refused_as}
+use Rattle.checks.specs.Checks.{bad_bound, first}
+use Rattle.checks.specs.CheckLaws.{opens_number, seal_number, refused_as}
 use borrow.Author.Rules.{rules}
 use Rattle.checks.proofs.refusal.Statement.{statement}
 use Rattle.checks.proofs.refusal.Tie as tie
@@ -25,8 +25,8 @@ returns-2 c =
     let z = e.0.1.0 in
     let same : to_z w64 (of_z w64 z) ≡ z = search rules in
     refused_as s c.first-number.result e.1
-    (opens-number s c.first-number.result e.0.0 z _ _ _ c.before.before.before.before.not-building.ensures c.before.before.before.not-rising.ensures
-    (c.before.before.bad-bound.ensures ∙ ap (λ (y : ℤ). badBound y) same) c.first-number.ensures)
+    (opens_number s c.first-number.result e.0.0 z _ _ _ c.before.before.before.before.not-building.ensures c.before.before.before.not-rising.ensures
+    (c.before.before.bad-bound.ensures ∙ ap (λ (y : ℤ). bad_bound y) same) c.first-number.ensures)
 
 returns-3 : tie.Need-returns-3
 unfolding first
@@ -39,7 +39,7 @@ returns-4 c = refused_as c.before.before.before.before.args.standing c.term-refu
 returns-5 : tie.Need-returns-5
 returns-5 c =
     let s = c.before.before.before.before.args.standing in
-    refused_as s c.plain-refusal2.result c.before.before.enum_told.given.1 (seal-number s c.plain-refusal2.result _ c.before.not-building2.ensures c.plain-refusal2.ensures)
+    refused_as s c.plain-refusal2.result c.before.before.enum_told.given.1 (seal_number s c.plain-refusal2.result _ c.before.not-building2.ensures c.plain-refusal2.ensures)
 
 returns-6 : tie.Need-returns-6
 unfolding first

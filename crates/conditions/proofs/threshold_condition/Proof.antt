@@ -6,20 +6,20 @@ use lib.ListN.{length}
 use Rattle.memory.specs.Buffers.{held_rows}
 use Rattle.row_moves.specs.NumbersLaws.{same_self}
 use Rattle.row_moves.specs.Numbers.{live_of, Tidy, Same}
-use Rattle.conditions.specs.DrainingLaws.{Draining, edges-of, draining-first, draining-ready, draining-next, draining-stop, draining-end, condition-held}
+use Rattle.conditions.specs.DrainingLaws.{Draining, edges_of_lem, draining_first, draining_ready, draining_next, draining_stop, draining_end, condition_held}
 use borrow.Author.Rules.{rules}
 use Rattle.conditions.proofs.threshold_condition.Statement.{statement}
 use Rattle.conditions.proofs.threshold_condition.Tie as tie
 
 abbrev invariant-loop : tie.invariant-loop
-invariant-loop row-conditions row-weights rows guard-bounds guard-nodes nodes edges figures₀ cursors₀ sure₀ never₀ node-queue₀ row-queues₀ node value end at₀ so-far₀ figures cursors sure never node-queue row-queues at so_far =
-    Draining (held_rows row-conditions row-weights rows guard-bounds guard-nodes) edges value at₀ end (live_of figures₀ cursors₀ sure₀ never₀ node-queue₀ row-queues₀ so-far₀.rings)
-    at so_far.step (live_of figures cursors sure never node-queue row-queues so_far.rings)
-    × Same figures₀ cursors₀ sure₀ never₀ node-queue₀ row-queues₀ figures cursors sure never node-queue row-queues
+invariant-loop row-conditions row-weights rows guard_bounds guard_nodes nodes edges figures₀ cursors₀ sure₀ never₀ node-queue₀ row-queues₀ node value end at₀ so-far₀ figures cursors sure never node_queue row_queues at so_far =
+    Draining (held_rows row-conditions row-weights rows guard_bounds guard_nodes) edges value at₀ end (live_of figures₀ cursors₀ sure₀ never₀ node-queue₀ row-queues₀ so-far₀.rings)
+    at so_far.step (live_of figures cursors sure never node_queue row_queues so_far.rings)
+    × Same figures₀ cursors₀ sure₀ never₀ node-queue₀ row-queues₀ figures cursors sure never node_queue row_queues
     × (Tidy figures₀ cursors₀ → Tidy figures cursors)
 
 abbrev decreases-loop : tie.decreases-loop
-decreases-loop row-conditions row-weights rows guard-bounds guard-nodes nodes edges figures₀ cursors₀ sure₀ never₀ node-queue₀ row-queues₀ node value end at₀ so-far₀ figures cursors sure never node-queue row-queues at so_far =
+decreases-loop row-conditions row-weights rows guard_bounds guard_nodes nodes edges figures₀ cursors₀ sure₀ never₀ node-queue₀ row-queues₀ node value end at₀ so-far₀ figures cursors sure never node_queue row_queues at so_far =
     end - at
 
 -- Ways back to earlier places.
@@ -54,16 +54,16 @@ edges-start-requires c κs = omega (arith, (start_of c.before.before).pre.0.2)
 loop-holds : tie.Need-loop-init invariant-loop decreases-loop
 loop-holds c =
     let edges-start = c.edges-start in
-    let edges-end = c.before.edges-end in
+    let edges_end = c.before.edges_end in
     let bit = c.before.before.bit in
     let s = start_of c.before.before.before in
     let a = s.args in
     let p = s.pre in
-    let h = held_rows a.row-conditions.now a.row-weights.now a.rows.now a.guard-bounds.now a.guard-nodes.now in
-    let v = live_of a.figures.now a.cursors.now a.sure.now a.never.now a.node-queue.now a.row-queues.now a.rings in
-    let own = edges-of h a.nodes.now a.edges.now p.0.1 a.node p.0.2 edges-start.result edges-end.result edges-start.ensures.0 edges-end.ensures.0 in (
-      draining-first h a.edges.now bit.result edges-start.result edges-end.result v own p.1,
-      same_self a.figures.now a.cursors.now a.sure.now a.never.now a.node-queue.now a.row-queues.now,
+    let h = held_rows a.row-conditions.now a.row-weights.now a.rows.now a.guard_bounds.now a.guard_nodes.now in
+    let v = live_of a.figures.now a.cursors.now a.sure.now a.never.now a.node_queue.now a.row_queues.now a.rings in
+    let own = edges_of_lem h a.nodes.now a.edges.now p.0.1 a.node p.0.2 edges-start.result edges_end.result edges-start.ensures.0 edges_end.ensures.0 in (
+      draining_first h a.edges.now bit.result edges-start.result edges_end.result v own p.1,
+      same_self a.figures.now a.cursors.now a.sure.now a.never.now a.node_queue.now a.row_queues.now,
       λ t. t,
     )
 
@@ -85,19 +85,19 @@ drain-edge-requires c κs =
     let w = at-edge-weight.before.before.before.loop in
     let at-edges-start = at-edge-weight.before.before.before.before in
     let edges-start = at-edges-start.edges-start in
-    let edges-end = at-edges-start.before.edges-end in
+    let edges_end = at-edges-start.before.edges_end in
     let bit = at-edges-start.before.before.bit in
     let s = start_of at-edges-start.before.before.before in
     let a = s.args in
-    let h = held_rows a.row-conditions.now a.row-weights.now a.rows.now a.guard-bounds.now a.guard-nodes.now in
-    let v = live_of a.figures.now a.cursors.now a.sure.now a.never.now a.node-queue.now a.row-queues.now a.rings in
-    let u = live_of w.figures w.cursors w.sure w.never w.node-queue w.row-queues w.so_far.rings in
+    let h = held_rows a.row-conditions.now a.row-weights.now a.rows.now a.guard_bounds.now a.guard_nodes.now in
+    let v = live_of a.figures.now a.cursors.now a.sure.now a.never.now a.node_queue.now a.row_queues.now a.rings in
+    let u = live_of w.figures w.cursors w.sure w.never w.node_queue w.row_queues w.so_far.rings in
     let l = w.inv.0 in
     let k = test.taken in
     let row = l.own.rows w.at edge_row.result l.above k edge_row.ensures in
     let light = l.own.light w.at edge-weight.result l.above k edge-weight.ensures in (
       (s.pre.0.0, row, light),
-      draining-ready h a.edges.now bit.result edges-start.result edges-end.result v w.at w.so_far.step u l k,
+      draining_ready h a.edges.now bit.result edges-start.result edges_end.result v w.at w.so_far.step u l k,
     )
 
 same_length : tie.Need-same-length invariant-loop decreases-loop
@@ -133,14 +133,14 @@ same-length-5 c =
     let at-drain-edge = drain-edge-of c.before in
     let drain-edge = at-drain-edge.drain-edge in
     let w = (loop-of at-drain-edge).loop in
-    ◌∙◌ {b = length w.node-queue} drain-edge.kept.1.1.1.1.1.1.1.1.1.0 w.inv.1.node-queue
+    ◌∙◌ {b = length w.node_queue} drain-edge.kept.1.1.1.1.1.1.1.1.1.0 w.inv.1.node_queue
 
 same-length-6 : tie.Need-same-length-6 invariant-loop decreases-loop
 same-length-6 c =
     let at-drain-edge = drain-edge-of c.before in
     let drain-edge = at-drain-edge.drain-edge in
     let w = (loop-of at-drain-edge).loop in
-    ◌∙◌ {b = length w.row-queues} drain-edge.kept.1.1.1.1.1.1.1.1.1.1.0 w.inv.1.row-queues
+    ◌∙◌ {b = length w.row_queues} drain-edge.kept.1.1.1.1.1.1.1.1.1.1.0 w.inv.1.row_queues
 
 returns : tie.Need-returns invariant-loop decreases-loop
 returns c =
@@ -153,21 +153,21 @@ returns c =
     let w = at-edge-weight.before.before.before.loop in
     let at-edges-start = at-edge-weight.before.before.before.before in
     let edges-start = at-edges-start.edges-start in
-    let edges-end = at-edges-start.before.edges-end in
+    let edges_end = at-edges-start.before.edges_end in
     let bit = at-edges-start.before.before.bit in
     let s = start_of at-edges-start.before.before.before in
     let a = s.args in
     let p = s.pre in
-    let h = held_rows a.row-conditions.now a.row-weights.now a.rows.now a.guard-bounds.now a.guard-nodes.now in
-    let v = live_of a.figures.now a.cursors.now a.sure.now a.never.now a.node-queue.now a.row-queues.now a.rings in
-    let u = live_of w.figures w.cursors w.sure w.never w.node-queue w.row-queues w.so_far.rings in
+    let h = held_rows a.row-conditions.now a.row-weights.now a.rows.now a.guard_bounds.now a.guard_nodes.now in
+    let v = live_of a.figures.now a.cursors.now a.sure.now a.never.now a.node_queue.now a.row_queues.now a.rings in
+    let u = live_of w.figures w.cursors w.sure w.never w.node_queue w.row_queues w.so_far.rings in
     let m = drain-edge.last.1.1.1.1.1 in
     let o = live_of m.0 m.1.0 m.1.1.0 m.1.1.1.0 m.1.1.1.1.0 m.1.1.1.1.1.0 drain-edge.result.rings in
-    let stop = draining-stop h a.edges.now bit.result edges-start.result edges-end.result v w.at w.so_far.step u w.inv.0
+    let stop = draining_stop h a.edges.now bit.result edges-start.result edges_end.result v w.at w.so_far.step u w.inv.0
     p.0.0 test.taken edge_row.result edge-weight.result edge_row.ensures edge-weight.ensures
     o drain-edge.result.step drain-edge.ensures.0 (sym c.before.contradicts.ensures ∙ c.if1.true) in (
       λ x z y. stop x z
-          ∙ condition-held x a.nodes.now a.edges.now y a.node p.0.2 edges-start.result edges-end.result edges-start.ensures.0 edges-end.ensures.0 v bit.result bit.ensures,
+          ∙ condition_held x a.nodes.now a.edges.now y a.node p.0.2 edges-start.result edges_end.result edges-start.ensures.0 edges_end.ensures.0 v bit.result bit.ensures,
       λ t. drain-edge.ensures.1 (w.inv.2 t),
     )
 
@@ -175,8 +175,8 @@ add_at : tie.Need-overflow-add-at invariant-loop decreases-loop
 add_at c =
     let at-loop-test = in-loop-of c in
     let test = at-loop-test.loop-test in
-    let edges-end = at-loop-test.before.before.before.edges-end in
-    omega (arith, test.taken, edges-end.ensures.1)
+    let edges_end = at-loop-test.before.before.before.edges_end in
+    omega (arith, test.taken, edges_end.ensures.1)
 
 loop-less : tie.Need-loop-smaller invariant-loop decreases-loop
 loop-less c = omega (arith, (in-loop-of c).loop-test.true)
@@ -195,18 +195,18 @@ loop-again c =
     let w = at-edge-weight.before.before.before.loop in
     let at-edges-start = at-edge-weight.before.before.before.before in
     let edges-start = at-edges-start.edges-start in
-    let edges-end = at-edges-start.before.edges-end in
+    let edges_end = at-edges-start.before.edges_end in
     let bit = at-edges-start.before.before.bit in
     let s = start_of at-edges-start.before.before.before in
     let a = s.args in
-    let h = held_rows a.row-conditions.now a.row-weights.now a.rows.now a.guard-bounds.now a.guard-nodes.now in
-    let v = live_of a.figures.now a.cursors.now a.sure.now a.never.now a.node-queue.now a.row-queues.now a.rings in
-    let u = live_of w.figures w.cursors w.sure w.never w.node-queue w.row-queues w.so_far.rings in
+    let h = held_rows a.row-conditions.now a.row-weights.now a.rows.now a.guard_bounds.now a.guard_nodes.now in
+    let v = live_of a.figures.now a.cursors.now a.sure.now a.never.now a.node_queue.now a.row_queues.now a.rings in
+    let u = live_of w.figures w.cursors w.sure w.never w.node_queue w.row_queues w.so_far.rings in
     let m = drain-edge.last.1.1.1.1.1 in
     let o = live_of m.0 m.1.0 m.1.1.0 m.1.1.1.0 m.1.1.1.1.0 m.1.1.1.1.1.0 drain-edge.result.rings in
     let g = drain-edge.kept.1.1.1.1.1 in
     let same = w.inv.1 in
-    let next = draining-next h a.edges.now bit.result edges-start.result edges-end.result v w.at w.so_far.step u w.inv.0
+    let next = draining_next h a.edges.now bit.result edges-start.result edges_end.result v w.at w.so_far.step u w.inv.0
     s.pre.0.0 test.taken edge_row.result edge-weight.result edge_row.ensures edge-weight.ensures
     o drain-edge.result.step drain-edge.ensures.0 (sym contradicts.ensures ∙ if1.false) join.result join.ensures in (
       next,
@@ -215,8 +215,8 @@ loop-again c =
         cursors = ◌∙◌ {b = length w.cursors} g.1.0 same.cursors;
         sure = ◌∙◌ {b = length w.sure} g.1.1.0 same.sure;
         never = ◌∙◌ {b = length w.never} g.1.1.1.0 same.never;
-        node-queue = ◌∙◌ {b = length w.node-queue} g.1.1.1.1.0 same.node-queue;
-        row-queues = ◌∙◌ {b = length w.row-queues} g.1.1.1.1.1.0 same.row-queues;
+        node_queue = ◌∙◌ {b = length w.node_queue} g.1.1.1.1.0 same.node_queue;
+        row_queues = ◌∙◌ {b = length w.row_queues} g.1.1.1.1.1.0 same.row_queues;
       },
       λ t. drain-edge.ensures.1 (w.inv.2 t),
     )
@@ -234,26 +234,26 @@ same-length-10 : tie.Need-same-length-10 invariant-loop decreases-loop
 same-length-10 c = c.before.loop.invariant.1.never
 
 same-length-11 : tie.Need-same-length-11 invariant-loop decreases-loop
-same-length-11 c = c.before.loop.invariant.1.node-queue
+same-length-11 c = c.before.loop.invariant.1.node_queue
 
 same-length-12 : tie.Need-same-length-12 invariant-loop decreases-loop
-same-length-12 c = c.before.loop.invariant.1.row-queues
+same-length-12 c = c.before.loop.invariant.1.row_queues
 
 returns-2 : tie.Need-returns-2 invariant-loop decreases-loop
 returns-2 c =
     let w = c.before.loop in
     let edges-start = c.before.before.edges-start in
-    let edges-end = c.before.before.before.edges-end in
+    let edges_end = c.before.before.before.edges_end in
     let at-bit = c.before.before.before.before in
     let bit = at-bit.bit in
     let s = start_of at-bit.before in
     let a = s.args in
-    let h = held_rows a.row-conditions.now a.row-weights.now a.rows.now a.guard-bounds.now a.guard-nodes.now in
-    let v = live_of a.figures.now a.cursors.now a.sure.now a.never.now a.node-queue.now a.row-queues.now a.rings in
-    let u = live_of w.figures w.cursors w.sure w.never w.node-queue w.row-queues w.so_far.rings in
-    let last = draining-end h a.edges.now bit.result edges-start.result edges-end.result v w.at w.so_far.step u w.invariant.0 c.loop-test.false in (
+    let h = held_rows a.row-conditions.now a.row-weights.now a.rows.now a.guard_bounds.now a.guard_nodes.now in
+    let v = live_of a.figures.now a.cursors.now a.sure.now a.never.now a.node_queue.now a.row_queues.now a.rings in
+    let u = live_of w.figures w.cursors w.sure w.never w.node_queue w.row_queues w.so_far.rings in
+    let last = draining_end h a.edges.now bit.result edges-start.result edges_end.result v w.at w.so_far.step u w.invariant.0 c.loop-test.false in (
       λ x z y. last x z
-          ∙ condition-held x a.nodes.now a.edges.now y a.node s.pre.0.2 edges-start.result edges-end.result edges-start.ensures.0 edges-end.ensures.0 v bit.result bit.ensures,
+          ∙ condition_held x a.nodes.now a.edges.now y a.node s.pre.0.2 edges-start.result edges_end.result edges-start.ensures.0 edges_end.ensures.0 v bit.result bit.ensures,
       w.invariant.2,
     )
 

@@ -4,7 +4,7 @@ use mathlib.Core.Path.{◌≡◌, sym, ap, ◌∙◌}
 use mathlib.Core.List.{[]}
 use lib.ListN.{get_or}
 use borrow.Author.Rules.{rules}
-use Rattle.divisors.specs.TableLaws.{last-place}
+use Rattle.divisors.specs.TableLaws.{last_place}
 use Rattle.divisors.proofs.in_group.Statement.{statement}
 use Rattle.divisors.proofs.in_group.Tie as tie
 
@@ -15,7 +15,7 @@ named : (p : tie.Start) (k : ℕ) → p.args.row ≡ k → read p k ≡ read p p
 named p k e = ap (read p) (sym e)
 
 last : (c : tie.After-in-row8) → let p = c.before.before.before in p.args.row ≡ 7
-last c = let p = c.before.before.before in last-place p.args.row p.requires.0 c.before.before.match.rest
+last c = let p = c.before.before.before in last_place p.args.row p.requires.0 c.before.before.match.rest
 
 pub in-group-spec : {M : Type 1} → statement M
 in-group-spec =

@@ -4,7 +4,7 @@ use mathlib.Core.Path.{◌≡◌, sym, ap, ◌∙◌}
 use mathlib.Core.List.{[]}
 use lib.ListN.{get_or}
 use borrow.Author.Rules.{rules}
-use Rattle.divisors.specs.TableLaws.{group-below, last-place}
+use Rattle.divisors.specs.TableLaws.{group_below, last_place}
 use Rattle.divisors.proofs.in_table.Statement.{statement}
 use Rattle.divisors.proofs.in_table.Tie as tie
 
@@ -15,7 +15,7 @@ named : (p : tie.Start) (k : ℕ) → p.args.left / 8 ≡ k → read p k ≡ rea
 named p k e = ap (read p) (sym e)
 
 last : (c : tie.After-in-group8) → let p = c.before.before.before in p.args.left / 8 ≡ 7
-last c = let p = c.before.before.before in last-place (p.args.left / 8) (group-below p.args.left p.requires.0) c.before.before.match.rest
+last c = let p = c.before.before.before in last_place (p.args.left / 8) (group_below p.args.left p.requires.0) c.before.before.match.rest
 
 pub in-table-spec : {M : Type 1} → statement M
 in-table-spec =

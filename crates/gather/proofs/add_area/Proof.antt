@@ -2,7 +2,7 @@
 use mathlib.Core.Path.{refl}
 use native.Mathlib.Omega.{arith}
 use Rattle.job.specs.Gathered.{first, more}
-use Rattle.gather.specs.JoinLaws.{area-open, area-named}
+use Rattle.gather.specs.JoinLaws.{area_open, area_named}
 use borrow.Author.Rules.{rules}
 use Rattle.gather.proofs.add_area.Statement.{statement}
 use Rattle.gather.proofs.add_area.Tie as tie
@@ -15,13 +15,13 @@ sub-start-of : tie.Need-overflow-sub-start-of
 sub-start-of c =
     let s = c.before.before.before.before.before.before in
     let g = s.args in
-    omega (arith, area-open g.standing g.condition g.area g.raw-conditions.now g.raw-weights.now g.thresholds.now g.places.now g.sums.now s.requires.0 s.requires.1 s.requires.2 s.requires.4)
+    omega (arith, area_open g.standing g.condition g.area g.raw-conditions.now g.raw-weights.now g.thresholds.now g.places.now g.sums.now s.requires.0 s.requires.1 s.requires.2 s.requires.4)
 
 slice-read-place : tie.Need-slice-read-place
 slice-read-place c =
     let s = start_of c in
     let g = s.args in
-    area-named g.standing g.condition g.area g.raw-conditions.now g.raw-weights.now g.thresholds.now g.places.now g.sums.now s.pre.0 s.pre.1 s.pre.2 s.pre.4
+    area_named g.standing g.condition g.area g.raw-conditions.now g.raw-weights.now g.thresholds.now g.places.now g.sums.now s.pre.0 s.pre.1 s.pre.2 s.pre.4
 
 more-area-requires : tie.Need-more-area-requires
 more-area-requires c κs =
@@ -30,7 +30,7 @@ more-area-requires c κs =
     (s.pre.0, s.pre.1, s.pre.2, s.pre.3, s.pre.4, omega (arith, d.before.before.before.start_of.ensures, d.before.place.ensures.0, d.if1.true))
 
 returns : tie.Need-returns
-returns c = more c.before.before.before.before.more-area.ensures refl refl refl
+returns c = more c.before.before.before.before.more_area.ensures refl refl refl
 
 first-area-requires : tie.Need-first-area-requires
 first-area-requires c κs =

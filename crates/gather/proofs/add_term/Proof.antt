@@ -4,9 +4,9 @@ use mathlib.Core.List.{List}
 use Prim.Native.Nat.{ℕ, ◌+◌}
 use native.Mathlib.Omega.{arith}
 use lib.ListN.{set}
-use Rattle.job.specs.Taken.{addedTo}
+use Rattle.job.specs.Taken.{added_to}
 use Rattle.job.specs.Gathered.{Added}
-use Rattle.gather.specs.TakenLaws.{term-room, term-open, counts-left, added}
+use Rattle.gather.specs.TakenLaws.{term_room, term_open, counts-left, added}
 use borrow.Author.Rules.{rules}
 use Rattle.gather.proofs.add_term.Statement.{statement}
 use Rattle.gather.proofs.add_term.Tie as tie
@@ -15,19 +15,19 @@ slice-write-raw-conditions : tie.Need-slice-write-raw-conditions
 slice-write-raw-conditions c =
     let s = c.before.before in
     let g = s.args in
-    omega (arith, term-room g.standing g.condition g.weight g.raw-conditions.now g.raw-weights.now g.thresholds.now s.requires.0 s.requires.1 s.requires.3, s.requires.1.conditions)
+    omega (arith, term_room g.standing g.condition g.weight g.raw-conditions.now g.raw-weights.now g.thresholds.now s.requires.0 s.requires.1 s.requires.3, s.requires.1.conditions)
 
 slice-write-raw-weights : tie.Need-slice-write-raw-weights
 slice-write-raw-weights c =
     let s = c.before.before in
     let g = s.args in
-    omega (arith, term-room g.standing g.condition g.weight g.raw-conditions.now g.raw-weights.now g.thresholds.now s.requires.0 s.requires.1 s.requires.3, s.requires.1.weights)
+    omega (arith, term_room g.standing g.condition g.weight g.raw-conditions.now g.raw-weights.now g.thresholds.now s.requires.0 s.requires.1 s.requires.3, s.requires.1.weights)
 
 sub-set-end : tie.Need-overflow-sub-set-end
 sub-set-end c =
     let s = c.before.before.before in
     let g = s.args in
-    let e = term-open g.standing g.condition g.weight g.raw-conditions.now g.raw-weights.now g.thresholds.now s.requires.0 s.requires.1 s.requires.3 in
+    let e = term_open g.standing g.condition g.weight g.raw-conditions.now g.raw-weights.now g.thresholds.now s.requires.0 s.requires.1 s.requires.3 in
     omega (arith, e)
 
 add-t9 : tie.Need-overflow-add-t9
@@ -52,7 +52,7 @@ returns c =
     let g = s.args in
     let at = g.standing.raw_terms in
     subst
-    (λ (l : List (List ℕ)). Added g.standing g.condition g.weight g.raw-conditions.now g.raw-weights.now g.thresholds.now (addedTo g.standing (at + 1)) (set g.raw-conditions.now at g.condition) (set g.raw-weights.now at g.weight) l)
+    (λ (l : List (List ℕ)). Added g.standing g.condition g.weight g.raw-conditions.now g.raw-weights.now g.thresholds.now (added_to g.standing (at + 1)) (set g.raw-conditions.now at g.condition) (set g.raw-weights.now at g.weight) l)
     (sym c.before.before.before.set-end.ensures) (added g.standing g.condition g.weight g.raw-conditions.now g.raw-weights.now g.thresholds.now s.pre.0 s.pre.1 s.pre.3 s.pre.2)
 
 pub add-term-spec : {M : Type 1} → statement M

@@ -6,18 +6,18 @@ use lib.ListN.{set}
 use lib.IntN.{ℤ}
 use mir.Syntax.{w64}
 use mir.Val.{to_z, of_z}
-use Rattle.job.specs.Taken.{openedBy}
+use Rattle.job.specs.Taken.{opened_by}
 use Rattle.job.specs.Gathered.{Opened}
-use Rattle.gather.specs.TakenLaws.{open-room, opened}
+use Rattle.gather.specs.TakenLaws.{open_room, opened}
 use borrow.Author.Rules.{rules}
 use Rattle.gather.proofs.open_threshold.Statement.{statement}
 use Rattle.gather.proofs.open_threshold.Tie as tie
 
 slice-set-from-entry : tie.Need-slice-set-from-entry
-slice-set-from-entry c = let g = c.args in omega (arith, open-room g.standing g.node g.bound g.thresholds.now g.bounds.now c.requires.0 c.requires.1 c.requires.2, c.requires.0.room)
+slice-set-from-entry c = let g = c.args in omega (arith, open_room g.standing g.node g.bound g.thresholds.now g.bounds.now c.requires.0 c.requires.1 c.requires.2, c.requires.0.room)
 
 slice-set-from-bound : tie.Need-slice-set-from-bound
-slice-set-from-bound c = let g = c.args in omega (arith, open-room g.standing g.node g.bound g.thresholds.now g.bounds.now c.requires.0 c.requires.1 c.requires.2, c.requires.1.room)
+slice-set-from-bound c = let g = c.args in omega (arith, open_room g.standing g.node g.bound g.thresholds.now g.bounds.now c.requires.0 c.requires.1 c.requires.2, c.requires.1.room)
 
 returns : tie.Need-returns
 returns c =
@@ -25,7 +25,7 @@ returns c =
     let same : to_z w64 (of_z w64 g.bound) ≡ g.bound = search rules in
     let at = g.standing.thresholds in
     subst
-    (λ (z : ℤ). Opened g.standing g.node g.bound g.thresholds.now g.bounds.now (openedBy g.standing g.node) (set g.thresholds.now at (g.node ∷ g.standing.raw_terms ∷ [])) (set g.bounds.now at z))
+    (λ (z : ℤ). Opened g.standing g.node g.bound g.thresholds.now g.bounds.now (opened_by g.standing g.node) (set g.thresholds.now at (g.node ∷ g.standing.raw_terms ∷ [])) (set g.bounds.now at z))
     (sym same) (opened g.standing g.node g.bound g.thresholds.now g.bounds.now c.requires.0 c.requires.1 c.requires.2)
 
 pub open-threshold-spec : {M : Type 1} → statement M

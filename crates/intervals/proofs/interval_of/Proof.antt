@@ -18,7 +18,7 @@ returns c =
     let hk : to_z w64 (of_z w64 s.known) ≡ s.known = search rules in
     let hp : to_z w64 (of_z w64 s.possible) ≡ s.possible = search rules in
     let n = simp hl at c.before.before.before.before.before.before.natural.ensures in
-    let u = (to-limit-of c).limit-of.ensures in
+    let u = (to-limit-of c).limit_of.ensures in
     simp (
       c.minus2.ensures,
       c.before.minus.ensures,

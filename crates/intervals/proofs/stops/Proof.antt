@@ -3,7 +3,7 @@ use Prim.Native.Nat.{ℕ}
 use mathlib.Core.Path.{sym, ap, ◌∙◌}
 use mathlib.Core.Bool.{not}
 use Rattle.misses.specs.Misses.{misses}
-use Rattle.intervals.specs.CheckLaws.{stops_first, stops-one, stops_same, stops-new}
+use Rattle.intervals.specs.CheckLaws.{stops_first, stops_one, stops_same, stops_new}
 use borrow.Author.Rules.{rules}
 use Rattle.intervals.proofs.stops.Statement.{statement}
 use Rattle.intervals.proofs.stops.Tie as tie
@@ -16,7 +16,7 @@ returns c =
 returns-2 : tie.Need-returns-2
 returns-2 c =
     let g = c.before.before.before.args in
-    sym (stops-one g.i g.divisor g.weight g.next (sym c.before.before.first-fits.ensures ∙ c.before.if1.false) c.if2.true)
+    sym (stops_one g.i g.divisor g.weight g.next (sym c.before.before.first-fits.ensures ∙ c.before.if1.false) c.if2.true)
 
 returns-3 : tie.Need-returns-3
 returns-3 c =
@@ -31,7 +31,7 @@ returns-4 c =
     let g = b.before.before.before.before.args in
     ap not (c.misses.ensures ∙ ap (λ (x : ℕ). misses g.i.known g.i.lower x g.next) c.before.smaller.ensures)
     ∙ sym
-    (stops-new g.i g.divisor g.weight g.next (sym b.before.before.before.first-fits.ensures ∙ b.before.before.if1.false)
+    (stops_new g.i g.divisor g.weight g.next (sym b.before.before.before.first-fits.ensures ∙ b.before.before.if1.false)
     b.before.if2.false b.if3.false)
 
 pub stops-spec : {M : Type 1} → statement M

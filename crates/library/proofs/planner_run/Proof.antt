@@ -1,6 +1,6 @@
 -- `planner_run` meets its contract: what the call leaves, its last step by its number.
 use borrow.Author.Rules.{rules}
-use Rattle.memory.specs.Buffers.{rawLists, raw, held_rows, built, kept, Work, work}
+use Rattle.memory.specs.Buffers.{raw_lists, raw, held_rows, built, kept, Work, work}
 use Rattle.files.specs.Contents.{whole}
 use Rattle.library.specs.LibraryLaws.{exports}
 use Rattle.library.proofs.planner_run.Statement.{statement}
@@ -19,16 +19,16 @@ start_of p = p.before.before.before.before.before.before.before.before.before.be
 abbrev entry : tie.Start → Work
 entry p =
     let a = p.args in
-    work (raw (rawLists a.raw-conditions.now a.raw-weights.now a.thresholds.now) a.bounds.now)
-    (built (held_rows a.row-conditions.now a.row-weights.now a.rows.now a.guard-bounds.now a.guard-nodes.now) a.nodes.now a.edges.now a.links.now)
-    (kept a.figures.now a.cursors.now a.sure.now a.never.now a.search.now a.gcds.now a.node-queue.now a.row-queues.now a.answers.now)
+    work (raw (raw_lists a.raw-conditions.now a.raw-weights.now a.thresholds.now) a.bounds.now)
+    (built (held_rows a.row-conditions.now a.row-weights.now a.rows.now a.guard_bounds.now a.guard_nodes.now) a.nodes.now a.edges.now a.links.now)
+    (kept a.figures.now a.cursors.now a.sure.now a.never.now a.search.now a.gcds.now a.node_queue.now a.row_queues.now a.answers.now)
 
 abbrev after : tie.After-run → Work
 after p =
     let l = p.run.new.1 in
     let b = l.1.1.1.1 in
     let k = b.1.1.1.1.1.1.1.1 in
-    work (raw (rawLists l.0 l.1.0 l.1.1.0) l.1.1.1.0)
+    work (raw (raw_lists l.0 l.1.0 l.1.1.0) l.1.1.1.0)
     (built (held_rows b.0 b.1.0 b.1.1.0 b.1.1.1.0 b.1.1.1.1.0) b.1.1.1.1.1.0 b.1.1.1.1.1.1.0 b.1.1.1.1.1.1.1.0)
     (kept k.0 k.1.0 k.1.1.0 k.1.1.1.0 k.1.1.1.1.0 k.1.1.1.1.1.0 k.1.1.1.1.1.1.0 k.1.1.1.1.1.1.1.0 k.1.1.1.1.1.1.1.1.0)
 

@@ -6,8 +6,8 @@ use lib.ListN.{length, length-take}
 use borrow.Author.Rules.{rules}
 use Rattle.files.specs.Listing.{text}
 use Rattle.text.specs.Decimal.{decimal}
-use Rattle.text.specs.TextLaws.{wrote_as, wrote_then, wrote-both}
-use Rattle.listing.specs.Lines.{endLine}
+use Rattle.text.specs.TextLaws.{wrote_as, wrote_then, wrote_both}
+use Rattle.listing.specs.Lines.{end_line}
 use Rattle.listing.specs.LinesLaws.{counted}
 use Rattle.listing.proofs.end_line.Statement.{statement}
 use Rattle.listing.proofs.end_line.Tie as tie
@@ -33,7 +33,7 @@ count-requires-2 c κs =
     omega (arith, length-take 64 s.args.never.now)
 
 returns : tie.Need-returns
-unfolding endLine text
+unfolding end_line text
 returns c =
     let at-put = c.before.before in
     let at-labelled2 = at-put.before.before.before.before.before in
@@ -44,8 +44,8 @@ returns c =
     let h : s.args.at ≤ length s.args.out.now = omega arith in
     let a = at_count.count.ensures ∙ counted s.args.sure.now s.requires.1 in
     let b = at-count2.count2.ensures ∙ counted s.args.never.now s.requires.2 in
-    wrote_as (omega arith) (ap₂ endLine a b)
-    (wrote_then h (wrote-both (text " ") (decimal at-count2.count2.result) h at-labelled.labelled.ensures at-labelled2.labelled2.ensures) at-put.put.ensures)
+    wrote_as (omega arith) (ap₂ end_line a b)
+    (wrote_then h (wrote_both (text " ") (decimal at-count2.count2.result) h at-labelled.labelled.ensures at-labelled2.labelled2.ensures) at-put.put.ensures)
 
 pub end-line-spec : {M : Type 1} → statement M
 end-line-spec =

@@ -5,8 +5,8 @@ use native.Mathlib.Omega.{arith}
 use lib.ListN.{length}
 use borrow.Author.Rules.{rules}
 use Rattle.files.specs.Listing.{text}
-use Rattle.text.specs.Decimal.{decimalZ}
-use Rattle.text.specs.TextLaws.{wrote-same, wrote_then}
+use Rattle.text.specs.Decimal.{decimal_z}
+use Rattle.text.specs.TextLaws.{wrote_same, wrote_then}
 use Rattle.text.specs.NumberLaws.{held}
 use Rattle.listing.proofs.figure.Statement.{statement}
 use Rattle.listing.proofs.figure.Tie as tie
@@ -19,7 +19,7 @@ returns c =
     let s = at-signed.before.before.before in
     let h : s.args.at ≤ length s.args.out.now = omega arith in
     let e : held s.args.z ≡ s.args.z = search rules in
-    wrote_then h (wrote-same (ap decimalZ e) at-signed.signed.ensures) at-put.put.ensures
+    wrote_then h (wrote_same (ap decimal_z e) at-signed.signed.ensures) at-put.put.ensures
 
 pub figure-spec : {M : Type 1} → statement M
 figure-spec =

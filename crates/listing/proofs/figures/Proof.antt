@@ -7,8 +7,8 @@ use lib.ListN.{length}
 use lib.IntN.{ℤ}
 use borrow.Author.Rules.{rules}
 use Rattle.files.specs.Listing.{text}
-use Rattle.text.specs.Decimal.{decimalZ}
-use Rattle.text.specs.TextLaws.{wrote-same, wrote_then, wrote-both}
+use Rattle.text.specs.Decimal.{decimal_z}
+use Rattle.text.specs.TextLaws.{wrote_same, wrote_then, wrote_both}
 use Rattle.text.specs.NumberLaws.{held}
 use Rattle.listing.proofs.figures.Statement.{statement}
 use Rattle.listing.proofs.figures.Tie as tie
@@ -26,9 +26,9 @@ returns c =
     let x = s.args.state in
     let k = as-held s in
     let h : s.args.at ≤ length s.args.out.now = omega arith in
-    let a = wrote-same (ap (λ (z : ℤ). decimalZ z ++ text " ") k.0) at-figure.figure.ensures in
-    let b = wrote-both (decimalZ x.possible) (text " ") h a (wrote-same (ap (λ (z : ℤ). decimalZ z ++ text " ") k.1) at-figure2.figure2.ensures) in
-    let d = wrote-both (decimalZ x.lower) (text " ") h b (wrote-same (ap (λ (z : ℤ). decimalZ z ++ text " ") k.2) at-figure3.figure3.ensures) in
+    let a = wrote_same (ap (λ (z : ℤ). decimal_z z ++ text " ") k.0) at-figure.figure.ensures in
+    let b = wrote_both (decimal_z x.possible) (text " ") h a (wrote_same (ap (λ (z : ℤ). decimal_z z ++ text " ") k.1) at-figure2.figure2.ensures) in
+    let d = wrote_both (decimal_z x.lower) (text " ") h b (wrote_same (ap (λ (z : ℤ). decimal_z z ++ text " ") k.2) at-figure3.figure3.ensures) in
     wrote_then h d at-upper.upper.ensures
 
 pub figures-spec : {M : Type 1} → statement M

@@ -2,8 +2,8 @@
 use mathlib.Core.Path.{sym}
 use native.Mathlib.Omega.{arith}
 use borrow.Author.Rules.{rules}
-use Rattle.text.specs.TextLaws.{wrote-same}
-use Rattle.listing.specs.LinesLaws.{last_end, last-refused}
+use Rattle.text.specs.TextLaws.{wrote_same}
+use Rattle.listing.specs.LinesLaws.{last_end, last_refused}
 use Rattle.listing.proofs.last_line.Statement.{statement}
 use Rattle.listing.proofs.last_line.Tie as tie
 
@@ -19,14 +19,14 @@ returns c =
     let at-end-line = c.before.before in
     let at-if1 = at-end-line.before.before in
     let s = at-if1.before.before.before.before in
-    wrote-same (sym (last_end s.args.given s.args.sure.now s.args.never.now at-if1.if1.true)) at-end-line.end_line.ensures
+    wrote_same (sym (last_end s.args.given s.args.sure.now s.args.never.now at-if1.if1.true)) at-end-line.end_line.ensures
 
 returns-2 : tie.Need-returns-2
 returns-2 c =
     let at-refused-line = c.before.before in
     let at-if1 = at-refused-line.before.before in
     let s = at-if1.before.before.before.before in
-    wrote-same (sym (last-refused s.args.given s.args.sure.now s.args.never.now at-if1.if1.false)) at-refused-line.refused-line.ensures
+    wrote_same (sym (last_refused s.args.given s.args.sure.now s.args.never.now at-if1.if1.false)) at-refused-line.refused-line.ensures
 
 pub last-line-spec : {M : Type 1} → statement M
 last-line-spec =

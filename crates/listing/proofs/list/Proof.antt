@@ -43,19 +43,19 @@ use denote.Triple.Spec.{Meets, triple_of}
 use denote.Triple.Table.{entered, cited}
 use denote.Triple.Walked.{says, needs, Stays, walk_of, Walks, ends_at, walked, walk_Meets}
 use Rattle.states.specs.Pairs.{◌▹◌}
-use Rattle.states.specs.AgainLaws.{LentAgain, lends-at, back_at}
-use Rattle.states.specs.LocalsLaws.{alloc_all, free-under}
-use Rattle.states.specs.SaidLaws.{saids, goes-saids}
+use Rattle.states.specs.AgainLaws.{LentAgain, lends_at, back_at}
+use Rattle.states.specs.LocalsLaws.{alloc_all, free_under}
+use Rattle.states.specs.SaidLaws.{saids, goes_saids}
 use Rattle.state.specs.declared.State.{State}
 use Rattle.state.specs.contracts.State as T
 use Rattle.files.specs.declared.Given.{Given as Answer}
 use Rattle.files.specs.contracts.Given as G
 use Rattle.files.proofs.Given.TheLaws as G'
-use Rattle.files.specs.Listing.{maxListing}
+use Rattle.files.specs.Listing.{max_listing}
 use Rattle.text.specs.Text.{Wrote, joined}
-use Rattle.listing.specs.Lines.{maxRowLine, maxLastLine, maxFront, row_at, frontText, rowCount, lastText, Listable}
+use Rattle.listing.specs.Lines.{max_row_line, max_last_line, max_front, row_at, front_text, row_count_of, last_text, Listable}
 use Rattle.listing.specs.Shows.{Listed}
-use Rattle.listing.specs.ListLaws.{front-room, rows-room, last-room, list_all}
+use Rattle.listing.specs.ListLaws.{front_room, rows_room, last_room, list_all}
 use Rattle.listing.specs.contracts.front_lines as front'
 use Rattle.listing.proofs.front_lines.Symbol as front-def
 use Rattle.listing.proofs.front_lines.Symbol.{name as #listing·front-lines}
@@ -103,7 +103,7 @@ at κs a = (shr_slice_vals a.0) ▹ (LL.vals G.the_type G'.the_laws a.1.0) ▹ (
 
 module _ {M : Type 1} {𝓤 : Ura M} (𝓛 : Logic 𝓤) (at_mem : Memory → SProp 𝓤) (run : Routine → Fun 𝓤) (κs : Lfts 5) (qs : Shares 5) (a : Args f.signature κs)
     (are : Are (types_at (f.signature).params κs) (Ises (types_at (f.signature).params κs)) a (at κs a)) (pre : Listable a.1.0 a.1.1.0.now a.1.1.1.0.now a.1.1.1.1.0.now
-    a.1.1.1.1.1.0.now × (maxListing ≤ length a.0.now)) where
+    a.1.1.1.1.1.0.now × (max_listing ≤ length a.0.now)) where
   open 𝓛 use {H, A}
 
   abbrev x-out : Bor (List ℕ)
@@ -158,10 +158,10 @@ module _ {M : Type 1} {𝓤 : Ura M} (𝓛 : Logic 𝓤) (at_mem : Memory → SP
   given = a.1.0
 
   abbrev Front-said : List ℕ → ℕ → Type 0
-  Front-said l n = Wrote maxFront x-out.now l 0 n (frontText given x-answers.now x-sure.now x-never.now)
+  Front-said l n = Wrote max_front x-out.now l 0 n (front_text given x-answers.now x-sure.now x-never.now)
 
   abbrev Rows-said : List ℕ → List ℕ → ℕ → ℕ → ℕ → Type 0
-  Rows-said l k n m c = Wrote (maxRowLine * c) l k n m (joined (row_at x-states.now) c)
+  Rows-said l k n m c = Wrote (max_row_line * c) l k n m (joined (row_at x-states.now) c)
 
   -- what each callee's triple binds outside, and that the caller has what it asks
   abbrev to_front : (α : ℕ) (δ : GName) → (Front 𝓛 at_mem run).Ghost
@@ -182,7 +182,7 @@ module _ {M : Type 1} {𝓤 : Ura M} (𝓛 : Logic 𝓤) (at_mem : Memory → SP
   goes-front α δ =
       qed 𝓛 (‵ (flft (α ∷ []) full_share) ∷ ‵ (flft κs.1.0 qs.1.0) ∷ ‵ (flft κs.1.1.1.0 qs.1.1.1.0) ∷ ‵ (flft κs.1.1.1.1.0 qs.1.1.1.1.0) ∷ ‵ (own_out (α ∷ []) δ
       x-out.now) ∷ ‵ (own-answers κs.1.0 x-answers.ghost_name x-answers.now) ∷ ‵ (own-sure κs.1.1.1.0 x-sure.ghost_name x-sure.now) ∷ ‵ (own-never κs.1.1.1.1.0 x-never.name
-      x-never.now) ∷ []) ∵ says ! (front-room pre.0 x-out.now pre.1) $
+      x-never.now) ∷ []) ∵ says ! (front_room pre.0 x-out.now pre.1) $
       nothing ! $
       move ! (4 ∷ 0 ∷ []) $
       join ! $
@@ -229,11 +229,11 @@ module _ {M : Type 1} {𝓤 : Ura M} (𝓛 : Logic 𝓤) (at_mem : Memory → SP
     tt,
   )
 
-  goes-rows : (β : ℕ) (ε : GName) (l : List ℕ) (n₁ : ℕ) (n : ℕ) (s₁ : n₁ < 2 ^ 64) (s₂ : n < 2 ^ 64) (same : length l ≡ length x-out.now) (e₁ : Front-said l n₁) (e₂ : n ≡ rowCount given) → ent 𝓤
+  goes-rows : (β : ℕ) (ε : GName) (l : List ℕ) (n₁ : ℕ) (n : ℕ) (s₁ : n₁ < 2 ^ 64) (s₂ : n < 2 ^ 64) (same : length l ≡ length x-out.now) (e₁ : Front-said l n₁) (e₂ : n ≡ row_count_of given) → ent 𝓤
       (sep 𝓤 (A.lft (β ∷ []) full_share) (sep 𝓤 (A.lft κs.1.1.0 qs.1.1.0) (sep 𝓤 (sem 𝓛 (own_out (β ∷ []) ε l)) (sem 𝓛 (own-states κs.1.1.0 x-states.name
       x-states.now))))) ((Rows 𝓛 at_mem run).pre (to-rows β ε l n₁ n))
   goes-rows β ε l n₁ n s₁ s₂ same e₁ e₂ =
-      qed 𝓛 (‵ (flft (β ∷ []) full_share) ∷ ‵ (flft κs.1.1.0 qs.1.1.0) ∷ ‵ (own_out (β ∷ []) ε l) ∷ ‵ (own-states κs.1.1.0 x-states.ghost_name x-states.now) ∷ []) ∵ says ! (rows-room
+      qed 𝓛 (‵ (flft (β ∷ []) full_share) ∷ ‵ (flft κs.1.1.0 qs.1.1.0) ∷ ‵ (own_out (β ∷ []) ε l) ∷ ‵ (own-states κs.1.1.0 x-states.ghost_name x-states.now) ∷ []) ∵ says ! (rows_room
       pre.0 x-out.now pre.1 n same e₁ e₂) $
       nothing ! $
       move ! (2 ∷ 0 ∷ []) $
@@ -262,13 +262,13 @@ module _ {M : Type 1} {𝓤 : Ura M} (𝓛 : Logic 𝓤) (at_mem : Memory → SP
     tt,
   )
 
-  goes_last : (l : List ℕ) (n₃ : ℕ) (l₁ : List ℕ) (n₁ : ℕ) (n : ℕ) (s : n₃ < 2 ^ 64) (same : length l ≡ length x-out.now) (e₁ : Front-said l₁ n₁) (e₂ : n ≡ rowCount given) (e₃ : Rows-said l₁ l n₁
+  goes_last : (l : List ℕ) (n₃ : ℕ) (l₁ : List ℕ) (n₁ : ℕ) (n : ℕ) (s : n₃ < 2 ^ 64) (same : length l ≡ length x-out.now) (e₁ : Front-said l₁ n₁) (e₂ : n ≡ row_count_of given) (e₃ : Rows-said l₁ l n₁
       n₃ n) → ent 𝓤 (sep 𝓤 (A.lft κs.0 qs.0) (sep 𝓤 (A.lft κs.1.1.1.0 qs.1.1.1.0) (sep 𝓤 (A.lft κs.1.1.1.1.0 qs.1.1.1.1.0) (sep 𝓤 (sem 𝓛 (own_out κs.0
       x-out.name l)) (sep 𝓤 (sem 𝓛 (own-sure κs.1.1.1.0 x-sure.ghost_name x-sure.now)) (sem 𝓛 (own-never κs.1.1.1.1.0 x-never.ghost_name x-never.now))))))) ((Last 𝓛 at_mem
       run).pre (to_last l n₃))
   goes_last l n₃ l₁ n₁ n s same e₁ e₂ e₃ =
       qed 𝓛 (‵ (flft κs.0 qs.0) ∷ ‵ (flft κs.1.1.1.0 qs.1.1.1.0) ∷ ‵ (flft κs.1.1.1.1.0 qs.1.1.1.1.0) ∷ ‵ (own_out κs.0 x-out.name l) ∷ ‵ (own-sure
-      κs.1.1.1.0 x-sure.ghost_name x-sure.now) ∷ ‵ (own-never κs.1.1.1.1.0 x-never.ghost_name x-never.now) ∷ []) ∵ says ! (last-room pre.0 x-out.now pre.1 n same e₁ e₂ e₃) $
+      κs.1.1.1.0 x-sure.ghost_name x-sure.now) ∷ ‵ (own-never κs.1.1.1.1.0 x-never.ghost_name x-never.now) ∷ []) ∵ says ! (last_room pre.0 x-out.now pre.1 n same e₁ e₂ e₃) $
       nothing ! $
       move ! (3 ∷ 0 ∷ []) $
       join ! $
@@ -343,7 +343,7 @@ module _ {M : Type 1} {𝓤 : Ura M} (𝓛 : Logic 𝓤) (at_mem : Memory → SP
         lft_new ! tt (λ α.
         move ! (7 ∷ 12 ∷ []) $
         use2 𝓛 (later (some (λ (δ : GName). ‵ (own_out (α ∷ []) δ x-out.now) ⊛ ‵ (LentAgain u8 κs.0 (α ∷ []) qs.0 x-out.ghost_name x-out.ref_ptr.0 x-out.ref_ptr.1 δ x-out.now))))
-        (lends-at u8 κs.0 (α ∷ []) qs.0 x-out.ghost_name x-out.ref_ptr.0 x-out.ref_ptr.1 𝓛 (named 0) (named 0) x-out.now (length x-out.now) (refl)) $ await ! tt $ pick ! (λ δ. split ! $
+        (lends_at u8 κs.0 (α ∷ []) qs.0 x-out.ghost_name x-out.ref_ptr.0 x-out.ref_ptr.1 𝓛 (named 0) (named 0) x-out.now (length x-out.now) (refl)) $ await ! tt $ pick ! (λ δ. split ! $
         move ! (2 ∷ 12 ∷ 10 ∷ 9 ∷ 0 ∷ 8 ∷ 5 ∷ 3 ∷ []) $
         group ! 8 $ use1 𝓛 (raw ((Front 𝓛 at_mem run).pre (to_front α δ))) (goes-front α δ) $
         calls_at ! fm (Front 𝓛 at_mem run) known-front (to_front α δ) (and_then ! (load ! (from ! (stop !)) (look ! 17 refl)) (and_then ! (load ! (from ! (stop !)) (look ! 8 refl)) (and_then !
@@ -376,9 +376,9 @@ module _ {M : Type 1} {𝓤 : Ura M} (𝓛 : Logic 𝓤) (at_mem : Memory → SP
         calls_at ! fm (Count 𝓛 at_mem run) known-count to-count (and_then ! (load ! (from ! (stop !)) (look ! 12 refl)) (no_more !)) (λ v₂.
         use1 𝓛 (later (some (λ (n : ℕ). (‵ ftrue ⊛ ‵ (usize.own_val n (v₂ ∷ []))) ⊛ raw (ensured 𝓛 count'.ended (count'.clauses 𝓛 at_mem run) to-count.0.0 to-count.0.3 tt n)))) (id⊢ 𝓤 _)
         $ await ! tt $ pick ! (λ n.
-        split ! $ move ! (1 ∷ []) $ use1 𝓛 (some (λ (zs₂ : Unit {0} × Unit {0}). ‵ (lasts count'.ended to-count.0.0 to-count.0.3 zs₂) ⊛ raw (fact 𝓤 (n ≡ rowCount given)))) (id⊢ 𝓤 _) $ pick !
+        split ! $ move ! (1 ∷ []) $ use1 𝓛 (some (λ (zs₂ : Unit {0} × Unit {0}). ‵ (lasts count'.ended to-count.0.0 to-count.0.3 zs₂) ⊛ raw (fact 𝓤 (n ≡ row_count_of given)))) (id⊢ 𝓤 _) $ pick !
         (λ zs₂.
-        split ! $ move ! (1 ∷ []) $ heard ! (n ≡ rowCount given) (λ e₂. move ! (1 ∷ []) $ split ! $
+        split ! $ move ! (1 ∷ []) $ heard ! (n ≡ row_count_of given) (λ e₂. move ! (1 ∷ []) $ split ! $
         move ! (1 ∷ []) $
         peeks ! usize (Is usize) (shows 𝓛 usize) n (v₂ ∷ []) (λ is₂.
         land ! (from ! (stop !)) (init ! 20 refl ((uint_Lawful 𝓛 w64).typed n _ is₂).0) $
@@ -391,7 +391,7 @@ module _ {M : Type 1} {𝓤 : Ura M} (𝓛 : Logic 𝓤) (at_mem : Memory → SP
         lft_new ! tt (λ β.
         move ! (1 ∷ 2 ∷ []) $
         use2 𝓛 (later (some (λ (δ : GName). ‵ (own_out (β ∷ []) δ zs₁.0) ⊛ ‵ (LentAgain u8 κs.0 (β ∷ []) qs.0 x-out.name x-out.ptr.0 x-out.ptr.1 δ zs₁.0))))
-        (lends-at u8 κs.0 (β ∷ []) qs.0 x-out.ghost_name x-out.ref_ptr.0 x-out.ref_ptr.1 𝓛 (named 0) (named 0) zs₁.0 (length x-out.now) (same₁)) $ await ! tt $ pick ! (λ ε. split ! $
+        (lends_at u8 κs.0 (β ∷ []) qs.0 x-out.ghost_name x-out.ref_ptr.0 x-out.ref_ptr.1 𝓛 (named 0) (named 0) zs₁.0 (length x-out.now) (same₁)) $ await ! tt $ pick ! (λ ε. split ! $
         move ! (2 ∷ 9 ∷ 0 ∷ 8 ∷ []) $
         group ! 4 $ use1 𝓛 (raw ((Rows 𝓛 at_mem run).pre (to-rows β ε zs₁.0 n₁ n))) (goes-rows β ε zs₁.0 n₁ n is₁.1 is₂.1 same₁ e₁ e₂) $
         calls_at ! fm (Rows 𝓛 at_mem run) known-rows (to-rows β ε zs₁.0 n₁ n) (and_then ! (load ! (from ! (stop !)) (look ! 20 refl)) (and_then ! (load ! (from ! (stop !)) (look ! 14 refl))
@@ -429,8 +429,8 @@ module _ {M : Type 1} {𝓤 : Ura M} (𝓛 : Logic 𝓤) (at_mem : Memory → SP
         use1 𝓛 (later (some (λ (r : ℕ). ((‵ (flft κs.0 qs.0) ⊛ (‵ (flft κs.1.1.1.0 qs.1.1.1.0) ⊛ (‵ (flft κs.1.1.1.1.0 qs.1.1.1.1.0) ⊛ ‵ ftrue))) ⊛ ‵ (usize.own_val r (v ∷
         []))) ⊛ raw (ensured 𝓛 last'.ended (last'.clauses 𝓛 at_mem run) (to_last zs₃.0 n₃).0.0 (to_last zs₃.0 n₃).0.3 tt r)))) (id⊢ 𝓤 _) $ await ! tt $ pick ! (λ r.
         split ! $ move ! (1 ∷ []) $ use1 𝓛 (some (λ (zs : List ℕ × (Unit {0} × (Unit {0} × (Unit {0} × (Unit {0} × Unit {0}))))). ‵ (lasts last'.ended (to_last zs₃.0 n₃).0.0 (to_last zs₃.0
-        n₃).0.3 zs) ⊛ raw (fact 𝓤 (Wrote maxLastLine zs₃.0 zs.0 n₃ r (lastText given x-sure.now x-never.now))))) (id⊢ 𝓤 _) $ pick ! (λ zs.
-        split ! $ move ! (1 ∷ []) $ heard ! (Wrote maxLastLine zs₃.0 zs.0 n₃ r (lastText given x-sure.now x-never.now)) (λ e. move ! (1 ∷ []) $ split ! $
+        n₃).0.3 zs) ⊛ raw (fact 𝓤 (Wrote max_last_line zs₃.0 zs.0 n₃ r (last_text given x-sure.now x-never.now))))) (id⊢ 𝓤 _) $ pick ! (λ zs.
+        split ! $ move ! (1 ∷ []) $ heard ! (Wrote max_last_line zs₃.0 zs.0 n₃ r (last_text given x-sure.now x-never.now)) (λ e. move ! (1 ∷ []) $ split ! $
         move ! (1 ∷ []) $
         peeks ! usize (Is usize) (shows 𝓛 usize) r (v ∷ []) (λ is.
         land ! (from ! (stop !)) (init ! 5 refl ((uint_Lawful 𝓛 w64).typed r _ is).0) $
@@ -442,7 +442,7 @@ module _ {M : Type 1} {𝓤 : Ura M} (𝓛 : Logic 𝓤) (at_mem : Memory → SP
         drop ! $ drop ! $
         move ! (3 ∷ 6 ∷ 5 ∷ 2 ∷ 1 ∷ 0 ∷ 4 ∷ []) $
         group ! 7 $
-        returns ! (look ! 1 refl) $ free-under ! (code.function).locals ns ((someᴼ (v)) ▹ (someᴼ (v-out)) ▹ (someᴼ (LL.val G.the_type G'.the_laws a.1.0)) ▹ (someᴼ (v-answers)) ▹ (someᴼ
+        returns ! (look ! 1 refl) $ free_under ! (code.function).locals ns ((someᴼ (v)) ▹ (someᴼ (v-out)) ▹ (someᴼ (LL.val G.the_type G'.the_laws a.1.0)) ▹ (someᴼ (v-answers)) ▹ (someᴼ
         (v-states)) ▹ (someᴼ (v-sure)) ▹ (someᴼ (v-never)) ▹ (someᴼ (vint w64 n₁)) ▹ (someᴼ (vint w64 n)) ▹ (someᴼ (vint w64 n₃)) ▹ (someᴼ (vptr x-out.ptr.0 x-out.ptr.1)) ▹ (someᴼ (v-out)) ▹
         (someᴼ (vptr x-out.ptr.0 x-out.ptr.1)) ▹ (someᴼ (v-out)) ▹ (someᴼ (vptr x-out.ptr.0 x-out.ptr.1)) ▹ (someᴼ (v-out)) ▹ tt) $ by ! (exits r v zs.0 (same ∙ same₃ ∙ same₁)
         (list_all pre.0 n e₁ e₂ e₃ e))))))))))))))))))))))))))))))
@@ -457,11 +457,11 @@ module _ {M : Type 1} {𝓤 : Ura M} (𝓛 : Logic 𝓤) (at_mem : Memory → SP
       shr_slice_vals ▹ shr_slice_vals ▹ tt))
       (λ κs. ((mut_slice_Tells (named 0) κs.0 u8) ▹ (LL.tells G.the_type G'.the_laws) ▹ (shr_slice_Tells (named 1) κs.1.0 Pair) ▹ (shr_slice_Tells (named 2) κs.1.1.0 T.the_row) ▹
       (shr_slice_Tells (named 3) κs.1.1.1.0 u64) ▹ (shr_slice_Tells (named 4) κs.1.1.1.1.0 u64) ▹ tt))
-      (λ κs qs bounds a g are. needs 𝓤 (Listable a.1.0 a.1.1.0.now a.1.1.1.0.now a.1.1.1.1.0.now a.1.1.1.1.1.0.now × (maxListing ≤ length a.0.now)) _ (λ pre. walk
+      (λ κs qs bounds a g are. needs 𝓤 (Listable a.1.0 a.1.1.0.now a.1.1.1.0.now a.1.1.1.1.0.now a.1.1.1.1.1.0.now × (max_listing ≤ length a.0.now)) _ (λ pre. walk
       𝓛 at_mem run κs qs a are pre 𝓣.C 𝓣.Λ (fm_of 𝓤 H 𝓛.laws 𝓣) known-front known-rows known-count known-last))
 
   list-meets : Meets 𝓛 f.signature (WpFn 𝓤 H 𝓣.C 𝓣.Λ code.function) (f.spec 𝓛 at_mem run)
-  list-meets = walk_Meets 𝓛 f.ended stayed (goes-saids 𝓛 5 (f.ended).signature.params (f.ended).kept) (f.clauses 𝓛 at_mem run) (WpFn 𝓤 H 𝓣.C 𝓣.Λ code.function)
+  list-meets = walk_Meets 𝓛 f.ended stayed (goes_saids 𝓛 5 (f.ended).signature.params (f.ended).kept) (f.clauses 𝓛 at_mem run) (WpFn 𝓤 H 𝓣.C 𝓣.Λ code.function)
       (WpFn-mono 𝓤 H 𝓛.laws 𝓣 code.function) list-walks
 
 pub list-spec : {M : Type 1} → stated.statement M

@@ -4,7 +4,7 @@ use native.Mathlib.Omega.{arith}
 use borrow.Author.Rules.{rules}
 use Rattle.files.specs.Listing.{text}
 use Rattle.text.specs.TextLaws.{wrote_none, wrote_as}
-use Rattle.listing.specs.LinesLaws.{node-sure, node-never, node-none}
+use Rattle.listing.specs.LinesLaws.{node_sure, node_never, node_none}
 use Rattle.listing.proofs.node_line.Statement.{statement}
 use Rattle.listing.proofs.node_line.Tie as tie
 
@@ -15,7 +15,7 @@ returns c =
     let at-if1 = at-node.before.before.before in
     let at-bit = at-if1.before in
     let s = at-bit.before.before.before.before in
-    wrote_as (omega arith) (sym (node-sure s.args.sure.now s.args.never.now s.args.n (sym at-bit.bit.ensures ∙ at-if1.if1.true))) at-node.node.ensures
+    wrote_as (omega arith) (sym (node_sure s.args.sure.now s.args.never.now s.args.n (sym at-bit.bit.ensures ∙ at-if1.if1.true))) at-node.node.ensures
 
 returns-2 : tie.Need-returns-2
 unfolding text
@@ -26,7 +26,7 @@ returns-2 c =
     let at-if1 = at-bit2.before in
     let at-bit = at-if1.before in
     let s = at-bit.before.before.before.before in
-    wrote_as (omega arith) (sym (node-never s.args.sure.now s.args.never.now s.args.n (sym at-bit.bit.ensures ∙ at-if1.if1.false) (sym at-bit2.bit2.ensures ∙ at-if2.if2.true))) at-node2.node2.ensures
+    wrote_as (omega arith) (sym (node_never s.args.sure.now s.args.never.now s.args.n (sym at-bit.bit.ensures ∙ at-if1.if1.false) (sym at-bit2.bit2.ensures ∙ at-if2.if2.true))) at-node2.node2.ensures
 
 returns-3 : tie.Need-returns-3
 returns-3 c =
@@ -34,7 +34,7 @@ returns-3 c =
     let at-if1 = at-bit2.before in
     let at-bit = at-if1.before in
     let s = at-bit.before.before.before.before in
-    wrote_as (omega arith) (sym (node-none s.args.sure.now s.args.never.now s.args.n (sym at-bit.bit.ensures ∙ at-if1.if1.false) (sym at-bit2.bit2.ensures ∙ c.if2.false))) (wrote_none s.args.out.now s.args.at)
+    wrote_as (omega arith) (sym (node_none s.args.sure.now s.args.never.now s.args.n (sym at-bit.bit.ensures ∙ at-if1.if1.false) (sym at-bit2.bit2.ensures ∙ c.if2.false))) (wrote_none s.args.out.now s.args.at)
 
 pub node-line-spec : {M : Type 1} → statement M
 node-line-spec =

@@ -49,17 +49,17 @@ use denote.Triple.Spec.{Meets, triple_of}
 use denote.Triple.Table.{entered, cited}
 use denote.Triple.Walked.{says, needs, Stays, walk_of, Walks, ends_at, walked, walk_Meets}
 use Rattle.states.specs.Pairs.{◌▹◌}
-use Rattle.states.specs.AgainLaws.{LentAgain, lends-at, back_at}
-use Rattle.states.specs.LocalsLaws.{cells_of, diesOf, envOf, Nats, alloc_all, free-under}
-use Rattle.states.specs.SaidLaws.{saids, goes-saids, gives_up}
-use Rattle.states.specs.StepsLaws.{while-goes}
-use Rattle.state.specs.State.{noState}
+use Rattle.states.specs.AgainLaws.{LentAgain, lends_at, back_at}
+use Rattle.states.specs.LocalsLaws.{cells_of, dies_of, env_of, Nats, alloc_all, free_under}
+use Rattle.states.specs.SaidLaws.{saids, goes_saids, gives_up}
+use Rattle.states.specs.StepsLaws.{while_goes}
+use Rattle.state.specs.State.{no_state}
 use Rattle.state.specs.declared.State.{State}
 use Rattle.state.specs.contracts.State as T
 use Rattle.state.proofs.State.TheLaws as T'
 use Rattle.text.specs.Text.{Wrote, Joins}
-use Rattle.text.specs.TextLaws.{wrote-same, joins-none, joins-room, joins-next, joins-done}
-use Rattle.listing.specs.Lines.{maxRowLine, row_line, row_at}
+use Rattle.text.specs.TextLaws.{wrote_same, joins_none, joins_room, joins_next, joins_done}
+use Rattle.listing.specs.Lines.{max_row_line, row_line, row_at}
 use Rattle.listing.proofs.row_lines.Code.Mir as pieces
 use Rattle.states.specs.contracts.load as load'
 use Rattle.states.proofs.load.Symbol as load-def
@@ -92,7 +92,7 @@ abbrev rest : Body
 rest = seq (assign (place 0 []) (rv_opd (copy (place 5 [])))) return
 
 module _ {M : Type 1} {𝓤 : Ura M} (𝓛 : Logic 𝓤) (at_mem : Memory → SProp 𝓤) (run : Routine → Fun 𝓤) (κs : Lfts 2) (qs : Shares 2) (a : Args f.signature κs)
-    (are : Are (types_at (f.signature).params κs) (Ises (types_at (f.signature).params κs)) a (at κs a)) (pre : (a.1.0 + maxRowLine * a.1.1.0 ≤ length a.0.now) × (a.1.1.0 ≤ length
+    (are : Are (types_at (f.signature).params κs) (Ises (types_at (f.signature).params κs)) a (at κs a)) (pre : (a.1.0 + max_row_line * a.1.1.0 ≤ length a.0.now) × (a.1.1.0 ≤ length
     a.1.1.1.0.now)) where
   open 𝓛 use {H, A}
 
@@ -134,7 +134,7 @@ module _ {M : Type 1} {𝓤 : Ura M} (𝓛 : Logic 𝓤) (at_mem : Memory → SP
 
   -- a turn: the rows passed, the buffer, where the text ends, and that the lines of the rows passed are written
   abbrev Turn : Type 0
-  Turn = (r : ℕ) × (l : List ℕ) × (end : ℕ) × Joins maxRowLine x-out.now l at_first end (row_at ss) count r × (end < 2 ^ 64)
+  Turn = (r : ℕ) × (l : List ℕ) × (end : ℕ) × Joins max_row_line x-out.now l at_first end (row_at ss) count r × (end < 2 ^ 64)
 
   abbrev Nearer : Turn → Turn → Type 0
   Nearer s t = count - s.0 < count - t.0
@@ -145,16 +145,16 @@ module _ {M : Type 1} {𝓤 : Ura M} (𝓛 : Logic 𝓤) (at_mem : Memory → SP
   fits : (t : Turn) → t.0 < 2 ^ 64
   fits t = lt_of_le_of_lt t.3.passed are.1.1.0.1
 
-  abbrev next : (t : Turn) (r : State) (l : List ℕ) (end : ℕ) → t.0 < count → r ≡ get_or ss t.0 noState → length l ≡ length t.1 → Wrote maxRowLine t.1 l t.2 end (row_line t.0 r) → end < 2
+  abbrev next : (t : Turn) (r : State) (l : List ℕ) (end : ℕ) → t.0 < count → r ≡ get_or ss t.0 no_state → length l ≡ length t.1 → Wrote max_row_line t.1 l t.2 end (row_line t.0 r) → end < 2
       ^ 64 → Turn
   next t r l end less e same said small =
-      (t.0 + 1, l, end, joins-next (omega (arith, pre.0)) less t.3 same (wrote-same (ap (row_line t.0) e) said), small)
+      (t.0 + 1, l, end, joins_next (omega (arith, pre.0)) less t.3 same (wrote_same (ap (row_line t.0) e) said), small)
 
   exits : (t : Turn) → count ≤ t.0 → ent 𝓤 (sep 𝓤 toks-r (sep 𝓤 (sem 𝓛 rows) (sep 𝓤 (sem 𝓛 (own_out κs.0 x-out.name t.1)) (A.lft κs.0 qs.0)))) (Post (vint w64 t.2))
   exits t late =
       qed 𝓛 (raw toks-r ∷ ‵ rows ∷ ‵ (own_out κs.0 x-out.name t.1) ∷ ‵ (flft κs.0 qs.0) ∷ []) ∵
       suffices ! _ (ends_at 𝓛 f.ended stayed (f.clauses 𝓛 at_mem run) ((κs, qs, tt, a, at κs a), tt) (vint w64 t.2) t.2 (t.1, (tt, (tt, (tt, tt)))) (tt, (tt, (tt, (tt, tt))))) $ says
-      ! (joins-done late t.3) $
+      ! (joins_done late t.3) $
       move ! (1 ∷ 3 ∷ 0 ∷ []) $ drop ! $ join ! $ frame ! $
       use1 𝓛 (‵ (fsep (finally u8 x-out.ghost_name t.1) (feq ℕ (length t.1) (length x-out.now)))) (gives_up 𝓛 (named 0) κs.0 u8
       (record { ref_ptr = x-out.ref_ptr; ghost_name = x-out.ghost_name; now = t.1 }) (mut_slice_vals x-out) (length x-out.now) t.3.long) $
@@ -177,7 +177,7 @@ module _ {M : Type 1} {𝓤 : Ura M} (𝓛 : Logic 𝓤) (at_mem : Memory → SP
   goes-line : (α : ℕ) (δ : GName) (t : Turn) (r : State) (v : Val) → t.0 < count
       → ent 𝓤 (sep 𝓤 (A.lft (α ∷ []) full_share) (sep 𝓤 (sem 𝓛 (own_out (α ∷ []) δ t.1)) (sem 𝓛 ((T.the_row).own_val r (v ∷ []))))) ((Line 𝓛 at_mem run).pre (to-line α δ t r v))
   goes-line α δ t r v less =
-      qed 𝓛 (‵ (flft (α ∷ []) full_share) ∷ ‵ (own_out (α ∷ []) δ t.1) ∷ ‵ ((T.the_row).own_val r (v ∷ [])) ∷ []) ∵ says ! (joins-room pre.0 less t.3) $
+      qed 𝓛 (‵ (flft (α ∷ []) full_share) ∷ ‵ (own_out (α ∷ []) δ t.1) ∷ ‵ ((T.the_row).own_val r (v ∷ [])) ∷ []) ∵ says ! (joins_room pre.0 less t.3) $
       nothing ! $ move ! (1 ∷ 0 ∷ []) $ join ! $ frame ! $
       nothing ! $ move ! (2 ∷ 0 ∷ []) $ fjoin ! $ owned ! usize (Is usize) (uint_Makes 𝓛 w64) t.0 (vint w64 t.0 ∷ []) (refl, fits t) $ fjoin ! $
       owned ! usize (Is usize) (uint_Makes 𝓛 w64) t.2 (vint w64 t.2 ∷ []) (refl, t.4) $ fjoin ! $ move ! (1 ∷ 0 ∷ []) $ fjoin ! $ done !
@@ -185,12 +185,12 @@ module _ {M : Type 1} {𝓤 : Ura M} (𝓛 : Logic 𝓤) (at_mem : Memory → SP
   module _ (𝓣 : Tables 𝓤 H) (known-load : Triple 𝓤 (𝓣.C #states·load) (Load 𝓛 at_mem run)) (known-line : Triple 𝓤 (𝓣.C #listing·row-line) (Line 𝓛 at_mem run)) (ns : Nats
       (code.function).locals) where
     abbrev En : Env 𝓤 H
-    En = envOf 𝓤 H (code.function).locals ns
+    En = env_of 𝓤 H (code.function).locals ns
 
     abbrev At : Turn → List (Item 𝓤)
     At t = raw toks-r ∷ ‵ rows ∷ ‵ (own_out κs.0 x-out.name t.1) ∷ ‵ (flft κs.0 qs.0)
         ∷ cells_of 𝓤 H (code.function).locals ns (none ▹ (someᴼ (v-out)) ▹ (someᴼ (vint w64 a.1.0)) ▹ (someᴼ (vint w64 a.1.1.0)) ▹ (someᴼ (v-states)) ▹ (someᴼ (vint w64 t.2)) ▹ (someᴼ
-        (vint w64 t.0)) ▹ none ▹ none ▹ none ▹ none ▹ tt) (‵ (diesOf (code.function).locals ns) ∷ [])
+        (vint w64 t.0)) ▹ none ▹ none ▹ none ▹ none ▹ tt) (‵ (dies_of (code.function).locals ns) ∷ [])
 
     -- after a turn: one row further, or the loop is left and the rest runs
     abbrev Turned : Turn → Out → SProp 𝓤
@@ -200,7 +200,7 @@ module _ {M : Type 1} {𝓤 : Ura M} (𝓛 : Logic 𝓤) (at_mem : Memory → SP
     unfolding after_turn
     turns t =
         assigns ! (bin ! (load ! (from ! (stop !)) (look ! 10 refl)) (load ! (from ! (stop !)) (look ! 7 refl)) tt) (from ! (stop !)) (init ! 12 refl (tt, tt)) $
-        while-goes ! (load ! (from ! (stop !)) (look ! 12 refl)) (λ less.
+        while_goes ! (load ! (from ! (stop !)) (look ! 12 refl)) (λ less.
         move ! (1 ∷ []) $
         use1 𝓛 (‵ rows ⊛ ‵ rows) ((shr_slice_copy 𝓛 (named 1) κs.1.0 T.the_row).twice x-states (mut_slice_vals x-states)) $ split ! $
         move ! (2 ∷ 0 ∷ []) $
@@ -210,8 +210,8 @@ module _ {M : Type 1} {𝓤 : Ura M} (𝓛 : Logic 𝓤) (at_mem : Memory → SP
         use1 𝓛 (later (some (λ (r : State). (raw toks-r ⊛ ‵ ((T.the_row).own_val r (v ∷ []))) ⊛ raw (ensured 𝓛 load'.ended (load'.clauses 𝓛 at_mem run) (to-load t).0.0 (to-load t).0.3 tt
         r)))) (id⊢ 𝓤 _) $ await ! tt $ pick ! (λ r.
         split ! $ move ! (1 ∷ []) $ use1 𝓛 (some (λ (us : Unit {0} × (Unit {0} × Unit {0})). ‵ (lasts load'.ended (to-load t).0.0 (to-load t).0.3 us) ⊛ raw (fact 𝓤 (r ≡ get_or ss t.0
-        noState)))) (id⊢ 𝓤 _) $ pick ! (λ us.
-        split ! $ move ! (1 ∷ []) $ heard ! (r ≡ get_or ss t.0 noState) (λ e. move ! (1 ∷ []) $ split ! $
+        no_state)))) (id⊢ 𝓤 _) $ pick ! (λ us.
+        split ! $ move ! (1 ∷ []) $ heard ! (r ≡ get_or ss t.0 no_state) (λ e. move ! (1 ∷ []) $ split ! $
         move ! (1 ∷ []) $
         peeks ! T.the_row (Is T.the_row) (shows 𝓛 T.the_row) r (v ∷ []) (λ is.
         land ! (from ! (stop !)) (init ! 13 refl ((LL.lawful T.the_type T'.the_laws 𝓛).typed r _ is).0) $
@@ -221,7 +221,7 @@ module _ {M : Type 1} {𝓤 : Ura M} (𝓛 : Logic 𝓤) (at_mem : Memory → SP
         lft_new ! tt (λ α.
         move ! (5 ∷ 6 ∷ []) $
         use2 𝓛 (later (some (λ (δ : GName). ‵ (own_out (α ∷ []) δ t.1) ⊛ ‵ (LentAgain u8 κs.0 (α ∷ []) qs.0 x-out.name x-out.ptr.0 x-out.ptr.1 δ t.1))))
-        (lends-at u8 κs.0 (α ∷ []) qs.0 x-out.ghost_name x-out.ref_ptr.0 x-out.ref_ptr.1 𝓛 (named 0) (named 0) t.1 (length x-out.now) t.3.long) $ await ! tt $ pick ! (λ δ. split ! $
+        (lends_at u8 κs.0 (α ∷ []) qs.0 x-out.ghost_name x-out.ref_ptr.0 x-out.ref_ptr.1 𝓛 (named 0) (named 0) t.1 (length x-out.now) t.3.long) $ await ! tt $ pick ! (λ δ. split ! $
         move ! (2 ∷ 0 ∷ 3 ∷ []) $
         use3 𝓛 (raw ((Line 𝓛 at_mem run).pre (to-line α δ t r v))) (goes-line α δ t r v (ltb→lt t.0 count less)) $
         calls_at ! (fm_of 𝓤 H 𝓛.laws 𝓣) (Line 𝓛 at_mem run) known-line (to-line α δ t r v) (and_then ! (load ! (from ! (stop !)) (look ! 15 refl)) (and_then ! (load ! (from ! (stop !)) (look !
@@ -229,8 +229,8 @@ module _ {M : Type 1} {𝓤 : Ura M} (𝓛 : Logic 𝓤) (at_mem : Memory → SP
         use1 𝓛 (later (some (λ (end : ℕ). ((‵ (flft (α ∷ []) full_share) ⊛ ‵ ftrue) ⊛ ‵ (usize.own_val end (v₂ ∷ []))) ⊛ raw (ensured 𝓛 line'.ended (line'.clauses 𝓛 at_mem run) (to-line α δ t r
         v).0.0 (to-line α δ t r v).0.3 tt end)))) (id⊢ 𝓤 _) $ await ! tt $ pick ! (λ end.
         split ! $ move ! (1 ∷ []) $ use1 𝓛 (some (λ (zs : List ℕ × (Unit {0} × (Unit {0} × (Unit {0} × Unit {0})))). ‵ (lasts line'.ended (to-line α δ t r v).0.0 (to-line α δ t r v).0.3 zs) ⊛
-        raw (fact 𝓤 (Wrote maxRowLine t.1 zs.0 t.2 end (row_line t.0 r))))) (id⊢ 𝓤 _) $ pick ! (λ zs.
-        split ! $ move ! (1 ∷ []) $ heard ! (Wrote maxRowLine t.1 zs.0 t.2 end (row_line t.0 r)) (λ said. move ! (1 ∷ []) $ split ! $
+        raw (fact 𝓤 (Wrote max_row_line t.1 zs.0 t.2 end (row_line t.0 r))))) (id⊢ 𝓤 _) $ pick ! (λ zs.
+        split ! $ move ! (1 ∷ []) $ heard ! (Wrote max_row_line t.1 zs.0 t.2 end (row_line t.0 r)) (λ said. move ! (1 ∷ []) $ split ! $
         move ! (1 ∷ []) $
         peeks ! usize (Is usize) (shows 𝓛 usize) end (v₂ ∷ []) (λ isn.
         land ! (from ! (stop !)) (put ! 12 refl ((uint_Lawful 𝓛 w64).typed end _ isn).0) $
@@ -257,7 +257,7 @@ module _ {M : Type 1} {𝓤 : Ura M} (𝓛 : Logic 𝓤) (at_mem : Memory → SP
         again ! Nearer At t (next t r zs.0 end (ltb→lt t.0 count less) e same said isn.1) (add-one-dec count t.0 (ltb→lt t.0 count less))))))))))))))))
         (λ late. exec ! 𝓣.C 𝓣.Λ En rest (at_ret En Post) $ assigns ! (of_opd ! (load ! (from ! (stop !)) (look ! 9 refl))) (from ! (stop !)) (init ! 4 refl (tt, record { fits = t.4 })) $
         returns ! (look ! 4 refl) $ group ! 4 $
-        free-under ! (code.function).locals ns ((someᴼ (vint w64 t.2)) ▹ (someᴼ (v-out)) ▹ (someᴼ (vint w64 a.1.0)) ▹ (someᴼ (vint w64 a.1.1.0)) ▹ (someᴼ (v-states)) ▹ (someᴼ (vint w64
+        free_under ! (code.function).locals ns ((someᴼ (vint w64 t.2)) ▹ (someᴼ (v-out)) ▹ (someᴼ (vint w64 a.1.0)) ▹ (someᴼ (vint w64 a.1.1.0)) ▹ (someᴼ (v-states)) ▹ (someᴼ (vint w64
         t.2)) ▹ (someᴼ (vint w64 t.0)) ▹ none ▹ (someᴼ (vbool (ltb t.0 count))) ▹ none ▹ none ▹ tt) $ by ! (exits t (nltb→le t.0 count late)))
 
   walk : (𝓣 : Tables 𝓤 H) → Triple 𝓤 (𝓣.C #states·load) (Load 𝓛 at_mem run) → Triple 𝓤 (𝓣.C #listing·row-line) (Line 𝓛 at_mem run) → ent 𝓤 (on_entry 𝓛 f.signature κs qs a (at κs a)) (WpFn
@@ -276,7 +276,7 @@ module _ {M : Type 1} {𝓤 : Ura M} (𝓛 : Logic 𝓤) (at_mem : Memory → SP
       split ! $ move ! (2 ∷ []) $ fsplit ! $ move ! (1 ∷ []) $ fsplit ! $ drop ! $ fsplit ! $ drop ! $ fsplit ! $ move ! (1 ∷ []) $ drop ! $
       move ! (3 ∷ 0 ∷ 1 ∷ 2 ∷ []) $
       first ! $ blocks ! $ loops ! 𝓣 Nearer Nearer-wf (At 𝓣 known-load known-line ns) (turns 𝓣 known-load known-line ns)
-      (0, x-out.now, at_first, joins-none maxRowLine x-out.now at_first (row_at ss) count, are.1.0.1))
+      (0, x-out.now, at_first, joins_none max_row_line x-out.now at_first (row_at ss) count, are.1.0.1))
 
 module _ {M : Type 1} {𝓤 : Ura M} (𝓛 : Logic 𝓤) (at_mem : Memory → SProp 𝓤) (run : Routine → Fun 𝓤) (𝓣 : Tables 𝓤 𝓛.H) (known-load : Triple 𝓤 (𝓣.C #states·load) (Load 𝓛
     at_mem run)) (known-line : Triple 𝓤 (𝓣.C #listing·row-line) (Line 𝓛 at_mem run)) where
@@ -285,11 +285,11 @@ module _ {M : Type 1} {𝓤 : Ura M} (𝓛 : Logic 𝓤) (at_mem : Memory → SP
   row-lines-walks : Walks 𝓛 f.ended stayed (WpFn 𝓤 H 𝓣.C 𝓣.Λ code.function) (f.clauses 𝓛 at_mem run)
   row-lines-walks = walked 𝓛 f.ended stayed (f.clauses 𝓛 at_mem run) (WpFn 𝓤 H 𝓣.C 𝓣.Λ code.function) (λ κs. (shr_slice_vals ▹ (uint_vals w64) ▹ (uint_vals w64) ▹ shr_slice_vals ▹ tt))
       (λ κs. ((mut_slice_Tells (named 0) κs.0 u8) ▹ (uint_Tells w64) ▹ (uint_Tells w64) ▹ (shr_slice_Tells (named 1) κs.1.0 T.the_row) ▹ tt))
-      (λ κs qs bounds a g are. needs 𝓤 ((a.1.0 + maxRowLine * a.1.1.0 ≤ length a.0.now) × (a.1.1.0 ≤ length a.1.1.1.0.now)) _ (λ pre. walk 𝓛 at_mem run κs qs a are pre 𝓣
+      (λ κs qs bounds a g are. needs 𝓤 ((a.1.0 + max_row_line * a.1.1.0 ≤ length a.0.now) × (a.1.1.0 ≤ length a.1.1.1.0.now)) _ (λ pre. walk 𝓛 at_mem run κs qs a are pre 𝓣
       known-load known-line))
 
   row-lines-meets : Meets 𝓛 f.signature (WpFn 𝓤 H 𝓣.C 𝓣.Λ code.function) (f.spec 𝓛 at_mem run)
-  row-lines-meets = walk_Meets 𝓛 f.ended stayed (goes-saids 𝓛 2 (f.ended).signature.params (f.ended).kept) (f.clauses 𝓛 at_mem run) (WpFn 𝓤 H 𝓣.C 𝓣.Λ code.function)
+  row-lines-meets = walk_Meets 𝓛 f.ended stayed (goes_saids 𝓛 2 (f.ended).signature.params (f.ended).kept) (f.clauses 𝓛 at_mem run) (WpFn 𝓤 H 𝓣.C 𝓣.Λ code.function)
       (WpFn-mono 𝓤 H 𝓛.laws 𝓣 code.function) row-lines-walks
 
 pub row-lines-spec : {M : Type 1} → stated.statement M

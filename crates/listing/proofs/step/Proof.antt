@@ -3,7 +3,7 @@ use mathlib.Core.Path.{sym, ap}
 use Prim.Native.Nat.{ℕ}
 use native.Mathlib.Omega.{arith}
 use borrow.Author.Rules.{rules}
-use Rattle.files.specs.Listing.{text, stepWord}
+use Rattle.files.specs.Listing.{text, step_word}
 use Rattle.text.specs.TextLaws.{wrote_as}
 use Rattle.listing.specs.Lines.{step_of}
 use Rattle.listing.specs.LinesLaws.{step_other}
@@ -15,14 +15,14 @@ unfolding step_of text
 returns c =
     let at-put = c.before.before in
     let at-if1 = at-put.before.before.before in
-    wrote_as (omega arith) (ap (λ (n : ℕ). stepWord (step_of n)) (sym at-if1.if1.true)) at-put.put.ensures
+    wrote_as (omega arith) (ap (λ (n : ℕ). step_word (step_of n)) (sym at-if1.if1.true)) at-put.put.ensures
 
 returns-2 : tie.Need-returns-2
 unfolding step_of text
 returns-2 c =
     let at-put2 = c.before.before in
     let at-if2 = at-put2.before.before.before in
-    wrote_as (omega arith) (ap (λ (n : ℕ). stepWord (step_of n)) (sym at-if2.if2.true)) at-put2.put2.ensures
+    wrote_as (omega arith) (ap (λ (n : ℕ). step_word (step_of n)) (sym at-if2.if2.true)) at-put2.put2.ensures
 
 returns-3 : tie.Need-returns-3
 unfolding text
@@ -31,7 +31,7 @@ returns-3 c =
     let at-if2 = at-put3.before.before.before in
     let at-if1 = at-if2.before in
     let s = at-if1.before.before in
-    wrote_as (omega arith) (ap stepWord (sym (step_other s.args.number at-if1.if1.false at-if2.if2.false))) at-put3.put3.ensures
+    wrote_as (omega arith) (ap step_word (sym (step_other s.args.number at-if1.if1.false at-if2.if2.false))) at-put3.put3.ensures
 
 pub step_spec : {M : Type 1} → statement M
 step_spec =

@@ -2,8 +2,8 @@
 use mathlib.Core.Path.{◌≡◌, sym, ap, ◌∙◌}
 use native.Mathlib.Omega.{arith}
 use borrow.Author.Rules.{rules}
-use Rattle.files.specs.Listing.{upperText}
-use Rattle.text.specs.Decimal.{decimalZ}
+use Rattle.files.specs.Listing.{upper_text}
+use Rattle.text.specs.Decimal.{decimal_z}
 use Rattle.text.specs.TextLaws.{wrote_as}
 use Rattle.text.specs.NumberLaws.{held}
 use Rattle.listing.proofs.upper.Statement.{statement}
@@ -14,7 +14,7 @@ returns c =
     let at-put = c.before.before in
     let at-enum-told = at-put.before.before.before in
     let s = at-enum-told.before.before.before in
-    wrote_as (omega arith) (ap upperText (sym at-enum-told.enum_told.given.1)) at-put.put.ensures
+    wrote_as (omega arith) (ap upper_text (sym at-enum-told.enum_told.given.1)) at-put.put.ensures
 
 returns-2 : tie.Need-returns-2
 returns-2 c =
@@ -23,7 +23,7 @@ returns-2 c =
     let s = at-limit.before.before.before in
     let z = at-limit.limit.given.0.0 in
     let e : held z ≡ z = search rules in
-    wrote_as (omega arith) (ap decimalZ e ∙ ap upperText (sym at-limit.limit.given.1)) at-signed.signed.ensures
+    wrote_as (omega arith) (ap decimal_z e ∙ ap upper_text (sym at-limit.limit.given.1)) at-signed.signed.ensures
 
 pub upper-spec : {M : Type 1} → statement M
 upper-spec =

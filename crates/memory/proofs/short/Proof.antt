@@ -2,19 +2,19 @@
 use mathlib.Core.Path.{ap}
 use mathlib.Core.Bool.{not}
 use mathlib.Core.List.{[], ◌∷◌}
-use Rattle.memory.specs.LengthsLaws.{enoughFrom, fits-from}
+use Rattle.memory.specs.LengthsLaws.{enough_from, fits_from_lem}
 use Rattle.memory.proofs.short.Statement.{statement}
 use Rattle.memory.proofs.short.Tie as tie
 
 returns : tie.Need-returns
-unfolding enoughFrom
+unfolding enough_from
 returns c =
     let a = c.args in
     ap not
-    (fits-from
+    (fits_from_lem
     (a.raw-conditions ∷ a.raw-weights ∷ a.thresholds ∷ a.bounds
-    ∷ a.row-conditions ∷ a.row-weights ∷ a.rows ∷ a.guard-bounds ∷ a.guard-nodes ∷ a.nodes ∷ a.edges ∷ a.links
-    ∷ a.figures ∷ a.cursors ∷ a.sure ∷ a.never ∷ a.search ∷ a.gcds ∷ a.node-queue ∷ a.row-queues ∷ a.answers ∷ []) a.input)
+    ∷ a.row-conditions ∷ a.row-weights ∷ a.rows ∷ a.guard_bounds ∷ a.guard_nodes ∷ a.nodes ∷ a.edges ∷ a.links
+    ∷ a.figures ∷ a.cursors ∷ a.sure ∷ a.never ∷ a.search ∷ a.gcds ∷ a.node_queue ∷ a.row_queues ∷ a.answers ∷ []) a.input)
 
 pub short-spec : {M : Type 1} → statement M
 short-spec = tie.close (tie.spec returns)

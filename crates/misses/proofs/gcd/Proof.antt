@@ -6,7 +6,7 @@ use native.Mathlib.Nat.{mod-lt}
 use mathlib.Core.Path.{◌≡◌, refl, sym, ap, ◌∙◌}
 use borrow.Author.Rules.{rules}
 use Rattle.divisors.specs.Gcd.{gcd}
-use Rattle.divisors.specs.GcdLaws.{gcd-none, gcd-zero, gcd-step, gcd-multiple}
+use Rattle.divisors.specs.GcdLaws.{gcd-none, gcd-zero, gcd_step, gcd_multiple}
 use Rattle.misses.proofs.gcd.Statement.{statement}
 use Rattle.misses.proofs.gcd.Tie as tie
 
@@ -24,7 +24,7 @@ returns-2 c =
 returns-3 : tie.Need-returns-3 invariant-loop decreases-loop
 returns-3 c =
     let g = c.before.before.before.args in
-    sym (ap (λ (x : ℕ). gcd x g.right) c.if4.true ∙ gcd-multiple 1 g.right (omega arith))
+    sym (ap (λ (x : ℕ). gcd x g.right) c.if4.true ∙ gcd_multiple 1 g.right (omega arith))
 
 rem-if5 : tie.Need-nonzero-rem-if5 invariant-loop decreases-loop
 rem-if5 c = omega arith
@@ -32,7 +32,7 @@ rem-if5 c = omega arith
 returns-4 : tie.Need-returns-4 invariant-loop decreases-loop
 returns-4 c =
     let g = c.before.before.before.before.args in
-    sym (gcd-multiple g.left g.right c.if5.true)
+    sym (gcd_multiple g.left g.right c.if5.true)
 
 loop-holds : tie.Need-loop-init invariant-loop decreases-loop
 loop-holds c = refl
@@ -46,7 +46,7 @@ loop-less c = mod-lt c.before.loop.a (omega arith)
 loop-again : tie.Need-loop-preserved invariant-loop decreases-loop
 loop-again c =
     let w = c.before.loop in
-    sym (gcd-step w.a w.b (omega arith)) ∙ w.invariant
+    sym (gcd_step w.a w.b (omega arith)) ∙ w.invariant
 
 returns-5 : tie.Need-returns-5 invariant-loop decreases-loop
 returns-5 c =

@@ -4,7 +4,7 @@ use native.Mathlib.Omega.{arith}
 use borrow.Author.Rules.{rules}
 use Rattle.files.specs.Listing.{text}
 use Rattle.text.specs.TextLaws.{wrote_none, wrote_as}
-use Rattle.notice.specs.NoticeLaws.{left-none, left-some}
+use Rattle.notice.specs.NoticeLaws.{left-none, left_some}
 use Rattle.notice.proofs.left.Statement.{statement}
 use Rattle.notice.proofs.left.Tie as tie
 
@@ -14,7 +14,7 @@ returns c =
     let at-put = c.before.before in
     let then1 = at-put.before.before.before in
     let s = then1.before.before.before in
-    wrote_as (omega arith) (sym (left-some s.args.last (sym then1.before.contradicts.ensures ∙ then1.if1.true))) at-put.put.ensures
+    wrote_as (omega arith) (sym (left_some s.args.last (sym then1.before.contradicts.ensures ∙ then1.if1.true))) at-put.put.ensures
 
 returns-2 : tie.Need-returns-2
 returns-2 c =

@@ -5,7 +5,7 @@ use borrow.Author.Rules.{rules}
 use Rattle.files.specs.Listing.{text}
 use Rattle.text.specs.TextLaws.{wrote_as}
 use Rattle.notice.specs.Notice.{meaning}
-use Rattle.notice.specs.NoticeLaws.{meaning-other}
+use Rattle.notice.specs.NoticeLaws.{meaning_other}
 use Rattle.notice.proofs.meaning.Statement.{statement}
 use Rattle.notice.proofs.meaning.Tie as tie
 
@@ -78,7 +78,7 @@ returns-10 c =
     let at-put = c.before.before in
     let at-match = at-put.before.before.before in
     let s = at-match.before.before in
-    wrote_as (omega arith) (sym (meaning-other s.args.number at-match.match.rest)) at-put.put10.ensures
+    wrote_as (omega arith) (sym (meaning_other s.args.number at-match.match.rest)) at-put.put10.ensures
 
 pub meaning-spec : {M : Type 1} → statement M
 meaning-spec =

@@ -6,8 +6,8 @@ use native.Mathlib.Omega.{arith}
 use borrow.Author.Rules.{rules}
 use Rattle.files.specs.Listing.{text}
 use Rattle.text.specs.Decimal.{decimal}
-use Rattle.text.specs.TextLaws.{wrote_none, wrote_as, wrote_then, wrote-both}
-use Rattle.notice.specs.NoticeLaws.{refused_none, refused-some}
+use Rattle.text.specs.TextLaws.{wrote_none, wrote_as, wrote_then, wrote_both}
+use Rattle.notice.specs.NoticeLaws.{refused_none, refused_some}
 use Rattle.notice.proofs.refused.Statement.{statement}
 use Rattle.notice.proofs.refused.Tie as tie
 
@@ -27,8 +27,8 @@ returns-2 c =
     let s = else1.before.before in
     let h : s.args.at ≤ length s.args.out.now = omega arith in
     let front = wrote_then h at-put.put.ensures at-meaning.meaning.ensures in
-    let whole = wrote_then h (wrote-both (text ", at byte ") (decimal s.args.offset) h front at-labelled.labelled.ensures) at-end.put2.ensures in
-    wrote_as (omega arith) (sym (refused-some s.args.number s.args.offset else1.if1.false)) whole
+    let whole = wrote_then h (wrote_both (text ", at byte ") (decimal s.args.offset) h front at-labelled.labelled.ensures) at-end.put2.ensures in
+    wrote_as (omega arith) (sym (refused_some s.args.number s.args.offset else1.if1.false)) whole
 
 pub refused-spec : {M : Type 1} → statement M
 refused-spec =

@@ -3,8 +3,8 @@ use Prim.Native.Nat.{ℕ, ◌+◌, ◌-◌, ◌/◌, ◌<◌}
 use lib.ListN.{set}
 use mathlib.Core.Path.{◌∙◌, ap}
 use native.Mathlib.Omega.{arith}
-use Rattle.thresholds.specs.Tree.{classOf}
-use Rattle.thresholds.specs.TreeLaws.{marks-first, marks-later, heads-first, heads-later}
+use Rattle.thresholds.specs.Tree.{class_of}
+use Rattle.thresholds.specs.TreeLaws.{marks-first, marks_later, heads_first, heads_later}
 use borrow.Author.Rules.{rules}
 use Rattle.placing.proofs.link_row.Statement.{statement}
 use Rattle.placing.proofs.link_row.Tie as tie
@@ -22,7 +22,7 @@ returns : tie.Need-returns
 returns c =
     let g = c.before.before.before.before.args in
     let e = c.before.if1.true in (
-      ap (λ (h : ℕ). set g.heads.now h (g.row + 1)) c.class_of.ensures.0 ∙ heads-first g.link (classOf g.print) (g.row + 1) g.heads.now e,
+      ap (λ (h : ℕ). set g.heads.now h (g.row + 1)) c.class_of.ensures.0 ∙ heads_first g.link (class_of g.print) (g.row + 1) g.heads.now e,
       marks-first g.link (g.row + 1) g.marks.now e,
     )
 
@@ -48,8 +48,8 @@ returns-2 : tie.Need-returns-2
 returns-2 c =
     let g = (start_of c.before.before).args in
     let o = later c.before.before in (
-      heads-later g.link (classOf g.print) (g.row + 1) g.heads.now o,
-      ap (set g.marks.now (g.link / 3 - 1)) c.with-link.ensures ∙ marks-later g.link (g.row + 1) g.marks.now o,
+      heads_later g.link (class_of g.print) (g.row + 1) g.heads.now o,
+      ap (set g.marks.now (g.link / 3 - 1)) c.with-link.ensures ∙ marks_later g.link (g.row + 1) g.marks.now o,
     )
 
 pub link-row-spec : {M : Type 1} → statement M

@@ -3,10 +3,10 @@ use Prim.Native.Nat.{◌-◌, ◌≤◌}
 use native.Mathlib.Omega.{arith}
 use lib.ListN.{length}
 use Rattle.base.specs.Laid.{over}
-use Rattle.memory.specs.Buffers.{RawLists, rawLists}
-use Rattle.job.specs.Shared.{nodesTo}
-use Rattle.placing.specs.Place.{Placing, rowEnds}
-use Rattle.placing.specs.PlaceLaws.{Same, ready_by, placing-start, rows_start, nodes-start, raws-few, rows_next, nodes-next, placed_end}
+use Rattle.memory.specs.Buffers.{RawLists, raw_lists}
+use Rattle.job.specs.Shared.{nodes_to}
+use Rattle.placing.specs.Place.{Placing, row_ends}
+use Rattle.placing.specs.PlaceLaws.{Same, ready_by, placing_start, rows_start, nodes_start, raws_few, rows_next_lem, nodes_next_lem, placed_end}
 use mathlib.Core.Path.{◌≡◌, ◌∙◌, refl}
 use borrow.Author.Rules.{rules}
 use Rattle.placing.proofs.place_rows.Statement.{statement}
@@ -15,8 +15,8 @@ use Rattle.placing.proofs.place_rows.Tie as tie
 abbrev invariant-loop : tie.invariant-loop
 invariant-loop conditions weights thresholds row-conditions₀ row-weights₀ rows₀ nodes₀ scratch₀ heads₀ so₀ t₀ row-conditions row-weights rows nodes scratch heads so t =
     (t ≤ length thresholds) × (Same row-conditions₀ row-weights₀ rows₀ nodes₀ scratch₀ heads₀ row-conditions row-weights rows nodes scratch heads)
-    × (Placing (rawLists conditions weights thresholds) t so row-conditions row-weights scratch heads)
-    × (rows ≡ over (rowEnds (rawLists conditions weights thresholds) t) rows₀) × (nodes ≡ nodesTo (rawLists conditions weights thresholds) nodes₀ t)
+    × (Placing (raw_lists conditions weights thresholds) t so row-conditions row-weights scratch heads)
+    × (rows ≡ over (row_ends (raw_lists conditions weights thresholds) t) rows₀) × (nodes ≡ nodes_to (raw_lists conditions weights thresholds) nodes₀ t)
 
 abbrev decreases-loop : tie.decreases-loop
 decreases-loop conditions weights thresholds row-conditions₀ row-weights₀ rows₀ nodes₀ scratch₀ heads₀ so₀ t₀ row-conditions row-weights rows nodes scratch heads so t = length thresholds - t
@@ -34,7 +34,7 @@ place-one-of p = p.before.before.before.before.before.before.before.before.befor
 
 -- The raw lists.
 abbrev raws : tie.Start invariant-loop decreases-loop → RawLists
-raws p = rawLists p.args.raw-conditions.now p.args.raw-weights.now p.args.thresholds.now
+raws p = raw_lists p.args.raw-conditions.now p.args.raw-weights.now p.args.thresholds.now
 
 loop-holds : tie.Need-loop-init invariant-loop decreases-loop
 loop-holds c =
@@ -43,9 +43,9 @@ loop-holds c =
     let p = s.requires in (
       omega arith,
       record { row-conditions = refl; row-weights = refl; rows = refl; nodes = refl; scratch = refl; heads = refl },
-      placing-start (raws s) g.row-conditions.now g.row-weights.now g.scratch.now g.heads.now p.2 p.3 p.4 p.5 p.6,
+      placing_start (raws s) g.row-conditions.now g.row-weights.now g.scratch.now g.heads.now p.2 p.3 p.4 p.5 p.6,
       rows_start (raws s) g.rows.now,
-      nodes-start (raws s) g.nodes.now,
+      nodes_start (raws s) g.nodes.now,
     )
 
 place-one-requires : tie.Need-place-one-requires invariant-loop decreases-loop
@@ -86,7 +86,7 @@ loop-again c =
     let l = place-one.place-one.kept.1.1.1.1.1 in
     let s = place-one.place-one.ensures in
     let h = loop-test.loop-test.taken in
-    let few = raws-few r w.t in
+    let few = raws_few r w.t in
     let many = p.0.many in (
       omega arith,
       record {
@@ -98,8 +98,8 @@ loop-again c =
         heads = l.1.1.1.1.1.0 ∙ k.heads;
       },
       s.0,
-      rows_next r w.t g.rows.now w.rows _ (omega arith) w.inv.3 s.1,
-      nodes-next r w.t g.nodes.now w.nodes _ w.inv.4 s.2,
+      rows_next_lem r w.t g.rows.now w.rows _ (omega arith) w.inv.3 s.1,
+      nodes_next_lem r w.t g.nodes.now w.nodes _ w.inv.4 s.2,
     )
 
 returns : tie.Need-returns invariant-loop decreases-loop

@@ -47,24 +47,24 @@ use denote.Triple.Table.{entered, cited}
 use denote.Triple.Walked.{says, Stays, walk_of, Walks, ends_at, walked, walk_Meets}
 use borrow.Author.Tests.{ltb-false, eqb-true, eqb-false}
 use Rattle.states.specs.Pairs.{◌▹◌}
-use Rattle.states.specs.ChainLaws.{chain, chain-out, chain-in}
-use Rattle.states.specs.AgainLaws.{LentAgain, lends-at, back_at}
-use Rattle.states.specs.LocalsLaws.{alloc_all, free-under}
-use Rattle.states.specs.SaidLaws.{saids, goes-saids, gives_up, lets_go, two-go}
-use Rattle.states.specs.SharedLaws.{shares-on}
-use Rattle.states.specs.StepsLaws.{if_returns, big-lit, holds, fails}
+use Rattle.states.specs.ChainLaws.{chain, chain-out, chain_in}
+use Rattle.states.specs.AgainLaws.{LentAgain, lends_at, back_at}
+use Rattle.states.specs.LocalsLaws.{alloc_all, free_under}
+use Rattle.states.specs.SaidLaws.{saids, goes_saids, gives_up, lets_go, two_go}
+use Rattle.states.specs.SharedLaws.{shares_on}
+use Rattle.states.specs.StepsLaws.{if_returns, big_lit, holds, fails}
 use Rattle.state.specs.declared.State.{State}
 use Rattle.state.specs.contracts.State as T
-use Rattle.memory.specs.Limits.{maxThresholds}
-use Rattle.row_moves.specs.Numbers.{statesOf}
+use Rattle.memory.specs.Limits.{max_thresholds}
+use Rattle.row_moves.specs.Numbers.{states_of}
 use Rattle.files.specs.declared.Given.{Given as Answer}
 use Rattle.files.specs.contracts.Given as G
 use Rattle.files.proofs.Given.TheLaws as G'
-use Rattle.memory.specs.Buffers.{Work, rawLists, raw as rawOf, held_rows, built, kept, work}
+use Rattle.memory.specs.Buffers.{Work, raw_lists, raw as raw_of, held_rows, built, kept, work}
 use Rattle.states.specs.States.{shown}
 use Rattle.files.specs.Contents.{whole as whole_of, out, nothing as refusal}
 use Rattle.files.specs.Planner.{left, plan}
-use Rattle.planner.specs.PlannerLaws.{plan-short, plan-ten, plan-many, plan-shown}
+use Rattle.planner.specs.PlannerLaws.{plan_short, plan-ten, plan_many, plan-shown}
 use Rattle.planner.specs.contracts.too_short as short'
 use Rattle.planner.proofs.too_short.Symbol as short-def
 use Rattle.planner.proofs.too_short.Symbol.{name as #planner·too-short}
@@ -349,7 +349,7 @@ module _ {M : Type 1} {𝓤 : Ura M} (𝓛 : Logic 𝓤) (at_mem : Memory → SP
   ss = x-states.now
 
   abbrev w₀ : Work
-  w₀ = work (rawOf (rawLists x-raw-conditions.now x-raw-weights.now x-thresholds.now) x-bounds.now) (built (held_rows x-row-conditions.now x-row-weights.now x-rows.now
+  w₀ = work (raw_of (raw_lists x-raw-conditions.now x-raw-weights.now x-thresholds.now) x-bounds.now) (built (held_rows x-row-conditions.now x-row-weights.now x-rows.now
       x-guard-bounds.now x-guard-nodes.now) x-nodes.now x-edges.now x-links.now) (kept x-figures.now x-cursors.now x-sure.now x-never.now x-search.now x-gcds.now
       x-node-queue.now x-row-queues.now x-answers.now)
 
@@ -359,7 +359,7 @@ module _ {M : Type 1} {𝓤 : Ura M} (𝓛 : Logic 𝓤) (at_mem : Memory → SP
       (List ℕ) × (List ℕ × (List ℕ × (List ℕ × (List ℕ × (List ℕ × (List (List ℕ) × (List (List ℕ) × Unit {0})))))))))))))))))))))
 
   abbrev work-at : Lasts-core → Work
-  work-at zs = work (rawOf (rawLists zs.1.0 zs.1.1.0 zs.1.1.1.0) zs.1.1.1.1.0) (built (held_rows zs.1.1.1.1.1.0 zs.1.1.1.1.1.1.0 zs.1.1.1.1.1.1.1.0
+  work-at zs = work (raw_of (raw_lists zs.1.0 zs.1.1.0 zs.1.1.1.0) zs.1.1.1.1.0) (built (held_rows zs.1.1.1.1.1.0 zs.1.1.1.1.1.1.0 zs.1.1.1.1.1.1.1.0
       zs.1.1.1.1.1.1.1.1.0 zs.1.1.1.1.1.1.1.1.1.0) zs.1.1.1.1.1.1.1.1.1.1.0 zs.1.1.1.1.1.1.1.1.1.1.1.0 zs.1.1.1.1.1.1.1.1.1.1.1.1.0)
       (kept zs.1.1.1.1.1.1.1.1.1.1.1.1.1.0 zs.1.1.1.1.1.1.1.1.1.1.1.1.1.1.0 zs.1.1.1.1.1.1.1.1.1.1.1.1.1.1.1.0
       zs.1.1.1.1.1.1.1.1.1.1.1.1.1.1.1.1.0 zs.1.1.1.1.1.1.1.1.1.1.1.1.1.1.1.1.1.0 zs.1.1.1.1.1.1.1.1.1.1.1.1.1.1.1.1.1.1.0
@@ -485,7 +485,7 @@ module _ {M : Type 1} {𝓤 : Ura M} (𝓛 : Logic 𝓤) (at_mem : Memory → SP
     tt,
   )
 
-  goes-show : (φ : GName) (ψ : GName) (fs : List (List ℤ)) (cs : List (List ℕ)) (big : maxThresholds ≤ length ss) (many : maxThresholds ≤ length (statesOf fs cs)) → ent 𝓤 (sep 𝓤 (A.lft
+  goes-show : (φ : GName) (ψ : GName) (fs : List (List ℤ)) (cs : List (List ℕ)) (big : max_thresholds ≤ length ss) (many : max_thresholds ≤ length (states_of fs cs)) → ent 𝓤 (sep 𝓤 (A.lft
       κs.1.1.1.1.1.1.1.1.1.1.1.1.1.0 qs.1.1.1.1.1.1.1.1.1.1.1.1.1.0) (sep 𝓤 (A.lft κs.1.1.1.1.1.1.1.1.1.1.1.1.1.1.0
       qs.1.1.1.1.1.1.1.1.1.1.1.1.1.1.0) (sep 𝓤 (A.lft κs.1.1.1.1.1.1.1.1.1.1.1.1.1.1.1.0 qs.1.1.1.1.1.1.1.1.1.1.1.1.1.1.1.0) (sep 𝓤 (sem 𝓛
       (own-states κs.1.1.1.1.1.1.1.1.1.1.1.1.1.0 x-states.ghost_name x-states.now)) (sep 𝓤 (sem 𝓛 (shr-figures φ fs)) (sem 𝓛 (shr-cursors ψ cs))))))) ((Show 𝓛 at_mem
@@ -544,10 +544,10 @@ module _ {M : Type 1} {𝓤 : Ura M} (𝓛 : Logic 𝓤) (at_mem : Memory → SP
   goes-core α β δ ε =
       qed 𝓛 (raw (chain 𝓤 toks-front (emp 𝓤)) ∷ ‵ (flft (α ∷ []) full_share) ∷ ‵ (flft (β ∷ []) full_share) ∷ raw toks-tail ∷ raw (chain 𝓤 owns-front (emp 𝓤)) ∷ ‵ (own-figures (α ∷ []) δ
       x-figures.now) ∷ ‵ (own-cursors (β ∷ []) ε x-cursors.now) ∷ ‵ owns-tail ∷ []) ∵
-      move ! (2 ∷ 3 ∷ []) $ join ! $ move ! (2 ∷ 0 ∷ []) $ join ! $ move ! (1 ∷ 0 ∷ []) $ use2 𝓛 (raw (toks 𝓛 22 (to-core α β δ ε).0.0 (to-core α β δ ε).0.1)) (chain-in 𝓛 toks-front
+      move ! (2 ∷ 3 ∷ []) $ join ! $ move ! (2 ∷ 0 ∷ []) $ join ! $ move ! (1 ∷ 0 ∷ []) $ use2 𝓛 (raw (toks 𝓛 22 (to-core α β δ ε).0.0 (to-core α β δ ε).0.1)) (chain_in 𝓛 toks-front
       (toks-core α β)) $
       move ! (3 ∷ 4 ∷ []) $ fjoin ! $ move ! (3 ∷ 0 ∷ []) $ fjoin ! $ move ! (2 ∷ 0 ∷ []) $
-      use2 𝓛 (raw (chain 𝓤 owns-front (owns-core α β δ ε))) (chain-in 𝓛 owns-front (owns-core α β δ ε)) $
+      use2 𝓛 (raw (chain 𝓤 owns-front (owns-core α β δ ε))) (chain_in 𝓛 owns-front (owns-core α β δ ε)) $
       move ! (1 ∷ 0 ∷ []) $ join ! $ frame ! $ done !
 
   -- the two ends: nothing is touched, or what the callees' contracts say
@@ -555,29 +555,29 @@ module _ {M : Type 1} {𝓤 : Ura M} (𝓛 : Logic 𝓤) (at_mem : Memory → SP
       x-bounds.now ▹ x-row-conditions.now ▹ x-row-weights.now ▹ x-rows.now ▹ x-guard-bounds.now ▹ x-guard-nodes.now ▹ x-nodes.now ▹ x-edges.now ▹ x-links.now ▹
       x-states.now ▹ x-figures.now ▹ x-cursors.now ▹ x-sure.now ▹ x-never.now ▹ x-search.now ▹ x-gcds.now ▹ x-node-queue.now ▹ x-row-queues.now ▹ x-answers.now ▹ tt)))
   gives_all =
-      two-go 𝓛 (lets_go 𝓛 (own-input κs.0 x-input.ghost_name x-input.now))
-      (two-go 𝓛 (gives_up 𝓛 (named 1) κs.1.0 u16 x-raw-conditions (mut_slice_vals x-raw-conditions) (length x-raw-conditions.now) refl)
-      (two-go 𝓛 (gives_up 𝓛 (named 2) κs.1.1.0 u64 x-raw-weights (mut_slice_vals x-raw-weights) (length x-raw-weights.now) refl)
-      (two-go 𝓛 (gives_up 𝓛 (named 3) κs.1.1.1.0 Two x-thresholds (mut_slice_vals x-thresholds) (length x-thresholds.now) refl)
-      (two-go 𝓛 (gives_up 𝓛 (named 4) κs.1.1.1.1.0 i64 x-bounds (mut_slice_vals x-bounds) (length x-bounds.now) refl)
-      (two-go 𝓛 (gives_up 𝓛 (named 5) κs.1.1.1.1.1.0 u16 x-row-conditions (mut_slice_vals x-row-conditions) (length x-row-conditions.now) refl)
-      (two-go 𝓛 (gives_up 𝓛 (named 6) κs.1.1.1.1.1.1.0 u64 x-row-weights (mut_slice_vals x-row-weights) (length x-row-weights.now) refl)
-      (two-go 𝓛 (gives_up 𝓛 (named 7) κs.1.1.1.1.1.1.1.0 Three x-rows (mut_slice_vals x-rows) (length x-rows.now) refl)
-      (two-go 𝓛 (gives_up 𝓛 (named 8) κs.1.1.1.1.1.1.1.1.0 i64 x-guard-bounds (mut_slice_vals x-guard-bounds) (length x-guard-bounds.now) refl)
-      (two-go 𝓛 (gives_up 𝓛 (named 9) κs.1.1.1.1.1.1.1.1.1.0 u16 x-guard-nodes (mut_slice_vals x-guard-nodes) (length x-guard-nodes.now) refl)
-      (two-go 𝓛 (gives_up 𝓛 (named 10) κs.1.1.1.1.1.1.1.1.1.1.0 Three x-nodes (mut_slice_vals x-nodes) (length x-nodes.now) refl)
-      (two-go 𝓛 (gives_up 𝓛 (named 11) κs.1.1.1.1.1.1.1.1.1.1.1.0 Words x-edges (mut_slice_vals x-edges) (length x-edges.now) refl)
-      (two-go 𝓛 (gives_up 𝓛 (named 12) κs.1.1.1.1.1.1.1.1.1.1.1.1.0 u16 x-links (mut_slice_vals x-links) (length x-links.now) refl)
-      (two-go 𝓛 (gives_up 𝓛 (named 13) κs.1.1.1.1.1.1.1.1.1.1.1.1.1.0 T.the_row x-states (mut_slice_vals x-states) (length x-states.now) refl)
-      (two-go 𝓛 (gives_up 𝓛 (named 14) κs.1.1.1.1.1.1.1.1.1.1.1.1.1.1.0 Figures x-figures (mut_slice_vals x-figures) (length x-figures.now) refl)
-      (two-go 𝓛 (gives_up 𝓛 (named 15) κs.1.1.1.1.1.1.1.1.1.1.1.1.1.1.1.0 Cursors x-cursors (mut_slice_vals x-cursors) (length x-cursors.now) refl)
-      (two-go 𝓛 (gives_up 𝓛 (named 16) κs.1.1.1.1.1.1.1.1.1.1.1.1.1.1.1.1.0 u64 x-sure (mut_slice_vals x-sure) (length x-sure.now) refl)
-      (two-go 𝓛 (gives_up 𝓛 (named 17) κs.1.1.1.1.1.1.1.1.1.1.1.1.1.1.1.1.1.0 u64 x-never (mut_slice_vals x-never) (length x-never.now) refl)
-      (two-go 𝓛 (gives_up 𝓛 (named 18) κs.1.1.1.1.1.1.1.1.1.1.1.1.1.1.1.1.1.1.0 u64 x-search (mut_slice_vals x-search) (length x-search.now) refl)
-      (two-go 𝓛 (gives_up 𝓛 (named 19) κs.1.1.1.1.1.1.1.1.1.1.1.1.1.1.1.1.1.1.1.0 u64 x-gcds (mut_slice_vals x-gcds) (length x-gcds.now) refl)
-      (two-go 𝓛 (gives_up 𝓛 (named 20) κs.1.1.1.1.1.1.1.1.1.1.1.1.1.1.1.1.1.1.1.1.0 u16 x-node-queue (mut_slice_vals x-node-queue) (length x-node-queue.now) refl)
-      (two-go 𝓛 (gives_up 𝓛 (named 21) κs.1.1.1.1.1.1.1.1.1.1.1.1.1.1.1.1.1.1.1.1.1.0 Four x-row-queues (mut_slice_vals x-row-queues) (length x-row-queues.now) refl)
-      (two-go 𝓛 (gives_up 𝓛 (named 22) κs.1.1.1.1.1.1.1.1.1.1.1.1.1.1.1.1.1.1.1.1.1.1.0 Two x-answers (mut_slice_vals x-answers) (length x-answers.now) refl)
+      two_go 𝓛 (lets_go 𝓛 (own-input κs.0 x-input.ghost_name x-input.now))
+      (two_go 𝓛 (gives_up 𝓛 (named 1) κs.1.0 u16 x-raw-conditions (mut_slice_vals x-raw-conditions) (length x-raw-conditions.now) refl)
+      (two_go 𝓛 (gives_up 𝓛 (named 2) κs.1.1.0 u64 x-raw-weights (mut_slice_vals x-raw-weights) (length x-raw-weights.now) refl)
+      (two_go 𝓛 (gives_up 𝓛 (named 3) κs.1.1.1.0 Two x-thresholds (mut_slice_vals x-thresholds) (length x-thresholds.now) refl)
+      (two_go 𝓛 (gives_up 𝓛 (named 4) κs.1.1.1.1.0 i64 x-bounds (mut_slice_vals x-bounds) (length x-bounds.now) refl)
+      (two_go 𝓛 (gives_up 𝓛 (named 5) κs.1.1.1.1.1.0 u16 x-row-conditions (mut_slice_vals x-row-conditions) (length x-row-conditions.now) refl)
+      (two_go 𝓛 (gives_up 𝓛 (named 6) κs.1.1.1.1.1.1.0 u64 x-row-weights (mut_slice_vals x-row-weights) (length x-row-weights.now) refl)
+      (two_go 𝓛 (gives_up 𝓛 (named 7) κs.1.1.1.1.1.1.1.0 Three x-rows (mut_slice_vals x-rows) (length x-rows.now) refl)
+      (two_go 𝓛 (gives_up 𝓛 (named 8) κs.1.1.1.1.1.1.1.1.0 i64 x-guard-bounds (mut_slice_vals x-guard-bounds) (length x-guard-bounds.now) refl)
+      (two_go 𝓛 (gives_up 𝓛 (named 9) κs.1.1.1.1.1.1.1.1.1.0 u16 x-guard-nodes (mut_slice_vals x-guard-nodes) (length x-guard-nodes.now) refl)
+      (two_go 𝓛 (gives_up 𝓛 (named 10) κs.1.1.1.1.1.1.1.1.1.1.0 Three x-nodes (mut_slice_vals x-nodes) (length x-nodes.now) refl)
+      (two_go 𝓛 (gives_up 𝓛 (named 11) κs.1.1.1.1.1.1.1.1.1.1.1.0 Words x-edges (mut_slice_vals x-edges) (length x-edges.now) refl)
+      (two_go 𝓛 (gives_up 𝓛 (named 12) κs.1.1.1.1.1.1.1.1.1.1.1.1.0 u16 x-links (mut_slice_vals x-links) (length x-links.now) refl)
+      (two_go 𝓛 (gives_up 𝓛 (named 13) κs.1.1.1.1.1.1.1.1.1.1.1.1.1.0 T.the_row x-states (mut_slice_vals x-states) (length x-states.now) refl)
+      (two_go 𝓛 (gives_up 𝓛 (named 14) κs.1.1.1.1.1.1.1.1.1.1.1.1.1.1.0 Figures x-figures (mut_slice_vals x-figures) (length x-figures.now) refl)
+      (two_go 𝓛 (gives_up 𝓛 (named 15) κs.1.1.1.1.1.1.1.1.1.1.1.1.1.1.1.0 Cursors x-cursors (mut_slice_vals x-cursors) (length x-cursors.now) refl)
+      (two_go 𝓛 (gives_up 𝓛 (named 16) κs.1.1.1.1.1.1.1.1.1.1.1.1.1.1.1.1.0 u64 x-sure (mut_slice_vals x-sure) (length x-sure.now) refl)
+      (two_go 𝓛 (gives_up 𝓛 (named 17) κs.1.1.1.1.1.1.1.1.1.1.1.1.1.1.1.1.1.0 u64 x-never (mut_slice_vals x-never) (length x-never.now) refl)
+      (two_go 𝓛 (gives_up 𝓛 (named 18) κs.1.1.1.1.1.1.1.1.1.1.1.1.1.1.1.1.1.1.0 u64 x-search (mut_slice_vals x-search) (length x-search.now) refl)
+      (two_go 𝓛 (gives_up 𝓛 (named 19) κs.1.1.1.1.1.1.1.1.1.1.1.1.1.1.1.1.1.1.1.0 u64 x-gcds (mut_slice_vals x-gcds) (length x-gcds.now) refl)
+      (two_go 𝓛 (gives_up 𝓛 (named 20) κs.1.1.1.1.1.1.1.1.1.1.1.1.1.1.1.1.1.1.1.1.0 u16 x-node-queue (mut_slice_vals x-node-queue) (length x-node-queue.now) refl)
+      (two_go 𝓛 (gives_up 𝓛 (named 21) κs.1.1.1.1.1.1.1.1.1.1.1.1.1.1.1.1.1.1.1.1.1.0 Four x-row-queues (mut_slice_vals x-row-queues) (length x-row-queues.now) refl)
+      (two_go 𝓛 (gives_up 𝓛 (named 22) κs.1.1.1.1.1.1.1.1.1.1.1.1.1.1.1.1.1.1.1.1.1.1.0 Two x-answers (mut_slice_vals x-answers) (length x-answers.now) refl)
       (id⊢ 𝓤 (emp 𝓤))))))))))))))))))))))))
 
   exits-short : (r : Answer) (v : Val) → left (out r w₀) ss ≡ plan x-input.now ss w₀
@@ -615,7 +615,7 @@ module _ {M : Type 1} {𝓤 : Ura M} (𝓛 : Logic 𝓤) (at_mem : Memory → SP
       move ! (2 ∷ 0 ∷ []) $
       join ! $
       move ! (1 ∷ 0 ∷ []) $
-      use2 𝓛 (raw (toks 𝓛 23 κs qs)) (chain-in 𝓛 toks-front toks-rest) $ frame ! $
+      use2 𝓛 (raw (toks 𝓛 23 κs qs)) (chain_in 𝓛 toks-front toks-rest) $ frame ! $
       feq_i ! ℕ (length (ts)) (length x-states.now) same $
       move ! (2 ∷ 0 ∷ []) $
       fjoin ! $
@@ -634,7 +634,7 @@ module _ {M : Type 1} {𝓤 : Ura M} (𝓛 : Logic 𝓤) (at_mem : Memory → SP
       move ! (1 ∷ 0 ∷ []) $
       use2 𝓛 (‵ (lasts f.ended κs a (zs.0 ▹ zs.1.0 ▹ zs.1.1.0 ▹ zs.1.1.1.0 ▹ zs.1.1.1.1.0 ▹ zs.1.1.1.1.1.0 ▹ zs.1.1.1.1.1.1.0 ▹ zs.1.1.1.1.1.1.1.0 ▹
       zs.1.1.1.1.1.1.1.1.0 ▹ zs.1.1.1.1.1.1.1.1.1.0 ▹ zs.1.1.1.1.1.1.1.1.1.1.0 ▹ zs.1.1.1.1.1.1.1.1.1.1.1.0 ▹
-      zs.1.1.1.1.1.1.1.1.1.1.1.1.0 ▹ ts ▹ zs.1.1.1.1.1.1.1.1.1.1.1.1.1))) (chain-in 𝓛 (lasts-front zs) (lasts-rest zs ts)) $ done !
+      zs.1.1.1.1.1.1.1.1.1.1.1.1.0 ▹ ts ▹ zs.1.1.1.1.1.1.1.1.1.1.1.1.1))) (chain_in 𝓛 (lasts-front zs) (lasts-rest zs ts)) $ done !
 
   module _ (C : Calls 𝓤 H) (Λ : Loops 𝓤 H) (fm : FmC 𝓤 H 𝓛.laws C) (known-short : Triple 𝓤 (C #planner·too-short) (Short 𝓛 at_mem run)) (known-core : Triple 𝓤 (C #call·run) (Core 𝓛 at_mem
       run)) (known-test : Triple 𝓤 (C #planner·is-too-short) (Test 𝓛 at_mem run)) (known-show : Triple 𝓤 (C #states·show-states) (Show 𝓛 at_mem run)) where
@@ -671,7 +671,7 @@ module _ {M : Type 1} {𝓤 : Ura M} (𝓛 : Logic 𝓤) (at_mem : Memory → SP
         pass0 ! $
         assigns ! (of_opd ! (load ! (from ! (fld ! refl (stop !))) (look_in ! 14 (sub ! 1 refl (whole !))))) (from ! (stop !)) (init ! 25 refl
         (tt, record { fits = are.1.1.1.1.1.1.1.1.1.1.1.1.1.0.0.1.0 })) $
-        assigns ! (bin ! (load ! (from ! (stop !)) (look ! 25 refl)) (big-lit ! (record { fits = lit< tt })) tt) (from ! (stop !)) (init ! 26 refl (tt, tt)) $
+        assigns ! (bin ! (load ! (from ! (stop !)) (look ! 25 refl)) (big_lit ! (record { fits = lit< tt })) tt) (from ! (stop !)) (init ! 26 refl (tt, tt)) $
         if_returns ! (load ! (from ! (stop !)) (look ! 26 refl))
         (λ little. use0 𝓛 (raw ((Short 𝓛 at_mem run).pre to-short)) goes-short $
         calls_at ! fm (Short 𝓛 at_mem run) known-short to-short (no_more !) (λ v.
@@ -686,13 +686,13 @@ module _ {M : Type 1} {𝓤 : Ura M} (𝓛 : Logic 𝓤) (at_mem : Memory → SP
         drop ! $ drop ! $
         move ! (79 ∷ 80 ∷ 0 ∷ []) $
         group ! 3 $
-        returns_within ! Post refl (look ! 1 refl) $ free-under ! (code.function).locals ns ((someᴼ (v)) ▹ (someᴼ (v-input)) ▹ (someᴼ (v-raw-conditions)) ▹ (someᴼ (v-raw-weights)) ▹ (someᴼ
+        returns_within ! Post refl (look ! 1 refl) $ free_under ! (code.function).locals ns ((someᴼ (v)) ▹ (someᴼ (v-input)) ▹ (someᴼ (v-raw-conditions)) ▹ (someᴼ (v-raw-weights)) ▹ (someᴼ
         (v-thresholds)) ▹ (someᴼ (v-bounds)) ▹ (someᴼ (v-row-conditions)) ▹ (someᴼ (v-row-weights)) ▹ (someᴼ (v-rows)) ▹ (someᴼ (v-guard-bounds)) ▹ (someᴼ (v-guard-nodes)) ▹ (someᴼ (v-nodes)) ▹ (someᴼ
         (v-edges)) ▹ (someᴼ (v-links)) ▹ (someᴼ (v-states)) ▹ (someᴼ (v-figures)) ▹ (someᴼ (v-cursors)) ▹ (someᴼ (v-sure)) ▹ (someᴼ (v-never)) ▹ (someᴼ (v-search)) ▹ (someᴼ (v-gcds)) ▹ (someᴼ
         (v-node-queue)) ▹ (someᴼ (v-row-queues)) ▹ (someᴼ (v-answers)) ▹ none ▹ (someᴼ (vint w64 (length ss))) ▹ (someᴼ (vbool (ltb (length ss) 1024))) ▹ none ▹ none ▹ none ▹ none ▹ none ▹ none ▹ none
         ▹ none ▹ none ▹ none ▹ none ▹ none ▹ none ▹ none ▹ none ▹ none ▹ none ▹ none ▹ none ▹ none ▹ none ▹ none ▹ none ▹ none ▹ none ▹ none ▹ none ▹ none ▹ none ▹ none ▹ none ▹ none ▹ none ▹ none ▹
         none ▹ none ▹ none ▹ none ▹ none ▹ none ▹ none ▹ none ▹ none ▹ none ▹ none ▹ none ▹ none ▹ none ▹ none ▹ none ▹ tt) $
-        by ! (exits-short r v (ap (λ (x : Answer). left (out x w₀) ss) e ∙ plan-short x-input.now ss w₀ (ltb→lt (length ss) 1024 little)))))))))
+        by ! (exits-short r v (ap (λ (x : Answer). left (out x w₀) ss) e ∙ plan_short x-input.now ss w₀ (ltb→lt (length ss) 1024 little)))))))))
         (λ enough. assigns ! (addr ! (from ! (fld ! refl (hop ! (look_in ! 2 (sub ! 0 refl (whole !))) (stop !))))) (from ! (stop !)) (init ! 27 refl (tt, tt)) $
         assigns ! (agg ! (and_then ! (load ! (from ! (stop !)) (look ! 27 refl)) (and_then ! (load ! (from ! (fld ! refl (stop !))) (look_in ! 2 (sub ! 1 refl (whole !)))) (no_more !)))) (from ! (stop
         !)) (init ! 28 refl (tt, (tt, (record { fits = are.1.0.0.1.0 }, tt)))) $
@@ -770,13 +770,13 @@ module _ {M : Type 1} {𝓤 : Ura M} (𝓛 : Logic 𝓤) (at_mem : Memory → SP
         move ! (3 ∷ 8 ∷ []) $
         use2 𝓛 (later (some (λ (δ : GName). ‵ (own-figures (α ∷ []) δ x-figures.now) ⊛ ‵ (LentAgain Figures κs.1.1.1.1.1.1.1.1.1.1.1.1.1.1.0 (α ∷ [])
         qs.1.1.1.1.1.1.1.1.1.1.1.1.1.1.0 x-figures.ghost_name x-figures.ref_ptr.0 x-figures.ref_ptr.1 δ x-figures.now))))
-        (lends-at Figures κs.1.1.1.1.1.1.1.1.1.1.1.1.1.1.0 (α ∷ []) qs.1.1.1.1.1.1.1.1.1.1.1.1.1.1.0 x-figures.name x-figures.ptr.0 x-figures.ptr.1 𝓛
+        (lends_at Figures κs.1.1.1.1.1.1.1.1.1.1.1.1.1.1.0 (α ∷ []) qs.1.1.1.1.1.1.1.1.1.1.1.1.1.1.0 x-figures.name x-figures.ptr.0 x-figures.ptr.1 𝓛
         (named 14) (named 14) x-figures.now (length x-figures.now) (refl)) $ await ! tt $ pick ! (λ δ. split ! $
         lft_new ! tt (λ β.
         move ! (5 ∷ 9 ∷ []) $
         use2 𝓛 (later (some (λ (δ : GName). ‵ (own-cursors (β ∷ []) δ x-cursors.now) ⊛ ‵ (LentAgain Cursors κs.1.1.1.1.1.1.1.1.1.1.1.1.1.1.1.0 (β ∷ [])
         qs.1.1.1.1.1.1.1.1.1.1.1.1.1.1.1.0 x-cursors.ghost_name x-cursors.ref_ptr.0 x-cursors.ref_ptr.1 δ x-cursors.now))))
-        (lends-at Cursors κs.1.1.1.1.1.1.1.1.1.1.1.1.1.1.1.0 (β ∷ []) qs.1.1.1.1.1.1.1.1.1.1.1.1.1.1.1.0 x-cursors.name x-cursors.ptr.0 x-cursors.ptr.1
+        (lends_at Cursors κs.1.1.1.1.1.1.1.1.1.1.1.1.1.1.1.0 (β ∷ []) qs.1.1.1.1.1.1.1.1.1.1.1.1.1.1.1.0 x-cursors.name x-cursors.ptr.0 x-cursors.ptr.1
         𝓛 (named 15) (named 15) x-cursors.now (length x-cursors.now) (refl)) $ await ! tt $ pick ! (λ ε. split ! $
         move ! (11 ∷ 5 ∷ 2 ∷ 9 ∷ 8 ∷ 3 ∷ 0 ∷ 6 ∷ []) $
         group ! 8 $ use1 𝓛 (raw ((Core 𝓛 at_mem run).pre (to-core α β δ ε))) (goes-core α β δ ε) $
@@ -854,7 +854,7 @@ module _ {M : Type 1} {𝓤 : Ura M} (𝓛 : Logic 𝓤) (at_mem : Memory → SP
         ∷ []) $ drop ! $
         move ! (8 ∷ 10 ∷ 4 ∷ 3 ∷ 7 ∷ 6 ∷ 2 ∷ 1 ∷ 0 ∷ 5 ∷ 9 ∷ []) $
         group ! 11 $
-        returns_within ! Post refl (look ! 1 refl) $ free-under ! (code.function).locals ns ((someᴼ (v)) ▹ (someᴼ (v-input)) ▹ (someᴼ (v-raw-conditions)) ▹ (someᴼ (v-raw-weights)) ▹ (someᴼ
+        returns_within ! Post refl (look ! 1 refl) $ free_under ! (code.function).locals ns ((someᴼ (v)) ▹ (someᴼ (v-input)) ▹ (someᴼ (v-raw-conditions)) ▹ (someᴼ (v-raw-weights)) ▹ (someᴼ
         (v-thresholds)) ▹ (someᴼ (v-bounds)) ▹ (someᴼ (v-row-conditions)) ▹ (someᴼ (v-row-weights)) ▹ (someᴼ (v-rows)) ▹ (someᴼ (v-guard-bounds)) ▹ (someᴼ (v-guard-nodes)) ▹ (someᴼ (v-nodes)) ▹ (someᴼ
         (v-edges)) ▹ (someᴼ (v-links)) ▹ (someᴼ (v-states)) ▹ (someᴼ (v-figures)) ▹ (someᴼ (v-cursors)) ▹ (someᴼ (v-sure)) ▹ (someᴼ (v-never)) ▹ (someᴼ (v-search)) ▹ (someᴼ (v-gcds)) ▹ (someᴼ
         (v-node-queue)) ▹ (someᴼ (v-row-queues)) ▹ (someᴼ (v-answers)) ▹ (someᴼ (v)) ▹ (someᴼ (vint w64 (length ss))) ▹ (someᴼ (vbool (ltb (length ss) 1024))) ▹ (someᴼ (vptr x-raw-conditions.ptr.0
@@ -873,12 +873,12 @@ module _ {M : Type 1} {𝓤 : Ura M} (𝓛 : Logic 𝓤) (at_mem : Memory → SP
         (λ other. move ! (2 ∷ 3 ∷ []) $
         use2 𝓛 (later (some (λ (φ : GName). ‵ (shr-figures φ zs.1.1.1.1.1.1.1.1.1.1.1.1.1.0) ⊛ (‵ (finally Figures x-figures.name zs.1.1.1.1.1.1.1.1.1.1.1.1.1.0) ⊛ ‵
         (flft κs.1.1.1.1.1.1.1.1.1.1.1.1.1.1.0 qs.1.1.1.1.1.1.1.1.1.1.1.1.1.1.0)))))
-        (shares-on 𝓛 Figures (named 14) (named 14) κs.1.1.1.1.1.1.1.1.1.1.1.1.1.1.0 qs.1.1.1.1.1.1.1.1.1.1.1.1.1.1.0 x-figures.ptr.0 x-figures.ptr.1
+        (shares_on 𝓛 Figures (named 14) (named 14) κs.1.1.1.1.1.1.1.1.1.1.1.1.1.1.0 qs.1.1.1.1.1.1.1.1.1.1.1.1.1.1.0 x-figures.ptr.0 x-figures.ptr.1
         x-figures.ghost_name zs.1.1.1.1.1.1.1.1.1.1.1.1.1.0 (length x-figures.now) same-f) $ await ! tt $ pick ! (λ φ. split ! $ move ! (1 ∷ []) $ split ! $
         move ! (3 ∷ 4 ∷ []) $
         use2 𝓛 (later (some (λ (ψ : GName). ‵ (shr-cursors ψ zs.1.1.1.1.1.1.1.1.1.1.1.1.1.1.0) ⊛ (‵ (finally Cursors x-cursors.name
         zs.1.1.1.1.1.1.1.1.1.1.1.1.1.1.0) ⊛ ‵ (flft κs.1.1.1.1.1.1.1.1.1.1.1.1.1.1.1.0 qs.1.1.1.1.1.1.1.1.1.1.1.1.1.1.1.0)))))
-        (shares-on 𝓛 Cursors (named 15) (named 15) κs.1.1.1.1.1.1.1.1.1.1.1.1.1.1.1.0 qs.1.1.1.1.1.1.1.1.1.1.1.1.1.1.1.0 x-cursors.ptr.0
+        (shares_on 𝓛 Cursors (named 15) (named 15) κs.1.1.1.1.1.1.1.1.1.1.1.1.1.1.1.0 qs.1.1.1.1.1.1.1.1.1.1.1.1.1.1.1.0 x-cursors.ptr.0
         x-cursors.ref_ptr.1 x-cursors.ghost_name zs.1.1.1.1.1.1.1.1.1.1.1.1.1.1.0 (length x-cursors.now) same-c) $ await ! tt $ pick ! (λ ψ. split ! $ move ! (1 ∷ []) $ split ! $
         assigns ! (addr ! (from ! (fld ! refl (hop ! (look_in ! 27 (sub ! 0 refl (whole !))) (stop !))))) (from ! (stop !)) (init ! 84 refl (tt, tt)) $
         assigns ! (agg ! (and_then ! (load ! (from ! (stop !)) (look ! 84 refl)) (and_then ! (load ! (from ! (fld ! refl (stop !))) (look_in ! 27 (sub ! 1 refl (whole !)))) (no_more !)))) (from !
@@ -891,7 +891,7 @@ module _ {M : Type 1} {𝓤 : Ura M} (𝓛 : Logic 𝓤) (at_mem : Memory → SP
         (stop !)) (init ! 89 refl (tt, (tt, (record { fits = are.1.1.1.1.1.1.1.1.1.1.1.1.1.1.1.0.0.1.0 }, tt)))) $
         move ! (12 ∷ 4 ∷ 1 ∷ 11 ∷ 5 ∷ 2 ∷ []) $
         group ! 6 $ use1 𝓛 (raw ((Show 𝓛 at_mem run).pre (to-show φ ψ zs.1.1.1.1.1.1.1.1.1.1.1.1.1.0 zs.1.1.1.1.1.1.1.1.1.1.1.1.1.1.0))) (goes-show φ ψ
-        zs.1.1.1.1.1.1.1.1.1.1.1.1.1.0 zs.1.1.1.1.1.1.1.1.1.1.1.1.1.1.0 (ltb-false (length ss) 1024 (fails (ltb (length ss) 1024) enough)) (plan-many x-input.now ss
+        zs.1.1.1.1.1.1.1.1.1.1.1.1.1.0 zs.1.1.1.1.1.1.1.1.1.1.1.1.1.1.0 (ltb-false (length ss) 1024 (fails (ltb (length ss) 1024) enough)) (plan_many x-input.now ss
         w₀ (ltb-false (length ss) 1024 (fails (ltb (length ss) 1024) enough)) (out r (work-at zs)) e (eqb-false r.refused 10 (sym e₂ ∙ fails b other)))) $
         calls_at ! fm (Show 𝓛 at_mem run) known-show (to-show φ ψ zs.1.1.1.1.1.1.1.1.1.1.1.1.1.0 zs.1.1.1.1.1.1.1.1.1.1.1.1.1.1.0) (and_then ! (load ! (from !
         (stop !)) (look ! 80 refl)) (and_then ! (load ! (from ! (stop !)) (look ! 82 refl)) (and_then ! (load ! (from ! (stop !)) (look ! 84 refl)) (no_more !)))) (λ v₃.
@@ -902,8 +902,8 @@ module _ {M : Type 1} {𝓤 : Ura M} (𝓛 : Logic 𝓤) (at_mem : Memory → SP
         zs.1.1.1.1.1.1.1.1.1.1.1.1.1.1.0).0.3 tt u)))) (id⊢ 𝓤 _) $ await ! tt $ pick ! (λ u.
         split ! $ move ! (1 ∷ []) $ use1 𝓛 (some (λ (ts : List State × (Unit {0} × (Unit {0} × Unit {0}))). ‵ (lasts show'.ended (to-show φ ψ zs.1.1.1.1.1.1.1.1.1.1.1.1.1.0
         zs.1.1.1.1.1.1.1.1.1.1.1.1.1.1.0).0.0 (to-show φ ψ zs.1.1.1.1.1.1.1.1.1.1.1.1.1.0 zs.1.1.1.1.1.1.1.1.1.1.1.1.1.1.0).0.3 ts) ⊛ raw (fact
-        𝓤 (ts.0 ≡ shown (statesOf zs.1.1.1.1.1.1.1.1.1.1.1.1.1.0 zs.1.1.1.1.1.1.1.1.1.1.1.1.1.1.0) ss)))) (id⊢ 𝓤 _) $ pick ! (λ ts.
-        split ! $ move ! (1 ∷ []) $ heard ! (ts.0 ≡ shown (statesOf zs.1.1.1.1.1.1.1.1.1.1.1.1.1.0 zs.1.1.1.1.1.1.1.1.1.1.1.1.1.1.0) ss) (λ e₃. move ! (1 ∷ []) $
+        𝓤 (ts.0 ≡ shown (states_of zs.1.1.1.1.1.1.1.1.1.1.1.1.1.0 zs.1.1.1.1.1.1.1.1.1.1.1.1.1.1.0) ss)))) (id⊢ 𝓤 _) $ pick ! (λ ts.
+        split ! $ move ! (1 ∷ []) $ heard ! (ts.0 ≡ shown (states_of zs.1.1.1.1.1.1.1.1.1.1.1.1.1.0 zs.1.1.1.1.1.1.1.1.1.1.1.1.1.1.0) ss) (λ e₃. move ! (1 ∷ []) $
         split ! $
         move ! (1 ∷ []) $
         feq_l ! (λ is₃.
@@ -916,7 +916,7 @@ module _ {M : Type 1} {𝓤 : Ura M} (𝓛 : Logic 𝓤) (at_mem : Memory → SP
         drop ! $ drop ! $
         move ! (9 ∷ 3 ∷ 2 ∷ 1 ∷ 8 ∷ 7 ∷ 0 ∷ 5 ∷ 4 ∷ 6 ∷ 10 ∷ []) $
         group ! 11 $
-        returns ! (look ! 1 refl) $ free-under ! (code.function).locals ns ((someᴼ (v)) ▹ (someᴼ (v-input)) ▹ (someᴼ (v-raw-conditions)) ▹ (someᴼ (v-raw-weights)) ▹ (someᴼ (v-thresholds)) ▹ (someᴼ
+        returns ! (look ! 1 refl) $ free_under ! (code.function).locals ns ((someᴼ (v)) ▹ (someᴼ (v-input)) ▹ (someᴼ (v-raw-conditions)) ▹ (someᴼ (v-raw-weights)) ▹ (someᴼ (v-thresholds)) ▹ (someᴼ
         (v-bounds)) ▹ (someᴼ (v-row-conditions)) ▹ (someᴼ (v-row-weights)) ▹ (someᴼ (v-rows)) ▹ (someᴼ (v-guard-bounds)) ▹ (someᴼ (v-guard-nodes)) ▹ (someᴼ (v-nodes)) ▹ (someᴼ (v-edges)) ▹ (someᴼ
         (v-links)) ▹ (someᴼ (v-states)) ▹ (someᴼ (v-figures)) ▹ (someᴼ (v-cursors)) ▹ (someᴼ (v-sure)) ▹ (someᴼ (v-never)) ▹ (someᴼ (v-search)) ▹ (someᴼ (v-gcds)) ▹ (someᴼ (v-node-queue)) ▹ (someᴼ
         (v-row-queues)) ▹ (someᴼ (v-answers)) ▹ (someᴼ (v)) ▹ (someᴼ (vint w64 (length ss))) ▹ (someᴼ (vbool (ltb (length ss) 1024))) ▹ (someᴼ (vptr x-raw-conditions.ptr.0
@@ -956,7 +956,7 @@ module _ {M : Type 1} {𝓤 : Ura M} (𝓛 : Logic 𝓤) (at_mem : Memory → SP
       (λ κs qs bounds a g are. via 𝓤 _ (fst∗ 𝓤 _ (emp 𝓤)) (walk 𝓛 at_mem run κs qs a are 𝓣.C 𝓣.Λ (fm_of 𝓤 H 𝓛.laws 𝓣) known-short known-core known-test known-show))
 
   run-meets : Meets 𝓛 f.signature (WpFn 𝓤 H 𝓣.C 𝓣.Λ code.function) (f.spec 𝓛 at_mem run)
-  run-meets = walk_Meets 𝓛 f.ended stayed (goes-saids 𝓛 23 (f.ended).signature.params (f.ended).kept) (f.clauses 𝓛 at_mem run) (WpFn 𝓤 H 𝓣.C 𝓣.Λ code.function)
+  run-meets = walk_Meets 𝓛 f.ended stayed (goes_saids 𝓛 23 (f.ended).signature.params (f.ended).kept) (f.clauses 𝓛 at_mem run) (WpFn 𝓤 H 𝓣.C 𝓣.Λ code.function)
       (WpFn-mono 𝓤 H 𝓛.laws 𝓣 code.function) run-walks
 
 pub run_spec : {M : Type 1} → stated.statement M

@@ -5,7 +5,7 @@ use native.Mathlib.Omega.{arith}
 use lib.ListN.{length}
 use lib.Seq.{length-take-le}
 use borrow.Author.Rules.{rules}
-use Rattle.report.specs.PlanLaws.{plans-within}
+use Rattle.report.specs.PlanLaws.{plans_within}
 use Rattle.planner_main.specs.ReadsLaws.{front, prints, tells}
 use Rattle.planner_main.proofs.answer.Statement.{statement}
 use Rattle.planner_main.proofs.answer.Tie as tie
@@ -25,7 +25,7 @@ listing-fits : (c : tie.After-slice-known4) → (plan-of c).plan.result.length �
 listing-fits c =
     let p = plan-of c in
     let s = start_of p in
-    plans-within s.args.read.now s.args.out.now p.plan.last.1.0 p.plan.result s.pre.1 p.plan.ensures
+    plans_within s.args.read.now s.args.out.now p.plan.last.1.0 p.plan.result s.pre.1 p.plan.ensures
 
 notice-fits : (c : tie.After-slice-known4) → (notice-of c).notice.result ≤ length (notice-of c).notice.new.0
 notice-fits c = let n = (notice-of c).notice in omega (arith, n.ensures.within, n.kept.0, (start_of (plan-of c)).requires.2)

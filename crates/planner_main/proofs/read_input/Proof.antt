@@ -5,7 +5,7 @@ use native.Mathlib.Omega.{arith}
 use lib.ListN.{length}
 use borrow.Author.Rules.{rules}
 use borrow.Rule.Slice.PartMut.{same_len_mid}
-use Rattle.planner_main.specs.ReadsLaws.{got-bytes}
+use Rattle.planner_main.specs.ReadsLaws.{got_bytes}
 use Rattle.planner_main.proofs.read_input.Statement.{statement}
 use Rattle.planner_main.proofs.read_input.Tie as tie
 
@@ -35,21 +35,21 @@ add-end : tie.Need-overflow-add-end invariant-loop decreases-loop
 add-end c =
     let r = (read_of c).read_Some in
     let l = (loop-of c).loop in
-    let g = got-bytes _ r.result c.before.chunk.given.0.0 c.before.chunk.given.1 r.ensures in
+    let g = got_bytes _ r.result c.before.chunk.given.0.0 c.before.chunk.given.1 r.ensures in
     omega (arith, g.1, l.inv.0)
 
 loop-less : tie.Need-loop-smaller invariant-loop decreases-loop
 loop-less c =
     let r = (read_of c).read_Some in
     let l = (loop-of c).loop in
-    let g = got-bytes _ r.result c.before.chunk.given.0.0 c.before.chunk.given.1 r.ensures in
+    let g = got_bytes _ r.result c.before.chunk.given.0.0 c.before.chunk.given.1 r.ensures in
     omega (arith, g.0, g.1, l.inv.0, l.inv.1)
 
 loop-again : tie.Need-loop-preserved invariant-loop decreases-loop
 loop-again c =
     let r = (read_of c).read_Some in
     let l = (loop-of c).loop in
-    let g = got-bytes _ r.result c.before.chunk.given.0.0 c.before.chunk.given.1 r.ensures in
+    let g = got_bytes _ r.result c.before.chunk.given.0.0 c.before.chunk.given.1 r.ensures in
     let k = same_len_mid l.end (length l.into - l.end) l.into r.last.0 r.kept.0 in
     (omega (arith, g.1, k), omega (arith, k, l.inv.1))
 

@@ -6,7 +6,7 @@ use lib.ListN.{length}
 use lib.Seq.{length-take-le}
 use borrow.Author.Rules.{rules}
 use Rattle.base.specs.TestLaws.{contrary}
-use Rattle.planner_main.specs.ReadsLaws.{read-ended, read-full}
+use Rattle.planner_main.specs.ReadsLaws.{read_ended, read_full}
 use Rattle.planner_main.proofs.run.Statement.{statement}
 use Rattle.planner_main.proofs.run.Tie as tie
 
@@ -26,12 +26,12 @@ start_of p = p.before.before.before.before.before
 ended-fits : (c : tie.After-input) → c.input.given.0.0 ≤ length (ended_of c).read-input.new.0
 ended-fits c =
     let r = (ended_of c).read-input in
-    omega (arith, r.kept.0, read-ended _ r.result c.input.given.0.0 c.input.given.1 r.ensures)
+    omega (arith, r.kept.0, read_ended _ r.result c.input.given.0.0 c.input.given.1 r.ensures)
 
 full-fits : (c : tie.After-input2) → c.input2.given.0.0 ≤ length (full-of c).read-input.new.0
 full-fits c =
     let r = (full-of c).read-input in
-    omega (arith, r.kept.0, read-full _ r.result c.input2.given.0.0 c.input2.given.1 r.ensures)
+    omega (arith, r.kept.0, read_full _ r.result c.input2.given.0.0 c.input2.given.1 r.ensures)
 
 answer-requires : tie.Need-answer-requires
 answer-requires c κs = let s = start_of (ended_of c.before.before.before.before) in ((λ e. contrary e), s.pre.1, s.pre.2)
@@ -43,7 +43,7 @@ answer-requires-2 c κs =
     let s = start_of (full-of i) in
     let n = i.input2.given.0.0 in
     let long = length-take-le n r.last.0 (full-fits i) in
-    ((λ e. omega (arith, long, read-full _ r.result n i.input2.given.1 r.ensures, s.pre.0)), s.pre.1, s.pre.2)
+    ((λ e. omega (arith, long, read_full _ r.result n i.input2.given.1 r.ensures, s.pre.0)), s.pre.1, s.pre.2)
 
 pub run_spec : {M : Type 1} → statement M
 run_spec =

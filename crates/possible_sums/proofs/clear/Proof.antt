@@ -3,7 +3,7 @@ use Prim.Native.Nat.{◌-◌, ◌≤◌}
 use native.Mathlib.Omega.{arith}
 use mathlib.Core.Path.{◌≡◌, refl}
 use lib.ListN.{length, length-set}
-use Rattle.searches.specs.ZerosLaws.{ZeroTo, zero-next, zero-all}
+use Rattle.searches.specs.ZerosLaws.{ZeroTo, zero_next, zero_all}
 use Rattle.possible_sums.proofs.clear.Statement.{statement}
 use Rattle.possible_sums.proofs.clear.Tie as tie
 
@@ -22,12 +22,12 @@ loop-less c = simp length-set (omega arith)
 loop-again : tie.Need-loop-preserved invariant-loop decreases-loop
 loop-again c =
     let w = c.before.loop in
-    (simp length-set (omega arith), simp length-set (omega arith), zero-next w.words w.i (omega arith) w.invariant.2)
+    (simp length-set (omega arith), simp length-set (omega arith), zero_next w.words w.i (omega arith) w.invariant.2)
 
 returns : tie.Need-returns invariant-loop decreases-loop
 returns c =
     let w = c.before.loop in
-    zero-all w.words (length c.before.before.args.words.now) w.i (omega arith) (omega arith) w.invariant.2
+    zero_all w.words (length c.before.before.args.words.now) w.i (omega arith) (omega arith) w.invariant.2
 
 pub clear_spec : {M : Type 1} → statement M
 clear_spec =

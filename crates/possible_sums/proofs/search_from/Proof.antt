@@ -10,22 +10,22 @@ use borrow.Author.Rules.{rules}
 use borrow.Author.Tests.{lt-ltb, le-ltb}
 use Rattle.numeric.specs.Threshold.{Term}
 use Rattle.numeric.specs.Slices.{terms}
-use Rattle.words.specs.Mask.{inEither}
-use Rattle.words.specs.Shift.{unionShifted}
-use Rattle.words.specs.ShiftLaws.{union-length, complete-visits}
-use Rattle.searches.specs.Search.{searchFrom}
-use Rattle.numeric.specs.TermsLaws.{lastTerms, last-all}
+use Rattle.words.specs.Mask.{in_either}
+use Rattle.words.specs.Shift.{union_shifted}
+use Rattle.words.specs.ShiftLaws.{union_length, complete_visits}
+use Rattle.searches.specs.Search.{search_from}
+use Rattle.numeric.specs.TermsLaws.{last_terms_of, last_all}
 use Rattle.searches.specs.SearchStepsLaws.{
-  lastTerm,
+  last_term,
   turn,
   turn-none,
   turn-cut,
-  from-heavy,
-  from-skip,
-  from-fits,
-  from-stopped,
+  from_heavy,
+  from_skip,
+  from_fits,
+  from_stopped,
   from_more,
-  hit-left,
+  hit_left,
 }
 use Rattle.possible_sums.proofs.search_from.Statement.{statement}
 use Rattle.possible_sums.proofs.search_from.Tie as tie
@@ -34,8 +34,8 @@ abbrev invariant-loop : tie.invariant-loop
 invariant-loop conditions weights w sure never words₀ allowance limit visits count₀ maximum₀ left₀ words count maximum left =
     (limit ≡ w.maximum) × (visits ≡ w.visits) × (count ≤ length weights) × (left ≤ w.visits) × (maximum ≤ w.maximum)
     × (length words ≡ length words₀)
-    × (searchFrom w (inEither sure never) (lastTerms conditions weights count) words maximum left
-    ≡ searchFrom w (inEither sure never) (reverse (terms conditions weights)) words₀ 0 allowance)
+    × (search_from w (in_either sure never) (last_terms_of conditions weights count) words maximum left
+    ≡ search_from w (in_either sure never) (reverse (terms conditions weights)) words₀ 0 allowance)
 
 abbrev decreases-loop : tie.decreases-loop
 decreases-loop conditions weights w sure never words₀ allowance limit visits count₀ maximum₀ left₀ words count maximum left = count
@@ -73,8 +73,8 @@ loop-holds c =
       p.1.1,
       omega arith,
       refl,
-      ap (λ (l : List Term). searchFrom g.w (inEither g.sure.now g.never.now) l g.words.now 0 g.allowance)
-          (last-all g.conditions.now g.weights.now p.0.same),
+      ap (λ (l : List Term). search_from g.w (in_either g.sure.now g.never.now) l g.words.now 0 g.allowance)
+          (last_all g.conditions.now g.weights.now p.0.same),
     )
 
 returns : tie.Need-returns invariant-loop decreases-loop
@@ -83,23 +83,23 @@ returns c =
     let v = c.before.before.loop in
     let s = (start_of c.before.before).pre.0.same in
     sym
-    (turn-cut g.w (inEither g.sure.now g.never.now) g.conditions.now g.weights.now v.words v.count v.maximum v.left
+    (turn-cut g.w (in_either g.sure.now g.never.now) g.conditions.now g.weights.now v.words v.count v.maximum v.left
     (omega arith) (omega arith) (omega arith) c.if1.true)
     ∙ v.invariant.6
 
 -- With a visit left, the search goes on with the lightest term that is left.
-from-here : (c : tie.Else1 invariant-loop decreases-loop) → searchFrom (start-of-else1 c).args.w (inEither (start-of-else1 c).args.sure.now (start-of-else1 c).args.never.now)
-    (lastTerm (start-of-else1 c).args.conditions.now (start-of-else1 c).args.weights.now c.before.before.loop.count
-    ∷ lastTerms (start-of-else1 c).args.conditions.now (start-of-else1 c).args.weights.now (c.before.before.loop.count - 1))
+from_here : (c : tie.Else1 invariant-loop decreases-loop) → search_from (start-of-else1 c).args.w (in_either (start-of-else1 c).args.sure.now (start-of-else1 c).args.never.now)
+    (last_term (start-of-else1 c).args.conditions.now (start-of-else1 c).args.weights.now c.before.before.loop.count
+    ∷ last_terms_of (start-of-else1 c).args.conditions.now (start-of-else1 c).args.weights.now (c.before.before.loop.count - 1))
     c.before.before.loop.words c.before.before.loop.maximum (suc (c.before.before.loop.left - 1))
-    ≡ searchFrom (start-of-else1 c).args.w (inEither (start-of-else1 c).args.sure.now (start-of-else1 c).args.never.now)
+    ≡ search_from (start-of-else1 c).args.w (in_either (start-of-else1 c).args.sure.now (start-of-else1 c).args.never.now)
     (reverse (terms (start-of-else1 c).args.conditions.now (start-of-else1 c).args.weights.now)) (start-of-else1 c).args.words.now 0 (start-of-else1 c).args.allowance
-from-here c =
+from_here c =
     let g = (start-of-else1 c).args in
     let v = c.before.before.loop in
     let s = (start-of-else1 c).requires.0.same in
     sym
-    (turn g.w (inEither g.sure.now g.never.now) g.conditions.now g.weights.now v.words v.count v.maximum v.left
+    (turn g.w (in_either g.sure.now g.never.now) g.conditions.now g.weights.now v.words v.count v.maximum v.left
     (omega arith) (omega arith) (omega arith) c.if1.false)
     ∙ v.invariant.6
 
@@ -108,10 +108,10 @@ returns-2 c =
     let g = (start-of-else1 c.before.before).args in
     let v = c.before.before.before.before.loop in
     sym
-    (from-heavy g.w (inEither g.sure.now g.never.now) (lastTerm g.conditions.now g.weights.now v.count) (lastTerms g.conditions.now g.weights.now (v.count - 1))
+    (from_heavy g.w (in_either g.sure.now g.never.now) (last_term g.conditions.now g.weights.now v.count) (last_terms_of g.conditions.now g.weights.now (v.count - 1))
     v.words v.maximum (v.left - 1)
     (lt-ltb g.w.maximum (get_or g.weights.now (v.count - 1) 0) c.if2.true))
-    ∙ from-here c.before.before
+    ∙ from_here c.before.before
 
 -- A term that is not too heavy.
 light : (c : tie.Else2 invariant-loop decreases-loop) → ltb (start_of (loop-of c)).args.w.maximum (get_or (start_of (loop-of c)).args.weights.now ((loop-of c).loop.count - 1) 0) ≡ false
@@ -126,7 +126,7 @@ decided-requires c κs =
     let s = p.same in
     let v = (loop-of c.before).loop in
     let t = c.before.before.before.before.loop-test.true in
-    (p.below (v.count - 1) (omega arith), p.inSure, p.inNever)
+    (p.below (v.count - 1) (omega arith), p.in_sure, p.in_never)
 
 loop-again : tie.Need-loop-preserved invariant-loop decreases-loop
 loop-again c =
@@ -139,14 +139,14 @@ loop-again c =
       v.inv.4,
       v.inv.5,
       sym
-          (from-skip g.w (inEither g.sure.now g.never.now) (lastTerm g.conditions.now g.weights.now v.count) (lastTerms g.conditions.now g.weights.now (v.count - 1))
+          (from_skip g.w (in_either g.sure.now g.never.now) (last_term g.conditions.now g.weights.now v.count) (last_terms_of g.conditions.now g.weights.now (v.count - 1))
           v.words v.maximum (v.left - 1)
           (light c.before.before.before) (sym c.before.decided.ensures ∙ c.if3.true))
-          ∙ from-here c.before.before.before.before.before,
+          ∙ from_here c.before.before.before.before.before,
     )
 
 -- A term that is undecided.
-undecided : (c : tie.Else3 invariant-loop decreases-loop) → inEither (start-of-else1 (else1-of c)).args.sure.now (start-of-else1 (else1-of c)).args.never.now (get_or (start-of-else1 (else1-of c)).args.conditions.now ((loop-of c.before.before.before).loop.count - 1) 0) ≡ false
+undecided : (c : tie.Else3 invariant-loop decreases-loop) → in_either (start-of-else1 (else1-of c)).args.sure.now (start-of-else1 (else1-of c)).args.never.now (get_or (start-of-else1 (else1-of c)).args.conditions.now ((loop-of c.before.before.before).loop.count - 1) 0) ≡ false
 undecided c = sym c.before.decided.ensures ∙ c.if3.false
 
 sub-hit : tie.Need-overflow-sub-hit invariant-loop decreases-loop
@@ -154,7 +154,7 @@ sub-hit c =
     let g = (start-of-else1 (else1-of (else3-of c))).args in
     let v = (loop-of (else2-of c.before.before.before.before.before)).loop in
     let e = c.before.ended.given in
-    let h = hit-left v.words (v.maximum / 64 + 1) (get_or g.weights.now (v.count - 1) 0) g.w.lower g.w.maximum (v.left - 1) e.0.0 (sym c.before.before.before.before.before.union-shifted-until-hit.ensures.1 ∙ e.1) in
+    let h = hit_left v.words (v.maximum / 64 + 1) (get_or g.weights.now (v.count - 1) 0) g.w.lower g.w.maximum (v.left - 1) e.0.0 (sym c.before.before.before.before.before.union-shifted-until-hit.ensures.1 ∙ e.1) in
     omega arith
 
 returns-3 : tie.Need-returns-3 invariant-loop decreases-loop
@@ -163,20 +163,20 @@ returns-3 c =
     let v = (loop-of (else2-of c.before.before.before.before.before)).loop in
     let e = c.before.ended.given in
     sym
-    (from-fits g.w (inEither g.sure.now g.never.now) (lastTerm g.conditions.now g.weights.now v.count) (lastTerms g.conditions.now g.weights.now (v.count - 1))
+    (from_fits g.w (in_either g.sure.now g.never.now) (last_term g.conditions.now g.weights.now v.count) (last_terms_of g.conditions.now g.weights.now (v.count - 1))
     v.words v.maximum (v.left - 1)
     (light (else2-of c.before.before.before.before.before)) (undecided (else3-of c)) e.0.0 (sym c.before.before.before.before.before.union-shifted-until-hit.ensures.1 ∙ e.1))
-    ∙ from-here (else1-of (else3-of c))
+    ∙ from_here (else1-of (else3-of c))
 
 returns-4 : tie.Need-returns-4 invariant-loop decreases-loop
 returns-4 c =
     let g = (start_of (loop-of (else2-of c.before.before.before.before))).args in
     let v = (loop-of (else2-of c.before.before.before.before)).loop in
     sym
-    (from-stopped g.w (inEither g.sure.now g.never.now) (lastTerm g.conditions.now g.weights.now v.count) (lastTerms g.conditions.now g.weights.now (v.count - 1))
+    (from_stopped g.w (in_either g.sure.now g.never.now) (last_term g.conditions.now g.weights.now v.count) (last_terms_of g.conditions.now g.weights.now (v.count - 1))
     v.words v.maximum (v.left - 1)
     (light (else2-of c.before.before.before.before)) (undecided c.before.before.before.before.before.before) (sym c.before.before.before.before.union-shifted-until-hit.ensures.1 ∙ c.enum_told.given.1))
-    ∙ from-here (else1-of c.before.before.before.before.before.before)
+    ∙ from_here (else1-of c.before.before.before.before.before.before)
 
 add-smaller : tie.Need-overflow-add-smaller invariant-loop decreases-loop
 add-smaller c =
@@ -189,21 +189,21 @@ loop-again-2 c =
     let v = (loop-of (else2-of c.before.before.before.before.before.before)).loop in
     let u = c.before.before.before.before.before.before.union-shifted-until-hit.ensures in
     let e = c.before.before.ended2.given in
-    let q : (unionShifted v.words (v.maximum / 64 + 1) (get_or g.weights.now (v.count - 1) 0) g.w.lower g.w.maximum (v.left - 1)).ended ≡ _ = sym u.1 ∙ e.1 in
-    let k = complete-visits v.words (v.maximum / 64 + 1) (get_or g.weights.now (v.count - 1) 0) g.w.lower g.w.maximum (v.left - 1) e.0.0 q in
+    let q : (union_shifted v.words (v.maximum / 64 + 1) (get_or g.weights.now (v.count - 1) 0) g.w.lower g.w.maximum (v.left - 1)).ended ≡ _ = sym u.1 ∙ e.1 in
+    let k = complete_visits v.words (v.maximum / 64 + 1) (get_or g.weights.now (v.count - 1) 0) g.w.lower g.w.maximum (v.left - 1) e.0.0 q in
     let m = c.smaller.ensures in (
       refl,
       refl,
       omega arith,
       omega arith,
       omega arith,
-      ap length u.0 ∙ union-length v.words (v.maximum / 64 + 1) (get_or g.weights.now (v.count - 1) 0) g.w.lower g.w.maximum (v.left - 1) ∙ v.inv.5,
-      ap₂ (λ (l : List ℕ) (n : ℕ). searchFrom g.w (inEither g.sure.now g.never.now) (lastTerms g.conditions.now g.weights.now (v.count - 1)) l n e.0.0) u.0 m
+      ap length u.0 ∙ union_length v.words (v.maximum / 64 + 1) (get_or g.weights.now (v.count - 1) 0) g.w.lower g.w.maximum (v.left - 1) ∙ v.inv.5,
+      ap₂ (λ (l : List ℕ) (n : ℕ). search_from g.w (in_either g.sure.now g.never.now) (last_terms_of g.conditions.now g.weights.now (v.count - 1)) l n e.0.0) u.0 m
           ∙ sym
-          (from_more g.w (inEither g.sure.now g.never.now) (lastTerm g.conditions.now g.weights.now v.count) (lastTerms g.conditions.now g.weights.now (v.count - 1))
+          (from_more g.w (in_either g.sure.now g.never.now) (last_term g.conditions.now g.weights.now v.count) (last_terms_of g.conditions.now g.weights.now (v.count - 1))
           v.words v.maximum (v.left - 1)
           (light (else2-of c.before.before.before.before.before.before)) (undecided (else3-of-smaller c)) e.0.0 q)
-          ∙ from-here (else1-of (else3-of-smaller c)),
+          ∙ from_here (else1-of (else3-of-smaller c)),
     )
 
 returns-5 : tie.Need-returns-5 invariant-loop decreases-loop
@@ -211,7 +211,7 @@ returns-5 c =
     let g = (start_of c.before).args in
     let v = c.before.loop in
     sym
-    (turn-none g.w (inEither g.sure.now g.never.now) g.conditions.now g.weights.now v.words v.count v.maximum v.left
+    (turn-none g.w (in_either g.sure.now g.never.now) g.conditions.now g.weights.now v.words v.count v.maximum v.left
     (omega (arith, c.loop-test.false)))
     ∙ v.invariant.6
 

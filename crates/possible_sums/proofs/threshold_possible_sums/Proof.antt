@@ -7,10 +7,10 @@ use lib.Seq.{length-take-le}
 use borrow.Author.Rules.{rules}
 use Rattle.numeric.specs.Slices.{terms}
 use Rattle.numeric.specs.TermsLaws.{length-terms}
-use Rattle.words.specs.Mask.{inEither}
+use Rattle.words.specs.Mask.{in_either}
 use Rattle.searches.specs.Shape.{Prepared}
-use Rattle.searches.specs.ZerosLaws.{zeros-back}
-use Rattle.searches.specs.SearchStepsLaws.{search-none, search-begins, plan-prepared}
+use Rattle.searches.specs.ZerosLaws.{zeros_back}
+use Rattle.searches.specs.SearchStepsLaws.{search-none, search-begins, plan_prepared}
 use Rattle.possible_sums.proofs.threshold_possible_sums.Statement.{statement}
 use Rattle.possible_sums.proofs.threshold_possible_sums.Tie as tie
 
@@ -29,7 +29,7 @@ returns : tie.Need-returns
 returns c =
     let g = (start_of c).args in (
       sym
-          (search-none (terms g.conditions.now g.weights.now) g.state (inEither g.sure.now g.never.now)
+          (search-none (terms g.conditions.now g.weights.now) g.state (in_either g.sure.now g.never.now)
           (sym c.before.before.for-row.ensures ∙ c.enum_told.given.1)),
       search rules,
     )
@@ -38,7 +38,7 @@ returns c =
 ready : (c : tie.After-w) → Prepared c.w.given.0.0
 ready c =
     let g = (start-of-w c).args in
-    plan-prepared (terms g.conditions.now g.weights.now) g.state c.w.given.0.0
+    plan_prepared (terms g.conditions.now g.weights.now) g.state c.w.given.0.0
     (omega (arith, length-terms g.conditions.now g.weights.now, (start-of-w c).requires.0.1)) (sym c.before.before.for-row.ensures ∙ c.w.given.1)
 
 -- And has its words in what is lent.
@@ -64,9 +64,9 @@ returns-2 c =
     let a = c.before.before.attempt.ensures in (
       a.0
           ∙ sym
-          (search-begins (terms g.conditions.now g.weights.now) g.state (inEither g.sure.now g.never.now) w.0.0
+          (search-begins (terms g.conditions.now g.weights.now) g.state (in_either g.sure.now g.never.now) w.0.0
           (sym (w-of c).before.before.for-row.ensures ∙ w.1)),
-      zeros-back g.words.now w.0.0.words (start-of-w (w-of c)).requires.1.1 (inside (w-of c)) _ a.1,
+      zeros_back g.words.now w.0.0.words (start-of-w (w-of c)).requires.1.1 (inside (w-of c)) _ a.1,
     )
 
 pub threshold-possible-sums-spec : {M : Type 1} → statement M

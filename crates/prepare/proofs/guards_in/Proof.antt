@@ -6,10 +6,10 @@ use lib.ListN.{length, take, drop}
 use lib.Seq.{length-take-le}
 use Rattle.base.specs.Laid.{ends}
 use Rattle.base.specs.Deal.{grouped}
-use Rattle.base.specs.Columns.{withColumn}
-use Rattle.base.specs.TallyLaws.{mapped-long}
-use Rattle.rows.specs.Guards.{boundItem, nodeItem, boundItems, nodeItems}
-use Rattle.prepare.specs.PreparePartsLaws.{grouped-part, cleared-part}
+use Rattle.base.specs.Columns.{with_column}
+use Rattle.base.specs.TallyLaws.{mapped_long}
+use Rattle.rows.specs.Guards.{bound_item, node_item, bound_items, node_items}
+use Rattle.prepare.specs.PreparePartsLaws.{grouped_part, cleared_part}
 use mathlib.Core.Path.{◌∙◌, sym, ap}
 use borrow.Author.Rules.{rules}
 use Rattle.prepare.proofs.guards_in.Statement.{statement}
@@ -36,11 +36,11 @@ slice-aggregate-index-guards-2 c = let g = (start_of c).args in
 
 slice-aggregate-index-guards-3 : tie.Need-slice-aggregate-index-guards-3
 slice-aggregate-index-guards-3 c = let g = (start_of c.before).args in
-    sym (length-take-le (length g.bounds.now) g.guard-bounds.now (start_of c.before).requires.1)
+    sym (length-take-le (length g.bounds.now) g.guard_bounds.now (start_of c.before).requires.1)
 
 slice-aggregate-index-guards-4 : tie.Need-slice-aggregate-index-guards-4
 slice-aggregate-index-guards-4 c = let g = (start_of c.before.before).args in
-    sym (length-take-le (length g.bounds.now) g.guard-nodes.now (start_of c.before.before).requires.2)
+    sym (length-take-le (length g.bounds.now) g.guard_nodes.now (start_of c.before.before).requires.2)
 
 index-guards-requires : tie.Need-index-guards-requires
 index-guards-requires c κs = let g = (start_of c.before.before).args in
@@ -48,8 +48,8 @@ index-guards-requires c κs = let g = (start_of c.before.before).args in
     let d = p.4 in
     let few = d.few in
     let k = length-take-le (length g.bounds.now) g.scratch.now p.3 in
-    let a = length-take-le (length g.bounds.now) g.guard-bounds.now p.1 in
-    let b = length-take-le (length g.bounds.now) g.guard-nodes.now p.2 in
+    let a = length-take-le (length g.bounds.now) g.guard_bounds.now p.1 in
+    let b = length-take-le (length g.bounds.now) g.guard_nodes.now p.2 in
     (d.even, d.inside, d.wide, d.names, d.placed, d.clear, omega arith, omega arith, omega arith)
 
 slice-aggregate-clear : tie.Need-slice-aggregate-clear
@@ -63,15 +63,15 @@ returns c = let g = (start-of-clear-arg c.before.before.before).args in
     let ks = take (length g.bounds.now) g.scratch.now in
     let k = length-take-le (length g.bounds.now) g.scratch.now p.3 in
     let n = length-take-le g.count g.rows.now p.0 in
-    let x = mapped-long (boundItem g.thresholds.now g.nodes.now g.bounds.now) ks in
-    let y = mapped-long (nodeItem g.thresholds.now g.nodes.now) ks in (
+    let x = mapped_long (bound_item g.thresholds.now g.nodes.now g.bounds.now) ks in
+    let y = mapped_long (node_item g.thresholds.now g.nodes.now) ks in (
       record {
         entries = ap (λ (l : List (List ℕ)). l ++ drop g.count g.rows.now)
-            (s.0 ∙ ap (λ (m : ℕ). withColumn 1 (take g.count g.rows.now) (ends 0 (grouped 0 m (boundItems g.thresholds.now g.nodes.now g.bounds.now ks)))) n);
-        limits = grouped-part (boundItems g.thresholds.now g.nodes.now g.bounds.now ks) _ g.count g.guard-bounds.now _ (length g.bounds.now) n (omega arith) p.1 s.1;
-        names = grouped-part (nodeItems g.thresholds.now g.nodes.now ks) _ g.count g.guard-nodes.now _ (length g.bounds.now) n (omega arith) p.2 s.2;
+            (s.0 ∙ ap (λ (m : ℕ). with_column 1 (take g.count g.rows.now) (ends 0 (grouped 0 m (bound_items g.thresholds.now g.nodes.now g.bounds.now ks)))) n);
+        limits = grouped_part (bound_items g.thresholds.now g.nodes.now g.bounds.now ks) _ g.count g.guard_bounds.now _ (length g.bounds.now) n (omega arith) p.1 s.1;
+        names = grouped_part (node_items g.thresholds.now g.nodes.now ks) _ g.count g.guard_nodes.now _ (length g.bounds.now) n (omega arith) p.2 s.2;
       },
-      cleared-part g.scratch.now _ (length g.bounds.now) p.3 c.before.before.clear.ensures,
+      cleared_part g.scratch.now _ (length g.bounds.now) p.3 c.before.before.clear.ensures,
     )
 
 pub guards-in-spec : {M : Type 1} → statement M

@@ -4,9 +4,9 @@ use lib.ListN.{length}
 use lib.Seq.{length-take-le}
 use Rattle.sort.specs.Sorted.{sorted}
 use Rattle.sort.specs.SortedLaws.{length-sorted}
-use Rattle.rows.specs.Guards.{guardKeys}
-use Rattle.rows.specs.GuardsLaws.{length-keys}
-use Rattle.prepare.specs.PreparePartsLaws.{keys-over, spare-kept}
+use Rattle.rows.specs.Guards.{guard_keys}
+use Rattle.rows.specs.GuardsLaws.{length_keys}
+use Rattle.prepare.specs.PreparePartsLaws.{keys_over, spare_kept}
 use mathlib.Core.Path.{◌∙◌, sym}
 use borrow.Author.Rules.{rules}
 use Rattle.prepare.proofs.order_keys.Statement.{statement}
@@ -37,8 +37,8 @@ returns c = let g = (start_of c.before.before.before.before.before).args in
     let p = (start_of c.before.before.before.before.before).requires in
     let s = c.before.before.before.before.order-guards.ensures in
     let a = length-take-le (length g.bounds.now) g.scratch.now p.3 in (
-      spare-kept g.row-weights.now _ (length g.bounds.now) _ p.4 p.2 a s.1,
-      keys-over g.scratch.now (sorted (guardKeys 0 g.bounds.now)) _ (length g.bounds.now) s.0 (length-sorted (guardKeys 0 g.bounds.now) ∙ length-keys 0 g.bounds.now),
+      spare_kept g.row-weights.now _ (length g.bounds.now) _ p.4 p.2 a s.1,
+      keys_over g.scratch.now (sorted (guard_keys 0 g.bounds.now)) _ (length g.bounds.now) s.0 (length-sorted (guard_keys 0 g.bounds.now) ∙ length_keys 0 g.bounds.now),
     )
 
 pub order-keys-spec : {M : Type 1} → statement M

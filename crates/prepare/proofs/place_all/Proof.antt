@@ -3,12 +3,12 @@ use native.Mathlib.Omega.{arith}
 use Prim.Native.Nat.{◌≤◌}
 use lib.ListN.{length}
 use lib.Seq.{length-take-le}
-use Rattle.base.specs.Laid.{joinAll}
-use Rattle.row.specs.Keys.{conditionsOf, weightsOf}
-use Rattle.memory.specs.Buffers.{RawLists, rawLists}
-use Rattle.job.specs.Shared.{termsTo}
-use Rattle.placing.specs.PlaceLaws.{marks-few}
-use Rattle.prepare.specs.PreparePartsLaws.{laid-over, cleared-part, zeros-back}
+use Rattle.base.specs.Laid.{join_all}
+use Rattle.row.specs.Keys.{conditions_of, weights_of}
+use Rattle.memory.specs.Buffers.{RawLists, raw_lists}
+use Rattle.job.specs.Shared.{terms_to}
+use Rattle.placing.specs.PlaceLaws.{marks_few}
+use Rattle.prepare.specs.PreparePartsLaws.{laid-over, cleared_part, zeros_back}
 use Rattle.prepare.specs.PrepareLaws.{marks-cleared}
 use mathlib.Core.Path.{◌∙◌, sym}
 use borrow.Author.Rules.{rules}
@@ -31,13 +31,13 @@ clear_of p = p.before.before.before.before.before.before
 
 -- The raw lists.
 abbrev raws : tie.Start → RawLists
-raws p = rawLists p.args.raw-conditions.now p.args.raw-weights.now p.args.thresholds.now
+raws p = raw_lists p.args.raw-conditions.now p.args.raw-weights.now p.args.thresholds.now
 
 -- There are no more rows than words of the scratch.
 rows_few : (p : tie.After-place-rows) → p.place-rows.result.rows ≤ length p.place-rows.new.1.1.1.1.1.1.1.0
 rows_few p =
     let s = start_of p.before in
-    let few = marks-few (raws s) _ _ _ _ p.place-rows.ensures.0.marks in
+    let few = marks_few (raws s) _ _ _ _ p.place-rows.ensures.0.marks in
     omega (arith, s.pre.0.lists.many, s.pre.0.words, p.place-rows.auto.1.1.1.1.1.1.1.0)
 
 place-rows-requires : tie.Need-place-rows-requires
@@ -54,21 +54,21 @@ returns c =
     let p = s'.pre in
     let r = raws s' in
     let s = place-rows.place-rows.ensures in
-    let J = joinAll (termsTo r (length g.thresholds.now)) in
+    let J = join_all (terms_to r (length g.thresholds.now)) in
     let k = place-rows.place-rows.kept.1.1.1.1.1.1.1.0 in
-    let few = marks-few r _ _ _ _ s.0.marks in
+    let few = marks_few r _ _ _ _ s.0.marks in
     let many = p.0.lists.many in
     let words = p.0.words in (
       record {
         many = s.0.marks.many;
         end = s.0.end;
-        conditions = laid-over g.row-conditions.now _ (conditionsOf J) p.2 place-rows.place-rows.kept.1.1.1.0 s.0.terms.conditions;
-        weights = laid-over g.row-weights.now _ (weightsOf J) p.3 place-rows.place-rows.kept.1.1.1.1.0 s.0.terms.weights;
+        conditions = laid-over g.row-conditions.now _ (conditions_of J) p.2 place-rows.place-rows.kept.1.1.1.0 s.0.terms.conditions;
+        weights = laid-over g.row-weights.now _ (weights_of J) p.3 place-rows.place-rows.kept.1.1.1.1.0 s.0.terms.weights;
         entries = s.1;
         named = s.2;
       },
-      cleared-part _ _ place-rows.place-rows.result.rows (rows_few place-rows) clear.clear.ensures ∙ marks-cleared r _ place-rows.place-rows.result.rows g.scratch.now _ _ p.4 k (omega arith) s.0.marks,
-      clear-u16.clear-u16.ensures ∙ zeros-back _ g.heads.now p.5 place-rows.place-rows.kept.1.1.1.1.1.1.1.1.0,
+      cleared_part _ _ place-rows.place-rows.result.rows (rows_few place-rows) clear.clear.ensures ∙ marks-cleared r _ place-rows.place-rows.result.rows g.scratch.now _ _ p.4 k (omega arith) s.0.marks,
+      clear-u16.clear-u16.ensures ∙ zeros_back _ g.heads.now p.5 place-rows.place-rows.kept.1.1.1.1.1.1.1.1.0,
     )
 
 pub place-all-spec : {M : Type 1} → statement M

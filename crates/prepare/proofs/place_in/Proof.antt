@@ -4,14 +4,14 @@ use native.Mathlib.Omega.{arith}
 use mathlib.Core.List.{List, ◌++◌}
 use lib.ListN.{length, drop, length-map}
 use lib.Seq.{length-take-le}
-use Rattle.base.specs.Laid.{joinAll}
+use Rattle.base.specs.Laid.{join_all}
 use Rattle.numeric.specs.Threshold.{Term}
-use Rattle.row.specs.Keys.{conditionsOf, weightsOf}
-use Rattle.memory.specs.Buffers.{rawLists}
-use Rattle.job.specs.Shared.{termsTo}
-use Rattle.job.specs.RowsGivenTermsLaws.{terms-fit}
-use Rattle.prepare.specs.PreparePartsLaws.{over-part, tail-kept}
-use Rattle.prepare.specs.PrepareLaws.{open-ready}
+use Rattle.row.specs.Keys.{conditions_of, weights_of}
+use Rattle.memory.specs.Buffers.{raw_lists}
+use Rattle.job.specs.Shared.{terms_to}
+use Rattle.job.specs.RowsGivenTermsLaws.{terms_fit}
+use Rattle.prepare.specs.PreparePartsLaws.{over_part, tail_kept}
+use Rattle.prepare.specs.PrepareLaws.{open_ready}
 use mathlib.Core.Path.{◌∙◌, sym, ap}
 use borrow.Author.Rules.{rules}
 use Rattle.prepare.proofs.place_in.Statement.{statement}
@@ -43,8 +43,8 @@ place-all-requires : tie.Need-place-all-requires
 place-all-requires c κs =
     let s = start_of c.before.before.before.before.before in
     let g = s.args in
-    let r = rawLists g.raw-conditions.now g.raw-weights.now g.thresholds.now in
-    open-ready r g.row-conditions.now g.row-weights.now g.rows.now g.nodes.now g.scratch.now g.heads.now s.pre
+    let r = raw_lists g.raw-conditions.now g.raw-weights.now g.thresholds.now in
+    open_ready r g.row-conditions.now g.row-weights.now g.rows.now g.nodes.now g.scratch.now g.heads.now s.pre
 
 returns : tie.Need-returns
 returns c =
@@ -52,23 +52,23 @@ returns c =
     let s' = start_of place-all.before.before.before.before.before.before in
     let g = s'.args in
     let p = s'.pre in
-    let r = rawLists g.raw-conditions.now g.raw-weights.now g.thresholds.now in
+    let r = raw_lists g.raw-conditions.now g.raw-weights.now g.thresholds.now in
     let s = place-all.place-all.ensures in
-    let J = joinAll (termsTo r (length g.thresholds.now)) in
-    let fit = terms-fit r (length g.thresholds.now) p.lists in
+    let J = join_all (terms_to r (length g.thresholds.now)) in
+    let fit = terms_fit r (length g.thresholds.now) p.lists in
     let lc = length-map J (λ (t : Term). t.condition) in
     let lw = length-map J (λ (t : Term). t.weight) in (
       record {
         many = s.0.many;
         end = s.0.end;
         conditions = ap (λ (l : List ℕ). l ++ drop (length g.raw-conditions.now) g.row-conditions.now) s.0.conditions
-            ∙ over-part (conditionsOf J) g.row-conditions.now (length g.raw-conditions.now) (omega arith) p.conditions;
+            ∙ over_part (conditions_of J) g.row-conditions.now (length g.raw-conditions.now) (omega arith) p.conditions;
         weights = ap (λ (l : List ℕ). l ++ drop (length g.raw-conditions.now) g.row-weights.now) s.0.weights
-            ∙ over-part (weightsOf J) g.row-weights.now (length g.raw-conditions.now) (omega arith) p.weights;
+            ∙ over_part (weights_of J) g.row-weights.now (length g.raw-conditions.now) (omega arith) p.weights;
         entries = s.0.entries;
         named = s.0.named;
       },
-      tail-kept g.scratch.now _ 1024 s.1,
+      tail_kept g.scratch.now _ 1024 s.1,
       s.2,
     )
 

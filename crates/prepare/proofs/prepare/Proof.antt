@@ -1,8 +1,8 @@
 -- `prepare::prepare` meets its contract. Assumes nothing.
 use native.Mathlib.Omega.{arith}
 use mathlib.Core.List.{[]}
-use Rattle.memory.specs.Buffers.{RawLists, rawLists, held_rows, Built, built}
-use Rattle.prepare.specs.PrepareLaws.{opened, guards-ready, edges-ready, prepared}
+use Rattle.memory.specs.Buffers.{RawLists, raw_lists, held_rows, Built, built}
+use Rattle.prepare.specs.PrepareLaws.{opened, guards_ready, edges_ready, prepared}
 use mathlib.Core.Path.{◌∙◌}
 use Rattle.prepare.proofs.prepare.Statement.{statement}
 use Rattle.prepare.proofs.prepare.Tie as tie
@@ -29,12 +29,12 @@ order-keys-at p = order-keys-of (place-in-at p).before
 
 -- The raw lists.
 abbrev raws : tie.Start → RawLists
-raws p = rawLists p.args.raw-conditions.now p.args.raw-weights.now p.args.thresholds.now
+raws p = raw_lists p.args.raw-conditions.now p.args.raw-weights.now p.args.thresholds.now
 
 -- What is built over, with no links yet.
 abbrev buffers : tie.Start → Built
 buffers p = let g = p.args in
-    built (held_rows g.row-conditions.now g.row-weights.now g.rows.now g.guard-bounds.now g.guard-nodes.now) g.nodes.now g.edges.now []
+    built (held_rows g.row-conditions.now g.row-weights.now g.rows.now g.guard_bounds.now g.guard_nodes.now) g.nodes.now g.edges.now []
 
 order-keys-requires : tie.Need-order-keys-requires
 order-keys-requires c κs = let p = (start_of c).requires in
@@ -42,7 +42,7 @@ order-keys-requires c κs = let p = (start_of c).requires in
     let n = p.0.lists.many in
     let w = p.1.spare in
     let k = p.1.words in
-    (omega arith, p.0.bounded, omega arith, omega arith, p.1.weights-clear)
+    (omega arith, p.0.bounded, omega arith, omega arith, p.1.weights_clear)
 
 place-in-requires : tie.Need-place-in-requires
 place-in-requires c κs =
@@ -57,7 +57,7 @@ guards-in-requires c κs =
     let s = start_of order-keys.before in
     let o = order-keys.order-keys.ensures in
     let q = IsPlace-in.IsPlace-in.ensures in
-    guards-ready (raws s) s.args.bounds.now (buffers s) s.args.scratch.now s.pre.0 s.pre.1 _ _ o.0 o.1 IsPlace-in.IsPlace-in.result _ _ _ _ _ _ q.0 q.1 q.2
+    guards_ready (raws s) s.args.bounds.now (buffers s) s.args.scratch.now s.pre.0 s.pre.1 _ _ o.0 o.1 IsPlace-in.IsPlace-in.result _ _ _ _ _ _ q.0 q.1 q.2
 
 edges-in-requires : tie.Need-edges-in-requires
 edges-in-requires c κs =
@@ -68,19 +68,19 @@ edges-in-requires c κs =
     let o = order-keys.order-keys.ensures in
     let q = IsPlace-in.IsPlace-in.ensures in
     let h = guards-in.guards-in.ensures in
-    edges-ready (raws s) s.args.bounds.now (buffers s) s.args.scratch.now s.pre.0 s.pre.1 _ _ o.0 o.1 IsPlace-in.IsPlace-in.result _ _ _ _ _ _ q.0 q.1 q.2 _ _ _ _ h.0 h.1 guards-in.guards-in.kept.1.1.1.1.0
+    edges_ready (raws s) s.args.bounds.now (buffers s) s.args.scratch.now s.pre.0 s.pre.1 _ _ o.0 o.1 IsPlace-in.IsPlace-in.result _ _ _ _ _ _ q.0 q.1 q.2 _ _ _ _ h.0 h.1 guards-in.guards-in.kept.1.1.1.1.0
 
 returns : tie.Need-returns
 returns c =
-    let edges-in = c.before.before in
-    let guards-in = guards-in-of edges-in.before in
+    let edges_in_lem = c.before.before in
+    let guards-in = guards-in-of edges_in_lem.before in
     let IsPlace-in = place-in-of guards-in.before in
     let order-keys = order-keys-of IsPlace-in.before in
     let s = start_of order-keys.before in
     let o = order-keys.order-keys.ensures in
     let q = IsPlace-in.IsPlace-in.ensures in
     let h = guards-in.guards-in.ensures in
-    prepared (raws s) s.args.bounds.now (buffers s) s.args.scratch.now s.pre.0 s.pre.1 _ _ o.0 o.1 IsPlace-in.IsPlace-in.result _ _ _ _ _ _ q.0 q.1 q.2 _ _ _ _ h.0 h.1 _ _ edges-in.edges-in.ensures
+    prepared (raws s) s.args.bounds.now (buffers s) s.args.scratch.now s.pre.0 s.pre.1 _ _ o.0 o.1 IsPlace-in.IsPlace-in.result _ _ _ _ _ _ q.0 q.1 q.2 _ _ _ _ h.0 h.1 _ _ edges_in_lem.edges_in_lem.ensures
 
 pub prepare-spec : {M : Type 1} → statement M
 prepare-spec =
@@ -95,7 +95,7 @@ prepare-spec =
     (λ c. (guards-in-of c.before.before.before).guards-in.auto.1.1.1.1.0 ∙ (place-in-at c.before.before).IsPlace-in.auto.1.1.1.1.1.0)
     (λ c. (guards-in-of c.before.before.before).guards-in.auto.1.1.1.1.1.0)
     (λ c. (guards-in-of c.before.before.before).guards-in.auto.1.1.1.1.1.1.0 ∙ (place-in-at c.before.before).IsPlace-in.auto.1.1.1.1.1.1.1.1.0)
-    (λ c. c.before.before.edges-in.auto.1.1.1.1.1.0 ∙ (place-in-at c.before.before).IsPlace-in.auto.1.1.1.1.1.1.0)
-    (λ c. c.before.before.edges-in.auto.1.1.1.1.1.1.0)
+    (λ c. c.before.before.edges_in_lem.auto.1.1.1.1.1.0 ∙ (place-in-at c.before.before).IsPlace-in.auto.1.1.1.1.1.1.0)
+    (λ c. c.before.before.edges_in_lem.auto.1.1.1.1.1.1.0)
     (λ c. (guards-in-of c.before.before.before).guards-in.auto.1.1.1.1.1.1.1.0 ∙ (place-in-at c.before.before).IsPlace-in.auto.1.1.1.1.1.1.1.0 ∙ (order-keys-at c.before.before).order-keys.auto.1.1.0)
     returns)

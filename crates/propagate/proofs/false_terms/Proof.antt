@@ -9,18 +9,18 @@ use mir.Syntax.{w64}
 use mir.Val.{to_z, of_z}
 use mir.Facts.{to_z-of_z}
 use borrow.Author.Rules.{rules}
-use Rattle.base.specs.SignedLaws.{sub-sfits}
+use Rattle.base.specs.SignedLaws.{sub_sfits}
 use Rattle.numeric.specs.Slices.{terms}
 use Rattle.numeric.specs.TermsLaws.{length-terms}
 use Rattle.state.specs.declared.State.{State}
 use Rattle.state.specs.declared.Step.TheVariants.{Unchanged}
-use Rattle.state.specs.State.{limit, limited, withTerms}
+use Rattle.state.specs.State.{limit, limited, with_terms}
 use Rattle.queues.specs.Queue.{queue}
 use Rattle.queues.specs.Marks.{marks}
 use Rattle.row_runs.specs.Scan.{Scanned, scanned}
 use Rattle.row_runs.specs.Turns.{light, cut}
 use Rattle.row_runs.specs.Row.{ran}
-use Rattle.row_runs.specs.RowLaws.{stay-false, false-none, false-forced, forced-within, signed}
+use Rattle.row_runs.specs.RowLaws.{stay_false, false-none, false-forced, forced_within, signed}
 use Rattle.propagate.proofs.false_terms.Statement.{statement}
 use Rattle.propagate.proofs.false_terms.Tie as tie
 
@@ -47,13 +47,13 @@ sub-t15 c =
     let l : limit a.state.upper ≡ v = ap limit u.1 in
     let hu : to_z w64 (of_z w64 v) ≡ v = signed v (omega (arith, p.1.upper, ap mag l)) in
     let hk : to_z w64 (of_z w64 a.state.known) ≡ a.state.known = signed a.state.known p.1.known in
-    simp (hu, hk) (sub-sfits v a.state.known (omega (arith, p.1.upper, p.1.known, ap mag l)))
+    simp (hu, hk) (sub_sfits v a.state.known (omega (arith, p.1.upper, p.1.known, ap mag l)))
 
 returns : tie.Need-returns
 returns c =
     let a = (start_of c).args in
-    let m = marks a.sure.now a.never.now (queue a.node-queue.now a.ring) in
-    (ap (λ (y : State). ran y m Unchanged) (sym (stay-false a.state)) ∙ false-none (terms a.conditions.now a.weights.now) a.state m (ap limited c.enum_told.given.1), omega arith)
+    let m = marks a.sure.now a.never.now (queue a.node_queue.now a.ring) in
+    (ap (λ (y : State). ran y m Unchanged) (sym (stay_false a.state)) ∙ false-none (terms a.conditions.now a.weights.now) a.state m (ap limited c.enum_told.given.1), omega arith)
 
 returns-2 : tie.Need-returns-2
 returns-2 c =
@@ -68,13 +68,13 @@ returns-2 c =
     let hu : to_z w64 (of_z w64 v) ≡ v = signed v (omega (arith, p.1.upper, ap mag l)) in
     let hk : to_z w64 (of_z w64 s.known) ≡ s.known = signed s.known p.1.known in
     let ts = terms a.conditions.now a.weights.now in
-    let m = marks a.sure.now a.never.now (queue a.node-queue.now a.ring) in
+    let m = marks a.sure.now a.never.now (queue a.node_queue.now a.ring) in
     let z = to_z w64 (of_z w64 (to_z w64 (of_z w64 v) -ℤ to_z w64 (of_z w64 s.known))) in
-    let d : to_z w64 (of_z w64 (v -ℤ s.known)) ≡ v -ℤ s.known = to_z-of_z (sub-sfits v s.known (omega (arith, p.1.upper, p.1.known, ap mag l))) in
+    let d : to_z w64 (of_z w64 (v -ℤ s.known)) ≡ v -ℤ s.known = to_z-of_z (sub_sfits v s.known (omega (arith, p.1.upper, p.1.known, ap mag l))) in
     let scan = scanned f.result.passed (marks f.last.1.1.1.1.0 f.last.1.1.1.1.1.0 (queue f.last.1.1.1.1.1.1.0 f.result.ring)) f.result.step in
-    let next = withTerms s s.true_term (s.false_term + f.result.passed) in (
+    let next = with_terms s s.true_term (s.false_term + f.result.passed) in (
       false-forced ts s m z scan next (ap limited u.1) (simp (hu, hk, d) (ap (λ (y : ℤ). y -ℤ s.known) (sym l))) f.ensures refl,
-      omega (arith, forced-within false (light (cut false z)) ts s.false_term m, ap (λ (x : Scanned). x.passed) f.ensures, length-terms a.conditions.now a.weights.now),
+      omega (arith, forced_within false (light (cut false z)) ts s.false_term m, ap (λ (x : Scanned). x.passed) f.ensures, length-terms a.conditions.now a.weights.now),
     )
 
 pub false-terms-spec : {M : Type 1} → statement M

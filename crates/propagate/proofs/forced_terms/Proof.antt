@@ -8,14 +8,14 @@ use lib.ListN.{length, get_or, drop, drop_of_length-le}
 use native.Mathlib.Numerals.{add-one}
 use Rattle.numeric.specs.Threshold.{Term, term}
 use Rattle.numeric.specs.Slices.{terms}
-use Rattle.numeric.specs.TermsLaws.{up-terms, length-terms}
+use Rattle.numeric.specs.TermsLaws.{up_terms, length-terms}
 use Rattle.queues.specs.Queue.{queue}
-use Rattle.queues.specs.Marks.{marks, isDecided}
+use Rattle.queues.specs.Marks.{marks, is_decided}
 use Rattle.queues.specs.Waiting.{Waits}
 use Rattle.row_runs.specs.Scan.{scan, scanned}
 use Rattle.row_runs.specs.Turns.{turn, light}
-use Rattle.row_runs.specs.ScanLaws.{force-keeps, place-ends, place-goes, place-passed, place-keeps, scan-none}
-use Rattle.row_runs.specs.Row.{termWaits, forces, forced}
+use Rattle.row_runs.specs.ScanLaws.{force_keeps, place-ends, place_goes, place_passed, place_keeps, scan-none}
+use Rattle.row_runs.specs.Row.{term_waits, forces, forced}
 use Rattle.propagate.proofs.forced_terms.Statement.{statement}
 use Rattle.propagate.proofs.forced_terms.Tie as tie
 
@@ -23,7 +23,7 @@ abbrev invariant-loop : tie.invariant-loop
 invariant-loop conditions weights from cutoff sure₀ never₀ nodes₀ value at₀ so-far₀ sure never nodes at so_far =
     (at ≡ from + so_far.passed) × (so_far.passed ≤ length weights) × (length sure ≡ length sure₀) × (length never ≡ length never₀) × (length nodes ≡ length nodes₀)
     × Waits (marks sure never (queue nodes so_far.ring))
-    × (scan (termWaits (light cutoff)) (forces cutoff.value) (drop at (terms conditions weights)) so_far.passed (marks sure never (queue nodes so_far.ring)) so_far.step
+    × (scan (term_waits (light cutoff)) (forces cutoff.value) (drop at (terms conditions weights)) so_far.passed (marks sure never (queue nodes so_far.ring)) so_far.step
     ≡ forced cutoff.value (light cutoff) (drop from (terms conditions weights)) (marks sure₀ never₀ (queue nodes₀ so-far₀.ring)))
 
 abbrev decreases-loop : tie.decreases-loop
@@ -83,13 +83,13 @@ returns c =
     let same = (start_of (loop-of (waits-of-then1 c))).pre.0.same in
     let b = g.weights.now in
     let n = g.conditions.now in
-    let m = marks w.sure w.never (queue w.node-queue w.so_far.ring) in
+    let m = marks w.sure w.never (queue w.node_queue w.so_far.ring) in
     let x = term (get_or n w.at 0) (get_or b w.at 0) in
-    let here : drop w.at (terms n b) ≡ x ∷ drop (w.at + 1) (terms n b) = up-terms n b w.at (omega arith) (omega arith) ∙ ap (λ (j : ℕ). x ∷ drop j (terms n b)) (sym (add-one w.at)) in
-    let v : (not (isDecided m (get_or n w.at 0)) && (waits-of-then1 c).waits.result) ≡ termWaits (light g.cutoff) x m = ap (λ (y : Bool). not (isDecided m (get_or n w.at 0)) && y) (waits-of-then1 c).waits.ensures in
+    let here : drop w.at (terms n b) ≡ x ∷ drop (w.at + 1) (terms n b) = up_terms n b w.at (omega arith) (omega arith) ∙ ap (λ (j : ℕ). x ∷ drop j (terms n b)) (sym (add-one w.at)) in
+    let v : (not (is_decided m (get_or n w.at 0)) && (waits-of-then1 c).waits.result) ≡ term_waits (light g.cutoff) x m = ap (λ (y : Bool). not (is_decided m (get_or n w.at 0)) && y) (waits-of-then1 c).waits.ensures in
     let d = turn (scanned t.result.scan.passed (marks t.last.1.1.1.0 t.last.1.1.1.1.0 (queue t.last.1.1.1.1.1.0 t.result.scan.ring)) t.result.scan.step) t.result.ends in
-    place-ends (termWaits (light g.cutoff)) (forces g.cutoff.value) (drop w.at (terms n b)) x (drop (w.at + 1) (terms n b)) here w.so_far.passed m w.so_far.step
-    (not (isDecided m (get_or n w.at 0)) && (waits-of-then1 c).waits.result) v d t.ensures c.if1.true
+    place-ends (term_waits (light g.cutoff)) (forces g.cutoff.value) (drop w.at (terms n b)) x (drop (w.at + 1) (terms n b)) here w.so_far.passed m w.so_far.step
+    (not (is_decided m (get_or n w.at 0)) && (waits-of-then1 c).waits.result) v d t.ensures c.if1.true
     ∙ w.inv.6
 
 add_at : tie.Need-overflow-add-at invariant-loop decreases-loop
@@ -107,22 +107,22 @@ loop-again c =
     let same = (start_of (loop-of (waits-of c))).pre.0.same in
     let b = g.weights.now in
     let n = g.conditions.now in
-    let m = marks w.sure w.never (queue w.node-queue w.so_far.ring) in
+    let m = marks w.sure w.never (queue w.node_queue w.so_far.ring) in
     let x = term (get_or n w.at 0) (get_or b w.at 0) in
-    let here : drop w.at (terms n b) ≡ x ∷ drop (w.at + 1) (terms n b) = up-terms n b w.at (omega arith) (omega arith) ∙ ap (λ (j : ℕ). x ∷ drop j (terms n b)) (sym (add-one w.at)) in
-    let v : (not (isDecided m (get_or n w.at 0)) && (waits-of c).waits.result) ≡ termWaits (light g.cutoff) x m = ap (λ (y : Bool). not (isDecided m (get_or n w.at 0)) && y) (waits-of c).waits.ensures in
+    let here : drop w.at (terms n b) ≡ x ∷ drop (w.at + 1) (terms n b) = up_terms n b w.at (omega arith) (omega arith) ∙ ap (λ (j : ℕ). x ∷ drop j (terms n b)) (sym (add-one w.at)) in
+    let v : (not (is_decided m (get_or n w.at 0)) && (waits-of c).waits.result) ≡ term_waits (light g.cutoff) x m = ap (λ (y : Bool). not (is_decided m (get_or n w.at 0)) && y) (waits-of c).waits.ensures in
     let d = turn (scanned t.result.scan.passed (marks t.last.1.1.1.0 t.last.1.1.1.1.0 (queue t.last.1.1.1.1.1.0 t.result.scan.ring)) t.result.scan.step) t.result.ends in
-    let p = place-passed (termWaits (light g.cutoff)) (forces g.cutoff.value) (drop w.at (terms n b)) x (drop (w.at + 1) (terms n b)) here w.so_far.passed m w.so_far.step
-    (not (isDecided m (get_or n w.at 0)) && (waits-of c).waits.result) v d t.ensures c.if1.false in (
+    let p = place_passed (term_waits (light g.cutoff)) (forces g.cutoff.value) (drop w.at (terms n b)) x (drop (w.at + 1) (terms n b)) here w.so_far.passed m w.so_far.step
+    (not (is_decided m (get_or n w.at 0)) && (waits-of c).waits.result) v d t.ensures c.if1.false in (
       omega arith,
       omega arith,
       t.kept.1.1.1.0 ∙ w.inv.2,
       t.kept.1.1.1.1.0 ∙ w.inv.3,
       t.kept.1.1.1.1.1.0 ∙ w.inv.4,
-      place-keeps (termWaits (light g.cutoff)) (forces g.cutoff.value) (drop w.at (terms n b)) x (drop (w.at + 1) (terms n b)) here w.so_far.passed m w.so_far.step
-          (not (isDecided m (get_or n w.at 0)) && (waits-of c).waits.result) v d t.ensures Waits w.inv.5 (force-keeps g.cutoff.value m (get_or n w.at 0) ((start_of (loop-of (waits-of c))).pre.0.below w.at (omega arith)) w.inv.5),
-      place-goes (termWaits (light g.cutoff)) (forces g.cutoff.value) (drop w.at (terms n b)) x (drop (w.at + 1) (terms n b)) here w.so_far.passed m w.so_far.step
-          (not (isDecided m (get_or n w.at 0)) && (waits-of c).waits.result) v d t.ensures c.if1.false
+      place_keeps (term_waits (light g.cutoff)) (forces g.cutoff.value) (drop w.at (terms n b)) x (drop (w.at + 1) (terms n b)) here w.so_far.passed m w.so_far.step
+          (not (is_decided m (get_or n w.at 0)) && (waits-of c).waits.result) v d t.ensures Waits w.inv.5 (force_keeps g.cutoff.value m (get_or n w.at 0) ((start_of (loop-of (waits-of c))).pre.0.below w.at (omega arith)) w.inv.5),
+      place_goes (term_waits (light g.cutoff)) (forces g.cutoff.value) (drop w.at (terms n b)) x (drop (w.at + 1) (terms n b)) here w.so_far.passed m w.so_far.step
+          (not (is_decided m (get_or n w.at 0)) && (waits-of c).waits.result) v d t.ensures c.if1.false
           ∙ w.inv.6,
     )
 
@@ -139,11 +139,11 @@ returns-2 : tie.Need-returns-2 invariant-loop decreases-loop
 returns-2 c =
     let g = (start_of c.before).args in
     let w = c.before.loop in
-    let m = marks w.sure w.never (queue w.node-queue w.so_far.ring) in
+    let m = marks w.sure w.never (queue w.node_queue w.so_far.ring) in
     let e : drop w.at (terms g.conditions.now g.weights.now) ≡ [] = drop_of_length-le (terms g.conditions.now g.weights.now) {i = w.at} (omega (arith, length-terms g.conditions.now g.weights.now)) in
     sym
-    (ap (λ (l : List Term). scan (termWaits (light g.cutoff)) (forces g.cutoff.value) l w.so_far.passed m w.so_far.step) e
-    ∙ scan-none (termWaits (light g.cutoff)) (forces g.cutoff.value) w.so_far.passed m w.so_far.step)
+    (ap (λ (l : List Term). scan (term_waits (light g.cutoff)) (forces g.cutoff.value) l w.so_far.passed m w.so_far.step) e
+    ∙ scan-none (term_waits (light g.cutoff)) (forces g.cutoff.value) w.so_far.passed m w.so_far.step)
     ∙ w.invariant.6
 
 pub forced-terms-spec : {M : Type 1} → statement M

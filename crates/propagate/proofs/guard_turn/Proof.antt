@@ -21,7 +21,7 @@ decide-of p = p.before.before.before.before.before.before.before
 returns : tie.Need-returns
 returns c =
     let a = c.before.before.before.before.args in
-    let m = marks a.sure.now a.never.now (queue a.node-queue.now a.scan.ring) in
+    let m = marks a.sure.now a.never.now (queue a.node_queue.now a.scan.ring) in
     waits-turn a.waits (decide a.value m a.node) (scanned a.scan.passed m a.scan.step) c.if1.true
 
 decide-requires : tie.Need-decide-requires
@@ -34,7 +34,7 @@ returns-2 c =
     let a = (start_of (else1-of (decide-of c))).args in
     let d = (decide-of c).decide in
     let t = c.passed-turn in
-    guard_passed a.value a.waits (marks a.sure.now a.never.now (queue a.node-queue.now a.scan.ring)) a.node a.scan.passed a.scan.step
+    guard_passed a.value a.waits (marks a.sure.now a.never.now (queue a.node_queue.now a.scan.ring)) a.node a.scan.passed a.scan.step
     d.last.1.0 d.last.1.1.0 d.last.1.1.1.0 d.result.ring t.result.scan.ring d.result.step t.result.scan.passed t.result.scan.step t.result.ends
     t.ensures.1 t.ensures.0 (else1-of (decide-of c)).if1.false d.ensures
 

@@ -16,10 +16,10 @@ use Rattle.queues.specs.MarksLaws.{waits-decide}
 use Rattle.queues.specs.Waiting.{Waits}
 use Rattle.row_runs.specs.Scan.{scan, scanned}
 use Rattle.row_runs.specs.Turns.{turn}
-use Rattle.row_runs.specs.ScanLaws.{place-ends, place-goes, place-passed, place-keeps, scan-none}
-use Rattle.row_runs.specs.GuardsLaws.{down-guards}
+use Rattle.row_runs.specs.ScanLaws.{place-ends, place_goes, place_passed, place_keeps, scan-none}
+use Rattle.row_runs.specs.GuardsLaws.{down_guards}
 use Rattle.row_runs.specs.Guards.{guards}
-use Rattle.row_runs.specs.Row.{decides, neverGuards, neverWaits}
+use Rattle.row_runs.specs.Row.{decides, never_guards, never_waits}
 use Rattle.propagate.proofs.never_guards.Statement.{statement}
 use Rattle.propagate.proofs.never_guards.Tie as tie
 
@@ -27,8 +27,8 @@ abbrev invariant-loop : tie.invariant-loop
 invariant-loop bounds names state sure₀ never₀ nodes₀ at₀ so-far₀ sure never nodes at so_far =
     (at + so_far.passed ≡ state.never_guard) × (so_far.passed ≤ length bounds) × (length sure ≡ length sure₀) × (length never ≡ length never₀) × (length nodes ≡ length nodes₀)
     × Waits (marks sure never (queue nodes so_far.ring))
-    × (scan (neverWaits state) (decides false) (reverse (take at (guards bounds names))) so_far.passed (marks sure never (queue nodes so_far.ring)) so_far.step
-    ≡ neverGuards (guards bounds names) state (marks sure₀ never₀ (queue nodes₀ so-far₀.ring)) so-far₀.step)
+    × (scan (never_waits state) (decides false) (reverse (take at (guards bounds names))) so_far.passed (marks sure never (queue nodes so_far.ring)) so_far.step
+    ≡ never_guards (guards bounds names) state (marks sure₀ never₀ (queue nodes₀ so-far₀.ring)) so-far₀.step)
 
 abbrev decreases-loop : tie.decreases-loop
 decreases-loop bounds names state sure₀ never₀ nodes₀ at₀ so-far₀ sure never nodes at so_far = at
@@ -88,13 +88,13 @@ returns c =
     let room = (start_of (in-loop-of-then1 c)).pre.1 in
     let b = g.bounds.now in
     let n = g.names.now in
-    let m = marks w.sure w.never (queue w.node-queue w.so_far.ring) in
+    let m = marks w.sure w.never (queue w.node_queue w.so_far.ring) in
     let x = guard (get_or b (w.at - 1) (pos 0)) (get_or n (w.at - 1) 0) in
-    let here : reverse (take w.at (guards b n)) ≡ x ∷ reverse (take (w.at - 1) (guards b n)) = (let z : w.at ≡ w.at - 1 + 1 = omega arith in ap (λ (j : ℕ). reverse (take j (guards b n))) z) ∙ down-guards b n (w.at - 1) (omega arith) (omega arith) in
+    let here : reverse (take w.at (guards b n)) ≡ x ∷ reverse (take (w.at - 1) (guards b n)) = (let z : w.at ≡ w.at - 1 + 1 = omega arith in ap (λ (j : ℕ). reverse (take j (guards b n))) z) ∙ down_guards b n (w.at - 1) (omega arith) (omega arith) in
     let hb : to_z w64 (of_z w64 (get_or b (w.at - 1) (pos 0))) ≡ get_or b (w.at - 1) (pos 0) = search rules in
-    let v : (never-waits-of-then1 c).never-waits.result ≡ neverWaits g.state x m = simp hb at (never-waits-of-then1 c).never-waits.ensures in
+    let v : (never-waits-of-then1 c).never-waits.result ≡ never_waits g.state x m = simp hb at (never-waits-of-then1 c).never-waits.ensures in
     let d = turn (scanned t.result.scan.passed (marks t.last.1.1.1.0 t.last.1.1.1.1.0 (queue t.last.1.1.1.1.1.0 t.result.scan.ring)) t.result.scan.step) t.result.ends in
-    place-ends (neverWaits g.state) (decides false) (reverse (take w.at (guards b n))) x (reverse (take (w.at - 1) (guards b n))) here w.so_far.passed m w.so_far.step
+    place-ends (never_waits g.state) (decides false) (reverse (take w.at (guards b n))) x (reverse (take (w.at - 1) (guards b n))) here w.so_far.passed m w.so_far.step
     (never-waits-of-then1 c).never-waits.result v d t.ensures c.if1.true
     ∙ w.inv.6
 
@@ -114,22 +114,22 @@ loop-again c =
     let room = (start_of (in-loop-of c)).pre.1 in
     let b = g.bounds.now in
     let n = g.names.now in
-    let m = marks w.sure w.never (queue w.node-queue w.so_far.ring) in
+    let m = marks w.sure w.never (queue w.node_queue w.so_far.ring) in
     let x = guard (get_or b (w.at - 1) (pos 0)) (get_or n (w.at - 1) 0) in
-    let here : reverse (take w.at (guards b n)) ≡ x ∷ reverse (take (w.at - 1) (guards b n)) = (let z : w.at ≡ w.at - 1 + 1 = omega arith in ap (λ (j : ℕ). reverse (take j (guards b n))) z) ∙ down-guards b n (w.at - 1) (omega arith) (omega arith) in
+    let here : reverse (take w.at (guards b n)) ≡ x ∷ reverse (take (w.at - 1) (guards b n)) = (let z : w.at ≡ w.at - 1 + 1 = omega arith in ap (λ (j : ℕ). reverse (take j (guards b n))) z) ∙ down_guards b n (w.at - 1) (omega arith) (omega arith) in
     let hb : to_z w64 (of_z w64 (get_or b (w.at - 1) (pos 0))) ≡ get_or b (w.at - 1) (pos 0) = search rules in
-    let v : (never-waits-of c).never-waits.result ≡ neverWaits g.state x m = simp hb at (never-waits-of c).never-waits.ensures in
+    let v : (never-waits-of c).never-waits.result ≡ never_waits g.state x m = simp hb at (never-waits-of c).never-waits.ensures in
     let d = turn (scanned t.result.scan.passed (marks t.last.1.1.1.0 t.last.1.1.1.1.0 (queue t.last.1.1.1.1.1.0 t.result.scan.ring)) t.result.scan.step) t.result.ends in
-    let p = place-passed (neverWaits g.state) (decides false) (reverse (take w.at (guards b n))) x (reverse (take (w.at - 1) (guards b n))) here w.so_far.passed m w.so_far.step
+    let p = place_passed (never_waits g.state) (decides false) (reverse (take w.at (guards b n))) x (reverse (take (w.at - 1) (guards b n))) here w.so_far.passed m w.so_far.step
     (never-waits-of c).never-waits.result v d t.ensures c.if1.false in (
       omega arith,
       omega arith,
       t.kept.1.1.1.0 ∙ w.inv.2,
       t.kept.1.1.1.1.0 ∙ w.inv.3,
       t.kept.1.1.1.1.1.0 ∙ w.inv.4,
-      place-keeps (neverWaits g.state) (decides false) (reverse (take w.at (guards b n))) x (reverse (take (w.at - 1) (guards b n))) here w.so_far.passed m w.so_far.step
+      place_keeps (never_waits g.state) (decides false) (reverse (take w.at (guards b n))) x (reverse (take (w.at - 1) (guards b n))) here w.so_far.passed m w.so_far.step
           (never-waits-of c).never-waits.result v d t.ensures Waits w.inv.5 (waits-decide m w.inv.5 false (get_or n (w.at - 1) 0) ((start_of (in-loop-of c)).pre.0.below (w.at - 1) (omega arith))),
-      place-goes (neverWaits g.state) (decides false) (reverse (take w.at (guards b n))) x (reverse (take (w.at - 1) (guards b n))) here w.so_far.passed m w.so_far.step
+      place_goes (never_waits g.state) (decides false) (reverse (take w.at (guards b n))) x (reverse (take (w.at - 1) (guards b n))) here w.so_far.passed m w.so_far.step
           (never-waits-of c).never-waits.result v d t.ensures c.if1.false
           ∙ w.inv.6,
     )
@@ -147,11 +147,11 @@ returns-2 : tie.Need-returns-2 invariant-loop decreases-loop
 returns-2 c =
     let g = c.before.before.before.before.before.before.args in
     let w = c.before.loop in
-    let m = marks w.sure w.never (queue w.node-queue w.so_far.ring) in
+    let m = marks w.sure w.never (queue w.node_queue w.so_far.ring) in
     let e : reverse (take w.at (guards g.bounds.now g.names.now)) ≡ [] = let z : w.at ≡ 0 = omega (arith, c.loop-test.false) in ap (λ (j : ℕ). reverse (take j (guards g.bounds.now g.names.now))) z in
     sym
-    (ap (λ (l : List Guard). scan (neverWaits g.state) (decides false) l w.so_far.passed m w.so_far.step) e
-    ∙ scan-none (neverWaits g.state) (decides false) w.so_far.passed m w.so_far.step)
+    (ap (λ (l : List Guard). scan (never_waits g.state) (decides false) l w.so_far.passed m w.so_far.step) e
+    ∙ scan-none (never_waits g.state) (decides false) w.so_far.passed m w.so_far.step)
     ∙ w.invariant.6
 
 pub never-guards-spec : {M : Type 1} → statement M

@@ -6,7 +6,7 @@ use Rattle.state.specs.declared.Step.{Step}
 use Rattle.queues.specs.Marks.{decided}
 use Rattle.row_runs.specs.Scan.{scanned}
 use Rattle.row_runs.specs.Turns.{turn}
-use Rattle.row_runs.specs.ScanLaws.{turn-stops, turn_on}
+use Rattle.row_runs.specs.ScanLaws.{turn_stops, turn_on}
 use borrow.Author.Rules.{rules}
 use Rattle.propagate.proofs.passed_turn.Statement.{statement}
 use Rattle.propagate.proofs.passed_turn.Tie as tie
@@ -14,7 +14,7 @@ use Rattle.propagate.proofs.passed_turn.Tie as tie
 returns : tie.Need-returns
 returns c =
     let a = c.before.before.before.before.args in
-    (λ m n. sym (turn-stops (decided m a.made.step) (scanned a.scan.passed n a.scan.step) (sym c.before.contradicts.ensures ∙ c.if1.true)), refl)
+    (λ m n. sym (turn_stops (decided m a.made.step) (scanned a.scan.passed n a.scan.step) (sym c.before.contradicts.ensures ∙ c.if1.true)), refl)
 
 returns-2 : tie.Need-returns-2
 returns-2 c =

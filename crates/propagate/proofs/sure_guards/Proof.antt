@@ -16,10 +16,10 @@ use Rattle.queues.specs.MarksLaws.{waits-decide}
 use Rattle.queues.specs.Waiting.{Waits}
 use Rattle.row_runs.specs.Scan.{scan, scanned}
 use Rattle.row_runs.specs.Turns.{turn}
-use Rattle.row_runs.specs.ScanLaws.{place-ends, place-goes, place-passed, place-keeps, scan-none}
-use Rattle.row_runs.specs.GuardsLaws.{up-guards, length-guards}
+use Rattle.row_runs.specs.ScanLaws.{place-ends, place_goes, place_passed, place_keeps, scan-none}
+use Rattle.row_runs.specs.GuardsLaws.{up_guards, length-guards}
 use Rattle.row_runs.specs.Guards.{guards}
-use Rattle.row_runs.specs.Row.{decides, sureGuards, sureWaits}
+use Rattle.row_runs.specs.Row.{decides, sure_guards, sure_waits}
 use Rattle.propagate.proofs.sure_guards.Statement.{statement}
 use Rattle.propagate.proofs.sure_guards.Tie as tie
 
@@ -27,8 +27,8 @@ abbrev invariant-loop : tie.invariant-loop
 invariant-loop bounds names state sure₀ never₀ nodes₀ at₀ so-far₀ sure never nodes at so_far =
     (at ≡ state.sure_guard + so_far.passed) × (so_far.passed ≤ length bounds) × (length sure ≡ length sure₀) × (length never ≡ length never₀) × (length nodes ≡ length nodes₀)
     × Waits (marks sure never (queue nodes so_far.ring))
-    × (scan (sureWaits state) (decides true) (drop at (guards bounds names)) so_far.passed (marks sure never (queue nodes so_far.ring)) so_far.step
-    ≡ sureGuards (guards bounds names) state (marks sure₀ never₀ (queue nodes₀ so-far₀.ring)))
+    × (scan (sure_waits state) (decides true) (drop at (guards bounds names)) so_far.passed (marks sure never (queue nodes so_far.ring)) so_far.step
+    ≡ sure_guards (guards bounds names) state (marks sure₀ never₀ (queue nodes₀ so-far₀.ring)))
 
 abbrev decreases-loop : tie.decreases-loop
 decreases-loop bounds names state sure₀ never₀ nodes₀ at₀ so-far₀ sure never nodes at so_far = length bounds - at
@@ -84,13 +84,13 @@ returns c =
     let same = (start_of (loop-of (sure-waits-of-then1 c))).pre.0.same in
     let b = g.bounds.now in
     let n = g.names.now in
-    let m = marks w.sure w.never (queue w.node-queue w.so_far.ring) in
+    let m = marks w.sure w.never (queue w.node_queue w.so_far.ring) in
     let x = guard (get_or b w.at (pos 0)) (get_or n w.at 0) in
-    let here : drop w.at (guards b n) ≡ x ∷ drop (w.at + 1) (guards b n) = up-guards b n w.at (omega arith) (omega arith) in
+    let here : drop w.at (guards b n) ≡ x ∷ drop (w.at + 1) (guards b n) = up_guards b n w.at (omega arith) (omega arith) in
     let hb : to_z w64 (of_z w64 (get_or b w.at (pos 0))) ≡ get_or b w.at (pos 0) = search rules in
-    let v : (sure-waits-of-then1 c).sure-waits.result ≡ sureWaits g.state x m = simp hb at (sure-waits-of-then1 c).sure-waits.ensures in
+    let v : (sure-waits-of-then1 c).sure-waits.result ≡ sure_waits g.state x m = simp hb at (sure-waits-of-then1 c).sure-waits.ensures in
     let d = turn (scanned t.result.scan.passed (marks t.last.1.1.1.0 t.last.1.1.1.1.0 (queue t.last.1.1.1.1.1.0 t.result.scan.ring)) t.result.scan.step) t.result.ends in
-    place-ends (sureWaits g.state) (decides true) (drop w.at (guards b n)) x (drop (w.at + 1) (guards b n)) here w.so_far.passed m w.so_far.step
+    place-ends (sure_waits g.state) (decides true) (drop w.at (guards b n)) x (drop (w.at + 1) (guards b n)) here w.so_far.passed m w.so_far.step
     (sure-waits-of-then1 c).sure-waits.result v d t.ensures c.if1.true
     ∙ w.inv.6
 
@@ -109,22 +109,22 @@ loop-again c =
     let same = (start_of (loop-of (sure-waits-of c))).pre.0.same in
     let b = g.bounds.now in
     let n = g.names.now in
-    let m = marks w.sure w.never (queue w.node-queue w.so_far.ring) in
+    let m = marks w.sure w.never (queue w.node_queue w.so_far.ring) in
     let x = guard (get_or b w.at (pos 0)) (get_or n w.at 0) in
-    let here : drop w.at (guards b n) ≡ x ∷ drop (w.at + 1) (guards b n) = up-guards b n w.at (omega arith) (omega arith) in
+    let here : drop w.at (guards b n) ≡ x ∷ drop (w.at + 1) (guards b n) = up_guards b n w.at (omega arith) (omega arith) in
     let hb : to_z w64 (of_z w64 (get_or b w.at (pos 0))) ≡ get_or b w.at (pos 0) = search rules in
-    let v : (sure-waits-of c).sure-waits.result ≡ sureWaits g.state x m = simp hb at (sure-waits-of c).sure-waits.ensures in
+    let v : (sure-waits-of c).sure-waits.result ≡ sure_waits g.state x m = simp hb at (sure-waits-of c).sure-waits.ensures in
     let d = turn (scanned t.result.scan.passed (marks t.last.1.1.1.0 t.last.1.1.1.1.0 (queue t.last.1.1.1.1.1.0 t.result.scan.ring)) t.result.scan.step) t.result.ends in
-    let p = place-passed (sureWaits g.state) (decides true) (drop w.at (guards b n)) x (drop (w.at + 1) (guards b n)) here w.so_far.passed m w.so_far.step
+    let p = place_passed (sure_waits g.state) (decides true) (drop w.at (guards b n)) x (drop (w.at + 1) (guards b n)) here w.so_far.passed m w.so_far.step
     (sure-waits-of c).sure-waits.result v d t.ensures c.if1.false in (
       omega arith,
       omega arith,
       t.kept.1.1.1.0 ∙ w.inv.2,
       t.kept.1.1.1.1.0 ∙ w.inv.3,
       t.kept.1.1.1.1.1.0 ∙ w.inv.4,
-      place-keeps (sureWaits g.state) (decides true) (drop w.at (guards b n)) x (drop (w.at + 1) (guards b n)) here w.so_far.passed m w.so_far.step
+      place_keeps (sure_waits g.state) (decides true) (drop w.at (guards b n)) x (drop (w.at + 1) (guards b n)) here w.so_far.passed m w.so_far.step
           (sure-waits-of c).sure-waits.result v d t.ensures Waits w.inv.5 (waits-decide m w.inv.5 true (get_or n w.at 0) ((start_of (loop-of (sure-waits-of c))).pre.0.below w.at (omega arith))),
-      place-goes (sureWaits g.state) (decides true) (drop w.at (guards b n)) x (drop (w.at + 1) (guards b n)) here w.so_far.passed m w.so_far.step
+      place_goes (sure_waits g.state) (decides true) (drop w.at (guards b n)) x (drop (w.at + 1) (guards b n)) here w.so_far.passed m w.so_far.step
           (sure-waits-of c).sure-waits.result v d t.ensures c.if1.false
           ∙ w.inv.6,
     )
@@ -142,11 +142,11 @@ returns-2 : tie.Need-returns-2 invariant-loop decreases-loop
 returns-2 c =
     let g = (start_of c.before).args in
     let w = c.before.loop in
-    let m = marks w.sure w.never (queue w.node-queue w.so_far.ring) in
+    let m = marks w.sure w.never (queue w.node_queue w.so_far.ring) in
     let e : drop w.at (guards g.bounds.now g.names.now) ≡ [] = drop_of_length-le (guards g.bounds.now g.names.now) {i = w.at} (omega (arith, length-guards g.bounds.now g.names.now)) in
     sym
-    (ap (λ (l : List Guard). scan (sureWaits g.state) (decides true) l w.so_far.passed m w.so_far.step) e
-    ∙ scan-none (sureWaits g.state) (decides true) w.so_far.passed m w.so_far.step)
+    (ap (λ (l : List Guard). scan (sure_waits g.state) (decides true) l w.so_far.passed m w.so_far.step) e
+    ∙ scan-none (sure_waits g.state) (decides true) w.so_far.passed m w.so_far.step)
     ∙ w.invariant.6
 
 pub sure-guards-spec : {M : Type 1} → statement M

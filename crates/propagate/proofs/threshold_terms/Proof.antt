@@ -8,12 +8,12 @@ use Rattle.numeric.specs.Slices.{terms}
 use Rattle.state.specs.declared.State.{State}
 use Rattle.state.specs.declared.Step.{Step}
 use Rattle.state.specs.Step.{joined}
-use Rattle.state.specs.State.{withTerms}
+use Rattle.state.specs.State.{with_terms}
 use Rattle.queues.specs.Queue.{queue}
 use Rattle.queues.specs.Marks.{Marks, marks}
-use Rattle.row_runs.specs.GuardsLaws.{all-terms}
-use Rattle.row_runs.specs.Row.{Ran, ran, trueTerms}
-use Rattle.row_runs.specs.RowLaws.{kept-true, kept_by, figures-moved, terms-stop, terms-more}
+use Rattle.row_runs.specs.GuardsLaws.{all_terms_lem}
+use Rattle.row_runs.specs.Row.{Ran, ran, true_terms}
+use Rattle.row_runs.specs.RowLaws.{kept-true, kept_by_lem, figures-moved, terms_stop, terms_more}
 use Rattle.propagate.proofs.threshold_terms.Statement.{statement}
 use Rattle.propagate.proofs.threshold_terms.Tie as tie
 
@@ -40,7 +40,7 @@ abbrev terms-at : tie.After-with-terms → List Term
 terms-at c = terms (start c).args.conditions.now (start c).args.weights.now
 
 abbrev marks-at : tie.After-with-terms → Marks
-marks-at c = marks (start c).args.sure.now (start c).args.never.now (queue (start c).args.node-queue.now (start c).args.before.ring)
+marks-at c = marks (start c).args.sure.now (start c).args.never.now (queue (start c).args.node_queue.now (start c).args.before.ring)
 
 abbrev marks_then : tie.After-with-terms → Marks
 marks_then c =
@@ -50,7 +50,7 @@ marks_then c =
 abbrev first : tie.After-with-terms → Ran
 first c = ran c.with-terms.result (marks_then c) (true-terms-of c).true-terms.result.step
 
-first_made : (c : tie.After-with-terms) → first c ≡ trueTerms (terms-at c) (start c).args.before.state (marks-at c)
+first_made : (c : tie.After-with-terms) → first c ≡ true_terms (terms-at c) (start c).args.before.state (marks-at c)
 first_made c =
     let f = (true-terms-of c).true-terms in
     ap (λ (y : State). ran y (marks_then c) f.result.step) c.with-terms.ensures ∙ f.ensures.0
@@ -68,7 +68,7 @@ returns : tie.Need-returns
 returns c =
     let w = c.before.before in
     let b = (start w).args.before in
-    terms-stop (terms-at w) (ran b.state (marks-at w) b.step) (first w) (first_made w) (sym c.before.contradicts.ensures ∙ c.if1.taken)
+    terms_stop (terms-at w) (ran b.state (marks-at w) b.step) (first w) (first_made w) (sym c.before.contradicts.ensures ∙ c.if1.taken)
 
 false-terms-requires : tie.Need-false-terms-requires
 false-terms-requires c κs =
@@ -76,11 +76,11 @@ false-terms-requires c κs =
     let a = (start w).args in
     let p = (start w).pre in
     let s = a.before.state in
-    let k = kept_by s (first w) (trueTerms (terms-at w) s (marks-at w)) (first_made w) (kept-true (terms-at w) s (marks-at w) (all-terms a.conditions.now a.weights.now p.0.below) p.2) in
+    let k = kept_by_lem s (first w) (true_terms (terms-at w) s (marks-at w)) (first_made w) (kept-true (terms-at w) s (marks-at w) (all_terms_lem a.conditions.now a.weights.now p.0.below) p.2) in
     (p.0, figures-moved s w.with-terms.result k.moved p.1, k.waits)
 
 add-with-terms-2 : tie.Need-add-with-terms-2
-unfolding withTerms
+unfolding with_terms
 add-with-terms-2 c =
     let g = (false-terms-of c).false-terms in
     let w = (else1-of (false-terms-of c)).before.before in
@@ -114,7 +114,7 @@ returns-2 c =
     let m = marks g.last.1.1.1.0 g.last.1.1.1.1.0 (queue g.last.1.1.1.1.1.0 g.result.ring) in
     let d = ran c.with-terms2.result m g.result.step in
     let made = ap (λ (y : State). ran y m g.result.step) c.with-terms2.ensures ∙ g.ensures.0 in
-    terms-more (terms-at w) (ran b.state (marks-at w) b.step) (first w) (first_made w) (sym e.before.contradicts.ensures ∙ e.if1.left)
+    terms_more (terms-at w) (ran b.state (marks-at w) b.step) (first w) (first_made w) (sym e.before.contradicts.ensures ∙ e.if1.left)
     d made join2.result (join2.ensures ∙ ap (λ (k : Step). joined k g.result.step) join.ensures)
 
 pub threshold-terms-spec : {M : Type 1} → statement M

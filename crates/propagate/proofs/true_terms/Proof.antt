@@ -8,18 +8,18 @@ use mir.Syntax.{w64}
 use mir.Val.{to_z, of_z}
 use mir.Facts.{to_z-of_z}
 use borrow.Author.Rules.{rules}
-use Rattle.base.specs.SignedLaws.{sub-sfits}
+use Rattle.base.specs.SignedLaws.{sub_sfits}
 use Rattle.numeric.specs.Slices.{terms}
 use Rattle.numeric.specs.TermsLaws.{length-terms}
 use Rattle.state.specs.declared.State.{State}
 use Rattle.state.specs.declared.Step.TheVariants.{Unchanged}
-use Rattle.state.specs.State.{withTerms}
+use Rattle.state.specs.State.{with_terms}
 use Rattle.queues.specs.Queue.{queue}
 use Rattle.queues.specs.Marks.{marks}
 use Rattle.row_runs.specs.Scan.{Scanned, scanned}
 use Rattle.row_runs.specs.Turns.{light, cut}
 use Rattle.row_runs.specs.Row.{ran}
-use Rattle.row_runs.specs.RowLaws.{stay-true, true-none, true-forced, forced-within, signed}
+use Rattle.row_runs.specs.RowLaws.{stay_true, true-none, true-forced, forced_within, signed}
 use Rattle.propagate.proofs.true_terms.Statement.{statement}
 use Rattle.propagate.proofs.true_terms.Tie as tie
 
@@ -43,8 +43,8 @@ returns c =
     let p = (start-of-then1 c).requires in
     let hk : to_z w64 (of_z w64 a.state.known) ≡ a.state.known = signed a.state.known p.1.known in
     let hl : to_z w64 (of_z w64 a.state.lower) ≡ a.state.lower = signed a.state.lower p.1.lower in
-    let m = marks a.sure.now a.never.now (queue a.node-queue.now a.ring) in
-    (ap (λ (y : State). ran y m Unchanged) (sym (stay-true a.state)) ∙ true-none (terms a.conditions.now a.weights.now) a.state m (simp (hk, hl) at c.if1.true), omega arith)
+    let m = marks a.sure.now a.never.now (queue a.node_queue.now a.ring) in
+    (ap (λ (y : State). ran y m Unchanged) (sym (stay_true a.state)) ∙ true-none (terms a.conditions.now a.weights.now) a.state m (simp (hk, hl) at c.if1.true), omega arith)
 
 sub-t15 : tie.Need-overflow-sub-t15
 sub-t15 c =
@@ -52,7 +52,7 @@ sub-t15 c =
     let p = (start_of c).requires in
     let hp : to_z w64 (of_z w64 a.state.possible) ≡ a.state.possible = signed a.state.possible p.1.possible in
     let hl : to_z w64 (of_z w64 a.state.lower) ≡ a.state.lower = signed a.state.lower p.1.lower in
-    simp (hp, hl) (sub-sfits a.state.possible a.state.lower (omega (arith, p.1.possible, p.1.lower)))
+    simp (hp, hl) (sub_sfits a.state.possible a.state.lower (omega (arith, p.1.possible, p.1.lower)))
 
 returns-2 : tie.Need-returns-2
 returns-2 c =
@@ -65,13 +65,13 @@ returns-2 c =
     let hp : to_z w64 (of_z w64 s.possible) ≡ s.possible = signed s.possible p.1.possible in
     let hl : to_z w64 (of_z w64 s.lower) ≡ s.lower = signed s.lower p.1.lower in
     let ts = terms a.conditions.now a.weights.now in
-    let m = marks a.sure.now a.never.now (queue a.node-queue.now a.ring) in
+    let m = marks a.sure.now a.never.now (queue a.node_queue.now a.ring) in
     let z = to_z w64 (of_z w64 (to_z w64 (of_z w64 s.possible) -ℤ to_z w64 (of_z w64 s.lower))) in
-    let d : to_z w64 (of_z w64 (s.possible -ℤ s.lower)) ≡ s.possible -ℤ s.lower = to_z-of_z (sub-sfits s.possible s.lower (omega (arith, p.1.possible, p.1.lower))) in
+    let d : to_z w64 (of_z w64 (s.possible -ℤ s.lower)) ≡ s.possible -ℤ s.lower = to_z-of_z (sub_sfits s.possible s.lower (omega (arith, p.1.possible, p.1.lower))) in
     let scan = scanned f.result.passed (marks f.last.1.1.1.1.0 f.last.1.1.1.1.1.0 (queue f.last.1.1.1.1.1.1.0 f.result.ring)) f.result.step in
-    let next = withTerms s (s.true_term + f.result.passed) s.false_term in (
+    let next = with_terms s (s.true_term + f.result.passed) s.false_term in (
       true-forced ts s m z scan next (simp (hk, hl) at at-else1.if1.left) (simp (hp, hl, d)) f.ensures refl,
-      omega (arith, forced-within true (light (cut true z)) ts s.true_term m, ap (λ (x : Scanned). x.passed) f.ensures, length-terms a.conditions.now a.weights.now),
+      omega (arith, forced_within true (light (cut true z)) ts s.true_term m, ap (λ (x : Scanned). x.passed) f.ensures, length-terms a.conditions.now a.weights.now),
     )
 
 pub true-terms-spec : {M : Type 1} → statement M

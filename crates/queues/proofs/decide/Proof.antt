@@ -1,6 +1,6 @@
 -- `queues::decide` meets its contract. Assumes nothing.
 use Rattle.queues.specs.Queue.{queue}
-use Rattle.queues.specs.MarksLaws.{decide-sure, decide-never}
+use Rattle.queues.specs.MarksLaws.{decide_sure_lem, decide_never_lem}
 use borrow.Author.Rules.{rules}
 use Rattle.queues.proofs.decide.Statement.{statement}
 use Rattle.queues.proofs.decide.Tie as tie
@@ -23,14 +23,14 @@ returns : tie.Need-returns
 returns c =
     let a = (start-of-then1 (then1-of c)).args in
     let l = c.before.before.before.before.before.before.learn in
-    decide-sure a.sure.now a.never.now (queue a.node-queue.now a.ring) a.n a.value
+    decide_sure_lem a.sure.now a.never.now (queue a.node_queue.now a.ring) a.n a.value
     l.new.0 l.result (queue c.before.before.wait.new.0 c.before.before.wait.result) c.before.before.wait.ensures (then1-of c).if1.true l.ensures.0 l.ensures.1
 
 returns-2 : tie.Need-returns-2
 returns-2 c =
     let a = (start_of (else1-of c)).args in
     let l = c.before.before.before.before.before.before.learn2 in
-    decide-never a.sure.now a.never.now (queue a.node-queue.now a.ring) a.n a.value
+    decide_never_lem a.sure.now a.never.now (queue a.node_queue.now a.ring) a.n a.value
     l.new.0 l.result (queue c.before.before.wait2.new.0 c.before.before.wait2.result) c.before.before.wait2.ensures (else1-of c).if1.false l.ensures.0 l.ensures.1
 
 pub decide-spec : {M : Type 1} → statement M

@@ -2,7 +2,7 @@
 use mathlib.Core.Path.{sym}
 use native.Mathlib.Nat.{mod-eq_of_lt}
 use native.Mathlib.Omega.{arith}
-use Rattle.queues.specs.QueueLaws.{wrap-once}
+use Rattle.queues.specs.QueueLaws.{wrap_once}
 use Rattle.queues.proofs.wrapped.Statement.{statement}
 use Rattle.queues.proofs.wrapped.Tie as tie
 
@@ -13,7 +13,7 @@ returns-2 : tie.Need-returns-2
 returns-2 c =
     let a = c.before.args in
     let p = c.before.requires in
-    (sym (wrap-once a.at a.places c.if1.false p), omega arith)
+    (sym (wrap_once a.at a.places c.if1.false p), omega arith)
 
 pub wrapped-spec : {M : Type 1} → statement M
 wrapped-spec = tie.close (tie.spec returns returns-2)

@@ -1,7 +1,7 @@
 -- `read` meets its contract: its buffers are cleared, and the job's records fill them.
-use Rattle.memory.specs.Buffers.{Raw, rawLists, raw}
-use Rattle.reading.specs.HeldLaws.{begun-asks, begun-held}
-use Rattle.reading.specs.ClearedLaws.{read-room, read_held}
+use Rattle.memory.specs.Buffers.{Raw, raw_lists, raw}
+use Rattle.reading.specs.HeldLaws.{begun-asks, begun_held}
+use Rattle.reading.specs.ClearedLaws.{read_room, read_held}
 use borrow.Author.Rules.{rules}
 use Rattle.reading.proofs.read.Statement.{statement}
 use Rattle.reading.proofs.read.Tie as tie
@@ -20,19 +20,19 @@ nothing-of p = p.before.before.before.before
 abbrev entry : tie.Start → Raw
 entry p =
     let a = p.args in
-    raw (rawLists a.raw-conditions.now a.raw-weights.now a.thresholds.now) a.bounds.now
+    raw (raw_lists a.raw-conditions.now a.raw-weights.now a.thresholds.now) a.bounds.now
 
 abbrev cleared : tie.After-clear-raw → Raw
 cleared p =
     let l = p.clear-raw.new in
-    raw (rawLists l.0 l.1.0 l.1.1.0) l.1.1.1.0
+    raw (raw_lists l.0 l.1.0 l.1.1.0) l.1.1.1.0
 
 read-job-requires : tie.Need-read-job-requires
 read-job-requires c κs =
     let n = nothing-of c in
     let after-clear = clear-raw-of n in
     let start = start_of after-clear in
-    begun-asks _ _ _ _ (read-room (entry start) (cleared after-clear) start.pre after-clear.clear-raw.ensures) n.nothing_read.result n.nothing_read.ensures start.args.input.now
+    begun-asks _ _ _ _ (read_room (entry start) (cleared after-clear) start.pre after-clear.clear-raw.ensures) n.nothing_read.result n.nothing_read.ensures start.args.input.now
 
 returns : tie.Need-returns
 returns c =
@@ -41,7 +41,7 @@ returns c =
     let after-clear = clear-raw-of n in
     let start = start_of after-clear in
     read_held (entry start) (cleared after-clear) after-clear.clear-raw.ensures
-    (begun-held _ _ _ _ (read-room (entry start) (cleared after-clear) start.pre after-clear.clear-raw.ensures) n.nothing_read.result n.nothing_read.ensures
+    (begun_held _ _ _ _ (read_room (entry start) (cleared after-clear) start.pre after-clear.clear-raw.ensures) n.nothing_read.result n.nothing_read.ensures
     start.args.input.now after_read.read-job.result _ _ _ _ after_read.read-job.ensures)
 
 pub read_spec : {M : Type 1} → statement M

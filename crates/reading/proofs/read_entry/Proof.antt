@@ -1,6 +1,6 @@
 -- `reading::read_entry` meets its contract: the two fields are added to the job, by the kind that was found.
 use mathlib.Core.Path.{refl}
-use Rattle.reading.specs.HeldLaws.{term-passes, read-term, area-passes, read-area}
+use Rattle.reading.specs.HeldLaws.{term_passes, read_term, area_passes, read_area}
 use borrow.Author.Rules.{rules}
 use Rattle.reading.proofs.read_entry.Statement.{statement}
 use Rattle.reading.proofs.read_entry.Tie as tie
@@ -21,7 +21,7 @@ add-area-requires c κs =
     let n = at-figure.before.u16-at in
     let s = start_of at-figure in
     let g = s.args in
-    (s.pre.1, s.pre.2, s.pre.3, search rules, area-passes g.input.now g.at g.standing s.pre.0 n.result w.result n.ensures w.ensures at_test.if1.true)
+    (s.pre.1, s.pre.2, s.pre.3, search rules, area_passes g.input.now g.at g.standing s.pre.0 n.result w.result n.ensures w.ensures at_test.if1.true)
 
 returns : tie.Need-returns
 returns c =
@@ -33,7 +33,7 @@ returns c =
     let s = start_of at-figure in
     let g = s.args in
     let t = at-area.add-area in
-    (read-area g.input.now g.at g.standing s.pre.0 n.result w.result n.ensures w.ensures at_test.if1.taken g.raw-conditions.now g.raw-weights.now g.thresholds.now g.places.now g.sums.now t.result _ _ _ _ _ t.ensures, refl, refl)
+    (read_area g.input.now g.at g.standing s.pre.0 n.result w.result n.ensures w.ensures at_test.if1.taken g.raw-conditions.now g.raw-weights.now g.thresholds.now g.places.now g.sums.now t.result _ _ _ _ _ t.ensures, refl, refl)
 
 add-term-requires : tie.Need-add-term-requires
 add-term-requires c κs =
@@ -43,7 +43,7 @@ add-term-requires c κs =
     let n = at-figure.before.u16-at in
     let s = start_of at-figure in
     let g = s.args in
-    (s.pre.1, s.pre.2, search rules, term-passes g.input.now g.at g.standing s.pre.0 n.result w.result n.ensures w.ensures at_test.if1.false)
+    (s.pre.1, s.pre.2, search rules, term_passes g.input.now g.at g.standing s.pre.0 n.result w.result n.ensures w.ensures at_test.if1.false)
 
 returns-2 : tie.Need-returns-2
 returns-2 c =
@@ -55,7 +55,7 @@ returns-2 c =
     let s = start_of at-figure in
     let g = s.args in
     let t = at-term.add_term in
-    (read-term g.input.now g.at g.standing s.pre.0 n.result w.result n.ensures w.ensures at_test.if1.false g.raw-conditions.now g.raw-weights.now g.thresholds.now g.places.now g.sums.now t.result _ _ _ t.ensures, refl, refl)
+    (read_term g.input.now g.at g.standing s.pre.0 n.result w.result n.ensures w.ensures at_test.if1.false g.raw-conditions.now g.raw-weights.now g.thresholds.now g.places.now g.sums.now t.result _ _ _ t.ensures, refl, refl)
 
 pub read-entry-spec : {M : Type 1} → statement M
 read-entry-spec =

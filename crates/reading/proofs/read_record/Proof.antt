@@ -1,7 +1,7 @@
 -- `reading::read_record` meets its contract: the next record is refused, a seal, or taken.
 use mathlib.Core.Path.{sym, ◌∙◌}
 use native.Mathlib.Omega.{arith}
-use Rattle.reading.specs.HeldLaws.{next-passes, next-whole, read-refused, read-sealing, read_next}
+use Rattle.reading.specs.HeldLaws.{next_passes, next_whole, read_refused, read_sealing, read_next}
 use borrow.Author.Rules.{rules}
 use Rattle.reading.proofs.read_record.Statement.{statement}
 use Rattle.reading.proofs.read_record.Tie as tie
@@ -29,7 +29,7 @@ returns c =
     let s = start_of at_next in
     let g = s.args in
     let e = sym c.before.before.before.next2.given.1 ∙ at_next.next-record.ensures in
-    record { part = λ f w room h. read-sealing g.input.now g.at s.pre.0 f w g.standing g.raw-conditions.now g.raw-weights.now g.thresholds.now g.bounds.now g.places.now g.sums.now h _ e (sym c.before.closes.ensures ∙ c.if1.true) }
+    record { part = λ f w room h. read_sealing g.input.now g.at s.pre.0 f w g.standing g.raw-conditions.now g.raw-weights.now g.thresholds.now g.bounds.now g.places.now g.sums.now h _ e (sym c.before.closes.ensures ∙ c.if1.true) }
 
 take-record-requires : tie.Need-take-record-requires
 take-record-requires c κs =
@@ -37,7 +37,7 @@ take-record-requires c κs =
     let s = start_of at_next in
     let g = s.args in
     let e = sym (else1-of c).before.before.before.next2.given.1 ∙ at_next.next-record.ensures in
-    (s.pre.2, s.pre.3, next-passes g.standing g.input.now g.at _ e, s.pre.1 _ e, sym (else1-of c).before.closes.ensures ∙ (else1-of c).if1.false)
+    (s.pre.2, s.pre.3, next_passes g.standing g.input.now g.at _ e, s.pre.1 _ e, sym (else1-of c).before.closes.ensures ∙ (else1-of c).if1.false)
 
 add-t31 : tie.Need-overflow-add-t31
 add-t31 c =
@@ -51,7 +51,7 @@ add-t32 c =
     let s = start_of at_next in
     let g = s.args in
     let e = sym at_size.before.before.before.before.before.next2.given.1 ∙ at_next.next-record.ensures in
-    let q = next-whole g.standing g.input.now g.at _ e s.pre.0 in
+    let q = next_whole g.standing g.input.now g.at _ e s.pre.0 in
     record { fits = omega (arith, q, at_size.body-length.ensures, s.fits) }
 
 returns-2 : tie.Need-returns-2
@@ -60,7 +60,7 @@ returns-2 c =
     let s = start_of at_next in
     let g = s.args in
     let e = sym c.before.next.given.1 ∙ at_next.next-record.ensures in
-    record { part = λ f w room h. read-refused g.input.now g.at s.pre.0 f w g.standing g.raw-conditions.now g.raw-weights.now g.thresholds.now g.bounds.now g.places.now g.sums.now h _ e }
+    record { part = λ f w room h. read_refused g.input.now g.at s.pre.0 f w g.standing g.raw-conditions.now g.raw-weights.now g.thresholds.now g.bounds.now g.places.now g.sums.now h _ e }
 
 returns-3 : tie.Need-returns-3
 returns-3 c =

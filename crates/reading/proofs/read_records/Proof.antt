@@ -5,7 +5,7 @@ use native.Mathlib.Omega.{arith}
 use lib.ListN.{length}
 use Rattle.job.specs.Gathered.{Gathered, Joinable}
 use Rattle.reading.specs.Held.{NextOfJob, GoesFrom}
-use Rattle.reading.specs.HeldLaws.{goes, from-here, from-asks, from-ends, from-stops, from-farther, from_on}
+use Rattle.reading.specs.HeldLaws.{goes, from_here, from_asks, from_ends, from_stops, from_farther, from_on}
 use borrow.Author.Rules.{rules}
 use Rattle.reading.proofs.read_records.Statement.{statement}
 use Rattle.reading.proofs.read_records.Tie as tie
@@ -46,7 +46,7 @@ loop-holds : tie.Need-loop-init invariant-loop decreases-loop
 loop-holds c =
     let s = c.before.before.before.before.before in
     let g = s.args in
-    (from-here g.input.now g.at g.standing g.raw-conditions.now g.raw-weights.now g.thresholds.now g.bounds.now g.places.now g.sums.now s.requires.1, refl, refl, refl, refl, refl, refl)
+    (from_here g.input.now g.at g.standing g.raw-conditions.now g.raw-weights.now g.thresholds.now g.bounds.now g.places.now g.sums.now s.requires.1, refl, refl, refl, refl, refl, refl)
 
 entry-comes-requires : tie.Need-entry-comes-requires invariant-loop decreases-loop
 entry-comes-requires c κs = c.before.if1.true
@@ -58,7 +58,7 @@ asks p =
     let s = start_of p in
     let g = s.args in
     let v = p.loop in
-    from-asks g.input.now g.at g.standing g.raw-conditions.now g.raw-weights.now g.thresholds.now g.bounds.now g.places.now g.sums.now v.read v.raw-conditions v.raw-weights v.thresholds v.bounds v.places v.sums v.invariant.0 s.pre.0.0 s.pre.0.1 s.pre.0.2 s.pre.0.3
+    from_asks g.input.now g.at g.standing g.raw-conditions.now g.raw-weights.now g.thresholds.now g.bounds.now g.places.now g.sums.now v.read v.raw-conditions v.raw-weights v.thresholds v.bounds v.places v.sums v.invariant.0 s.pre.0.0 s.pre.0.1 s.pre.0.2 s.pre.0.3
 
 read-entry-requires : tie.Need-read-entry-requires invariant-loop decreases-loop
 read-entry-requires c κs =
@@ -76,7 +76,7 @@ loop-less c =
     let v = at-loop.loop in
     let n = at_read.read-entry in
     let e = goes n.result n.ensures.1 n.ensures.2 in
-    omega (arith, at_test.if1.taken, from-farther g.input.now g.at g.standing g.raw-conditions.now g.raw-weights.now g.thresholds.now g.bounds.now g.places.now g.sums.now v.read v.raw-conditions v.raw-weights v.thresholds v.bounds v.places v.sums v.inv.0 at_test.if1.taken n.result _ _ _ _ _ _ (n.ensures.0 v.bounds) s.pre.0.0 s.pre.0.1 s.pre.0.2 s.pre.0.3 e)
+    omega (arith, at_test.if1.taken, from_farther g.input.now g.at g.standing g.raw-conditions.now g.raw-weights.now g.thresholds.now g.bounds.now g.places.now g.sums.now v.read v.raw-conditions v.raw-weights v.thresholds v.bounds v.places v.sums v.inv.0 at_test.if1.taken n.result _ _ _ _ _ _ (n.ensures.0 v.bounds) s.pre.0.0 s.pre.0.1 s.pre.0.2 s.pre.0.3 e)
 
 loop-again : tie.Need-loop-preserved invariant-loop decreases-loop
 loop-again c =
@@ -130,7 +130,7 @@ returns c =
     let g = s.args in
     let v = at-loop.loop in
     let n = at_read.read-record in
-    from-stops g.input.now g.at g.standing g.raw-conditions.now g.raw-weights.now g.thresholds.now g.bounds.now g.places.now g.sums.now v.read v.raw-conditions v.raw-weights v.thresholds v.bounds v.places v.sums v.inv.0 at_test.if1.taken n.result _ _ _ _ _ _ n.ensures c.if3.true
+    from_stops g.input.now g.at g.standing g.raw-conditions.now g.raw-weights.now g.thresholds.now g.bounds.now g.places.now g.sums.now v.read v.raw-conditions v.raw-weights v.thresholds v.bounds v.places v.sums v.inv.0 at_test.if1.taken n.result _ _ _ _ _ _ n.ensures c.if3.true
 
 loop-less-2 : tie.Need-loop-smaller-2 invariant-loop decreases-loop
 loop-less-2 c =
@@ -141,7 +141,7 @@ loop-less-2 c =
     let g = s.args in
     let v = at-loop.loop in
     let n = at_read.read-record in
-    omega (arith, at_test.if1.taken, from-farther g.input.now g.at g.standing g.raw-conditions.now g.raw-weights.now g.thresholds.now g.bounds.now g.places.now g.sums.now v.read v.raw-conditions v.raw-weights v.thresholds v.bounds v.places v.sums v.inv.0 at_test.if1.taken n.result _ _ _ _ _ _ n.ensures s.pre.0.0 s.pre.0.1 s.pre.0.2 s.pre.0.3 c.if3.false)
+    omega (arith, at_test.if1.taken, from_farther g.input.now g.at g.standing g.raw-conditions.now g.raw-weights.now g.thresholds.now g.bounds.now g.places.now g.sums.now v.read v.raw-conditions v.raw-weights v.thresholds v.bounds v.places v.sums v.inv.0 at_test.if1.taken n.result _ _ _ _ _ _ n.ensures s.pre.0.0 s.pre.0.1 s.pre.0.2 s.pre.0.3 c.if3.false)
 
 loop-again-2 : tie.Need-loop-preserved-2 invariant-loop decreases-loop
 loop-again-2 c =
@@ -167,7 +167,7 @@ returns-2 c =
     let s = start_of at-loop in
     let g = s.args in
     let v = at-loop.loop in
-    from-ends g.input.now g.at g.standing g.raw-conditions.now g.raw-weights.now g.thresholds.now g.bounds.now g.places.now g.sums.now v.read v.raw-conditions v.raw-weights v.thresholds v.bounds v.places v.sums v.invariant.0 c.if1.false
+    from_ends g.input.now g.at g.standing g.raw-conditions.now g.raw-weights.now g.thresholds.now g.bounds.now g.places.now g.sums.now v.read v.raw-conditions v.raw-weights v.thresholds v.bounds v.places v.sums v.invariant.0 c.if1.false
 
 pub read-records-spec : {M : Type 1} → statement M
 read-records-spec =

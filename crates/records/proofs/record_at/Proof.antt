@@ -6,7 +6,7 @@ use Rattle.records.specs.declared.Record.TheVariants.{Header, Opens, Adds, Areas
 use Rattle.records.specs.Record.{signed}
 use mir.Syntax.{w64}
 use mir.Val.{to_z, of_z}
-use Rattle.records.specs.RecordLaws.{one_byte, room_by, record-by, one_field, two_fields, other_at}
+use Rattle.records.specs.RecordLaws.{one_byte, room_by, record_by, one_field, two_fields, other_at}
 use borrow.Author.Rules.{rules}
 use Rattle.records.proofs.record_at.Statement.{statement}
 use Rattle.records.proofs.record_at.Tie as tie
@@ -55,7 +55,7 @@ returns-3 c =
     two_fields p.input.now p.at 3 4 Adds c.before.u16-at3.result c.u32-at.result refl c.before.before.match.keys3 c.before.u16-at3.ensures c.u32-at.ensures
 
 returns-4 : tie.Need-returns-4
-returns-4 c = let p = c.before.before.before.args in record-by p.input.now p.at 4 c.match.keys4
+returns-4 c = let p = c.before.before.before.args in record_by p.input.now p.at 4 c.match.keys4
 
 returns-5 : tie.Need-returns-5
 returns-5 c =
@@ -66,10 +66,10 @@ returns-5 c =
     two_fields l i 5 1 Mark c.before.u16-at4.result _ refl k c.before.u16-at4.ensures (sym (one_byte l (i + 3) (omega (arith, room_by l i 5 k q.requires))))
 
 returns-6 : tie.Need-returns-6
-returns-6 c = let p = c.before.before.before.args in record-by p.input.now p.at 6 c.match.keys6
+returns-6 c = let p = c.before.before.before.args in record_by p.input.now p.at 6 c.match.keys6
 
 returns-7 : tie.Need-returns-7
-returns-7 c = let p = c.before.before.before.args in record-by p.input.now p.at 7 c.match.keys7
+returns-7 c = let p = c.before.before.before.args in record_by p.input.now p.at 7 c.match.keys7
 
 returns-8 : tie.Need-returns-8
 returns-8 c =

@@ -46,21 +46,21 @@ use denote.Triple.Spec.{Meets, triple_of}
 use denote.Triple.Table.{entered, cited}
 use denote.Triple.Walked.{says, needs, Stays, walk_of, Walks, ends_at, walked, walk_Meets}
 use Rattle.states.specs.Pairs.{◌▹◌}
-use Rattle.states.specs.ChainLaws.{chain, chain-out, chain-in}
-use Rattle.states.specs.AgainLaws.{LentAgain, lends-at, back_at}
-use Rattle.states.specs.LocalsLaws.{alloc_all, free-under}
-use Rattle.states.specs.SaidLaws.{saids, goes-saids}
-use Rattle.states.specs.SharedLaws.{shares-on}
-use Rattle.states.specs.StepsLaws.{big-lit}
+use Rattle.states.specs.ChainLaws.{chain, chain-out, chain_in}
+use Rattle.states.specs.AgainLaws.{LentAgain, lends_at, back_at}
+use Rattle.states.specs.LocalsLaws.{alloc_all, free_under}
+use Rattle.states.specs.SaidLaws.{saids, goes_saids}
+use Rattle.states.specs.SharedLaws.{shares_on}
+use Rattle.states.specs.StepsLaws.{big_lit}
 use Rattle.state.specs.declared.State.{State}
 use Rattle.state.specs.contracts.State as T
 use Rattle.state.proofs.State.TheLaws as T'
-use Rattle.state.specs.State.{firstState}
-use Rattle.memory.specs.Limits.{maxThresholds}
+use Rattle.state.specs.State.{first_state}
+use Rattle.memory.specs.Limits.{max_thresholds}
 use Rattle.files.specs.declared.Given.{Given as Answer}
 use Rattle.files.specs.contracts.Given as G
 use Rattle.files.proofs.Given.TheLaws as G'
-use Rattle.memory.specs.Buffers.{Work, rawLists, raw as rawOf, held_rows, built, kept, work}
+use Rattle.memory.specs.Buffers.{Work, raw_lists, raw as raw_of, held_rows, built, kept, work}
 use Rattle.files.specs.Contents.{out}
 use Rattle.files.specs.Planner.{left, plan}
 use Rattle.listing.specs.Lines.{Listable}
@@ -68,10 +68,10 @@ use Rattle.listing.specs.Shows.{Listed}
 use Rattle.report.specs.declared.Planned.{Planned}
 use Rattle.report.specs.Plan.{plan_of, Plans}
 use Rattle.report.specs.Ready.{Ready}
-use Rattle.report.specs.PlanLaws.{ran-listable, ran-plans}
+use Rattle.report.specs.PlanLaws.{ran_listable, ran_plans}
 use Rattle.report.specs.contracts.Planned as P
 use Rattle.report.proofs.Planned.TheLaws as P'
-use Rattle.report.proofs.Array.{arrayTy, lends-array, array_back}
+use Rattle.report.proofs.Array.{array_ty, lends_array, array_back}
 use Rattle.state.specs.contracts.State.first as first'
 use Rattle.state.proofs.State.first.Symbol as first_def
 use Rattle.state.proofs.State.first.Symbol.{name as #state·State·first}
@@ -139,7 +139,7 @@ at κs a = (shr_slice_vals a.0) ▹ (shr_slice_vals a.1.0) ▹ (shr_slice_vals a
     a.1.1.1.1.1.1.1.1.1.1.1.1.1.1.1.1.1.1.1.1.1.1.0) ▹ tt
 
 module _ {M : Type 1} {𝓤 : Ura M} (𝓛 : Logic 𝓤) (at_mem : Memory → SProp 𝓤) (run : Routine → Fun 𝓤) (κs : Lfts 23) (qs : Shares 23) (a : Args f.signature κs)
-    (are : Are (types_at (f.signature).params κs) (Ises (types_at (f.signature).params κs)) a (at κs a)) (pre : Ready a.0.now a.1.0.now (work (rawOf (rawLists a.1.1.0.now
+    (are : Are (types_at (f.signature).params κs) (Ises (types_at (f.signature).params κs)) a (at κs a)) (pre : Ready a.0.now a.1.0.now (work (raw_of (raw_lists a.1.1.0.now
     a.1.1.1.0.now a.1.1.1.1.0.now) a.1.1.1.1.1.0.now) (built (held_rows a.1.1.1.1.1.1.0.now a.1.1.1.1.1.1.1.0.now a.1.1.1.1.1.1.1.1.0.now
     a.1.1.1.1.1.1.1.1.1.0.now a.1.1.1.1.1.1.1.1.1.1.0.now) a.1.1.1.1.1.1.1.1.1.1.1.0.now a.1.1.1.1.1.1.1.1.1.1.1.1.0.now
     a.1.1.1.1.1.1.1.1.1.1.1.1.1.0.now) (kept a.1.1.1.1.1.1.1.1.1.1.1.1.1.1.0.now a.1.1.1.1.1.1.1.1.1.1.1.1.1.1.1.0.now
@@ -365,7 +365,7 @@ module _ {M : Type 1} {𝓤 : Ura M} (𝓛 : Logic 𝓤) (at_mem : Memory → SP
   shr-states b κ δ l = (ShrSlice erased κ T.the_row).own_val (record { ref_ptr = (b, 0); now = l }) (slice_val (b, 0) 1024 ∷ [])
 
   abbrev w₀ : Work
-  w₀ = work (rawOf (rawLists x-raw-conditions.now x-raw-weights.now x-thresholds.now) x-bounds.now) (built (held_rows x-row-conditions.now x-row-weights.now x-rows.now
+  w₀ = work (raw_of (raw_lists x-raw-conditions.now x-raw-weights.now x-thresholds.now) x-bounds.now) (built (held_rows x-row-conditions.now x-row-weights.now x-rows.now
       x-guard-bounds.now x-guard-nodes.now) x-nodes.now x-edges.now x-links.now) (kept x-figures.now x-cursors.now x-sure.now x-never.now x-search.now x-gcds.now
       x-node-queue.now x-row-queues.now x-answers.now)
 
@@ -375,7 +375,7 @@ module _ {M : Type 1} {𝓤 : Ura M} (𝓛 : Logic 𝓤) (at_mem : Memory → SP
       ℤ) × (List (List ℕ) × (List ℕ × (List ℕ × (List ℕ × (List ℕ × (List ℕ × (List (List ℕ) × (List (List ℕ) × Unit {0}))))))))))))))))))))))
 
   abbrev work-at : Lasts-core → Work
-  work-at zs = work (rawOf (rawLists zs.1.0 zs.1.1.0 zs.1.1.1.0) zs.1.1.1.1.0) (built (held_rows zs.1.1.1.1.1.0 zs.1.1.1.1.1.1.0 zs.1.1.1.1.1.1.1.0
+  work-at zs = work (raw_of (raw_lists zs.1.0 zs.1.1.0 zs.1.1.1.0) zs.1.1.1.1.0) (built (held_rows zs.1.1.1.1.1.0 zs.1.1.1.1.1.1.0 zs.1.1.1.1.1.1.1.0
       zs.1.1.1.1.1.1.1.1.0 zs.1.1.1.1.1.1.1.1.1.0) zs.1.1.1.1.1.1.1.1.1.1.0 zs.1.1.1.1.1.1.1.1.1.1.1.0 zs.1.1.1.1.1.1.1.1.1.1.1.1.0)
       (kept zs.1.1.1.1.1.1.1.1.1.1.1.1.1.1.0 zs.1.1.1.1.1.1.1.1.1.1.1.1.1.1.1.0 zs.1.1.1.1.1.1.1.1.1.1.1.1.1.1.1.1.0
       zs.1.1.1.1.1.1.1.1.1.1.1.1.1.1.1.1.1.0 zs.1.1.1.1.1.1.1.1.1.1.1.1.1.1.1.1.1.1.0 zs.1.1.1.1.1.1.1.1.1.1.1.1.1.1.1.1.1.1.1.0
@@ -453,8 +453,8 @@ module _ {M : Type 1} {𝓤 : Ura M} (𝓛 : Logic 𝓤) (at_mem : Memory → SP
   abbrev shr-answers : GName → List (List ℕ) → Fml
   shr-answers φ l = (ShrSlice (named 22) κs.1.1.1.1.1.1.1.1.1.1.1.1.1.1.1.1.1.1.1.1.1.1.0 Two).own_val (record { ref_ptr = x-answers.ptr; now = l }) (shr_slice_vals x-answers)
 
-  many : (s : State) → maxThresholds ≤ length (replicate 1024 s)
-  many s = subst (λ (k : ℕ). maxThresholds ≤ k) (sym (length-replicate 1024 s)) (lit≤ tt)
+  many : (s : State) → max_thresholds ≤ length (replicate 1024 s)
+  many s = subst (λ (k : ℕ). max_thresholds ≤ k) (sym (length-replicate 1024 s)) (lit≤ tt)
 
   -- what each callee's triple binds outside, and that the caller has what it asks
   abbrev to-first : (First 𝓛 at_mem run).Ghost
@@ -575,19 +575,19 @@ module _ {M : Type 1} {𝓤 : Ura M} (𝓛 : Logic 𝓤) (at_mem : Memory → SP
       move ! (8 ∷ 0 ∷ []) $
       join ! $
       move ! (7 ∷ 0 ∷ []) $
-      use2 𝓛 (raw (chain 𝓤 toks-back (sep 𝓤 (A.lft (ι ∷ []) full_share) (emp 𝓤)))) (chain-in 𝓛 toks-back (sep 𝓤 (A.lft (ι ∷ []) full_share) (emp 𝓤))) $
+      use2 𝓛 (raw (chain 𝓤 toks-back (sep 𝓤 (A.lft (ι ∷ []) full_share) (emp 𝓤)))) (chain_in 𝓛 toks-back (sep 𝓤 (A.lft (ι ∷ []) full_share) (emp 𝓤))) $
       move ! (6 ∷ 0 ∷ []) $
       join ! $
       move ! (5 ∷ 0 ∷ []) $
       join ! $
       move ! (4 ∷ 0 ∷ []) $
-      use2 𝓛 (raw (chain 𝓤 toks-middle (sep 𝓤 (A.lft (β ∷ []) full_share) (sep 𝓤 (A.lft (η ∷ []) full_share) (chain 𝓤 toks-back (sep 𝓤 (A.lft (ι ∷ []) full_share) (emp 𝓤))))))) (chain-in 𝓛
+      use2 𝓛 (raw (chain 𝓤 toks-middle (sep 𝓤 (A.lft (β ∷ []) full_share) (sep 𝓤 (A.lft (η ∷ []) full_share) (chain 𝓤 toks-back (sep 𝓤 (A.lft (ι ∷ []) full_share) (emp 𝓤))))))) (chain_in 𝓛
       toks-middle (sep 𝓤 (A.lft (β ∷ []) full_share) (sep 𝓤 (A.lft (η ∷ []) full_share) (chain 𝓤 toks-back (sep 𝓤 (A.lft (ι ∷ []) full_share) (emp 𝓤)))))) $
       move ! (3 ∷ 0 ∷ []) $
       join ! $
       move ! (2 ∷ 0 ∷ []) $
       use2 𝓛 (raw (chain 𝓤 toks-front (sep 𝓤 (A.lft (α ∷ []) full_share) (chain 𝓤 toks-middle (sep 𝓤 (A.lft (β ∷ []) full_share) (sep 𝓤 (A.lft (η ∷ []) full_share) (chain 𝓤 toks-back (sep 𝓤 (A.lft (ι
-      ∷ []) full_share) (emp 𝓤))))))))) (chain-in 𝓛 toks-front (sep 𝓤 (A.lft (α ∷ []) full_share) (chain 𝓤 toks-middle (sep 𝓤 (A.lft (β ∷ []) full_share) (sep 𝓤 (A.lft (η ∷ []) full_share) (chain
+      ∷ []) full_share) (emp 𝓤))))))))) (chain_in 𝓛 toks-front (sep 𝓤 (A.lft (α ∷ []) full_share) (chain 𝓤 toks-middle (sep 𝓤 (A.lft (β ∷ []) full_share) (sep 𝓤 (A.lft (η ∷ []) full_share) (chain
       𝓤 toks-back (sep 𝓤 (A.lft (ι ∷ []) full_share) (emp 𝓤)))))))) $
       move ! (1 ∷ 0 ∷ []) $
       join ! $
@@ -595,7 +595,7 @@ module _ {M : Type 1} {𝓤 : Ura M} (𝓛 : Logic 𝓤) (at_mem : Memory → SP
       move ! (9 ∷ 0 ∷ []) $
       join ! $
       move ! (8 ∷ 0 ∷ []) $
-      use2 𝓛 (raw (chain 𝓤 owns_back (sep 𝓤 (sem 𝓛 (own-answers (ι ∷ []) ζ x-answers.now)) (emp 𝓤)))) (chain-in 𝓛 owns_back (sep 𝓤 (sem 𝓛 (own-answers (ι ∷ []) ζ x-answers.now))
+      use2 𝓛 (raw (chain 𝓤 owns_back (sep 𝓤 (sem 𝓛 (own-answers (ι ∷ []) ζ x-answers.now)) (emp 𝓤)))) (chain_in 𝓛 owns_back (sep 𝓤 (sem 𝓛 (own-answers (ι ∷ []) ζ x-answers.now))
       (emp 𝓤))) $
       move ! (7 ∷ 0 ∷ []) $
       join ! $
@@ -603,13 +603,13 @@ module _ {M : Type 1} {𝓤 : Ura M} (𝓛 : Logic 𝓤) (at_mem : Memory → SP
       join ! $
       move ! (5 ∷ 0 ∷ []) $
       use2 𝓛 (raw (chain 𝓤 owns-middle (sep 𝓤 (sem 𝓛 (own-sure (β ∷ []) ε x-sure.now)) (sep 𝓤 (sem 𝓛 (own-never (η ∷ []) θ x-never.now)) (chain 𝓤 owns_back (sep 𝓤 (sem 𝓛 (own-answers
-      (ι ∷ []) ζ x-answers.now)) (emp 𝓤))))))) (chain-in 𝓛 owns-middle (sep 𝓤 (sem 𝓛 (own-sure (β ∷ []) ε x-sure.now)) (sep 𝓤 (sem 𝓛 (own-never (η ∷ []) θ x-never.now)) (chain 𝓤
+      (ι ∷ []) ζ x-answers.now)) (emp 𝓤))))))) (chain_in 𝓛 owns-middle (sep 𝓤 (sem 𝓛 (own-sure (β ∷ []) ε x-sure.now)) (sep 𝓤 (sem 𝓛 (own-never (η ∷ []) θ x-never.now)) (chain 𝓤
       owns_back (sep 𝓤 (sem 𝓛 (own-answers (ι ∷ []) ζ x-answers.now)) (emp 𝓤)))))) $
       move ! (4 ∷ 0 ∷ []) $
       join ! $
       move ! (3 ∷ 0 ∷ []) $
       use2 𝓛 (raw (chain 𝓤 owns-front (sep 𝓤 (sem 𝓛 (own-states b (α ∷ []) δ (replicate 1024 s))) (chain 𝓤 owns-middle (sep 𝓤 (sem 𝓛 (own-sure (β ∷ []) ε x-sure.now)) (sep 𝓤 (sem 𝓛
-      (own-never (η ∷ []) θ x-never.now)) (chain 𝓤 owns_back (sep 𝓤 (sem 𝓛 (own-answers (ι ∷ []) ζ x-answers.now)) (emp 𝓤))))))))) (chain-in 𝓛 owns-front (sep 𝓤 (sem 𝓛 (own-states
+      (own-never (η ∷ []) θ x-never.now)) (chain 𝓤 owns_back (sep 𝓤 (sem 𝓛 (own-answers (ι ∷ []) ζ x-answers.now)) (emp 𝓤))))))))) (chain_in 𝓛 owns-front (sep 𝓤 (sem 𝓛 (own-states
       b (α ∷ []) δ (replicate 1024 s))) (chain 𝓤 owns-middle (sep 𝓤 (sem 𝓛 (own-sure (β ∷ []) ε x-sure.now)) (sep 𝓤 (sem 𝓛 (own-never (η ∷ []) θ x-never.now)) (chain 𝓤 owns_back (sep 𝓤
       (sem 𝓛 (own-answers (ι ∷ []) ζ x-answers.now)) (emp 𝓤)))))))) $
       move ! (2 ∷ 0 ∷ []) $
@@ -646,7 +646,7 @@ module _ {M : Type 1} {𝓤 : Ura M} (𝓛 : Logic 𝓤) (at_mem : Memory → SP
       join ! $
       move ! (7 ∷ 0 ∷ []) $
       use2 𝓛 (raw (chain 𝓤 toks-back (sep 𝓤 (A.lft κs.1.1.1.1.1.1.1.1.1.1.1.1.1.1.1.1.1.1.1.1.1.1.0 qs.1.1.1.1.1.1.1.1.1.1.1.1.1.1.1.1.1.1.1.1.1.1.0)
-      (emp 𝓤)))) (chain-in 𝓛 toks-back (sep 𝓤 (A.lft κs.1.1.1.1.1.1.1.1.1.1.1.1.1.1.1.1.1.1.1.1.1.1.0
+      (emp 𝓤)))) (chain_in 𝓛 toks-back (sep 𝓤 (A.lft κs.1.1.1.1.1.1.1.1.1.1.1.1.1.1.1.1.1.1.1.1.1.1.0
       qs.1.1.1.1.1.1.1.1.1.1.1.1.1.1.1.1.1.1.1.1.1.1.0) (emp 𝓤))) $
       move ! (6 ∷ 0 ∷ []) $
       join ! $
@@ -655,14 +655,14 @@ module _ {M : Type 1} {𝓤 : Ura M} (𝓛 : Logic 𝓤) (at_mem : Memory → SP
       move ! (4 ∷ 0 ∷ []) $
       use2 𝓛 (raw (chain 𝓤 toks-middle (sep 𝓤 (A.lft κs.1.1.1.1.1.1.1.1.1.1.1.1.1.1.1.1.0 qs.1.1.1.1.1.1.1.1.1.1.1.1.1.1.1.1.0) (sep 𝓤 (A.lft
       κs.1.1.1.1.1.1.1.1.1.1.1.1.1.1.1.1.1.0 qs.1.1.1.1.1.1.1.1.1.1.1.1.1.1.1.1.1.0) (chain 𝓤 toks-back (sep 𝓤 (A.lft
-      κs.1.1.1.1.1.1.1.1.1.1.1.1.1.1.1.1.1.1.1.1.1.1.0 qs.1.1.1.1.1.1.1.1.1.1.1.1.1.1.1.1.1.1.1.1.1.1.0) (emp 𝓤))))))) (chain-in 𝓛 toks-middle
+      κs.1.1.1.1.1.1.1.1.1.1.1.1.1.1.1.1.1.1.1.1.1.1.0 qs.1.1.1.1.1.1.1.1.1.1.1.1.1.1.1.1.1.1.1.1.1.1.0) (emp 𝓤))))))) (chain_in 𝓛 toks-middle
       (sep 𝓤 (A.lft κs.1.1.1.1.1.1.1.1.1.1.1.1.1.1.1.1.0 qs.1.1.1.1.1.1.1.1.1.1.1.1.1.1.1.1.0) (sep 𝓤 (A.lft
       κs.1.1.1.1.1.1.1.1.1.1.1.1.1.1.1.1.1.0 qs.1.1.1.1.1.1.1.1.1.1.1.1.1.1.1.1.1.0) (chain 𝓤 toks-back (sep 𝓤 (A.lft
       κs.1.1.1.1.1.1.1.1.1.1.1.1.1.1.1.1.1.1.1.1.1.1.0 qs.1.1.1.1.1.1.1.1.1.1.1.1.1.1.1.1.1.1.1.1.1.1.0) (emp 𝓤)))))) $
       move ! (3 ∷ 0 ∷ []) $
       use2 𝓛 (raw (chain 𝓤 toks-front (chain 𝓤 toks-middle (sep 𝓤 (A.lft κs.1.1.1.1.1.1.1.1.1.1.1.1.1.1.1.1.0 qs.1.1.1.1.1.1.1.1.1.1.1.1.1.1.1.1.0) (sep 𝓤
       (A.lft κs.1.1.1.1.1.1.1.1.1.1.1.1.1.1.1.1.1.0 qs.1.1.1.1.1.1.1.1.1.1.1.1.1.1.1.1.1.0) (chain 𝓤 toks-back (sep 𝓤 (A.lft
-      κs.1.1.1.1.1.1.1.1.1.1.1.1.1.1.1.1.1.1.1.1.1.1.0 qs.1.1.1.1.1.1.1.1.1.1.1.1.1.1.1.1.1.1.1.1.1.1.0) (emp 𝓤)))))))) (chain-in 𝓛 toks-front
+      κs.1.1.1.1.1.1.1.1.1.1.1.1.1.1.1.1.1.1.1.1.1.1.0 qs.1.1.1.1.1.1.1.1.1.1.1.1.1.1.1.1.1.1.1.1.1.1.0) (emp 𝓤)))))))) (chain_in 𝓛 toks-front
       (chain 𝓤 toks-middle (sep 𝓤 (A.lft κs.1.1.1.1.1.1.1.1.1.1.1.1.1.1.1.1.0 qs.1.1.1.1.1.1.1.1.1.1.1.1.1.1.1.1.0) (sep 𝓤 (A.lft
       κs.1.1.1.1.1.1.1.1.1.1.1.1.1.1.1.1.1.0 qs.1.1.1.1.1.1.1.1.1.1.1.1.1.1.1.1.1.0) (chain 𝓤 toks-back (sep 𝓤 (A.lft
       κs.1.1.1.1.1.1.1.1.1.1.1.1.1.1.1.1.1.1.1.1.1.1.0 qs.1.1.1.1.1.1.1.1.1.1.1.1.1.1.1.1.1.1.1.1.1.1.0) (emp 𝓤))))))) $
@@ -689,7 +689,7 @@ module _ {M : Type 1} {𝓤 : Ura M} (𝓛 : Logic 𝓤) (at_mem : Memory → SP
       join ! $
       move ! (7 ∷ 0 ∷ []) $
       use2 𝓛 (raw (chain 𝓤 (lasts-back zs) (sep 𝓤 (sem 𝓛 (fsep (finally Two x-answers.name zs.1.1.1.1.1.1.1.1.1.1.1.1.1.1.1.1.1.1.1.1.1.1.0) (feq ℕ (length
-      zs.1.1.1.1.1.1.1.1.1.1.1.1.1.1.1.1.1.1.1.1.1.1.0) (length x-answers.now)))) (emp 𝓤)))) (chain-in 𝓛 (lasts-back zs) (sep 𝓤 (sem 𝓛 (fsep (finally Two
+      zs.1.1.1.1.1.1.1.1.1.1.1.1.1.1.1.1.1.1.1.1.1.1.0) (length x-answers.now)))) (emp 𝓤)))) (chain_in 𝓛 (lasts-back zs) (sep 𝓤 (sem 𝓛 (fsep (finally Two
       x-answers.name zs.1.1.1.1.1.1.1.1.1.1.1.1.1.1.1.1.1.1.1.1.1.1.0) (feq ℕ (length zs.1.1.1.1.1.1.1.1.1.1.1.1.1.1.1.1.1.1.1.1.1.1.0) (length
       x-answers.now)))) (emp 𝓤))) $
       move ! (2 ∷ 0 ∷ []) $
@@ -701,7 +701,7 @@ module _ {M : Type 1} {𝓤 : Ura M} (𝓛 : Logic 𝓤) (at_mem : Memory → SP
       zs.1.1.1.1.1.1.1.1.1.1.1.1.1.1.1.1.0) (length x-sure.now)))) (sep 𝓤 (sem 𝓛 (fsep (finally u64 x-never.name
       zs.1.1.1.1.1.1.1.1.1.1.1.1.1.1.1.1.1.0) (feq ℕ (length zs.1.1.1.1.1.1.1.1.1.1.1.1.1.1.1.1.1.0) (length x-never.now)))) (chain 𝓤 (lasts-back zs) (sep 𝓤
       (sem 𝓛 (fsep (finally Two x-answers.name zs.1.1.1.1.1.1.1.1.1.1.1.1.1.1.1.1.1.1.1.1.1.1.0) (feq ℕ (length
-      zs.1.1.1.1.1.1.1.1.1.1.1.1.1.1.1.1.1.1.1.1.1.1.0) (length x-answers.now)))) (emp 𝓤))))))) (chain-in 𝓛 (lasts-middle zs) (sep 𝓤 (sem 𝓛 (fsep (finally u64
+      zs.1.1.1.1.1.1.1.1.1.1.1.1.1.1.1.1.1.1.1.1.1.1.0) (length x-answers.now)))) (emp 𝓤))))))) (chain_in 𝓛 (lasts-middle zs) (sep 𝓤 (sem 𝓛 (fsep (finally u64
       x-sure.ghost_name zs.1.1.1.1.1.1.1.1.1.1.1.1.1.1.1.1.0) (feq ℕ (length zs.1.1.1.1.1.1.1.1.1.1.1.1.1.1.1.1.0) (length x-sure.now)))) (sep 𝓤 (sem 𝓛 (fsep
       (finally u64 x-never.ghost_name zs.1.1.1.1.1.1.1.1.1.1.1.1.1.1.1.1.1.0) (feq ℕ (length zs.1.1.1.1.1.1.1.1.1.1.1.1.1.1.1.1.1.0) (length x-never.now))))
       (chain 𝓤 (lasts-back zs) (sep 𝓤 (sem 𝓛 (fsep (finally Two x-answers.name zs.1.1.1.1.1.1.1.1.1.1.1.1.1.1.1.1.1.1.1.1.1.1.0) (feq ℕ (length
@@ -711,7 +711,7 @@ module _ {M : Type 1} {𝓤 : Ura M} (𝓛 : Logic 𝓤) (at_mem : Memory → SP
       zs.1.1.1.1.1.1.1.1.1.1.1.1.1.1.1.1.0) (length x-sure.now)))) (sep 𝓤 (sem 𝓛 (fsep (finally u64 x-never.name
       zs.1.1.1.1.1.1.1.1.1.1.1.1.1.1.1.1.1.0) (feq ℕ (length zs.1.1.1.1.1.1.1.1.1.1.1.1.1.1.1.1.1.0) (length x-never.now)))) (chain 𝓤 (lasts-back zs) (sep 𝓤
       (sem 𝓛 (fsep (finally Two x-answers.name zs.1.1.1.1.1.1.1.1.1.1.1.1.1.1.1.1.1.1.1.1.1.1.0) (feq ℕ (length
-      zs.1.1.1.1.1.1.1.1.1.1.1.1.1.1.1.1.1.1.1.1.1.1.0) (length x-answers.now)))) (emp 𝓤)))))))) (chain-in 𝓛 (lasts-front zs) (chain 𝓤 (lasts-middle zs) (sep 𝓤 (sem 𝓛 (fsep (finally u64 x-sure.ghost_name zs.1.1.1.1.1.1.1.1.1.1.1.1.1.1.1.1.0) (feq ℕ (length zs.1.1.1.1.1.1.1.1.1.1.1.1.1.1.1.1.0) (length x-sure.now))))
+      zs.1.1.1.1.1.1.1.1.1.1.1.1.1.1.1.1.1.1.1.1.1.1.0) (length x-answers.now)))) (emp 𝓤)))))))) (chain_in 𝓛 (lasts-front zs) (chain 𝓤 (lasts-middle zs) (sep 𝓤 (sem 𝓛 (fsep (finally u64 x-sure.ghost_name zs.1.1.1.1.1.1.1.1.1.1.1.1.1.1.1.1.0) (feq ℕ (length zs.1.1.1.1.1.1.1.1.1.1.1.1.1.1.1.1.0) (length x-sure.now))))
       (sep 𝓤 (sem 𝓛 (fsep (finally u64 x-never.name zs.1.1.1.1.1.1.1.1.1.1.1.1.1.1.1.1.1.0) (feq ℕ (length zs.1.1.1.1.1.1.1.1.1.1.1.1.1.1.1.1.1.0)
       (length x-never.now)))) (chain 𝓤 (lasts-back zs) (sep 𝓤 (sem 𝓛 (fsep (finally Two x-answers.name zs.1.1.1.1.1.1.1.1.1.1.1.1.1.1.1.1.1.1.1.1.1.1.0) (feq ℕ
       (length zs.1.1.1.1.1.1.1.1.1.1.1.1.1.1.1.1.1.1.1.1.1.1.0) (length x-answers.now)))) (emp 𝓤))))))) $
@@ -763,9 +763,9 @@ module _ {M : Type 1} {𝓤 : Ura M} (𝓛 : Logic 𝓤) (at_mem : Memory → SP
         calls_at ! fm (First 𝓛 at_mem run) known-first to-first (and_then ! (lit ! tt) (and_then ! (lit ! tt) (no_more !))) (λ v₀.
         use1 𝓛 (later (some (λ (s : State). (‵ ftrue ⊛ ‵ ((T.the_row).own_val s (v₀ ∷ []))) ⊛ raw (ensured 𝓛 first'.ended (first'.clauses 𝓛 at_mem run) to-first.0.0 to-first.0.3 tt s))))
         (id⊢ 𝓤 _) $ await ! tt $ pick ! (λ s.
-        split ! $ move ! (1 ∷ []) $ use1 𝓛 (some (λ (us : Unit {0} × (Unit {0} × Unit {0})). ‵ (lasts first'.ended to-first.0.0 to-first.0.3 us) ⊛ raw (fact 𝓤 (s ≡ firstState 0 0)))) (id⊢ 𝓤 _)
+        split ! $ move ! (1 ∷ []) $ use1 𝓛 (some (λ (us : Unit {0} × (Unit {0} × Unit {0})). ‵ (lasts first'.ended to-first.0.0 to-first.0.3 us) ⊛ raw (fact 𝓤 (s ≡ first_state 0 0)))) (id⊢ 𝓤 _)
         $ pick ! (λ us.
-        split ! $ move ! (1 ∷ []) $ heard ! (s ≡ firstState 0 0) (λ e₀. move ! (1 ∷ []) $ split ! $
+        split ! $ move ! (1 ∷ []) $ heard ! (s ≡ first_state 0 0) (λ e₀. move ! (1 ∷ []) $ split ! $
         move ! (1 ∷ []) $
         peeks ! T.the_row (Is T.the_row) (shows 𝓛 T.the_row) s (v₀ ∷ []) (λ is₀.
         land ! (from ! (stop !)) (init ! 27 refl ((LL.lawful T.the_type T'.the_laws 𝓛).typed s _ is₀).0) $
@@ -812,7 +812,7 @@ module _ {M : Type 1} {𝓤 : Ura M} (𝓛 : Logic 𝓤) (at_mem : Memory → SP
         assigns ! (agg ! (and_then ! (load ! (from ! (stop !)) (look ! 51 refl)) (and_then ! (load ! (from ! (fld ! refl (stop !))) (look_in ! 15 (sub ! 1 refl (whole !)))) (no_more !)))) (from !
         (stop !)) (init ! 52 refl (tt, (tt, (record { fits = are.1.1.1.1.1.1.1.1.1.1.1.1.1.0.0.1.0 }, tt)))) $
         assigns ! (addr ! (from ! (stop !))) (from ! (stop !)) (init ! 53 refl (tt, tt)) $
-        assigns ! (agg ! (and_then ! (load ! (from ! (stop !)) (look ! 53 refl)) (and_then ! (big-lit ! (record { fits = lit< tt })) (no_more !)))) (from ! (stop !)) (init ! 54 refl
+        assigns ! (agg ! (and_then ! (load ! (from ! (stop !)) (look ! 53 refl)) (and_then ! (big_lit ! (record { fits = lit< tt })) (no_more !)))) (from ! (stop !)) (init ! 54 refl
         (tt, (tt, (record { fits = lit< tt }, tt)))) $
         assigns ! (addr ! (from ! (fld ! refl (hop ! (look_in ! 16 (sub ! 0 refl (whole !))) (stop !))))) (from ! (stop !)) (init ! 55 refl (tt, tt)) $
         assigns ! (agg ! (and_then ! (load ! (from ! (stop !)) (look ! 55 refl)) (and_then ! (load ! (from ! (fld ! refl (stop !))) (look_in ! 16 (sub ! 1 refl (whole !)))) (no_more !)))) (from !
@@ -908,25 +908,25 @@ module _ {M : Type 1} {𝓤 : Ura M} (𝓛 : Logic 𝓤) (at_mem : Memory → SP
         move ! (43 ∷ 17 ∷ []) $
         group ! 2 $ use1 𝓛 (later (some (λ (δ : GName). ‵ (own-states ns.1.1.1.1.1.1.1.1.1.1.1.1.1.1.1.1.1.1.1.1.1.1.1.1.1.0 (α ∷ []) δ (replicate 1024 s)) ⊛ ‵ (flent (α ∷
         []) (Held T.the_row 1024 ns.1.1.1.1.1.1.1.1.1.1.1.1.1.1.1.1.1.1.1.1.1.1.1.1.1.0 0 δ)))))
-        (lends-array 𝓛 T.the_row ns.1.1.1.1.1.1.1.1.1.1.1.1.1.1.1.1.1.1.1.1.1.1.1.1.1.0 tt erased (α ∷ []) (replicate 1024 s) (array_val (replicate 1024 v₀)) 1024
+        (lends_array 𝓛 T.the_row ns.1.1.1.1.1.1.1.1.1.1.1.1.1.1.1.1.1.1.1.1.1.1.1.1.1.0 tt erased (α ∷ []) (replicate 1024 s) (array_val (replicate 1024 v₀)) 1024
         (length-replicate 1024 s) (lit< tt, lit< tt)) $ await ! tt $ pick ! (λ δ. split ! $
         lft_new ! tt (λ β.
         move ! (7 ∷ 15 ∷ []) $
         use2 𝓛 (later (some (λ (δ : GName). ‵ (own-sure (β ∷ []) δ x-sure.now) ⊛ ‵ (LentAgain u64 κs.1.1.1.1.1.1.1.1.1.1.1.1.1.1.1.1.0 (β ∷ [])
         qs.1.1.1.1.1.1.1.1.1.1.1.1.1.1.1.1.0 x-sure.ghost_name x-sure.ref_ptr.0 x-sure.ref_ptr.1 δ x-sure.now))))
-        (lends-at u64 κs.1.1.1.1.1.1.1.1.1.1.1.1.1.1.1.1.0 (β ∷ []) qs.1.1.1.1.1.1.1.1.1.1.1.1.1.1.1.1.0 x-sure.name x-sure.ptr.0 x-sure.ptr.1 𝓛
+        (lends_at u64 κs.1.1.1.1.1.1.1.1.1.1.1.1.1.1.1.1.0 (β ∷ []) qs.1.1.1.1.1.1.1.1.1.1.1.1.1.1.1.1.0 x-sure.name x-sure.ptr.0 x-sure.ptr.1 𝓛
         (named 16) (named 16) x-sure.now (length x-sure.now) (refl)) $ await ! tt $ pick ! (λ ε. split ! $
         lft_new ! tt (λ η.
         move ! (9 ∷ 16 ∷ []) $
         use2 𝓛 (later (some (λ (δ : GName). ‵ (own-never (η ∷ []) δ x-never.now) ⊛ ‵ (LentAgain u64 κs.1.1.1.1.1.1.1.1.1.1.1.1.1.1.1.1.1.0 (η ∷ [])
         qs.1.1.1.1.1.1.1.1.1.1.1.1.1.1.1.1.1.0 x-never.ghost_name x-never.ref_ptr.0 x-never.ref_ptr.1 δ x-never.now))))
-        (lends-at u64 κs.1.1.1.1.1.1.1.1.1.1.1.1.1.1.1.1.1.0 (η ∷ []) qs.1.1.1.1.1.1.1.1.1.1.1.1.1.1.1.1.1.0 x-never.name x-never.ptr.0 x-never.ptr.1
+        (lends_at u64 κs.1.1.1.1.1.1.1.1.1.1.1.1.1.1.1.1.1.0 (η ∷ []) qs.1.1.1.1.1.1.1.1.1.1.1.1.1.1.1.1.1.0 x-never.name x-never.ptr.0 x-never.ptr.1
         𝓛 (named 17) (named 17) x-never.now (length x-never.now) (refl)) $ await ! tt $ pick ! (λ θ. split ! $
         lft_new ! tt (λ ι.
         move ! (10 ∷ 16 ∷ []) $
         use2 𝓛 (later (some (λ (δ : GName). ‵ (own-answers (ι ∷ []) δ x-answers.now) ⊛ ‵ (LentAgain Two κs.1.1.1.1.1.1.1.1.1.1.1.1.1.1.1.1.1.1.1.1.1.1.0 (ι ∷ [])
         qs.1.1.1.1.1.1.1.1.1.1.1.1.1.1.1.1.1.1.1.1.1.1.0 x-answers.ghost_name x-answers.ref_ptr.0 x-answers.ref_ptr.1 δ x-answers.now))))
-        (lends-at Two κs.1.1.1.1.1.1.1.1.1.1.1.1.1.1.1.1.1.1.1.1.1.1.0 (ι ∷ []) qs.1.1.1.1.1.1.1.1.1.1.1.1.1.1.1.1.1.1.1.1.1.1.0 x-answers.name
+        (lends_at Two κs.1.1.1.1.1.1.1.1.1.1.1.1.1.1.1.1.1.1.1.1.1.1.0 (ι ∷ []) qs.1.1.1.1.1.1.1.1.1.1.1.1.1.1.1.1.1.1.1.1.1.1.0 x-answers.name
         x-answers.ref_ptr.0 x-answers.ref_ptr.1 𝓛 (named 22) (named 22) x-answers.now (length x-answers.now) (refl)) $ await ! tt $ pick ! (λ ζ. split ! $
         move ! (21 ∷ 19 ∷ 11 ∷ 18 ∷ 8 ∷ 5 ∷ 17 ∷ 2 ∷ 16 ∷ 14 ∷ 9 ∷ 13 ∷ 6 ∷ 3 ∷ 12 ∷ 0 ∷ []) $
         group ! 16 $ use1 𝓛 (raw ((Core 𝓛 at_mem run).pre (to-core ns.1.1.1.1.1.1.1.1.1.1.1.1.1.1.1.1.1.1.1.1.1.1.1.1.1.0 s α δ β ε η θ ι ζ))) (goes-core
@@ -1018,7 +1018,7 @@ module _ {M : Type 1} {𝓤 : Ura M} (𝓛 : Logic 𝓤) (at_mem : Memory → SP
         move ! (13 ∷ []) $
         lft_end ! tt $
         move ! (0 ∷ 20 ∷ 1 ∷ []) $
-        use3 𝓛 (later (some (λ (v₁ : Val). ‵ (fat full_share (arrayTy 𝓛 T.the_row ns.1.1.1.1.1.1.1.1.1.1.1.1.1.1.1.1.1.1.1.1.1.1.1.1.1.0 1024)
+        use3 𝓛 (later (some (λ (v₁ : Val). ‵ (fat full_share (array_ty 𝓛 T.the_row ns.1.1.1.1.1.1.1.1.1.1.1.1.1.1.1.1.1.1.1.1.1.1.1.1.1.0 1024)
         ns.1.1.1.1.1.1.1.1.1.1.1.1.1.1.1.1.1.1.1.1.1.1.1.1.1.0 0 v₁) ⊛ ‵ ((Array T.the_row 1024).own_val zs.1.1.1.1.1.1.1.1.1.1.1.1.1.0 (v₁ ∷ [])))))
         (array_back 𝓛 T.the_row ns.1.1.1.1.1.1.1.1.1.1.1.1.1.1.1.1.1.1.1.1.1.1.1.1.1.0 (α ∷ []) δ zs.1.1.1.1.1.1.1.1.1.1.1.1.1.0 1024) $ await ! tt $
         pick ! (λ v₁. split ! $
@@ -1061,7 +1061,7 @@ module _ {M : Type 1} {𝓤 : Ura M} (𝓛 : Logic 𝓤) (at_mem : Memory → SP
         assigns ! (agg ! (and_then ! (load ! (from ! (stop !)) (look ! 92 refl)) (and_then ! (load ! (from ! (fld ! refl (stop !))) (look_in ! 42 (sub ! 1 refl (whole !)))) (no_more !)))) (from !
         (stop !)) (init ! 93 refl (tt, (tt, (record { fits = are.1.1.1.1.1.1.1.1.1.1.1.1.1.1.1.1.1.1.1.1.1.1.0.0.1.0 }, tt)))) $
         assigns ! (addr ! (from ! (stop !))) (from ! (stop !)) (init ! 94 refl (tt, tt)) $
-        assigns ! (agg ! (and_then ! (load ! (from ! (stop !)) (look ! 94 refl)) (and_then ! (big-lit ! (record { fits = lit< tt })) (no_more !)))) (from ! (stop !)) (init ! 95 refl
+        assigns ! (agg ! (and_then ! (load ! (from ! (stop !)) (look ! 94 refl)) (and_then ! (big_lit ! (record { fits = lit< tt })) (no_more !)))) (from ! (stop !)) (init ! 95 refl
         (tt, (tt, (record { fits = lit< tt }, tt)))) $
         assigns ! (addr ! (from ! (fld ! refl (hop ! (look_in ! 36 (sub ! 0 refl (whole !))) (stop !))))) (from ! (stop !)) (init ! 96 refl (tt, tt)) $
         assigns ! (agg ! (and_then ! (load ! (from ! (stop !)) (look ! 96 refl)) (and_then ! (load ! (from ! (fld ! refl (stop !))) (look_in ! 36 (sub ! 1 refl (whole !)))) (no_more !)))) (from !
@@ -1073,29 +1073,29 @@ module _ {M : Type 1} {𝓤 : Ura M} (𝓛 : Logic 𝓤) (at_mem : Memory → SP
         move ! (7 ∷ 8 ∷ []) $
         group ! 2 $ use1 𝓛 (later (some (λ (δ : GName). ‵ (own-states ns.1.1.1.1.1.1.1.1.1.1.1.1.1.1.1.1.1.1.1.1.1.1.1.1.1.0 (ν ∷ []) δ
         zs.1.1.1.1.1.1.1.1.1.1.1.1.1.0) ⊛ ‵ (flent (ν ∷ []) (Held T.the_row 1024 ns.1.1.1.1.1.1.1.1.1.1.1.1.1.1.1.1.1.1.1.1.1.1.1.1.1.0 0 δ)))))
-        (lends-array 𝓛 T.the_row ns.1.1.1.1.1.1.1.1.1.1.1.1.1.1.1.1.1.1.1.1.1.1.1.1.1.0 tt erased (ν ∷ []) zs.1.1.1.1.1.1.1.1.1.1.1.1.1.0 (v₁) 1024
+        (lends_array 𝓛 T.the_row ns.1.1.1.1.1.1.1.1.1.1.1.1.1.1.1.1.1.1.1.1.1.1.1.1.1.0 tt erased (ν ∷ []) zs.1.1.1.1.1.1.1.1.1.1.1.1.1.0 (v₁) 1024
         (same-states ∙ length-replicate 1024 s) (lit< tt, lit< tt)) $ await ! tt $ pick ! (λ ξ. split ! $
         move ! (0 ∷ 2 ∷ []) $
         use2 𝓛 (later (some (λ (φ : GName). ‵ (shr-states ns.1.1.1.1.1.1.1.1.1.1.1.1.1.1.1.1.1.1.1.1.1.1.1.1.1.0 (ν ∷ []) φ zs.1.1.1.1.1.1.1.1.1.1.1.1.1.0)
         ⊛ (‵ (finally T.the_row ξ zs.1.1.1.1.1.1.1.1.1.1.1.1.1.0) ⊛ ‵ (flft (ν ∷ []) full_share)))))
-        (shares-on 𝓛 T.the_row erased erased (ν ∷ []) full_share ns.1.1.1.1.1.1.1.1.1.1.1.1.1.1.1.1.1.1.1.1.1.1.1.1.1.0 0 ξ
+        (shares_on 𝓛 T.the_row erased erased (ν ∷ []) full_share ns.1.1.1.1.1.1.1.1.1.1.1.1.1.1.1.1.1.1.1.1.1.1.1.1.1.0 0 ξ
         zs.1.1.1.1.1.1.1.1.1.1.1.1.1.0 1024 (same-states ∙ length-replicate 1024 s)) $ await ! tt $ pick ! (λ φ-states. split ! $ move ! (1 ∷ []) $ split ! $
         move ! (8 ∷ 9 ∷ []) $
         use2 𝓛 (later (some (λ (φ : GName). ‵ (shr-sure φ zs.1.1.1.1.1.1.1.1.1.1.1.1.1.1.1.1.0) ⊛ (‵ (finally u64 x-sure.name
         zs.1.1.1.1.1.1.1.1.1.1.1.1.1.1.1.1.0) ⊛ ‵ (flft κs.1.1.1.1.1.1.1.1.1.1.1.1.1.1.1.1.0 qs.1.1.1.1.1.1.1.1.1.1.1.1.1.1.1.1.0)))))
-        (shares-on 𝓛 u64 (named 16) (named 16) κs.1.1.1.1.1.1.1.1.1.1.1.1.1.1.1.1.0 qs.1.1.1.1.1.1.1.1.1.1.1.1.1.1.1.1.0 x-sure.ptr.0 x-sure.ptr.1
+        (shares_on 𝓛 u64 (named 16) (named 16) κs.1.1.1.1.1.1.1.1.1.1.1.1.1.1.1.1.0 qs.1.1.1.1.1.1.1.1.1.1.1.1.1.1.1.1.0 x-sure.ptr.0 x-sure.ptr.1
         x-sure.ghost_name zs.1.1.1.1.1.1.1.1.1.1.1.1.1.1.1.1.0 (length x-sure.now) same-sure) $ await ! tt $ pick ! (λ φ-sure. split ! $ move ! (1 ∷ []) $ split ! $
         move ! (9 ∷ 10 ∷ []) $
         use2 𝓛 (later (some (λ (φ : GName). ‵ (shr-never φ zs.1.1.1.1.1.1.1.1.1.1.1.1.1.1.1.1.1.0) ⊛ (‵ (finally u64 x-never.name
         zs.1.1.1.1.1.1.1.1.1.1.1.1.1.1.1.1.1.0) ⊛ ‵ (flft κs.1.1.1.1.1.1.1.1.1.1.1.1.1.1.1.1.1.0 qs.1.1.1.1.1.1.1.1.1.1.1.1.1.1.1.1.1.0)))))
-        (shares-on 𝓛 u64 (named 17) (named 17) κs.1.1.1.1.1.1.1.1.1.1.1.1.1.1.1.1.1.0 qs.1.1.1.1.1.1.1.1.1.1.1.1.1.1.1.1.1.0 x-never.ptr.0
+        (shares_on 𝓛 u64 (named 17) (named 17) κs.1.1.1.1.1.1.1.1.1.1.1.1.1.1.1.1.1.0 qs.1.1.1.1.1.1.1.1.1.1.1.1.1.1.1.1.1.0 x-never.ptr.0
         x-never.ref_ptr.1 x-never.ghost_name zs.1.1.1.1.1.1.1.1.1.1.1.1.1.1.1.1.1.0 (length x-never.now) same-never) $ await ! tt $ pick ! (λ φ-never. split ! $ move ! (1 ∷ []) $
         split ! $
         move ! (10 ∷ 11 ∷ []) $
         use2 𝓛 (later (some (λ (φ : GName). ‵ (shr-answers φ zs.1.1.1.1.1.1.1.1.1.1.1.1.1.1.1.1.1.1.1.1.1.1.0) ⊛ (‵ (finally Two x-answers.name
         zs.1.1.1.1.1.1.1.1.1.1.1.1.1.1.1.1.1.1.1.1.1.1.0) ⊛ ‵ (flft κs.1.1.1.1.1.1.1.1.1.1.1.1.1.1.1.1.1.1.1.1.1.1.0
         qs.1.1.1.1.1.1.1.1.1.1.1.1.1.1.1.1.1.1.1.1.1.1.0)))))
-        (shares-on 𝓛 Two (named 22) (named 22) κs.1.1.1.1.1.1.1.1.1.1.1.1.1.1.1.1.1.1.1.1.1.1.0 qs.1.1.1.1.1.1.1.1.1.1.1.1.1.1.1.1.1.1.1.1.1.1.0
+        (shares_on 𝓛 Two (named 22) (named 22) κs.1.1.1.1.1.1.1.1.1.1.1.1.1.1.1.1.1.1.1.1.1.1.0 qs.1.1.1.1.1.1.1.1.1.1.1.1.1.1.1.1.1.1.1.1.1.1.0
         x-answers.ref_ptr.0 x-answers.ref_ptr.1 x-answers.ghost_name zs.1.1.1.1.1.1.1.1.1.1.1.1.1.1.1.1.1.1.1.1.1.1.0 (length x-answers.now) same-answers) $ await ! tt $ pick
         ! (λ φ-answers. split ! $ move ! (1 ∷ []) $ split ! $
         move ! (23 ∷ 1 ∷ 10 ∷ 7 ∷ 4 ∷ 22 ∷ 2 ∷ 11 ∷ 8 ∷ 5 ∷ []) $
@@ -1104,7 +1104,7 @@ module _ {M : Type 1} {𝓤 : Ura M} (𝓛 : Logic 𝓤) (at_mem : Memory → SP
         zs.1.1.1.1.1.1.1.1.1.1.1.1.1.1.1.1.0 φ-never zs.1.1.1.1.1.1.1.1.1.1.1.1.1.1.1.1.1.0))) (goes_lines
         ns.1.1.1.1.1.1.1.1.1.1.1.1.1.1.1.1.1.1.1.1.1.1.1.1.1.0 ν φ-states zs.1.1.1.1.1.1.1.1.1.1.1.1.1.0 r v φ-answers
         zs.1.1.1.1.1.1.1.1.1.1.1.1.1.1.1.1.1.1.1.1.1.1.0 φ-sure zs.1.1.1.1.1.1.1.1.1.1.1.1.1.1.1.1.0 φ-never
-        zs.1.1.1.1.1.1.1.1.1.1.1.1.1.1.1.1.1.0 is (ran-listable pre (replicate 1024 s) zs.1.1.1.1.1.1.1.1.1.1.1.1.1.0 (work-at zs) r (many s) e)) $
+        zs.1.1.1.1.1.1.1.1.1.1.1.1.1.1.1.1.1.0 is (ran_listable pre (replicate 1024 s) zs.1.1.1.1.1.1.1.1.1.1.1.1.1.0 (work-at zs) r (many s) e)) $
         calls_at ! fm (Lines 𝓛 at_mem run) known-lines (to-lines ns.1.1.1.1.1.1.1.1.1.1.1.1.1.1.1.1.1.1.1.1.1.1.1.1.1.0 ν φ-states
         zs.1.1.1.1.1.1.1.1.1.1.1.1.1.0 r v φ-answers zs.1.1.1.1.1.1.1.1.1.1.1.1.1.1.1.1.1.1.1.1.1.1.0 φ-sure
         zs.1.1.1.1.1.1.1.1.1.1.1.1.1.1.1.1.0 φ-never zs.1.1.1.1.1.1.1.1.1.1.1.1.1.1.1.1.1.0) (and_then ! (load ! (from ! (stop !)) (look ! 87 refl)) (and_then !
@@ -1137,7 +1137,7 @@ module _ {M : Type 1} {𝓤 : Ura M} (𝓛 : Logic 𝓤) (at_mem : Memory → SP
         move ! (3 ∷ []) $
         lft_end ! tt $
         move ! (0 ∷ 12 ∷ 11 ∷ []) $
-        use3 𝓛 (later (some (λ (v₃ : Val). ‵ (fat full_share (arrayTy 𝓛 T.the_row ns.1.1.1.1.1.1.1.1.1.1.1.1.1.1.1.1.1.1.1.1.1.1.1.1.1.0 1024)
+        use3 𝓛 (later (some (λ (v₃ : Val). ‵ (fat full_share (array_ty 𝓛 T.the_row ns.1.1.1.1.1.1.1.1.1.1.1.1.1.1.1.1.1.1.1.1.1.1.1.1.1.0 1024)
         ns.1.1.1.1.1.1.1.1.1.1.1.1.1.1.1.1.1.1.1.1.1.1.1.1.1.0 0 v₃) ⊛ ‵ ((Array T.the_row 1024).own_val zs.1.1.1.1.1.1.1.1.1.1.1.1.1.0 (v₃ ∷ [])))))
         (array_back 𝓛 T.the_row ns.1.1.1.1.1.1.1.1.1.1.1.1.1.1.1.1.1.1.1.1.1.1.1.1.1.0 (ν ∷ []) ξ zs.1.1.1.1.1.1.1.1.1.1.1.1.1.0 1024) $ await ! tt $
         pick ! (λ v₃. split ! $
@@ -1164,7 +1164,7 @@ module _ {M : Type 1} {𝓤 : Ura M} (𝓛 : Logic 𝓤) (at_mem : Memory → SP
         move ! (16 ∷ 6 ∷ 15 ∷ 14 ∷ 4 ∷ 3 ∷ 13 ∷ 5 ∷ 12 ∷ 11 ∷ 10 ∷ 1 ∷ 9 ∷ 8 ∷ 7 ∷ 0 ∷ []) $
         group ! 16 $
         move ! (0 ∷ 2 ∷ 3 ∷ 4 ∷ 5 ∷ 6 ∷ 7 ∷ 8 ∷ 9 ∷ 10 ∷ 11 ∷ 12 ∷ 13 ∷ 14 ∷ 15 ∷ 16 ∷ 17 ∷ 18 ∷ 19 ∷ 20 ∷ 21 ∷ 22 ∷ 23 ∷ 24 ∷ 25 ∷ 26 ∷ 1 ∷ []) $
-        returns ! (look ! 1 refl) $ free-under ! (code.function).locals ns ((someᴼ (v₄)) ▹ (someᴼ (v-input)) ▹ (someᴼ (v-out)) ▹ (someᴼ (v-raw-conditions)) ▹ (someᴼ (v-raw-weights)) ▹ (someᴼ
+        returns ! (look ! 1 refl) $ free_under ! (code.function).locals ns ((someᴼ (v₄)) ▹ (someᴼ (v-input)) ▹ (someᴼ (v-out)) ▹ (someᴼ (v-raw-conditions)) ▹ (someᴼ (v-raw-weights)) ▹ (someᴼ
         (v-thresholds)) ▹ (someᴼ (v-bounds)) ▹ (someᴼ (v-row-conditions)) ▹ (someᴼ (v-row-weights)) ▹ (someᴼ (v-rows)) ▹ (someᴼ (v-guard-bounds)) ▹ (someᴼ (v-guard-nodes)) ▹ (someᴼ (v-nodes)) ▹ (someᴼ
         (v-edges)) ▹ (someᴼ (v-links)) ▹ (someᴼ (v-figures)) ▹ (someᴼ (v-cursors)) ▹ (someᴼ (v-sure)) ▹ (someᴼ (v-never)) ▹ (someᴼ (v-search)) ▹ (someᴼ (v-gcds)) ▹ (someᴼ (v-node-queue)) ▹ (someᴼ
         (v-row-queues)) ▹ (someᴼ (v-answers)) ▹ (someᴼ (v₀)) ▹ (someᴼ (v₃)) ▹ (someᴼ (v)) ▹ (someᴼ (v₂)) ▹ (someᴼ (vptr x-raw-conditions.ptr.0 x-raw-conditions.ptr.1)) ▹ (someᴼ
@@ -1182,7 +1182,7 @@ module _ {M : Type 1} {𝓤 : Ura M} (𝓛 : Logic 𝓤) (at_mem : Memory → SP
         (someᴼ (v-answers)) ▹ (someᴼ (vptr ns.1.1.1.1.1.1.1.1.1.1.1.1.1.1.1.1.1.1.1.1.1.1.1.1.1.0 0)) ▹ (someᴼ (slice_val
         (ns.1.1.1.1.1.1.1.1.1.1.1.1.1.1.1.1.1.1.1.1.1.1.1.1.1.0, 0) 1024)) ▹ (someᴼ (vptr x-sure.ptr.0 x-sure.ptr.1)) ▹ (someᴼ (v-sure)) ▹ (someᴼ (vptr
         x-never.ptr.0 x-never.ptr.1)) ▹ (someᴼ (v-never)) ▹ tt) $
-        by ! (exits t v₄ zs ls.0 same_out same-sure same-never same-answers (subst (Plans x-input.now x-out.now ls.0) (sym e₃) (ran-plans pre (replicate 1024 s)
+        by ! (exits t v₄ zs ls.0 same_out same-sure same-never same-answers (subst (Plans x-input.now x-out.now ls.0) (sym e₃) (ran_plans pre (replicate 1024 s)
         zs.1.1.1.1.1.1.1.1.1.1.1.1.1.0 (work-at zs) r (many s) e same_out e₂))))))))))))))))))))))))))))))))))))))))))))))
 
 module _ {M : Type 1} {𝓤 : Ura M} (𝓛 : Logic 𝓤) (at_mem : Memory → SProp 𝓤) (run : Routine → Fun 𝓤) (𝓣 : Tables 𝓤 𝓛.H) (known-first : Triple 𝓤 (𝓣.C #state·State·first)
@@ -1204,7 +1204,7 @@ module _ {M : Type 1} {𝓤 : Ura M} (𝓛 : Logic 𝓤) (at_mem : Memory → SP
       κs.1.1.1.1.1.1.1.1.1.1.1.1.1.1.1.1.1.1.0 u64) ▹ (mut_slice_Tells (named 19) κs.1.1.1.1.1.1.1.1.1.1.1.1.1.1.1.1.1.1.1.0 u64) ▹ (mut_slice_Tells (named
       20) κs.1.1.1.1.1.1.1.1.1.1.1.1.1.1.1.1.1.1.1.1.0 u16) ▹ (mut_slice_Tells (named 21) κs.1.1.1.1.1.1.1.1.1.1.1.1.1.1.1.1.1.1.1.1.1.0 Four) ▹
       (mut_slice_Tells (named 22) κs.1.1.1.1.1.1.1.1.1.1.1.1.1.1.1.1.1.1.1.1.1.1.0 Two) ▹ tt))
-      (λ κs qs bounds a g are. needs 𝓤 (Ready a.0.now a.1.0.now (work (rawOf (rawLists a.1.1.0.now a.1.1.1.0.now a.1.1.1.1.0.now) a.1.1.1.1.1.0.now) (built
+      (λ κs qs bounds a g are. needs 𝓤 (Ready a.0.now a.1.0.now (work (raw_of (raw_lists a.1.1.0.now a.1.1.1.0.now a.1.1.1.1.0.now) a.1.1.1.1.1.0.now) (built
       (held_rows a.1.1.1.1.1.1.0.now a.1.1.1.1.1.1.1.0.now a.1.1.1.1.1.1.1.1.0.now a.1.1.1.1.1.1.1.1.1.0.now a.1.1.1.1.1.1.1.1.1.1.0.now)
       a.1.1.1.1.1.1.1.1.1.1.1.0.now a.1.1.1.1.1.1.1.1.1.1.1.1.0.now a.1.1.1.1.1.1.1.1.1.1.1.1.1.0.now) (kept
       a.1.1.1.1.1.1.1.1.1.1.1.1.1.1.0.now a.1.1.1.1.1.1.1.1.1.1.1.1.1.1.1.0.now a.1.1.1.1.1.1.1.1.1.1.1.1.1.1.1.1.0.now
@@ -1214,7 +1214,7 @@ module _ {M : Type 1} {𝓤 : Ura M} (𝓛 : Logic 𝓤) (at_mem : Memory → SP
       qs a are pre 𝓣.C 𝓣.Λ (fm_of 𝓤 H 𝓛.laws 𝓣) known-first known-core known-lines known-pair))
 
   plan-in-meets : Meets 𝓛 f.signature (WpFn 𝓤 H 𝓣.C 𝓣.Λ code.function) (f.spec 𝓛 at_mem run)
-  plan-in-meets = walk_Meets 𝓛 f.ended stayed (goes-saids 𝓛 23 (f.ended).signature.params (f.ended).kept) (f.clauses 𝓛 at_mem run) (WpFn 𝓤 H 𝓣.C 𝓣.Λ code.function)
+  plan-in-meets = walk_Meets 𝓛 f.ended stayed (goes_saids 𝓛 23 (f.ended).signature.params (f.ended).kept) (f.clauses 𝓛 at_mem run) (WpFn 𝓤 H 𝓣.C 𝓣.Λ code.function)
       (WpFn-mono 𝓤 H 𝓛.laws 𝓣 code.function) plan-in-walks
 
 pub plan-in-spec : {M : Type 1} → stated.statement M

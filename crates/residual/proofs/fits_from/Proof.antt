@@ -7,18 +7,18 @@ use mathlib.Core.List.{List, reverse}
 use lib.ListN.{length}
 use Rattle.numeric.specs.Threshold.{Term}
 use Rattle.numeric.specs.Slices.{terms}
-use Rattle.words.specs.Mask.{inEither}
-use Rattle.intervals.specs.Residual.{fitsFrom}
-use Rattle.numeric.specs.TermsLaws.{lastTerms, last-all}
-use Rattle.intervals.specs.FitsLaws.{fits-wide, fits-skip, fits-first, fits_both, fits_more, fits-none}
+use Rattle.words.specs.Mask.{in_either}
+use Rattle.intervals.specs.Residual.{fits_from}
+use Rattle.numeric.specs.TermsLaws.{last_terms_of, last_all}
+use Rattle.intervals.specs.FitsLaws.{fits_wide, fits_skip, fits-first, fits_both, fits_more, fits-none}
 use Rattle.residual.proofs.fits_from.Statement.{statement}
 use Rattle.residual.proofs.fits_from.Tie as tie
 
 abbrev invariant-loop : tie.invariant-loop
 invariant-loop conditions weights i sure never unread₀ fitting₀ complement₀ unread fitting complement =
     (unread ≤ length weights)
-    × (fitsFrom i (inEither sure never) (lastTerms conditions weights unread) fitting complement
-    ≡ fitsFrom i (inEither sure never) (reverse (terms conditions weights)) false 0)
+    × (fits_from i (in_either sure never) (last_terms_of conditions weights unread) fitting complement
+    ≡ fits_from i (in_either sure never) (reverse (terms conditions weights)) false 0)
 
 abbrev decreases-loop : tie.decreases-loop
 decreases-loop conditions weights i sure never unread₀ fitting₀ complement₀ unread fitting complement = unread
@@ -35,21 +35,21 @@ loop-holds : tie.Need-loop-init invariant-loop decreases-loop
 loop-holds c =
     let g = c.before.before.before.before.args in
     let p = c.before.before.before.before.requires in
-    (omega arith, ap (λ (l : List Term). fitsFrom g.i (inEither g.sure.now g.never.now) l false 0) (last-all g.conditions.now g.weights.now p.same))
+    (omega arith, ap (λ (l : List Term). fits_from g.i (in_either g.sure.now g.never.now) l false 0) (last_all g.conditions.now g.weights.now p.same))
 
 returns : tie.Need-returns invariant-loop decreases-loop
 returns c =
     let w = c.before.before.before.before.loop in
     let g = (start_of c.before.before.before.before).args in
     sym
-    (fits-wide g.i (inEither g.sure.now g.never.now) g.conditions.now g.weights.now w.unread w.fitting w.complement (omega arith) (omega arith) (omega arith)
+    (fits_wide g.i (in_either g.sure.now g.never.now) g.conditions.now g.weights.now w.unread w.fitting w.complement (omega arith) (omega arith) (omega arith)
     (sym c.before.too_wide.ensures ∙ c.if1.true))
     ∙ w.invariant.1
 
 decided-requires : tie.Need-decided-requires invariant-loop decreases-loop
 decided-requires c κs =
     let p = (start_of c.before.before.before.before.before).pre in
-    (p.below (c.before.before.before.before.before.loop.unread - 1) (omega arith), p.inSure, p.inNever)
+    (p.below (c.before.before.before.before.before.loop.unread - 1) (omega arith), p.in_sure, p.in_never)
 
 loop-again : tie.Need-loop-preserved invariant-loop decreases-loop
 loop-again c =
@@ -58,7 +58,7 @@ loop-again c =
     let e = c.before.before.before in (
       omega arith,
       sym
-          (fits-skip g.i (inEither g.sure.now g.never.now) g.conditions.now g.weights.now w.unread w.fitting w.complement (omega arith) (omega arith) (omega arith)
+          (fits_skip g.i (in_either g.sure.now g.never.now) g.conditions.now g.weights.now w.unread w.fitting w.complement (omega arith) (omega arith) (omega arith)
           (sym e.before.too_wide.ensures ∙ e.if1.false) (sym c.before.decided.ensures ∙ c.if2.true))
           ∙ w.inv.1,
     )
@@ -70,7 +70,7 @@ returns-2 c =
     let b = c.before.before.before.before in
     let e = b.before.before.before in
     sym
-    (fits_both g.i (inEither g.sure.now g.never.now) g.conditions.now g.weights.now w.unread w.fitting w.complement (omega arith) (omega arith) (omega arith)
+    (fits_both g.i (in_either g.sure.now g.never.now) g.conditions.now g.weights.now w.unread w.fitting w.complement (omega arith) (omega arith) (omega arith)
     (sym e.before.too_wide.ensures ∙ e.if1.false) (sym b.before.decided.ensures ∙ b.if2.false)
     c.before.before.before.if3.true c.before.before.gcd.result c.before.before.gcd.ensures
     (sym c.before.both-fit.ensures ∙ c.if4.true))
@@ -84,7 +84,7 @@ loop-again-2 c =
     let e = b.before.before.before in (
       omega arith,
       sym
-          (fits_more g.i (inEither g.sure.now g.never.now) g.conditions.now g.weights.now w.unread w.fitting w.complement (omega arith) (omega arith) (omega arith)
+          (fits_more g.i (in_either g.sure.now g.never.now) g.conditions.now g.weights.now w.unread w.fitting w.complement (omega arith) (omega arith) (omega arith)
           (sym e.before.too_wide.ensures ∙ e.if1.false) (sym b.before.decided.ensures ∙ b.if2.false)
           c.before.before.before.if3.true c.before.before.gcd.result c.before.before.gcd.ensures
           (sym c.before.both-fit.ensures ∙ c.if4.false))
@@ -99,7 +99,7 @@ loop-again-3 c =
     let e = b.before.before.before in (
       omega arith,
       sym
-          (fits-first g.i (inEither g.sure.now g.never.now) g.conditions.now g.weights.now w.unread w.fitting w.complement (omega arith) (omega arith) (omega arith)
+          (fits-first g.i (in_either g.sure.now g.never.now) g.conditions.now g.weights.now w.unread w.fitting w.complement (omega arith) (omega arith) (omega arith)
           (sym e.before.too_wide.ensures ∙ e.if1.false) (sym b.before.decided.ensures ∙ b.if2.false) c.if3.false)
           ∙ w.inv.1,
     )
@@ -108,7 +108,7 @@ returns-3 : tie.Need-returns-3 invariant-loop decreases-loop
 returns-3 c =
     let w = c.before.loop in
     let g = (start_of c.before).args in
-    sym (fits-none g.i (inEither g.sure.now g.never.now) g.conditions.now g.weights.now w.unread w.fitting w.complement (omega arith))
+    sym (fits-none g.i (in_either g.sure.now g.never.now) g.conditions.now g.weights.now w.unread w.fitting w.complement (omega arith))
     ∙ w.invariant.1
 
 pub fits-from-spec : {M : Type 1} → statement M

@@ -8,8 +8,8 @@ use Rattle.state.specs.declared.Step.TheVariants.{Unchanged}
 use Rattle.queues.specs.Queue.{queue}
 use Rattle.queues.specs.Marks.{Marks, marks}
 use Rattle.queues.specs.Waiting.{Waits}
-use Rattle.intervals.specs.Residual.{placed, forceFrom}
-use Rattle.intervals.specs.ForceLaws.{force-skip, turn-waits, turn-stops, turn-goes-on, force-end}
+use Rattle.intervals.specs.Residual.{placed, force_from}
+use Rattle.intervals.specs.ForceLaws.{force_skip, turn-waits, turn_stops, turn_goes_on, force_end}
 use Rattle.residual.proofs.force_from.Statement.{statement}
 use Rattle.residual.proofs.force_from.Tie as tie
 
@@ -17,8 +17,8 @@ abbrev invariant-loop : tie.invariant-loop
 invariant-loop conditions weights gcds i sure₀ never₀ nodes₀ position₀ prefix₀ so-far₀ sure never nodes position prefix so_far =
     (position ≤ length weights) × (length sure ≡ length sure₀) × (length never ≡ length never₀) × (length nodes ≡ length nodes₀)
     × Waits (marks sure never (queue nodes so_far.ring))
-    × (forceFrom i (placed gcds) (drop position (terms conditions weights)) prefix (marks sure never (queue nodes so_far.ring)) so_far.step
-    ≡ forceFrom i (placed gcds) (terms conditions weights) 0 (marks sure₀ never₀ (queue nodes₀ so-far₀.ring)) Unchanged)
+    × (force_from i (placed gcds) (drop position (terms conditions weights)) prefix (marks sure never (queue nodes so_far.ring)) so_far.step
+    ≡ force_from i (placed gcds) (terms conditions weights) 0 (marks sure₀ never₀ (queue nodes₀ so-far₀.ring)) Unchanged)
 
 abbrev decreases-loop : tie.decreases-loop
 decreases-loop conditions weights gcds i sure₀ never₀ nodes₀ position₀ prefix₀ so-far₀ sure never nodes position prefix so_far = length weights - position
@@ -45,13 +45,13 @@ force-term-of p = p.before.before.before.before.before.before.before.before
 
 -- The marks at the loop's test.
 abbrev here : tie.At-loop invariant-loop decreases-loop → Marks
-here p = let w = p.loop in marks w.sure w.never (queue w.node-queue w.so_far.ring)
+here p = let w = p.loop in marks w.sure w.never (queue w.node_queue w.so_far.ring)
 
 -- Behind a term each buffer is as long as it was lent.
 kept-lengths : (b : tie.After-contradicts invariant-loop decreases-loop) →
     let a = (start_of (loop-of (gcd-of b))).args in
     let l = (force-term-of b).force-term.new.1.1.1.1 in
-    (length l.0 ≡ length a.sure.now) × (length l.1.0 ≡ length a.never.now) × (length l.1.1.0 ≡ length a.node-queue.now)
+    (length l.0 ≡ length a.sure.now) × (length l.1.0 ≡ length a.never.now) × (length l.1.1.0 ≡ length a.node_queue.now)
 kept-lengths b =
     let k = (force-term-of b).force-term.auto.1.1.1.1 in
     let i = (loop-of (gcd-of b)).loop.inv in
@@ -67,7 +67,7 @@ decided-requires : tie.Need-decided-requires invariant-loop decreases-loop
 decided-requires c κs =
     let p = (start_of c.before.before.before.before).pre.0 in
     let w = c.before.before.before.before.loop in
-    (p.below w.position (omega arith), omega (arith, w.invariant.1, p.inSure), omega (arith, w.invariant.2, p.inNever))
+    (p.below w.position (omega arith), omega (arith, w.invariant.1, p.in_sure), omega (arith, w.invariant.2, p.in_never))
 
 loop-again : tie.Need-loop-preserved invariant-loop decreases-loop
 loop-again c =
@@ -81,7 +81,7 @@ loop-again c =
       w.invariant.3,
       w.invariant.4,
       sym
-          (force-skip g.i (placed g.gcds.now) g.conditions.now g.weights.now w.position w.prefix (here at-loop) w.so_far.step (omega arith) (omega arith)
+          (force_skip g.i (placed g.gcds.now) g.conditions.now g.weights.now w.position w.prefix (here at-loop) w.so_far.step (omega arith) (omega arith)
           (sym c.before.decided.ensures ∙ c.if1.true))
           ∙ w.invariant.5,
     )
@@ -94,7 +94,7 @@ force-term-requires c κs =
     let p = s.pre.0 in
     let q = s.pre.1 in (
       omega (arith, q.1, q.2 w.position (omega (arith, t))),
-      (w.inv.4.held, p.below w.position (omega (arith, t, p.same)), omega (arith, w.inv.1, p.inSure), omega (arith, w.inv.2, p.inNever)),
+      (w.inv.4.held, p.below w.position (omega (arith, t, p.same)), omega (arith, w.inv.1, p.in_sure), omega (arith, w.inv.2, p.in_never)),
     )
 
 returns : tie.Need-returns invariant-loop decreases-loop
@@ -107,7 +107,7 @@ returns c =
     let t = (in-loop-of (gcd-of b)).loop-test.taken in
     let j = b.before.joined-decision in
     let f = (force-term-of b).force-term in
-    (turn-stops g.i (placed g.gcds.now) g.conditions.now g.weights.now w.position w.prefix (here at-loop) w.so_far.step (omega (arith, t, p.same)) (omega (arith, t)) p.same
+    (turn_stops g.i (placed g.gcds.now) g.conditions.now g.weights.now w.position w.prefix (here at-loop) w.so_far.step (omega (arith, t, p.same)) (omega (arith, t)) p.same
     (sym (else1-of b).before.decided.ensures ∙ (else1-of b).if1.false) (gcd-of b).gcd.result (gcd-of b).gcd.ensures
     f.last.1.1.1.1.0 f.last.1.1.1.1.1.0 f.last.1.1.1.1.1.1.0 f.result.ring j.result.ring f.result.step j.result.step
     f.ensures j.ensures.1 j.ensures.0 (sym b.contradicts.ensures ∙ c.if2.true))
@@ -131,7 +131,7 @@ loop-again-2 c =
           (sym (else1-of b).before.decided.ensures ∙ (else1-of b).if1.false) (gcd-of b).gcd.result (gcd-of b).gcd.ensures
           f.last.1.1.1.1.0 f.last.1.1.1.1.1.0 f.last.1.1.1.1.1.1.0 f.result.ring j.result.ring f.result.step j.result.step
           f.ensures j.ensures.1 j.ensures.0 (p.below w.position (omega (arith, t, p.same))) w.inv.4,
-      (turn-goes-on g.i (placed g.gcds.now) g.conditions.now g.weights.now w.position w.prefix (here at-loop) w.so_far.step (omega (arith, t, p.same)) (omega (arith, t)) p.same
+      (turn_goes_on g.i (placed g.gcds.now) g.conditions.now g.weights.now w.position w.prefix (here at-loop) w.so_far.step (omega (arith, t, p.same)) (omega (arith, t)) p.same
           (sym (else1-of b).before.decided.ensures ∙ (else1-of b).if1.false) (gcd-of b).gcd.result (gcd-of b).gcd.ensures
           f.last.1.1.1.1.0 f.last.1.1.1.1.1.0 f.last.1.1.1.1.1.1.0 f.result.ring j.result.ring f.result.step j.result.step
           f.ensures j.ensures.1 j.ensures.0 c.gcd2.result c.gcd2.ensures (sym b.contradicts.ensures ∙ c.before.if2.false))
@@ -142,7 +142,7 @@ returns-2 : tie.Need-returns-2 invariant-loop decreases-loop
 returns-2 c =
     let g = (start_of c.before).args in
     let w = c.before.loop in
-    sym (force-end g.i (placed g.gcds.now) g.conditions.now g.weights.now w.position w.prefix (here c.before) w.so_far.step c.loop-test.false) ∙ w.invariant.5
+    sym (force_end g.i (placed g.gcds.now) g.conditions.now g.weights.now w.position w.prefix (here c.before) w.so_far.step c.loop-test.false) ∙ w.invariant.5
 
 pub force-from-spec : {M : Type 1} → statement M
 force-from-spec =

@@ -3,7 +3,7 @@ use mathlib.Core.Path.{sym, ◌∙◌}
 use Rattle.numeric.specs.Threshold.{Term, term}
 use Rattle.queues.specs.Queue.{queue}
 use Rattle.queues.specs.Marks.{Marks, marks}
-use Rattle.intervals.specs.ForceLaws.{force-unit, force-none, force-sure, force-never, force-free}
+use Rattle.intervals.specs.ForceLaws.{force-unit, force-none, force_sure, force_never, force_free}
 use Rattle.residual.proofs.force_term.Statement.{statement}
 use Rattle.residual.proofs.force_term.Tie as tie
 
@@ -26,7 +26,7 @@ decide2-of p = p.before.before.before.before.before.before
 
 -- The marks that are lent, and the term.
 abbrev entry : tie.Start → Marks
-entry p = let a = p.args in marks a.sure.now a.never.now (queue a.node-queue.now a.ring)
+entry p = let a = p.args in marks a.sure.now a.never.now (queue a.node_queue.now a.ring)
 
 abbrev tested : tie.Start → Term
 tested p = term p.args.node p.args.weight
@@ -51,7 +51,7 @@ returns-3 c =
     let s = start_of e in
     (decide-of c).decide.ensures
     ∙ sym
-    (force-sure s.args.i (entry s) (tested s) s.args.divisor e.before.before.if1.left
+    (force_sure s.args.i (entry s) (tested s) s.args.divisor e.before.before.if1.left
     (sym e.before.off-misses.ensures ∙ (else3-of (decide-of c)).before.if2.true)
     (sym e.on-misses.ensures ∙ (else3-of (decide-of c)).if3.false))
 
@@ -61,7 +61,7 @@ returns-4 c =
     let s = start_of e in
     (decide2-of c).decide2.ensures
     ∙ sym
-    (force-never s.args.i (entry s) (tested s) s.args.divisor e.before.before.if1.left
+    (force_never s.args.i (entry s) (tested s) s.args.divisor e.before.before.if1.left
     (sym e.before.off-misses.ensures ∙ (then4-of (decide2-of c)).before.if2.false)
     (sym e.on-misses.ensures ∙ (then4-of (decide2-of c)).if4.true))
 
@@ -70,7 +70,7 @@ returns-5 c =
     let e = c.before.before in
     let s = start_of e in
     sym
-    (force-free s.args.i (entry s) (tested s) s.args.divisor e.before.before.if1.false
+    (force_free s.args.i (entry s) (tested s) s.args.divisor e.before.before.if1.false
     (sym e.before.off-misses.ensures ∙ c.before.if2.false)
     (sym e.on-misses.ensures ∙ c.if4.false))
 

@@ -7,7 +7,7 @@ use lib.ListN.{length, get_or, set, length-set}
 use borrow.Author.Rules.{rules}
 use Rattle.numeric.specs.Slices.{terms}
 use Rattle.numeric.specs.TermsLaws.{length-terms}
-use Rattle.words.specs.Mask.{inEither}
+use Rattle.words.specs.Mask.{in_either}
 use Rattle.divisors.specs.Gcd.{gcd}
 use Rattle.intervals.specs.Residual.{suffixes, over}
 use Rattle.intervals.specs.SuffixLaws.{laid, laid-start, laid_next, laid_end}
@@ -17,8 +17,8 @@ use Rattle.residual.proofs.prepare_suffix.Tie as tie
 abbrev invariant-loop : tie.invariant-loop
 invariant-loop conditions weights sure never gcds₀ count left₀ suffix₀ gcds left suffix =
     (count ≡ length weights) × (left ≤ count) × (length gcds ≡ length gcds₀)
-    × (laid (inEither sure never) (terms conditions weights) count left suffix gcds
-    ≡ over (suffixes (inEither sure never) (terms conditions weights)) gcds₀)
+    × (laid (in_either sure never) (terms conditions weights) count left suffix gcds
+    ≡ over (suffixes (in_either sure never) (terms conditions weights)) gcds₀)
 
 abbrev decreases-loop : tie.decreases-loop
 decreases-loop conditions weights sure never gcds₀ count left₀ suffix₀ gcds left suffix = left
@@ -35,21 +35,21 @@ loop-holds c =
       refl,
       omega arith,
       refl,
-      laid-start (inEither g.sure.now g.never.now) (terms g.conditions.now g.weights.now) (length g.weights.now) g.gcds.now
+      laid-start (in_either g.sure.now g.never.now) (terms g.conditions.now g.weights.now) (length g.weights.now) g.gcds.now
           (omega arith) (omega arith),
     )
 
 decided-requires : tie.Need-decided-requires invariant-loop decreases-loop
 decided-requires c κs =
     let b = start_of c.before.before.before in
-    (b.pre.0.below (c.before.before.loop.left - 1) (omega arith), b.pre.0.inSure, b.pre.0.inNever)
+    (b.pre.0.below (c.before.before.loop.left - 1) (omega arith), b.pre.0.in_sure, b.pre.0.in_never)
 
 loop-again : tie.Need-loop-preserved invariant-loop decreases-loop
 loop-again c =
     let b = c.before.before.before.before.before in
     let g = (start_of b.before).args in
     let w = b.loop in
-    let d = inEither g.sure.now g.never.now in
+    let d = in_either g.sure.now g.never.now in
     let n = length g.weights.now in (
       refl,
       omega arith,
@@ -68,7 +68,7 @@ returns : tie.Need-returns invariant-loop decreases-loop
 returns c =
     let g = (start_of c.before.before).args in
     let w = c.before.loop in
-    laid_end (inEither g.sure.now g.never.now) (terms g.conditions.now g.weights.now) (length g.weights.now) w.left w.suffix w.gcds
+    laid_end (in_either g.sure.now g.never.now) (terms g.conditions.now g.weights.now) (length g.weights.now) w.left w.suffix w.gcds
     (omega arith)
     ∙ w.invariant.3
 

@@ -9,9 +9,9 @@ use Rattle.state.specs.declared.Step.TheVariants.{Unchanged}
 use Rattle.queues.specs.Queue.{queue}
 use Rattle.queues.specs.Marks.{marks, decided}
 use Rattle.intervals.specs.declared.Interval.{Interval}
-use Rattle.intervals.specs.Residual.{placed, forceFrom}
-use Rattle.intervals.specs.IntervalLaws.{natural-small}
-use Rattle.intervals.specs.ForceLaws.{residual-none, residual-rest, residual-forced}
+use Rattle.intervals.specs.Residual.{placed, force_from}
+use Rattle.intervals.specs.IntervalLaws.{natural_small}
+use Rattle.intervals.specs.ForceLaws.{residual-none, residual_rest, residual-forced}
 use borrow.Author.Rules.{rules}
 use Rattle.residual.proofs.threshold_residual.Statement.{statement}
 use Rattle.residual.proofs.threshold_residual.Tie as tie
@@ -46,7 +46,7 @@ returns : tie.Need-returns
 returns c =
     let g = (start_of c.before.before.before).args in
     sym
-    (residual-none (terms g.conditions.now g.weights.now) g.state (marks g.sure.now g.never.now (queue g.node-queue.now g.ring)) g.gcds.now
+    (residual-none (terms g.conditions.now g.weights.now) g.state (marks g.sure.now g.never.now (queue g.node_queue.now g.ring)) g.gcds.now
     (sym (c.before.contradicts.ensures ∙ ap contradicts c.before.before.threshold-residual-check.ensures) ∙ c.if1.true))
 
 nothing-forced-requires : tie.Need-nothing-forced-requires
@@ -57,7 +57,7 @@ returns-2 c =
     let g = (start-of-then2 c).args in
     let e = c.before.before.before.before in
     sym
-    (residual-rest (terms g.conditions.now g.weights.now) g.state (marks g.sure.now g.never.now (queue g.node-queue.now g.ring)) g.gcds.now
+    (residual_rest (terms g.conditions.now g.weights.now) g.state (marks g.sure.now g.never.now (queue g.node_queue.now g.ring)) g.gcds.now
     (sym (e.before.contradicts.ensures ∙ ap contradicts e.before.before.threshold-residual-check.ensures) ∙ e.if1.false)
     (sym c.before.nothing-forced.ensures ∙ c.if2.true))
 
@@ -69,7 +69,7 @@ force-from-requires c κs =
     let s = start-of-else2 (prepare-suffix-of c).before.before.before.before in
     let g = s.args in
     let f : SFits w64 g.state.known = search rules in
-    let k = natural-small g.state.known f in
+    let k = natural_small g.state.known f in
     let i = ap (λ (x : Interval). x.known) c.before.before.before.interval-of.ensures in
     let n = (prepare-suffix-of c).prepare-suffix.auto.1.1.1.1.0 in
     (s.pre.0, (omega (arith, s.pre.1.0, n), omega (arith, i, k), s.pre.1.1, s.pre.1.2))
@@ -93,12 +93,12 @@ returns-3 c =
     let s = (prepare-suffix-of (force-from-of c).before).prepare-suffix in
     let e = else1-of (else2-of c) in
     let l = f.last.1.1.1.1 in
-    residual-forced (terms g.conditions.now g.weights.now) g.state (marks g.sure.now g.never.now (queue g.node-queue.now g.ring)) g.gcds.now
+    residual-forced (terms g.conditions.now g.weights.now) g.state (marks g.sure.now g.never.now (queue g.node_queue.now g.ring)) g.gcds.now
     (sym (e.before.contradicts.ensures ∙ ap contradicts e.before.before.threshold-residual-check.ensures) ∙ e.if1.left)
     (sym (else2-of c).before.nothing-forced.ensures ∙ (else2-of c).if2.false)
     (decided (marks l.0 l.1.0 (queue l.1.1.0 f.result.ring)) f.result.step) s.last.1.1.1.1.0 s.ensures
     (f.ensures
-    ∙ ap (λ (i : Interval). forceFrom i (placed s.last.1.1.1.1.0) (terms g.conditions.now g.weights.now) 0 (marks g.sure.now g.never.now (queue g.node-queue.now g.ring)) Unchanged)
+    ∙ ap (λ (i : Interval). force_from i (placed s.last.1.1.1.1.0) (terms g.conditions.now g.weights.now) 0 (marks g.sure.now g.never.now (queue g.node_queue.now g.ring)) Unchanged)
     (force-from-of c).before.before.before.before.interval-of.ensures)
 
 pub threshold-residual-spec : {M : Type 1} → statement M

@@ -8,7 +8,7 @@ use mir.Syntax.{w64}
 use mir.Val.{to_z, of_z}
 use borrow.Author.Rules.{rules}
 use Rattle.row_runs.specs.Row.{reachable}
-use Rattle.resting.specs.RestLaws.{down-place, down-none}
+use Rattle.resting.specs.RestLaws.{down_place, down_none}
 use Rattle.resting.proofs.down_rests.Statement.{statement}
 use Rattle.resting.proofs.down_rests.Tie as tie
 
@@ -20,10 +20,10 @@ returns c =
     let b = get_or a.bounds.now (s.never_guard - 1) (pos 0) in
     let hb : to_z w64 (of_z w64 b) ≡ b = search rules in
     let v : c.never-waits.result ≡ reachable s b = simp hb at c.never-waits.ensures in
-    (λ h. down-place a.bounds.now s (omega (arith, c.before.before.if1.true)) p (sym v ∙ h))
+    (λ h. down_place a.bounds.now s (omega (arith, c.before.before.if1.true)) p (sym v ∙ h))
 
 returns-2 : tie.Need-returns-2
-returns-2 c = (λ h. down-none c.before.args.bounds.now c.before.args.state (omega (arith, c.if1.false)))
+returns-2 c = (λ h. down_none c.before.args.bounds.now c.before.args.state (omega (arith, c.if1.false)))
 
 pub down-rests-spec : {M : Type 1} → statement M
 down-rests-spec = tie.close (tie.spec (λ c. search rules) (λ c. search rules) (λ c. search rules) (λ c κs. search rules) returns returns-2)

@@ -9,7 +9,7 @@ use Rattle.queues.specs.Marks.{marks}
 use Rattle.row_runs.specs.Guards.{guards}
 use Rattle.row_runs.specs.RowLaws.{signed}
 use Rattle.base.specs.TestLaws.{contrary}
-use Rattle.resting.specs.RestLaws.{row-rests}
+use Rattle.resting.specs.RestLaws.{row_rests}
 use Rattle.resting.proofs.rests.Statement.{statement}
 use Rattle.resting.proofs.rests.Tie as tie
 
@@ -35,7 +35,7 @@ returns-3 c =
     let all = c.scans-rest.ensures in
     (λ h ns q same.
     let m = marks a.sure.now a.never.now q in
-    row-rests [] (terms a.conditions.now a.weights.now) (guards a.bounds.now ns) a.state m no-upper fits ((all h).0 ns m same) ((all h).1 ns m same) ((all h).2 q))
+    row_rests [] (terms a.conditions.now a.weights.now) (guards a.bounds.now ns) a.state m no-upper fits ((all h).0 ns m same) ((all h).1 ns m same) ((all h).2 q))
 
 pub rests-spec : {M : Type 1} → statement M
 rests-spec = tie.close (tie.spec (λ c. search rules) (λ c. search rules) returns (λ c κs. search rules) returns-2 returns-3)

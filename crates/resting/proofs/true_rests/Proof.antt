@@ -6,11 +6,11 @@ use mir.Syntax.{w64}
 use mir.Val.{to_z, of_z}
 use mir.Facts.{to_z-of_z}
 use borrow.Author.Rules.{rules}
-use Rattle.base.specs.SignedLaws.{sub-sfits}
+use Rattle.base.specs.SignedLaws.{sub_sfits}
 use Rattle.numeric.specs.Slices.{terms}
 use Rattle.queues.specs.Marks.{marks}
 use Rattle.row_runs.specs.RowLaws.{signed}
-use Rattle.resting.specs.RestLaws.{true-met, true-waits}
+use Rattle.resting.specs.RestLaws.{true_met, true-waits}
 use Rattle.resting.proofs.true_rests.Statement.{statement}
 use Rattle.resting.proofs.true_rests.Tie as tie
 
@@ -28,7 +28,7 @@ returns c =
     let p = (start-of-then1 c).requires in
     let hk : to_z w64 (of_z w64 a.state.known) ≡ a.state.known = signed a.state.known p.1.known in
     let hl : to_z w64 (of_z w64 a.state.lower) ≡ a.state.lower = signed a.state.lower p.1.lower in
-    (λ h q. true-met (terms a.conditions.now a.weights.now) a.state (marks a.sure.now a.never.now q) (simp (hk, hl) at c.if1.true))
+    (λ h q. true_met (terms a.conditions.now a.weights.now) a.state (marks a.sure.now a.never.now q) (simp (hk, hl) at c.if1.true))
 
 sub-t12 : tie.Need-overflow-sub-t12
 sub-t12 c =
@@ -36,7 +36,7 @@ sub-t12 c =
     let p = (start_of c).requires in
     let hp : to_z w64 (of_z w64 a.state.possible) ≡ a.state.possible = signed a.state.possible p.1.possible in
     let hl : to_z w64 (of_z w64 a.state.lower) ≡ a.state.lower = signed a.state.lower p.1.lower in
-    simp (hp, hl) (sub-sfits a.state.possible a.state.lower (omega (arith, p.1.possible, p.1.lower)))
+    simp (hp, hl) (sub_sfits a.state.possible a.state.lower (omega (arith, p.1.possible, p.1.lower)))
 
 returns-2 : tie.Need-returns-2
 returns-2 c =
@@ -46,7 +46,7 @@ returns-2 c =
     let hp : to_z w64 (of_z w64 a.state.possible) ≡ a.state.possible = signed a.state.possible p.1.possible in
     let hl : to_z w64 (of_z w64 a.state.lower) ≡ a.state.lower = signed a.state.lower p.1.lower in
     let z = to_z w64 (of_z w64 (to_z w64 (of_z w64 a.state.possible) -ℤ to_z w64 (of_z w64 a.state.lower))) in
-    let d : to_z w64 (of_z w64 (a.state.possible -ℤ a.state.lower)) ≡ a.state.possible -ℤ a.state.lower = to_z-of_z (sub-sfits a.state.possible a.state.lower (omega (arith, p.1.possible, p.1.lower))) in
+    let d : to_z w64 (of_z w64 (a.state.possible -ℤ a.state.lower)) ≡ a.state.possible -ℤ a.state.lower = to_z-of_z (sub_sfits a.state.possible a.state.lower (omega (arith, p.1.possible, p.1.lower))) in
     let left = simp (hk, hl) at c.before.if1.false in
     (λ h q. true-waits (terms a.conditions.now a.weights.now) a.state (marks a.sure.now a.never.now q) z left (simp (hp, hl, d)) (c.term-rests.ensures h q))
 

@@ -5,13 +5,13 @@ use mir.Val.{to_z, of_z}
 use lib.ListN.{get_or}
 use lib.IntN.{pos}
 use borrow.Author.Tests.{eq-eqb, ne_eqb}
-use Rattle.row_moves.specs.Numbers.{rowState}
+use Rattle.row_moves.specs.Numbers.{row_state}
 use borrow.Author.Rules.{rules}
 use Rattle.row_moves.proofs.make.Statement.{statement}
 use Rattle.row_moves.proofs.make.Tie as tie
 
 returns : tie.Need-returns
-unfolding rowState
+unfolding row_state
 returns c =
     let a = c.before.before.before.before.before.args in
     let f = a.t1 in
@@ -22,7 +22,7 @@ returns c =
     simp (h0, h1, h2, h3, eq-eqb (get_or a.t2 4 0) 1 c.if1.true)
 
 returns-2 : tie.Need-returns-2
-unfolding rowState
+unfolding row_state
 returns-2 c =
     let a = c.before.before.before.before.before.args in
     let f = a.t1 in

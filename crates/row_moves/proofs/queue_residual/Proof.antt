@@ -1,7 +1,7 @@
 -- `row_moves::queue_residual` meets its contract.
 use mathlib.Core.Path.{refl, sym, ◌∙◌}
 use Rattle.numeric.specs.Slices.{terms}
-use Rattle.queues.specs.Slot.{rowsIn}
+use Rattle.queues.specs.Slot.{rows_in}
 use Rattle.rows.specs.Rows.{row_of}
 use Rattle.row_moves.specs.BetweenLaws.{residual-waits, residual-not}
 use borrow.Author.Rules.{rules}
@@ -17,7 +17,7 @@ returns c =
     let s = at-wants-residual.before.before.before in
     let a = s.args in (
       λ raw gs. queue-row.ensures.0
-          ∙ residual-waits (row_of raw (terms a.row-conditions.now a.row-weights.now) gs) a.state (rowsIn 2 a.row-queues.now a.ring) a.row
+          ∙ residual-waits (row_of raw (terms a.row-conditions.now a.row-weights.now) gs) a.state (rows_in 2 a.row_queues.now a.ring) a.row
           (sym (wants-residual.ensures raw gs) ∙ if1.true),
       queue-row.ensures.1,
     )
@@ -26,7 +26,7 @@ returns-2 : tie.Need-returns-2
 returns-2 c =
     let s = c.before.before.before.before in
     let a = s.args in (
-      λ raw gs. residual-not (row_of raw (terms a.row-conditions.now a.row-weights.now) gs) a.state (rowsIn 2 a.row-queues.now a.ring) a.row
+      λ raw gs. residual-not (row_of raw (terms a.row-conditions.now a.row-weights.now) gs) a.state (rows_in 2 a.row_queues.now a.ring) a.row
           (sym (c.before.wants-residual.ensures raw gs) ∙ c.if1.false),
       λ other. refl,
     )

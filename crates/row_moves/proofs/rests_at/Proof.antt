@@ -3,11 +3,11 @@ use Prim.Native.Nat.{◌≤◌}
 use lib.ListN.{length}
 use native.Mathlib.Omega.{arith}
 use Rattle.memory.specs.Buffers.{held_rows}
-use Rattle.memory.specs.Ranges.{figureLimit}
+use Rattle.memory.specs.Ranges.{figure_limit}
 use Rattle.base.specs.Parts.{stretch}
 use Rattle.queues.specs.Marks.{marks}
-use Rattle.row_moves.specs.HeldLaws.{term-slices, guard-slices, rests-cut}
-use Rattle.row_moves.specs.ReadyLaws.{fit-runs}
+use Rattle.row_moves.specs.HeldLaws.{term_slices, guard_slices, rests_cut}
+use Rattle.row_moves.specs.ReadyLaws.{fit_runs}
 use borrow.Author.Rules.{rules}
 use Rattle.row_moves.proofs.rests_at.Statement.{statement}
 use Rattle.row_moves.proofs.rests_at.Tie as tie
@@ -18,29 +18,29 @@ abbrev start_of : tie.After-guards-end → tie.Start
 start_of p = p.before.before.before.before.before.before.before.before
 
 -- The stretch of the terms lies in its buffers, and that of the guards.
-terms-rise : (c : tie.After-guards-end) → c.before.before.before.terms-start.result ≤ c.before.before.terms-end.result
+terms-rise : (c : tie.After-guards-end) → c.before.before.before.terms-start.result ≤ c.before.before.terms_end.result
 terms-rise c =
     let s = start_of c in
     let p = s.pre in
-    omega (arith, c.before.before.before.terms-start.ensures.0, c.before.before.terms-end.ensures.0, p.0.1.terms.rising s.args.row p.1)
+    omega (arith, c.before.before.before.terms-start.ensures.0, c.before.before.terms_end.ensures.0, p.0.1.terms.rising s.args.row p.1)
 
-terms-inside : (c : tie.After-guards-end) → c.before.before.terms-end.result ≤ length (start_of c).args.row-conditions.now
+terms-inside : (c : tie.After-guards-end) → c.before.before.terms_end.result ≤ length (start_of c).args.row-conditions.now
 terms-inside c =
     let s = start_of c in
     let p = s.pre in
-    omega (arith, c.before.before.terms-end.ensures.0, p.0.1.terms.ends s.args.row p.1)
+    omega (arith, c.before.before.terms_end.ensures.0, p.0.1.terms.ends s.args.row p.1)
 
-guards-rise : (c : tie.After-guards-end) → c.before.guards-start.result ≤ c.guards-end.result
+guards-rise : (c : tie.After-guards-end) → c.before.guards-start.result ≤ c.guards_end.result
 guards-rise c =
     let s = start_of c in
     let p = s.pre in
-    omega (arith, c.before.guards-start.ensures.0, c.guards-end.ensures.0, p.0.1.guards.rising s.args.row p.1)
+    omega (arith, c.before.guards-start.ensures.0, c.guards_end.ensures.0, p.0.1.guards.rising s.args.row p.1)
 
-guards-inside : (c : tie.After-guards-end) → c.guards-end.result ≤ length (start_of c).args.guard-bounds.now
+guards-inside : (c : tie.After-guards-end) → c.guards_end.result ≤ length (start_of c).args.guard_bounds.now
 guards-inside c =
     let s = start_of c in
     let p = s.pre in
-    omega (arith, c.guards-end.ensures.0, p.0.1.guards.ends s.args.row p.1)
+    omega (arith, c.guards_end.ensures.0, p.0.1.guards.ends s.args.row p.1)
 
 sub-rests : tie.Need-overflow-sub-rests
 sub-rests c = omega (arith, terms-rise c)
@@ -75,13 +75,13 @@ rests-requires c κs =
     let s = start_of e in
     let a = s.args in
     let p = s.pre in
-    let h = held_rows a.row-conditions.now a.row-weights.now a.rows.now a.guard-bounds.now p.0.0 in
+    let h = held_rows a.row-conditions.now a.row-weights.now a.rows.now a.guard_bounds.now p.0.0 in
     let terms-start = e.before.before.before.terms-start in
-    let terms-end = e.before.before.terms-end in
+    let terms_end = e.before.before.terms_end in
     let guards-start = e.before.guards-start in
-    let guards-end = e.guards-end in
-    let terms = term-slices h p.0.1 a.row p.1 terms-start.result terms-end.result terms-start.ensures.0 terms-end.ensures.0 in
-    let runs = fit-runs h figureLimit a.row a.state (omega arith) p.0.1 p.1 guards-start.result guards-end.result guards-start.ensures.0 guards-end.ensures.0 p.0.2 in
+    let guards_end = e.guards_end in
+    let terms = term_slices h p.0.1 a.row p.1 terms-start.result terms_end.result terms-start.ensures.0 terms_end.ensures.0 in
+    let runs = fit_runs h figure_limit a.row a.state (omega arith) p.0.1 p.1 guards-start.result guards_end.result guards-start.ensures.0 guards_end.ensures.0 p.0.2 in
     (terms, runs.figures, runs.inside, p.2, p.3)
 
 returns : tie.Need-returns
@@ -90,15 +90,15 @@ returns c =
     let a = (start_of e).args in
     let k = (start_of e).requires.1 in
     let terms-start = e.before.before.before.terms-start in
-    let terms-end = e.before.before.terms-end in
+    let terms_end = e.before.before.terms_end in
     let guards-start = e.before.guards-start in
-    let guards-end = e.guards-end in
+    let guards_end = e.guards_end in
     (λ t ns q shaped.
-    let h = held_rows a.row-conditions.now a.row-weights.now a.rows.now a.guard-bounds.now ns in
+    let h = held_rows a.row-conditions.now a.row-weights.now a.rows.now a.guard_bounds.now ns in
     let b = guards-start.result in
-    let f = guards-end.result in
-    let same = (guard-slices h shaped a.row k b f guards-start.ensures.0 guards-end.ensures.0).same in
-    rests-cut h a.row terms-start.result terms-end.result b f terms-start.ensures.0 terms-end.ensures.0 guards-start.ensures.0 guards-end.ensures.0 a.state
+    let f = guards_end.result in
+    let same = (guard_slices h shaped a.row k b f guards-start.ensures.0 guards_end.ensures.0).same in
+    rests_cut h a.row terms-start.result terms_end.result b f terms-start.ensures.0 terms_end.ensures.0 guards-start.ensures.0 guards_end.ensures.0 a.state
     (marks a.sure.now a.never.now q) (c.rests.ensures t (stretch b f ns) q same))
 
 pub rests-at-spec : {M : Type 1} → statement M

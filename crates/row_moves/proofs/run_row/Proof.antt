@@ -10,15 +10,15 @@ use Rattle.queues.specs.Queue.{queue}
 use Rattle.queues.specs.Marks.{marks}
 use Rattle.rows.specs.Rows.{row_of}
 use Rattle.row_runs.specs.Guards.{guards}
-use Rattle.row_runs.specs.GuardsLaws.{all-guards, all-terms}
-use Rattle.row_runs.specs.Row.{ran, thresholdRow}
-use Rattle.row_runs.specs.RowLaws.{kept_row, kept_by}
-use Rattle.row_moves.specs.Between.{Live, stateAt}
-use Rattle.row_moves.specs.NumbersLaws.{runs_by, states-cursors}
-use Rattle.row_moves.specs.Stored.{withCursors}
-use Rattle.row_moves.specs.StoredLaws.{stored-cursors, cursors-moved}
-use Rattle.row_moves.specs.Numbers.{statesOf, live_of, standing}
-use Rattle.row_moves.specs.BetweenLaws.{run-made}
+use Rattle.row_runs.specs.GuardsLaws.{all_guards, all_terms_lem}
+use Rattle.row_runs.specs.Row.{ran, threshold_row}
+use Rattle.row_runs.specs.RowLaws.{kept_row, kept_by_lem}
+use Rattle.row_moves.specs.Between.{Live, state_at}
+use Rattle.row_moves.specs.NumbersLaws.{runs_by, states_cursors}
+use Rattle.row_moves.specs.Stored.{with_cursors}
+use Rattle.row_moves.specs.StoredLaws.{stored_cursors, cursors_moved}
+use Rattle.row_moves.specs.Numbers.{states_of, live_of, standing}
+use Rattle.row_moves.specs.BetweenLaws.{run_made}
 use borrow.Author.Rules.{rules}
 use Rattle.row_moves.proofs.run_row.Statement.{statement}
 use Rattle.row_moves.proofs.run_row.Tie as tie
@@ -50,14 +50,14 @@ threshold-row-requires c κs =
     let s = start_of at_load.before in
     let a = s.args in
     let p = s.pre in
-    let v = live_of a.figures.now a.cursors.now a.sure.now a.never.now a.node-queue.now a.row-queues.now (standing a.nodes a.nodes a.residuals) in
-    let r = runs_by load.result (stateAt v a.row) a.guard-bounds.now load.ensures p.1.0.0 in
+    let v = live_of a.figures.now a.cursors.now a.sure.now a.never.now a.node_queue.now a.row_queues.now (standing a.nodes a.nodes a.residuals) in
+    let r = runs_by load.result (state_at v a.row) a.guard_bounds.now load.ensures p.1.0.0 in
     (p.0.1, p.0.2, r.figures, r.inside, p.1.0.1)
 
 store-cursors-requires : tie.Need-store-cursors-requires
 store-cursors-requires c κs =
     let s = start_of (queue-residual-of (threshold-row-of c)).before.before.before in
-    omega (arith, s.pre.0.0, states-cursors s.args.figures.now s.args.cursors.now)
+    omega (arith, s.pre.0.0, states_cursors s.args.figures.now s.args.cursors.now)
 
 same-length-2 : tie.Need-same-length-2
 same-length-2 c = c.before.store-cursors.auto.0
@@ -87,21 +87,21 @@ returns c =
     let p = s.pre in
     let fs = a.figures.now in
     let cs = a.cursors.now in
-    let v : Ring → Live = λ w. live_of fs cs a.sure.now a.never.now a.node-queue.now a.row-queues.now (standing a.nodes w a.residuals) in
+    let v : Ring → Live = λ w. live_of fs cs a.sure.now a.never.now a.node_queue.now a.row_queues.now (standing a.nodes w a.residuals) in
     let cs' = store.new.0 in
     let g = threshold-row.last.1.1.1.1.1 in
     let t = threshold-row.result in
-    let gs = guards a.guard-bounds.now a.guard-nodes.now in
+    let gs = guards a.guard_bounds.now a.guard_nodes.now in
     let row = row_of [] (terms a.row-conditions.now a.row-weights.now) gs in
-    let m = marks a.sure.now a.never.now (queue a.node-queue.now a.nodes) in
+    let m = marks a.sure.now a.never.now (queue a.node_queue.now a.nodes) in
     let n = marks g.0 g.1.0 (queue g.1.1.0 t.ring) in
     let after : Ring → Live = λ w. live_of fs cs' g.0 g.1.0 g.1.1.0 queue-residual.last.1.1.0 (standing t.ring w queue-residual.result) in
-    let whole = kept_row row load.result m (all-guards a.guard-bounds.now a.guard-nodes.now p.0.2.below) (all-terms a.row-conditions.now a.row-weights.now p.0.1.below) p.1.0.1 in
-    let kept = kept_by load.result (ran t.state n t.step) (thresholdRow row load.result m) (threshold-row.ensures []) whole in
-    let stored = stored-cursors fs cs a.row p.0.0 cs' t.state store.ensures in
+    let whole = kept_row row load.result m (all_guards a.guard_bounds.now a.guard_nodes.now p.0.2.below) (all_terms_lem a.row-conditions.now a.row-weights.now p.0.1.below) p.1.0.1 in
+    let kept = kept_by_lem load.result (ran t.state n t.step) (threshold_row row load.result m) (threshold-row.ensures []) whole in
+    let stored = stored_cursors fs cs a.row p.0.0 cs' t.state store.ensures in
     let states =
-    stored.states ∙ ap (λ (y : State). set (statesOf fs cs) a.row (withCursors y t.state)) (sym load.ensures) ∙ ap (set (statesOf fs cs) a.row) (cursors-moved load.result t.state kept.moved) in (
-      λ w. run-made row (v w) a.row load.result (sym load.ensures) (after w) t.state t.step
+    stored.states ∙ ap (λ (y : State). set (states_of fs cs) a.row (with_cursors y t.state)) (sym load.ensures) ∙ ap (set (states_of fs cs) a.row) (cursors_moved load.result t.state kept.moved) in (
+      λ w. run_made row (v w) a.row load.result (sym load.ensures) (after w) t.state t.step
           (threshold-row.ensures []) states (queue-residual.ensures.1 w) (queue-residual.ensures.0 [] gs),
       stored.tidy,
     )

@@ -1,7 +1,7 @@
 -- `rows::sum_column` meets its contract. Assumes nothing.
-use Rattle.base.specs.TallyLaws.{blend, blend-next, blend-at, blend-all, begin-at, sum-next, sum-grows, sum-zero, length-begins}
-use Rattle.base.specs.ColumnsLaws.{beside-self, beside-stored, beside-is, wide-stored, column-at, length-column, column-stored}
-use Rattle.base.specs.Columns.{column, Wide, Beside, withColumn}
+use Rattle.base.specs.TallyLaws.{blend, blend_next, blend_at, blend_all, begin-at, sum_next, sum_grows, sum-zero, length-begins}
+use Rattle.base.specs.ColumnsLaws.{beside_self, beside_stored, beside_is, wide_stored, column-at, length-column, column-stored}
+use Rattle.base.specs.Columns.{column, Wide, Beside, with_column}
 use Rattle.base.specs.Deal.{begins, sum_to}
 use mathlib.Core.Path.{◌≡◌, refl, sym, ap, ap₂, ◌∙◌}
 use mathlib.Core.List.{List, []}
@@ -19,7 +19,7 @@ abbrev decreases-loop : tie.decreases-loop
 decreases-loop rows₀ j sum₀ i₀ rows sum i = length rows₀ - i
 
 loop-holds : tie.Need-loop-init invariant-loop decreases-loop
-loop-holds c = (search rules, c.requires.1, beside-self c.args.j _, refl, sum-zero _)
+loop-holds c = (search rules, c.requires.1, beside_self c.args.j _, refl, sum-zero _)
 
 add-sum : tie.Need-overflow-add-sum invariant-loop decreases-loop
 add-sum c =
@@ -34,9 +34,9 @@ add-sum c =
     let lc = length-column j rows in
     let lb = length-begins 0 cs in
     let v : get_or (get_or w.rows i []) j 0 ≡ get_or cs i 0 =
-    sym (column-at j w.rows i) ∙ ap (λ (l : List ℕ). get_or l i 0) w.invariant.3 ∙ blend-at i bs cs 0 (omega arith) in
-    let s : w.sum + get_or (get_or w.rows i []) j 0 ≡ sum_to cs (i + 1) = ap₂ ◌+◌ w.invariant.4 v ∙ sum-next cs i in
-    let g = sum-grows cs (i + 1) (length rows) (omega arith) in
+    sym (column-at j w.rows i) ∙ ap (λ (l : List ℕ). get_or l i 0) w.invariant.3 ∙ blend_at i bs cs 0 (omega arith) in
+    let s : w.sum + get_or (get_or w.rows i []) j 0 ≡ sum_to cs (i + 1) = ap₂ ◌+◌ w.invariant.4 v ∙ sum_next cs i in
+    let g = sum_grows cs (i + 1) (length rows) (omega arith) in
     let q = c.before.before.before.requires.2 in
     omega arith
 
@@ -53,15 +53,15 @@ loop-again c =
     let lc = length-column j rows in
     let lb = length-begins 0 cs in
     let v : get_or (get_or w.rows i []) j 0 ≡ get_or cs i 0 =
-    sym (column-at j w.rows i) ∙ ap (λ (l : List ℕ). get_or l i 0) w.invariant.3 ∙ blend-at i bs cs 0 (omega arith) in
-    let s : w.sum + get_or (get_or w.rows i []) j 0 ≡ sum_to cs (i + 1) = ap₂ ◌+◌ w.invariant.4 v ∙ sum-next cs i in
+    sym (column-at j w.rows i) ∙ ap (λ (l : List ℕ). get_or l i 0) w.invariant.3 ∙ blend_at i bs cs 0 (omega arith) in
+    let s : w.sum + get_or (get_or w.rows i []) j 0 ≡ sum_to cs (i + 1) = ap₂ ◌+◌ w.invariant.4 v ∙ sum_next cs i in
     let h : i < length w.rows = omega arith in (
       omega arith,
-      wide-stored j j w.rows i w.sum w.invariant.1,
-      beside-stored j w.rows rows i w.sum h w.invariant.2,
+      wide_stored j j w.rows i w.sum w.invariant.1,
+      beside_stored j w.rows rows i w.sum h w.invariant.2,
       column-stored j w.rows i w.sum h (w.invariant.1 i h)
           ∙ ap₂ (λ (l : List ℕ) (x : ℕ). set l i x) w.invariant.3 (w.invariant.4 ∙ sym (begin-at cs i (omega arith)))
-          ∙ blend-next i bs cs 0 (omega arith) (omega arith),
+          ∙ blend_next i bs cs 0 (omega arith) (omega arith),
       s,
     )
 
@@ -77,8 +77,8 @@ returns c =
     let e = w.invariant.2.long in
     let lc = length-column j rows in
     let lb = length-begins 0 (column j rows) in
-    beside-is j w.rows rows w.invariant.2
-    ∙ ap (withColumn j rows) (w.invariant.3 ∙ blend-all w.i (begins 0 (column j rows)) (column j rows) (omega arith) (omega arith))
+    beside_is j w.rows rows w.invariant.2
+    ∙ ap (with_column j rows) (w.invariant.3 ∙ blend_all w.i (begins 0 (column j rows)) (column j rows) (omega arith) (omega arith))
 
 pub sum-column-spec : {M : Type 1} → statement M
 sum-column-spec =

@@ -1,5 +1,5 @@
 -- `rows::total` meets its contract. Assumes nothing.
-use Rattle.rows.specs.ListsLaws.{total-next, total-done}
+use Rattle.rows.specs.ListsLaws.{total_next, total_done}
 use Rattle.row.specs.Terms.{total as total_of}
 use Rattle.numeric.specs.Slices.{terms}
 use native.Mathlib.Nat.{zero-add}
@@ -23,17 +23,17 @@ loop-holds c = (search rules, zero-add _)
 add-sum : tie.Need-overflow-add-sum invariant-loop decreases-loop
 add-sum c = let g = c.before.before.before.args in
     let w = c.before.before.loop in
-    omega (arith, total-next g.conditions.now g.weights.now w.sum w.i (omega arith) (omega arith))
+    omega (arith, total_next g.conditions.now g.weights.now w.sum w.i (omega arith) (omega arith))
 
 loop-again : tie.Need-loop-preserved invariant-loop decreases-loop
 loop-again c = let g = c.before.before.before.args in
     let w = c.before.before.loop in
-    (omega arith, sym (total-next g.conditions.now g.weights.now w.sum w.i (omega arith) (omega arith)) ∙ w.invariant.1)
+    (omega arith, sym (total_next g.conditions.now g.weights.now w.sum w.i (omega arith) (omega arith)) ∙ w.invariant.1)
 
 returns : tie.Need-returns invariant-loop decreases-loop
 returns c = let g = c.before.before.args in
     let w = c.before.loop in
-    total-done g.conditions.now g.weights.now w.sum w.i (omega arith) ∙ w.invariant.1
+    total_done g.conditions.now g.weights.now w.sum w.i (omega arith) ∙ w.invariant.1
 
 pub total-spec : {M : Type 1} → statement M
 total-spec =

@@ -4,7 +4,7 @@ use Rattle.queues.specs.Queue.{queue}
 use Rattle.queues.specs.Marks.{marks}
 use Rattle.row_moves.specs.Between.{Live}
 use Rattle.row_moves.specs.Numbers.{live_of}
-use Rattle.theorem_keeps.specs.BeginsLaws.{mark-is}
+use Rattle.theorem_keeps.specs.BeginsLaws.{mark_is}
 use Rattle.seal.proofs.mark.Statement.{statement}
 use Rattle.seal.proofs.mark.Tie as tie
 
@@ -19,7 +19,7 @@ decide-of p = p.before.before.before.before.before.before.before.before.before
 -- The live state that is lent.
 abbrev entry : tie.Start → Live
 entry p = let a = p.args in
-    live_of a.figures.now a.cursors.now a.sure.now a.never.now a.node-queue.now a.row-queues.now a.rings
+    live_of a.figures.now a.cursors.now a.sure.now a.never.now a.node_queue.now a.row_queues.now a.rings
 
 decide-requires : tie.Need-decide-requires
 decide-requires c κs =
@@ -47,7 +47,7 @@ returns c =
     let after-decide = decide-of c in
     let start = start_of after-decide.before in
     let m = marks after-decide.decide.last.1.0 after-decide.decide.last.1.1.0 (queue after-decide.decide.last.1.1.1.0 after-decide.decide.result.ring) in
-    (mark-is start.args.value (entry start) start.args.node m after-decide.decide.result.step after-decide.decide.ensures, λ t. t)
+    (mark_is start.args.value (entry start) start.args.node m after-decide.decide.result.step after-decide.decide.ensures, λ t. t)
 
 pub mark_spec : {M : Type 1} → statement M
 mark_spec =

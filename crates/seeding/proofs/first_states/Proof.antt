@@ -3,15 +3,15 @@ use Prim.Native.Nat.{◌-◌, ◌<◌}
 use mathlib.Core.Path.{◌≡◌, ◌∙◌, refl}
 use native.Mathlib.Omega.{arith}
 use lib.ListN.{length}
-use Rattle.row_moves.specs.NumbersLaws.{states-set, tidy-store}
-use Rattle.row_moves.specs.Numbers.{statesOf, Tidy}
-use Rattle.row_moves.specs.FirstLaws.{Starting, starting-first, starting-next, starting-end}
+use Rattle.row_moves.specs.NumbersLaws.{states_set, tidy_store}
+use Rattle.row_moves.specs.Numbers.{states_of, Tidy}
+use Rattle.row_moves.specs.FirstLaws.{Starting, starting_first, starting_next, starting_end}
 use Rattle.seeding.proofs.first_states.Statement.{statement}
 use Rattle.seeding.proofs.first_states.Tie as tie
 
 abbrev invariant-loop : tie.invariant-loop
 invariant-loop row-conditions row-weights rows figures₀ cursors₀ at₀ figures cursors at =
-    Starting row-conditions row-weights rows (statesOf figures₀ cursors₀) at (statesOf figures cursors)
+    Starting row-conditions row-weights rows (states_of figures₀ cursors₀) at (states_of figures cursors)
     × (length figures ≡ length figures₀) × (length cursors ≡ length cursors₀) × (Tidy figures₀ cursors₀ → Tidy figures cursors)
 
 abbrev decreases-loop : tie.decreases-loop
@@ -21,7 +21,7 @@ loop-holds : tie.Need-loop-init invariant-loop decreases-loop
 loop-holds c =
     let s = c.before.before in
     let a = s.args in
-    (starting-first a.row-conditions.now a.row-weights.now a.rows.now (statesOf a.figures.now a.cursors.now), refl, refl, λ t. t)
+    (starting_first a.row-conditions.now a.row-weights.now a.rows.now (states_of a.figures.now a.cursors.now), refl, refl, λ t. t)
 
 first-at-requires : tie.Need-first-at-requires invariant-loop decreases-loop
 first-at-requires c κs =
@@ -59,11 +59,11 @@ loop-again c =
     let a = s.args in
     let f = store.new in
     let first = first-at.result in
-    let k : w.at < length (statesOf w.figures w.cursors) = omega (arith, test.true, s.requires.5, w.invariant.0.long) in
-    let set = states-set w.figures f.0 w.cursors f.1.0 w.at first k store.ensures.0 store.ensures.1 in
-    let tidy = tidy-store w.figures f.0 w.cursors f.1.0 w.at first k store.ensures.0 store.ensures.1 in
-    let next = starting-next a.row-conditions.now a.row-weights.now a.rows.now (statesOf a.figures.now a.cursors.now) w.at
-    (statesOf w.figures w.cursors) w.invariant.0 test.true first first-at.ensures (statesOf f.0 f.1.0) set in
+    let k : w.at < length (states_of w.figures w.cursors) = omega (arith, test.true, s.requires.5, w.invariant.0.long) in
+    let set = states_set w.figures f.0 w.cursors f.1.0 w.at first k store.ensures.0 store.ensures.1 in
+    let tidy = tidy_store w.figures f.0 w.cursors f.1.0 w.at first k store.ensures.0 store.ensures.1 in
+    let next = starting_next a.row-conditions.now a.row-weights.now a.rows.now (states_of a.figures.now a.cursors.now) w.at
+    (states_of w.figures w.cursors) w.invariant.0 test.true first first-at.ensures (states_of f.0 f.1.0) set in
     (next, store.auto.0 ∙ w.invariant.1, store.auto.1.0 ∙ w.invariant.2, λ t. tidy (w.invariant.3 t))
 
 same_length : tie.Need-same-length invariant-loop decreases-loop
@@ -77,8 +77,8 @@ returns c =
     let w = c.before.loop in
     let s = c.before.before.before.before in
     let a = s.args in
-    let end = starting-end a.row-conditions.now a.row-weights.now a.rows.now (statesOf a.figures.now a.cursors.now) w.at
-    (statesOf w.figures w.cursors) w.invariant.0 c.loop-test.false in
+    let end = starting_end a.row-conditions.now a.row-weights.now a.rows.now (states_of a.figures.now a.cursors.now) w.at
+    (states_of w.figures w.cursors) w.invariant.0 c.loop-test.false in
     (end, w.invariant.3)
 
 pub first-states-spec : {M : Type 1} → statement M

@@ -6,20 +6,20 @@ use lib.ListN.{length}
 use Rattle.memory.specs.Buffers.{held_rows}
 use Rattle.row_moves.specs.NumbersLaws.{same_self}
 use Rattle.row_moves.specs.Numbers.{live_of, Tidy, Same}
-use Rattle.seeding.specs.SeedingLaws.{Seeding, seeding-first, seeding-next, seeding-stop, seeding-end}
+use Rattle.seeding.specs.SeedingLaws.{Seeding, seeding_first, seeding_next, seeding_stop, seeding_end}
 use borrow.Author.Rules.{rules}
 use Rattle.seeding.proofs.seed_thresholds.Statement.{statement}
 use Rattle.seeding.proofs.seed_thresholds.Tie as tie
 
 abbrev invariant-loop : tie.invariant-loop
-invariant-loop row-conditions row-weights rows guard-bounds guard-nodes figures₀ cursors₀ sure₀ never₀ node-queue₀ row-queues₀ row₀ so-far₀ figures cursors sure never node-queue row-queues row so_far =
-    Seeding (held_rows row-conditions row-weights rows guard-bounds guard-nodes) (live_of figures₀ cursors₀ sure₀ never₀ node-queue₀ row-queues₀ so-far₀.rings)
-    row so_far.step (live_of figures cursors sure never node-queue row-queues so_far.rings)
-    × Same figures₀ cursors₀ sure₀ never₀ node-queue₀ row-queues₀ figures cursors sure never node-queue row-queues
+invariant-loop row-conditions row-weights rows guard_bounds guard_nodes figures₀ cursors₀ sure₀ never₀ node-queue₀ row-queues₀ row₀ so-far₀ figures cursors sure never node_queue row_queues row so_far =
+    Seeding (held_rows row-conditions row-weights rows guard_bounds guard_nodes) (live_of figures₀ cursors₀ sure₀ never₀ node-queue₀ row-queues₀ so-far₀.rings)
+    row so_far.step (live_of figures cursors sure never node_queue row_queues so_far.rings)
+    × Same figures₀ cursors₀ sure₀ never₀ node-queue₀ row-queues₀ figures cursors sure never node_queue row_queues
     × (Tidy figures₀ cursors₀ → Tidy figures cursors)
 
 abbrev decreases-loop : tie.decreases-loop
-decreases-loop row-conditions row-weights rows guard-bounds guard-nodes figures₀ cursors₀ sure₀ never₀ node-queue₀ row-queues₀ row₀ so-far₀ figures cursors sure never node-queue row-queues row so_far =
+decreases-loop row-conditions row-weights rows guard_bounds guard_nodes figures₀ cursors₀ sure₀ never₀ node-queue₀ row-queues₀ row₀ so-far₀ figures cursors sure never node_queue row_queues row so_far =
     length rows - row
 
 -- Ways back to earlier places.
@@ -40,10 +40,10 @@ loop-holds : tie.Need-loop-init invariant-loop decreases-loop
 loop-holds c =
     let s = c.before.before.before.before.before.before in
     let a = s.args in
-    let h = held_rows a.row-conditions.now a.row-weights.now a.rows.now a.guard-bounds.now a.guard-nodes.now in
-    let v = live_of a.figures.now a.cursors.now a.sure.now a.never.now a.node-queue.now a.row-queues.now a.rings in (
-      seeding-first h v s.requires.1,
-      same_self a.figures.now a.cursors.now a.sure.now a.never.now a.node-queue.now a.row-queues.now,
+    let h = held_rows a.row-conditions.now a.row-weights.now a.rows.now a.guard_bounds.now a.guard_nodes.now in
+    let v = live_of a.figures.now a.cursors.now a.sure.now a.never.now a.node_queue.now a.row_queues.now a.rings in (
+      seeding_first h v s.requires.1,
+      same_self a.figures.now a.cursors.now a.sure.now a.never.now a.node_queue.now a.row_queues.now,
       λ t. t,
     )
 
@@ -88,14 +88,14 @@ same-length-5 c =
     let at-run-at = run-at-of c.before in
     let run_at = at-run-at.run_at in
     let w = (loop-of at-run-at).loop in
-    ◌∙◌ {b = length w.node-queue} run_at.kept.1.1.1.1.1.1.1.1.1.0 w.inv.1.node-queue
+    ◌∙◌ {b = length w.node_queue} run_at.kept.1.1.1.1.1.1.1.1.1.0 w.inv.1.node_queue
 
 same-length-6 : tie.Need-same-length-6 invariant-loop decreases-loop
 same-length-6 c =
     let at-run-at = run-at-of c.before in
     let run_at = at-run-at.run_at in
     let w = (loop-of at-run-at).loop in
-    ◌∙◌ {b = length w.row-queues} run_at.kept.1.1.1.1.1.1.1.1.1.1.0 w.inv.1.row-queues
+    ◌∙◌ {b = length w.row_queues} run_at.kept.1.1.1.1.1.1.1.1.1.1.0 w.inv.1.row_queues
 
 returns : tie.Need-returns invariant-loop decreases-loop
 returns c =
@@ -106,12 +106,12 @@ returns c =
     let w = at-loop-test.before.loop in
     let s = start_of at-loop-test.before in
     let a = s.args in
-    let h = held_rows a.row-conditions.now a.row-weights.now a.rows.now a.guard-bounds.now a.guard-nodes.now in
-    let v = live_of a.figures.now a.cursors.now a.sure.now a.never.now a.node-queue.now a.row-queues.now a.rings in
-    let u = live_of w.figures w.cursors w.sure w.never w.node-queue w.row-queues w.so_far.rings in
+    let h = held_rows a.row-conditions.now a.row-weights.now a.rows.now a.guard_bounds.now a.guard_nodes.now in
+    let v = live_of a.figures.now a.cursors.now a.sure.now a.never.now a.node_queue.now a.row_queues.now a.rings in
+    let u = live_of w.figures w.cursors w.sure w.never w.node_queue w.row_queues w.so_far.rings in
     let m = run_at.last.1.1.1.1.1 in
     let o = live_of m.0 m.1.0 m.1.1.0 m.1.1.1.0 m.1.1.1.1.0 m.1.1.1.1.1.0 run_at.result.rings in (
-      seeding-stop h v w.row w.so_far.step u w.inv.0 s.pre.0 test.taken
+      seeding_stop h v w.row w.so_far.step u w.inv.0 s.pre.0 test.taken
           o run_at.result.step run_at.ensures.0 (sym c.before.contradicts.ensures ∙ c.if1.true),
       λ t. run_at.ensures.1 (w.inv.2 t),
     )
@@ -138,22 +138,22 @@ loop-again c =
     let w = at-loop-test.before.loop in
     let s = start_of at-loop-test.before in
     let a = s.args in
-    let h = held_rows a.row-conditions.now a.row-weights.now a.rows.now a.guard-bounds.now a.guard-nodes.now in
-    let v = live_of a.figures.now a.cursors.now a.sure.now a.never.now a.node-queue.now a.row-queues.now a.rings in
-    let u = live_of w.figures w.cursors w.sure w.never w.node-queue w.row-queues w.so_far.rings in
+    let h = held_rows a.row-conditions.now a.row-weights.now a.rows.now a.guard_bounds.now a.guard_nodes.now in
+    let v = live_of a.figures.now a.cursors.now a.sure.now a.never.now a.node_queue.now a.row_queues.now a.rings in
+    let u = live_of w.figures w.cursors w.sure w.never w.node_queue w.row_queues w.so_far.rings in
     let m = run_at.last.1.1.1.1.1 in
     let o = live_of m.0 m.1.0 m.1.1.0 m.1.1.1.0 m.1.1.1.1.0 m.1.1.1.1.1.0 run_at.result.rings in
     let g = run_at.kept.1.1.1.1.1 in
     let same = w.inv.1 in (
-      seeding-next h v w.row w.so_far.step u w.inv.0 s.pre.0 test.taken
+      seeding_next h v w.row w.so_far.step u w.inv.0 s.pre.0 test.taken
           o run_at.result.step run_at.ensures.0 (sym contradicts.ensures ∙ if1.false) join.result join.ensures,
       record {
         figures = ◌∙◌ {b = length w.figures} g.0 same.figures;
         cursors = ◌∙◌ {b = length w.cursors} g.1.0 same.cursors;
         sure = ◌∙◌ {b = length w.sure} g.1.1.0 same.sure;
         never = ◌∙◌ {b = length w.never} g.1.1.1.0 same.never;
-        node-queue = ◌∙◌ {b = length w.node-queue} g.1.1.1.1.0 same.node-queue;
-        row-queues = ◌∙◌ {b = length w.row-queues} g.1.1.1.1.1.0 same.row-queues;
+        node_queue = ◌∙◌ {b = length w.node_queue} g.1.1.1.1.0 same.node_queue;
+        row_queues = ◌∙◌ {b = length w.row_queues} g.1.1.1.1.1.0 same.row_queues;
       },
       λ t. run_at.ensures.1 (w.inv.2 t),
     )
@@ -171,20 +171,20 @@ same-length-10 : tie.Need-same-length-10 invariant-loop decreases-loop
 same-length-10 c = c.before.loop.invariant.1.never
 
 same-length-11 : tie.Need-same-length-11 invariant-loop decreases-loop
-same-length-11 c = c.before.loop.invariant.1.node-queue
+same-length-11 c = c.before.loop.invariant.1.node_queue
 
 same-length-12 : tie.Need-same-length-12 invariant-loop decreases-loop
-same-length-12 c = c.before.loop.invariant.1.row-queues
+same-length-12 c = c.before.loop.invariant.1.row_queues
 
 returns-2 : tie.Need-returns-2 invariant-loop decreases-loop
 returns-2 c =
     let w = c.before.loop in
     let s = start_of c.before in
     let a = s.args in
-    let h = held_rows a.row-conditions.now a.row-weights.now a.rows.now a.guard-bounds.now a.guard-nodes.now in
-    let v = live_of a.figures.now a.cursors.now a.sure.now a.never.now a.node-queue.now a.row-queues.now a.rings in
-    let u = live_of w.figures w.cursors w.sure w.never w.node-queue w.row-queues w.so_far.rings in
-    (seeding-end h v w.row w.so_far.step u w.invariant.0 c.loop-test.false, w.invariant.2)
+    let h = held_rows a.row-conditions.now a.row-weights.now a.rows.now a.guard_bounds.now a.guard_nodes.now in
+    let v = live_of a.figures.now a.cursors.now a.sure.now a.never.now a.node_queue.now a.row_queues.now a.rings in
+    let u = live_of w.figures w.cursors w.sure w.never w.node_queue w.row_queues w.so_far.rings in
+    (seeding_end h v w.row w.so_far.step u w.invariant.0 c.loop-test.false, w.invariant.2)
 
 pub seed-thresholds-spec : {M : Type 1} → statement M
 seed-thresholds-spec =

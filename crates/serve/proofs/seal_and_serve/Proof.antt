@@ -8,7 +8,7 @@ use Rattle.records.specs.declared.Record.TheVariants.{Seal}
 use Rattle.files.specs.File.{File, standing, apply, outcome}
 use Rattle.serve.specs.declared.Reached.{Reached}
 use Rattle.serve.specs.Serve.{Lies, Seals, Reaches, Same}
-use Rattle.serve.specs.SealLaws.{seals-holds, seals-shaped, seals-totals, seals-room, seals-waits, seals-flags, seals-reaches, seals-passed, seals-whole}
+use Rattle.serve.specs.SealLaws.{seals_holds, seals_shaped, seals_totals, seals_room, seals_waits, seals_flags, seals_reaches, seals_passed, seals_whole}
 use borrow.Author.Rules.{rules}
 use Rattle.serve.proofs.seal_and_serve.Statement.{statement}
 use Rattle.serve.proofs.seal_and_serve.Tie as tie
@@ -30,12 +30,12 @@ serve-records-of p = p.before.before.before.before.before.before.before.before.b
 abbrev buffers : tie.Start → Built
 buffers p =
     let a = p.args in
-    built (held_rows a.row-conditions.now a.row-weights.now a.rows.now a.guard-bounds.now a.guard-nodes.now) a.nodes.now a.edges.now a.links.now
+    built (held_rows a.row-conditions.now a.row-weights.now a.rows.now a.guard_bounds.now a.guard_nodes.now) a.nodes.now a.edges.now a.links.now
 
 abbrev entry : tie.Start → Kept
 entry p =
     let a = p.args in
-    kept a.figures.now a.cursors.now a.sure.now a.never.now a.search.now a.gcds.now a.node-queue.now a.row-queues.now a.answers.now
+    kept a.figures.now a.cursors.now a.sure.now a.never.now a.search.now a.gcds.now a.node_queue.now a.row_queues.now a.answers.now
 
 -- Behind the seal; the other buffers are as they were.
 abbrev sealed : tie.After-seal → Kept
@@ -64,8 +64,8 @@ reaches p f base z l e =
     let s = start_of q.before in
     let a = s.args in
     let t = q.seal in
-    let passed = seals-passed f a.input.now a.at s.pre.1 a.standing e s.pre.2 in
-    seals-reaches a.bounds.now (buffers s) base f (entry s) a.rings z l (sealed q) t.result.rings t.result.step t.ensures.0 passed
+    let passed = seals_passed f a.input.now a.at s.pre.1 a.standing e s.pre.2 in
+    seals_reaches a.bounds.now (buffers s) base f (entry s) a.rings z l (sealed q) t.result.rings t.result.step t.ensures.0 passed
     (t.ensures.1 l.tidy) refl refl refl (first p) refl refl refl a.standing e p.stood.ensures
 
 -- Behind the records each buffer is as long as it was lent.
@@ -78,8 +78,8 @@ kept-lengths p =
       cursors = k.1.0 ∙ s.1.0;
       sure = k.1.1.0 ∙ s.1.1.0;
       never = k.1.1.1.0 ∙ s.1.1.1.0;
-      node-queue = k.1.1.1.1.0 ∙ s.1.1.1.1.0;
-      row-queues = k.1.1.1.1.1.0 ∙ s.1.1.1.1.1.0;
+      node_queue = k.1.1.1.1.0 ∙ s.1.1.1.1.0;
+      row_queues = k.1.1.1.1.1.0 ∙ s.1.1.1.1.1.0;
       gcds = k.1.1.1.1.1.1.0;
       search = k.1.1.1.1.1.1.1.0;
       answers = k.1.1.1.1.1.1.1.1.0;
@@ -91,14 +91,14 @@ seal-requires c κs =
     let a = start.args in
     let p = start.pre.0 in (
       (
-        seals-holds a.bounds.now (buffers start) p.1 p.0 (entry start) a.rings p.2 p.3,
-        seals-shaped a.bounds.now (buffers start) p.1 p.0 (entry start) a.rings p.2 p.3,
-        seals-totals a.bounds.now (buffers start) p.1 p.0 (entry start) a.rings p.2 p.3,
-        seals-room a.bounds.now (buffers start) p.1 p.0 (entry start) a.rings p.2 p.3,
+        seals_holds a.bounds.now (buffers start) p.1 p.0 (entry start) a.rings p.2 p.3,
+        seals_shaped a.bounds.now (buffers start) p.1 p.0 (entry start) a.rings p.2 p.3,
+        seals_totals a.bounds.now (buffers start) p.1 p.0 (entry start) a.rings p.2 p.3,
+        seals_room a.bounds.now (buffers start) p.1 p.0 (entry start) a.rings p.2 p.3,
       ),
       (
-        seals-waits a.bounds.now (buffers start) p.1 p.0 (entry start) a.rings p.2 p.3,
-        seals-flags a.bounds.now (buffers start) p.1 p.0 (entry start) a.rings p.2 p.3,
+        seals_waits a.bounds.now (buffers start) p.1 p.0 (entry start) a.rings p.2 p.3,
+        seals_flags a.bounds.now (buffers start) p.1 p.0 (entry start) a.rings p.2 p.3,
       ),
     )
 
@@ -123,7 +123,7 @@ returns c =
     let w = start.pre in
     let t = after-serve-records.serve-records in (
       λ f base z l e.
-          seals-whole a.bounds.now (buffers start) base f (after after-serve-records) t.result a.input.now a.at w.1 a.standing e w.2
+          seals_whole a.bounds.now (buffers start) base f (after after-serve-records) t.result a.input.now a.at w.1 a.standing e w.2
           (t.ensures (apply f Seal) base (reaches after-stood f base z l e)),
       c.fours.ensures,
     )
@@ -141,8 +141,8 @@ seal-and-serve-spec =
     (λ c. (kept-lengths (serve-records-of c)).cursors)
     (λ c. (kept-lengths (serve-records-of c)).sure)
     (λ c. (kept-lengths (serve-records-of c)).never)
-    (λ c. (kept-lengths (serve-records-of c)).node-queue)
-    (λ c. (kept-lengths (serve-records-of c)).row-queues)
+    (λ c. (kept-lengths (serve-records-of c)).node_queue)
+    (λ c. (kept-lengths (serve-records-of c)).row_queues)
     (λ c. (kept-lengths (serve-records-of c)).gcds)
     (λ c. (kept-lengths (serve-records-of c)).search)
     (λ c. (kept-lengths (serve-records-of c)).answers)

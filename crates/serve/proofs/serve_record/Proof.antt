@@ -4,8 +4,8 @@ use mathlib.Core.Path.{refl, ap}
 use Prim.Native.Nat.{ℕ, ◌+◌}
 use lib.ListN.{get_or}
 use Rattle.memory.specs.Buffers.{held_rows, Built, built, Kept, kept}
-use Rattle.serve.specs.ReadLaws.{body-small}
-use Rattle.serve.specs.ServeLaws.{next-refused, next-passed, next-asks, next-taken}
+use Rattle.serve.specs.ReadLaws.{body_small}
+use Rattle.serve.specs.ServeLaws.{next_refused, next_passed, next_asks, next_taken}
 use borrow.Author.Rules.{rules}
 use Rattle.serve.proofs.serve_record.Statement.{statement}
 use Rattle.serve.proofs.serve_record.Tie as tie
@@ -24,12 +24,12 @@ take-record-of p = p.before.before.before.before.before.before.before.before.bef
 abbrev buffers : tie.Start → Built
 buffers p =
     let a = p.args in
-    built (held_rows a.row-conditions.now a.row-weights.now a.rows.now a.guard-bounds.now a.guard-nodes.now) a.nodes.now a.edges.now a.links.now
+    built (held_rows a.row-conditions.now a.row-weights.now a.rows.now a.guard_bounds.now a.guard_nodes.now) a.nodes.now a.edges.now a.links.now
 
 abbrev entry : tie.Start → Kept
 entry p =
     let a = p.args in
-    kept a.figures.now a.cursors.now a.sure.now a.never.now a.search.now a.gcds.now a.node-queue.now a.row-queues.now a.answers.now
+    kept a.figures.now a.cursors.now a.sure.now a.never.now a.search.now a.gcds.now a.node_queue.now a.row_queues.now a.answers.now
 
 abbrev after : tie.After-take-record → Kept
 after p =
@@ -40,7 +40,7 @@ add-behind-2 : tie.Need-overflow-add-behind-2
 add-behind-2 c =
     let start = start_of c.before.before.before.before.before in
     let a = start.args in
-    omega (arith, start.pre.1, start.pre.2, body-small (get_or a.input.now a.reached.at 0), c.body-length.ensures)
+    omega (arith, start.pre.1, start.pre.2, body_small (get_or a.input.now a.reached.at 0), c.body-length.ensures)
 
 take-record-requires : tie.Need-take-record-requires
 take-record-requires c κs =
@@ -54,8 +54,8 @@ take-record-requires c κs =
       p.0.0,
       p.0.1,
       p.0.2,
-      next-asks a.bounds.now (buffers start) p.0.1 p.0.0 (entry start) a.reached p.0.2 a.input.now p.1 n.result n.ensures e.0.0 e.1,
-      next-passed a.bounds.now (buffers start) p.0.1 p.0.0 (entry start) a.reached p.0.2 a.input.now p.1 n.result n.ensures e.0.0 e.1,
+      next_asks a.bounds.now (buffers start) p.0.1 p.0.0 (entry start) a.reached p.0.2 a.input.now p.1 n.result n.ensures e.0.0 e.1,
+      next_passed a.bounds.now (buffers start) p.0.1 p.0.0 (entry start) a.reached p.0.2 a.input.now p.1 n.result n.ensures e.0.0 e.1,
     )
 
 returns : tie.Need-returns
@@ -66,7 +66,7 @@ returns c =
     let a = start.args in
     let n = after-next-record.next-record in
     let e = after-found.found.given in
-    λ f base z. next-refused a.bounds.now (buffers start) base f (entry start) a.reached z a.input.now start.pre.1 n.result n.ensures e.0.0 e.1 _ refl refl refl refl refl
+    λ f base z. next_refused a.bounds.now (buffers start) base f (entry start) a.reached z a.input.now start.pre.1 n.result n.ensures e.0.0 e.1 _ refl refl refl refl refl
 
 returns-2 : tie.Need-returns-2
 returns-2 c =
@@ -81,9 +81,9 @@ returns-2 c =
     let t = after-take-record.take-record in
     let size = after-body-length.body-length in
     λ f base z.
-    let asks = next-asks a.bounds.now (buffers start) base f (entry start) a.reached z a.input.now start.pre.1 n.result n.ensures e.0.0 e.1 in
-    let passed = next-passed a.bounds.now (buffers start) base f (entry start) a.reached z a.input.now start.pre.1 n.result n.ensures e.0.0 e.1 in
-    next-taken a.bounds.now (buffers start) base f (entry start) a.reached z a.input.now start.pre.1 n.result n.ensures e.0.0 e.1 (after after-take-record) t.result
+    let asks = next_asks a.bounds.now (buffers start) base f (entry start) a.reached z a.input.now start.pre.1 n.result n.ensures e.0.0 e.1 in
+    let passed = next_passed a.bounds.now (buffers start) base f (entry start) a.reached z a.input.now start.pre.1 n.result n.ensures e.0.0 e.1 in
+    next_taken a.bounds.now (buffers start) base f (entry start) a.reached z a.input.now start.pre.1 n.result n.ensures e.0.0 e.1 (after after-take-record) t.result
     (a.reached.at + 1 + size.result) (ap (λ (k : ℕ). a.reached.at + 1 + k) size.ensures) (t.ensures f base z asks passed)
 
 pub serve-record-spec : {M : Type 1} → statement M

@@ -5,18 +5,18 @@ use Prim.Native.Nat.{◌-◌}
 use lib.ListN.{length}
 use Rattle.memory.specs.Buffers.{held_rows, Built, built, Kept, kept}
 use Rattle.serve.specs.Serve.{Same}
-use Rattle.serve.specs.ServeLaws.{Loops, loops-first, loops-end, loops-stop, loops-next, loops-less}
+use Rattle.serve.specs.ServeLaws.{Loops, loops_first, loops_end, loops_stop, loops_next, loops_less}
 use Rattle.serve.proofs.serve_records.Statement.{statement}
 use Rattle.serve.proofs.serve_records.Tie as tie
 
 abbrev invariant-loop : tie.invariant-loop
-invariant-loop input conditions weights rows guard-bounds guard-nodes nodes bounds edges links figures₀ cursors₀ sure₀ never₀ node-queue₀ row-queues₀ gcds₀ search₀ answers₀ reached₀ figures cursors sure never node-queue row-queues gcds search answers reached =
+invariant-loop input conditions weights rows guard_bounds guard_nodes nodes bounds edges links figures₀ cursors₀ sure₀ never₀ node-queue₀ row-queues₀ gcds₀ search₀ answers₀ reached₀ figures cursors sure never node_queue row_queues gcds search answers reached =
     let k₀ = kept figures₀ cursors₀ sure₀ never₀ search₀ gcds₀ node-queue₀ row-queues₀ answers₀ in
-    let k = kept figures cursors sure never search gcds node-queue row-queues answers in
-    Loops input bounds (built (held_rows conditions weights rows guard-bounds guard-nodes) nodes edges links) k₀ reached₀ k reached × Same k₀ k
+    let k = kept figures cursors sure never search gcds node_queue row_queues answers in
+    Loops input bounds (built (held_rows conditions weights rows guard_bounds guard_nodes) nodes edges links) k₀ reached₀ k reached × Same k₀ k
 
 abbrev decreases-loop : tie.decreases-loop
-decreases-loop input conditions weights rows guard-bounds guard-nodes nodes bounds edges links figures₀ cursors₀ sure₀ never₀ node-queue₀ row-queues₀ gcds₀ search₀ answers₀ reached₀ figures cursors sure never node-queue row-queues gcds search answers reached = length input - reached.at
+decreases-loop input conditions weights rows guard_bounds guard_nodes nodes bounds edges links figures₀ cursors₀ sure₀ never₀ node-queue₀ row-queues₀ gcds₀ search₀ answers₀ reached₀ figures cursors sure never node_queue row_queues gcds search answers reached = length input - reached.at
 
 -- Ways back to earlier places.
 
@@ -38,17 +38,17 @@ serve-record-of-then2 p = p.before.before.before.before.before.before.before.bef
 abbrev buffers : tie.Start invariant-loop decreases-loop → Built
 buffers p =
     let a = p.args in
-    built (held_rows a.row-conditions.now a.row-weights.now a.rows.now a.guard-bounds.now a.guard-nodes.now) a.nodes.now a.edges.now a.links.now
+    built (held_rows a.row-conditions.now a.row-weights.now a.rows.now a.guard_bounds.now a.guard_nodes.now) a.nodes.now a.edges.now a.links.now
 
 abbrev entry : tie.Start invariant-loop decreases-loop → Kept
 entry p =
     let a = p.args in
-    kept a.figures.now a.cursors.now a.sure.now a.never.now a.search.now a.gcds.now a.node-queue.now a.row-queues.now a.answers.now
+    kept a.figures.now a.cursors.now a.sure.now a.never.now a.search.now a.gcds.now a.node_queue.now a.row_queues.now a.answers.now
 
 abbrev here : tie.At-loop invariant-loop decreases-loop → Kept
 here p =
     let l = p.loop in
-    kept l.figures l.cursors l.sure l.never l.search l.gcds l.node-queue l.row-queues l.answers
+    kept l.figures l.cursors l.sure l.never l.search l.gcds l.node_queue l.row_queues l.answers
 
 abbrev after : tie.After-serve-record invariant-loop decreases-loop → Kept
 after p =
@@ -65,8 +65,8 @@ kept-lengths p =
       cursors = k.1.0 ∙ o.cursors;
       sure = k.1.1.0 ∙ o.sure;
       never = k.1.1.1.0 ∙ o.never;
-      node-queue = k.1.1.1.1.0 ∙ o.node-queue;
-      row-queues = k.1.1.1.1.1.0 ∙ o.row-queues;
+      node_queue = k.1.1.1.1.0 ∙ o.node_queue;
+      row_queues = k.1.1.1.1.1.0 ∙ o.row_queues;
       gcds = k.1.1.1.1.1.1.0 ∙ o.gcds;
       search = k.1.1.1.1.1.1.1.0 ∙ o.search;
       answers = k.1.1.1.1.1.1.1.1.0 ∙ o.answers;
@@ -76,8 +76,8 @@ loop-holds : tie.Need-loop-init invariant-loop decreases-loop
 loop-holds c =
     let start = start_of c in
     let a = start.args in (
-      loops-first a.input.now a.bounds.now (buffers start) (entry start) a.first,
-      record { figures = refl; cursors = refl; sure = refl; never = refl; search = refl; gcds = refl; node-queue = refl; row-queues = refl; answers = refl },
+      loops_first a.input.now a.bounds.now (buffers start) (entry start) a.first,
+      record { figures = refl; cursors = refl; sure = refl; never = refl; search = refl; gcds = refl; node_queue = refl; row_queues = refl; answers = refl },
     )
 
 serve-record-requires : tie.Need-serve-record-requires invariant-loop decreases-loop
@@ -98,7 +98,7 @@ returns c =
     let a = start.args in
     let l = at-loop.loop in
     let s = after-serve-record.serve-record in
-    loops-stop a.input.now a.bounds.now (buffers start) (entry start) a.first (here at-loop) l.reached l.inv.0 then1.if1.taken (after after-serve-record) s.result s.ensures c.if2.true
+    loops_stop a.input.now a.bounds.now (buffers start) (entry start) a.first (here at-loop) l.reached l.inv.0 then1.if1.taken (after after-serve-record) s.result s.ensures c.if2.true
 
 loop-less : tie.Need-loop-smaller invariant-loop decreases-loop
 loop-less c =
@@ -110,7 +110,7 @@ loop-less c =
     let l = at-loop.loop in
     let s = after-serve-record.serve-record in
     let p = start.pre in
-    loops-less a.input.now a.bounds.now (buffers start) (entry start) a.first (here at-loop) l.reached l.inv.0 then1.if1.taken (after after-serve-record) s.result s.ensures c.if2.false p.0.0 p.0.1 p.0.2
+    loops_less a.input.now a.bounds.now (buffers start) (entry start) a.first (here at-loop) l.reached l.inv.0 then1.if1.taken (after after-serve-record) s.result s.ensures c.if2.false p.0.0 p.0.1 p.0.2
 
 loop-again : tie.Need-loop-preserved invariant-loop decreases-loop
 loop-again c =
@@ -121,7 +121,7 @@ loop-again c =
     let a = start.args in
     let l = at-loop.loop in
     let s = after-serve-record.serve-record in (
-      loops-next a.input.now a.bounds.now (buffers start) (entry start) a.first (here at-loop) l.reached l.inv.0 then1.if1.taken (after after-serve-record) s.result s.ensures c.if2.false,
+      loops_next a.input.now a.bounds.now (buffers start) (entry start) a.first (here at-loop) l.reached l.inv.0 then1.if1.taken (after after-serve-record) s.result s.ensures c.if2.false,
       kept-lengths after-serve-record,
     )
 
@@ -131,7 +131,7 @@ returns-2 c =
     let start = start_of at-loop.before in
     let a = start.args in
     let l = at-loop.loop in
-    loops-end a.input.now a.bounds.now (buffers start) (entry start) a.first (here at-loop) l.reached l.invariant.0 (omega (arith, c.if1.false))
+    loops_end a.input.now a.bounds.now (buffers start) (entry start) a.first (here at-loop) l.reached l.invariant.0 (omega (arith, c.if1.false))
 
 pub serve-records-spec : {M : Type 1} → statement M
 serve-records-spec =
@@ -145,8 +145,8 @@ serve-records-spec =
     (λ c. (kept-lengths (serve-record-of-then2 c)).cursors)
     (λ c. (kept-lengths (serve-record-of-then2 c)).sure)
     (λ c. (kept-lengths (serve-record-of-then2 c)).never)
-    (λ c. (kept-lengths (serve-record-of-then2 c)).node-queue)
-    (λ c. (kept-lengths (serve-record-of-then2 c)).row-queues)
+    (λ c. (kept-lengths (serve-record-of-then2 c)).node_queue)
+    (λ c. (kept-lengths (serve-record-of-then2 c)).row_queues)
     (λ c. (kept-lengths (serve-record-of-then2 c)).gcds)
     (λ c. (kept-lengths (serve-record-of-then2 c)).search)
     (λ c. (kept-lengths (serve-record-of-then2 c)).answers)
@@ -157,8 +157,8 @@ serve-records-spec =
     (λ c. c.before.before.loop.invariant.1.cursors)
     (λ c. c.before.before.loop.invariant.1.sure)
     (λ c. c.before.before.loop.invariant.1.never)
-    (λ c. c.before.before.loop.invariant.1.node-queue)
-    (λ c. c.before.before.loop.invariant.1.row-queues)
+    (λ c. c.before.before.loop.invariant.1.node_queue)
+    (λ c. c.before.before.loop.invariant.1.row_queues)
     (λ c. c.before.before.loop.invariant.1.gcds)
     (λ c. c.before.before.loop.invariant.1.search)
     (λ c. c.before.before.loop.invariant.1.answers)

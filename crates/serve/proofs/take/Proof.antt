@@ -11,7 +11,7 @@ use Rattle.records.specs.declared.Record.{Record}
 use Rattle.records.specs.contracts.Record.{the_type}
 use Rattle.records.specs.declared.Record.TheVariants.{Mark, Settle, Sift}
 use Rattle.serve.specs.Serve.{Asks}
-use Rattle.serve.specs.ServeLaws.{takes-going, takes-serves, takes-short, takes-mark, took-mark, took-settle, took-sift}
+use Rattle.serve.specs.ServeLaws.{takes_going, takes_serves, takes_short, takes_mark, took_mark, took_settle, took_sift}
 use borrow.Author.Rules.{rules}
 use Rattle.serve.proofs.take.Statement.{statement}
 use Rattle.serve.proofs.take.Tie as tie
@@ -54,12 +54,12 @@ sift-of p = p.before.before.before.before.before.before.before.before.before.bef
 abbrev buffers : tie.Start → Built
 buffers p =
     let a = p.args in
-    built (held_rows a.row-conditions.now a.row-weights.now a.rows.now a.guard-bounds.now a.guard-nodes.now) a.nodes.now a.edges.now a.links.now
+    built (held_rows a.row-conditions.now a.row-weights.now a.rows.now a.guard_bounds.now a.guard_nodes.now) a.nodes.now a.edges.now a.links.now
 
 abbrev entry : tie.Start → Live
 entry p =
     let a = p.args in
-    live_of a.figures.now a.cursors.now a.sure.now a.never.now a.node-queue.now a.row-queues.now a.rings
+    live_of a.figures.now a.cursors.now a.sure.now a.never.now a.node_queue.now a.row_queues.now a.rings
 
 abbrev marked : tie.After-mark → Did
 marked p =
@@ -92,8 +92,8 @@ mark-requires c κs =
     let a = start.args in
     let p = start.pre in
     let e = after-given.given.given in (
-      (takes-going a.bounds.now (buffers start) p.0 a.given (entry start) a.gcds.now a.search.now p.1).sound.waits,
-      takes-mark a.bounds.now (buffers start) p.0 a.given (entry start) a.gcds.now a.search.now p.1 e.0.0 e.0.1.0 e.1,
+      (takes_going a.bounds.now (buffers start) p.0 a.given (entry start) a.gcds.now a.search.now p.1).sound.waits,
+      takes_mark a.bounds.now (buffers start) p.0 a.given (entry start) a.gcds.now a.search.now p.1 e.0.0 e.0.1.0 e.1,
     )
 
 settle-requires : tie.Need-settle-requires
@@ -101,8 +101,8 @@ settle-requires c κs =
     let start = start-of-enum-told (enum-told-of c) in
     let a = start.args in
     let p = start.pre in (
-      takes-serves a.bounds.now (buffers start) p.0 a.given (entry start) a.gcds.now a.search.now p.1,
-      takes-going a.bounds.now (buffers start) p.0 a.given (entry start) a.gcds.now a.search.now p.1,
+      takes_serves a.bounds.now (buffers start) p.0 a.given (entry start) a.gcds.now a.search.now p.1,
+      takes_going a.bounds.now (buffers start) p.0 a.given (entry start) a.gcds.now a.search.now p.1,
     )
 
 sift-requires : tie.Need-sift-requires
@@ -111,11 +111,11 @@ sift-requires c κs =
     let a = start.args in
     let p = start.pre in (
       (
-        takes-serves a.bounds.now (buffers start) p.0 a.given (entry start) a.gcds.now a.search.now p.1,
-        takes-short a.bounds.now (buffers start) p.0 a.given (entry start) a.gcds.now a.search.now p.1,
+        takes_serves a.bounds.now (buffers start) p.0 a.given (entry start) a.gcds.now a.search.now p.1,
+        takes_short a.bounds.now (buffers start) p.0 a.given (entry start) a.gcds.now a.search.now p.1,
         p.1.scratch,
       ),
-      takes-going a.bounds.now (buffers start) p.0 a.given (entry start) a.gcds.now a.search.now p.1,
+      takes_going a.bounds.now (buffers start) p.0 a.given (entry start) a.gcds.now a.search.now p.1,
     )
 
 returns : tie.Need-returns
@@ -126,7 +126,7 @@ returns c =
     let a = start.args in
     let e = after-given.given.given in
     let m = after-mark.mark in
-    (λ f t. took-mark a.bounds.now (buffers start) f a.given (entry start) a.gcds.now a.search.now t e.0.0 e.0.1.0 e.1 (marked after-mark) m.ensures.0, m.ensures.1, refl)
+    (λ f t. took_mark a.bounds.now (buffers start) f a.given (entry start) a.gcds.now a.search.now t e.0.0 e.0.1.0 e.1 (marked after-mark) m.ensures.0, m.ensures.1, refl)
 
 returns-2 : tie.Need-returns-2
 returns-2 c =
@@ -135,7 +135,7 @@ returns-2 c =
     let start = start-of-enum-told after-enum-told in
     let a = start.args in
     let m = after-settle.settle in
-    (λ f t. took-settle a.bounds.now (buffers start) f a.given (entry start) a.gcds.now a.search.now t after-enum-told.enum_told.given.1 (settled after-settle) m.ensures.0, m.ensures.1, refl)
+    (λ f t. took_settle a.bounds.now (buffers start) f a.given (entry start) a.gcds.now a.search.now t after-enum-told.enum_told.given.1 (settled after-settle) m.ensures.0, m.ensures.1, refl)
 
 returns-3 : tie.Need-returns-3
 returns-3 c =
@@ -144,7 +144,7 @@ returns-3 c =
     let start = start-of-enum-told2 after-enum-told2 in
     let a = start.args in
     let m = after-sift.sift in
-    (λ f t. took-sift a.bounds.now (buffers start) f a.given (entry start) a.gcds.now a.search.now t after-enum-told2.enum-told2.given.1 (searched after-sift) m.ensures.0, m.ensures.1, m.ensures.2)
+    (λ f t. took_sift a.bounds.now (buffers start) f a.given (entry start) a.gcds.now a.search.now t after-enum-told2.enum-told2.given.1 (searched after-sift) m.ensures.0, m.ensures.1, m.ensures.2)
 
 returns-4 : tie.Need-returns-4
 returns-4 c =

@@ -5,7 +5,7 @@ use Prim.Native.Nat.{ℕ}
 use Rattle.memory.specs.Buffers.{held_rows, Built, built, Kept, kept}
 use Rattle.records.specs.declared.Standing.{Standing}
 use Rattle.serve.specs.Serve.{stood}
-use Rattle.serve.specs.ServeLaws.{record-takes, record-room, record-long, record-visits, record-reaches}
+use Rattle.serve.specs.ServeLaws.{record_takes, record_room, record_long, record_visits, record_reaches}
 use borrow.Author.Rules.{rules}
 use Rattle.serve.proofs.take_record.Statement.{statement}
 use Rattle.serve.proofs.take_record.Tie as tie
@@ -21,12 +21,12 @@ take-of p = p.before.before.before.before.before.before.before.before.before.bef
 abbrev buffers : tie.Start → Built
 buffers p =
     let a = p.args in
-    built (held_rows a.row-conditions.now a.row-weights.now a.rows.now a.guard-bounds.now a.guard-nodes.now) a.nodes.now a.edges.now a.links.now
+    built (held_rows a.row-conditions.now a.row-weights.now a.rows.now a.guard_bounds.now a.guard_nodes.now) a.nodes.now a.edges.now a.links.now
 
 abbrev entry : tie.Start → Kept
 entry p =
     let a = p.args in
-    kept a.figures.now a.cursors.now a.sure.now a.never.now a.search.now a.gcds.now a.node-queue.now a.row-queues.now a.answers.now
+    kept a.figures.now a.cursors.now a.sure.now a.never.now a.search.now a.gcds.now a.node_queue.now a.row_queues.now a.answers.now
 
 -- What is left of them, the answers as they were given.
 abbrev after : tie.After-take → List (List ℕ) → Kept
@@ -39,7 +39,7 @@ take-requires c κs =
     let start = start_of c in
     let a = start.args in
     let p = start.pre in
-    (p.0, record-takes a.bounds.now (buffers start) p.1 p.0 (entry start) a.reached p.2 a.given p.3 p.4)
+    (p.0, record_takes a.bounds.now (buffers start) p.1 p.0 (entry start) a.reached p.2 a.given p.3 p.4)
 
 store-requires : tie.Need-store-requires
 store-requires c κs =
@@ -48,10 +48,10 @@ store-requires c κs =
     let a = start.args in
     let p = start.pre in
     let t = after-take.take in
-    let takes = record-takes a.bounds.now (buffers start) p.1 p.0 (entry start) a.reached p.2 a.given p.3 p.4 in (
-      record-room a.bounds.now (buffers start) p.1 p.0 (entry start) a.reached p.2 a.given p.3 p.4 t.result.step t.result.visits,
-      record-long a.bounds.now (buffers start) p.1 p.0 (entry start) a.reached p.2 a.given p.3 p.4,
-      record-visits a.bounds.now (buffers start) p.1 p.0 (entry start) a.reached p.2 a.given p.3 p.4 (after after-take a.answers.now) t.result.rings t.result.step t.result.visits (t.ensures.0 p.0 takes),
+    let takes = record_takes a.bounds.now (buffers start) p.1 p.0 (entry start) a.reached p.2 a.given p.3 p.4 in (
+      record_room a.bounds.now (buffers start) p.1 p.0 (entry start) a.reached p.2 a.given p.3 p.4 t.result.step t.result.visits,
+      record_long a.bounds.now (buffers start) p.1 p.0 (entry start) a.reached p.2 a.given p.3 p.4,
+      record_visits a.bounds.now (buffers start) p.1 p.0 (entry start) a.reached p.2 a.given p.3 p.4 (after after-take a.answers.now) t.result.rings t.result.step t.result.visits (t.ensures.0 p.0 takes),
     )
 
 returns : tie.Need-returns
@@ -63,9 +63,9 @@ returns c =
     let t = after-take.take in
     let s = after_store.store in
     λ f base z asks passed.
-    let takes = record-takes a.bounds.now (buffers start) base f (entry start) a.reached z a.given asks passed in
+    let takes = record_takes a.bounds.now (buffers start) base f (entry start) a.reached z a.given asks passed in
     let put = s.ensures f.answers base z.lies.room (ap (λ (i : Standing). i.answers) z.standing) z.lies.answers in
-    record-reaches a.bounds.now (buffers start) base f (entry start) a.reached z a.given asks passed (after after-take s.new.0) t.result.rings t.result.step t.result.visits (t.ensures.0 f takes)
+    record_reaches a.bounds.now (buffers start) base f (entry start) a.reached z a.given asks passed (after after-take s.new.0) t.result.rings t.result.step t.result.visits (t.ensures.0 f takes)
     (t.ensures.1 z.lies.tidy) t.kept.1.1.1.1.1.1.1.1.1.1.1.1.1.1.1.0 t.ensures.2 put.0 _ refl refl refl
     (c.stood.ensures ∙ ap (stood a.reached.standing t.result.step) put.1)
 

@@ -3,7 +3,7 @@ use mathlib.Core.Path.{refl, sym, subst, ◌∙◌}
 use Rattle.memory.specs.Buffers.{Kept, kept}
 use Rattle.serve.specs.Serve.{Same}
 use Rattle.serve_phase.specs.Phase.{LeavesOn}
-use Rattle.serve_phase.specs.PhaseLaws.{sealable-blank, begins-clear, ending-seals, ending-none, leaves_none}
+use Rattle.serve_phase.specs.PhaseLaws.{sealable_blank, begins_clear, ending_seals, ending-none, leaves_none}
 use borrow.Author.Rules.{rules}
 use Rattle.serve_phase.proofs.serve.Statement.{statement}
 use Rattle.serve_phase.proofs.serve.Tie as tie
@@ -28,7 +28,7 @@ lend-of p = p.before.before.before.before.before.before.before.before.before.bef
 abbrev entry : tie.Start → Kept
 entry p =
     let a = p.args in
-    kept a.figures.now a.cursors.now a.sure.now a.never.now a.search.now a.gcds.now a.node-queue.now a.row-queues.now a.answers.now
+    kept a.figures.now a.cursors.now a.sure.now a.never.now a.search.now a.gcds.now a.node_queue.now a.row_queues.now a.answers.now
 
 abbrev cleared : tie.After-clear-kept → Kept
 cleared p =
@@ -51,8 +51,8 @@ cleared-lengths p =
       never = k.1.1.1.0;
       search = k.1.1.1.1.0;
       gcds = k.1.1.1.1.1.0;
-      node-queue = k.1.1.1.1.1.1.0;
-      row-queues = k.1.1.1.1.1.1.1.0;
+      node_queue = k.1.1.1.1.1.1.0;
+      row_queues = k.1.1.1.1.1.1.1.0;
       answers = k.1.1.1.1.1.1.1.1.0;
     }
 
@@ -66,8 +66,8 @@ kept-lengths p =
       cursors = k.1.0 ∙ s.cursors;
       sure = k.1.1.0 ∙ s.sure;
       never = k.1.1.1.0 ∙ s.never;
-      node-queue = k.1.1.1.1.0 ∙ s.node-queue;
-      row-queues = k.1.1.1.1.1.0 ∙ s.row-queues;
+      node_queue = k.1.1.1.1.0 ∙ s.node_queue;
+      row_queues = k.1.1.1.1.1.0 ∙ s.row_queues;
       gcds = k.1.1.1.1.1.1.0 ∙ s.gcds;
       search = k.1.1.1.1.1.1.1.0 ∙ s.search;
       answers = k.1.1.1.1.1.1.1.1.0 ∙ s.answers;
@@ -80,7 +80,7 @@ lend-requires c κs =
     let start = start_of after-clear-kept in
     let p = start.pre in
     let w = p.2 then1.if1.taken in
-    ((w.0.0, entry start, sealable-blank _ _ w.0.0 _ w.0.1 w.0.2, begins-clear (entry start) p.0 (cleared after-clear-kept) after-clear-kept.Clear-kept.ensures w.0.0 w.0.2, w.0.3), w.1, w.2, p.1)
+    ((w.0.0, entry start, sealable_blank _ _ w.0.0 _ w.0.1 w.0.2, begins_clear (entry start) p.0 (cleared after-clear-kept) after-clear-kept.Clear-kept.ensures w.0.0 w.0.2, w.0.3), w.1, w.2, p.1)
 
 returns : tie.Need-returns
 returns c =
@@ -92,8 +92,8 @@ returns c =
     let t = after-lend.lend in
     let yes-seal = then1.if1.taken in
     λ f z d s.
-    subst (LeavesOn (entry start) (after after-lend) t.result) (sym (ending-seals a.input.now f a.read yes-seal))
-    (t.ensures f (entry start) (sealable-blank _ _ f _ (s yes-seal) z) (begins-clear (entry start) start.pre.0 (cleared after-clear-kept) after-clear-kept.Clear-kept.ensures f z) d)
+    subst (LeavesOn (entry start) (after after-lend) t.result) (sym (ending_seals a.input.now f a.read yes-seal))
+    (t.ensures f (entry start) (sealable_blank _ _ f _ (s yes-seal) z) (begins_clear (entry start) start.pre.0 (cleared after-clear-kept) after-clear-kept.Clear-kept.ensures f z) d)
 
 returns-2 : tie.Need-returns-2
 returns-2 c =
@@ -115,8 +115,8 @@ serve-spec =
     (λ c. (kept-lengths (lend-of c)).cursors)
     (λ c. (kept-lengths (lend-of c)).sure)
     (λ c. (kept-lengths (lend-of c)).never)
-    (λ c. (kept-lengths (lend-of c)).node-queue)
-    (λ c. (kept-lengths (lend-of c)).row-queues)
+    (λ c. (kept-lengths (lend-of c)).node_queue)
+    (λ c. (kept-lengths (lend-of c)).row_queues)
     (λ c. (kept-lengths (lend-of c)).gcds)
     (λ c. (kept-lengths (lend-of c)).search)
     (λ c. (kept-lengths (lend-of c)).answers)
@@ -125,8 +125,8 @@ serve-spec =
     (λ c. (cleared-lengths (clear-kept-of c)).cursors)
     (λ c. (cleared-lengths (clear-kept-of c)).sure)
     (λ c. (cleared-lengths (clear-kept-of c)).never)
-    (λ c. (cleared-lengths (clear-kept-of c)).node-queue)
-    (λ c. (cleared-lengths (clear-kept-of c)).row-queues)
+    (λ c. (cleared-lengths (clear-kept-of c)).node_queue)
+    (λ c. (cleared-lengths (clear-kept-of c)).row_queues)
     (λ c. (cleared-lengths (clear-kept-of c)).gcds)
     (λ c. (cleared-lengths (clear-kept-of c)).search)
     (λ c. (cleared-lengths (clear-kept-of c)).answers)

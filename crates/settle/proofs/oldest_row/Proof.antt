@@ -10,7 +10,7 @@ use Rattle.settle.proofs.oldest_row.Tie as tie
 returns : tie.Need-returns
 returns c =
     let start = c.before.before in
-    let slots = start.args.row-queues.now in
+    let slots = start.args.row_queues.now in
     let head = start.args.ring.head in
     let e : c.place.result ≡ get_or (get_or slots head []) start.args.k 0 = c.place.ensures.0 in
     e ∙ sym (column-at start.args.k slots head)

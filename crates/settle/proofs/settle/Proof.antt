@@ -7,25 +7,25 @@ use Rattle.row_moves.specs.Between.{Live, did}
 use Rattle.row_moves.specs.NumbersLaws.{same_self}
 use Rattle.row_moves.specs.Numbers.{live_of, Tidy, Same}
 use Rattle.theorem_ends.specs.TurnsLaws.{left}
-use Rattle.theorem_keeps.specs.SettlingLaws.{Settling, settling-first, settling-next, settling-less, settling-stop, settling-end, row-waits}
+use Rattle.theorem_keeps.specs.SettlingLaws.{Settling, settling_first, settling_next, settling_less, settling_stop, settling_end, row-waits}
 use mathlib.Core.Path.{◌≡◌, ◌∙◌, sym}
 use borrow.Author.Rules.{rules}
 use Rattle.settle.proofs.settle.Statement.{statement}
 use Rattle.settle.proofs.settle.Tie as tie
 
 abbrev invariant-loop : tie.invariant-loop
-invariant-loop conditions weights rows guard-bounds guard-nodes nodes bounds edges links figures₀ cursors₀ sure₀ never₀ node-queue₀ row-queues₀ so-far₀ busy₀ figures cursors sure never node-queue row-queues so_far busy =
-    let b = built (held_rows conditions weights rows guard-bounds guard-nodes) nodes edges links in
+invariant-loop conditions weights rows guard_bounds guard_nodes nodes bounds edges links figures₀ cursors₀ sure₀ never₀ node-queue₀ row-queues₀ so-far₀ busy₀ figures cursors sure never node_queue row_queues so_far busy =
+    let b = built (held_rows conditions weights rows guard_bounds guard_nodes) nodes edges links in
     let v₀ = live_of figures₀ cursors₀ sure₀ never₀ node-queue₀ row-queues₀ so-far₀.rings in
-    let v = live_of figures cursors sure never node-queue row-queues so_far.rings in
+    let v = live_of figures cursors sure never node_queue row_queues so_far.rings in
     Settling bounds b v₀ so_far.step v
     × (busy ≡ not (eqb so_far.rings.nodes.count 0 && eqb so_far.rings.rows.count 0))
-    × Same figures₀ cursors₀ sure₀ never₀ node-queue₀ row-queues₀ figures cursors sure never node-queue row-queues
+    × Same figures₀ cursors₀ sure₀ never₀ node-queue₀ row-queues₀ figures cursors sure never node_queue row_queues
     × (Tidy figures₀ cursors₀ → Tidy figures cursors)
 
 abbrev decreases-loop : tie.decreases-loop
-decreases-loop conditions weights rows guard-bounds guard-nodes nodes bounds edges links figures₀ cursors₀ sure₀ never₀ node-queue₀ row-queues₀ so-far₀ busy₀ figures cursors sure never node-queue row-queues so_far busy =
-    let v = live_of figures cursors sure never node-queue row-queues so_far.rings in
+decreases-loop conditions weights rows guard_bounds guard_nodes nodes bounds edges links figures₀ cursors₀ sure₀ never₀ node-queue₀ row-queues₀ so-far₀ busy₀ figures cursors sure never node_queue row_queues so_far busy =
+    let v = live_of figures cursors sure never node_queue row_queues so_far.rings in
     left v
 
 -- Ways back to earlier places.
@@ -45,17 +45,17 @@ turn-of p = p.before.before.before.before.before.before.before.before.before.bef
 -- What the seal built.
 abbrev buffers : tie.Start invariant-loop decreases-loop → Built
 buffers p = let a = p.args in
-    built (held_rows a.row-conditions.now a.row-weights.now a.rows.now a.guard-bounds.now a.guard-nodes.now) a.nodes.now a.edges.now a.links.now
+    built (held_rows a.row-conditions.now a.row-weights.now a.rows.now a.guard_bounds.now a.guard_nodes.now) a.nodes.now a.edges.now a.links.now
 
 -- The live state that is lent.
 abbrev entry : tie.Start invariant-loop decreases-loop → Live
 entry p = let a = p.args in
-    live_of a.figures.now a.cursors.now a.sure.now a.never.now a.node-queue.now a.row-queues.now a.rings
+    live_of a.figures.now a.cursors.now a.sure.now a.never.now a.node_queue.now a.row_queues.now a.rings
 
 -- The live state at the loop's test.
 abbrev here : tie.At-loop invariant-loop decreases-loop → Live
 here p = let l = p.loop in
-    live_of l.figures l.cursors l.sure l.never l.node-queue l.row-queues l.so_far.rings
+    live_of l.figures l.cursors l.sure l.never l.node_queue l.row_queues l.so_far.rings
 
 -- The live state behind `turn`.
 abbrev then : tie.After-turn invariant-loop decreases-loop → Live
@@ -71,7 +71,7 @@ busy p = let l = p.before.loop in
 kept-lengths : (p : tie.After-turn invariant-loop decreases-loop) →
     let a = (start_of (loop-of p).before).args in
     let l = p.turn.new.1.1.1.1.1.1.1.1.1 in
-    Same a.figures.now a.cursors.now a.sure.now a.never.now a.node-queue.now a.row-queues.now l.0 l.1.0 l.1.1.0 l.1.1.1.0 l.1.1.1.1.0 l.1.1.1.1.1.0
+    Same a.figures.now a.cursors.now a.sure.now a.never.now a.node_queue.now a.row_queues.now l.0 l.1.0 l.1.1.0 l.1.1.1.0 l.1.1.1.1.0 l.1.1.1.1.1.0
 kept-lengths p =
     let k = p.turn.auto.1.1.1.1.1.1.1.1.1 in
     let s = (loop-of p).loop.invariant.2 in
@@ -80,16 +80,16 @@ kept-lengths p =
       cursors = k.1.0 ∙ s.cursors;
       sure = k.1.1.0 ∙ s.sure;
       never = k.1.1.1.0 ∙ s.never;
-      node-queue = k.1.1.1.1.0 ∙ s.node-queue;
-      row-queues = k.1.1.1.1.1.0 ∙ s.row-queues;
+      node_queue = k.1.1.1.1.0 ∙ s.node_queue;
+      row_queues = k.1.1.1.1.1.0 ∙ s.row_queues;
     }
 
 loop-holds : tie.Need-loop-init invariant-loop decreases-loop
 loop-holds c =
     let start = start_of c in (
-      settling-first start.args.bounds.now (buffers start) (entry start) start.pre.1,
+      settling_first start.args.bounds.now (buffers start) (entry start) start.pre.1,
       c.waits.ensures,
-      same_self start.args.figures.now start.args.cursors.now start.args.sure.now start.args.never.now start.args.node-queue.now start.args.row-queues.now,
+      same_self start.args.figures.now start.args.cursors.now start.args.sure.now start.args.never.now start.args.node_queue.now start.args.row_queues.now,
       λ t. t,
     )
 
@@ -110,7 +110,7 @@ returns c =
     let start = start_of at-loop.before in
     let l = at-loop.loop in
     let t = after_turn_lem.turn in (
-      settling-stop start.args.bounds.now (buffers start) (entry start) l.so_far.step (here at-loop) l.inv.0 (busy in-loop) (did (then after_turn_lem) t.result.step) t.ensures.0
+      settling_stop start.args.bounds.now (buffers start) (entry start) l.so_far.step (here at-loop) l.inv.0 (busy in-loop) (did (then after_turn_lem) t.result.step) t.ensures.0
           (sym after-contradicts.contradicts.ensures ∙ c.if1.true),
       λ i. t.ensures.1 (l.inv.3 i),
     )
@@ -124,7 +124,7 @@ loop-less c =
     let l = at-loop.loop in
     let t = after_turn_lem.turn in
     let w = start.pre.0 in
-    settling-less start.args.bounds.now (buffers start) (entry start) l.so_far.step (here at-loop) l.inv.0 (busy in-loop) (did (then after_turn_lem) t.result.step) t.ensures.0 w.0 w.1
+    settling_less start.args.bounds.now (buffers start) (entry start) l.so_far.step (here at-loop) l.inv.0 (busy in-loop) (did (then after_turn_lem) t.result.step) t.ensures.0 w.0 w.1
 
 loop-again : tie.Need-loop-preserved invariant-loop decreases-loop
 loop-again c =
@@ -138,7 +138,7 @@ loop-again c =
     let l = at-loop.loop in
     let t = after_turn_lem.turn in
     let w = start.pre.0 in (
-      settling-next start.args.bounds.now (buffers start) (entry start) l.so_far.step (here at-loop) l.inv.0 (busy in-loop) (did (then after_turn_lem) t.result.step) t.ensures.0 w.0 w.1
+      settling_next start.args.bounds.now (buffers start) (entry start) l.so_far.step (here at-loop) l.inv.0 (busy in-loop) (did (then after_turn_lem) t.result.step) t.ensures.0 w.0 w.1
           (sym after-contradicts.contradicts.ensures ∙ else1.if1.false) after-join.join.result after-join.join.ensures,
       c.waits2.ensures,
       kept-lengths after_turn_lem,
@@ -151,7 +151,7 @@ returns-2 c =
     let start = start_of at-loop.before in
     let l = at-loop.loop in
     let e = not-false (eqb l.so_far.rings.nodes.count 0 && eqb l.so_far.rings.rows.count 0) (sym l.invariant.1 ∙ c.loop-test.false) in
-    (settling-end start.args.bounds.now (buffers start) (entry start) l.so_far.step (here at-loop) l.invariant.0 e, l.invariant.3)
+    (settling_end start.args.bounds.now (buffers start) (entry start) l.so_far.step (here at-loop) l.invariant.0 e, l.invariant.3)
 
 pub settle-spec : {M : Type 1} → statement M
 settle-spec =
@@ -167,8 +167,8 @@ settle-spec =
     (λ c. (kept-lengths (turn-of c.before)).cursors)
     (λ c. (kept-lengths (turn-of c.before)).sure)
     (λ c. (kept-lengths (turn-of c.before)).never)
-    (λ c. (kept-lengths (turn-of c.before)).node-queue)
-    (λ c. (kept-lengths (turn-of c.before)).row-queues)
+    (λ c. (kept-lengths (turn-of c.before)).node_queue)
+    (λ c. (kept-lengths (turn-of c.before)).row_queues)
     returns
     (λ c κs. search rules) (λ c κs. tt)
     loop-less
@@ -177,6 +177,6 @@ settle-spec =
     (λ c. c.before.loop.invariant.2.cursors)
     (λ c. c.before.loop.invariant.2.sure)
     (λ c. c.before.loop.invariant.2.never)
-    (λ c. c.before.loop.invariant.2.node-queue)
-    (λ c. c.before.loop.invariant.2.row-queues)
+    (λ c. c.before.loop.invariant.2.node_queue)
+    (λ c. c.before.loop.invariant.2.row_queues)
     returns-2)

@@ -6,7 +6,7 @@ use Rattle.memory.specs.Buffers.{HeldRows, held_rows, Built, built}
 use Rattle.row_moves.specs.Between.{Live, did}
 use Rattle.row_moves.specs.Numbers.{live_of, Same}
 use Rattle.row_moves.specs.KeptHeldLaws.{counts-links}
-use Rattle.theorem_keeps.specs.TurnLaws.{node-taken, node-next-run, node-stop, node-next}
+use Rattle.theorem_keeps.specs.TurnLaws.{node_taken, node_next_run, node_stop, node_next}
 use mathlib.Core.Path.{◌∙◌, sym}
 use borrow.Author.Rules.{rules}
 use Rattle.settle.proofs.take_node.Statement.{statement}
@@ -35,7 +35,7 @@ threshold-condition-of p = p.before.before.before.before.before.before.before.be
 -- The rows as the buffers hold them.
 abbrev held : tie.Start → HeldRows
 held p = let a = p.args in
-    held_rows a.row-conditions.now a.row-weights.now a.rows.now a.guard-bounds.now a.guard-nodes.now
+    held_rows a.row-conditions.now a.row-weights.now a.rows.now a.guard_bounds.now a.guard_nodes.now
 
 -- What the seal built, with some links.
 abbrev buffers : tie.Start → List ℕ → Built
@@ -44,7 +44,7 @@ buffers p links = built (held p) p.args.nodes.now p.args.edges.now links
 -- The live state that is lent.
 abbrev entry : tie.Start → Live
 entry p = let a = p.args in
-    live_of a.figures.now a.cursors.now a.sure.now a.never.now a.node-queue.now a.row-queues.now a.rings
+    live_of a.figures.now a.cursors.now a.sure.now a.never.now a.node_queue.now a.row_queues.now a.rings
 
 -- The live state behind `guard_at`.
 abbrev told : tie.After-guard-at → Live
@@ -60,7 +60,7 @@ last p = let l = p.threshold-condition.new.1.1.1.1.1.1.1 in
 kept-lengths : (p : tie.After-threshold-condition) →
     let a = (start_of (popped-of (guard-at-of (contradicts-of p)).before).before.before).args in
     let l = p.threshold-condition.new.1.1.1.1.1.1.1 in
-    Same a.figures.now a.cursors.now a.sure.now a.never.now a.node-queue.now a.row-queues.now l.0 l.1.0 l.1.1.0 l.1.1.1.0 l.1.1.1.1.0 l.1.1.1.1.1.0
+    Same a.figures.now a.cursors.now a.sure.now a.never.now a.node_queue.now a.row_queues.now l.0 l.1.0 l.1.1.0 l.1.1.1.0 l.1.1.1.1.0 l.1.1.1.1.1.0
 kept-lengths p =
     let k = p.threshold-condition.auto.1.1.1.1.1.1.1 in
     let g = (guard-at-of (contradicts-of p)).guard-at.auto.1.1.1.1.1.1.1 in
@@ -69,8 +69,8 @@ kept-lengths p =
       cursors = k.1.0 ∙ g.1.0;
       sure = k.1.1.0 ∙ g.1.1.0;
       never = k.1.1.1.0 ∙ g.1.1.1.0;
-      node-queue = k.1.1.1.1.0 ∙ g.1.1.1.1.0;
-      row-queues = k.1.1.1.1.1.0 ∙ g.1.1.1.1.1.0;
+      node_queue = k.1.1.1.1.0 ∙ g.1.1.1.1.0;
+      row_queues = k.1.1.1.1.1.0 ∙ g.1.1.1.1.1.0;
     }
 
 oldest-node-requires : tie.Need-oldest-node-requires
@@ -92,7 +92,7 @@ guard-at-requires c κs =
     let s = w.0.0.2 in
     let o = after-popped.before.oldest-node in
     let p = after-popped.popped in
-    let t = node-taken w.0.0.0 start.args.bounds.now (buffers start w.0.0.1) s (entry start) w.1 w.0.1 o.result o.ensures p.result p.ensures in
+    let t = node_taken w.0.0.0 start.args.bounds.now (buffers start w.0.0.1) s (entry start) w.1 w.0.1 o.result o.ensures p.result p.ensures in
     ((s.shaped, s.guarded, t.there, t.small, s.linked.inside.rising), t.run)
 
 returns : tie.Need-returns
@@ -106,8 +106,8 @@ returns c =
     let p = after-popped.popped in
     let g = after-guard-at.guard-at in (
       λ x l s.
-          node-stop x start.args.bounds.now (buffers start l) s (entry start) w.1 w.0.1 o.result o.ensures p.result p.ensures (did (told after-guard-at) g.result.step)
-          (g.ensures.0 x s.holds s.holds-guards (counts-links x (held start) l s.linked s.holds-links)) (sym after-contradicts.contradicts.ensures ∙ c.if1.true),
+          node_stop x start.args.bounds.now (buffers start l) s (entry start) w.1 w.0.1 o.result o.ensures p.result p.ensures (did (told after-guard-at) g.result.step)
+          (g.ensures.0 x s.holds s.holds_guards (counts-links x (held start) l s.linked s.holds_links)) (sym after-contradicts.contradicts.ensures ∙ c.if1.true),
       g.ensures.1,
     )
 
@@ -126,9 +126,9 @@ threshold-condition-requires c κs =
     let o = after-popped.before.oldest-node in
     let p = after-popped.popped in
     let g = after-guard-at.guard-at in
-    let made = g.ensures.0 x s.holds s.holds-guards (counts-links x (held start) l s.linked s.holds-links) in
-    let t = node-taken x bounds b s v w.1 w.0.1 o.result o.ensures p.result p.ensures in
-    let run = node-next-run x bounds b s v w.1 w.0.1 o.result o.ensures p.result p.ensures (did (told after-guard-at) g.result.step) made in
+    let made = g.ensures.0 x s.holds s.holds_guards (counts-links x (held start) l s.linked s.holds_links) in
+    let t = node_taken x bounds b s v w.1 w.0.1 o.result o.ensures p.result p.ensures in
+    let run = node_next_run x bounds b s v w.1 w.0.1 o.result o.ensures p.result p.ensures (did (told after-guard-at) g.result.step) made in
     ((s.shaped, s.edged, t.there, t.small), run.ready)
 
 returns-2 : tie.Need-returns-2
@@ -145,9 +145,9 @@ returns-2 c =
     let g = after-guard-at.guard-at in
     let t = after-threshold-condition.threshold-condition in (
       λ x l s.
-          node-next x start.args.bounds.now (buffers start l) s (entry start) w.1 w.0.1 o.result o.ensures p.result p.ensures (did (told after-guard-at) g.result.step)
-          (g.ensures.0 x s.holds s.holds-guards (counts-links x (held start) l s.linked s.holds-links)) (sym after-contradicts.contradicts.ensures ∙ else1.if1.left)
-          (did (last after-threshold-condition) t.result.step) (t.ensures.0 x s.holds s.holds-edges) c.join.result c.join.ensures,
+          node_next x start.args.bounds.now (buffers start l) s (entry start) w.1 w.0.1 o.result o.ensures p.result p.ensures (did (told after-guard-at) g.result.step)
+          (g.ensures.0 x s.holds s.holds_guards (counts-links x (held start) l s.linked s.holds_links)) (sym after-contradicts.contradicts.ensures ∙ else1.if1.left)
+          (did (last after-threshold-condition) t.result.step) (t.ensures.0 x s.holds s.holds_edges) c.join.result c.join.ensures,
       λ i. t.ensures.1 (g.ensures.1 i),
     )
 
@@ -172,6 +172,6 @@ take-node-spec =
     (λ c. (kept-lengths (threshold-condition-of c)).cursors)
     (λ c. (kept-lengths (threshold-condition-of c)).sure)
     (λ c. (kept-lengths (threshold-condition-of c)).never)
-    (λ c. (kept-lengths (threshold-condition-of c)).node-queue)
-    (λ c. (kept-lengths (threshold-condition-of c)).row-queues)
+    (λ c. (kept-lengths (threshold-condition-of c)).node_queue)
+    (λ c. (kept-lengths (threshold-condition-of c)).row_queues)
     returns-2)

@@ -1,12 +1,12 @@
 -- `settle::take_row` meets its contract: the row waits no longer, and hands its bounds on.
 use native.Mathlib.Omega.{arith}
 use lib.ListN.{length}
-use Rattle.memory.specs.Ranges.{figureLimit}
+use Rattle.memory.specs.Ranges.{figure_limit}
 use Rattle.memory.specs.Buffers.{HeldRows, held_rows}
-use Rattle.queues.specs.Slot.{rowsIn}
+use Rattle.queues.specs.Slot.{rows_in}
 use Rattle.row_moves.specs.Between.{Live, did}
 use Rattle.row_moves.specs.Numbers.{live_of}
-use Rattle.theorem_keeps.specs.TurnLaws.{slots-head, slots-oldest, row-there, row-run, row_is}
+use Rattle.theorem_keeps.specs.TurnLaws.{slots_head, slots_oldest, row_there, row_run, row_is}
 use mathlib.Core.Path.{◌∙◌, refl}
 use Rattle.settle.proofs.take_row.Statement.{statement}
 use Rattle.settle.proofs.take_row.Tie as tie
@@ -25,12 +25,12 @@ threshold-prefixes-of p = p.before.before.before.before.before.before.before.bef
 -- The rows as the buffers hold them.
 abbrev held : tie.Start → HeldRows
 held p = let a = p.args in
-    held_rows a.row-conditions.now a.row-weights.now a.rows.now a.guard-bounds.now a.guard-nodes.now
+    held_rows a.row-conditions.now a.row-weights.now a.rows.now a.guard_bounds.now a.guard_nodes.now
 
 -- The live state that is lent.
 abbrev entry : tie.Start → Live
 entry p = let a = p.args in
-    live_of a.figures.now a.cursors.now a.sure.now a.never.now a.node-queue.now a.row-queues.now a.rings
+    live_of a.figures.now a.cursors.now a.sure.now a.never.now a.node_queue.now a.row_queues.now a.rings
 
 -- The live state behind `threshold_prefixes`.
 abbrev last : tie.After-threshold-prefixes → Live
@@ -40,14 +40,14 @@ last p = let l = p.threshold-prefixes.new.1.1.1.1.1.1 in
 oldest-row-requires : tie.Need-oldest-row-requires
 oldest-row-requires c κs =
     let start = start_of c in
-    (slots-head 0 start.args.row-queues.now start.args.rings.rows start.pre.1.dirty, omega arith)
+    (slots_head 0 start.args.row_queues.now start.args.rings.rows start.pre.1.dirty, omega arith)
 
 next-row-requires : tie.Need-next-row-requires
 next-row-requires c κs =
     let start = start_of c.before.before in
     let f = start.pre.1.dirty in
     let some = start.pre.0.2 in
-    (omega arith, refl, f.held, some, slots-oldest 0 start.args.row-queues.now start.args.rings.rows f some)
+    (omega arith, refl, f.held, some, slots_oldest 0 start.args.row_queues.now start.args.rings.rows f some)
 
 threshold-prefixes-requires : tie.Need-threshold-prefixes-requires
 threshold-prefixes-requires c κs =
@@ -59,8 +59,8 @@ threshold-prefixes-requires c κs =
     let n = after-next-row.next_row in
     let q = n.last.0 in
     let r = start.args.rings in
-    let i = row-there (length start.args.rows.now) v.dirty start.pre.1.dirty w.2 w.3 after-oldest-row.oldest-row.result after-oldest-row.oldest-row.ensures in
-    ((w.0, w.1, i), row-run v w.2 (rowsIn 0 q n.result) (rowsIn 2 q r.residuals) n.ensures.0 (n.ensures.1 r.residuals) (held start) figureLimit start.pre.1)
+    let i = row_there (length start.args.rows.now) v.dirty start.pre.1.dirty w.2 w.3 after-oldest-row.oldest-row.result after-oldest-row.oldest-row.ensures in
+    ((w.0, w.1, i), row_run v w.2 (rows_in 0 q n.result) (rows_in 2 q r.residuals) n.ensures.0 (n.ensures.1 r.residuals) (held start) figure_limit start.pre.1)
 
 returns : tie.Need-returns
 returns c =
@@ -74,7 +74,7 @@ returns c =
     let r = start.args.rings in
     let t = after-threshold-prefixes.threshold-prefixes in (
       λ x z y.
-          row_is v start.pre.0.2 (rowsIn 0 q n.result) (rowsIn 2 q r.residuals) n.ensures.0 (n.ensures.1 r.residuals) x after-oldest-row.oldest-row.result after-oldest-row.oldest-row.ensures
+          row_is v start.pre.0.2 (rows_in 0 q n.result) (rows_in 2 q r.residuals) n.ensures.0 (n.ensures.1 r.residuals) x after-oldest-row.oldest-row.result after-oldest-row.oldest-row.ensures
           (did (last after-threshold-prefixes) t.result.step) (t.ensures.0 x z y),
       t.ensures.1,
     )

@@ -5,7 +5,7 @@ use borrow.Author.Tests.{eq-eqb, ne_eqb}
 use Rattle.memory.specs.Buffers.{HeldRows, held_rows}
 use Rattle.row_moves.specs.Between.{Live, did}
 use Rattle.row_moves.specs.Numbers.{live_of}
-use Rattle.theorem_keeps.specs.TurnLaws.{going-run, turn_is}
+use Rattle.theorem_keeps.specs.TurnLaws.{going_run, turn_is}
 use Rattle.settle.proofs.turn.Statement.{statement}
 use Rattle.settle.proofs.turn.Tie as tie
 
@@ -32,12 +32,12 @@ take-row-of p = p.before.before.before.before.before.before.before.before.before
 -- The rows as the buffers hold them.
 abbrev held : tie.Start → HeldRows
 held p = let a = p.args in
-    held_rows a.row-conditions.now a.row-weights.now a.rows.now a.guard-bounds.now a.guard-nodes.now
+    held_rows a.row-conditions.now a.row-weights.now a.rows.now a.guard_bounds.now a.guard_nodes.now
 
 -- The live state that is lent.
 abbrev entry : tie.Start → Live
 entry p = let a = p.args in
-    live_of a.figures.now a.cursors.now a.sure.now a.never.now a.node-queue.now a.row-queues.now a.rings
+    live_of a.figures.now a.cursors.now a.sure.now a.never.now a.node_queue.now a.row_queues.now a.rings
 
 -- The live state behind `take_row`.
 abbrev row : tie.After-take-row → Live
@@ -55,7 +55,7 @@ take-row-requires c κs =
     let start = start-of-then1 then1 in
     let w = start.pre in
     let s = w.0.0.1 in
-    ((s.shaped, s.linked, w.0.1 then1.if1.taken, w.1.within.tracked.dirty), going-run (held start) start.args.nodes.now (entry start) w.1)
+    ((s.shaped, s.linked, w.0.1 then1.if1.taken, w.1.within.tracked.dirty), going_run (held start) start.args.nodes.now (entry start) w.1)
 
 returns : tie.Need-returns
 returns c =
@@ -64,7 +64,7 @@ returns c =
     let start = start-of-then1 then1 in
     let t = after-take-row.take_row in
     let e = eq-eqb start.args.rings.nodes.count 0 then1.if1.taken in
-    (λ x s. turn_is x (entry start) (did (row after-take-row) t.result.step) true e (t.ensures.0 x s.holds s.holds-links), t.ensures.1)
+    (λ x s. turn_is x (entry start) (did (row after-take-row) t.result.step) true e (t.ensures.0 x s.holds s.holds_links), t.ensures.1)
 
 take-node-requires : tie.Need-take-node-requires
 take-node-requires c κs =

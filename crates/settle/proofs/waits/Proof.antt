@@ -1,12 +1,12 @@
 -- `settle::waits` meets its contract.
-use Rattle.theorem_keeps.specs.SettlingLaws.{waits-node, waits-rows}
+use Rattle.theorem_keeps.specs.SettlingLaws.{waits_node, waits-rows}
 use Rattle.settle.proofs.waits.Statement.{statement}
 use Rattle.settle.proofs.waits.Tie as tie
 
 returns : tie.Need-returns
 returns c =
     let start = c.before.before in
-    waits-node start.args.rings.nodes.count start.args.rings.rows.count c.if1.true
+    waits_node start.args.rings.nodes.count start.args.rings.rows.count c.if1.true
 
 returns-2 : tie.Need-returns-2
 returns-2 c =

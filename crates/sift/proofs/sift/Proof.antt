@@ -10,27 +10,27 @@ use Rattle.row_moves.specs.Numbers.{live_of, Tidy, Same}
 use Rattle.theorem_ends.specs.TurnsLaws.{left}
 use Rattle.drain.specs.Sift.{sifted}
 use Rattle.theorem_keeps.specs.Tries.{Scratch, Round, round}
-use Rattle.theorem_keeps.specs.SiftingLaws.{Sifting, sifting-first, sifting-next, sifting-less, sifting-stop, sifting-end, scratch-next}
+use Rattle.theorem_keeps.specs.SiftingLaws.{Sifting, sifting_first, sifting_next, sifting_less, sifting_stop, sifting_end, scratch_next}
 use mathlib.Core.Path.{◌≡◌, ◌∙◌, refl, sym, ap}
 use borrow.Author.Rules.{rules}
 use Rattle.sift.proofs.sift.Statement.{statement}
 use Rattle.sift.proofs.sift.Tie as tie
 
 abbrev invariant-loop : tie.invariant-loop
-invariant-loop conditions weights rows guard-bounds guard-nodes nodes bounds edges links figures₀ cursors₀ sure₀ never₀ node-queue₀ row-queues₀ gcds₀ words₀ so-far₀ more₀ figures cursors sure never node-queue row-queues gcds words so_far more =
-    let b = built (held_rows conditions weights rows guard-bounds guard-nodes) nodes edges links in
+invariant-loop conditions weights rows guard_bounds guard_nodes nodes bounds edges links figures₀ cursors₀ sure₀ never₀ node-queue₀ row-queues₀ gcds₀ words₀ so-far₀ more₀ figures cursors sure never node_queue row_queues gcds words so_far more =
+    let b = built (held_rows conditions weights rows guard_bounds guard_nodes) nodes edges links in
     let v₀ = live_of figures₀ cursors₀ sure₀ never₀ node-queue₀ row-queues₀ so-far₀.rings in
-    let v = live_of figures cursors sure never node-queue row-queues so_far.rings in
+    let v = live_of figures cursors sure never node_queue row_queues so_far.rings in
     Sifting bounds b v₀ gcds₀ so_far.step so_far.visits more v gcds
     × Scratch gcds words
     × (words ≡ words₀)
-    × Same figures₀ cursors₀ sure₀ never₀ node-queue₀ row-queues₀ figures cursors sure never node-queue row-queues
+    × Same figures₀ cursors₀ sure₀ never₀ node-queue₀ row-queues₀ figures cursors sure never node_queue row_queues
     × (length gcds ≡ length gcds₀)
     × (Tidy figures₀ cursors₀ → Tidy figures cursors)
 
 abbrev decreases-loop : tie.decreases-loop
-decreases-loop conditions weights rows guard-bounds guard-nodes nodes bounds edges links figures₀ cursors₀ sure₀ never₀ node-queue₀ row-queues₀ gcds₀ words₀ so-far₀ more₀ figures cursors sure never node-queue row-queues gcds words so_far more =
-    let v = live_of figures cursors sure never node-queue row-queues so_far.rings in
+decreases-loop conditions weights rows guard_bounds guard_nodes nodes bounds edges links figures₀ cursors₀ sure₀ never₀ node-queue₀ row-queues₀ gcds₀ words₀ so-far₀ more₀ figures cursors sure never node_queue row_queues gcds words so_far more =
+    let v = live_of figures cursors sure never node_queue row_queues so_far.rings in
     left v + cond more 1 0
 
 -- Ways back to earlier places.
@@ -50,17 +50,17 @@ sift-once-of p = p.before.before.before.before.before.before.before.before.befor
 -- What the seal built.
 abbrev buffers : tie.Start invariant-loop decreases-loop → Built
 buffers p = let a = p.args in
-    built (held_rows a.row-conditions.now a.row-weights.now a.rows.now a.guard-bounds.now a.guard-nodes.now) a.nodes.now a.edges.now a.links.now
+    built (held_rows a.row-conditions.now a.row-weights.now a.rows.now a.guard_bounds.now a.guard_nodes.now) a.nodes.now a.edges.now a.links.now
 
 -- The live state that is lent.
 abbrev entry : tie.Start invariant-loop decreases-loop → Live
 entry p = let a = p.args in
-    live_of a.figures.now a.cursors.now a.sure.now a.never.now a.node-queue.now a.row-queues.now a.rings
+    live_of a.figures.now a.cursors.now a.sure.now a.never.now a.node_queue.now a.row_queues.now a.rings
 
 -- The live state at the loop's test.
 abbrev here : tie.At-loop invariant-loop decreases-loop → Live
 here p = let l = p.loop in
-    live_of l.figures l.cursors l.sure l.never l.node-queue l.row-queues l.so_far.rings
+    live_of l.figures l.cursors l.sure l.never l.node_queue l.row_queues l.so_far.rings
 
 -- What the round came to.
 abbrev turned : tie.After-sift-once invariant-loop decreases-loop → Round
@@ -72,7 +72,7 @@ turned p = let l = p.sift-once.new.1.1.1.1.1.1.1.1.1 in
 kept-lengths : (p : tie.After-sift-once invariant-loop decreases-loop) →
     let a = (start_of (loop-of p).before).args in
     let l = p.sift-once.new.1.1.1.1.1.1.1.1.1 in
-    Same a.figures.now a.cursors.now a.sure.now a.never.now a.node-queue.now a.row-queues.now l.0 l.1.0 l.1.1.0 l.1.1.1.0 l.1.1.1.1.0 l.1.1.1.1.1.0
+    Same a.figures.now a.cursors.now a.sure.now a.never.now a.node_queue.now a.row_queues.now l.0 l.1.0 l.1.1.0 l.1.1.1.0 l.1.1.1.1.0 l.1.1.1.1.1.0
     × (length l.1.1.1.1.1.1.0 ≡ length a.gcds.now) × (length l.1.1.1.1.1.1.1.0 ≡ length a.search.now)
 kept-lengths p =
     let k = p.sift-once.auto.1.1.1.1.1.1.1.1.1 in
@@ -83,8 +83,8 @@ kept-lengths p =
         cursors = k.1.0 ∙ s.cursors;
         sure = k.1.1.0 ∙ s.sure;
         never = k.1.1.1.0 ∙ s.never;
-        node-queue = k.1.1.1.1.0 ∙ s.node-queue;
-        row-queues = k.1.1.1.1.1.0 ∙ s.row-queues;
+        node_queue = k.1.1.1.1.0 ∙ s.node_queue;
+        row_queues = k.1.1.1.1.1.0 ∙ s.row_queues;
       },
       k.1.1.1.1.1.1.0 ∙ i.4,
       k.1.1.1.1.1.1.1.0 ∙ ap (λ (l : List ℕ). length l) i.2,
@@ -93,10 +93,10 @@ kept-lengths p =
 loop-holds : tie.Need-loop-init invariant-loop decreases-loop
 loop-holds c =
     let start = start_of c in (
-      sifting-first start.args.bounds.now (buffers start) (entry start) start.args.gcds.now start.pre.1,
+      sifting_first start.args.bounds.now (buffers start) (entry start) start.args.gcds.now start.pre.1,
       start.pre.0.2,
       refl,
-      same_self start.args.figures.now start.args.cursors.now start.args.sure.now start.args.never.now start.args.node-queue.now start.args.row-queues.now,
+      same_self start.args.figures.now start.args.cursors.now start.args.sure.now start.args.never.now start.args.node_queue.now start.args.row_queues.now,
       refl,
       λ t. t,
     )
@@ -117,7 +117,7 @@ returns c =
     let a = start.args in
     let l = at-loop.loop in
     let t = after-sift-once.sift-once in (
-      sifting-stop a.bounds.now (buffers start) (entry start) a.gcds.now l.so_far.step l.so_far.visits l.more (here at-loop) l.gcds l.inv.0 in-loop.loop-test.taken
+      sifting_stop a.bounds.now (buffers start) (entry start) a.gcds.now l.so_far.step l.so_far.visits l.more (here at-loop) l.gcds l.inv.0 in-loop.loop-test.taken
           (turned after-sift-once) t.ensures.0 (sym after-contradicts.contradicts.ensures ∙ c.if1.true),
       λ i. t.ensures.1 (l.inv.5 i),
       t.ensures.2 ∙ l.inv.2,
@@ -132,7 +132,7 @@ loop-less c =
     let a = start.args in
     let l = at-loop.loop in
     let w = start.pre.0.0 in
-    sifting-less a.bounds.now (buffers start) (entry start) a.gcds.now l.so_far.step l.so_far.visits l.more (here at-loop) l.gcds l.inv.0 in-loop.loop-test.taken
+    sifting_less a.bounds.now (buffers start) (entry start) a.gcds.now l.so_far.step l.so_far.visits l.more (here at-loop) l.gcds l.inv.0 in-loop.loop-test.taken
     (turned after-sift-once) after-sift-once.sift-once.ensures.0 w.0 w.1
 
 loop-again : tie.Need-loop-preserved invariant-loop decreases-loop
@@ -148,9 +148,9 @@ loop-again c =
     let w = start.pre.0.0 in
     let t = after-sift-once.sift-once in
     let z = t.last.1.1.1.1.1.1.1.1.1.1.1.1.1.1.1 in (
-      sifting-next a.bounds.now (buffers start) (entry start) a.gcds.now l.so_far.step l.so_far.visits l.more (here at-loop) l.gcds l.inv.0 in-loop.loop-test.taken
+      sifting_next a.bounds.now (buffers start) (entry start) a.gcds.now l.so_far.step l.so_far.visits l.more (here at-loop) l.gcds l.inv.0 in-loop.loop-test.taken
           (turned after-sift-once) t.ensures.0 w.0 w.1 (sym after-contradicts.contradicts.ensures ∙ else1.if1.false) c.join.result c.join.ensures,
-      scratch-next l.gcds z.0 l.search z.1.0 t.kept.1.1.1.1.1.1.1.1.1.1.1.1.1.1.1.0 t.ensures.2 l.inv.1,
+      scratch_next l.gcds z.0 l.search z.1.0 t.kept.1.1.1.1.1.1.1.1.1.1.1.1.1.1.1.0 t.ensures.2 l.inv.1,
       t.ensures.2 ∙ l.inv.2,
       (kept-lengths after-sift-once).0,
       (kept-lengths after-sift-once).1,
@@ -163,7 +163,7 @@ returns-2 c =
     let start = start_of at-loop.before in
     let a = start.args in
     let l = at-loop.loop in (
-      sifting-end a.bounds.now (buffers start) (entry start) a.gcds.now l.so_far.step l.so_far.visits l.more (here at-loop) l.gcds l.invariant.0 c.loop-test.false,
+      sifting_end a.bounds.now (buffers start) (entry start) a.gcds.now l.so_far.step l.so_far.visits l.more (here at-loop) l.gcds l.invariant.0 c.loop-test.false,
       l.invariant.5,
       l.invariant.2,
     )
@@ -181,8 +181,8 @@ sift-spec =
     (λ c. (kept-lengths (sift-once-of c.before)).0.cursors)
     (λ c. (kept-lengths (sift-once-of c.before)).0.sure)
     (λ c. (kept-lengths (sift-once-of c.before)).0.never)
-    (λ c. (kept-lengths (sift-once-of c.before)).0.node-queue)
-    (λ c. (kept-lengths (sift-once-of c.before)).0.row-queues)
+    (λ c. (kept-lengths (sift-once-of c.before)).0.node_queue)
+    (λ c. (kept-lengths (sift-once-of c.before)).0.row_queues)
     (λ c. (kept-lengths (sift-once-of c.before)).1)
     (λ c. (kept-lengths (sift-once-of c.before)).2)
     returns
@@ -193,8 +193,8 @@ sift-spec =
     (λ c. c.before.loop.invariant.3.cursors)
     (λ c. c.before.loop.invariant.3.sure)
     (λ c. c.before.loop.invariant.3.never)
-    (λ c. c.before.loop.invariant.3.node-queue)
-    (λ c. c.before.loop.invariant.3.row-queues)
+    (λ c. c.before.loop.invariant.3.node_queue)
+    (λ c. c.before.loop.invariant.3.row_queues)
     (λ c. c.before.loop.invariant.4)
     (λ c. ap (λ (l : List ℕ). length l) c.before.loop.invariant.2)
     returns-2)

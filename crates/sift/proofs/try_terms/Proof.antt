@@ -6,7 +6,7 @@ use Rattle.numeric.specs.Slices.{terms}
 use Rattle.queues.specs.Queue.{queue}
 use Rattle.queues.specs.Marks.{Marks, marks}
 use Rattle.intervals.specs.Residual.{Residual, residual}
-use Rattle.row_moves.specs.Between.{withMarks}
+use Rattle.row_moves.specs.Between.{with_marks}
 use Rattle.theorem_keeps.specs.TryLaws.{tried-search, tried-not}
 use mathlib.Core.Path.{refl}
 use borrow.Author.Rules.{rules}
@@ -30,7 +30,7 @@ row p = terms p.args.conditions.now p.args.weights.now
 
 -- The marks that are lent.
 abbrev entry : tie.Start → Marks
-entry p = let a = p.args in marks a.sure.now a.never.now (queue a.node-queue.now a.ring)
+entry p = let a = p.args in marks a.sure.now a.never.now (queue a.node_queue.now a.ring)
 
 -- What divisibility came to.
 abbrev forced : tie.After-threshold-residual → Residual
@@ -44,7 +44,7 @@ threshold-residual-requires c κs =
     let w = start.pre in
     let m = w.3 in
     let t = w.0 in (
-      record { same = t.same; below = t.below; inSure = omega (arith, m.sures); inNever = omega (arith, m.nevers) },
+      record { same = t.same; below = t.below; in_sure = omega (arith, m.sures); in_never = omega (arith, m.nevers) },
       (omega (arith, w.1, w.4.room), t.light, m),
     )
 
@@ -54,7 +54,7 @@ returns c =
     let after-threshold-residual = threshold-residual-of after-number in
     let start = start_of after-threshold-residual.before in (
       λ v.
-          tried-not (row start) start.args.state (withMarks v (entry start)) start.args.gcds.now start.args.visits (forced after-threshold-residual) after-threshold-residual.threshold-residual.ensures
+          tried-not (row start) start.args.state (with_marks v (entry start)) start.args.gcds.now start.args.visits (forced after-threshold-residual) after-threshold-residual.threshold-residual.ensures
           after-number.number.result after-number.number.ensures c.if1.true,
       refl,
     )
@@ -66,7 +66,7 @@ threshold-possible-sums-requires c κs =
     let w = start.pre in
     let t = w.0 in
     let k = after-threshold-residual.threshold-residual.kept.1.1.1 in (
-      (record { same = t.same; below = t.below; inSure = omega (arith, w.3.sures, k.0); inNever = omega (arith, w.3.nevers, k.1.0) }, w.1, w.2),
+      (record { same = t.same; below = t.below; in_sure = omega (arith, w.3.sures, k.0); in_never = omega (arith, w.3.nevers, k.1.0) }, w.1, w.2),
       (w.4.long, w.4.zero),
     )
 
@@ -80,7 +80,7 @@ returns-2 c =
     let start = start_of after-threshold-residual.before in
     let f = after-threshold-possible-sums.threshold-possible-sums in (
       λ v.
-          tried-search (row start) start.args.state (withMarks v (entry start)) start.args.gcds.now start.args.visits (forced after-threshold-residual) after-threshold-residual.threshold-residual.ensures
+          tried-search (row start) start.args.state (with_marks v (entry start)) start.args.gcds.now start.args.visits (forced after-threshold-residual) after-threshold-residual.threshold-residual.ensures
           after-number.number.result after-number.number.ensures else1.if1.false f.result f.ensures.0 c.step.result c.step.ensures after-visits.visits.result after-visits.visits.ensures,
       f.ensures.1,
     )

@@ -18,14 +18,14 @@ use denote.Struct.Laws as LL
 use denote.Enum.Laws as EL
 use denote.Triple.Spec.{triple_of}
 use denote.Triple.Table.{entered}
-use Rattle.state.specs.State.{withUpper}
+use Rattle.state.specs.State.{with_upper}
 use Rattle.state.specs.declared.State.{State}
 use Rattle.state.specs.declared.Upper.TheVariants.{Under}
 use Rattle.state.specs.contracts.State as T
 use Rattle.state.proofs.State.TheLaws as T'
 use Rattle.state.specs.contracts.Upper as U
 use Rattle.state.proofs.Upper.TheLaws as U'
-use Rattle.state.proofs.Alters.{val, vals, withLimit, altering, put, Gives, alters}
+use Rattle.state.proofs.Alters.{val, vals, with_limit, altering, put, Gives, alters}
 use Rattle.state.specs.contracts.lower_upper.Key.{name as #state·lower-upper}
 use Rattle.state.specs.contracts.lower_upper as f
 use Rattle.state.proofs.lower_upper.Statement as stated
@@ -47,19 +47,19 @@ gives 𝓛 Γ l₀ l₁ l₂ b o h z = agg ! (and_then ! (lit ! tt) (and_then ! 
 typed : {M : Type 1} {𝓤 : Ura M} (𝓛 : Logic 𝓤) (z : ℤ) → mag z < 2 ^ 63 → Holds (has_ty U'.mir (limit z)) × WT (limit z)
 typed 𝓛 z fits = ((EL.lawful U.the_type U'.the_laws 𝓛 tt).typed (Under z) (limit z ∷ []) (limited z fits)).0
 
-stored : (h : State) (z : ℤ) → put h stores.0 (limit z) ≡ val (withLimit h z)
-unfolding withUpper
+stored : (h : State) (z : ℤ) → put h stores.0 (limit z) ≡ val (with_limit h z)
+unfolding with_upper
 stored h z = refl
 
-makes : (h : State) (z : ℤ) → mag z < 2 ^ 63 → Is T.the_row h (vals h) → Is T.the_row (withLimit h z) (vals (withLimit h z))
-unfolding withUpper
+makes : (h : State) (z : ℤ) → mag z < 2 ^ 63 → Is T.the_row h (vals h) → Is T.the_row (with_limit h z) (vals (with_limit h z))
+unfolding with_upper
 makes h z fits was =
     let o = LL.owed T.the_type T'.the_laws h (vals h) was in
-    LL.owes T.the_type T'.the_laws (withLimit h z) (o.0, (o.1.0, (o.1.1.0, (limited z fits, o.1.1.1.1))))
+    LL.owes T.the_type T'.the_laws (with_limit h z) (o.0, (o.1.0, (o.1.1.0, (limited z fits, o.1.1.1.1))))
 
 pub lower-upper-spec : {M : Type 1} → stated.statement M
 unfolding code.routine tables_of
 lower-upper-spec 𝓤 𝓛 𝓜 𝓡 =
     entered 𝓤 𝓛.H (triple_of 𝓛 f.signature (f.spec 𝓛 𝓜.mem 𝓡.run))
     (tables 𝓤 𝓛.H 𝓜 𝓡 code.env).C (tables 𝓤 𝓛.H 𝓜 𝓡 code.env).Λ #state·lower-upper code.function (code.unfolded 𝓤 𝓛.H 𝓜 𝓡)
-    (alters 𝓛 withLimit stores.0 stores.1 limit refl (gives 𝓛) (typed 𝓛) stored makes (tables_of 𝓤 𝓛.H 𝓜 (tables 𝓤 𝓛.H 𝓜 𝓡 code.env)))
+    (alters 𝓛 with_limit stores.0 stores.1 limit refl (gives 𝓛) (typed 𝓛) stored makes (tables_of 𝓤 𝓛.H 𝓜 (tables 𝓤 𝓛.H 𝓜 𝓡 code.env)))

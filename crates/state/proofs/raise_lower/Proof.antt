@@ -16,7 +16,7 @@ use denote.Laws.{Is}
 use denote.Struct.Laws as LL
 use denote.Triple.Spec.{triple_of}
 use denote.Triple.Table.{entered}
-use Rattle.state.specs.State.{withLower}
+use Rattle.state.specs.State.{with_lower}
 use Rattle.state.specs.declared.State.{State}
 use Rattle.state.specs.contracts.State as T
 use Rattle.state.proofs.State.TheLaws as T'
@@ -36,19 +36,19 @@ gives 𝓛 Γ l₀ l₁ l₂ b o h z = of_opd ! (load ! (from ! (stop !)) (look 
 typed : (z : ℤ) → mag z < 2 ^ 63 → Holds (has_ty (ty_int w64) (num z)) × WT (num z)
 typed z fits = (tt, Fits-of_z {z = z} (record { sfits = fits }))
 
-stored : (h : State) (z : ℤ) → put h stores.0 (num z) ≡ val (withLower h z)
-unfolding withLower
+stored : (h : State) (z : ℤ) → put h stores.0 (num z) ≡ val (with_lower h z)
+unfolding with_lower
 stored h z = refl
 
-makes : (h : State) (z : ℤ) → mag z < 2 ^ 63 → Is T.the_row h (vals h) → Is T.the_row (withLower h z) (vals (withLower h z))
-unfolding withLower
+makes : (h : State) (z : ℤ) → mag z < 2 ^ 63 → Is T.the_row h (vals h) → Is T.the_row (with_lower h z) (vals (with_lower h z))
+unfolding with_lower
 makes h z fits was =
     let o = LL.owed T.the_type T'.the_laws h (vals h) was in
-    LL.owes T.the_type T'.the_laws (withLower h z) (o.0, (o.1.0, ((refl, fits), o.1.1.1)))
+    LL.owes T.the_type T'.the_laws (with_lower h z) (o.0, (o.1.0, ((refl, fits), o.1.1.1)))
 
 pub raise-lower-spec : {M : Type 1} → stated.statement M
 unfolding code.routine tables_of
 raise-lower-spec 𝓤 𝓛 𝓜 𝓡 =
     entered 𝓤 𝓛.H (triple_of 𝓛 f.signature (f.spec 𝓛 𝓜.mem 𝓡.run))
     (tables 𝓤 𝓛.H 𝓜 𝓡 code.env).C (tables 𝓤 𝓛.H 𝓜 𝓡 code.env).Λ #state·raise-lower code.function (code.unfolded 𝓤 𝓛.H 𝓜 𝓡)
-    (alters 𝓛 withLower stores.0 stores.1 num refl (gives 𝓛) typed stored makes (tables_of 𝓤 𝓛.H 𝓜 (tables 𝓤 𝓛.H 𝓜 𝓡 code.env)))
+    (alters 𝓛 with_lower stores.0 stores.1 num refl (gives 𝓛) typed stored makes (tables_of 𝓤 𝓛.H 𝓜 (tables 𝓤 𝓛.H 𝓜 𝓡 code.env)))

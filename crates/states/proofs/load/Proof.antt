@@ -39,9 +39,9 @@ use denote.Triple.Table.{entered}
 use denote.Triple.Walked.{says, needs, Stays, walk_of, Walks, ends_at, walked, walk_Meets}
 use borrow.Author.Rules.{scaled_Fits}
 use Rattle.states.specs.Pairs.{◌▹◌}
-use Rattle.states.specs.LocalsLaws.{alloc_all, free-under}
-use Rattle.states.specs.SaidLaws.{saids, goes-saids}
-use Rattle.state.specs.State.{noState}
+use Rattle.states.specs.LocalsLaws.{alloc_all, free_under}
+use Rattle.states.specs.SaidLaws.{saids, goes_saids}
+use Rattle.state.specs.State.{no_state}
 use Rattle.state.specs.declared.State.{State}
 use Rattle.state.specs.contracts.State as T
 use Rattle.state.proofs.State.TheLaws as T'
@@ -85,7 +85,7 @@ module _ {M : Type 1} {𝓤 : Ura M} (𝓛 : Logic 𝓤) (at_mem : Memory → SP
   row = a.1.0
 
   abbrev elem : State
-  elem = get_or xs row noState
+  elem = get_or xs row no_state
 
   exits : Is T.the_row elem (LL.vals T.the_type T'.the_laws elem) → ent 𝓤 (A.lft κs.0 qs.0) (Post (LL.val T.the_type T'.the_laws elem))
   exits is =
@@ -109,13 +109,13 @@ module _ {M : Type 1} {𝓤 : Ura M} (𝓛 : Logic 𝓤) (at_mem : Memory → SP
         move ! (8 ∷ 7 ∷ []) $
         fsplit ! $ fsplit ! $ move ! (1 ∷ []) $ fsplit ! $ move ! (4 ∷ []) $ split ! $ move ! (3 ∷ 0 ∷ []) $
         looks_slice ! tt T.the_row (Is T.the_row) (shows 𝓛 T.the_row) (LL.vals T.the_type T'.the_laws) (LL.tells T.the_type T'.the_laws) (LL.copy T.the_type T'.the_copy 𝓛) xs b o (λ q'.
-        elem_out ! T.the_row (Is T.the_row) (shows 𝓛 T.the_row) (LL.vals T.the_type T'.the_laws) (LL.tells T.the_type T'.the_laws) q' xs row noState b o pre (λ is.
+        elem_out ! T.the_row (Is T.the_row) (shows 𝓛 T.the_row) (LL.vals T.the_type T'.the_laws) (LL.tells T.the_type T'.the_laws) q' xs row no_state b o pre (λ is.
         assigns ! (of_opd ! (load ! (from ! (hop ! (look ! 13 refl) (stop !))) (look_raw ! 0 refl))) (from ! (stop !)) (init ! 14 refl ((LL.lawful T.the_type T'.the_laws 𝓛).typed elem _ is).0) $
         assigns ! (of_opd ! (load ! (from ! (stop !)) (look ! 14 refl))) (from ! (stop !)) (init ! 9 refl ((LL.lawful T.the_type T'.the_laws 𝓛).typed elem _ is).0) $
-        elem_back ! T.the_row q' xs row noState (LL.vals T.the_type T'.the_laws elem) b o pre $ shuts_slice ! tt T.the_row q' xs b o $
+        elem_back ! T.the_row q' xs row no_state (LL.vals T.the_type T'.the_laws elem) b o pre $ shuts_slice ! tt T.the_row q' xs b o $
         move ! (1 ∷ 2 ∷ 3 ∷ 4 ∷ 5 ∷ []) $
         drop ! $ drop ! $ drop ! $ drop ! $ drop ! $
-        returns ! (look ! 1 refl) $ free-under ! (code.function).locals ns ((someᴼ (LL.val T.the_type T'.the_laws elem)) ▹ (someᴼ (v-states)) ▹ (someᴼ (vint w64 a.1.0)) ▹ (someᴼ (vint w64 (row *
+        returns ! (look ! 1 refl) $ free_under ! (code.function).locals ns ((someᴼ (LL.val T.the_type T'.the_laws elem)) ▹ (someᴼ (v-states)) ▹ (someᴼ (vint w64 a.1.0)) ▹ (someᴼ (vint w64 (row *
         72))) ▹ (someᴼ (vptr b (placed 72 o row))) ▹ (someᴼ (LL.val T.the_type T'.the_laws elem)) ▹ tt) $ by ! (exits is))))
 
 module _ {M : Type 1} {𝓤 : Ura M} (𝓛 : Logic 𝓤) (at_mem : Memory → SProp 𝓤) (run : Routine → Fun 𝓤) (𝓣 : Tables 𝓤 𝓛.H) where
@@ -127,7 +127,7 @@ module _ {M : Type 1} {𝓤 : Ura M} (𝓛 : Logic 𝓤) (at_mem : Memory → SP
       (λ κs qs bounds a g are. needs 𝓤 (a.1.0 < length a.0.now) _ (λ pre. walk 𝓛 at_mem run κs qs a are pre 𝓣.C 𝓣.Λ))
 
   load-meets : Meets 𝓛 f.signature (WpFn 𝓤 H 𝓣.C 𝓣.Λ code.function) (f.spec 𝓛 at_mem run)
-  load-meets = walk_Meets 𝓛 f.ended stayed (goes-saids 𝓛 1 (f.ended).signature.params (f.ended).kept) (f.clauses 𝓛 at_mem run) (WpFn 𝓤 H 𝓣.C 𝓣.Λ code.function)
+  load-meets = walk_Meets 𝓛 f.ended stayed (goes_saids 𝓛 1 (f.ended).signature.params (f.ended).kept) (f.clauses 𝓛 at_mem run) (WpFn 𝓤 H 𝓣.C 𝓣.Λ code.function)
       (WpFn-mono 𝓤 H 𝓛.laws 𝓣 code.function) load-walks
 
 pub load_spec : {M : Type 1} → stated.statement M

@@ -4,26 +4,26 @@ use native.Mathlib.Omega.{arith}
 use lib.ListN.{take, length-take, get_or-eq_default}
 use lib.Seq.{get_or-take}
 use borrow.Author.Rules.{rules}
-use Rattle.memory.specs.Limits.{maxThresholds}
-use Rattle.state.specs.State.{noState, firstState}
-use Rattle.row_moves.specs.Numbers.{statesOf}
+use Rattle.memory.specs.Limits.{max_thresholds}
+use Rattle.state.specs.State.{no_state, first_state}
+use Rattle.row_moves.specs.Numbers.{states_of}
 use Rattle.states.proofs.row_state.Statement.{statement}
 use Rattle.states.proofs.row_state.Tie as tie
 
 returns : tie.Need-returns
 returns c =
     let a = c.before.before.args in
-    c.load.ensures ∙ sym (get_or-take maxThresholds (statesOf a.figures.now a.cursors.now) a.row noState (omega (arith, c.before.if1.true)))
+    c.load.ensures ∙ sym (get_or-take max_thresholds (states_of a.figures.now a.cursors.now) a.row no_state (omega (arith, c.before.if1.true)))
 
-none : firstState 0 0 ≡ noState
-unfolding firstState noState
+none : first_state 0 0 ≡ no_state
+unfolding first_state no_state
 none = refl
 
 returns-2 : tie.Need-returns-2
 returns-2 c =
     let a = c.before.before.args in
-    let l = statesOf a.figures.now a.cursors.now in
-    c.first.ensures ∙ none ∙ sym (get_or-eq_default (take maxThresholds l) noState (omega (arith, length-take maxThresholds l, c.before.if1.false)))
+    let l = states_of a.figures.now a.cursors.now in
+    c.first.ensures ∙ none ∙ sym (get_or-eq_default (take max_thresholds l) no_state (omega (arith, length-take max_thresholds l, c.before.if1.false)))
 
 pub row-state-spec : {M : Type 1} → statement M
 row-state-spec = tie.close (tie.spec (λ c κs. search rules) returns (λ c κs. search rules) returns-2)

@@ -51,17 +51,17 @@ use denote.Triple.Spec.{Meets, triple_of}
 use denote.Triple.Table.{entered, cited}
 use denote.Triple.Walked.{says, needs, Stays, walk_of, Walks, ends_at, walked, walk_Meets}
 use Rattle.states.specs.Pairs.{◌▹◌}
-use Rattle.states.specs.AgainLaws.{LentAgain, lends-at, back_at}
-use Rattle.states.specs.LocalsLaws.{cells_of, diesOf, envOf, Nats, alloc_all, free-under}
-use Rattle.states.specs.SaidLaws.{saids, goes-saids, gives_up}
-use Rattle.states.specs.StepsLaws.{while-goes}
-use Rattle.state.specs.State.{noState}
+use Rattle.states.specs.AgainLaws.{LentAgain, lends_at, back_at}
+use Rattle.states.specs.LocalsLaws.{cells_of, dies_of, env_of, Nats, alloc_all, free_under}
+use Rattle.states.specs.SaidLaws.{saids, goes_saids, gives_up}
+use Rattle.states.specs.StepsLaws.{while_goes}
+use Rattle.state.specs.State.{no_state}
 use Rattle.state.specs.declared.State.{State}
 use Rattle.state.specs.contracts.State as T
 use Rattle.state.proofs.State.TheLaws as T'
-use Rattle.memory.specs.Limits.{maxThresholds}
-use Rattle.row_moves.specs.Numbers.{statesOf}
-use Rattle.states.specs.StatesLaws.{showing, showing-long, showing-next, showing-all}
+use Rattle.memory.specs.Limits.{max_thresholds}
+use Rattle.row_moves.specs.Numbers.{states_of}
+use Rattle.states.specs.StatesLaws.{showing, showing_long, showing_next, showing_all}
 use Rattle.states.proofs.show_states.Code.Mir as pieces
 use Rattle.states.specs.contracts.row_state as row'
 use Rattle.states.proofs.row_state.Symbol as row_def
@@ -100,7 +100,7 @@ abbrev rest : Body
 rest = seq (assign (place 0 []) (rv_opd opd_unit)) return
 
 module _ {M : Type 1} {𝓤 : Ura M} (𝓛 : Logic 𝓤) (at_mem : Memory → SProp 𝓤) (run : Routine → Fun 𝓤) (κs : Lfts 3) (qs : Shares 3) (a : Args f.signature κs)
-    (are : Are (types_at (f.signature).params κs) (Ises (types_at (f.signature).params κs)) a (at κs a)) (pre : (maxThresholds ≤ length a.0.now) × (maxThresholds ≤ length (statesOf a.1.0.now
+    (are : Are (types_at (f.signature).params κs) (Ises (types_at (f.signature).params κs)) a (at κs a)) (pre : (max_thresholds ≤ length a.0.now) × (max_thresholds ≤ length (states_of a.1.0.now
     a.1.1.0.now))) where
   open 𝓛 use {H, A}
 
@@ -139,10 +139,10 @@ module _ {M : Type 1} {𝓤 : Ura M} (𝓛 : Logic 𝓤) (at_mem : Memory → SP
 
   -- the states that the rows of numbers hold, that of a row, and the lent ones when the first n are written
   abbrev held : List State
-  held = statesOf x-figures.now x-cursors.now
+  held = states_of x-figures.now x-cursors.now
 
   abbrev row : ℕ → State
-  row n = get_or (take maxThresholds held) n noState
+  row n = get_or (take max_thresholds held) n no_state
 
   abbrev L : ℕ → List State
   L n = showing held ss n
@@ -179,15 +179,15 @@ module _ {M : Type 1} {𝓤 : Ura M} (𝓛 : Logic 𝓤) (at_mem : Memory → SP
   next i less = (i.0 + 1, add-one-le (ltb→lt i.0 (length ss) less))
 
   long : (i : Upto) → length (L i.0) ≡ length ss
-  long i = showing-long held ss pre.1 pre.0 i.0 i.1
+  long i = showing_long held ss pre.1 pre.0 i.0 i.1
 
   next-list : (i : Upto) (r : State) → i.0 < length ss → r ≡ row i.0 → set (L i.0) i.0 r ≡ L (i.0 + 1)
-  next-list i r less e = showing-next held ss pre.1 pre.0 i.0 r less e ∙ ap L (sym (add-one i.0))
+  next-list i r less e = showing_next held ss pre.1 pre.0 i.0 r less e ∙ ap L (sym (add-one i.0))
 
   exits : (i : Upto) → i.0 ≡ length ss → ent 𝓤 (sep 𝓤 toks-r (sep 𝓤 (sem 𝓛 owns-r) (sep 𝓤 (sem 𝓛 (own-states κs.0 x-states.name (L i.0))) (A.lft κs.0 qs.0)))) (Post vunit)
   exits i e =
       qed 𝓛 (raw toks-r ∷ ‵ owns-r ∷ ‵ (own-states κs.0 x-states.name (L i.0)) ∷ ‵ (flft κs.0 qs.0) ∷ []) ∵
-      suffices ! _ (ends_at 𝓛 f.ended stayed (f.clauses 𝓛 at_mem run) ((κs, qs, tt, a, at κs a), tt) vunit tt (L i.0, (tt, (tt, tt))) (tt, (tt, (tt, tt)))) $ says ! (showing-all held ss
+      suffices ! _ (ends_at 𝓛 f.ended stayed (f.clauses 𝓛 at_mem run) ((κs, qs, tt, a, at κs a), tt) vunit tt (L i.0, (tt, (tt, tt))) (tt, (tt, (tt, tt)))) $ says ! (showing_all held ss
       pre.1 pre.0 i.0 e) $
       move ! (1 ∷ 3 ∷ 0 ∷ []) $ drop ! $ join ! $ frame ! $
       use1 𝓛 (‵ (fsep (finally T.the_row x-states.name (L i.0)) (feq ℕ (length (L i.0)) (length ss)))) (gives_up 𝓛 (named 0) κs.0 T.the_row
@@ -217,12 +217,12 @@ module _ {M : Type 1} {𝓤 : Ura M} (𝓛 : Logic 𝓤) (at_mem : Memory → SP
   module _ (𝓣 : Tables 𝓤 H) (known-row : Triple 𝓤 (𝓣.C #states·row-state) (Row 𝓛 at_mem run)) (known-put : Triple 𝓤 (𝓣.C #states·store) (Put 𝓛 at_mem run)) (ns : Nats
       (code.function).locals) where
     abbrev En : Env 𝓤 H
-    En = envOf 𝓤 H (code.function).locals ns
+    En = env_of 𝓤 H (code.function).locals ns
 
     abbrev At : Upto → List (Item 𝓤)
     At i = raw toks-r ∷ ‵ owns-r ∷ ‵ (own-states κs.0 x-states.name (L i.0)) ∷ ‵ (flft κs.0 qs.0)
         ∷ cells_of 𝓤 H (code.function).locals ns (none ▹ (someᴼ (v-states)) ▹ (someᴼ (v-figures)) ▹ (someᴼ (v-cursors)) ▹ (someᴼ (vint w64 i.0)) ▹ none ▹ none ▹ none ▹ none ▹ none ▹ none ▹ tt) (‵
-        (diesOf (code.function).locals ns) ∷ [])
+        (dies_of (code.function).locals ns) ∷ [])
 
     -- after a turn: one place further, or the loop is left and the rest runs
     abbrev Turned : Upto → Out → SProp 𝓤
@@ -233,7 +233,7 @@ module _ {M : Type 1} {𝓤 : Ura M} (𝓛 : Logic 𝓤) (at_mem : Memory → SP
     turns i =
         assigns ! (of_opd ! (load ! (from ! (fld ! refl (stop !))) (look_in ! 5 (sub ! 1 refl (whole !))))) (from ! (stop !)) (init ! 10 refl (tt, record { fits = are.0.0.1.0 })) $
         assigns ! (bin ! (load ! (from ! (stop !)) (look ! 8 refl)) (load ! (from ! (stop !)) (look ! 10 refl)) tt) (from ! (stop !)) (init ! 11 refl (tt, tt)) $
-        while-goes ! (load ! (from ! (stop !)) (look ! 11 refl)) (λ less.
+        while_goes ! (load ! (from ! (stop !)) (look ! 11 refl)) (λ less.
         move ! (1 ∷ []) $
         use1 𝓛 (‵ owns-r ⊛ ‵ owns-r) twice-r $ split ! $
         move ! (2 ∷ 0 ∷ []) $
@@ -255,7 +255,7 @@ module _ {M : Type 1} {𝓤 : Ura M} (𝓛 : Logic 𝓤) (at_mem : Memory → SP
         move ! (5 ∷ 6 ∷ []) $
         use2 𝓛 (later (some (λ (δ : GName). ‵ (own-states (α ∷ []) δ (L i.0)) ⊛ ‵ (LentAgain T.the_row κs.0 (α ∷ []) qs.0 x-states.name x-states.ptr.0 x-states.ptr.1 δ (L
         i.0)))))
-        (lends-at T.the_row κs.0 (α ∷ []) qs.0 x-states.ghost_name x-states.ref_ptr.0 x-states.ref_ptr.1 𝓛 (named 0) (named 0) (L i.0) (length x-states.now) (long i)) $ await ! tt $
+        (lends_at T.the_row κs.0 (α ∷ []) qs.0 x-states.ghost_name x-states.ref_ptr.0 x-states.ref_ptr.1 𝓛 (named 0) (named 0) (L i.0) (length x-states.now) (long i)) $ await ! tt $
         pick ! (λ δ. split ! $
         move ! (2 ∷ 0 ∷ 3 ∷ []) $
         use3 𝓛 (raw ((Put 𝓛 at_mem run).pre (to-put α δ i r v))) (goes-put α δ i r v (ltb→lt i.0 (length ss) less)) $
@@ -293,7 +293,7 @@ module _ {M : Type 1} {𝓤 : Ura M} (𝓛 : Logic 𝓤) (at_mem : Memory → SP
         again ! Nearer At i (next i less) (add-one-dec (length ss) i.0 (ltb→lt i.0 (length ss) less))))))))))))))))
         (λ late. exec ! 𝓣.C 𝓣.Λ En rest (at_ret En Post) $ assigns ! (of_opd ! (unit_lit !)) (from ! (stop !)) (init ! 4 refl (tt, tt)) $
         returns ! (look ! 4 refl) $ group ! 4 $
-        free-under ! (code.function).locals ns ((someᴼ (vunit)) ▹ (someᴼ (v-states)) ▹ (someᴼ (v-figures)) ▹ (someᴼ (v-cursors)) ▹ (someᴼ (vint w64 i.0)) ▹ none ▹ (someᴼ (vint w64 (length ss))) ▹
+        free_under ! (code.function).locals ns ((someᴼ (vunit)) ▹ (someᴼ (v-states)) ▹ (someᴼ (v-figures)) ▹ (someᴼ (v-cursors)) ▹ (someᴼ (vint w64 i.0)) ▹ none ▹ (someᴼ (vint w64 (length ss))) ▹
         (someᴼ (vbool (ltb i.0 (length ss)))) ▹ none ▹ none ▹ none ▹ tt) $ by ! (exits i (le_antisymm i.1 (nltb→le i.0 (length ss) late))))
 
   walk : (𝓣 : Tables 𝓤 H) → Triple 𝓤 (𝓣.C #states·row-state) (Row 𝓛 at_mem run) → Triple 𝓤 (𝓣.C #states·store) (Put 𝓛 at_mem run) → ent 𝓤 (on_entry 𝓛 f.signature κs qs a (at κs a)) (WpFn
@@ -317,11 +317,11 @@ module _ {M : Type 1} {𝓤 : Ura M} (𝓛 : Logic 𝓤) (at_mem : Memory → SP
   show-states-walks : Walks 𝓛 f.ended stayed (WpFn 𝓤 H 𝓣.C 𝓣.Λ code.function) (f.clauses 𝓛 at_mem run)
   show-states-walks = walked 𝓛 f.ended stayed (f.clauses 𝓛 at_mem run) (WpFn 𝓤 H 𝓣.C 𝓣.Λ code.function) (λ κs. (shr_slice_vals ▹ shr_slice_vals ▹ shr_slice_vals ▹ tt))
       (λ κs. ((mut_slice_Tells (named 0) κs.0 T.the_row) ▹ (shr_slice_Tells (named 1) κs.1.0 Figures) ▹ (shr_slice_Tells (named 2) κs.1.1.0 Cursors) ▹ tt))
-      (λ κs qs bounds a g are. needs 𝓤 ((maxThresholds ≤ length a.0.now) × (maxThresholds ≤ length (statesOf a.1.0.now a.1.1.0.now))) _ (λ pre. walk 𝓛 at_mem run κs qs a are pre 𝓣
+      (λ κs qs bounds a g are. needs 𝓤 ((max_thresholds ≤ length a.0.now) × (max_thresholds ≤ length (states_of a.1.0.now a.1.1.0.now))) _ (λ pre. walk 𝓛 at_mem run κs qs a are pre 𝓣
       known-row known-put))
 
   show-states-meets : Meets 𝓛 f.signature (WpFn 𝓤 H 𝓣.C 𝓣.Λ code.function) (f.spec 𝓛 at_mem run)
-  show-states-meets = walk_Meets 𝓛 f.ended stayed (goes-saids 𝓛 3 (f.ended).signature.params (f.ended).kept) (f.clauses 𝓛 at_mem run) (WpFn 𝓤 H 𝓣.C 𝓣.Λ code.function)
+  show-states-meets = walk_Meets 𝓛 f.ended stayed (goes_saids 𝓛 3 (f.ended).signature.params (f.ended).kept) (f.clauses 𝓛 at_mem run) (WpFn 𝓤 H 𝓣.C 𝓣.Λ code.function)
       (WpFn-mono 𝓤 H 𝓛.laws 𝓣 code.function) show-states-walks
 
 pub show-states-spec : {M : Type 1} → stated.statement M

@@ -39,8 +39,8 @@ use denote.Triple.Table.{entered}
 use denote.Triple.Walked.{says, needs, Stays, walk_of, Walks, ends_at, walked, walk_Meets}
 use borrow.Author.Rules.{scaled_Fits}
 use Rattle.states.specs.Pairs.{◌▹◌}
-use Rattle.states.specs.LocalsLaws.{alloc_all, free-under}
-use Rattle.states.specs.SaidLaws.{saids, goes-saids, last-list}
+use Rattle.states.specs.LocalsLaws.{alloc_all, free_under}
+use Rattle.states.specs.SaidLaws.{saids, goes_saids, last_list_lem}
 use Rattle.state.specs.declared.State.{State}
 use Rattle.state.specs.contracts.State as T
 use Rattle.state.proofs.State.TheLaws as T'
@@ -94,7 +94,7 @@ module _ {M : Type 1} {𝓤 : Ura M} (𝓛 : Logic 𝓤) (at_mem : Memory → SP
       qed 𝓛 (‵ (flft κs.0 qs.0) ∷ ‵ seen ∷ []) ∵ suffices ! _ (ends_at 𝓛 f.ended stayed (f.clauses 𝓛 at_mem run) ((κs, qs, tt, a, at κs a), tt) vunit tt
       (set xs row state, (tt, (tt, tt))) (tt, (tt, (tt, tt)))) $ says ! refl $
       nothing ! $ move ! (1 ∷ 0 ∷ []) $ join ! $ frame ! $
-      use1 𝓛 (‵ (fsep (finally T.the_row x-states.name (set xs row state)) (feq ℕ (length (set xs row state)) (length xs)))) (last-list 𝓛 (named 0) κs.0 T.the_row x-states.name (set xs
+      use1 𝓛 (‵ (fsep (finally T.the_row x-states.name (set xs row state)) (feq ℕ (length (set xs row state)) (length xs)))) (last_list_lem 𝓛 (named 0) κs.0 T.the_row x-states.name (set xs
       row state) (length xs) (length-set xs row state)) $
       nothing ! $ nothing ! $ fjoin ! $ nothing ! $ fjoin ! $ move ! (1 ∷ 0 ∷ []) $ fjoin ! $ frame ! $ feq_i ! (List Val) (vunit ∷ []) (vunit ∷ []) refl $ done !
 
@@ -127,7 +127,7 @@ module _ {M : Type 1} {𝓤 : Ura M} (𝓛 : Logic 𝓤) (at_mem : Memory → SP
         drop ! $ drop ! $ drop ! $ drop ! $
         move ! (1 ∷ 0 ∷ []) $
         group ! 2 $
-        returns ! (look ! 1 refl) $ free-under ! (code.function).locals ns ((someᴼ (vunit)) ▹ (someᴼ (v-states)) ▹ (someᴼ (vint w64 a.1.0)) ▹ (someᴼ (LL.val T.the_type T'.the_laws a.1.1.0))
+        returns ! (look ! 1 refl) $ free_under ! (code.function).locals ns ((someᴼ (vunit)) ▹ (someᴼ (v-states)) ▹ (someᴼ (vint w64 a.1.0)) ▹ (someᴼ (LL.val T.the_type T'.the_laws a.1.1.0))
         ▹ (someᴼ (vint w64 (row * 72))) ▹ (someᴼ (vptr b (placed 72 o row))) ▹ tt) $ by ! exits))
 
 module _ {M : Type 1} {𝓤 : Ura M} (𝓛 : Logic 𝓤) (at_mem : Memory → SProp 𝓤) (run : Routine → Fun 𝓤) (𝓣 : Tables 𝓤 𝓛.H) where
@@ -139,7 +139,7 @@ module _ {M : Type 1} {𝓤 : Ura M} (𝓛 : Logic 𝓤) (at_mem : Memory → SP
       (λ κs qs bounds a g are. needs 𝓤 (a.1.0 < length a.0.now) _ (λ pre. walk 𝓛 at_mem run κs qs a are pre 𝓣.C 𝓣.Λ))
 
   store-meets : Meets 𝓛 f.signature (WpFn 𝓤 H 𝓣.C 𝓣.Λ code.function) (f.spec 𝓛 at_mem run)
-  store-meets = walk_Meets 𝓛 f.ended stayed (goes-saids 𝓛 1 (f.ended).signature.params (f.ended).kept) (f.clauses 𝓛 at_mem run) (WpFn 𝓤 H 𝓣.C 𝓣.Λ code.function)
+  store-meets = walk_Meets 𝓛 f.ended stayed (goes_saids 𝓛 1 (f.ended).signature.params (f.ended).kept) (f.clauses 𝓛 at_mem run) (WpFn 𝓤 H 𝓣.C 𝓣.Λ code.function)
       (WpFn-mono 𝓤 H 𝓛.laws 𝓣 code.function) store-walks
 
 pub store_spec : {M : Type 1} → stated.statement M

@@ -4,7 +4,7 @@ use native.Mathlib.Omega.{arith}
 use mathlib.Core.Path.{sym}
 use lib.ListN.{length}
 use Rattle.text.specs.TextLaws.{wrote_then, wrote_as}
-use Rattle.text.specs.NumberLaws.{in-two-parts}
+use Rattle.text.specs.NumberLaws.{in_two_parts}
 use borrow.Author.Rules.{rules}
 use Rattle.text.proofs.decimal.Statement.{statement}
 use Rattle.text.proofs.decimal.Tie as tie
@@ -19,7 +19,7 @@ returns-2 c =
     let from : 10000 ≤ n = omega (arith, at.before.if1.false) in
     let below : n < 100000000 = omega (arith, at.if2.true) in
     let h : s.args.at ≤ length s.args.out.now = omega (arith, s.requires) in
-    wrote_as (omega arith) (sym (in-two-parts n from below)) (wrote_then h first.short2.ensures second.four.ensures)
+    wrote_as (omega arith) (sym (in_two_parts n from below)) (wrote_then h first.short2.ensures second.four.ensures)
 
 pub decimal-spec : {M : Type 1} → statement M
 decimal-spec =

@@ -1,7 +1,7 @@
 -- `text::digits` meets its contract. The loop's invariant: the digits passed stand at the end; what is left falls.
 use mathlib.Core.Path.{◌∙◌, sym}
 use native.Mathlib.Omega.{arith}
-use Rattle.text.specs.NumberLaws.{Digits, digits-first, digits-next, digits_last}
+use Rattle.text.specs.NumberLaws.{Digits, digits-first, digits_next, digits_last}
 use Rattle.text.proofs.digits.Statement.{statement}
 use Rattle.text.proofs.digits.Tie as tie
 
@@ -19,7 +19,7 @@ loop-holds c =
 sub-first : tie.Need-overflow-sub-first invariant-loop decreases-loop
 sub-first c =
     let w = c.before.loop in
-    (digits-next c.before.before.before.before.args.n w.into w.first w.rest w.invariant c.loop-test.true).0
+    (digits_next c.before.before.before.before.args.n w.into w.first w.rest w.invariant c.loop-test.true).0
 
 slice-write-into-2 : tie.Need-slice-write-into-2 invariant-loop decreases-loop
 slice-write-into-2 c =
@@ -31,7 +31,7 @@ loop-again : tie.Need-loop-preserved invariant-loop decreases-loop
 loop-again c =
     let w = c.before.before.loop in
     rw c.digit2.ensures
-    (digits-next c.before.before.before.before.before.args.n w.into w.first w.rest w.invariant c.before.loop-test.true).1
+    (digits_next c.before.before.before.before.before.args.n w.into w.first w.rest w.invariant c.before.loop-test.true).1
 
 same_length : tie.Need-same-length invariant-loop decreases-loop
 same_length c = c.before.loop.invariant.long ∙ sym c.before.before.before.before.requires

@@ -6,7 +6,7 @@ use lib.ListN.{length, take, drop, length-drop}
 use lib.Seq.{take_all}
 use Rattle.text.specs.Decimal.{decimal}
 use Rattle.text.specs.TextLaws.{wrote_as}
-use Rattle.text.specs.NumberLaws.{decimal-short}
+use Rattle.text.specs.NumberLaws.{decimal_short}
 use borrow.Author.Rules.{rules}
 use Rattle.text.proofs.long.Statement.{statement}
 use Rattle.text.proofs.long.Tie as tie
@@ -20,7 +20,7 @@ returns c =
     let l = at-digits.digits.new.0 in
     let e : take (20 - d.result) (drop d.result l) ≡ decimal s.args.n =
     take_all (20 - d.result) (drop d.result l) (omega (arith, length-drop d.result l, d.auto.0)) ∙ d.ensures.1 in
-    wrote_as (omega (arith, ap length e, decimal-short s.args.n)) e at-put.put.ensures
+    wrote_as (omega (arith, ap length e, decimal_short s.args.n)) e at-put.put.ensures
 
 pub long-spec : {M : Type 1} → statement M
 long-spec =

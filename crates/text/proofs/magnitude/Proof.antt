@@ -5,7 +5,7 @@ use mir.Syntax.{w64}
 use mir.Val.{SFits}
 use mir.Facts.{to_z-of_z}
 use borrow.Author.Rules.{rules}
-use Rattle.base.specs.SignedLaws.{natural-cast}
+use Rattle.base.specs.SignedLaws.{natural_cast}
 use Rattle.text.specs.NumberLaws.{held, Below, below-zero}
 use Rattle.text.proofs.magnitude.Statement.{statement}
 use Rattle.text.proofs.magnitude.Tie as tie
@@ -30,7 +30,7 @@ cast-result-2 c =
     let z = c.before.args.z in
     let f : SFits w64 z = search rules in
     let hz : held z ≡ z = to_z-of_z {w = w64} f in
-    rw hz (natural-cast z (rw hz at c.if1.false) f)
+    rw hz (natural_cast z (rw hz at c.if1.false) f)
 
 returns-2 : tie.Need-returns-2
 returns-2 c =

@@ -4,7 +4,7 @@ use Prim.Native.Nat.{◌-◌, ◌≤◌}
 use native.Mathlib.Omega.{arith}
 use lib.ListN.{length, length-set}
 use lib.Seq.{paste, paste-zero}
-use Rattle.text.specs.TextLaws.{put_next, put-done}
+use Rattle.text.specs.TextLaws.{put_next, put_done}
 use Rattle.text.proofs.put.Statement.{statement}
 use Rattle.text.proofs.put.Tie as tie
 
@@ -27,7 +27,7 @@ returns : tie.Need-returns invariant-loop decreases-loop
 returns c =
     let a = c.before.before.args in
     let w = c.before.loop in
-    put-done a.out.now w.out a.at a.text.now w.i (omega arith) w.invariant.2
+    put_done a.out.now w.out a.at a.text.now w.i (omega arith) w.invariant.2
 
 pub put_spec : {M : Type 1} → statement M
 put_spec = tie.close (tie.spec invariant-loop decreases-loop loop-holds (λ c. omega arith) (λ c. omega arith) (λ c. omega arith) (λ c. omega arith) (λ c. omega arith) loop-again (λ c. omega arith) (λ c. omega arith) returns)

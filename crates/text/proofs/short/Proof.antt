@@ -5,7 +5,7 @@ use mathlib.Core.Path.{sym}
 use mathlib.Core.List.{[]}
 use lib.ListN.{length}
 use Rattle.text.specs.TextLaws.{wrote_then, wrote_as}
-use Rattle.text.specs.NumberLaws.{one-digit, two_digits, three-digits, four-digits}
+use Rattle.text.specs.NumberLaws.{one-digit, two_digits, three_digits, four-digits}
 use borrow.Author.Rules.{rules}
 use Rattle.text.proofs.short.Statement.{statement}
 use Rattle.text.proofs.short.Tie as tie
@@ -39,7 +39,7 @@ returns-3 c =
     let from : 100 ≤ n = omega (arith, at.before.if2.false) in
     let below : n < 1000 = omega (arith, at.if3.true) in
     let h : s.args.at ≤ length s.args.out.now = omega (arith, s.pre.1) in
-    wrote_as (omega arith) (sym (three-digits 17 n [] from below)) (wrote_then h first.one2.ensures second.two2.ensures)
+    wrote_as (omega arith) (sym (three_digits 17 n [] from below)) (wrote_then h first.one2.ensures second.two2.ensures)
 
 returns-4 : tie.Need-returns-4
 returns-4 c =

@@ -11,7 +11,7 @@ use mir.Facts.{to_z-of_z}
 use borrow.Author.Rules.{rules}
 use Rattle.text.specs.Decimal.{decimal}
 use Rattle.text.specs.TextLaws.{wrote_as, wrote_then}
-use Rattle.text.specs.NumberLaws.{held, signed_below, signed-from}
+use Rattle.text.specs.NumberLaws.{held, signed_below, signed_from}
 use Rattle.text.proofs.signed.Statement.{statement}
 use Rattle.text.proofs.signed.Tie as tie
 
@@ -35,7 +35,7 @@ returns-2 c =
     let s = at-magnitude.before.before in
     let f : SFits w64 s.args.z = search rules in
     let e : held s.args.z ≡ s.args.z = to_z-of_z {w = w64} f in
-    wrote_as (omega arith) (ap (λ (n : ℕ). decimal n) (at-magnitude.magnitude.ensures ∙ ap nat_abs e) ∙ sym (signed-from s.args.z (rw e at at-if1.if1.false))) at-decimal2.decimal2.ensures
+    wrote_as (omega arith) (ap (λ (n : ℕ). decimal n) (at-magnitude.magnitude.ensures ∙ ap nat_abs e) ∙ sym (signed_from s.args.z (rw e at at-if1.if1.false))) at-decimal2.decimal2.ensures
 
 pub signed-spec : {M : Type 1} → statement M
 signed-spec =

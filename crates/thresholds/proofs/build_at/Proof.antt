@@ -1,11 +1,11 @@
 -- `thresholds::build_at` meets its contract. Assumes nothing.
-use Rattle.memory.specs.Limits.{maxNodes}
-use Rattle.memory.specs.Ranges.{rawLimit}
+use Rattle.memory.specs.Limits.{max_nodes}
+use Rattle.memory.specs.Ranges.{raw_limit}
 use Rattle.numeric.specs.Slices.{terms}
-use Rattle.row.specs.Terms.{rowTerms}
-use Rattle.row.specs.Keys.{conditionsOf, weightsOf}
+use Rattle.row.specs.Terms.{row_terms}
+use Rattle.row.specs.Keys.{conditions_of, weights_of}
 use Rattle.base.specs.Parts.{stretch}
-use Rattle.thresholds.specs.PlacedLaws.{stretch-small, splice-by, clear-part}
+use Rattle.thresholds.specs.PlacedLaws.{stretch_small, splice_by, clear_part}
 use Rattle.rows.specs.ListsLaws.{stretch-length}
 use mathlib.Core.Path.{◌≡◌, ap, ◌∙◌}
 use mathlib.Core.List.{List, ◌++◌}
@@ -41,8 +41,8 @@ build-row-requires c κs =
       omega (arith, lv, lc),
       omega (arith, lc, p.3, p.0),
       omega (arith, lc, p.3, p.0, ls, p.8),
-      stretch-small g.a g.e cs maxNodes p.6,
-      stretch-small g.a g.e ws rawLimit p.7,
+      stretch_small g.a g.e cs max_nodes p.6,
+      stretch_small g.a g.e ws raw_limit p.7,
     )
 
 returns : tie.Need-returns
@@ -52,7 +52,7 @@ returns c =
     let cs = g.raw-conditions.now in
     let ws = g.raw-weights.now in
     let lc = stretch-length g.a g.e cs p.1 in
-    let x = rowTerms (terms (stretch g.a g.e cs) (stretch g.a g.e ws)) in
+    let x = row_terms (terms (stretch g.a g.e cs) (stretch g.a g.e ws)) in
     let s = c.before.before.before.before.before.before.build-row.ensures in
     let at = g.at in
     let m = g.e - g.a in
@@ -61,10 +61,10 @@ returns c =
     let k = s.0 in (
       ap (λ (x : ℕ). at + x) k,
       omega (arith, n, k, lc),
-      splice-by at m (at + m - at) _ g.row-conditions.now _ (conditionsOf x) s.2 lc f,
-      splice-by at m (at + m - at) _ g.row-weights.now _ (weightsOf x) s.3 lc f,
+      splice_by at m (at + m - at) _ g.row-conditions.now _ (conditions_of x) s.2 lc f,
+      splice_by at m (at + m - at) _ g.row-weights.now _ (weights_of x) s.3 lc f,
       ap (λ (y : List ℕ). take 1024 g.scratch.now ++ (y ++ drop (length g.scratch.now - 1024) (drop 1024 g.scratch.now))) s.4
-          ∙ clear-part g.scratch.now 1024 (length (stretch g.a g.e cs)) (omega (arith, p.8)) p.9 (omega (arith, lc, p.3, p.0, p.8)),
+          ∙ clear_part g.scratch.now 1024 (length (stretch g.a g.e cs)) (omega (arith, p.8)) p.9 (omega (arith, lc, p.3, p.0, p.8)),
     )
 
 pub build-at-spec : {M : Type 1} → statement M

@@ -1,8 +1,8 @@
 -- `thresholds::build_row` meets its contract. Assumes nothing.
-use Rattle.thresholds.specs.PlacedLaws.{raw-by, laid-fits}
+use Rattle.thresholds.specs.PlacedLaws.{raw_by, laid-fits}
 use Rattle.sort.specs.Runs.{cleared}
-use Rattle.row.specs.Keys.{Raw, laid, conditionsOf, weightsOf}
-use Rattle.row.specs.Terms.{rowTerms}
+use Rattle.row.specs.Keys.{Raw, laid, conditions_of, weights_of}
+use Rattle.row.specs.Terms.{row_terms}
 use Rattle.numeric.specs.Threshold.{Term}
 use Rattle.numeric.specs.Slices.{terms}
 use mathlib.Core.Path.{subst, sym, ap, ap₂, ◌∙◌}
@@ -35,20 +35,20 @@ new-row-requires c κs =
       conditions = p.5;
       weights = p.6;
     } in
-    (raw-by _ _ _ _ k.0 k.1 r, subst (λ (n : ℕ). n ≤ length g.scratch.now) (sym (ap length k.0)) p.4)
+    (raw_by _ _ _ _ k.0 k.1 r, subst (λ (n : ℕ). n ≤ length g.scratch.now) (sym (ap length k.0)) p.4)
 
 returns : tie.Need-returns
 returns c =
     let g = (start_of (new-row-of c).before).args in
     let k = (copy-list-of (new-row-of c).before).copy-list.ensures in
     let s = (new-row-of c).new_row.ensures in
-    let a = s.1 ∙ ap₂ (λ (cs ws : List ℕ). laid (length cs) (conditionsOf (rowTerms (terms cs ws)))) k.0 k.1 in
-    let n = s.0 ∙ ap₂ (λ (cs ws : List ℕ). length (rowTerms (terms cs ws))) k.0 k.1 in (
+    let a = s.1 ∙ ap₂ (λ (cs ws : List ℕ). laid (length cs) (conditions_of (row_terms (terms cs ws)))) k.0 k.1 in
+    let n = s.0 ∙ ap₂ (λ (cs ws : List ℕ). length (row_terms (terms cs ws))) k.0 k.1 in (
       n,
       subst (λ (m : ℕ). m ≤ length g.raw-conditions.now) (sym n)
-          (laid-fits (λ (t : Term). t.condition) (rowTerms (terms g.raw-conditions.now g.raw-weights.now)) _ (length g.raw-conditions.now) a ((new-row-of c).new_row.auto.0 ∙ ap length k.0)),
+          (laid-fits (λ (t : Term). t.condition) (row_terms (terms g.raw-conditions.now g.raw-weights.now)) _ (length g.raw-conditions.now) a ((new-row-of c).new_row.auto.0 ∙ ap length k.0)),
       a,
-      s.2 ∙ ap₂ (λ (cs ws : List ℕ). laid (length cs) (weightsOf (rowTerms (terms cs ws)))) k.0 k.1,
+      s.2 ∙ ap₂ (λ (cs ws : List ℕ). laid (length cs) (weights_of (row_terms (terms cs ws)))) k.0 k.1,
       s.3 ∙ ap (λ (cs : List ℕ). cleared (length cs) g.scratch.now) k.0,
     )
 

@@ -1,5 +1,5 @@
 -- `thresholds::copy_list` meets its contract. Assumes nothing.
-use Rattle.base.specs.TallyLaws.{blend, blend-next, blend-all}
+use Rattle.base.specs.TallyLaws.{blend, blend_next, blend_all}
 use lib.ListN.{length-set, length, get_or, set}
 use mathlib.Core.Path.{◌≡◌, refl, ap, ◌∙◌}
 use mathlib.Core.List.{List}
@@ -39,8 +39,8 @@ loop-again c =
     let p = c.before.before.before.before.requires in
     let t = c.before.before.loop-test.true in (
       omega arith,
-      ap (λ (l : List ℕ). set l w.i (get_or g.raw-conditions.now w.i 0)) w.invariant.1 ∙ blend-next w.i g.raw-conditions.now g.row-conditions.now 0 t (omega (arith, p.1, t)),
-      ap (λ (l : List ℕ). set l w.i (get_or g.raw-weights.now w.i 0)) w.invariant.2 ∙ blend-next w.i g.raw-weights.now g.row-weights.now 0 (omega (arith, p.0, t)) (omega (arith, p.2, t)),
+      ap (λ (l : List ℕ). set l w.i (get_or g.raw-conditions.now w.i 0)) w.invariant.1 ∙ blend_next w.i g.raw-conditions.now g.row-conditions.now 0 t (omega (arith, p.1, t)),
+      ap (λ (l : List ℕ). set l w.i (get_or g.raw-weights.now w.i 0)) w.invariant.2 ∙ blend_next w.i g.raw-weights.now g.row-weights.now 0 (omega (arith, p.0, t)) (omega (arith, p.2, t)),
       simp length-set w.invariant.3,
       simp length-set w.invariant.4,
     )
@@ -57,8 +57,8 @@ returns c =
     let w = c.before.loop in
     let p = c.before.before.requires in
     let t = c.loop-test.false in (
-      w.invariant.1 ∙ blend-all w.i g.raw-conditions.now g.row-conditions.now t (omega (arith, p.1, t)),
-      w.invariant.2 ∙ blend-all w.i g.raw-weights.now g.row-weights.now (omega (arith, p.0, t)) (omega (arith, p.2, t)),
+      w.invariant.1 ∙ blend_all w.i g.raw-conditions.now g.row-conditions.now t (omega (arith, p.1, t)),
+      w.invariant.2 ∙ blend_all w.i g.raw-weights.now g.row-weights.now (omega (arith, p.0, t)) (omega (arith, p.2, t)),
     )
 
 pub copy-list-spec : {M : Type 1} → statement M

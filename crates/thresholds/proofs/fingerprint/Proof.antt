@@ -1,7 +1,7 @@
 -- `thresholds::fingerprint` meets its contract. Assumes nothing.
 use lib.Dec.{lit<}
 use native.Mathlib.Nat.{mod-lt}
-use Rattle.thresholds.specs.RawLaws.{mixed-next, mixed-done, fingerprint-of}
+use Rattle.thresholds.specs.RawLaws.{mixed_next, mixed_done, fingerprint_of}
 use Rattle.numeric.specs.Slices.{terms}
 use Rattle.thresholds.specs.Raw.{prints, mixed as mixedOf}
 use mathlib.Core.Path.{◌≡◌, refl, sym, ◌∙◌}
@@ -39,13 +39,13 @@ loop-again : tie.Need-loop-preserved invariant-loop decreases-loop
 loop-again c = let g = c.before.before.before.before.args in
     let w = c.before.before.before.loop in
     let p = c.before.before.before.before.requires in
-    (omega arith, mod-lt (w.mixed * 65599 + get_or g.conditions.now w.i 0 * 257 + get_or g.weights.now w.i 0) (lit< tt), sym (mixed-next g.conditions.now g.weights.now w.mixed w.i (omega arith) (omega arith)) ∙ w.invariant.2)
+    (omega arith, mod-lt (w.mixed * 65599 + get_or g.conditions.now w.i 0 * 257 + get_or g.weights.now w.i 0) (lit< tt), sym (mixed_next g.conditions.now g.weights.now w.mixed w.i (omega arith) (omega arith)) ∙ w.invariant.2)
 
 returns : tie.Need-returns invariant-loop decreases-loop
 returns c = let g = c.before.before.args in
     let w = c.before.loop in
-    mixed-done g.conditions.now g.weights.now w.mixed w.i c.loop-test.false
-    ∙ w.invariant.2 ∙ fingerprint-of g.conditions.now g.weights.now c.before.before.requires.1
+    mixed_done g.conditions.now g.weights.now w.mixed w.i c.loop-test.false
+    ∙ w.invariant.2 ∙ fingerprint_of g.conditions.now g.weights.now c.before.before.requires.1
 
 pub fingerprint-spec : {M : Type 1} → statement M
 fingerprint-spec =

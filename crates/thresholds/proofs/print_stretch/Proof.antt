@@ -1,7 +1,7 @@
 -- `thresholds::print_stretch` meets its contract. Assumes nothing.
 use native.Mathlib.Omega.{arith}
-use Rattle.memory.specs.Ranges.{rawLimit}
-use Rattle.thresholds.specs.PlacedLaws.{stretch-small}
+use Rattle.memory.specs.Ranges.{raw_limit}
+use Rattle.thresholds.specs.PlacedLaws.{stretch_small}
 use Rattle.rows.specs.ListsLaws.{stretch-length}
 use borrow.Author.Rules.{rules}
 use Rattle.thresholds.proofs.print_stretch.Statement.{statement}
@@ -16,7 +16,7 @@ fingerprint-requires c κs =
     let ws = g.raw-weights.now in
     let lc = stretch-length g.a g.e cs p.1 in
     let lw = stretch-length g.a g.e ws (omega (arith, p.1, p.3)) in
-    (omega (arith, lc, p.0, p.2), omega (arith, lw, lc), stretch-small g.a g.e ws rawLimit p.4)
+    (omega (arith, lc, p.0, p.2), omega (arith, lw, lc), stretch_small g.a g.e ws raw_limit p.4)
 
 pub print-stretch-spec : {M : Type 1} → statement M
 print-stretch-spec =

@@ -1,9 +1,9 @@
 -- `thresholds::word_at` meets its contract. Assumes nothing.
-use Rattle.base.specs.Parts.{endBy, start_by}
-use Rattle.rows.specs.ListsLaws.{list-is}
-use Rattle.memory.specs.Buffers.{rawLists}
-use Rattle.thresholds.specs.Tree.{wordAt}
-use Rattle.thresholds.specs.TreeLaws.{word-past, word-here}
+use Rattle.base.specs.Parts.{end_by, start_by}
+use Rattle.rows.specs.ListsLaws.{list_is}
+use Rattle.memory.specs.Buffers.{raw_lists}
+use Rattle.thresholds.specs.Tree.{word_at}
+use Rattle.thresholds.specs.TreeLaws.{word_past, word_here}
 use mathlib.Core.Path.{◌≡◌, sym, ap, ◌∙◌}
 use mathlib.Core.List.{List}
 use Rattle.numeric.specs.Threshold.{Term}
@@ -33,8 +33,8 @@ returns c =
     let p = s.pre in
     let a = c.before.before.start_of.ensures in
     let e = c.before.end_of.ensures in
-    sym (ap (λ (l : List Term). wordAt l g.p) (sym (list-is (rawLists g.raw-conditions.now g.raw-weights.now g.thresholds.now) g.t _ _ a e))
-    ∙ word-past g.raw-conditions.now g.raw-weights.now _ _ g.p p.0.weighed (omega (arith, p.0.inside g.t p.1)) c.if1.true)
+    sym (ap (λ (l : List Term). word_at l g.p) (sym (list_is (raw_lists g.raw-conditions.now g.raw-weights.now g.thresholds.now) g.t _ _ a e))
+    ∙ word_past g.raw-conditions.now g.raw-weights.now _ _ g.p p.0.weighed (omega (arith, p.0.inside g.t p.1)) c.if1.true)
 
 mul-result : tie.Need-overflow-mul-result
 mul-result c =
@@ -132,8 +132,8 @@ returns-2 c =
     let p = s.pre in
     let a = at.before.start_of.ensures in
     let e = at.end_of.ensures in
-    sym (ap (λ (l : List Term). wordAt l g.p) (sym (list-is (rawLists g.raw-conditions.now g.raw-weights.now g.thresholds.now) g.t _ _ a e))
-    ∙ word-here g.raw-conditions.now g.raw-weights.now _ _ g.p p.0.weighed (omega (arith, p.0.inside g.t p.1)) c.before.before.if1.false)
+    sym (ap (λ (l : List Term). word_at l g.p) (sym (list_is (raw_lists g.raw-conditions.now g.raw-weights.now g.thresholds.now) g.t _ _ a e))
+    ∙ word_here g.raw-conditions.now g.raw-weights.now _ _ g.p p.0.weighed (omega (arith, p.0.inside g.t p.1)) c.before.before.if1.false)
 
 pub word-at-spec : {M : Type 1} → statement M
 word-at-spec =

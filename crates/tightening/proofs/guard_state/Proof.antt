@@ -3,7 +3,7 @@ use mathlib.Core.Path.{◌≡◌, sym, ◌∙◌}
 use mir.Syntax.{w64}
 use mir.Val.{to_z, of_z}
 use borrow.Author.Rules.{rules}
-use Rattle.tightening.specs.ToldLaws.{guard-raises, guard-reached, guard-lowers, guard-limited}
+use Rattle.tightening.specs.ToldLaws.{guard_raises, guard-reached, guard_lowers, guard-limited}
 use Rattle.tightening.proofs.guard_state.Statement.{statement}
 use Rattle.tightening.proofs.guard_state.Tie as tie
 
@@ -11,7 +11,7 @@ returns : tie.Need-returns
 returns c =
     let a = c.before.before.before.before.args in
     let hb : to_z w64 (of_z w64 a.bound) ≡ a.bound = search rules in
-    guard-raises a.state a.value a.bound c.before.before.before.if1.true (sym (simp hb at c.before.before.needs-lower.ensures) ∙ c.before.if2.true) c.tighten.result
+    guard_raises a.state a.value a.bound c.before.before.before.if1.true (sym (simp hb at c.before.before.needs-lower.ensures) ∙ c.before.if2.true) c.tighten.result
     (simp hb at c.tighten.ensures)
 
 returns-2 : tie.Need-returns-2
@@ -24,13 +24,13 @@ returns-3 : tie.Need-returns-3
 returns-3 c =
     let a = c.before.before.before.args in
     let hb : to_z w64 (of_z w64 a.bound) ≡ a.bound = search rules in
-    guard-limited a.state a.value a.bound c.before.before.if1.false (sym (simp hb at c.before.upper-at-most.ensures) ∙ c.if3.true)
+    guard-limited a.state a.value a.bound c.before.before.if1.false (sym (simp hb at c.before.upper_at-most.ensures) ∙ c.if3.true)
 
 returns-4 : tie.Need-returns-4
 returns-4 c =
     let a = c.before.before.before.before.args in
     let hb : to_z w64 (of_z w64 a.bound) ≡ a.bound = search rules in
-    guard-lowers a.state a.value a.bound c.before.before.before.if1.false (sym (simp hb at c.before.before.upper-at-most.ensures) ∙ c.before.if3.false) c.tighten2.result
+    guard_lowers a.state a.value a.bound c.before.before.before.if1.false (sym (simp hb at c.before.before.upper_at-most.ensures) ∙ c.before.if3.false) c.tighten2.result
     (simp hb at c.tighten2.ensures)
 
 pub guard-state-spec : {M : Type 1} → statement M

@@ -35,11 +35,11 @@ use denote.Triple.Spec.{Meets, triple_of}
 use denote.Triple.Table.{entered, cited}
 use denote.Triple.Walked.{says, Stays, stay_none, walk_of, Goes-none, Walks, ends_at, walked, walk_Meets}
 use denote.Exit.{yes}
-use Rattle.state.specs.State.{withLower}
+use Rattle.state.specs.State.{with_lower}
 use Rattle.state.specs.declared.State.{State}
 use Rattle.state.specs.contracts.State as T
 use Rattle.state.proofs.State.TheLaws as T'
-use Rattle.state.proofs.Alters.{val, vals, num, withLimit}
+use Rattle.state.proofs.Alters.{val, vals, num, with_limit}
 use Rattle.state.proofs.Lends.{Altering, lends}
 use Rattle.state.proofs.raise_lower.Symbol as raise
 use Rattle.state.proofs.raise_lower.Symbol.{name as #state·raise-lower}
@@ -53,7 +53,7 @@ use Rattle.tightening.proofs.tighten.Statement as stated
 use Rattle.tightening.proofs.tighten.Code as code
 
 abbrev told : State → Bool → ℤ → State
-told s y b = cond y (withLower s b) (withLimit s b)
+told s y b = cond y (with_lower s b) (with_limit s b)
 
 abbrev stayed : Stays (f.ended).signature.params (f.ended).kept
 stayed = (stay_none (λ _. T.the_row) yes, (stay_none (λ _. Boolean) yes, (stay_none (λ _. i64) yes, tt)))
@@ -98,7 +98,7 @@ module _ {M : Type 1} {𝓤 : Ura M} (𝓛 : Logic 𝓤) (at_mem : Memory → SP
         returns ! (look ! 18 refl) $ forget ! 0 refl $ forget ! 18 refl $ move ! (18 ∷ 19 ∷ 16 ∷ 17 ∷ 14 ∷ 15 ∷ 12 ∷ 13 ∷ 0 ∷ 11 ∷ 9 ∷ 10 ∷ 7 ∷ 8 ∷ 5 ∷ 6 ∷ 3 ∷ 4 ∷ []) $
         free1 ! $ free1 ! $ free1 ! $ free1 ! $ free1 ! $ free1 ! $ free1 ! $ free1 ! $ free1 ! $ free1 ! $ free0 ! $ by ! (exits r made e)
 
-  module _ (C : Calls 𝓤 H) (Λ : Loops 𝓤 H) (fm : FmC 𝓤 H 𝓛.laws C) (raising : Triple 𝓤 (C #state·raise-lower) (Altering 𝓛 withLower)) (lowering : Triple 𝓤 (C #state·lower-upper) (Altering 𝓛 withLimit)) where
+  module _ (C : Calls 𝓤 H) (Λ : Loops 𝓤 H) (fm : FmC 𝓤 H 𝓛.laws C) (raising : Triple 𝓤 (C #state·raise-lower) (Altering 𝓛 with_lower)) (lowering : Triple 𝓤 (C #state·lower-upper) (Altering 𝓛 with_limit)) where
     walk : ent 𝓤 (on_entry 𝓛 f.signature tt tt x at) (WpFn 𝓤 H C Λ code.function (val s ∷ vbool y ∷ num z ∷ []) Ends)
     walk =
         qed 𝓛 (raw (on_entry 𝓛 f.signature tt tt x at) ∷ []) ∵ drop ! $ enter ! C Λ code.function (val s ∷ vbool y ∷ num z ∷ []) _ $
@@ -109,22 +109,22 @@ module _ {M : Type 1} {𝓤 : Ura M} (𝓛 : Logic 𝓤) (at_mem : Memory → SP
         assigns ! (of_opd ! (load ! (from ! (stop !)) (look ! 14 refl))) (from ! (stop !)) (init ! 8 refl (tt, tt)) $ forget ! 14 refl $
         first ! $ branches ! (load ! (from ! (stop !)) (look ! 8 refl))
         (λ held. forget ! 8 refl $ assigns ! (addr ! (from ! (stop !))) (from ! (stop !)) (init ! 4 refl (tt, tt)) $ move ! (10 ∷ []) $
-        lends ! fm withLower raising l₄ s z is fits (λ i j. and_then ! (load ! (from ! (stop !)) (look ! 6 refl)) (and_then ! (load ! (from ! (stop !)) (look ! 13 refl)) (no_more !))) (λ made.
-        land_last ! (from ! (stop !)) (init ! 7 refl (tt, tt)) $ forget ! 5 refl $ forget ! 7 refl $ forget ! 12 refl $ ends C Λ l₀ l₁ l₂ l₃ l₄ l₅ l₆ l₇ l₈ l₉ (withLower s z) made (ap (λ (t : Bool). told s t z) (sym (is_true y held)))))
+        lends ! fm with_lower raising l₄ s z is fits (λ i j. and_then ! (load ! (from ! (stop !)) (look ! 6 refl)) (and_then ! (load ! (from ! (stop !)) (look ! 13 refl)) (no_more !))) (λ made.
+        land_last ! (from ! (stop !)) (init ! 7 refl (tt, tt)) $ forget ! 5 refl $ forget ! 7 refl $ forget ! 12 refl $ ends C Λ l₀ l₁ l₂ l₃ l₄ l₅ l₆ l₇ l₈ l₉ (with_lower s z) made (ap (λ (t : Bool). told s t z) (sym (is_true y held)))))
         (λ failed. forget ! 8 refl $ assigns ! (addr ! (from ! (stop !))) (from ! (stop !)) (init ! 0 refl (tt, tt)) $ move ! (10 ∷ []) $
-        lends ! fm withLimit lowering l₄ s z is fits (λ i j. and_then ! (load ! (from ! (stop !)) (look ! 2 refl)) (and_then ! (load ! (from ! (stop !)) (look ! 13 refl)) (no_more !))) (λ made.
-        land_last ! (from ! (stop !)) (init ! 3 refl (tt, tt)) $ forget ! 1 refl $ forget ! 3 refl $ forget ! 12 refl $ ends C Λ l₀ l₁ l₂ l₃ l₄ l₅ l₆ l₇ l₈ l₉ (withLimit s z) made (ap (λ (t : Bool). told s t z) (sym (is_false y failed)))))))))))))))
+        lends ! fm with_limit lowering l₄ s z is fits (λ i j. and_then ! (load ! (from ! (stop !)) (look ! 2 refl)) (and_then ! (load ! (from ! (stop !)) (look ! 13 refl)) (no_more !))) (λ made.
+        land_last ! (from ! (stop !)) (init ! 3 refl (tt, tt)) $ forget ! 1 refl $ forget ! 3 refl $ forget ! 12 refl $ ends C Λ l₀ l₁ l₂ l₃ l₄ l₅ l₆ l₇ l₈ l₉ (with_limit s z) made (ap (λ (t : Bool). told s t z) (sym (is_false y failed)))))))))))))))
 
 module _ {M : Type 1} {𝓤 : Ura M} (𝓛 : Logic 𝓤) (at_mem : Memory → SProp 𝓤) (run : Routine → Fun 𝓤) where
   open 𝓛 use {H}
 
-  tighten-walks : (C : Calls 𝓤 H) (Λ : Loops 𝓤 H) → FmC 𝓤 H 𝓛.laws C → Triple 𝓤 (C #state·raise-lower) (Altering 𝓛 withLower) → Triple 𝓤 (C #state·lower-upper) (Altering 𝓛 withLimit)
+  tighten-walks : (C : Calls 𝓤 H) (Λ : Loops 𝓤 H) → FmC 𝓤 H 𝓛.laws C → Triple 𝓤 (C #state·raise-lower) (Altering 𝓛 with_lower) → Triple 𝓤 (C #state·lower-upper) (Altering 𝓛 with_limit)
       → Walks 𝓛 f.ended stayed (WpFn 𝓤 H C Λ code.function) (f.clauses 𝓛 at_mem run)
   tighten-walks C Λ fm raising lowering =
       walked 𝓛 f.ended stayed (f.clauses 𝓛 at_mem run) (WpFn 𝓤 H C Λ code.function) (λ κs. (vals, (bool_vals, (sint_vals w64, tt)))) (λ κs. (LL.tells T.the_type T'.the_laws, (bool_Tells, (sint_Tells w64, tt))))
       (λ κs qs bounds a g are. via 𝓤 _ (fst∗ 𝓤 _ (emp 𝓤)) (walk 𝓛 at_mem run a.0 a.1.0 a.1.1.0 are.0 are.1.1.0.1 C Λ fm raising lowering))
 
-  tighten-meets : (𝓣 : Tables 𝓤 H) → Triple 𝓤 (𝓣.C #state·raise-lower) (Altering 𝓛 withLower) → Triple 𝓤 (𝓣.C #state·lower-upper) (Altering 𝓛 withLimit)
+  tighten-meets : (𝓣 : Tables 𝓤 H) → Triple 𝓤 (𝓣.C #state·raise-lower) (Altering 𝓛 with_lower) → Triple 𝓤 (𝓣.C #state·lower-upper) (Altering 𝓛 with_limit)
       → Meets 𝓛 f.signature (WpFn 𝓤 H 𝓣.C 𝓣.Λ code.function) (f.spec 𝓛 at_mem run)
   tighten-meets 𝓣 raising lowering =
       walk_Meets 𝓛 f.ended stayed
@@ -137,5 +137,5 @@ tighten-spec 𝓤 𝓛 𝓜 𝓡 =
     entered 𝓤 𝓛.H (triple_of 𝓛 f.signature (f.spec 𝓛 𝓜.mem 𝓡.run))
     (tables 𝓤 𝓛.H 𝓜 𝓡 code.env).C (tables 𝓤 𝓛.H 𝓜 𝓡 code.env).Λ #propagate·tighten code.function (code.unfolded 𝓤 𝓛.H 𝓜 𝓡)
     (tighten-meets 𝓛 𝓜.mem 𝓡.run (tables_of 𝓤 𝓛.H 𝓜 (tables 𝓤 𝓛.H 𝓜 𝓡 code.env))
-    (cited 𝓤 𝓛.H (Altering 𝓛 withLower) 𝓜 𝓡 code.env #state·raise-lower raise.routine code.calls-state::raise-lower (raises.met 𝓤 𝓛 𝓜 𝓡))
-    (cited 𝓤 𝓛.H (Altering 𝓛 withLimit) 𝓜 𝓡 code.env #state·lower-upper lower.routine code.calls-state::lower-upper (lowers.met 𝓤 𝓛 𝓜 𝓡)))
+    (cited 𝓤 𝓛.H (Altering 𝓛 with_lower) 𝓜 𝓡 code.env #state·raise-lower raise.routine code.calls-state::raise-lower (raises.met 𝓤 𝓛 𝓜 𝓡))
+    (cited 𝓤 𝓛.H (Altering 𝓛 with_limit) 𝓜 𝓡 code.env #state·lower-upper lower.routine code.calls-state::lower-upper (lowers.met 𝓤 𝓛 𝓜 𝓡)))

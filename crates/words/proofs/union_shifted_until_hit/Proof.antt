@@ -6,15 +6,15 @@ use Prim.Native.Nat.{ℕ, ◌-◌, ◌/◌, ◌≤◌}
 use native.Mathlib.Omega.{arith}
 use lib.ListN.{length}
 use borrow.Author.Rules.{rules}
-use Rattle.words.specs.Shift.{Shifted, shiftFrom, unionShifted}
-use Rattle.words.specs.ShiftStepsLaws.{length_shift, from-none, from-stopped, from-hit, from_next, from_start}
+use Rattle.words.specs.Shift.{Shifted, shift_from, union_shifted}
+use Rattle.words.specs.ShiftStepsLaws.{length_shift, from_none, from_stopped, from_hit, from_next, from_start}
 use Rattle.words.proofs.union_shifted_until_hit.Statement.{statement}
 use Rattle.words.proofs.union_shifted_until_hit.Tie as tie
 
 abbrev invariant-loop : tie.invariant-loop
 invariant-loop words₀ source-words shift start end allowance source₀ left₀ words source left =
     (length words ≡ length words₀) × (source ≤ length words₀ - shift / 64)
-    × (shiftFrom shift start end source words left ≡ unionShifted words₀ source-words shift start end allowance)
+    × (shift_from shift start end source words left ≡ union_shifted words₀ source-words shift start end allowance)
 
 abbrev decreases-loop : tie.decreases-loop
 decreases-loop words₀ source-words shift start end allowance source₀ left₀ words source left = source
@@ -37,7 +37,7 @@ returns : tie.Need-returns invariant-loop decreases-loop
 returns c =
     let g = (start_of c.before).args in
     let w = c.before.before.loop in
-    let e = sym w.invariant.2 ∙ from-stopped g.shift g.start g.end w.words w.source w.left c.before.loop-test.true c.if1.true in
+    let e = sym w.invariant.2 ∙ from_stopped g.shift g.start g.end w.words w.source w.left c.before.loop-test.true c.if1.true in
     (ap (λ (x : Shifted). x.words) (sym e), ap (λ (x : Shifted). x.ended) (sym e))
 
 returns-2 : tie.Need-returns-2 invariant-loop decreases-loop
@@ -46,7 +46,7 @@ returns-2 c =
     let w = (loop-of c.before.before.before).loop in
     let k = c.before.before.before.shift_word.ensures in
     let e = sym w.inv.2
-    ∙ from-hit g.shift g.start g.end w.words w.source w.left c.before.before.before.shift_word.result c.before.before.before.before.before.before.loop-test.true
+    ∙ from_hit g.shift g.start g.end w.words w.source w.left c.before.before.before.shift_word.result c.before.before.before.before.before.before.loop-test.true
     c.before.before.before.before.before.if1.false k.1 c.if2.true in
     (k.0 ∙ ap (λ (x : Shifted). x.words) (sym e), ap (λ (x : Shifted). x.ended) (sym e))
 
@@ -57,7 +57,7 @@ loop-again c =
     let k = c.before.before.before.shift_word.ensures in (
       ap length k.0 ∙ length_shift w.words (w.source - 1) g.shift ∙ w.inv.0,
       search rules,
-      ap (λ (l : List ℕ). shiftFrom g.shift g.start g.end (w.source - 1) l (w.left - 1)) k.0
+      ap (λ (l : List ℕ). shift_from g.shift g.start g.end (w.source - 1) l (w.left - 1)) k.0
           ∙ sym (from_next g.shift g.start g.end w.words w.source w.left c.before.before.before.shift_word.result c.before.before.before.before.before.before.loop-test.true
           c.before.before.before.before.before.if1.false k.1 c.if2.false)
           ∙ w.inv.2,
@@ -67,7 +67,7 @@ returns-3 : tie.Need-returns-3 invariant-loop decreases-loop
 returns-3 c =
     let g = c.before.before.before.before.args in
     let w = c.before.loop in
-    let e = sym w.invariant.2 ∙ from-none g.shift g.start g.end w.words w.source w.left (omega arith) in
+    let e = sym w.invariant.2 ∙ from_none g.shift g.start g.end w.words w.source w.left (omega arith) in
     (ap (λ (x : Shifted). x.words) (sym e), ap (λ (x : Shifted). x.ended) (sym e))
 
 pub union-shifted-until-hit-spec : {M : Type 1} → statement M

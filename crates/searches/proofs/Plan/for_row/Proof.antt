@@ -13,12 +13,12 @@ use borrow.Author.Rules.{rules}
 use borrow.Author.Tests.{not-true, not-false}
 use Rattle.numeric.specs.Slices.{terms}
 use Rattle.numeric.specs.TermsLaws.{length-terms}
-use Rattle.base.specs.SignedLaws.{leZ-nlt, nle-ltZ}
+use Rattle.base.specs.SignedLaws.{le_z-nlt, nle-lt_z}
 use Rattle.base.specs.Signed.{natural}
 use Rattle.state.specs.declared.Upper.{Upper}
-use Rattle.state.specs.State.{limit, hasResidualInterval}
-use Rattle.rows.specs.Rows.{hasNonunit}
-use Rattle.searches.specs.SearchStepsLaws.{plan-unit, plan-wide, plan-reached, not-planned, is-planned, open-wide, lower-known, limit-known, last-known}
+use Rattle.state.specs.State.{limit, has_residual_interval}
+use Rattle.rows.specs.Rows.{has_nonunit}
+use Rattle.searches.specs.SearchStepsLaws.{plan-unit, plan_wide, plan-reached, not-planned, is_planned, open_wide, lower_known, limit-known, last_known}
 use Rattle.searches.proofs.Plan.for_row.Statement.{statement}
 use Rattle.searches.proofs.Plan.for_row.Tie as tie
 
@@ -71,18 +71,18 @@ has-residual-interval-requires : tie.Need-has-residual-interval-requires
 has-residual-interval-requires c κs = search rules
 
 -- The first test was met.
-heavy : (c : tie.Else1) → hasNonunit (terms c.before.before.before.before.args.conditions.now c.before.before.before.before.args.weights.now) ≡ true
+heavy : (c : tie.Else1) → has_nonunit (terms c.before.before.before.before.args.conditions.now c.before.before.before.before.args.weights.now) ≡ true
 heavy c = sym c.before.has-nonunit.ensures ∙ not-false c.before.has-nonunit.result c.if1.false
 
 returns-2 : tie.Need-returns-2
 returns-2 c =
     let g = c.before.before.before.before.before.before.args in
     sym
-    (plan-wide (terms g.conditions.now g.weights.now) g.state (heavy c.before.before)
+    (plan_wide (terms g.conditions.now g.weights.now) g.state (heavy c.before.before)
     (sym c.before.has-residual-interval.ensures ∙ not-true c.before.has-residual-interval.result c.if2.true))
 
 -- And the second.
-cut : (c : tie.Else2) → hasResidualInterval c.before.before.before.before.before.before.args.state ≡ true
+cut : (c : tie.Else2) → has_residual_interval c.before.before.before.before.before.before.args.state ≡ true
 cut c = sym c.before.has-residual-interval.ensures ∙ not-false c.before.has-residual-interval.result c.if2.false
 
 enum-known-upper : tie.Need-enum-known-upper
@@ -94,7 +94,7 @@ enum_told c = search rules
 returns-3 : tie.Need-returns-3
 returns-3 c =
     let g = (start_of c).args in
-    sym (plan-wide (terms g.conditions.now g.weights.now) g.state (heavy c.before.before.before.before) (open-wide g.state c.enum_told.given.1))
+    sym (plan_wide (terms g.conditions.now g.weights.now) g.state (heavy c.before.before.before.before) (open_wide g.state c.enum_told.given.1))
 
 returns-4 : tie.Need-returns-4
 returns-4 c =
@@ -105,7 +105,7 @@ returns-4 c =
     let hb : to_z w64 (of_z w64 e.0.0) ≡ e.0.0 = search rules in
     sym
     (plan-reached (terms g.conditions.now g.weights.now) s (heavy (else1-of c)) (cut c.before.before.before.before.before)
-    (subst (λ (u : Upper). lt_z s.known (limit u) ≡ false) (sym e.1) (leZ-nlt s.known e.0.0 (simp (hk, hb) at c.if3.true))))
+    (subst (λ (u : Upper). lt_z s.known (limit u) ≡ false) (sym e.1) (le_z-nlt s.known e.0.0 (simp (hk, hb) at c.if3.true))))
 
 sub-natural : tie.Need-overflow-sub-natural
 sub-natural c =
@@ -114,7 +114,7 @@ sub-natural c =
     let hk : to_z w64 (of_z w64 s.known) ≡ s.known = search rules in
     let hb : to_z w64 (of_z w64 e.0.0) ≡ e.0.0 = search rules in
     let hl : to_z w64 (of_z w64 s.lower) ≡ s.lower = search rules in
-    simp (hk, hl) (lower-known s e.0.0 (start-of-struct-told2 c).requires.2 e.1)
+    simp (hk, hl) (lower_known s e.0.0 (start-of-struct-told2 c).requires.2 e.1)
 
 natural-requires : tie.Need-natural-requires
 natural-requires c κs = search rules
@@ -134,7 +134,7 @@ sub-natural-3 c =
     let hk : to_z w64 (of_z w64 s.known) ≡ s.known = search rules in
     let hb : to_z w64 (of_z w64 e.0.0) ≡ e.0.0 = search rules in
     let hd = to_z-of_z (limit-known s e.0.0 (start-of-natural c).requires.2 e.1) in
-    simp (hk, hb, hd) (last-known s e.0.0 (start-of-natural c).requires.2 e.1)
+    simp (hk, hb, hd) (last_known s e.0.0 (start-of-natural c).requires.2 e.1)
 
 natural-requires-2 : tie.Need-natural-requires-2
 natural-requires-2 c κs = search rules
@@ -149,8 +149,8 @@ add-if4 : tie.Need-overflow-add-if4
 add-if4 c = omega arith
 
 -- Every test but the last was met, and the numbers are the window's.
-numbers : (c : tie.After-natural2) → (hasNonunit (terms (start-of-natural2 c).args.conditions.now (start-of-natural2 c).args.weights.now) ≡ true)
-    × (hasResidualInterval (start-of-natural2 c).args.state ≡ true)
+numbers : (c : tie.After-natural2) → (has_nonunit (terms (start-of-natural2 c).args.conditions.now (start-of-natural2 c).args.weights.now) ≡ true)
+    × (has_residual_interval (start-of-natural2 c).args.state ≡ true)
     × (lt_z (start-of-natural2 c).args.state.known (limit (start-of-natural2 c).args.state.upper) ≡ true)
     × (c.before.natural.result ≡ natural ((start-of-natural2 c).args.state.lower -ℤ (start-of-natural2 c).args.state.known))
     × (c.natural2.result ≡ natural (limit (start-of-natural2 c).args.state.upper -ℤ (start-of-natural2 c).args.state.known -ℤ pos 1))
@@ -163,12 +163,12 @@ numbers c =
     let hk : to_z w64 (of_z w64 s.known) ≡ s.known = search rules in
     let hb : to_z w64 (of_z w64 e.0.0) ≡ e.0.0 = search rules in
     let hl : to_z w64 (of_z w64 s.lower) ≡ s.lower = search rules in
-    let hd = to_z-of_z (lower-known s e.0.0 p.2 e.1) in
+    let hd = to_z-of_z (lower_known s e.0.0 p.2 e.1) in
     let hm = to_z-of_z (limit-known s e.0.0 p.2 e.1) in
-    let hn = to_z-of_z (last-known s e.0.0 p.2 e.1) in (
+    let hn = to_z-of_z (last_known s e.0.0 p.2 e.1) in (
       heavy (else1-of-natural2 c),
       cut (else2-of c),
-      subst (λ (u : Upper). lt_z s.known (limit u) ≡ true) (sym e.1) (nle-ltZ s.known e.0.0 (simp (hk, hb) at c.before.before.before.before.if3.false)),
+      subst (λ (u : Upper). lt_z s.known (limit u) ≡ true) (sym e.1) (nle-lt_z s.known e.0.0 (simp (hk, hb) at c.before.before.before.before.if3.false)),
       simp (hk, hl, hd) at c.before.natural.ensures,
       simp (hk, hb, hm, hn) at c.natural2.ensures ∙ ap (λ (u : Upper). natural (limit u -ℤ s.known -ℤ pos 1)) (sym e.1),
       omega (arith, length-terms g.conditions.now g.weights.now, p.0),
@@ -187,7 +187,7 @@ returns-6 c =
     let n = numbers c.before in
     let g = (start-of-else4 c).args in
     sym
-    (is-planned (terms g.conditions.now g.weights.now) g.state n.0 n.1 n.2 c.before.before.natural.result c.before.natural2.result (length g.weights.now)
+    (is_planned (terms g.conditions.now g.weights.now) g.state n.0 n.1 n.2 c.before.before.natural.result c.before.natural2.result (length g.weights.now)
     n.3 n.4 n.5 (omega (arith, c.if4.false)))
 
 pub for-row-spec : {M : Type 1} → statement M
