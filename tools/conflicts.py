@@ -18,15 +18,15 @@ def conflicts(rows, figures, value):
     lowers, uppers = [], []
     for number, (row, (_, _, lower, upper)) in enumerate(zip(rows, figures)):
         said = [Need(bound, number, node) for bound, node in row.guards if value(node) is True]
-        lowers.append(max([*said, Need(lower, number, None)], key=bound_of_lem))
+        lowers.append(max([*said, Need(lower, number, None)], key=bound_of))
         said = [Need(bound, number, node) for bound, node in row.guards if value(node) is False]
-        uppers.append(min(said + [Need(upper, number, None)] * (upper is not None), key=bound_of_lem, default=None))
+        uppers.append(min(said + [Need(upper, number, None)] * (upper is not None), key=bound_of, default=None))
     lowers, uppers = handed_on(beginnings(rows), lowers, uppers)
     found = (conflict(number, row, value, lowers[number], uppers[number]) for number, row in enumerate(rows))
     return [one for one in found if one]
 
 
-def bound_of_lem(need):
+def bound_of(need):
     return need.bound
 
 
@@ -47,8 +47,8 @@ def handed_on(begin, lowers, uppers):
     below = list(uppers)
     for number, others in enumerate(begin):
         for other in others if uppers[number] else []:
-            below[other] = min(filter(None, (below[other], uppers[number])), key=bound_of_lem)
-    return [max((lowers[other] for other in [number, *others]), key=bound_of_lem) for number, others in enumerate(begin)], below
+            below[other] = min(filter(None, (below[other], uppers[number])), key=bound_of)
+    return [max((lowers[other] for other in [number, *others]), key=bound_of) for number, others in enumerate(begin)], below
 
 
 def conflict(number, row, value, lower, upper):

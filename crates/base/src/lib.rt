@@ -1,4 +1,6 @@
 // What every crate above stands on: laws of lists, tests and signed numbers (specs/), and `natural`.
+#![tactic(auto)]
+
 ghost use Rattle.std.specs.Prelude.{◌≡◌};
 ghost use Rattle.base.specs.Signed.{natural as naturalOf};
 

@@ -1,5 +1,6 @@
 // What a row is told and hands on, over the buffers: `threshold_guard` of propagate.rs, `threshold_prefixes` of prefixes.rs.
 // The definitions and their laws are those of `between`.
+#![tactic(auto)]
 ghost use Rattle.std.specs.Prelude.{◌≡◌, ◌-◌, ◌<◌, ◌≤◌, length, get_or, set, pos};
 ghost use Rattle.std.specs.Int.Signed.{mag};
 ghost use Rattle.memory.specs.Buffers.{held_rows};
@@ -147,7 +148,7 @@ fn threshold_guard(
 }
 
 // The bound of a threshold, counted from 1.
-fn bound_of_lem(bounds: &[i64], t: usize) -> i64
+fn bound_of(bounds: &[i64], t: usize) -> i64
     requires { (0 < t) × (t ≤ length bounds.now) }
     ensures { result ≡ get_or bounds.now (t - 1) (pos 0) }
 {
@@ -190,7 +191,7 @@ pub fn guard_at(
         };
     }
     let row = rows::row_of_node(nodes, node);
-    let bound = bound_of_lem(bounds, t);
+    let bound = bound_of(bounds, t);
     let links = rows::links_count(rows, row);
     threshold_guard(
         row_conditions,

@@ -1,4 +1,5 @@
 // The first check that refuses a record, and the record that comes next with it.
+#![tactic(auto)]
 ghost use Rattle.std.specs.Prelude.{◌≡◌, ◌+◌, ◌<◌, length, true, [], ◌∷◌};
 ghost use Rattle.records.specs.declared.Record.TheVariants.{Adds};
 ghost use Rattle.records.specs.Facts.{building, within, ofTerms, action};
@@ -8,7 +9,7 @@ ghost use Rattle.checks.specs.Next.{closing, next_at, EntryNext};
 use records::{Record, Standing};
 
 // The record at an offset, or the number that refuses it.
-#[derive(Drop)]
+#[derive(Clone, Copy)]
 pub enum Next {
     Refused(u8),
     Taken(Record),

@@ -1,10 +1,11 @@
 // The whole file: records, refusals, answers, and the lent buffers.
+#![tactic(auto)]
 use records::Standing;
 use state::Step;
 
 // What the call gives back: the number of the refusal (0 for none) and its offset; whether the job is sealed, its nodes and rows; the last
 // step, and how many answers there are.
-#[derive(Drop)]
+#[derive(Clone, Copy)]
 pub struct Given {
     pub refused: u8,
     pub at: usize,
@@ -16,7 +17,7 @@ pub struct Given {
 }
 
 // Where reading a job ended: the offset, the number of the refusal (0 for none), whether a seal is next, and what the checks read then.
-#[derive(Drop)]
+#[derive(Clone, Copy)]
 pub struct JobRead {
     pub at: usize,
     pub refusal: u8,

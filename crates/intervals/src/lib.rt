@@ -1,4 +1,5 @@
 // The interval that a row's undecided sums must meet, and its check by divisors, as values; the tests that its code makes.
+#![tactic(auto)]
 ghost use Rattle.std.specs.Prelude.{◌≡◌, ◌+◌, ◌-◌, ◌^◌, ◌<◌, false, ◌&&◌, eqb, leb};
 ghost use Rattle.base.specs.Signed.{natural as naturalOf};
 ghost use Rattle.state.specs.State.{limit};
@@ -10,7 +11,7 @@ use state::{State, Upper};
 
 // The figures of a row with a residual interval, none of them negative. `upper` is the last sum allowed, `width` the number
 // of sums allowed.
-#[derive(Drop)]
+#[derive(Clone, Copy)]
 pub struct Interval {
     pub known: u64,
     pub possible: u64,

@@ -1,4 +1,5 @@
 // The library for programs in other languages: the call and its listing, exported for C. Neither requires anything of its caller.
+#![tactic(auto)]
 ghost use Rattle.std.specs.Prelude.{◌≡◌, cond};
 ghost use Rattle.memory.specs.Buffers.{raw_lists, raw, held_rows, built, kept, work};
 ghost use Rattle.files.specs.Contents.{whole};
@@ -7,7 +8,7 @@ ghost use Rattle.library.specs.Library.{export, exported, Lists};
 // What the call gives back, in numbers, so that every value of every byte is one: the refusal (0 for none) and its offset; the last step; 1
 // if the job is sealed, its nodes and rows, and how many answers there are.
 #[repr(C)]
-#[derive(Drop)]
+#[derive(Clone, Copy)]
 pub struct Numbers {
     pub refused: u8,
     pub last: u8,

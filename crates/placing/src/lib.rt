@@ -1,4 +1,5 @@
 // Rows placed one threshold after the other: each finds a row with its raw list, or makes one.
+#![tactic(auto)]
 ghost use Rattle.std.specs.Prelude.{◌≡◌, ◌+◌, ◌-◌, ◌/◌, ◌%◌, ◌<◌, ◌≤◌, length, take, set, get_or};
 ghost use Rattle.base.specs.Laid.{over};
 ghost use Rattle.rows.specs.Guards.{node_at, NodesIn};
@@ -16,7 +17,7 @@ use thresholds::{Found, build_at, class_of, find_row, print_of, with_link};
 const SHORTS: u64 = 2097152;
 
 // How many rows there are, and where their terms end.
-#[derive(Drop)]
+#[derive(Clone, Copy)]
 pub struct Extent {
     pub rows: usize,
     pub end: usize,

@@ -1,5 +1,6 @@
 // The planner: reads a job file from standard input, plans it and writes its listing to standard output. On standard error it says in
 // words what the listing does not show.
+#![tactic(auto)]
 ghost use Rattle.std.specs.Prelude.{◌<◌, ◌≤◌, ◌≡◌, false, length};
 ghost use Rattle.memory.specs.Buffers.{longest_input};
 ghost use Rattle.files.specs.Listing.{max_listing};
@@ -11,7 +12,7 @@ use libc::{STDERR_FILENO, STDIN_FILENO, STDOUT_FILENO};
 // ---- reading
 
 // What one read gave: so many bytes, the end of the input, or a failure.
-#[derive(Drop)]
+#[derive(Clone, Copy)]
 enum Chunk {
     Bytes(usize),
     End,
@@ -33,7 +34,7 @@ fn read_some(into: &mut [u8]) -> Chunk
 }
 
 // How reading ended: the input did, after so many bytes; no room is left after so many; or a read failed.
-#[derive(Drop)]
+#[derive(Clone, Copy)]
 enum Input {
     Ended(usize),
     Full(usize),

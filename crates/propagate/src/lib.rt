@@ -1,4 +1,5 @@
 // One row run once: propagate.rs on the state of a row, its guards and its terms.
+#![tactic(auto)]
 ghost use Rattle.std.specs.Prelude.{◌≡◌, true, false, not, ◌&&◌, ◌+◌, ◌-◌, ◌<◌, ◌≤◌, ◌^◌, length, drop, List};
 ghost use Rattle.numeric.specs.Threshold.{Term};
 ghost use Rattle.numeric.specs.Slices.{terms};
@@ -20,7 +21,7 @@ use row_runs::Cutoff;
 use state::{State, Step, Upper};
 
 // A scan of a row's guards or terms so far: the places passed, the strongest answer, the queue of nodes.
-#[derive(Drop)]
+#[derive(Clone, Copy)]
 pub struct Scan {
     pub passed: usize,
     pub step: Step,
@@ -28,7 +29,7 @@ pub struct Scan {
 }
 
 // A row's state after some of its scans, their answer and the queue of nodes.
-#[derive(Drop)]
+#[derive(Clone, Copy)]
 pub struct Ran {
     pub state: State,
     pub step: Step,
@@ -36,7 +37,7 @@ pub struct Ran {
 }
 
 // The scan after one more place, and whether it ends there.
-#[derive(Drop)]
+#[derive(Clone, Copy)]
 struct Turn {
     scan: Scan,
     ends: bool,

@@ -1,4 +1,5 @@
 // Nodes and rows that wait their turn: `sure`, `never`, `queue_row` and `next_row` of regions.rs.
+#![tactic(auto)]
 ghost use Rattle.std.specs.Prelude.{◌≡◌, ◌+◌, ◌-◌, ◌<◌, ◌≤◌, ◌%◌, ◌^◌, length, get_or};
 ghost use Rattle.base.specs.Columns.{column};
 ghost use Rattle.queues.specs.declared.Ring.{Ring};
@@ -10,14 +11,14 @@ ghost use Rattle.queues.specs.Marks.{marks, decided, waiting, decide as decides}
 use state::Step;
 
 // A queue in a lent slice: the entries that wait begin at `head` and wrap at the slice's end.
-#[derive(Drop)]
+#[derive(Clone, Copy)]
 pub struct Ring {
     pub head: usize,
     pub count: usize,
 }
 
 // The queues of nodes that wait to be drained, of rows that wait to hand on their bounds, and of rows that wait for a residual.
-#[derive(Drop)]
+#[derive(Clone, Copy)]
 pub struct Rings {
     pub nodes: Ring,
     pub rows: Ring,
@@ -38,7 +39,7 @@ pub fn taken(ring: Ring) -> Ring
 }
 
 // What deciding a node did, and the queue of nodes after it.
-#[derive(Drop)]
+#[derive(Clone, Copy)]
 pub struct Decision {
     pub step: Step,
     pub ring: Ring,

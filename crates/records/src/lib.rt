@@ -1,11 +1,12 @@
 // Records of a job file: kinds, bodies and their fields, read at an offset.
+#![tactic(auto)]
 ghost use Rattle.std.specs.Prelude.{◌≡◌, ◌+◌, ◌<◌, ◌≤◌, length, get_or, take, drop};
 ghost use Rattle.records.specs.declared.Record.TheVariants.{Adds};
 ghost use Rattle.records.specs.Record.{kind_of, body_length, little_endian, signed};
 ghost use Rattle.records.specs.At.{kind_at, record_in};
 
 // A record with its fields: nodes; node and bound; condition and weight; condition and area; node and value.
-#[derive(Drop)]
+#[derive(Clone, Copy)]
 pub enum Record {
     Header(u16),
     Opens(u16, i64),
@@ -21,7 +22,7 @@ pub enum Record {
 // What the checks read of the file so far: whether it has a header, a seal and a contradiction; how many nodes and thresholds
 // the job has; the last threshold's node and number of terms and areas; how many of these and of answers there are. And how many
 // terms the raw lists have, where areas of one condition are one.
-#[derive(Drop)]
+#[derive(Clone, Copy)]
 pub struct Standing {
     pub started: bool,
     pub sealed: bool,

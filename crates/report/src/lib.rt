@@ -1,4 +1,5 @@
 // The plan of an input, over buffers of its own: the public call, then the listing.
+#![tactic(auto)]
 ghost use Rattle.std.specs.Prelude.{◌≡◌};
 ghost use Rattle.memory.specs.Buffers.{raw_lists, raw, held_rows, built, kept, work};
 ghost use Rattle.files.specs.Contents.{nothing};
@@ -9,7 +10,7 @@ use files::Given;
 use state::{State, Step};
 
 // What the call gave back, and how many bytes its listing has.
-#[derive(Drop)]
+#[derive(Clone, Copy)]
 pub struct Planned {
     pub given: Given,
     pub length: usize,

@@ -1,4 +1,5 @@
 // A row at its place in the buffers: its state loaded, the row run, its state stored (`threshold_row` of propagate.rs, over the buffers).
+#![tactic(auto)]
 ghost use Rattle.std.specs.Prelude.{◌≡◌, cond, true, ℕ, ◌<◌, ◌≤◌, length, get_or, set, List, []};
 ghost use Rattle.memory.specs.Buffers.{held_rows};
 ghost use Rattle.base.specs.Columns.{column};
@@ -27,7 +28,7 @@ use state::{State, Step, Upper};
 
 // Where the queues stand after a row's run, and its answer. The answer stands last: before the queues it would part the words that they are
 // copied by.
-#[derive(Drop)]
+#[derive(Clone, Copy)]
 pub struct Did {
     pub rings: Rings,
     pub step: Step,
@@ -164,7 +165,7 @@ fn queue_residual(
 }
 
 // What a row's run comes to: the two queues that it moves, and its answer.
-#[derive(Drop)]
+#[derive(Clone, Copy)]
 pub struct Outcome {
     pub nodes: Ring,
     pub residuals: Ring,

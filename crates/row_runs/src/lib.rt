@@ -1,4 +1,5 @@
 // One row run once, as a value: scans of guards and terms, their laws; and the tests that its code makes of a state.
+#![tactic(auto)]
 ghost use Rattle.std.specs.Prelude.{◌≡◌, false, ◌-◌, ◌<◌, ◌^◌, length, List};
 ghost use Rattle.std.specs.Int.Signed.{lt_z};
 ghost use Rattle.numeric.specs.Threshold.{Term};
@@ -30,7 +31,7 @@ pub fn never_waits(state: State, bound: i64) -> bool
 }
 
 // A weight of this much waits: up to it where sure terms are sought, below it where never ones are.
-#[derive(Drop)]
+#[derive(Clone, Copy)]
 pub struct Cutoff {
     pub value: bool,
     pub weight: i64,

@@ -1,4 +1,5 @@
 // A sum search as a value: when it is planned, each visit, what it answers; choices that land in its window.
+#![tactic(auto)]
 ghost use Rattle.std.specs.Prelude.{◌≡◌, ◌+◌, ◌-◌, ◌/◌, ◌<◌, ◌≤◌, length};
 ghost use Rattle.numeric.specs.Slices.{terms};
 ghost use Rattle.state.specs.Shape.{Figures};
@@ -7,7 +8,7 @@ ghost use Rattle.searches.specs.Search.{plan, search_step, search_visits};
 use state::{State, Step, Upper};
 
 // The window of a search, in sums of undecided weights; the words that hold it; the visits that it may use.
-#[derive(Drop)]
+#[derive(Clone, Copy)]
 pub struct Window {
     pub lower: usize,
     pub maximum: usize,
@@ -16,14 +17,14 @@ pub struct Window {
 }
 
 // Whether a row is searched.
-#[derive(Drop)]
+#[derive(Clone, Copy)]
 pub enum Plan {
     Unplanned,
     Planned(Window),
 }
 
 // How a search ended, with the visits that it used.
-#[derive(Drop)]
+#[derive(Clone, Copy)]
 pub enum Search {
     // Nothing was planned.
     Skipped,

@@ -1,5 +1,6 @@
 // The records after the seal: marks, settles and sifts over the buffers of Kept, up to the end of the input or the first that is
 // refused.
+#![tactic(auto)]
 ghost use Rattle.std.specs.Prelude.{◌≡◌, true, List, [], ℕ, ◌+◌, ◌<◌, ◌≤◌, length};
 ghost use Rattle.memory.specs.Buffers.{held_rows, built, kept, longest_input};
 ghost use Rattle.row_moves.specs.Numbers.{live_of, Tidy};
@@ -18,7 +19,7 @@ use state::Step;
 
 // How far the records were taken: the offset, the number that refuses the record there (0: none), what the checks read of the
 // file, the step of the last record that answered, and where the queues stand.
-#[derive(Drop)]
+#[derive(Clone, Copy)]
 pub struct Reached {
     pub at: usize,
     pub refused: u8,

@@ -1,4 +1,5 @@
 // Sifting over the buffers: `sift` of regions.rs. Rows that wait for it are tried between settlings.
+#![tactic(auto)]
 ghost use Rattle.std.specs.Prelude.{◌≡◌, List, ℕ, ◌≤◌, length, ℤ};
 ghost use Rattle.memory.specs.Limits.{list_terms};
 ghost use Rattle.memory.specs.Buffers.{held_rows, built};
@@ -19,7 +20,7 @@ use queues::{Ring, Rings};
 use state::{State, Step};
 
 // What trying the terms of a row came to: the answer, the queue of nodes, the visits of the last search.
-#[derive(Drop)]
+#[derive(Clone, Copy)]
 pub struct Tried {
     pub step: Step,
     pub ring: Ring,
@@ -70,7 +71,7 @@ fn try_terms(
 }
 
 // What a sifting came to, or a row that was tried: the answer, where the queues stand after it, and the visits of the last search.
-#[derive(Drop)]
+#[derive(Clone, Copy)]
 pub struct Sifted {
     pub step: Step,
     pub rings: Rings,
@@ -136,7 +137,7 @@ fn try_row(
 }
 
 // What a round came to, and whether there is another.
-#[derive(Drop)]
+#[derive(Clone, Copy)]
 pub struct Round {
     pub step: Step,
     pub rings: Rings,

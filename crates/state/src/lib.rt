@@ -1,4 +1,5 @@
 // What a row knows: `State` of thresholds.rs and `Step` of regions.rs.
+#![tactic(auto)]
 ghost use Rattle.std.specs.Prelude.{◌≡◌, not, ◌<◌, ◌^◌};
 ghost use Rattle.std.specs.Int.Signed.{le_z};
 ghost use Rattle.state.specs.Step.{joined, step_number, contradicts};
@@ -6,7 +7,7 @@ ghost use Rattle.state.specs.State.{reached, conflict, has_residual_interval, up
 ghost use Rattle.state.specs.Shape.{Drains};
 
 // What a record or a step of it did, the strongest last.
-#[derive(Drop)]
+#[derive(Clone, Copy)]
 pub enum Step {
     Unchanged,
     Changed,
@@ -14,14 +15,14 @@ pub enum Step {
 }
 
 // The exclusive upper limit of a row's sum, if there is one.
-#[derive(Drop)]
+#[derive(Clone, Copy)]
 pub enum Upper {
     Open,
     Under(i64),
 }
 
 // A row's figures, from drained nodes only, and the four cursors of its scans.
-#[derive(Drop)]
+#[derive(Clone, Copy)]
 pub struct State {
     pub known: i64,
     pub possible: i64,

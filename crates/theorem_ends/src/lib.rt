@@ -1,1 +1,2 @@
 // A settling and a sifting end because nothing waits any more: theorems, no code.
+#![tactic(auto)]

@@ -1,1 +1,2 @@
 // What the seal lays out of a job within the limits serves settling and sifting, whatever follows: definitions and theorems only, in specs/.
+#![tactic(auto)]

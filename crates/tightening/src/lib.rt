@@ -1,4 +1,5 @@
 // What a row's bounds take from a guard or from a neighbour: a state and whether it is new.
+#![tactic(auto)]
 ghost use Rattle.std.specs.Prelude.{◌≡◌, cond, true, false, ◌-◌, ◌<◌};
 ghost use Rattle.state.specs.State.{limit, with_lower, with_upper};
 ghost use Rattle.tightening.specs.Told.{guard_state, moved_lower, moved_upper, moved_state};
@@ -6,7 +7,7 @@ ghost use Rattle.tightening.specs.Told.{guard_state, moved_lower, moved_upper, m
 use state::{State, Upper};
 
 // A row's state after a bound from outside, and whether the bound was new.
-#[derive(Drop)]
+#[derive(Clone, Copy)]
 pub struct Tightened {
     pub state: State,
     pub changed: bool,

@@ -1,4 +1,5 @@
 // Bits of 64-bit words: words.rs, region.rs, and `bit` and `learn` of regions.rs.
+#![tactic(auto)]
 ghost use Rattle.std.specs.Prelude.{◌≡◌, ◌+◌, ◌-◌, ◌*◌, ◌/◌, ◌^◌, ◌<◌, ◌≤◌, min, length};
 ghost use Rattle.words.specs.Mask.{bit as is_set, in_either, count as nodes, learn as learnt};
 ghost use Rattle.words.specs.Shift.{meets as inside, shift_word, word_hits, union_shifted};
@@ -6,7 +7,7 @@ ghost use Rattle.words.specs.Shift.{meets as inside, shift_word, word_hits, unio
 use state::Step;
 
 // How a shift of a set of sums ended, with the visits that are left.
-#[derive(Drop)]
+#[derive(Clone, Copy)]
 pub enum Ended {
     // A moved bit lies in the window; words below were not moved.
     Hit(usize),

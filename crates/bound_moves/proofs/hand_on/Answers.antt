@@ -1,0 +1,102 @@
+-- `bound_moves::hand_on` meets its contract: the bounds are nothing new, the row rests with them, or they move it.
+use mathlib.Core.Path.{◌≡◌, refl, ◌∙◌, ap}
+use native.Mathlib.Omega.{arith}
+use Rattle.memory.specs.Buffers.{HeldRows, held_rows}
+use Rattle.state.specs.declared.State.{State}
+use Rattle.state.specs.declared.Step.TheVariants.{Unchanged, Changed}
+use Rattle.queues.specs.declared.Ring.{Ring}
+use Rattle.queues.specs.Queue.{queue}
+use Rattle.queues.specs.Marks.{marks}
+use Rattle.tightening.specs.declared.Tightened.{Tightened}
+use Rattle.tightening.specs.Told.{moved_state}
+use Rattle.memory.specs.Ranges.{figure_limit}
+use Rattle.row_moves.specs.Between.{Live, did, state_at}
+use Rattle.row_moves.specs.Numbers.{live_of}
+use Rattle.row_moves.specs.Held.{held_row}
+use Rattle.row_moves.specs.BetweenLaws.{rest_told}
+use Rattle.bound_moves.specs.HandingLaws.{handed_new, handed_none}
+use Rattle.row_moves.specs.Ready.{Fit}
+use Rattle.row_moves.specs.ReadyLaws.{fit_by, fit_prefix}
+use borrow.Author.Rules.{rules}
+use Rattle.bound_moves.proofs.hand_on.Goals as goal
+
+same_length : tie.Need-same-length
+same_length c = c.before.before.before.note.auto.0
+
+same-length-2 : tie.Need-same-length-2
+same-length-2 c = c.before.before.before.note.auto.1.0
+
+same-length-5 : tie.Need-same-length-5
+same-length-5 c = c.before.before.before.note.auto.1.1.0
+
+same-length-6 : tie.Need-same-length-6
+same-length-6 c = (run-bounded-of c).run-bounded.auto.1.1.1.1.1.0
+
+same-length-7 : tie.Need-same-length-7
+same-length-7 c = (run-bounded-of c).run-bounded.auto.1.1.1.1.1.1.0
+
+same-length-8 : tie.Need-same-length-8
+same-length-8 c = (run-bounded-of c).run-bounded.auto.1.1.1.1.1.1.1.0
+
+same-length-9 : tie.Need-same-length-9
+same-length-9 c = (run-bounded-of c).run-bounded.auto.1.1.1.1.1.1.1.1.0
+
+same-length-10 : tie.Need-same-length-10
+same-length-10 c = (run-bounded-of c).run-bounded.auto.1.1.1.1.1.1.1.1.1.0
+
+same-length-11 : tie.Need-same-length-11
+same-length-11 c = (run-bounded-of c).run-bounded.auto.1.1.1.1.1.1.1.1.1.1.0
+
+pub load-state-requires : goal.load-state-requires
+load-state-requires c = let p = c.requires in
+    omega (arith, p.1.ready.long, p.0.1)
+
+pub rests_at-requires : goal.rests_at-requires
+rests_at-requires c = let p = c.requires in
+    ((c.args.guard_nodes.now, p.0.0, (let it : Fit ((let a = c.args in held_rows a.row-conditions.now a.row-weights.now a.rows.now a.guard_bounds.now a.guard_nodes.now)) figure_limit c.args.row c.moved_state-moved.result.state = let a = c.args in let p = c.requires in let r = a.row in let f = fit_prefix ((let a = c.args in held_rows a.row-conditions.now a.row-weights.now a.rows.now a.guard_bounds.now a.guard_nodes.now)) figure_limit r a.source (state_at ((let a = c.args in live_of a.figures.now a.cursors.now a.sure.now a.never.now a.node_queue.now a.row_queues.now a.rings)) r) a.many a.own p.0.2 p.0.3 (p.1.ready.fit r p.0.1) in fit_by ((let a = c.args in held_rows a.row-conditions.now a.row-weights.now a.rows.now a.guard_bounds.now a.guard_nodes.now)) figure_limit r c.moved_state-moved.result.state ((let a = c.args in moved_state a.source (state_at ((let a = c.args in live_of a.figures.now a.cursors.now a.sure.now a.never.now a.node_queue.now a.row_queues.now a.rings)) a.row) a.many a.own)).state (ap (λ (y : Tightened). y.state) ((let it : c.moved_state-moved.result ≡ (let a = c.args in moved_state a.source (state_at ((let a = c.args in live_of a.figures.now a.cursors.now a.sure.now a.never.now a.node_queue.now a.row_queues.now a.rings)) a.row) a.many a.own) = let a = c.args in c.moved_state-moved.ensures ∙ ap (λ (y : State). moved_state a.source y a.many a.own) c.load-state.ensures in it))) f in it)), p.0.1, omega (arith, p.1.ready.waits.sures), omega (arith, p.1.ready.waits.nevers))
+
+pub note-stand-requires : goal.note-stand-requires
+note-stand-requires c = let p = c.requires in
+    (omega (arith, p.1.ready.long, p.0.1), p.1.dirty.held, omega (arith, p.0.0.few, p.0.1))
+
+pub returns-then-rests_at : goal.returns-then-rests_at
+returns-then-rests_at c = let note = c.note-stand in
+    let rests-at = c.rests_at in
+    let moved-state = c.moved_state-moved in
+    let a = c.args in
+    let p = c.requires in
+    let row = held_row ((let a = c.args in held_rows a.row-conditions.now a.row-weights.now a.rows.now a.guard_bounds.now a.guard_nodes.now)) a.row in
+    let v = (let a = c.args in live_of a.figures.now a.cursors.now a.sure.now a.never.now a.node_queue.now a.row_queues.now a.rings) in
+    let r = a.row in
+    let t = (let a = c.args in moved_state a.source (state_at ((let a = c.args in live_of a.figures.now a.cursors.now a.sure.now a.never.now a.node_queue.now a.row_queues.now a.rings)) a.row) a.many a.own) in
+    let o = live_of note.new.figures note.new.cursors a.sure.now a.never.now a.node_queue.now note.new.row_queues note.result in
+    let rest = rests-at.ensures c.if-rests_at.true a.guard_nodes.now (queue a.node_queue.now a.rings.nodes) p.0.0 in
+    let same : o.marks ≡ v.marks = ap (λ (y : Ring). marks a.sure.now a.never.now (queue a.node_queue.now y)) note.ensures.4 in
+    let ran = rest_told row v r moved-state.result.state (omega (arith, p.1.ready.long, p.0.1)) rest o note.ensures.0 same note.ensures.2 note.ensures.3 in
+    (handed_new row v r t moved-state.result ((let it : c.moved_state-moved.result ≡ (let a = c.args in moved_state a.source (state_at ((let a = c.args in live_of a.figures.now a.cursors.now a.sure.now a.never.now a.node_queue.now a.row_queues.now a.rings)) a.row) a.many a.own) = let a = c.args in c.moved_state-moved.ensures ∙ ap (λ (y : State). moved_state a.source y a.many a.own) c.load-state.ensures in it)) c.if-moved.true (did o Unchanged) ran Changed refl, note.ensures.1)
+
+pub run_bounded-ran-requires : goal.run_bounded-ran-requires
+run_bounded-ran-requires c = let p = c.requires in
+    ((p.0.0, p.0.1, (let it : Fit ((let a = c.args in held_rows a.row-conditions.now a.row-weights.now a.rows.now a.guard_bounds.now a.guard_nodes.now)) figure_limit c.args.row c.moved_state-moved.result.state = let a = c.args in let p = c.requires in let r = a.row in let f = fit_prefix ((let a = c.args in held_rows a.row-conditions.now a.row-weights.now a.rows.now a.guard_bounds.now a.guard_nodes.now)) figure_limit r a.source (state_at ((let a = c.args in live_of a.figures.now a.cursors.now a.sure.now a.never.now a.node_queue.now a.row_queues.now a.rings)) r) a.many a.own p.0.2 p.0.3 (p.1.ready.fit r p.0.1) in fit_by ((let a = c.args in held_rows a.row-conditions.now a.row-weights.now a.rows.now a.guard_bounds.now a.guard_nodes.now)) figure_limit r c.moved_state-moved.result.state ((let a = c.args in moved_state a.source (state_at ((let a = c.args in live_of a.figures.now a.cursors.now a.sure.now a.never.now a.node_queue.now a.row_queues.now a.rings)) a.row) a.many a.own)).state (ap (λ (y : Tightened). y.state) ((let it : c.moved_state-moved.result ≡ (let a = c.args in moved_state a.source (state_at ((let a = c.args in live_of a.figures.now a.cursors.now a.sure.now a.never.now a.node_queue.now a.row_queues.now a.rings)) a.row) a.many a.own) = let a = c.args in c.moved_state-moved.ensures ∙ ap (λ (y : State). moved_state a.source y a.many a.own) c.load-state.ensures in it))) f in it)), p.1)
+
+pub returns-then-moved : goal.returns-then-moved
+returns-then-moved c = let answer = c.tell in
+    let ran = c.run_bounded-ran in
+    let moved-state = c.moved_state-moved in
+    let a = c.args in
+    let row = held_row ((let a = c.args in held_rows a.row-conditions.now a.row-weights.now a.rows.now a.guard_bounds.now a.guard_nodes.now)) a.row in
+    let v = (let a = c.args in live_of a.figures.now a.cursors.now a.sure.now a.never.now a.node_queue.now a.row_queues.now a.rings) in
+    let o = live_of ran.new.figures ran.new.cursors ran.new.sure ran.new.never ran.new.node_queue ran.new.row_queues ran.result.rings in
+    let r = a.row in
+    let t = (let a = c.args in moved_state a.source (state_at ((let a = c.args in live_of a.figures.now a.cursors.now a.sure.now a.never.now a.node_queue.now a.row_queues.now a.rings)) a.row) a.many a.own) in (
+      handed_new row v r t moved-state.result ((let it : c.moved_state-moved.result ≡ (let a = c.args in moved_state a.source (state_at ((let a = c.args in live_of a.figures.now a.cursors.now a.sure.now a.never.now a.node_queue.now a.row_queues.now a.rings)) a.row) a.many a.own) = let a = c.args in c.moved_state-moved.ensures ∙ ap (λ (y : State). moved_state a.source y a.many a.own) c.load-state.ensures in it)) c.if-moved.true (did o ran.result.step) ran.ensures.0 answer.result answer.ensures,
+      ran.ensures.1,
+    )
+
+pub returns : goal.returns
+returns c = let a = c.args in
+    let row = held_row ((let a = c.args in held_rows a.row-conditions.now a.row-weights.now a.rows.now a.guard_bounds.now a.guard_nodes.now)) a.row in
+    let v = (let a = c.args in live_of a.figures.now a.cursors.now a.sure.now a.never.now a.node_queue.now a.row_queues.now a.rings) in
+    let r = a.row in
+    let t = (let a = c.args in moved_state a.source (state_at ((let a = c.args in live_of a.figures.now a.cursors.now a.sure.now a.never.now a.node_queue.now a.row_queues.now a.rings)) a.row) a.many a.own) in
+    (handed_none row v r t c.moved_state-moved.result ((let it : c.moved_state-moved.result ≡ (let a = c.args in moved_state a.source (state_at ((let a = c.args in live_of a.figures.now a.cursors.now a.sure.now a.never.now a.node_queue.now a.row_queues.now a.rings)) a.row) a.many a.own) = let a = c.args in c.moved_state-moved.ensures ∙ ap (λ (y : State). moved_state a.source y a.many a.own) c.load-state.ensures in it)) c.if-moved.false, λ y. y)

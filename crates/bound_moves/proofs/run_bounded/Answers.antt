@@ -1,0 +1,59 @@
+-- `bound_moves::run_bounded` meets its contract: the row waits, its state is stored, and it is run.
+use mathlib.Core.Path.{◌∙◌}
+use native.Mathlib.Omega.{arith}
+use lib.ListN.{length}
+use Rattle.memory.specs.Buffers.{held_rows}
+use Rattle.queues.specs.Slot.{rows_in}
+use Rattle.memory.specs.Ranges.{figure_limit}
+use Rattle.row_moves.specs.Between.{did}
+use Rattle.row_moves.specs.Numbers.{live_of}
+use Rattle.row_moves.specs.Held.{held_row}
+use Rattle.row_moves.specs.BetweenLaws.{linked_run}
+use Rattle.row_moves.specs.ReadyLaws.{ready_queue}
+use Rattle.bound_moves.proofs.run_bounded.Goals as goal
+
+same_length : tie.Need-same-length
+same_length c = (run-from-of c).run-from.auto.1.1.1.1.1.0
+
+same-length-2 : tie.Need-same-length-2
+same-length-2 c = (run-from-of c).run-from.auto.1.1.1.1.1.1.0
+
+same-length-3 : tie.Need-same-length-3
+same-length-3 c = (run-from-of c).run-from.auto.1.1.1.1.1.1.1.0
+
+same-length-4 : tie.Need-same-length-4
+same-length-4 c = (run-from-of c).run-from.auto.1.1.1.1.1.1.1.1.0
+
+same-length-5 : tie.Need-same-length-5
+same-length-5 c = (run-from-of c).run-from.auto.1.1.1.1.1.1.1.1.1.0
+
+same-length-6 : tie.Need-same-length-6
+same-length-6 c = let at-run-from = run-from-of c in
+    let run-from = at-run-from.run-from in
+    let queue-linked = (queue-linked-of at-run-from.before).queue-linked in
+    ◌∙◌ {b = length queue-linked.last.0} run-from.kept.1.1.1.1.1.1.1.1.1.1.0 queue-linked.kept.0
+
+pub queue_linked-left-requires : goal.queue_linked-left-requires
+queue_linked-left-requires c = let p = c.requires in
+    (p.1.dirty.held, omega (arith, p.0.0.few, p.0.1))
+
+pub run_from-requires : goal.run_from-requires
+run_from-requires c = let queue-linked = c.queue_linked-left in
+    let a = c.args in
+    let p = c.requires in
+    let h = held_rows a.row-conditions.now a.row-weights.now a.rows.now a.guard_bounds.now a.guard_nodes.now in
+    let v = live_of a.figures.now a.cursors.now a.sure.now a.never.now a.node_queue.now a.row_queues.now a.rings in
+    let left = rows_in 2 queue-linked.new.row_queues a.rings.residuals in
+    ((p.0.0, p.0.1, p.0.2), ready_queue h figure_limit v left (queue-linked.ensures.1 a.rings.residuals) p.1.ready)
+
+pub returns : goal.returns
+returns c = let run-from = c.run_from in
+    let queue-linked = c.queue_linked-left in
+    let a = c.args in
+    let h = held_rows a.row-conditions.now a.row-weights.now a.rows.now a.guard_bounds.now a.guard_nodes.now in
+    let v = live_of a.figures.now a.cursors.now a.sure.now a.never.now a.node_queue.now a.row_queues.now a.rings in
+    let o = live_of run-from.new.figures run-from.new.cursors run-from.new.sure run-from.new.never run-from.new.node_queue run-from.new.row_queues run-from.result.rings in
+    let q = queue-linked.new.row_queues in
+    let e = linked_run (held_row h a.row) v a.row a.links a.state (rows_in 0 q queue-linked.result) (rows_in 2 q a.rings.residuals)
+    queue-linked.ensures.0 (queue-linked.ensures.1 a.rings.residuals) (did o run-from.result.step) run-from.ensures.0 in
+    (e, run-from.ensures.1)

@@ -1,0 +1,186 @@
+-- `possible_sums::search_from` meets its contract: the search of the terms that are left, from here, is that of the whole row.
+use Prim.Native.Nat.{ℕ, suc, ◌+◌, ◌-◌, ◌/◌, ◌≤◌}
+use native.Mathlib.Omega.{arith}
+use mathlib.Core.Bool.{false}
+use lib.Dec.{ltb}
+use mathlib.Core.Path.{◌≡◌, refl, sym, ap, ap₂, ◌∙◌}
+use mathlib.Core.List.{List, ◌∷◌, reverse}
+use lib.ListN.{length, get_or}
+use borrow.Author.Rules.{rules}
+use borrow.Author.Tests.{lt-ltb, le-ltb}
+use Rattle.numeric.specs.Threshold.{Term}
+use Rattle.numeric.specs.Slices.{terms}
+use Rattle.words.specs.Mask.{in_either}
+use Rattle.words.specs.Shift.{union_shifted}
+use Rattle.words.specs.ShiftLaws.{union_length, complete_visits}
+use Rattle.searches.specs.Search.{search_from}
+use Rattle.numeric.specs.TermsLaws.{last_terms_of, last_all}
+use Rattle.searches.specs.SearchStepsLaws.{
+use Rattle.possible_sums.proofs.search_from.Goals as goal
+use Rattle.possible_sums.proofs.search_from.Goals.{Else-left-eq0, Else-weight-limit}
+
+pub loop-count-init : goal.loop-count-init
+loop-count-init c = let g = c.args in
+    let p = c.requires in (
+      refl,
+      refl,
+      omega arith,
+      p.1.1,
+      omega arith,
+      refl,
+      ap (λ (l : List Term). search_from g.w (in_either g.sure.now g.never.now) l g.words.now 0 g.allowance)
+          (last_all g.conditions.now g.weights.now p.0.same),
+    )
+
+pub returns-then-left-eq0 : goal.returns-then-left-eq0
+returns-then-left-eq0 c = let g = c.args in
+    let v = c.loop-count in
+    let s = c.requires.0.same in
+    sym
+    (turn-cut g.w (in_either g.sure.now g.never.now) g.conditions.now g.weights.now v.words v.count v.maximum v.left
+    (omega arith) (omega arith) (omega arith) c.if-left-eq0.true)
+    ∙ v.invariant.6
+
+-- With a visit left, the search goes on with the lightest term that is left.
+from_here : (c : Else-left-eq0) → search_from c.args.w (in_either c.args.sure.now c.args.never.now)
+    (last_term c.args.conditions.now c.args.weights.now c.loop-count.count
+    ∷ last_terms_of c.args.conditions.now c.args.weights.now (c.loop-count.count - 1))
+    c.loop-count.words c.loop-count.maximum (suc (c.loop-count.left - 1))
+    ≡ search_from c.args.w (in_either c.args.sure.now c.args.never.now)
+    (reverse (terms c.args.conditions.now c.args.weights.now)) c.args.words.now 0 c.args.allowance
+from_here c = let g = c.args in
+    let v = c.loop-count in
+    let s = c.requires.0.same in
+    sym
+    (turn g.w (in_either g.sure.now g.never.now) g.conditions.now g.weights.now v.words v.count v.maximum v.left
+    (omega arith) (omega arith) (omega arith) c.if-left-eq0.false)
+    ∙ v.invariant.6
+
+pub returns-then-weight-limit : goal.returns-then-weight-limit
+returns-then-weight-limit c = let g = c.args in
+    let v = c.loop-count in
+    sym
+    (from_heavy g.w (in_either g.sure.now g.never.now) (last_term g.conditions.now g.weights.now v.count) (last_terms_of g.conditions.now g.weights.now (v.count - 1))
+    v.words v.maximum (v.left - 1)
+    (lt-ltb g.w.maximum (get_or g.weights.now (v.count - 1) 0) c.if-weight-limit.true))
+    ∙ from_here (goal.at.returns-then-weight-limit c).Else-left-eq0
+
+-- A term that is not too heavy.
+light : (c : Else-weight-limit) → ltb c.args.w.maximum (get_or c.args.weights.now (c.loop-count.count - 1) 0) ≡ false
+light c = le-ltb c.args.w.maximum (get_or c.args.weights.now (c.loop-count.count - 1) 0) c.if-weight-limit.false
+
+pub bounds-conditions-count : goal.bounds-conditions-count
+bounds-conditions-count c = let s = c.requires.0.same in omega arith
+
+pub decided-requires : goal.decided-requires
+decided-requires c = let p = c.requires.0 in
+    let s = p.same in
+    let v = c.loop-count in
+    let t = c.loop-count-test.true in
+    (p.below (v.count - 1) (omega arith), p.in_sure, p.in_never)
+
+pub loop-count-preserved-then-decided : goal.loop-count-preserved-then-decided
+loop-count-preserved-then-decided c = let g = c.args in
+    let v = c.loop-count in (
+      refl,
+      refl,
+      omega arith,
+      omega arith,
+      v.invariant.4,
+      v.invariant.5,
+      sym
+          (from_skip g.w (in_either g.sure.now g.never.now) (last_term g.conditions.now g.weights.now v.count) (last_terms_of g.conditions.now g.weights.now (v.count - 1))
+          v.words v.maximum (v.left - 1)
+          (light (goal.at.loop-count-preserved-then-decided c).Else-weight-limit) (sym c.decided.ensures ∙ c.if-decided.true))
+          ∙ from_here (goal.at.loop-count-preserved-then-decided c).Else-left-eq0,
+    )
+
+pub overflow_sub-hit : goal.overflow_sub-hit
+overflow_sub-hit c = let g = c.args in
+    let v = c.loop-count in
+    let e = c.ended-1.given in
+    let h = hit_left v.words (v.maximum / 64 + 1) (get_or g.weights.now (v.count - 1) 0) g.w.lower g.w.maximum (v.left - 1) e.0.0 (sym c.union_shifted_until_hit-ended.ensures.1 ∙ e.1) in
+    omega arith
+
+pub returns-in-Hit : goal.returns-in-Hit
+returns-in-Hit c = let g = c.args in
+    let v = c.loop-count in
+    let e = c.ended-1.given in
+    sym
+    (from_fits g.w (in_either g.sure.now g.never.now) (last_term g.conditions.now g.weights.now v.count) (last_terms_of g.conditions.now g.weights.now (v.count - 1))
+    v.words v.maximum (v.left - 1)
+    (light (goal.at.returns-in-Hit c).Else-weight-limit) ((let it : in_either c.args.sure.now c.args.never.now (get_or c.args.conditions.now (c.loop-count.count - 1) 0) ≡ false = sym c.decided.ensures ∙ c.if-decided.false in it)) e.0.0 (sym c.union_shifted_until_hit-ended.ensures.1 ∙ e.1))
+    ∙ from_here (goal.at.returns-in-Hit c).Else-left-eq0
+
+pub returns-in-Stopped : goal.returns-in-Stopped
+returns-in-Stopped c = let g = c.args in
+    let v = c.loop-count in
+    sym
+    (from_stopped g.w (in_either g.sure.now g.never.now) (last_term g.conditions.now g.weights.now v.count) (last_terms_of g.conditions.now g.weights.now (v.count - 1))
+    v.words v.maximum (v.left - 1)
+    (light (goal.at.returns-in-Stopped c).Else-weight-limit) ((let it : in_either c.args.sure.now c.args.never.now (get_or c.args.conditions.now (c.loop-count.count - 1) 0) ≡ false = sym c.decided.ensures ∙ c.if-decided.false in it)) (sym c.union_shifted_until_hit-ended.ensures.1 ∙ c.enum_told-1.given.1))
+    ∙ from_here (goal.at.returns-in-Stopped c).Else-left-eq0
+
+pub overflow_add-maximum-in-Complete : goal.overflow_add-maximum-in-Complete
+overflow_add-maximum-in-Complete c = let p = c.requires.1.0 in
+    omega (arith, p.words, p.enough, p.visits, c.loop-count.invariant.4, c.if-weight-limit.false)
+
+pub loop-count-preserved : goal.loop-count-preserved
+loop-count-preserved c = let g = c.args in
+    let v = c.loop-count in
+    let u = c.union_shifted_until_hit-ended.ensures in
+    let e = c.ended-in-Complete-1.given in
+    let q : (union_shifted v.words (v.maximum / 64 + 1) (get_or g.weights.now (v.count - 1) 0) g.w.lower g.w.maximum (v.left - 1)).ended ≡ _ = sym u.1 ∙ e.1 in
+    let k = complete_visits v.words (v.maximum / 64 + 1) (get_or g.weights.now (v.count - 1) 0) g.w.lower g.w.maximum (v.left - 1) e.0.0 q in
+    let m = c.smaller-maximum.ensures in (
+      refl,
+      refl,
+      omega arith,
+      omega arith,
+      omega arith,
+      ap length u.0 ∙ union_length v.words (v.maximum / 64 + 1) (get_or g.weights.now (v.count - 1) 0) g.w.lower g.w.maximum (v.left - 1) ∙ v.invariant.5,
+      ap₂ (λ (l : List ℕ) (n : ℕ). search_from g.w (in_either g.sure.now g.never.now) (last_terms_of g.conditions.now g.weights.now (v.count - 1)) l n e.0.0) u.0 m
+          ∙ sym
+          (from_more g.w (in_either g.sure.now g.never.now) (last_term g.conditions.now g.weights.now v.count) (last_terms_of g.conditions.now g.weights.now (v.count - 1))
+          v.words v.maximum (v.left - 1)
+          (light (goal.at.loop-count-preserved c).Else-weight-limit) ((let it : in_either c.args.sure.now c.args.never.now (get_or c.args.conditions.now (c.loop-count.count - 1) 0) ≡ false = sym c.decided.ensures ∙ c.if-decided.false in it)) e.0.0 q)
+          ∙ from_here (goal.at.loop-count-preserved c).Else-left-eq0,
+    )
+
+pub returns : goal.returns
+returns c = let g = c.args in
+    let v = c.loop-count in
+    sym
+    (turn-none g.w (in_either g.sure.now g.never.now) g.conditions.now g.weights.now v.words v.count v.maximum v.left
+    (omega (arith, c.loop-count-test.false)))
+    ∙ v.invariant.6
+
+pub overflow_sub-left : goal.overflow_sub-left
+overflow_sub-left c = omega arith
+
+pub overflow_sub-count : goal.overflow_sub-count
+overflow_sub-count c = omega arith
+
+pub offset_bounds-weights-count : goal.offset_bounds-weights-count
+offset_bounds-weights-count c = omega arith
+
+pub bounds-weights-count : goal.bounds-weights-count
+bounds-weights-count c = omega arith
+
+pub overflow_sub-used : goal.overflow_sub-used
+overflow_sub-used c = omega arith
+
+pub offset_bounds-conditions-count : goal.offset_bounds-conditions-count
+offset_bounds-conditions-count c = omega arith
+
+pub loop-count-smaller-then-decided : goal.loop-count-smaller-then-decided
+loop-count-smaller-then-decided c = omega arith
+
+pub overflow_add-maximum : goal.overflow_add-maximum
+overflow_add-maximum c = omega arith
+
+pub loop-count-smaller : goal.loop-count-smaller
+loop-count-smaller c = omega arith
+
+pub overflow_sub-all : goal.overflow_sub-all
+overflow_sub-all c = omega arith

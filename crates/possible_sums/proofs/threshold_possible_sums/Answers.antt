@@ -1,0 +1,42 @@
+-- `possible_sums::threshold_possible_sums` meets its contract.
+use Prim.Native.Nat.{◌-◌, ◌≤◌}
+use native.Mathlib.Omega.{arith}
+use mathlib.Core.Path.{◌≡◌, sym, ◌∙◌}
+use lib.ListN.{length}
+use lib.Seq.{length-take-le}
+use borrow.Author.Rules.{rules}
+use Rattle.numeric.specs.Slices.{terms}
+use Rattle.numeric.specs.TermsLaws.{length-terms}
+use Rattle.words.specs.Mask.{in_either}
+use Rattle.searches.specs.Shape.{Prepared}
+use Rattle.searches.specs.ZerosLaws.{zeros_back}
+use Rattle.searches.specs.SearchStepsLaws.{search-none, search-begins, plan_prepared}
+use Rattle.possible_sums.proofs.threshold_possible_sums.Goals as goal
+
+pub returns-in_default : goal.returns-in_default
+returns-in_default c = let g = c.args in (
+      sym
+          (search-none (terms g.conditions.now g.weights.now) g.state (in_either g.sure.now g.never.now)
+          (sym c.for_row.ensures ∙ c.enum_told-1.given.1)),
+      search rules,
+    )
+
+pub slice_bounds-attempt-end : goal.slice_bounds-attempt-end
+slice_bounds-attempt-end c = (let it : c.w-1.given.0.0.words ≤ length c.args.words.now = let r = (let it : Prepared c.w-1.given.0.0 = let g = c.args in plan_prepared (terms g.conditions.now g.weights.now) g.state c.w-1.given.0.0 (omega (arith, length-terms g.conditions.now g.weights.now, c.requires.0.1)) (sym c.for_row.ensures ∙ c.w-1.given.1) in it) in omega (arith, r.enough, r.visits, c.requires.1.0) in it)
+
+pub attempt-requires : goal.attempt-requires
+attempt-requires c = let g = c.args in
+    let n = c.w-1.given.0.0.words in
+    let e : n - 0 ≡ n = omega arith in
+    (c.requires.0.0, ((let it : Prepared c.w-1.given.0.0 = let g = c.args in plan_prepared (terms g.conditions.now g.weights.now) g.state c.w-1.given.0.0 (omega (arith, length-terms g.conditions.now g.weights.now, c.requires.0.1)) (sym c.for_row.ensures ∙ c.w-1.given.1) in it), rw e (length-take-le n g.words.now ((let it : c.w-1.given.0.0.words ≤ length c.args.words.now = let r = (let it : Prepared c.w-1.given.0.0 = let g = c.args in plan_prepared (terms g.conditions.now g.weights.now) g.state c.w-1.given.0.0 (omega (arith, length-terms g.conditions.now g.weights.now, c.requires.0.1)) (sym c.for_row.ensures ∙ c.w-1.given.1) in it) in omega (arith, r.enough, r.visits, c.requires.1.0) in it)))))
+
+pub returns : goal.returns
+returns c = let g = c.args in
+    let w = c.w-1.given in
+    let a = c.attempt.ensures in (
+      a.0
+          ∙ sym
+          (search-begins (terms g.conditions.now g.weights.now) g.state (in_either g.sure.now g.never.now) w.0.0
+          (sym c.for_row.ensures ∙ w.1)),
+      zeros_back g.words.now w.0.0.words c.requires.1.1 ((let it : c.w-1.given.0.0.words ≤ length c.args.words.now = let r = (let it : Prepared c.w-1.given.0.0 = let g = c.args in plan_prepared (terms g.conditions.now g.weights.now) g.state c.w-1.given.0.0 (omega (arith, length-terms g.conditions.now g.weights.now, c.requires.0.1)) (sym c.for_row.ensures ∙ c.w-1.given.1) in it) in omega (arith, r.enough, r.visits, c.requires.1.0) in it)) _ a.1,
+    )

@@ -1,0 +1,119 @@
+-- `residual::check_from` meets its contract: the check of the terms that are left, from here, is that of the whole row.
+use Prim.Native.Nat.{ℕ, ◌-◌, ◌≤◌}
+use native.Mathlib.Omega.{arith}
+use mathlib.Core.Path.{◌≡◌, sym, ap, ◌∙◌}
+use mathlib.Core.List.{List, reverse}
+use lib.ListN.{length}
+use Rattle.numeric.specs.Threshold.{Term}
+use Rattle.numeric.specs.Slices.{terms}
+use Rattle.numeric.specs.TermsLaws.{last_terms_of, last_all, last_none}
+use Rattle.words.specs.Mask.{in_either}
+use Rattle.misses.specs.Misses.{misses}
+use Rattle.intervals.specs.Residual.{check_from}
+use Rattle.intervals.specs.CheckLaws.{
+use Rattle.residual.proofs.check_from.Goals as goal
+
+pub loop-remaining-init : goal.loop-remaining-init
+loop-remaining-init c = let g = c.args in
+    let p = c.requires.0 in
+    (omega arith, ap (λ (l : List Term). check_from g.i (in_either g.sure.now g.never.now) l 0) (last_all g.conditions.now g.weights.now p.same))
+
+pub decided-requires : goal.decided-requires
+decided-requires c = let p = c.requires.0 in
+    (p.below (c.loop-remaining.remaining - 1) (omega arith), p.in_sure, p.in_never)
+
+pub loop-remaining-preserved-then-decided : goal.loop-remaining-preserved-then-decided
+loop-remaining-preserved-then-decided c = let g = c.args in
+    let w = c.loop-remaining in (
+      omega arith,
+      sym
+          (turn_skip g.i (in_either g.sure.now g.never.now) g.conditions.now g.weights.now w.remaining w.divisor (omega arith) (omega arith) (omega arith)
+          (sym c.decided.ensures ∙ c.if-decided.true))
+          ∙ w.invariant.1,
+    )
+
+pub stops-requires : goal.stops-requires
+stops-requires c = c.requires.1
+
+pub returns-then-stops : goal.returns-then-stops
+returns-then-stops c = let g = c.args in
+    let w = c.loop-remaining in
+    sym
+    (turn_stop g.i (in_either g.sure.now g.never.now) g.conditions.now g.weights.now w.remaining w.divisor (omega arith) (omega arith) (omega arith)
+    c.gcd-next.result (sym c.decided.ensures ∙ c.if-decided.false) c.gcd-next.ensures
+    (sym c.stops.ensures ∙ c.if-stops.true))
+    ∙ w.invariant.1
+
+pub loop-remaining-preserved : goal.loop-remaining-preserved
+loop-remaining-preserved c = let g = c.args in
+    let w = c.loop-remaining in
+    (
+      omega arith,
+      sym
+          (turn_more g.i (in_either g.sure.now g.never.now) g.conditions.now g.weights.now w.remaining w.divisor (omega arith) (omega arith) (omega arith)
+          c.gcd-next.result (sym c.decided.ensures ∙ c.if-decided.false) c.gcd-next.ensures
+          (sym c.stops.ensures ∙ c.if-stops.false))
+          ∙ w.invariant.1,
+    )
+
+pub returns-then-divisor-ne0 : goal.returns-then-divisor-ne0
+returns-then-divisor-ne0 c = let g = c.args in
+    let d = in_either g.sure.now g.never.now in
+    let w = c.loop-remaining in
+    sym
+    (ap (λ (l : List Term). check_from g.i d l w.divisor) (last_none g.conditions.now g.weights.now w.remaining (omega arith))
+    ∙ check_end_divisor g.i d w.divisor c.if-divisor-ne0.true)
+    ∙ w.invariant.1
+
+pub misses-requires : goal.misses-requires
+misses-requires c = let p = c.requires.1 in
+    (p.above, omega (arith, p.inside, c.smaller-upper.ensures))
+
+pub returns-then-misses : goal.returns-then-misses
+returns-then-misses c = let g = c.args in
+    let d = in_either g.sure.now g.never.now in
+    let w = c.loop-remaining in
+    let z : w.divisor ≡ 0 = omega (arith, c.if-divisor-ne0.false) in
+    sym
+    (ap (λ (l : List Term). check_from g.i d l w.divisor) (last_none g.conditions.now g.weights.now w.remaining (omega arith))
+    ∙ check_end_misses g.i d w.divisor z
+    (sym (c.misses.ensures ∙ ap (λ (x : ℕ). misses g.i.known g.i.lower x 0) c.smaller-upper.ensures) ∙ c.if-misses.true))
+    ∙ w.invariant.1
+
+pub returns : goal.returns
+returns c = let g = c.args in
+    let d = in_either g.sure.now g.never.now in
+    let w = c.loop-remaining in
+    let z : w.divisor ≡ 0 = omega (arith, c.if-divisor-ne0.false) in
+    sym
+    (ap (λ (l : List Term). check_from g.i d l w.divisor) (last_none g.conditions.now g.weights.now w.remaining (omega arith))
+    ∙ check_end_hits g.i d w.divisor z
+    (sym (c.misses.ensures ∙ ap (λ (x : ℕ). misses g.i.known g.i.lower x 0) c.smaller-upper.ensures) ∙ c.if-misses.false))
+    ∙ w.invariant.1
+
+pub overflow_sub-remaining : goal.overflow_sub-remaining
+overflow_sub-remaining c = omega arith
+
+pub offset_bounds-conditions-remaining : goal.offset_bounds-conditions-remaining
+offset_bounds-conditions-remaining c = omega arith
+
+pub bounds-conditions-remaining : goal.bounds-conditions-remaining
+bounds-conditions-remaining c = omega arith
+
+pub loop-remaining-smaller-then-decided : goal.loop-remaining-smaller-then-decided
+loop-remaining-smaller-then-decided c = omega arith
+
+pub offset_bounds-weights-remaining : goal.offset_bounds-weights-remaining
+offset_bounds-weights-remaining c = omega arith
+
+pub bounds-weights-remaining : goal.bounds-weights-remaining
+bounds-weights-remaining c = omega arith
+
+pub gcd-next-requires : goal.gcd-next-requires
+gcd-next-requires c = tt
+
+pub loop-remaining-smaller : goal.loop-remaining-smaller
+loop-remaining-smaller c = omega arith
+
+pub smaller-upper-requires : goal.smaller-upper-requires
+smaller-upper-requires c = tt
