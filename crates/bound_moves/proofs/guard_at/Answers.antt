@@ -12,24 +12,6 @@ use Rattle.row_moves.specs.Held.{no_threshold}
 use Rattle.row_moves.specs.GuardLaws.{guard-not, guard_is, guard_bound, guard-row}
 use Rattle.bound_moves.proofs.guard_at.Goals as goal
 
-same_length : tie.Need-same-length
-same_length c = (threshold-guard-of c).threshold-guard.auto.1.1.1.1.1.0
-
-same-length-2 : tie.Need-same-length-2
-same-length-2 c = (threshold-guard-of c).threshold-guard.auto.1.1.1.1.1.1.0
-
-same-length-3 : tie.Need-same-length-3
-same-length-3 c = (threshold-guard-of c).threshold-guard.auto.1.1.1.1.1.1.1.0
-
-same-length-4 : tie.Need-same-length-4
-same-length-4 c = (threshold-guard-of c).threshold-guard.auto.1.1.1.1.1.1.1.1.0
-
-same-length-5 : tie.Need-same-length-5
-same-length-5 c = (threshold-guard-of c).threshold-guard.auto.1.1.1.1.1.1.1.1.1.0
-
-same-length-6 : tie.Need-same-length-6
-same-length-6 c = (threshold-guard-of c).threshold-guard.auto.1.1.1.1.1.1.1.1.1.1.0
-
 pub threshold_of-t-requires : goal.threshold_of-t-requires
 threshold_of-t-requires c = c.requires.0.2
 
@@ -68,6 +50,24 @@ threshold_guard-requires c = let bound_of_lem = c.bound_of-bound in
     let k : row-of-node.result < length a.rows.now = omega (arith, row-of-node.ensures.0, y.rows n p.0.2 (omega (arith, threshold-of.ensures.0, if1.false))) in
     let z : mag bound_of_lem.result < figure_limit = rw bound_of_lem.ensures (y.small (threshold-of.result - 1) (omega (arith, threshold-of.ensures.0, if1.false, y.inside n p.0.2))) in
     ((p.0.0, k, p.0.3, rw (signed bound_of_lem.result z) z), p.1)
+
+pub shape_of-figures : goal.shape_of-figures
+shape_of-figures c = c.threshold_guard.auto.figures
+
+pub shape_of-cursors : goal.shape_of-cursors
+shape_of-cursors c = c.threshold_guard.auto.cursors
+
+pub shape_of-sure : goal.shape_of-sure
+shape_of-sure c = c.threshold_guard.auto.sure
+
+pub shape_of-never : goal.shape_of-never
+shape_of-never c = c.threshold_guard.auto.never
+
+pub shape_of-node_queue : goal.shape_of-node_queue
+shape_of-node_queue c = c.threshold_guard.auto.node_queue
+
+pub shape_of-row_queues : goal.shape_of-row_queues
+shape_of-row_queues c = c.threshold_guard.auto.row_queues
 
 pub returns : goal.returns
 returns c = let threshold-guard = c.threshold_guard in

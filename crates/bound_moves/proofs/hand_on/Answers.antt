@@ -20,33 +20,6 @@ use Rattle.row_moves.specs.ReadyLaws.{fit_by, fit_prefix}
 use borrow.Author.Rules.{rules}
 use Rattle.bound_moves.proofs.hand_on.Goals as goal
 
-same_length : tie.Need-same-length
-same_length c = c.before.before.before.note.auto.0
-
-same-length-2 : tie.Need-same-length-2
-same-length-2 c = c.before.before.before.note.auto.1.0
-
-same-length-5 : tie.Need-same-length-5
-same-length-5 c = c.before.before.before.note.auto.1.1.0
-
-same-length-6 : tie.Need-same-length-6
-same-length-6 c = (run-bounded-of c).run-bounded.auto.1.1.1.1.1.0
-
-same-length-7 : tie.Need-same-length-7
-same-length-7 c = (run-bounded-of c).run-bounded.auto.1.1.1.1.1.1.0
-
-same-length-8 : tie.Need-same-length-8
-same-length-8 c = (run-bounded-of c).run-bounded.auto.1.1.1.1.1.1.1.0
-
-same-length-9 : tie.Need-same-length-9
-same-length-9 c = (run-bounded-of c).run-bounded.auto.1.1.1.1.1.1.1.1.0
-
-same-length-10 : tie.Need-same-length-10
-same-length-10 c = (run-bounded-of c).run-bounded.auto.1.1.1.1.1.1.1.1.1.0
-
-same-length-11 : tie.Need-same-length-11
-same-length-11 c = (run-bounded-of c).run-bounded.auto.1.1.1.1.1.1.1.1.1.1.0
-
 pub load-state-requires : goal.load-state-requires
 load-state-requires c = let p = c.requires in
     omega (arith, p.1.ready.long, p.0.1)
@@ -58,6 +31,15 @@ rests_at-requires c = let p = c.requires in
 pub note-stand-requires : goal.note-stand-requires
 note-stand-requires c = let p = c.requires in
     (omega (arith, p.1.ready.long, p.0.1), p.1.dirty.held, omega (arith, p.0.0.few, p.0.1))
+
+pub shape_of-figures-then-rests_at : goal.shape_of-figures-then-rests_at
+shape_of-figures-then-rests_at c = c.note-stand.auto.figures
+
+pub shape_of-cursors-then-rests_at : goal.shape_of-cursors-then-rests_at
+shape_of-cursors-then-rests_at c = c.note-stand.auto.cursors
+
+pub shape_of-row_queues-then-rests_at : goal.shape_of-row_queues-then-rests_at
+shape_of-row_queues-then-rests_at c = c.note-stand.auto.row_queues
 
 pub returns-then-rests_at : goal.returns-then-rests_at
 returns-then-rests_at c = let note = c.note-stand in
@@ -78,6 +60,24 @@ returns-then-rests_at c = let note = c.note-stand in
 pub run_bounded-ran-requires : goal.run_bounded-ran-requires
 run_bounded-ran-requires c = let p = c.requires in
     ((p.0.0, p.0.1, (let it : Fit ((let a = c.args in held_rows a.row-conditions.now a.row-weights.now a.rows.now a.guard_bounds.now a.guard_nodes.now)) figure_limit c.args.row c.moved_state-moved.result.state = let a = c.args in let p = c.requires in let r = a.row in let f = fit_prefix ((let a = c.args in held_rows a.row-conditions.now a.row-weights.now a.rows.now a.guard_bounds.now a.guard_nodes.now)) figure_limit r a.source (state_at ((let a = c.args in live_of a.figures.now a.cursors.now a.sure.now a.never.now a.node_queue.now a.row_queues.now a.rings)) r) a.many a.own p.0.2 p.0.3 (p.1.ready.fit r p.0.1) in fit_by ((let a = c.args in held_rows a.row-conditions.now a.row-weights.now a.rows.now a.guard_bounds.now a.guard_nodes.now)) figure_limit r c.moved_state-moved.result.state ((let a = c.args in moved_state a.source (state_at ((let a = c.args in live_of a.figures.now a.cursors.now a.sure.now a.never.now a.node_queue.now a.row_queues.now a.rings)) a.row) a.many a.own)).state (ap (λ (y : Tightened). y.state) ((let it : c.moved_state-moved.result ≡ (let a = c.args in moved_state a.source (state_at ((let a = c.args in live_of a.figures.now a.cursors.now a.sure.now a.never.now a.node_queue.now a.row_queues.now a.rings)) a.row) a.many a.own) = let a = c.args in c.moved_state-moved.ensures ∙ ap (λ (y : State). moved_state a.source y a.many a.own) c.load-state.ensures in it))) f in it)), p.1)
+
+pub shape_of-figures-then-moved : goal.shape_of-figures-then-moved
+shape_of-figures-then-moved c = c.run_bounded-ran.auto.figures
+
+pub shape_of-cursors-then-moved : goal.shape_of-cursors-then-moved
+shape_of-cursors-then-moved c = c.run_bounded-ran.auto.cursors
+
+pub shape_of-sure-then-moved : goal.shape_of-sure-then-moved
+shape_of-sure-then-moved c = c.run_bounded-ran.auto.sure
+
+pub shape_of-never-then-moved : goal.shape_of-never-then-moved
+shape_of-never-then-moved c = c.run_bounded-ran.auto.never
+
+pub shape_of-node_queue-then-moved : goal.shape_of-node_queue-then-moved
+shape_of-node_queue-then-moved c = c.run_bounded-ran.auto.node_queue
+
+pub shape_of-row_queues-then-moved : goal.shape_of-row_queues-then-moved
+shape_of-row_queues-then-moved c = c.run_bounded-ran.auto.row_queues
 
 pub returns-then-moved : goal.returns-then-moved
 returns-then-moved c = let answer = c.tell in
@@ -100,3 +100,9 @@ returns c = let a = c.args in
     let r = a.row in
     let t = (let a = c.args in moved_state a.source (state_at ((let a = c.args in live_of a.figures.now a.cursors.now a.sure.now a.never.now a.node_queue.now a.row_queues.now a.rings)) a.row) a.many a.own) in
     (handed_none row v r t c.moved_state-moved.result ((let it : c.moved_state-moved.result ≡ (let a = c.args in moved_state a.source (state_at ((let a = c.args in live_of a.figures.now a.cursors.now a.sure.now a.never.now a.node_queue.now a.row_queues.now a.rings)) a.row) a.many a.own) = let a = c.args in c.moved_state-moved.ensures ∙ ap (λ (y : State). moved_state a.source y a.many a.own) c.load-state.ensures in it)) c.if-moved.false, λ y. y)
+
+pub moved_state-moved-requires : goal.moved_state-moved-requires
+moved_state-moved-requires c = tt
+
+pub tell-requires : goal.tell-requires
+tell-requires c = tt

@@ -12,27 +12,6 @@ use Rattle.row_moves.specs.BetweenLaws.{linked_run}
 use Rattle.row_moves.specs.ReadyLaws.{ready_queue}
 use Rattle.bound_moves.proofs.run_bounded.Goals as goal
 
-same_length : tie.Need-same-length
-same_length c = (run-from-of c).run-from.auto.1.1.1.1.1.0
-
-same-length-2 : tie.Need-same-length-2
-same-length-2 c = (run-from-of c).run-from.auto.1.1.1.1.1.1.0
-
-same-length-3 : tie.Need-same-length-3
-same-length-3 c = (run-from-of c).run-from.auto.1.1.1.1.1.1.1.0
-
-same-length-4 : tie.Need-same-length-4
-same-length-4 c = (run-from-of c).run-from.auto.1.1.1.1.1.1.1.1.0
-
-same-length-5 : tie.Need-same-length-5
-same-length-5 c = (run-from-of c).run-from.auto.1.1.1.1.1.1.1.1.1.0
-
-same-length-6 : tie.Need-same-length-6
-same-length-6 c = let at-run-from = run-from-of c in
-    let run-from = at-run-from.run-from in
-    let queue-linked = (queue-linked-of at-run-from.before).queue-linked in
-    ◌∙◌ {b = length queue-linked.last.0} run-from.kept.1.1.1.1.1.1.1.1.1.1.0 queue-linked.kept.0
-
 pub queue_linked-left-requires : goal.queue_linked-left-requires
 queue_linked-left-requires c = let p = c.requires in
     (p.1.dirty.held, omega (arith, p.0.0.few, p.0.1))
@@ -45,6 +24,26 @@ run_from-requires c = let queue-linked = c.queue_linked-left in
     let v = live_of a.figures.now a.cursors.now a.sure.now a.never.now a.node_queue.now a.row_queues.now a.rings in
     let left = rows_in 2 queue-linked.new.row_queues a.rings.residuals in
     ((p.0.0, p.0.1, p.0.2), ready_queue h figure_limit v left (queue-linked.ensures.1 a.rings.residuals) p.1.ready)
+
+pub shape_of-figures : goal.shape_of-figures
+shape_of-figures c = c.run_from.auto.figures
+
+pub shape_of-cursors : goal.shape_of-cursors
+shape_of-cursors c = c.run_from.auto.cursors
+
+pub shape_of-sure : goal.shape_of-sure
+shape_of-sure c = c.run_from.auto.sure
+
+pub shape_of-never : goal.shape_of-never
+shape_of-never c = c.run_from.auto.never
+
+pub shape_of-node_queue : goal.shape_of-node_queue
+shape_of-node_queue c = c.run_from.auto.node_queue
+
+pub shape_of-row_queues : goal.shape_of-row_queues
+shape_of-row_queues c = let run-from = c.run_from in
+    let queue-linked = c.queue_linked-left in
+    ◌∙◌ {b = length queue-linked.new.row_queues} run-from.auto.row_queues queue-linked.auto.row_queues
 
 pub returns : goal.returns
 returns c = let run-from = c.run_from in

@@ -15,24 +15,6 @@ use Rattle.row_moves.specs.ReadyLaws.{fit_by, fit_guard}
 use borrow.Author.Rules.{rules}
 use Rattle.bound_moves.proofs.threshold_guard.Goals as goal
 
-same_length : tie.Need-same-length
-same_length c = (run-bounded-of c).run-bounded.auto.1.1.1.1.1.0
-
-same-length-2 : tie.Need-same-length-2
-same-length-2 c = (run-bounded-of c).run-bounded.auto.1.1.1.1.1.1.0
-
-same-length-3 : tie.Need-same-length-3
-same-length-3 c = (run-bounded-of c).run-bounded.auto.1.1.1.1.1.1.1.0
-
-same-length-4 : tie.Need-same-length-4
-same-length-4 c = (run-bounded-of c).run-bounded.auto.1.1.1.1.1.1.1.1.0
-
-same-length-5 : tie.Need-same-length-5
-same-length-5 c = (run-bounded-of c).run-bounded.auto.1.1.1.1.1.1.1.1.1.0
-
-same-length-6 : tie.Need-same-length-6
-same-length-6 c = (run-bounded-of c).run-bounded.auto.1.1.1.1.1.1.1.1.1.1.0
-
 pub load-state-requires : goal.load-state-requires
 load-state-requires c = let p = c.requires in
     omega (arith, p.1.ready.long, p.0.1)
@@ -57,6 +39,24 @@ run_bounded-requires c = let guard-state = c.guard_state-told in
     let f = fit_guard h figure_limit r load.result b a.bound p.0.3 at in
     let fit = fit_by h figure_limit r guard-state.result.state (guard_state load.result b a.bound).state (ap (λ (y : Tightened). y.state) told) f in
     ((p.0.0, p.0.1, fit), p.1)
+
+pub shape_of-figures-then-told : goal.shape_of-figures-then-told
+shape_of-figures-then-told c = c.run_bounded.auto.figures
+
+pub shape_of-cursors-then-told : goal.shape_of-cursors-then-told
+shape_of-cursors-then-told c = c.run_bounded.auto.cursors
+
+pub shape_of-sure-then-told : goal.shape_of-sure-then-told
+shape_of-sure-then-told c = c.run_bounded.auto.sure
+
+pub shape_of-never-then-told : goal.shape_of-never-then-told
+shape_of-never-then-told c = c.run_bounded.auto.never
+
+pub shape_of-node_queue-then-told : goal.shape_of-node_queue-then-told
+shape_of-node_queue-then-told c = c.run_bounded.auto.node_queue
+
+pub shape_of-row_queues-then-told : goal.shape_of-row_queues-then-told
+shape_of-row_queues-then-told c = c.run_bounded.auto.row_queues
 
 pub returns-then-told : goal.returns-then-told
 returns-then-told c = let ran = c.run_bounded in
@@ -94,3 +94,6 @@ returns c = let guard-state = c.guard_state-told in
           guard_tells_nothing x v t r row load.result (sym load.ensures) a.node node a.bound is b (sym bit.ensures) guard-state.result told c.if-told.false,
       λ y. y,
     )
+
+pub guard_state-told-requires : goal.guard_state-told-requires
+guard_state-told-requires c = tt

@@ -13,60 +13,6 @@ use Rattle.bound_moves.specs.HandingLaws.{Handing, links_of, handing_first, hand
 use borrow.Author.Rules.{rules}
 use Rattle.bound_moves.proofs.threshold_prefixes.Goals as goal
 
-same_length : tie.Need-same-length invariant-loop decreases-loop
-same_length c = let at-hand-on = hand-on-of c.before in
-    let hand_on = at-hand-on.hand_on in
-    let w = (loop-of at-hand-on).loop in
-    ◌∙◌ {b = length w.figures} hand_on.kept.1.1.1.1.1.0 w.inv.1.figures
-
-same-length-2 : tie.Need-same-length-2 invariant-loop decreases-loop
-same-length-2 c = let at-hand-on = hand-on-of c.before in
-    let hand_on = at-hand-on.hand_on in
-    let w = (loop-of at-hand-on).loop in
-    ◌∙◌ {b = length w.cursors} hand_on.kept.1.1.1.1.1.1.0 w.inv.1.cursors
-
-same-length-3 : tie.Need-same-length-3 invariant-loop decreases-loop
-same-length-3 c = let at-hand-on = hand-on-of c.before in
-    let hand_on = at-hand-on.hand_on in
-    let w = (loop-of at-hand-on).loop in
-    ◌∙◌ {b = length w.sure} hand_on.kept.1.1.1.1.1.1.1.0 w.inv.1.sure
-
-same-length-4 : tie.Need-same-length-4 invariant-loop decreases-loop
-same-length-4 c = let at-hand-on = hand-on-of c.before in
-    let hand_on = at-hand-on.hand_on in
-    let w = (loop-of at-hand-on).loop in
-    ◌∙◌ {b = length w.never} hand_on.kept.1.1.1.1.1.1.1.1.0 w.inv.1.never
-
-same-length-5 : tie.Need-same-length-5 invariant-loop decreases-loop
-same-length-5 c = let at-hand-on = hand-on-of c.before in
-    let hand_on = at-hand-on.hand_on in
-    let w = (loop-of at-hand-on).loop in
-    ◌∙◌ {b = length w.node_queue} hand_on.kept.1.1.1.1.1.1.1.1.1.0 w.inv.1.node_queue
-
-same-length-6 : tie.Need-same-length-6 invariant-loop decreases-loop
-same-length-6 c = let at-hand-on = hand-on-of c.before in
-    let hand_on = at-hand-on.hand_on in
-    let w = (loop-of at-hand-on).loop in
-    ◌∙◌ {b = length w.row_queues} hand_on.kept.1.1.1.1.1.1.1.1.1.1.0 w.inv.1.row_queues
-
-same-length-7 : tie.Need-same-length-7 invariant-loop decreases-loop
-same-length-7 c = c.before.loop.invariant.1.figures
-
-same-length-8 : tie.Need-same-length-8 invariant-loop decreases-loop
-same-length-8 c = c.before.loop.invariant.1.cursors
-
-same-length-9 : tie.Need-same-length-9 invariant-loop decreases-loop
-same-length-9 c = c.before.loop.invariant.1.sure
-
-same-length-10 : tie.Need-same-length-10 invariant-loop decreases-loop
-same-length-10 c = c.before.loop.invariant.1.never
-
-same-length-11 : tie.Need-same-length-11 invariant-loop decreases-loop
-same-length-11 c = c.before.loop.invariant.1.node_queue
-
-same-length-12 : tie.Need-same-length-12 invariant-loop decreases-loop
-same-length-12 c = c.before.loop.invariant.1.row_queues
-
 pub load-source-requires : goal.load-source-requires
 load-source-requires c = let p = c.requires in
     omega (arith, p.1.ready.long, p.0.2)
@@ -117,6 +63,36 @@ hand_on-turn-requires c = let link_at = c.link_at-other in
     let k = l.own.rows w.at link_at.result l.above test.true link_at.ensures in
     let f = fit_by h figure_limit a.row load.result (state_at v a.row) load.ensures (p.1.ready.fit a.row p.0.2) in
     ((p.0.0, k, f.lower, f.upper), l.runnable)
+
+pub shape_of-figures-then-contradicts : goal.shape_of-figures-then-contradicts
+shape_of-figures-then-contradicts c = let hand_on = c.hand_on-turn in
+    let w = c.loop-at in
+    ◌∙◌ {b = length w.figures} hand_on.auto.figures w.invariant.1.figures
+
+pub shape_of-cursors-then-contradicts : goal.shape_of-cursors-then-contradicts
+shape_of-cursors-then-contradicts c = let hand_on = c.hand_on-turn in
+    let w = c.loop-at in
+    ◌∙◌ {b = length w.cursors} hand_on.auto.cursors w.invariant.1.cursors
+
+pub shape_of-sure-then-contradicts : goal.shape_of-sure-then-contradicts
+shape_of-sure-then-contradicts c = let hand_on = c.hand_on-turn in
+    let w = c.loop-at in
+    ◌∙◌ {b = length w.sure} hand_on.auto.sure w.invariant.1.sure
+
+pub shape_of-never-then-contradicts : goal.shape_of-never-then-contradicts
+shape_of-never-then-contradicts c = let hand_on = c.hand_on-turn in
+    let w = c.loop-at in
+    ◌∙◌ {b = length w.never} hand_on.auto.never w.invariant.1.never
+
+pub shape_of-node_queue-then-contradicts : goal.shape_of-node_queue-then-contradicts
+shape_of-node_queue-then-contradicts c = let hand_on = c.hand_on-turn in
+    let w = c.loop-at in
+    ◌∙◌ {b = length w.node_queue} hand_on.auto.node_queue w.invariant.1.node_queue
+
+pub shape_of-row_queues-then-contradicts : goal.shape_of-row_queues-then-contradicts
+shape_of-row_queues-then-contradicts c = let hand_on = c.hand_on-turn in
+    let w = c.loop-at in
+    ◌∙◌ {b = length w.row_queues} hand_on.auto.row_queues w.invariant.1.row_queues
 
 pub returns-then-contradicts : goal.returns-then-contradicts
 returns-then-contradicts c = let hand_on = c.hand_on-turn in
@@ -186,6 +162,24 @@ loop-at-preserved c = let join = c.join in
       },
       λ t. hand_on.ensures.1 (w.invariant.2 t),
     )
+
+pub shape_of-figures : goal.shape_of-figures
+shape_of-figures c = c.loop-at.invariant.1.figures
+
+pub shape_of-cursors : goal.shape_of-cursors
+shape_of-cursors c = c.loop-at.invariant.1.cursors
+
+pub shape_of-sure : goal.shape_of-sure
+shape_of-sure c = c.loop-at.invariant.1.sure
+
+pub shape_of-never : goal.shape_of-never
+shape_of-never c = c.loop-at.invariant.1.never
+
+pub shape_of-node_queue : goal.shape_of-node_queue
+shape_of-node_queue c = c.loop-at.invariant.1.node_queue
+
+pub shape_of-row_queues : goal.shape_of-row_queues
+shape_of-row_queues c = c.loop-at.invariant.1.row_queues
 
 pub returns : goal.returns
 returns c = let w = c.loop-at in

@@ -21,26 +21,6 @@ use Rattle.row_moves.specs.ReadyLaws.{ready_more, ready_set, ready_states, fit_m
 use borrow.Author.Rules.{rules}
 use Rattle.conditions.proofs.drain_edge.Goals as goal
 
-same_length : tie.Need-same-length
-same_length c = let run_at = (run-at-of c).run_at in
-    let store = (store-sums-of (run-at-of c).before).store-sums in
-    ◌∙◌ {b = length store.last.0} run_at.kept.1.1.1.1.1.0 store.kept.0
-
-same-length-2 : tie.Need-same-length-2
-same-length-2 c = (run-at-of c).run_at.auto.1.1.1.1.1.1.0
-
-same-length-3 : tie.Need-same-length-3
-same-length-3 c = (run-at-of c).run_at.auto.1.1.1.1.1.1.1.0
-
-same-length-4 : tie.Need-same-length-4
-same-length-4 c = (run-at-of c).run_at.auto.1.1.1.1.1.1.1.1.0
-
-same-length-5 : tie.Need-same-length-5
-same-length-5 c = (run-at-of c).run_at.auto.1.1.1.1.1.1.1.1.1.0
-
-same-length-6 : tie.Need-same-length-6
-same-length-6 c = (run-at-of c).run_at.auto.1.1.1.1.1.1.1.1.1.1.0
-
 pub load-state-requires : goal.load-state-requires
 load-state-requires c = let p = c.requires in
     omega (arith, p.1.long, p.0.1)
@@ -71,6 +51,26 @@ run_at-requires c = let a = c.args in
     let f = fit_more h (n + drain_limit) figure_limit r t (omega arith) (fit_drained h n r (state_at v r) a.value a.weight p.0.2 (p.1.fit r p.0.1)) in
     let y = ready_set h figure_limit v.states v.marks v.residuals (ready_more h n figure_limit v.states v.marks v.residuals (omega arith) p.1) r t f in
     ((p.0.0, p.0.1), ready_states h figure_limit (set v.states r t) (states_of c.store_sums.new.figures a.cursors.now) v.marks v.residuals ((let it : Stored c.args.figures.now c.args.cursors.now c.store_sums.new.figures c.args.cursors.now c.args.row ((let a = c.args in drained a.value a.weight (state_at ((let a = c.args in live_of a.figures.now a.cursors.now a.sure.now a.never.now a.node_queue.now a.row_queues.now a.rings)) a.row))) = let a = c.args in let p = c.requires in let moved = c.drained-next in let load = c.load-state in let s = state_at ((let a = c.args in live_of a.figures.now a.cursors.now a.sure.now a.never.now a.node_queue.now a.row_queues.now a.rings)) a.row in let n = moved.result in let hk : to_z w64 (of_z w64 n.known) ≡ n.known = search rules in let hp : to_z w64 (of_z w64 n.possible) ≡ n.possible = search rules in let words : c.store_sums.new.figures ≡ set a.figures.now a.row (sum_words (get_or a.figures.now a.row []) n.known n.possible) = simp (hk, hp) at c.store_sums.ensures in let e = moved.ensures ∙ ap (drained a.value a.weight) load.ensures in subst (λ (y : State). Stored a.figures.now a.cursors.now c.store_sums.new.figures a.cursors.now a.row y) (sums_drained a.value a.weight s n e) (stored_sums a.figures.now a.cursors.now a.row (omega (arith, p.1.long, p.0.1)) c.store_sums.new.figures n.known n.possible words) in it)).states y)
+
+pub shape_of-figures : goal.shape_of-figures
+shape_of-figures c = let run_at = c.run_at in
+    let store = c.store_sums in
+    ◌∙◌ {b = length store.new.figures} run_at.auto.figures store.auto.figures
+
+pub shape_of-cursors : goal.shape_of-cursors
+shape_of-cursors c = c.run_at.auto.cursors
+
+pub shape_of-sure : goal.shape_of-sure
+shape_of-sure c = c.run_at.auto.sure
+
+pub shape_of-never : goal.shape_of-never
+shape_of-never c = c.run_at.auto.never
+
+pub shape_of-node_queue : goal.shape_of-node_queue
+shape_of-node_queue c = c.run_at.auto.node_queue
+
+pub shape_of-row_queues : goal.shape_of-row_queues
+shape_of-row_queues c = c.run_at.auto.row_queues
 
 pub returns : goal.returns
 returns c = let run_at = c.run_at in
