@@ -1,5 +1,6 @@
 // The greatest common divisor of two small numbers, from a table.
 #![tactic(auto)]
+
 ghost use Rattle.std.specs.Prelude.{◌≡◌, true, [], ◌<◌, get_or};
 ghost use Rattle.divisors.specs.Gcd.{gcd};
 ghost use Rattle.divisors.specs.Table.{entry, all_right};

@@ -1,5 +1,6 @@
 // The lent buffers: clearing them, a function for each group of docs/BUFFERS.md, and the test of their lengths.
 #![tactic(auto)]
+
 ghost use Rattle.std.specs.Prelude.{◌≡◌, not, [], ◌∷◌, replicate, pos};
 ghost use Rattle.memory.specs.Buffers.{raw_lists, raw, held_rows, built, kept, fits_by, zeros, clear_raw, clear_built, clear_kept};
 

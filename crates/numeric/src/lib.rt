@@ -1,5 +1,6 @@
 // Weights of the terms of a threshold: numeric.rs's `Threshold`, and those of document 01's areas.
 #![tactic(auto)]
+
 ghost use Rattle.std.specs.Prelude.{◌≡◌};
 ghost use Rattle.numeric.specs.Area.{weight_of_area};
 

@@ -1,5 +1,6 @@
 // What a row knows: `State` of thresholds.rs and `Step` of regions.rs.
 #![tactic(auto)]
+
 ghost use Rattle.std.specs.Prelude.{◌≡◌, not, ◌<◌, ◌^◌};
 ghost use Rattle.std.specs.Int.Signed.{le_z};
 ghost use Rattle.state.specs.Step.{joined, step_number, contradicts};

@@ -1,5 +1,6 @@
 // Bytes and decimal numbers put into a lent slice, one after the other.
 #![tactic(auto)]
+
 ghost use Rattle.std.specs.Prelude.{◌≡◌, [], ◌∷◌, ◌++◌, ◌+◌, ◌<◌, ◌≤◌, ◌%◌, length, drop, nat_abs};
 ghost use Rattle.text.specs.Decimal.{decimal as decimalOf, decimal_z};
 ghost use Rattle.text.specs.Text.{Wrote};

@@ -26,7 +26,7 @@ load-state-requires c = let p = c.requires in
 
 pub rests_at-requires : goal.rests_at-requires
 rests_at-requires c = let p = c.requires in
-    ((c.args.guard_nodes.now, p.0.0, (let it : Fit ((let a = c.args in held_rows a.row-conditions.now a.row-weights.now a.rows.now a.guard_bounds.now a.guard_nodes.now)) figure_limit c.args.row c.moved_state-moved.result.state = let a = c.args in let p = c.requires in let r = a.row in let f = fit_prefix ((let a = c.args in held_rows a.row-conditions.now a.row-weights.now a.rows.now a.guard_bounds.now a.guard_nodes.now)) figure_limit r a.source (state_at ((let a = c.args in live_of a.figures.now a.cursors.now a.sure.now a.never.now a.node_queue.now a.row_queues.now a.rings)) r) a.many a.own p.0.2 p.0.3 (p.1.ready.fit r p.0.1) in fit_by ((let a = c.args in held_rows a.row-conditions.now a.row-weights.now a.rows.now a.guard_bounds.now a.guard_nodes.now)) figure_limit r c.moved_state-moved.result.state ((let a = c.args in moved_state a.source (state_at ((let a = c.args in live_of a.figures.now a.cursors.now a.sure.now a.never.now a.node_queue.now a.row_queues.now a.rings)) a.row) a.many a.own)).state (ap (λ (y : Tightened). y.state) ((let it : c.moved_state-moved.result ≡ (let a = c.args in moved_state a.source (state_at ((let a = c.args in live_of a.figures.now a.cursors.now a.sure.now a.never.now a.node_queue.now a.row_queues.now a.rings)) a.row) a.many a.own) = let a = c.args in c.moved_state-moved.ensures ∙ ap (λ (y : State). moved_state a.source y a.many a.own) c.load-state.ensures in it))) f in it)), p.0.1, omega (arith, p.1.ready.waits.sures), omega (arith, p.1.ready.waits.nevers))
+    ((c.args.guard_nodes.now, p.0.0, (let it : Fit ((let a = c.args in held_rows a.row_conditions.now a.row_weights.now a.rows.now a.guard_bounds.now a.guard_nodes.now)) figure_limit c.args.row c.moved_state-moved.result.state = let a = c.args in let p = c.requires in let r = a.row in let f = fit_prefix ((let a = c.args in held_rows a.row_conditions.now a.row_weights.now a.rows.now a.guard_bounds.now a.guard_nodes.now)) figure_limit r a.source (state_at ((let a = c.args in live_of a.figures.now a.cursors.now a.sure.now a.never.now a.node_queue.now a.row_queues.now a.rings)) r) a.many a.own p.0.2 p.0.3 (p.1.ready.fit r p.0.1) in fit_by ((let a = c.args in held_rows a.row_conditions.now a.row_weights.now a.rows.now a.guard_bounds.now a.guard_nodes.now)) figure_limit r c.moved_state-moved.result.state ((let a = c.args in moved_state a.source (state_at ((let a = c.args in live_of a.figures.now a.cursors.now a.sure.now a.never.now a.node_queue.now a.row_queues.now a.rings)) a.row) a.many a.own)).state (ap (λ (y : Tightened). y.state) ((let it : c.moved_state-moved.result ≡ (let a = c.args in moved_state a.source (state_at ((let a = c.args in live_of a.figures.now a.cursors.now a.sure.now a.never.now a.node_queue.now a.row_queues.now a.rings)) a.row) a.many a.own) = let a = c.args in c.moved_state-moved.ensures ∙ ap (λ (y : State). moved_state a.source y a.many a.own) c.load-state.ensures in it))) f in it)), p.0.1, omega (arith, p.1.ready.waits.sures), omega (arith, p.1.ready.waits.nevers))
 
 pub note-stand-requires : goal.note-stand-requires
 note-stand-requires c = let p = c.requires in
@@ -47,7 +47,7 @@ returns-then-rests_at c = let note = c.note-stand in
     let moved-state = c.moved_state-moved in
     let a = c.args in
     let p = c.requires in
-    let row = held_row ((let a = c.args in held_rows a.row-conditions.now a.row-weights.now a.rows.now a.guard_bounds.now a.guard_nodes.now)) a.row in
+    let row = held_row ((let a = c.args in held_rows a.row_conditions.now a.row_weights.now a.rows.now a.guard_bounds.now a.guard_nodes.now)) a.row in
     let v = (let a = c.args in live_of a.figures.now a.cursors.now a.sure.now a.never.now a.node_queue.now a.row_queues.now a.rings) in
     let r = a.row in
     let t = (let a = c.args in moved_state a.source (state_at ((let a = c.args in live_of a.figures.now a.cursors.now a.sure.now a.never.now a.node_queue.now a.row_queues.now a.rings)) a.row) a.many a.own) in
@@ -59,7 +59,7 @@ returns-then-rests_at c = let note = c.note-stand in
 
 pub run_bounded-ran-requires : goal.run_bounded-ran-requires
 run_bounded-ran-requires c = let p = c.requires in
-    ((p.0.0, p.0.1, (let it : Fit ((let a = c.args in held_rows a.row-conditions.now a.row-weights.now a.rows.now a.guard_bounds.now a.guard_nodes.now)) figure_limit c.args.row c.moved_state-moved.result.state = let a = c.args in let p = c.requires in let r = a.row in let f = fit_prefix ((let a = c.args in held_rows a.row-conditions.now a.row-weights.now a.rows.now a.guard_bounds.now a.guard_nodes.now)) figure_limit r a.source (state_at ((let a = c.args in live_of a.figures.now a.cursors.now a.sure.now a.never.now a.node_queue.now a.row_queues.now a.rings)) r) a.many a.own p.0.2 p.0.3 (p.1.ready.fit r p.0.1) in fit_by ((let a = c.args in held_rows a.row-conditions.now a.row-weights.now a.rows.now a.guard_bounds.now a.guard_nodes.now)) figure_limit r c.moved_state-moved.result.state ((let a = c.args in moved_state a.source (state_at ((let a = c.args in live_of a.figures.now a.cursors.now a.sure.now a.never.now a.node_queue.now a.row_queues.now a.rings)) a.row) a.many a.own)).state (ap (λ (y : Tightened). y.state) ((let it : c.moved_state-moved.result ≡ (let a = c.args in moved_state a.source (state_at ((let a = c.args in live_of a.figures.now a.cursors.now a.sure.now a.never.now a.node_queue.now a.row_queues.now a.rings)) a.row) a.many a.own) = let a = c.args in c.moved_state-moved.ensures ∙ ap (λ (y : State). moved_state a.source y a.many a.own) c.load-state.ensures in it))) f in it)), p.1)
+    ((p.0.0, p.0.1, (let it : Fit ((let a = c.args in held_rows a.row_conditions.now a.row_weights.now a.rows.now a.guard_bounds.now a.guard_nodes.now)) figure_limit c.args.row c.moved_state-moved.result.state = let a = c.args in let p = c.requires in let r = a.row in let f = fit_prefix ((let a = c.args in held_rows a.row_conditions.now a.row_weights.now a.rows.now a.guard_bounds.now a.guard_nodes.now)) figure_limit r a.source (state_at ((let a = c.args in live_of a.figures.now a.cursors.now a.sure.now a.never.now a.node_queue.now a.row_queues.now a.rings)) r) a.many a.own p.0.2 p.0.3 (p.1.ready.fit r p.0.1) in fit_by ((let a = c.args in held_rows a.row_conditions.now a.row_weights.now a.rows.now a.guard_bounds.now a.guard_nodes.now)) figure_limit r c.moved_state-moved.result.state ((let a = c.args in moved_state a.source (state_at ((let a = c.args in live_of a.figures.now a.cursors.now a.sure.now a.never.now a.node_queue.now a.row_queues.now a.rings)) a.row) a.many a.own)).state (ap (λ (y : Tightened). y.state) ((let it : c.moved_state-moved.result ≡ (let a = c.args in moved_state a.source (state_at ((let a = c.args in live_of a.figures.now a.cursors.now a.sure.now a.never.now a.node_queue.now a.row_queues.now a.rings)) a.row) a.many a.own) = let a = c.args in c.moved_state-moved.ensures ∙ ap (λ (y : State). moved_state a.source y a.many a.own) c.load-state.ensures in it))) f in it)), p.1)
 
 pub shape_of-figures-then-moved : goal.shape_of-figures-then-moved
 shape_of-figures-then-moved c = c.run_bounded-ran.auto.figures
@@ -84,7 +84,7 @@ returns-then-moved c = let answer = c.tell in
     let ran = c.run_bounded-ran in
     let moved-state = c.moved_state-moved in
     let a = c.args in
-    let row = held_row ((let a = c.args in held_rows a.row-conditions.now a.row-weights.now a.rows.now a.guard_bounds.now a.guard_nodes.now)) a.row in
+    let row = held_row ((let a = c.args in held_rows a.row_conditions.now a.row_weights.now a.rows.now a.guard_bounds.now a.guard_nodes.now)) a.row in
     let v = (let a = c.args in live_of a.figures.now a.cursors.now a.sure.now a.never.now a.node_queue.now a.row_queues.now a.rings) in
     let o = live_of ran.new.figures ran.new.cursors ran.new.sure ran.new.never ran.new.node_queue ran.new.row_queues ran.result.rings in
     let r = a.row in
@@ -95,7 +95,7 @@ returns-then-moved c = let answer = c.tell in
 
 pub returns : goal.returns
 returns c = let a = c.args in
-    let row = held_row ((let a = c.args in held_rows a.row-conditions.now a.row-weights.now a.rows.now a.guard_bounds.now a.guard_nodes.now)) a.row in
+    let row = held_row ((let a = c.args in held_rows a.row_conditions.now a.row_weights.now a.rows.now a.guard_bounds.now a.guard_nodes.now)) a.row in
     let v = (let a = c.args in live_of a.figures.now a.cursors.now a.sure.now a.never.now a.node_queue.now a.row_queues.now a.rings) in
     let r = a.row in
     let t = (let a = c.args in moved_state a.source (state_at ((let a = c.args in live_of a.figures.now a.cursors.now a.sure.now a.never.now a.node_queue.now a.row_queues.now a.rings)) a.row) a.many a.own) in

@@ -20,7 +20,7 @@ pub run_from-requires : goal.run_from-requires
 run_from-requires c = let queue-linked = c.queue_linked-left in
     let a = c.args in
     let p = c.requires in
-    let h = held_rows a.row-conditions.now a.row-weights.now a.rows.now a.guard_bounds.now a.guard_nodes.now in
+    let h = held_rows a.row_conditions.now a.row_weights.now a.rows.now a.guard_bounds.now a.guard_nodes.now in
     let v = live_of a.figures.now a.cursors.now a.sure.now a.never.now a.node_queue.now a.row_queues.now a.rings in
     let left = rows_in 2 queue-linked.new.row_queues a.rings.residuals in
     ((p.0.0, p.0.1, p.0.2), ready_queue h figure_limit v left (queue-linked.ensures.1 a.rings.residuals) p.1.ready)
@@ -49,7 +49,7 @@ pub returns : goal.returns
 returns c = let run-from = c.run_from in
     let queue-linked = c.queue_linked-left in
     let a = c.args in
-    let h = held_rows a.row-conditions.now a.row-weights.now a.rows.now a.guard_bounds.now a.guard_nodes.now in
+    let h = held_rows a.row_conditions.now a.row_weights.now a.rows.now a.guard_bounds.now a.guard_nodes.now in
     let v = live_of a.figures.now a.cursors.now a.sure.now a.never.now a.node_queue.now a.row_queues.now a.rings in
     let o = live_of run-from.new.figures run-from.new.cursors run-from.new.sure run-from.new.never run-from.new.node_queue run-from.new.row_queues run-from.result.rings in
     let q = queue-linked.new.row_queues in

@@ -29,7 +29,7 @@ run_bounded-requires c = let guard-state = c.guard_state-told in
     let load = c.load-state in
     let a = c.args in
     let p = c.requires in
-    let h = held_rows a.row-conditions.now a.row-weights.now a.rows.now a.guard_bounds.now a.guard_nodes.now in
+    let h = held_rows a.row_conditions.now a.row_weights.now a.rows.now a.guard_bounds.now a.guard_nodes.now in
     let v = live_of a.figures.now a.cursors.now a.sure.now a.never.now a.node_queue.now a.row_queues.now a.rings in
     let r = a.row in
     let b = bit.result in
@@ -66,7 +66,7 @@ returns-then-told c = let ran = c.run_bounded in
     let load = c.load-state in
     let a = c.args in
     let p = c.requires in
-    let h = held_rows a.row-conditions.now a.row-weights.now a.rows.now a.guard_bounds.now a.guard_nodes.now in
+    let h = held_rows a.row_conditions.now a.row_weights.now a.rows.now a.guard_bounds.now a.guard_nodes.now in
     let v = live_of a.figures.now a.cursors.now a.sure.now a.never.now a.node_queue.now a.row_queues.now a.rings in
     let o = live_of ran.new.figures ran.new.cursors ran.new.sure ran.new.never ran.new.node_queue ran.new.row_queues ran.result.rings in
     let r = a.row in

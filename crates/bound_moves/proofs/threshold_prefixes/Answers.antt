@@ -33,7 +33,7 @@ loop-at-init c = let links-start = c.links_start-at in
     let load = c.load-source in
     let a = c.args in
     let p = c.requires in
-    let h = held_rows a.row-conditions.now a.row-weights.now a.rows.now a.guard_bounds.now a.guard_nodes.now in
+    let h = held_rows a.row_conditions.now a.row_weights.now a.rows.now a.guard_bounds.now a.guard_nodes.now in
     let v = live_of a.figures.now a.cursors.now a.sure.now a.never.now a.node_queue.now a.row_queues.now a.rings in
     let own = links_of h a.links.now p.0.1 a.row p.0.2 links-start.result links_end.result links-start.ensures.0 links_end.ensures.0 in (
       handing_first h a.links.now a.row load.result links-start.result links_end.result v own p.1,
@@ -57,7 +57,7 @@ hand_on-turn-requires c = let link_at = c.link_at-other in
     let load = c.load-source in
     let a = c.args in
     let p = c.requires in
-    let h = held_rows a.row-conditions.now a.row-weights.now a.rows.now a.guard_bounds.now a.guard_nodes.now in
+    let h = held_rows a.row_conditions.now a.row_weights.now a.rows.now a.guard_bounds.now a.guard_nodes.now in
     let v = live_of a.figures.now a.cursors.now a.sure.now a.never.now a.node_queue.now a.row_queues.now a.rings in
     let l = w.invariant.0 in
     let k = l.own.rows w.at link_at.result l.above test.true link_at.ensures in
@@ -106,7 +106,7 @@ returns-then-contradicts c = let hand_on = c.hand_on-turn in
     let load = c.load-source in
     let a = c.args in
     let p = c.requires in
-    let h = held_rows a.row-conditions.now a.row-weights.now a.rows.now a.guard_bounds.now a.guard_nodes.now in
+    let h = held_rows a.row_conditions.now a.row_weights.now a.rows.now a.guard_bounds.now a.guard_nodes.now in
     let v = live_of a.figures.now a.cursors.now a.sure.now a.never.now a.node_queue.now a.row_queues.now a.rings in
     let u = live_of w.figures w.cursors w.sure w.never w.node_queue w.row_queues w.so_far.rings in
     let o = live_of hand_on.new.figures hand_on.new.cursors hand_on.new.sure hand_on.new.never hand_on.new.node_queue hand_on.new.row_queues hand_on.result.rings in
@@ -142,7 +142,7 @@ loop-at-preserved c = let join = c.join in
     let load = c.load-source in
     let a = c.args in
     let p = c.requires in
-    let h = held_rows a.row-conditions.now a.row-weights.now a.rows.now a.guard_bounds.now a.guard_nodes.now in
+    let h = held_rows a.row_conditions.now a.row_weights.now a.rows.now a.guard_bounds.now a.guard_nodes.now in
     let v = live_of a.figures.now a.cursors.now a.sure.now a.never.now a.node_queue.now a.row_queues.now a.rings in
     let u = live_of w.figures w.cursors w.sure w.never w.node_queue w.row_queues w.so_far.rings in
     let o = live_of hand_on.new.figures hand_on.new.cursors hand_on.new.sure hand_on.new.never hand_on.new.node_queue hand_on.new.row_queues hand_on.result.rings in
@@ -187,7 +187,7 @@ returns c = let w = c.loop-at in
     let links_end = c.links_end-end in
     let load = c.load-source in
     let a = c.args in
-    let h = held_rows a.row-conditions.now a.row-weights.now a.rows.now a.guard_bounds.now a.guard_nodes.now in
+    let h = held_rows a.row_conditions.now a.row_weights.now a.rows.now a.guard_bounds.now a.guard_nodes.now in
     let v = live_of a.figures.now a.cursors.now a.sure.now a.never.now a.node_queue.now a.row_queues.now a.rings in
     let u = live_of w.figures w.cursors w.sure w.never w.node_queue w.row_queues w.so_far.rings in
     let last = handing_end h a.links.now a.row load.result links-start.result links_end.result v w.at w.so_far.step u w.invariant.0 c.loop-at-test.false in (

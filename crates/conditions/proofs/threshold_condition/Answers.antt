@@ -26,7 +26,7 @@ loop-at-init c = let edges-start = c.edges_start-at in
     let bit = c.bit-value in
     let a = c.args in
     let p = c.requires in
-    let h = held_rows a.row-conditions.now a.row-weights.now a.rows.now a.guard_bounds.now a.guard_nodes.now in
+    let h = held_rows a.row_conditions.now a.row_weights.now a.rows.now a.guard_bounds.now a.guard_nodes.now in
     let v = live_of a.figures.now a.cursors.now a.sure.now a.never.now a.node_queue.now a.row_queues.now a.rings in
     let own = edges_of_lem h a.nodes.now a.edges.now p.0.1 a.node p.0.2 edges-start.result edges_end.result edges-start.ensures.0 edges_end.ensures.0 in (
       draining_first h a.edges.now bit.result edges-start.result edges_end.result v own p.1,
@@ -50,7 +50,7 @@ drain_edge-turn-requires c = let edge-weight = c.edge_weight-weight in
     let edges_end = c.edges_end-end in
     let bit = c.bit-value in
     let a = c.args in
-    let h = held_rows a.row-conditions.now a.row-weights.now a.rows.now a.guard_bounds.now a.guard_nodes.now in
+    let h = held_rows a.row_conditions.now a.row_weights.now a.rows.now a.guard_bounds.now a.guard_nodes.now in
     let v = live_of a.figures.now a.cursors.now a.sure.now a.never.now a.node_queue.now a.row_queues.now a.rings in
     let u = live_of w.figures w.cursors w.sure w.never w.node_queue w.row_queues w.so_far.rings in
     let l = w.invariant.0 in
@@ -102,7 +102,7 @@ returns-then-contradicts c = let drain-edge = c.drain_edge-turn in
     let bit = c.bit-value in
     let a = c.args in
     let p = c.requires in
-    let h = held_rows a.row-conditions.now a.row-weights.now a.rows.now a.guard_bounds.now a.guard_nodes.now in
+    let h = held_rows a.row_conditions.now a.row_weights.now a.rows.now a.guard_bounds.now a.guard_nodes.now in
     let v = live_of a.figures.now a.cursors.now a.sure.now a.never.now a.node_queue.now a.row_queues.now a.rings in
     let u = live_of w.figures w.cursors w.sure w.never w.node_queue w.row_queues w.so_far.rings in
     let o = live_of drain-edge.new.figures drain-edge.new.cursors drain-edge.new.sure drain-edge.new.never drain-edge.new.node_queue drain-edge.new.row_queues drain-edge.result.rings in
@@ -135,7 +135,7 @@ loop-at-preserved c = let join = c.join in
     let edges_end = c.edges_end-end in
     let bit = c.bit-value in
     let a = c.args in
-    let h = held_rows a.row-conditions.now a.row-weights.now a.rows.now a.guard_bounds.now a.guard_nodes.now in
+    let h = held_rows a.row_conditions.now a.row_weights.now a.rows.now a.guard_bounds.now a.guard_nodes.now in
     let v = live_of a.figures.now a.cursors.now a.sure.now a.never.now a.node_queue.now a.row_queues.now a.rings in
     let u = live_of w.figures w.cursors w.sure w.never w.node_queue w.row_queues w.so_far.rings in
     let o = live_of drain-edge.new.figures drain-edge.new.cursors drain-edge.new.sure drain-edge.new.never drain-edge.new.node_queue drain-edge.new.row_queues drain-edge.result.rings in
@@ -179,7 +179,7 @@ returns c = let w = c.loop-at in
     let edges_end = c.edges_end-end in
     let bit = c.bit-value in
     let a = c.args in
-    let h = held_rows a.row-conditions.now a.row-weights.now a.rows.now a.guard_bounds.now a.guard_nodes.now in
+    let h = held_rows a.row_conditions.now a.row_weights.now a.rows.now a.guard_bounds.now a.guard_nodes.now in
     let v = live_of a.figures.now a.cursors.now a.sure.now a.never.now a.node_queue.now a.row_queues.now a.rings in
     let u = live_of w.figures w.cursors w.sure w.never w.node_queue w.row_queues w.so_far.rings in
     let last = draining_end h a.edges.now bit.result edges-start.result edges_end.result v w.at w.so_far.step u w.invariant.0 c.loop-at-test.false in (

@@ -8,32 +8,29 @@ use Rattle.divisors.specs.TableLaws.{last_place}
 use Rattle.divisors.proofs.in_group.Goals as goal
 use Rattle.divisors.proofs.in_group.Goals.{After-in_row-in_default}
 
-named : (p : tie.Start) (k : ℕ) → p.args.row ≡ k → read p k ≡ read p p.args.row
-named p k e = ap (read p) (sym e)
-
 last : (c : After-in_row-in_default) → c.args.row ≡ 7
-last c = last_place c.args.row c.requires.0 c.in-0.rest
+last c = last_place c.args.row c.requires.0 c.in_default.in_default-own.rest
 
 pub returns-in-0 : goal.returns-in-0
-returns-in-0 c = c.in_row.ensures ∙ named c 0 c.in-0.keys1
+returns-in-0 c = c.in_row.ensures ∙ (let it : (k : ℕ) → c.args.row ≡ k → (λ k. get_or (get_or c.args.t1 k []) c.args.right 0) k ≡ (λ k. get_or (get_or c.args.t1 k []) c.args.right 0) c.args.row = λ k e. ap ((λ k. get_or (get_or c.args.t1 k []) c.args.right 0)) (sym e) in it) 0 c.in-0.is
 
 pub returns-in-1 : goal.returns-in-1
-returns-in-1 c = c.in_row-in-1.ensures ∙ named c 1 c.in-0.keys2
+returns-in-1 c = c.in_row-in-1.ensures ∙ (let it : (k : ℕ) → c.args.row ≡ k → (λ k. get_or (get_or c.args.t1 k []) c.args.right 0) k ≡ (λ k. get_or (get_or c.args.t1 k []) c.args.right 0) c.args.row = λ k e. ap ((λ k. get_or (get_or c.args.t1 k []) c.args.right 0)) (sym e) in it) 1 c.in-1.is
 
 pub returns-in-2 : goal.returns-in-2
-returns-in-2 c = c.in_row-in-2.ensures ∙ named c 2 c.in-0.keys3
+returns-in-2 c = c.in_row-in-2.ensures ∙ (let it : (k : ℕ) → c.args.row ≡ k → (λ k. get_or (get_or c.args.t1 k []) c.args.right 0) k ≡ (λ k. get_or (get_or c.args.t1 k []) c.args.right 0) c.args.row = λ k e. ap ((λ k. get_or (get_or c.args.t1 k []) c.args.right 0)) (sym e) in it) 2 c.in-2.is
 
 pub returns-in-3 : goal.returns-in-3
-returns-in-3 c = c.in_row-in-3.ensures ∙ named c 3 c.in-0.keys4
+returns-in-3 c = c.in_row-in-3.ensures ∙ (let it : (k : ℕ) → c.args.row ≡ k → (λ k. get_or (get_or c.args.t1 k []) c.args.right 0) k ≡ (λ k. get_or (get_or c.args.t1 k []) c.args.right 0) c.args.row = λ k e. ap ((λ k. get_or (get_or c.args.t1 k []) c.args.right 0)) (sym e) in it) 3 c.in-3.is
 
 pub returns-in-4 : goal.returns-in-4
-returns-in-4 c = c.in_row-in-4.ensures ∙ named c 4 c.in-0.keys5
+returns-in-4 c = c.in_row-in-4.ensures ∙ (let it : (k : ℕ) → c.args.row ≡ k → (λ k. get_or (get_or c.args.t1 k []) c.args.right 0) k ≡ (λ k. get_or (get_or c.args.t1 k []) c.args.right 0) c.args.row = λ k e. ap ((λ k. get_or (get_or c.args.t1 k []) c.args.right 0)) (sym e) in it) 4 c.in-4.is
 
 pub returns-in-5 : goal.returns-in-5
-returns-in-5 c = c.in_row-in-5.ensures ∙ named c 5 c.in-0.keys6
+returns-in-5 c = c.in_row-in-5.ensures ∙ (let it : (k : ℕ) → c.args.row ≡ k → (λ k. get_or (get_or c.args.t1 k []) c.args.right 0) k ≡ (λ k. get_or (get_or c.args.t1 k []) c.args.right 0) c.args.row = λ k e. ap ((λ k. get_or (get_or c.args.t1 k []) c.args.right 0)) (sym e) in it) 5 c.in-5.is
 
 pub returns-in-6 : goal.returns-in-6
-returns-in-6 c = c.in_row-in-6.ensures ∙ named c 6 c.in-0.keys7
+returns-in-6 c = c.in_row-in-6.ensures ∙ (let it : (k : ℕ) → c.args.row ≡ k → (λ k. get_or (get_or c.args.t1 k []) c.args.right 0) k ≡ (λ k. get_or (get_or c.args.t1 k []) c.args.right 0) c.args.row = λ k e. ap ((λ k. get_or (get_or c.args.t1 k []) c.args.right 0)) (sym e) in it) 6 c.in-6.is
 
 pub returns-in_default : goal.returns-in_default
-returns-in_default c = c.in_row-in_default.ensures ∙ named c 7 (last c)
+returns-in_default c = c.in_row-in_default.ensures ∙ (let it : (k : ℕ) → c.args.row ≡ k → (λ k. get_or (get_or c.args.t1 k []) c.args.right 0) k ≡ (λ k. get_or (get_or c.args.t1 k []) c.args.right 0) c.args.row = λ k e. ap ((λ k. get_or (get_or c.args.t1 k []) c.args.right 0)) (sym e) in it) 7 (last c)

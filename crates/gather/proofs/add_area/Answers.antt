@@ -8,11 +8,11 @@ use Rattle.gather.proofs.add_area.Goals as goal
 
 pub overflow_sub-standing : goal.overflow_sub-standing
 overflow_sub-standing c = let g = c.args in
-    omega (arith, area_open g.standing g.condition g.area g.raw-conditions.now g.raw-weights.now g.thresholds.now g.places.now g.sums.now c.requires.0 c.requires.1 c.requires.2 c.requires.4)
+    omega (arith, area_open g.standing g.condition g.area g.raw_conditions.now g.raw_weights.now g.thresholds.now g.places.now g.sums.now c.requires.0 c.requires.1 c.requires.2 c.requires.4)
 
 pub bounds-places-condition : goal.bounds-places-condition
 bounds-places-condition c = let g = c.args in
-    area_named g.standing g.condition g.area g.raw-conditions.now g.raw-weights.now g.thresholds.now g.places.now g.sums.now c.requires.0 c.requires.1 c.requires.2 c.requires.4
+    area_named g.standing g.condition g.area g.raw_conditions.now g.raw_weights.now g.thresholds.now g.places.now g.sums.now c.requires.0 c.requires.1 c.requires.2 c.requires.4
 
 pub more_area-requires : goal.more_area-requires
 more_area-requires c = (c.requires.0, c.requires.1, c.requires.2, c.requires.3, c.requires.4, omega (arith, c.start_of-start.ensures, c.place.ensures.0, c.if-place-start.true))

@@ -9,9 +9,8 @@ use Rattle.text.specs.NumberLaws.{held}
 use Rattle.listing.proofs.upper.Goals as goal
 
 pub returns-in-Open : goal.returns-in-Open
-returns-in-Open c = wrote_as (omega arith) (ap upper_text (sym c.enum_told-1.given.1)) c.put.ensures
+returns-in-Open c = wrote_as (omega arith) (ap upper_text (sym c.in-Open.is)) c.put.ensures
 
 pub returns-in-Under : goal.returns-in-Under
-returns-in-Under c = let z = c.limit-1.given.0.0 in
-    let e : held z ≡ z = search rules in
-    wrote_as (omega arith) (ap decimal_z e ∙ ap upper_text (sym c.limit-1.given.1)) c.signed.ensures
+returns-in-Under c = let e : held c.in-Under.z ≡ c.in-Under.z = search rules in
+    wrote_as (omega arith) (ap decimal_z e ∙ ap upper_text (sym c.in-Under.is)) c.signed.ensures

@@ -6,7 +6,7 @@ use Rattle.memory.proofs.clear_raw.Goals as goal
 
 pub returns : goal.returns
 returns c = let a = c.args in
-    by_raw (raw (raw_lists a.raw-conditions.now a.raw-weights.now a.thresholds.now) a.bounds.now)
+    by_raw (raw (raw_lists a.raw_conditions.now a.raw_weights.now a.thresholds.now) a.bounds.now)
     c.clear_u16.ensures c.clear_u64.ensures c.clear_u16x2.ensures c.clear_i64.ensures
 
 pub clear_u16-requires : goal.clear_u16-requires

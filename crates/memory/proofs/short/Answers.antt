@@ -10,6 +10,6 @@ unfolding enough_from
 returns c = let a = c.args in
     ap not
     (fits_from_lem
-    (a.raw-conditions ∷ a.raw-weights ∷ a.thresholds ∷ a.bounds
-    ∷ a.row-conditions ∷ a.row-weights ∷ a.rows ∷ a.guard_bounds ∷ a.guard_nodes ∷ a.nodes ∷ a.edges ∷ a.links
+    (a.raw_conditions ∷ a.raw_weights ∷ a.thresholds ∷ a.bounds
+    ∷ a.row_conditions ∷ a.row_weights ∷ a.rows ∷ a.guard_bounds ∷ a.guard_nodes ∷ a.nodes ∷ a.edges ∷ a.links
     ∷ a.figures ∷ a.cursors ∷ a.sure ∷ a.never ∷ a.search ∷ a.gcds ∷ a.node_queue ∷ a.row_queues ∷ a.answers ∷ []) a.input)

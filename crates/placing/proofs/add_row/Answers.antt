@@ -18,9 +18,9 @@ use Rattle.placing.proofs.add_row.Goals as goal
 pub build_at-end-requires : goal.build_at-end-requires
 build_at-end-requires c = let g = c.args in
     let p = c.requires in
-    let r = raw_lists g.raw-conditions.now g.raw-weights.now g.thresholds.now in
+    let r = raw_lists g.raw_conditions.now g.raw_weights.now g.thresholds.now in
     let l = p.0.lists in
-    let w = within r g.t g.so g.row-conditions.now g.row-weights.now g.rows.now g.scratch.now g.heads.now p.0 p.3 p.1 in
+    let w = within r g.t g.so g.row_conditions.now g.row_weights.now g.rows.now g.scratch.now g.heads.now p.0 p.3 p.1 in
     let rising = l.rising g.t p.1 in
     let short = l.short g.t p.1 in
     let inside = l.inside g.t p.1 in
@@ -34,7 +34,7 @@ build_at-end-requires c = let g = c.args in
 pub overflow_cast-entry : goal.overflow_cast-entry
 overflow_cast-entry c = let g = c.args in
     let p = c.requires in
-    let r = raw_lists g.raw-conditions.now g.raw-weights.now g.thresholds.now in
+    let r = raw_lists g.raw_conditions.now g.raw_weights.now g.thresholds.now in
     let a = c.start_of-a.ensures in
     let e = c.end_of-e.ensures in
     let end = p.3.end in
@@ -47,22 +47,22 @@ overflow_cast-entry c = let g = c.args in
 pub offset_bounds-rows-row : goal.offset_bounds-rows-row
 offset_bounds-rows-row c = let g = c.args in
     let p = c.requires in
-    let w = within (raw_lists g.raw-conditions.now g.raw-weights.now g.thresholds.now) g.t g.so g.row-conditions.now g.row-weights.now g.rows.now g.scratch.now g.heads.now p.0 p.3 p.1 in
+    let w = within (raw_lists g.raw_conditions.now g.raw_weights.now g.thresholds.now) g.t g.so g.row_conditions.now g.row_weights.now g.rows.now g.scratch.now g.heads.now p.0 p.3 p.1 in
     record { fits = omega arith }
 
 pub bounds-rows-row : goal.bounds-rows-row
 bounds-rows-row c = let g = c.args in
     let p = c.requires in
-    let w = within (raw_lists g.raw-conditions.now g.raw-weights.now g.thresholds.now) g.t g.so g.row-conditions.now g.row-weights.now g.rows.now g.scratch.now g.heads.now p.0 p.3 p.1 in
+    let w = within (raw_lists g.raw_conditions.now g.raw_weights.now g.thresholds.now) g.t g.so g.row_conditions.now g.row_weights.now g.rows.now g.scratch.now g.heads.now p.0 p.3 p.1 in
     w.row
 
 pub link_row-requires : goal.link_row-requires
 link_row-requires c = let g = c.args in
     let p = c.requires in
-    let r = raw_lists g.raw-conditions.now g.raw-weights.now g.thresholds.now in
+    let r = raw_lists g.raw_conditions.now g.raw_weights.now g.thresholds.now in
     let s = print_small r g.t p.0.lists p.1 in
     let e = p.2 in
-    let w = within r g.t g.so g.row-conditions.now g.row-weights.now g.rows.now g.scratch.now g.heads.now p.0 p.3 p.1 in
+    let w = within r g.t g.so g.row_conditions.now g.row_weights.now g.rows.now g.scratch.now g.heads.now p.0 p.3 p.1 in
     let turn = w.turn in
     let few = w.few in
     let word = w.word in
@@ -71,14 +71,14 @@ link_row-requires c = let g = c.args in
 pub overflow_add-scratch : goal.overflow_add-scratch
 overflow_add-scratch c = let g = c.args in
     let p = c.requires in
-    let w = within (raw_lists g.raw-conditions.now g.raw-weights.now g.thresholds.now) g.t g.so g.row-conditions.now g.row-weights.now g.rows.now g.scratch.now g.heads.now p.0 p.3 p.1 in
+    let w = within (raw_lists g.raw_conditions.now g.raw_weights.now g.thresholds.now) g.t g.so g.row_conditions.now g.row_weights.now g.rows.now g.scratch.now g.heads.now p.0 p.3 p.1 in
     let turn = w.turn in
     record { fits = omega arith }
 
 pub offset_bounds-scratch-row : goal.offset_bounds-scratch-row
 offset_bounds-scratch-row c = let g = c.args in
     let p = c.requires in
-    let w = within (raw_lists g.raw-conditions.now g.raw-weights.now g.thresholds.now) g.t g.so g.row-conditions.now g.row-weights.now g.rows.now g.scratch.now g.heads.now p.0 p.3 p.1 in
+    let w = within (raw_lists g.raw_conditions.now g.raw_weights.now g.thresholds.now) g.t g.so g.row_conditions.now g.row_weights.now g.rows.now g.scratch.now g.heads.now p.0 p.3 p.1 in
     let turn = w.turn in
     let few = w.few in
     record { fits = omega arith }
@@ -86,7 +86,7 @@ offset_bounds-scratch-row c = let g = c.args in
 pub bounds-scratch-row : goal.bounds-scratch-row
 bounds-scratch-row c = let g = c.args in
     let p = c.requires in
-    let w = within (raw_lists g.raw-conditions.now g.raw-weights.now g.thresholds.now) g.t g.so g.row-conditions.now g.row-weights.now g.rows.now g.scratch.now g.heads.now p.0 p.3 p.1 in
+    let w = within (raw_lists g.raw_conditions.now g.raw_weights.now g.thresholds.now) g.t g.so g.row_conditions.now g.row_weights.now g.rows.now g.scratch.now g.heads.now p.0 p.3 p.1 in
     let word = w.word in
     let k = c.link_row.auto.marks in
     let l = c.build_at-end.auto.scratch in
@@ -95,7 +95,7 @@ bounds-scratch-row c = let g = c.args in
 pub overflow_add-result : goal.overflow_add-result
 overflow_add-result c = let g = c.args in
     let p = c.requires in
-    let w = within (raw_lists g.raw-conditions.now g.raw-weights.now g.thresholds.now) g.t g.so g.row-conditions.now g.row-weights.now g.rows.now g.scratch.now g.heads.now p.0 p.3 p.1 in
+    let w = within (raw_lists g.raw_conditions.now g.raw_weights.now g.thresholds.now) g.t g.so g.row_conditions.now g.row_weights.now g.rows.now g.scratch.now g.heads.now p.0 p.3 p.1 in
     let turn = w.turn in
     let few = w.few in
     record { fits = omega arith }
@@ -106,8 +106,8 @@ shape_of-scratch c = simp length-set (c.link_row.auto.marks ∙ c.build_at-end.a
 pub returns : goal.returns
 returns c = let g = c.args in
     let p = c.requires in
-    let r = raw_lists g.raw-conditions.now g.raw-weights.now g.thresholds.now in
-    let w = within r g.t g.so g.row-conditions.now g.row-weights.now g.rows.now g.scratch.now g.heads.now p.0 p.3 p.1 in
+    let r = raw_lists g.raw_conditions.now g.raw_weights.now g.thresholds.now in
+    let w = within r g.t g.so g.row_conditions.now g.row_weights.now g.rows.now g.scratch.now g.heads.now p.0 p.3 p.1 in
     let l = p.0.lists in
     let a = c.start_of-a.ensures in
     let e = c.end_of-e.ensures in
@@ -115,8 +115,8 @@ returns c = let g = c.args in
     let q = c.link_row.ensures in
     let turn = w.turn in
     let few = w.few in
-    let x = terms (stretch c.start_of-a.result c.end_of-e.result g.raw-conditions.now) (stretch c.start_of-a.result c.end_of-e.result g.raw-weights.now) in (
-      placing_new r g.t g.so g.row-conditions.now g.row-weights.now g.scratch.now g.heads.now p.3 l p.1 c.start_of-a.result c.end_of-e.result x a e (list_is r g.t _ _ a e) s.1 p.4
+    let x = terms (stretch c.start_of-a.result c.end_of-e.result g.raw_conditions.now) (stretch c.start_of-a.result c.end_of-e.result g.raw_weights.now) in (
+      placing_new r g.t g.so g.row_conditions.now g.row_weights.now g.scratch.now g.heads.now p.3 l p.1 c.start_of-a.result c.end_of-e.result x a e (list_is r g.t _ _ a e) s.1 p.4
           c.build_at-end.result (mark g.print g.t) g.link _ _ _ _ p.0.room p.0.even w.word (omega arith) s.0
           c.build_at-end.auto.row_conditions s.2 c.build_at-end.auto.row_weights s.3
           (mark-first g.print g.t w.turn) (mark_print g.print g.t w.turn ∙ ap (λ (h : ℕ). h % shorts) p.2) (λ z. mark-links g.print g.t z w.turn) p.5

@@ -16,9 +16,9 @@ loop-t-init c = let g = c.args in
     let p = c.requires in (
       omega arith,
       record { row-conditions = refl; row-weights = refl; rows = refl; nodes = refl; scratch = refl; heads = refl },
-      placing_start ((raw_lists c.args.raw-conditions.now c.args.raw-weights.now c.args.thresholds.now)) g.row-conditions.now g.row-weights.now g.scratch.now g.heads.now p.2 p.3 p.4 p.5 p.6,
-      rows_start ((raw_lists c.args.raw-conditions.now c.args.raw-weights.now c.args.thresholds.now)) g.rows.now,
-      nodes_start ((raw_lists c.args.raw-conditions.now c.args.raw-weights.now c.args.thresholds.now)) g.nodes.now,
+      placing_start ((raw_lists c.args.raw_conditions.now c.args.raw_weights.now c.args.thresholds.now)) g.row_conditions.now g.row_weights.now g.scratch.now g.heads.now p.2 p.3 p.4 p.5 p.6,
+      rows_start ((raw_lists c.args.raw_conditions.now c.args.raw_weights.now c.args.thresholds.now)) g.rows.now,
+      nodes_start ((raw_lists c.args.raw_conditions.now c.args.raw_weights.now c.args.thresholds.now)) g.nodes.now,
     )
 
 pub place_one-so-requires : goal.place_one-so-requires
@@ -28,7 +28,7 @@ place_one-so-requires c = let g = c.args in
     let k = w.invariant.1 in
     let n = k.nodes in
     let h = p.1 w.t c.loop-t-test.true in (
-      ready_by ((raw_lists c.args.raw-conditions.now c.args.raw-weights.now c.args.thresholds.now)) g.row-conditions.now g.row-weights.now g.rows.now g.scratch.now w.row-conditions w.row-weights w.rows w.scratch
+      ready_by ((raw_lists c.args.raw_conditions.now c.args.raw_weights.now c.args.thresholds.now)) g.row_conditions.now g.row_weights.now g.rows.now g.scratch.now w.row_conditions w.row_weights w.rows w.scratch
           k.row-conditions k.row-weights k.rows k.scratch p.0,
       c.loop-t-test.true,
       omega arith,
@@ -44,7 +44,7 @@ pub loop-t-preserved : goal.loop-t-preserved
 loop-t-preserved c = let g = c.args in
     let p = c.requires in
     let w = c.loop-t in
-    let r = (raw_lists c.args.raw-conditions.now c.args.raw-weights.now c.args.thresholds.now) in
+    let r = (raw_lists c.args.raw_conditions.now c.args.raw_weights.now c.args.thresholds.now) in
     let k = w.invariant.1 in
     let s = c.place_one-so.ensures in
     let h = c.loop-t-test.true in
@@ -70,7 +70,7 @@ returns c = let g = c.args in
     let h = c.loop-t-test.false in
     let a = w.invariant.0 in
     let e : w.t ≡ length g.thresholds.now = omega arith in
-    placed_end ((raw_lists c.args.raw-conditions.now c.args.raw-weights.now c.args.thresholds.now)) w.t (length g.thresholds.now) w.so w.row-conditions w.row-weights w.scratch w.heads g.rows.now w.rows g.nodes.now w.nodes e w.invariant.2 w.invariant.3 w.invariant.4
+    placed_end ((raw_lists c.args.raw_conditions.now c.args.raw_weights.now c.args.thresholds.now)) w.t (length g.thresholds.now) w.so w.row_conditions w.row_weights w.scratch w.heads g.rows.now w.rows g.nodes.now w.nodes e w.invariant.2 w.invariant.3 w.invariant.4
 
 pub shape_of-row_conditions : goal.shape_of-row_conditions
 shape_of-row_conditions c = c.loop-t.invariant.1.row-conditions

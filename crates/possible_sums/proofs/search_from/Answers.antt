@@ -98,18 +98,16 @@ loop-count-preserved-then-decided c = let g = c.args in
 pub overflow_sub-hit : goal.overflow_sub-hit
 overflow_sub-hit c = let g = c.args in
     let v = c.loop-count in
-    let e = c.ended-1.given in
-    let h = hit_left v.words (v.maximum / 64 + 1) (get_or g.weights.now (v.count - 1) 0) g.w.lower g.w.maximum (v.left - 1) e.0.0 (sym c.union_shifted_until_hit-ended.ensures.1 ∙ e.1) in
+    let h = hit_left v.words (v.maximum / 64 + 1) (get_or g.weights.now (v.count - 1) 0) g.w.lower g.w.maximum (v.left - 1) c.in-Hit.after (sym c.union_shifted_until_hit-ended.ensures.1 ∙ c.in-Hit.is) in
     omega arith
 
 pub returns-in-Hit : goal.returns-in-Hit
 returns-in-Hit c = let g = c.args in
     let v = c.loop-count in
-    let e = c.ended-1.given in
     sym
     (from_fits g.w (in_either g.sure.now g.never.now) (last_term g.conditions.now g.weights.now v.count) (last_terms_of g.conditions.now g.weights.now (v.count - 1))
     v.words v.maximum (v.left - 1)
-    (light (goal.at.returns-in-Hit c).Else-weight-limit) ((let it : in_either c.args.sure.now c.args.never.now (get_or c.args.conditions.now (c.loop-count.count - 1) 0) ≡ false = sym c.decided.ensures ∙ c.if-decided.false in it)) e.0.0 (sym c.union_shifted_until_hit-ended.ensures.1 ∙ e.1))
+    (light (goal.at.returns-in-Hit c).Else-weight-limit) ((let it : in_either c.args.sure.now c.args.never.now (get_or c.args.conditions.now (c.loop-count.count - 1) 0) ≡ false = sym c.decided.ensures ∙ c.if-decided.false in it)) c.in-Hit.after (sym c.union_shifted_until_hit-ended.ensures.1 ∙ c.in-Hit.is))
     ∙ from_here (goal.at.returns-in-Hit c).Else-left-eq0
 
 pub returns-in-Stopped : goal.returns-in-Stopped
@@ -118,7 +116,7 @@ returns-in-Stopped c = let g = c.args in
     sym
     (from_stopped g.w (in_either g.sure.now g.never.now) (last_term g.conditions.now g.weights.now v.count) (last_terms_of g.conditions.now g.weights.now (v.count - 1))
     v.words v.maximum (v.left - 1)
-    (light (goal.at.returns-in-Stopped c).Else-weight-limit) ((let it : in_either c.args.sure.now c.args.never.now (get_or c.args.conditions.now (c.loop-count.count - 1) 0) ≡ false = sym c.decided.ensures ∙ c.if-decided.false in it)) (sym c.union_shifted_until_hit-ended.ensures.1 ∙ c.enum_told-1.given.1))
+    (light (goal.at.returns-in-Stopped c).Else-weight-limit) ((let it : in_either c.args.sure.now c.args.never.now (get_or c.args.conditions.now (c.loop-count.count - 1) 0) ≡ false = sym c.decided.ensures ∙ c.if-decided.false in it)) (sym c.union_shifted_until_hit-ended.ensures.1 ∙ c.in-Stopped.is))
     ∙ from_here (goal.at.returns-in-Stopped c).Else-left-eq0
 
 pub overflow_add-maximum-in-Complete : goal.overflow_add-maximum-in-Complete
@@ -129,9 +127,8 @@ pub loop-count-preserved : goal.loop-count-preserved
 loop-count-preserved c = let g = c.args in
     let v = c.loop-count in
     let u = c.union_shifted_until_hit-ended.ensures in
-    let e = c.ended-in-Complete-1.given in
-    let q : (union_shifted v.words (v.maximum / 64 + 1) (get_or g.weights.now (v.count - 1) 0) g.w.lower g.w.maximum (v.left - 1)).ended ≡ _ = sym u.1 ∙ e.1 in
-    let k = complete_visits v.words (v.maximum / 64 + 1) (get_or g.weights.now (v.count - 1) 0) g.w.lower g.w.maximum (v.left - 1) e.0.0 q in
+    let q : (union_shifted v.words (v.maximum / 64 + 1) (get_or g.weights.now (v.count - 1) 0) g.w.lower g.w.maximum (v.left - 1)).ended ≡ _ = sym u.1 ∙ c.in-Complete.is in
+    let k = complete_visits v.words (v.maximum / 64 + 1) (get_or g.weights.now (v.count - 1) 0) g.w.lower g.w.maximum (v.left - 1) c.in-Complete.after q in
     let m = c.smaller-maximum.ensures in (
       refl,
       refl,
@@ -139,11 +136,11 @@ loop-count-preserved c = let g = c.args in
       omega arith,
       omega arith,
       ap length u.0 ∙ union_length v.words (v.maximum / 64 + 1) (get_or g.weights.now (v.count - 1) 0) g.w.lower g.w.maximum (v.left - 1) ∙ v.invariant.5,
-      ap₂ (λ (l : List ℕ) (n : ℕ). search_from g.w (in_either g.sure.now g.never.now) (last_terms_of g.conditions.now g.weights.now (v.count - 1)) l n e.0.0) u.0 m
+      ap₂ (λ (l : List ℕ) (n : ℕ). search_from g.w (in_either g.sure.now g.never.now) (last_terms_of g.conditions.now g.weights.now (v.count - 1)) l n c.in-Complete.after) u.0 m
           ∙ sym
           (from_more g.w (in_either g.sure.now g.never.now) (last_term g.conditions.now g.weights.now v.count) (last_terms_of g.conditions.now g.weights.now (v.count - 1))
           v.words v.maximum (v.left - 1)
-          (light (goal.at.loop-count-preserved c).Else-weight-limit) ((let it : in_either c.args.sure.now c.args.never.now (get_or c.args.conditions.now (c.loop-count.count - 1) 0) ≡ false = sym c.decided.ensures ∙ c.if-decided.false in it)) e.0.0 q)
+          (light (goal.at.loop-count-preserved c).Else-weight-limit) ((let it : in_either c.args.sure.now c.args.never.now (get_or c.args.conditions.now (c.loop-count.count - 1) 0) ≡ false = sym c.decided.ensures ∙ c.if-decided.false in it)) c.in-Complete.after q)
           ∙ from_here (goal.at.loop-count-preserved c).Else-left-eq0,
     )
 

@@ -6,11 +6,11 @@ use Rattle.prepare.proofs.edges_in.Goals as goal
 
 pub slice_bounds-index_edges-end : goal.slice_bounds-index_edges-end
 slice_bounds-index_edges-end c = let g = c.args in
-    sym (length-take-le g.end g.row-conditions.now c.requires.0)
+    sym (length-take-le g.end g.row_conditions.now c.requires.0)
 
 pub slice_bounds-index_edges-end-2 : goal.slice_bounds-index_edges-end-2
 slice_bounds-index_edges-end-2 c = let g = c.args in
-    sym (length-take-le g.end g.row-weights.now c.requires.1)
+    sym (length-take-le g.end g.row_weights.now c.requires.1)
 
 pub slice_bounds-index_edges-end-3 : goal.slice_bounds-index_edges-end-3
 slice_bounds-index_edges-end-3 c = let g = c.args in

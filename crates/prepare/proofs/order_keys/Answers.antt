@@ -17,13 +17,13 @@ slice_bounds-order_guards-end-2 c = let g = c.args in
 
 pub slice_bounds-order_guards-end-4 : goal.slice_bounds-order_guards-end-4
 slice_bounds-order_guards-end-4 c = let g = c.args in
-    sym (length-take-le (length g.bounds.now) g.row-weights.now c.requires.2)
+    sym (length-take-le (length g.bounds.now) g.row_weights.now c.requires.2)
 
 pub order_guards-requires : goal.order_guards-requires
 order_guards-requires c = let g = c.args in
     let p = c.requires in
     let a = length-take-le (length g.bounds.now) g.scratch.now p.3 in
-    let b = length-take-le (length g.bounds.now) g.row-weights.now p.2 in
+    let b = length-take-le (length g.bounds.now) g.row_weights.now p.2 in
     (a, p.0, p.1, omega arith)
 
 pub returns : goal.returns
@@ -31,6 +31,6 @@ returns c = let g = c.args in
     let p = c.requires in
     let s = c.order_guards.ensures in
     let a = length-take-le (length g.bounds.now) g.scratch.now p.3 in (
-      spare_kept g.row-weights.now _ (length g.bounds.now) _ p.4 p.2 a s.1,
+      spare_kept g.row_weights.now _ (length g.bounds.now) _ p.4 p.2 a s.1,
       keys_over g.scratch.now (sorted (guard_keys 0 g.bounds.now)) _ (length g.bounds.now) s.0 (length-sorted (guard_keys 0 g.bounds.now) ∙ length_keys 0 g.bounds.now),
     )

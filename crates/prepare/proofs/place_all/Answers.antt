@@ -21,7 +21,7 @@ place_rows-so-requires c = let p = c.requires in
 pub returns : goal.returns
 returns c = let g = c.args in
     let p = c.requires in
-    let r = (raw_lists c.args.raw-conditions.now c.args.raw-weights.now c.args.thresholds.now) in
+    let r = (raw_lists c.args.raw_conditions.now c.args.raw_weights.now c.args.thresholds.now) in
     let s = c.place_rows-so.ensures in
     let J = join_all (terms_to r (length g.thresholds.now)) in
     let k = c.place_rows-so.auto.scratch in
@@ -31,20 +31,20 @@ returns c = let g = c.args in
       record {
         many = s.0.marks.many;
         end = s.0.end;
-        conditions = laid-over g.row-conditions.now _ (conditions_of J) p.2 c.place_rows-so.auto.row_conditions s.0.terms.conditions;
-        weights = laid-over g.row-weights.now _ (weights_of J) p.3 c.place_rows-so.auto.row_weights s.0.terms.weights;
+        conditions = laid-over g.row_conditions.now _ (conditions_of J) p.2 c.place_rows-so.auto.row_conditions s.0.terms.conditions;
+        weights = laid-over g.row_weights.now _ (weights_of J) p.3 c.place_rows-so.auto.row_weights s.0.terms.weights;
         entries = s.1;
         named = s.2;
       },
-      cleared_part _ _ c.place_rows-so.result.rows ((let it : c.place_rows-so.result.rows ≤ length c.place_rows-so.new.scratch = let few = marks_few ((raw_lists c.args.raw-conditions.now c.args.raw-weights.now c.args.thresholds.now)) _ _ _ _ c.place_rows-so.ensures.0.marks in omega (arith, c.requires.0.lists.many, c.requires.0.words, c.place_rows-so.auto.scratch) in it)) c.clear.ensures ∙ marks-cleared r _ c.place_rows-so.result.rows g.scratch.now _ _ p.4 k (omega arith) s.0.marks,
+      cleared_part _ _ c.place_rows-so.result.rows ((let it : c.place_rows-so.result.rows ≤ length c.place_rows-so.new.scratch = let few = marks_few ((raw_lists c.args.raw_conditions.now c.args.raw_weights.now c.args.thresholds.now)) _ _ _ _ c.place_rows-so.ensures.0.marks in omega (arith, c.requires.0.lists.many, c.requires.0.words, c.place_rows-so.auto.scratch) in it)) c.clear.ensures ∙ marks-cleared r _ c.place_rows-so.result.rows g.scratch.now _ _ p.4 k (omega arith) s.0.marks,
       c.clear_u16.ensures ∙ zeros_back _ g.heads.now p.5 c.place_rows-so.auto.heads,
     )
 
 pub slice_bounds-clear-end : goal.slice_bounds-clear-end
-slice_bounds-clear-end c = (let it : c.place_rows-so.result.rows ≤ length c.place_rows-so.new.scratch = let few = marks_few ((raw_lists c.args.raw-conditions.now c.args.raw-weights.now c.args.thresholds.now)) _ _ _ _ c.place_rows-so.ensures.0.marks in omega (arith, c.requires.0.lists.many, c.requires.0.words, c.place_rows-so.auto.scratch) in it)
+slice_bounds-clear-end c = (let it : c.place_rows-so.result.rows ≤ length c.place_rows-so.new.scratch = let few = marks_few ((raw_lists c.args.raw_conditions.now c.args.raw_weights.now c.args.thresholds.now)) _ _ _ _ c.place_rows-so.ensures.0.marks in omega (arith, c.requires.0.lists.many, c.requires.0.words, c.place_rows-so.auto.scratch) in it)
 
 pub slice_bounds-clear-end-2 : goal.slice_bounds-clear-end-2
-slice_bounds-clear-end-2 c = sym (length-take-le _ _ ((let it : c.place_rows-so.result.rows ≤ length c.place_rows-so.new.scratch = let few = marks_few ((raw_lists c.args.raw-conditions.now c.args.raw-weights.now c.args.thresholds.now)) _ _ _ _ c.place_rows-so.ensures.0.marks in omega (arith, c.requires.0.lists.many, c.requires.0.words, c.place_rows-so.auto.scratch) in it)))
+slice_bounds-clear-end-2 c = sym (length-take-le _ _ ((let it : c.place_rows-so.result.rows ≤ length c.place_rows-so.new.scratch = let few = marks_few ((raw_lists c.args.raw_conditions.now c.args.raw_weights.now c.args.thresholds.now)) _ _ _ _ c.place_rows-so.ensures.0.marks in omega (arith, c.requires.0.lists.many, c.requires.0.words, c.place_rows-so.auto.scratch) in it)))
 
 pub shape_of-row_conditions : goal.shape_of-row_conditions
 shape_of-row_conditions c = c.place_rows-so.auto.row_conditions

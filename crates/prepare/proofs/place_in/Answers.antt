@@ -21,24 +21,24 @@ slice_bounds-place_all-end c = c.requires.conditions
 
 pub slice_bounds-place_all-end-2 : goal.slice_bounds-place_all-end-2
 slice_bounds-place_all-end-2 c = let g = c.args in
-    sym (length-take-le (length g.raw-conditions.now) g.row-conditions.now c.requires.conditions)
+    sym (length-take-le (length g.raw_conditions.now) g.row_conditions.now c.requires.conditions)
 
 pub slice_bounds-place_all-end-3 : goal.slice_bounds-place_all-end-3
 slice_bounds-place_all-end-3 c = c.requires.weights
 
 pub slice_bounds-place_all-end-4 : goal.slice_bounds-place_all-end-4
 slice_bounds-place_all-end-4 c = let g = c.args in
-    sym (length-take-le (length g.raw-conditions.now) g.row-weights.now c.requires.weights)
+    sym (length-take-le (length g.raw_conditions.now) g.row_weights.now c.requires.weights)
 
 pub place_all-requires : goal.place_all-requires
 place_all-requires c = let g = c.args in
-    let r = raw_lists g.raw-conditions.now g.raw-weights.now g.thresholds.now in
-    open_ready r g.row-conditions.now g.row-weights.now g.rows.now g.nodes.now g.scratch.now g.heads.now c.requires
+    let r = raw_lists g.raw_conditions.now g.raw_weights.now g.thresholds.now in
+    open_ready r g.row_conditions.now g.row_weights.now g.rows.now g.nodes.now g.scratch.now g.heads.now c.requires
 
 pub returns : goal.returns
 returns c = let g = c.args in
     let p = c.requires in
-    let r = raw_lists g.raw-conditions.now g.raw-weights.now g.thresholds.now in
+    let r = raw_lists g.raw_conditions.now g.raw_weights.now g.thresholds.now in
     let s = c.place_all.ensures in
     let J = join_all (terms_to r (length g.thresholds.now)) in
     let fit = terms_fit r (length g.thresholds.now) p.lists in
@@ -47,10 +47,10 @@ returns c = let g = c.args in
       record {
         many = s.0.many;
         end = s.0.end;
-        conditions = ap (λ (l : List ℕ). l ++ drop (length g.raw-conditions.now) g.row-conditions.now) s.0.conditions
-            ∙ over_part (conditions_of J) g.row-conditions.now (length g.raw-conditions.now) (omega arith) p.conditions;
-        weights = ap (λ (l : List ℕ). l ++ drop (length g.raw-conditions.now) g.row-weights.now) s.0.weights
-            ∙ over_part (weights_of J) g.row-weights.now (length g.raw-conditions.now) (omega arith) p.weights;
+        conditions = ap (λ (l : List ℕ). l ++ drop (length g.raw_conditions.now) g.row_conditions.now) s.0.conditions
+            ∙ over_part (conditions_of J) g.row_conditions.now (length g.raw_conditions.now) (omega arith) p.conditions;
+        weights = ap (λ (l : List ℕ). l ++ drop (length g.raw_conditions.now) g.row_weights.now) s.0.weights
+            ∙ over_part (weights_of J) g.row_weights.now (length g.raw_conditions.now) (omega arith) p.weights;
         entries = s.0.entries;
         named = s.0.named;
       },

@@ -15,7 +15,7 @@ returns-then-input-at-eq8 c = let w = c.u32_at-figure in
     let n = c.u16_at-condition in
     let g = c.args in
     let t = c.add_area-after in
-    (read_area g.input.now g.at g.standing c.requires.0 n.result w.result n.ensures w.ensures c.if-input-at-eq8.true g.raw-conditions.now g.raw-weights.now g.thresholds.now g.places.now g.sums.now t.result _ _ _ _ _ t.ensures, refl, refl)
+    (read_area g.input.now g.at g.standing c.requires.0 n.result w.result n.ensures w.ensures c.if-input-at-eq8.true g.raw_conditions.now g.raw_weights.now g.thresholds.now g.places.now g.sums.now t.result _ _ _ _ _ t.ensures, refl, refl)
 
 pub add_term-after-requires : goal.add_term-after-requires
 add_term-after-requires c = let w = c.u32_at-figure in
@@ -28,4 +28,4 @@ returns c = let w = c.u32_at-figure in
     let n = c.u16_at-condition in
     let g = c.args in
     let t = c.add_term-after in
-    (read_term g.input.now g.at g.standing c.requires.0 n.result w.result n.ensures w.ensures c.if-input-at-eq8.false g.raw-conditions.now g.raw-weights.now g.thresholds.now g.places.now g.sums.now t.result _ _ _ t.ensures, refl, refl)
+    (read_term g.input.now g.at g.standing c.requires.0 n.result w.result n.ensures w.ensures c.if-input-at-eq8.false g.raw_conditions.now g.raw_weights.now g.thresholds.now g.places.now g.sums.now t.result _ _ _ t.ensures, refl, refl)

@@ -5,4 +5,4 @@ use borrow.Author.Rules.{rules}
 use Rattle.records.proofs.body_length.Goals as goal
 
 pub returns-in_default : goal.returns-in_default
-returns-in_default c = body_other c.args.kind 8 c.in-1.rest (omega arith)
+returns-in_default c = body_other c.args.kind 8 c.in_default.in_default-own.rest (omega arith)

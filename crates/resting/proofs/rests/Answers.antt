@@ -24,8 +24,7 @@ returns-else-possible-lower c = let a = c.args in
     let hp : to_z w64 (of_z w64 a.state.possible) ≡ a.state.possible = signed a.state.possible p.1.possible in
     let hl : to_z w64 (of_z w64 a.state.lower) ≡ a.state.lower = signed a.state.lower p.1.lower in
     let fits = simp (hp, hl) at c.if-possible-lower.false in
-    let no-upper = c.enum_told-in-Open-1.given.1 in
     let all = c.scans_rest.ensures in
     (λ h ns q same.
     let m = marks a.sure.now a.never.now q in
-    row_rests [] (terms a.conditions.now a.weights.now) (guards a.bounds.now ns) a.state m no-upper fits ((all h).0 ns m same) ((all h).1 ns m same) ((all h).2 q))
+    row_rests [] (terms a.conditions.now a.weights.now) (guards a.bounds.now ns) a.state m c.in-Open.is fits ((all h).0 ns m same) ((all h).1 ns m same) ((all h).2 q))

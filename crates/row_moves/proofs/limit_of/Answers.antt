@@ -7,9 +7,8 @@ use borrow.Author.Rules.{rules}
 use Rattle.row_moves.proofs.limit_of.Goals as goal
 
 pub returns-in-Open : goal.returns-in-Open
-returns-in-Open c = sym (ap limit c.enum_told-1.given.1)
+returns-in-Open c = sym (ap limit c.in-Open.is)
 
 pub returns-in-Under : goal.returns-in-Under
-returns-in-Under c = let u = c.upper-1.given in
-    let hu : to_z w64 (of_z w64 u.0.0) ≡ u.0.0 = search rules in
-    hu ∙ sym (ap limit u.1)
+returns-in-Under c = let hu : to_z w64 (of_z w64 c.in-Under.bound) ≡ c.in-Under.bound = search rules in
+    hu ∙ sym (ap limit c.in-Under.is)

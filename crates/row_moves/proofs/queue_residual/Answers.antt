@@ -13,14 +13,14 @@ returns-then-wants_residual c = let queue-row = c.queue_row in
     let wants-residual = c.wants_residual in
     let a = c.args in (
       λ raw gs. queue-row.ensures.0
-          ∙ residual-waits (row_of raw (terms a.row-conditions.now a.row-weights.now) gs) a.state (rows_in 2 a.row_queues.now a.ring) a.row
+          ∙ residual-waits (row_of raw (terms a.row_conditions.now a.row_weights.now) gs) a.state (rows_in 2 a.row_queues.now a.ring) a.row
           (sym (wants-residual.ensures raw gs) ∙ if1.true),
       queue-row.ensures.1,
     )
 
 pub returns : goal.returns
 returns c = let a = c.args in (
-      λ raw gs. residual-not (row_of raw (terms a.row-conditions.now a.row-weights.now) gs) a.state (rows_in 2 a.row_queues.now a.ring) a.row
+      λ raw gs. residual-not (row_of raw (terms a.row_conditions.now a.row_weights.now) gs) a.state (rows_in 2 a.row_queues.now a.ring) a.row
           (sym (c.wants_residual.ensures raw gs) ∙ c.if-wants_residual.false),
       λ other. refl,
     )

@@ -17,7 +17,7 @@ terms-rise : (c : After-guards_end-f) → c.terms_start-a.result ≤ c.terms_end
 terms-rise c = let p = c.requires in
     omega (arith, c.terms_start-a.ensures.0, c.terms_end-e.ensures.0, p.0.1.terms.rising c.args.row p.1)
 
-terms-inside : (c : After-guards_end-f) → c.terms_end-e.result ≤ length c.args.row-conditions.now
+terms-inside : (c : After-guards_end-f) → c.terms_end-e.result ≤ length c.args.row_conditions.now
 terms-inside c = let p = c.requires in
     omega (arith, c.terms_end-e.ensures.0, p.0.1.terms.ends c.args.row p.1)
 
@@ -59,7 +59,7 @@ slice_bounds-rests-end-3 c = omega (arith, guards-inside (goal.at.slice_bounds-r
 pub rests-requires : goal.rests-requires
 rests-requires c = let a = c.args in
     let p = c.requires in
-    let h = held_rows a.row-conditions.now a.row-weights.now a.rows.now a.guard_bounds.now p.0.0 in
+    let h = held_rows a.row_conditions.now a.row_weights.now a.rows.now a.guard_bounds.now p.0.0 in
     let terms-start = c.terms_start-a in
     let terms_end = c.terms_end-e in
     let guards-start = c.guards_start-b in
@@ -76,7 +76,7 @@ returns c = let a = c.args in
     let guards-start = c.guards_start-b in
     let guards_end = c.guards_end-f in
     (λ t ns q shaped.
-    let h = held_rows a.row-conditions.now a.row-weights.now a.rows.now a.guard_bounds.now ns in
+    let h = held_rows a.row_conditions.now a.row_weights.now a.rows.now a.guard_bounds.now ns in
     let b = guards-start.result in
     let f = guards_end.result in
     let same = (guard_slices h shaped a.row k b f guards-start.ensures.0 guards_end.ensures.0).same in

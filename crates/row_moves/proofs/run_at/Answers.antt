@@ -24,14 +24,14 @@ pub rests_at-requires : goal.rests_at-requires
 rests_at-requires c = let a = c.args in
     let p = c.requires in
     let load = c.load-state in
-    let fit = fit_by ((let a = c.args in held_rows a.row-conditions.now a.row-weights.now a.rows.now a.guard_bounds.now a.guard_nodes.now)) figure_limit a.row load.result (state_at ((let a = c.args in live_of a.figures.now a.cursors.now a.sure.now a.never.now a.node_queue.now a.row_queues.now a.rings)) a.row) load.ensures (p.1.fit a.row p.0.1) in
+    let fit = fit_by ((let a = c.args in held_rows a.row_conditions.now a.row_weights.now a.rows.now a.guard_bounds.now a.guard_nodes.now)) figure_limit a.row load.result (state_at ((let a = c.args in live_of a.figures.now a.cursors.now a.sure.now a.never.now a.node_queue.now a.row_queues.now a.rings)) a.row) load.ensures (p.1.fit a.row p.0.1) in
     ((a.guard_nodes.now, p.0.0, fit), p.0.1, omega (arith, p.1.waits.sures), omega (arith, p.1.waits.nevers))
 
 pub returns-then-rests_at : goal.returns-then-rests_at
 returns-then-rests_at c = let a = c.args in
     let p = c.requires in
     let load = c.load-state in
-    let row = held_row ((let a = c.args in held_rows a.row-conditions.now a.row-weights.now a.rows.now a.guard_bounds.now a.guard_nodes.now)) a.row in
+    let row = held_row ((let a = c.args in held_rows a.row_conditions.now a.row_weights.now a.rows.now a.guard_bounds.now a.guard_nodes.now)) a.row in
     let v = (let a = c.args in live_of a.figures.now a.cursors.now a.sure.now a.never.now a.node_queue.now a.row_queues.now a.rings) in
     let rest = c.rests_at.ensures c.if-rests_at.true a.guard_nodes.now (queue a.node_queue.now a.rings.nodes) p.0.0 in
     let there = subst (λ (y : State). Rests row y v.marks) load.ensures rest in
@@ -68,6 +68,6 @@ returns c = let run_cut = c.run_cut-made in
     let o : Rings → Live = λ q. live_of run_cut.new.figures run_cut.new.cursors run_cut.new.sure run_cut.new.never run_cut.new.node_queue run_cut.new.row_queues q in
     let q = standing y.nodes a.rings.rows y.residuals in (
       stood_as o Did-of.result.rings q Did-of.result.step y.step Did-of.ensures.0 Did-of.ensures.1
-          (run_with (held_row ((let a = c.args in held_rows a.row-conditions.now a.row-weights.now a.rows.now a.guard_bounds.now a.guard_nodes.now)) a.row) ((let a = c.args in live_of a.figures.now a.cursors.now a.sure.now a.never.now a.node_queue.now a.row_queues.now a.rings)) a.row) (run_cut.ensures.0 a.rings.rows),
+          (run_with (held_row ((let a = c.args in held_rows a.row_conditions.now a.row_weights.now a.rows.now a.guard_bounds.now a.guard_nodes.now)) a.row) ((let a = c.args in live_of a.figures.now a.cursors.now a.sure.now a.never.now a.node_queue.now a.row_queues.now a.rings)) a.row) (run_cut.ensures.0 a.rings.rows),
       run_cut.ensures.1,
     )

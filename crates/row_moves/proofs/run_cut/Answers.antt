@@ -97,7 +97,7 @@ run_row-requires c = let guards_end = c.guards_end-f in
     let terms-start = c.terms_start-a in
     let a = c.args in
     let p = c.requires in
-    let h = held_rows a.row-conditions.now a.row-weights.now a.rows.now a.guard_bounds.now a.guard_nodes.now in
+    let h = held_rows a.row_conditions.now a.row_weights.now a.rows.now a.guard_bounds.now a.guard_nodes.now in
     let v = live_of a.figures.now a.cursors.now a.sure.now a.never.now a.node_queue.now a.row_queues.now (standing a.nodes a.nodes a.residuals) in
     let y = p.0.0 in
     let k = p.0.1 in
@@ -132,7 +132,7 @@ returns c = let run_row_lem = c.run_row in
     let terms_end = c.terms_end-e in
     let terms-start = c.terms_start-a in
     let a = c.args in
-    let h = held_rows a.row-conditions.now a.row-weights.now a.rows.now a.guard_bounds.now a.guard_nodes.now in
+    let h = held_rows a.row_conditions.now a.row_weights.now a.rows.now a.guard_bounds.now a.guard_nodes.now in
     let v : Ring → Live = λ w. live_of a.figures.now a.cursors.now a.sure.now a.never.now a.node_queue.now a.row_queues.now (standing a.nodes w a.residuals) in
     let y = run_row_lem.result in
     let o : Ring → Live = λ w. live_of run_row_lem.new.figures run_row_lem.new.cursors run_row_lem.new.sure run_row_lem.new.never run_row_lem.new.node_queue run_row_lem.new.row_queues (standing y.nodes w y.residuals) in (

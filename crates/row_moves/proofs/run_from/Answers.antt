@@ -22,7 +22,7 @@ pub run_cut-made-requires : goal.run_cut-made-requires
 run_cut-made-requires c = let store = c.store in
     let a = c.args in
     let p = c.requires in
-    let h = held_rows a.row-conditions.now a.row-weights.now a.rows.now a.guard_bounds.now a.guard_nodes.now in
+    let h = held_rows a.row_conditions.now a.row_weights.now a.rows.now a.guard_bounds.now a.guard_nodes.now in
     let v = live_of a.figures.now a.cursors.now a.sure.now a.never.now a.node_queue.now a.row_queues.now a.rings in
     let e = states_set a.figures.now store.new.figures a.cursors.now store.new.cursors a.row a.state (omega (arith, p.1.long, p.0.1)) store.ensures.0 store.ensures.1 in
     let stored = ready_set h figure_limit v.states v.marks v.residuals p.1 a.row a.state p.0.2 in
@@ -56,7 +56,7 @@ returns c = let Did-of = c.did_of in
     let store = c.store in
     let a = c.args in
     let p = c.requires in
-    let h = held_rows a.row-conditions.now a.row-weights.now a.rows.now a.guard_bounds.now a.guard_nodes.now in
+    let h = held_rows a.row_conditions.now a.row_weights.now a.rows.now a.guard_bounds.now a.guard_nodes.now in
     let v = live_of a.figures.now a.cursors.now a.sure.now a.never.now a.node_queue.now a.row_queues.now a.rings in
     let y = run_cut.result in
     let o : Rings → Live = λ q. live_of run_cut.new.figures run_cut.new.cursors run_cut.new.sure run_cut.new.never run_cut.new.node_queue run_cut.new.row_queues q in

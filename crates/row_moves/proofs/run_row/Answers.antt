@@ -68,11 +68,11 @@ returns c = let store = c.store_cursors in
     let cs' = store.new.cursors in
     let t = threshold-row.result in
     let gs = guards a.guard_bounds.now a.guard_nodes.now in
-    let row = row_of [] (terms a.row-conditions.now a.row-weights.now) gs in
+    let row = row_of [] (terms a.row_conditions.now a.row_weights.now) gs in
     let m = marks a.sure.now a.never.now (queue a.node_queue.now a.nodes) in
     let n = marks threshold-row.new.sure threshold-row.new.never (queue threshold-row.new.node_queue t.ring) in
     let after : Ring → Live = λ w. live_of fs cs' threshold-row.new.sure threshold-row.new.never threshold-row.new.node_queue queue-residual.new.row_queues (standing t.ring w queue-residual.result) in
-    let whole = kept_row row load.result m (all_guards a.guard_bounds.now a.guard_nodes.now p.0.2.below) (all_terms_lem a.row-conditions.now a.row-weights.now p.0.1.below) p.1.0.1 in
+    let whole = kept_row row load.result m (all_guards a.guard_bounds.now a.guard_nodes.now p.0.2.below) (all_terms_lem a.row_conditions.now a.row_weights.now p.0.1.below) p.1.0.1 in
     let kept = kept_by_lem load.result (ran t.state n t.step) (threshold_row row load.result m) (threshold-row.ensures []) whole in
     let stored = stored_cursors fs cs a.row p.0.0 cs' t.state store.ensures in
     let states =

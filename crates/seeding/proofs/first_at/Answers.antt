@@ -51,8 +51,8 @@ total-total-requires c = let terms_end = c.terms_end-e in
     let p = c.requires in
     let from = terms-start.result in
     let end = terms_end.result in
-    let cs = a.row-conditions.now in
-    let ws = a.row-weights.now in
+    let cs = a.row_conditions.now in
+    let ws = a.row_weights.now in
     let k = p.0.ends a.row p.3 in
     let weights = stretch-length from end ws (omega (arith, terms_end.ensures.0, k, p.1)) in
     let conditions = stretch-length from end cs (omega (arith, terms_end.ensures.0, k)) in
@@ -67,7 +67,7 @@ pub first-requires : goal.first-requires
 first-requires c = let terms_end = c.terms_end-e in
     let terms-start = c.terms_start-a in
     let a = c.args in
-    let small = small_cut a.row-conditions.now a.row-weights.now a.rows.now a.row terms-start.result terms_end.result room_limit terms-start.ensures.0 terms_end.ensures.0 c.requires.4 in
+    let small = small_cut a.row_conditions.now a.row_weights.now a.rows.now a.row terms-start.result terms_end.result room_limit terms-start.ensures.0 terms_end.ensures.0 c.requires.4 in
     omega (arith, c.total-total.ensures, small)
 
 pub returns : goal.returns
@@ -76,6 +76,6 @@ returns c = let guards-count = c.guards_count-guards in
     let terms_end = c.terms_end-e in
     let terms-start = c.terms_start-a in
     let a = c.args in
-    let cut = first-cut a.row-conditions.now a.row-weights.now a.rows.now a.row terms-start.result terms_end.result guards-count.result sum.result
+    let cut = first-cut a.row_conditions.now a.row_weights.now a.rows.now a.row terms-start.result terms_end.result guards-count.result sum.result
     terms-start.ensures.0 terms_end.ensures.0 sum.ensures guards-count.ensures in
     c.first.ensures ∙ cut

@@ -10,7 +10,7 @@ use Rattle.seeding.proofs.first_states.Goals as goal
 
 pub loop-at-init : goal.loop-at-init
 loop-at-init c = let a = c.args in
-    (starting_first a.row-conditions.now a.row-weights.now a.rows.now (states_of a.figures.now a.cursors.now), refl, refl, λ t. t)
+    (starting_first a.row_conditions.now a.row_weights.now a.rows.now (states_of a.figures.now a.cursors.now), refl, refl, λ t. t)
 
 pub first_at-state-requires : goal.first_at-state-requires
 first_at-state-requires c = let test = c.loop-at-test in
@@ -39,7 +39,7 @@ loop-at-preserved c = let store = c.store in
     let k : w.at < length (states_of w.figures w.cursors) = omega (arith, test.true, c.requires.5, w.invariant.0.long) in
     let set = states_set w.figures store.new.figures w.cursors store.new.cursors w.at first k store.ensures.0 store.ensures.1 in
     let tidy = tidy_store w.figures store.new.figures w.cursors store.new.cursors w.at first k store.ensures.0 store.ensures.1 in
-    let next = starting_next a.row-conditions.now a.row-weights.now a.rows.now (states_of a.figures.now a.cursors.now) w.at
+    let next = starting_next a.row_conditions.now a.row_weights.now a.rows.now (states_of a.figures.now a.cursors.now) w.at
     (states_of w.figures w.cursors) w.invariant.0 test.true first first-at.ensures (states_of store.new.figures store.new.cursors) set in
     (next, store.auto.figures ∙ w.invariant.1, store.auto.cursors ∙ w.invariant.2, λ t. tidy (w.invariant.3 t))
 
@@ -52,6 +52,6 @@ shape_of-cursors c = c.loop-at.invariant.2
 pub returns : goal.returns
 returns c = let w = c.loop-at in
     let a = c.args in
-    let end = starting_end a.row-conditions.now a.row-weights.now a.rows.now (states_of a.figures.now a.cursors.now) w.at
+    let end = starting_end a.row_conditions.now a.row_weights.now a.rows.now (states_of a.figures.now a.cursors.now) w.at
     (states_of w.figures w.cursors) w.invariant.0 c.loop-at-test.false in
     (end, w.invariant.3)

@@ -12,7 +12,7 @@ use Rattle.seeding.proofs.seed_thresholds.Goals as goal
 
 pub loop-row-init : goal.loop-row-init
 loop-row-init c = let a = c.args in
-    let h = held_rows a.row-conditions.now a.row-weights.now a.rows.now a.guard_bounds.now a.guard_nodes.now in
+    let h = held_rows a.row_conditions.now a.row_weights.now a.rows.now a.guard_bounds.now a.guard_nodes.now in
     let v = live_of a.figures.now a.cursors.now a.sure.now a.never.now a.node_queue.now a.row_queues.now a.rings in (
       seeding_first h v c.requires.1,
       same_self a.figures.now a.cursors.now a.sure.now a.never.now a.node_queue.now a.row_queues.now,
@@ -59,7 +59,7 @@ returns-then-contradicts c = let run_at = c.run_at-turn in
     let test = c.loop-row-test in
     let w = c.loop-row in
     let a = c.args in
-    let h = held_rows a.row-conditions.now a.row-weights.now a.rows.now a.guard_bounds.now a.guard_nodes.now in
+    let h = held_rows a.row_conditions.now a.row_weights.now a.rows.now a.guard_bounds.now a.guard_nodes.now in
     let v = live_of a.figures.now a.cursors.now a.sure.now a.never.now a.node_queue.now a.row_queues.now a.rings in
     let u = live_of w.figures w.cursors w.sure w.never w.node_queue w.row_queues w.so_far.rings in
     let o = live_of run_at.new.figures run_at.new.cursors run_at.new.sure run_at.new.never run_at.new.node_queue run_at.new.row_queues run_at.result.rings in (
@@ -83,7 +83,7 @@ loop-row-preserved c = let join = c.join in
     let test = c.loop-row-test in
     let w = c.loop-row in
     let a = c.args in
-    let h = held_rows a.row-conditions.now a.row-weights.now a.rows.now a.guard_bounds.now a.guard_nodes.now in
+    let h = held_rows a.row_conditions.now a.row_weights.now a.rows.now a.guard_bounds.now a.guard_nodes.now in
     let v = live_of a.figures.now a.cursors.now a.sure.now a.never.now a.node_queue.now a.row_queues.now a.rings in
     let u = live_of w.figures w.cursors w.sure w.never w.node_queue w.row_queues w.so_far.rings in
     let o = live_of run_at.new.figures run_at.new.cursors run_at.new.sure run_at.new.never run_at.new.node_queue run_at.new.row_queues run_at.result.rings in
@@ -122,7 +122,7 @@ shape_of-row_queues c = c.loop-row.invariant.1.row_queues
 pub returns : goal.returns
 returns c = let w = c.loop-row in
     let a = c.args in
-    let h = held_rows a.row-conditions.now a.row-weights.now a.rows.now a.guard_bounds.now a.guard_nodes.now in
+    let h = held_rows a.row_conditions.now a.row_weights.now a.rows.now a.guard_bounds.now a.guard_nodes.now in
     let v = live_of a.figures.now a.cursors.now a.sure.now a.never.now a.node_queue.now a.row_queues.now a.rings in
     let u = live_of w.figures w.cursors w.sure w.never w.node_queue w.row_queues w.so_far.rings in
     (seeding_end h v w.row w.so_far.step u w.invariant.0 c.loop-row-test.false, w.invariant.2)

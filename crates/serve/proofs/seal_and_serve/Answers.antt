@@ -14,25 +14,25 @@ use Rattle.serve.proofs.seal_and_serve.Goals as goal
 use Rattle.serve.proofs.seal_and_serve.Goals.{After-stood-next}
 
 -- With the seal the records behind it have a beginning.
-reaches : (p : After-stood-next) → (f : File) (base : List (List ℕ)) → Seals p.args.bounds.now ((let a = p.args in built (held_rows a.row-conditions.now a.row-weights.now a.rows.now a.guard_bounds.now a.guard_nodes.now) a.nodes.now a.edges.now a.links.now)) f → Lies base f ((let a = p.args in kept a.figures.now a.cursors.now a.sure.now a.never.now a.search.now a.gcds.now a.node_queue.now a.row_queues.now a.answers.now)) p.args.rings → p.args.standing ≡ standing f → Reaches p.args.bounds.now ((let a = p.args in built (held_rows a.row-conditions.now a.row-weights.now a.rows.now a.guard_bounds.now a.guard_nodes.now) a.nodes.now a.edges.now a.links.now)) base ((let a = p.args in kept p.seal-did.new.figures p.seal-did.new.cursors p.seal-did.new.sure p.seal-did.new.never a.search.now a.gcds.now p.seal-did.new.node_queue p.seal-did.new.row_queues a.answers.now)) ((record { at = p.args.at + 1; refused = 0; standing = p.stood-next.result; last = p.seal-did.result.step; rings = p.seal-did.result.rings })) (outcome (apply f Seal) [] 0 ((record { at = p.args.at + 1; refused = 0; standing = p.stood-next.result; last = p.seal-did.result.step; rings = p.seal-did.result.rings })).at)
+reaches : (p : After-stood-next) → (f : File) (base : List (List ℕ)) → Seals p.args.bounds.now ((let a = p.args in built (held_rows a.row_conditions.now a.row_weights.now a.rows.now a.guard_bounds.now a.guard_nodes.now) a.nodes.now a.edges.now a.links.now)) f → Lies base f ((let a = p.args in kept a.figures.now a.cursors.now a.sure.now a.never.now a.search.now a.gcds.now a.node_queue.now a.row_queues.now a.answers.now)) p.args.rings → p.args.standing ≡ standing f → Reaches p.args.bounds.now ((let a = p.args in built (held_rows a.row_conditions.now a.row_weights.now a.rows.now a.guard_bounds.now a.guard_nodes.now) a.nodes.now a.edges.now a.links.now)) base ((let a = p.args in kept p.seal-did.new.figures p.seal-did.new.cursors p.seal-did.new.sure p.seal-did.new.never a.search.now a.gcds.now p.seal-did.new.node_queue p.seal-did.new.row_queues a.answers.now)) ((record { at = p.args.at + 1; refused = 0; standing = p.stood-next.result; last = p.seal-did.result.step; rings = p.seal-did.result.rings })) (outcome (apply f Seal) [] 0 ((record { at = p.args.at + 1; refused = 0; standing = p.stood-next.result; last = p.seal-did.result.step; rings = p.seal-did.result.rings })).at)
 reaches p f base z l e = let a = p.args in
     let t = p.seal-did in
     let passed = seals_passed f a.input.now a.at p.requires.1 a.standing e p.requires.2 in
-    seals_reaches a.bounds.now ((let a = p.args in built (held_rows a.row-conditions.now a.row-weights.now a.rows.now a.guard_bounds.now a.guard_nodes.now) a.nodes.now a.edges.now a.links.now)) base f ((let a = p.args in kept a.figures.now a.cursors.now a.sure.now a.never.now a.search.now a.gcds.now a.node_queue.now a.row_queues.now a.answers.now)) a.rings z l ((let a = p.args in kept p.seal-did.new.figures p.seal-did.new.cursors p.seal-did.new.sure p.seal-did.new.never a.search.now a.gcds.now p.seal-did.new.node_queue p.seal-did.new.row_queues a.answers.now)) t.result.rings t.result.step t.ensures.0 passed
+    seals_reaches a.bounds.now ((let a = p.args in built (held_rows a.row_conditions.now a.row_weights.now a.rows.now a.guard_bounds.now a.guard_nodes.now) a.nodes.now a.edges.now a.links.now)) base f ((let a = p.args in kept a.figures.now a.cursors.now a.sure.now a.never.now a.search.now a.gcds.now a.node_queue.now a.row_queues.now a.answers.now)) a.rings z l ((let a = p.args in kept p.seal-did.new.figures p.seal-did.new.cursors p.seal-did.new.sure p.seal-did.new.never a.search.now a.gcds.now p.seal-did.new.node_queue p.seal-did.new.row_queues a.answers.now)) t.result.rings t.result.step t.ensures.0 passed
     (t.ensures.1 l.tidy) refl refl refl ((record { at = p.args.at + 1; refused = 0; standing = p.stood-next.result; last = p.seal-did.result.step; rings = p.seal-did.result.rings })) refl refl refl a.standing e p.stood-next.ensures
 
 pub seal-did-requires : goal.seal-did-requires
 seal-did-requires c = let a = c.args in
     let p = c.requires.0 in (
       (
-        seals_holds a.bounds.now ((let a = c.args in built (held_rows a.row-conditions.now a.row-weights.now a.rows.now a.guard_bounds.now a.guard_nodes.now) a.nodes.now a.edges.now a.links.now)) p.1 p.0 ((let a = c.args in kept a.figures.now a.cursors.now a.sure.now a.never.now a.search.now a.gcds.now a.node_queue.now a.row_queues.now a.answers.now)) a.rings p.2 p.3,
-        seals_shaped a.bounds.now ((let a = c.args in built (held_rows a.row-conditions.now a.row-weights.now a.rows.now a.guard_bounds.now a.guard_nodes.now) a.nodes.now a.edges.now a.links.now)) p.1 p.0 ((let a = c.args in kept a.figures.now a.cursors.now a.sure.now a.never.now a.search.now a.gcds.now a.node_queue.now a.row_queues.now a.answers.now)) a.rings p.2 p.3,
-        seals_totals a.bounds.now ((let a = c.args in built (held_rows a.row-conditions.now a.row-weights.now a.rows.now a.guard_bounds.now a.guard_nodes.now) a.nodes.now a.edges.now a.links.now)) p.1 p.0 ((let a = c.args in kept a.figures.now a.cursors.now a.sure.now a.never.now a.search.now a.gcds.now a.node_queue.now a.row_queues.now a.answers.now)) a.rings p.2 p.3,
-        seals_room a.bounds.now ((let a = c.args in built (held_rows a.row-conditions.now a.row-weights.now a.rows.now a.guard_bounds.now a.guard_nodes.now) a.nodes.now a.edges.now a.links.now)) p.1 p.0 ((let a = c.args in kept a.figures.now a.cursors.now a.sure.now a.never.now a.search.now a.gcds.now a.node_queue.now a.row_queues.now a.answers.now)) a.rings p.2 p.3,
+        seals_holds a.bounds.now ((let a = c.args in built (held_rows a.row_conditions.now a.row_weights.now a.rows.now a.guard_bounds.now a.guard_nodes.now) a.nodes.now a.edges.now a.links.now)) p.1 p.0 ((let a = c.args in kept a.figures.now a.cursors.now a.sure.now a.never.now a.search.now a.gcds.now a.node_queue.now a.row_queues.now a.answers.now)) a.rings p.2 p.3,
+        seals_shaped a.bounds.now ((let a = c.args in built (held_rows a.row_conditions.now a.row_weights.now a.rows.now a.guard_bounds.now a.guard_nodes.now) a.nodes.now a.edges.now a.links.now)) p.1 p.0 ((let a = c.args in kept a.figures.now a.cursors.now a.sure.now a.never.now a.search.now a.gcds.now a.node_queue.now a.row_queues.now a.answers.now)) a.rings p.2 p.3,
+        seals_totals a.bounds.now ((let a = c.args in built (held_rows a.row_conditions.now a.row_weights.now a.rows.now a.guard_bounds.now a.guard_nodes.now) a.nodes.now a.edges.now a.links.now)) p.1 p.0 ((let a = c.args in kept a.figures.now a.cursors.now a.sure.now a.never.now a.search.now a.gcds.now a.node_queue.now a.row_queues.now a.answers.now)) a.rings p.2 p.3,
+        seals_room a.bounds.now ((let a = c.args in built (held_rows a.row_conditions.now a.row_weights.now a.rows.now a.guard_bounds.now a.guard_nodes.now) a.nodes.now a.edges.now a.links.now)) p.1 p.0 ((let a = c.args in kept a.figures.now a.cursors.now a.sure.now a.never.now a.search.now a.gcds.now a.node_queue.now a.row_queues.now a.answers.now)) a.rings p.2 p.3,
       ),
       (
-        seals_waits a.bounds.now ((let a = c.args in built (held_rows a.row-conditions.now a.row-weights.now a.rows.now a.guard_bounds.now a.guard_nodes.now) a.nodes.now a.edges.now a.links.now)) p.1 p.0 ((let a = c.args in kept a.figures.now a.cursors.now a.sure.now a.never.now a.search.now a.gcds.now a.node_queue.now a.row_queues.now a.answers.now)) a.rings p.2 p.3,
-        seals_flags a.bounds.now ((let a = c.args in built (held_rows a.row-conditions.now a.row-weights.now a.rows.now a.guard_bounds.now a.guard_nodes.now) a.nodes.now a.edges.now a.links.now)) p.1 p.0 ((let a = c.args in kept a.figures.now a.cursors.now a.sure.now a.never.now a.search.now a.gcds.now a.node_queue.now a.row_queues.now a.answers.now)) a.rings p.2 p.3,
+        seals_waits a.bounds.now ((let a = c.args in built (held_rows a.row_conditions.now a.row_weights.now a.rows.now a.guard_bounds.now a.guard_nodes.now) a.nodes.now a.edges.now a.links.now)) p.1 p.0 ((let a = c.args in kept a.figures.now a.cursors.now a.sure.now a.never.now a.search.now a.gcds.now a.node_queue.now a.row_queues.now a.answers.now)) a.rings p.2 p.3,
+        seals_flags a.bounds.now ((let a = c.args in built (held_rows a.row_conditions.now a.row_weights.now a.rows.now a.guard_bounds.now a.guard_nodes.now) a.nodes.now a.edges.now a.links.now)) p.1 p.0 ((let a = c.args in kept a.figures.now a.cursors.now a.sure.now a.never.now a.search.now a.gcds.now a.node_queue.now a.row_queues.now a.answers.now)) a.rings p.2 p.3,
       ),
     )
 
@@ -49,7 +49,7 @@ returns c = let a = c.args in
     let w = c.requires in
     let t = c.serve_records-reached in (
       λ f base z l e.
-          seals_whole a.bounds.now ((let a = c.args in built (held_rows a.row-conditions.now a.row-weights.now a.rows.now a.guard_bounds.now a.guard_nodes.now) a.nodes.now a.edges.now a.links.now)) base f ((kept c.serve_records-reached.new.figures c.serve_records-reached.new.cursors c.serve_records-reached.new.sure c.serve_records-reached.new.never c.serve_records-reached.new.search c.serve_records-reached.new.gcds c.serve_records-reached.new.node_queue c.serve_records-reached.new.row_queues c.serve_records-reached.new.answers)) t.result a.input.now a.at w.1 a.standing e w.2
+          seals_whole a.bounds.now ((let a = c.args in built (held_rows a.row_conditions.now a.row_weights.now a.rows.now a.guard_bounds.now a.guard_nodes.now) a.nodes.now a.edges.now a.links.now)) base f ((kept c.serve_records-reached.new.figures c.serve_records-reached.new.cursors c.serve_records-reached.new.sure c.serve_records-reached.new.never c.serve_records-reached.new.search c.serve_records-reached.new.gcds c.serve_records-reached.new.node_queue c.serve_records-reached.new.row_queues c.serve_records-reached.new.answers)) t.result a.input.now a.at w.1 a.standing e w.2
           (t.ensures (apply f Seal) base (reaches (goal.at.returns c).After-stood-next f base z l e)),
       c.fours.ensures,
     )

@@ -10,7 +10,7 @@ use Rattle.serve.proofs.serve_records.Goals as goal
 
 pub loop-reached-init : goal.loop-reached-init
 loop-reached-init c = let a = c.args in (
-      loops_first a.input.now a.bounds.now ((let a = c.args in built (held_rows a.row-conditions.now a.row-weights.now a.rows.now a.guard_bounds.now a.guard_nodes.now) a.nodes.now a.edges.now a.links.now)) ((let a = c.args in kept a.figures.now a.cursors.now a.sure.now a.never.now a.search.now a.gcds.now a.node_queue.now a.row_queues.now a.answers.now)) a.first,
+      loops_first a.input.now a.bounds.now ((let a = c.args in built (held_rows a.row_conditions.now a.row_weights.now a.rows.now a.guard_bounds.now a.guard_nodes.now) a.nodes.now a.edges.now a.links.now)) ((let a = c.args in kept a.figures.now a.cursors.now a.sure.now a.never.now a.search.now a.gcds.now a.node_queue.now a.row_queues.now a.answers.now)) a.first,
       record { figures = refl; cursors = refl; sure = refl; never = refl; search = refl; gcds = refl; node_queue = refl; row_queues = refl; answers = refl },
     )
 
@@ -23,27 +23,27 @@ pub returns-then-number-ne0 : goal.returns-then-number-ne0
 returns-then-number-ne0 c = let a = c.args in
     let l = c.loop-reached in
     let s = c.serve_record-next in
-    loops_stop a.input.now a.bounds.now ((let a = c.args in built (held_rows a.row-conditions.now a.row-weights.now a.rows.now a.guard_bounds.now a.guard_nodes.now) a.nodes.now a.edges.now a.links.now)) ((let a = c.args in kept a.figures.now a.cursors.now a.sure.now a.never.now a.search.now a.gcds.now a.node_queue.now a.row_queues.now a.answers.now)) a.first ((let l = c.loop-reached in kept l.figures l.cursors l.sure l.never l.search l.gcds l.node_queue l.row_queues l.answers)) l.reached l.invariant.0 c.loop-reached-test.true ((kept c.serve_record-next.new.figures c.serve_record-next.new.cursors c.serve_record-next.new.sure c.serve_record-next.new.never c.serve_record-next.new.search c.serve_record-next.new.gcds c.serve_record-next.new.node_queue c.serve_record-next.new.row_queues c.serve_record-next.new.answers)) s.result s.ensures c.if-number-ne0.true
+    loops_stop a.input.now a.bounds.now ((let a = c.args in built (held_rows a.row_conditions.now a.row_weights.now a.rows.now a.guard_bounds.now a.guard_nodes.now) a.nodes.now a.edges.now a.links.now)) ((let a = c.args in kept a.figures.now a.cursors.now a.sure.now a.never.now a.search.now a.gcds.now a.node_queue.now a.row_queues.now a.answers.now)) a.first ((let l = c.loop-reached in kept l.figures l.cursors l.sure l.never l.search l.gcds l.node_queue l.row_queues l.answers)) l.reached l.invariant.0 c.loop-reached-test.true ((kept c.serve_record-next.new.figures c.serve_record-next.new.cursors c.serve_record-next.new.sure c.serve_record-next.new.never c.serve_record-next.new.search c.serve_record-next.new.gcds c.serve_record-next.new.node_queue c.serve_record-next.new.row_queues c.serve_record-next.new.answers)) s.result s.ensures c.if-number-ne0.true
 
 pub loop-reached-smaller : goal.loop-reached-smaller
 loop-reached-smaller c = let a = c.args in
     let l = c.loop-reached in
     let s = c.serve_record-next in
     let p = c.requires in
-    loops_less a.input.now a.bounds.now ((let a = c.args in built (held_rows a.row-conditions.now a.row-weights.now a.rows.now a.guard_bounds.now a.guard_nodes.now) a.nodes.now a.edges.now a.links.now)) ((let a = c.args in kept a.figures.now a.cursors.now a.sure.now a.never.now a.search.now a.gcds.now a.node_queue.now a.row_queues.now a.answers.now)) a.first ((let l = c.loop-reached in kept l.figures l.cursors l.sure l.never l.search l.gcds l.node_queue l.row_queues l.answers)) l.reached l.invariant.0 c.loop-reached-test.true ((kept c.serve_record-next.new.figures c.serve_record-next.new.cursors c.serve_record-next.new.sure c.serve_record-next.new.never c.serve_record-next.new.search c.serve_record-next.new.gcds c.serve_record-next.new.node_queue c.serve_record-next.new.row_queues c.serve_record-next.new.answers)) s.result s.ensures c.if-number-ne0.false p.0.0 p.0.1 p.0.2
+    loops_less a.input.now a.bounds.now ((let a = c.args in built (held_rows a.row_conditions.now a.row_weights.now a.rows.now a.guard_bounds.now a.guard_nodes.now) a.nodes.now a.edges.now a.links.now)) ((let a = c.args in kept a.figures.now a.cursors.now a.sure.now a.never.now a.search.now a.gcds.now a.node_queue.now a.row_queues.now a.answers.now)) a.first ((let l = c.loop-reached in kept l.figures l.cursors l.sure l.never l.search l.gcds l.node_queue l.row_queues l.answers)) l.reached l.invariant.0 c.loop-reached-test.true ((kept c.serve_record-next.new.figures c.serve_record-next.new.cursors c.serve_record-next.new.sure c.serve_record-next.new.never c.serve_record-next.new.search c.serve_record-next.new.gcds c.serve_record-next.new.node_queue c.serve_record-next.new.row_queues c.serve_record-next.new.answers)) s.result s.ensures c.if-number-ne0.false p.0.0 p.0.1 p.0.2
 
 pub loop-reached-preserved : goal.loop-reached-preserved
 loop-reached-preserved c = let a = c.args in
     let l = c.loop-reached in
     let s = c.serve_record-next in (
-      loops_next a.input.now a.bounds.now ((let a = c.args in built (held_rows a.row-conditions.now a.row-weights.now a.rows.now a.guard_bounds.now a.guard_nodes.now) a.nodes.now a.edges.now a.links.now)) ((let a = c.args in kept a.figures.now a.cursors.now a.sure.now a.never.now a.search.now a.gcds.now a.node_queue.now a.row_queues.now a.answers.now)) a.first ((let l = c.loop-reached in kept l.figures l.cursors l.sure l.never l.search l.gcds l.node_queue l.row_queues l.answers)) l.reached l.invariant.0 c.loop-reached-test.true ((kept c.serve_record-next.new.figures c.serve_record-next.new.cursors c.serve_record-next.new.sure c.serve_record-next.new.never c.serve_record-next.new.search c.serve_record-next.new.gcds c.serve_record-next.new.node_queue c.serve_record-next.new.row_queues c.serve_record-next.new.answers)) s.result s.ensures c.if-number-ne0.false,
+      loops_next a.input.now a.bounds.now ((let a = c.args in built (held_rows a.row_conditions.now a.row_weights.now a.rows.now a.guard_bounds.now a.guard_nodes.now) a.nodes.now a.edges.now a.links.now)) ((let a = c.args in kept a.figures.now a.cursors.now a.sure.now a.never.now a.search.now a.gcds.now a.node_queue.now a.row_queues.now a.answers.now)) a.first ((let l = c.loop-reached in kept l.figures l.cursors l.sure l.never l.search l.gcds l.node_queue l.row_queues l.answers)) l.reached l.invariant.0 c.loop-reached-test.true ((kept c.serve_record-next.new.figures c.serve_record-next.new.cursors c.serve_record-next.new.sure c.serve_record-next.new.never c.serve_record-next.new.search c.serve_record-next.new.gcds c.serve_record-next.new.node_queue c.serve_record-next.new.row_queues c.serve_record-next.new.answers)) s.result s.ensures c.if-number-ne0.false,
       (let it : Same ((let a = c.args in kept a.figures.now a.cursors.now a.sure.now a.never.now a.search.now a.gcds.now a.node_queue.now a.row_queues.now a.answers.now)) ((kept c.serve_record-next.new.figures c.serve_record-next.new.cursors c.serve_record-next.new.sure c.serve_record-next.new.never c.serve_record-next.new.search c.serve_record-next.new.gcds c.serve_record-next.new.node_queue c.serve_record-next.new.row_queues c.serve_record-next.new.answers)) = let o = c.loop-reached.invariant.1 in record { figures = c.serve_record-next.auto.figures ∙ o.figures; cursors = c.serve_record-next.auto.cursors ∙ o.cursors; sure = c.serve_record-next.auto.sure ∙ o.sure; never = c.serve_record-next.auto.never ∙ o.never; node_queue = c.serve_record-next.auto.node_queue ∙ o.node_queue; row_queues = c.serve_record-next.auto.row_queues ∙ o.row_queues; gcds = c.serve_record-next.auto.gcds ∙ o.gcds; search = c.serve_record-next.auto.search ∙ o.search; answers = c.serve_record-next.auto.answers ∙ o.answers; } in it),
     )
 
 pub returns : goal.returns
 returns c = let a = c.args in
     let l = c.loop-reached in
-    loops_end a.input.now a.bounds.now ((let a = c.args in built (held_rows a.row-conditions.now a.row-weights.now a.rows.now a.guard_bounds.now a.guard_nodes.now) a.nodes.now a.edges.now a.links.now)) ((let a = c.args in kept a.figures.now a.cursors.now a.sure.now a.never.now a.search.now a.gcds.now a.node_queue.now a.row_queues.now a.answers.now)) a.first ((let l = c.loop-reached in kept l.figures l.cursors l.sure l.never l.search l.gcds l.node_queue l.row_queues l.answers)) l.reached l.invariant.0 (omega (arith, c.loop-reached-test.false))
+    loops_end a.input.now a.bounds.now ((let a = c.args in built (held_rows a.row_conditions.now a.row_weights.now a.rows.now a.guard_bounds.now a.guard_nodes.now) a.nodes.now a.edges.now a.links.now)) ((let a = c.args in kept a.figures.now a.cursors.now a.sure.now a.never.now a.search.now a.gcds.now a.node_queue.now a.row_queues.now a.answers.now)) a.first ((let l = c.loop-reached in kept l.figures l.cursors l.sure l.never l.search l.gcds l.node_queue l.row_queues l.answers)) l.reached l.invariant.0 (omega (arith, c.loop-reached-test.false))
 
 pub shape_of-figures-then-number-ne0 : goal.shape_of-figures-then-number-ne0
 shape_of-figures-then-number-ne0 c = ((let it : Same ((let a = c.args in kept a.figures.now a.cursors.now a.sure.now a.never.now a.search.now a.gcds.now a.node_queue.now a.row_queues.now a.answers.now)) ((kept c.serve_record-next.new.figures c.serve_record-next.new.cursors c.serve_record-next.new.sure c.serve_record-next.new.never c.serve_record-next.new.search c.serve_record-next.new.gcds c.serve_record-next.new.node_queue c.serve_record-next.new.row_queues c.serve_record-next.new.answers)) = let o = c.loop-reached.invariant.1 in record { figures = c.serve_record-next.auto.figures ∙ o.figures; cursors = c.serve_record-next.auto.cursors ∙ o.cursors; sure = c.serve_record-next.auto.sure ∙ o.sure; never = c.serve_record-next.auto.never ∙ o.never; node_queue = c.serve_record-next.auto.node_queue ∙ o.node_queue; row_queues = c.serve_record-next.auto.row_queues ∙ o.row_queues; gcds = c.serve_record-next.auto.gcds ∙ o.gcds; search = c.serve_record-next.auto.search ∙ o.search; answers = c.serve_record-next.auto.answers ∙ o.answers; } in it)).figures

@@ -14,7 +14,7 @@ use Rattle.settle.proofs.settle.Goals as goal
 
 pub loop-busy-init : goal.loop-busy-init
 loop-busy-init c = (
-      settling_first c.args.bounds.now ((let a = c.args in built (held_rows a.row-conditions.now a.row-weights.now a.rows.now a.guard_bounds.now a.guard_nodes.now) a.nodes.now a.edges.now a.links.now)) ((let a = c.args in live_of a.figures.now a.cursors.now a.sure.now a.never.now a.node_queue.now a.row_queues.now a.rings)) c.requires.1,
+      settling_first c.args.bounds.now ((let a = c.args in built (held_rows a.row_conditions.now a.row_weights.now a.rows.now a.guard_bounds.now a.guard_nodes.now) a.nodes.now a.edges.now a.links.now)) ((let a = c.args in live_of a.figures.now a.cursors.now a.sure.now a.never.now a.node_queue.now a.row_queues.now a.rings)) c.requires.1,
       c.waits-busy.ensures,
       same_self c.args.figures.now c.args.cursors.now c.args.sure.now c.args.never.now c.args.node_queue.now c.args.row_queues.now,
       λ t. t,
@@ -27,7 +27,7 @@ turn-turned-requires c = let l = c.loop-busy in
 pub returns-then-contradicts : goal.returns-then-contradicts
 returns-then-contradicts c = let l = c.loop-busy in
     let t = c.turn-turned in (
-      settling_stop c.args.bounds.now ((let a = c.args in built (held_rows a.row-conditions.now a.row-weights.now a.rows.now a.guard_bounds.now a.guard_nodes.now) a.nodes.now a.edges.now a.links.now)) ((let a = c.args in live_of a.figures.now a.cursors.now a.sure.now a.never.now a.node_queue.now a.row_queues.now a.rings)) l.so_far.step ((let l = c.loop-busy in live_of l.figures l.cursors l.sure l.never l.node_queue l.row_queues l.so_far.rings)) l.invariant.0 ((let l = c.loop-busy in not-true (eqb l.so_far.rings.nodes.count 0 && eqb l.so_far.rings.rows.count 0) (sym l.invariant.1 ∙ c.loop-busy-test.true))) (did ((live_of c.turn-turned.new.figures c.turn-turned.new.cursors c.turn-turned.new.sure c.turn-turned.new.never c.turn-turned.new.node_queue c.turn-turned.new.row_queues c.turn-turned.result.rings)) t.result.step) t.ensures.0
+      settling_stop c.args.bounds.now ((let a = c.args in built (held_rows a.row_conditions.now a.row_weights.now a.rows.now a.guard_bounds.now a.guard_nodes.now) a.nodes.now a.edges.now a.links.now)) ((let a = c.args in live_of a.figures.now a.cursors.now a.sure.now a.never.now a.node_queue.now a.row_queues.now a.rings)) l.so_far.step ((let l = c.loop-busy in live_of l.figures l.cursors l.sure l.never l.node_queue l.row_queues l.so_far.rings)) l.invariant.0 ((let l = c.loop-busy in not-true (eqb l.so_far.rings.nodes.count 0 && eqb l.so_far.rings.rows.count 0) (sym l.invariant.1 ∙ c.loop-busy-test.true))) (did ((live_of c.turn-turned.new.figures c.turn-turned.new.cursors c.turn-turned.new.sure c.turn-turned.new.never c.turn-turned.new.node_queue c.turn-turned.new.row_queues c.turn-turned.result.rings)) t.result.step) t.ensures.0
           (sym c.contradicts.ensures ∙ c.if-contradicts.true),
       λ i. t.ensures.1 (l.invariant.3 i),
     )
@@ -36,13 +36,13 @@ pub loop-busy-smaller : goal.loop-busy-smaller
 loop-busy-smaller c = let l = c.loop-busy in
     let t = c.turn-turned in
     let w = c.requires.0 in
-    settling_less c.args.bounds.now ((let a = c.args in built (held_rows a.row-conditions.now a.row-weights.now a.rows.now a.guard_bounds.now a.guard_nodes.now) a.nodes.now a.edges.now a.links.now)) ((let a = c.args in live_of a.figures.now a.cursors.now a.sure.now a.never.now a.node_queue.now a.row_queues.now a.rings)) l.so_far.step ((let l = c.loop-busy in live_of l.figures l.cursors l.sure l.never l.node_queue l.row_queues l.so_far.rings)) l.invariant.0 ((let l = c.loop-busy in not-true (eqb l.so_far.rings.nodes.count 0 && eqb l.so_far.rings.rows.count 0) (sym l.invariant.1 ∙ c.loop-busy-test.true))) (did ((live_of c.turn-turned.new.figures c.turn-turned.new.cursors c.turn-turned.new.sure c.turn-turned.new.never c.turn-turned.new.node_queue c.turn-turned.new.row_queues c.turn-turned.result.rings)) t.result.step) t.ensures.0 w.0 w.1
+    settling_less c.args.bounds.now ((let a = c.args in built (held_rows a.row_conditions.now a.row_weights.now a.rows.now a.guard_bounds.now a.guard_nodes.now) a.nodes.now a.edges.now a.links.now)) ((let a = c.args in live_of a.figures.now a.cursors.now a.sure.now a.never.now a.node_queue.now a.row_queues.now a.rings)) l.so_far.step ((let l = c.loop-busy in live_of l.figures l.cursors l.sure l.never l.node_queue l.row_queues l.so_far.rings)) l.invariant.0 ((let l = c.loop-busy in not-true (eqb l.so_far.rings.nodes.count 0 && eqb l.so_far.rings.rows.count 0) (sym l.invariant.1 ∙ c.loop-busy-test.true))) (did ((live_of c.turn-turned.new.figures c.turn-turned.new.cursors c.turn-turned.new.sure c.turn-turned.new.never c.turn-turned.new.node_queue c.turn-turned.new.row_queues c.turn-turned.result.rings)) t.result.step) t.ensures.0 w.0 w.1
 
 pub loop-busy-preserved : goal.loop-busy-preserved
 loop-busy-preserved c = let l = c.loop-busy in
     let t = c.turn-turned in
     let w = c.requires.0 in (
-      settling_next c.args.bounds.now ((let a = c.args in built (held_rows a.row-conditions.now a.row-weights.now a.rows.now a.guard_bounds.now a.guard_nodes.now) a.nodes.now a.edges.now a.links.now)) ((let a = c.args in live_of a.figures.now a.cursors.now a.sure.now a.never.now a.node_queue.now a.row_queues.now a.rings)) l.so_far.step ((let l = c.loop-busy in live_of l.figures l.cursors l.sure l.never l.node_queue l.row_queues l.so_far.rings)) l.invariant.0 ((let l = c.loop-busy in not-true (eqb l.so_far.rings.nodes.count 0 && eqb l.so_far.rings.rows.count 0) (sym l.invariant.1 ∙ c.loop-busy-test.true))) (did ((live_of c.turn-turned.new.figures c.turn-turned.new.cursors c.turn-turned.new.sure c.turn-turned.new.never c.turn-turned.new.node_queue c.turn-turned.new.row_queues c.turn-turned.result.rings)) t.result.step) t.ensures.0 w.0 w.1
+      settling_next c.args.bounds.now ((let a = c.args in built (held_rows a.row_conditions.now a.row_weights.now a.rows.now a.guard_bounds.now a.guard_nodes.now) a.nodes.now a.edges.now a.links.now)) ((let a = c.args in live_of a.figures.now a.cursors.now a.sure.now a.never.now a.node_queue.now a.row_queues.now a.rings)) l.so_far.step ((let l = c.loop-busy in live_of l.figures l.cursors l.sure l.never l.node_queue l.row_queues l.so_far.rings)) l.invariant.0 ((let l = c.loop-busy in not-true (eqb l.so_far.rings.nodes.count 0 && eqb l.so_far.rings.rows.count 0) (sym l.invariant.1 ∙ c.loop-busy-test.true))) (did ((live_of c.turn-turned.new.figures c.turn-turned.new.cursors c.turn-turned.new.sure c.turn-turned.new.never c.turn-turned.new.node_queue c.turn-turned.new.row_queues c.turn-turned.result.rings)) t.result.step) t.ensures.0 w.0 w.1
           (sym c.contradicts.ensures ∙ c.if-contradicts.false) c.join.result c.join.ensures,
       c.waits-busy-in-loop-busy.ensures,
       (let it : let a = c.args in Same a.figures.now a.cursors.now a.sure.now a.never.now a.node_queue.now a.row_queues.now c.turn-turned.new.figures c.turn-turned.new.cursors c.turn-turned.new.sure c.turn-turned.new.never c.turn-turned.new.node_queue c.turn-turned.new.row_queues = let s = c.loop-busy.invariant.2 in record { figures = c.turn-turned.auto.figures ∙ s.figures; cursors = c.turn-turned.auto.cursors ∙ s.cursors; sure = c.turn-turned.auto.sure ∙ s.sure; never = c.turn-turned.auto.never ∙ s.never; node_queue = c.turn-turned.auto.node_queue ∙ s.node_queue; row_queues = c.turn-turned.auto.row_queues ∙ s.row_queues; } in it),
@@ -52,7 +52,7 @@ loop-busy-preserved c = let l = c.loop-busy in
 pub returns : goal.returns
 returns c = let l = c.loop-busy in
     let e = not-false (eqb l.so_far.rings.nodes.count 0 && eqb l.so_far.rings.rows.count 0) (sym l.invariant.1 ∙ c.loop-busy-test.false) in
-    (settling_end c.args.bounds.now ((let a = c.args in built (held_rows a.row-conditions.now a.row-weights.now a.rows.now a.guard_bounds.now a.guard_nodes.now) a.nodes.now a.edges.now a.links.now)) ((let a = c.args in live_of a.figures.now a.cursors.now a.sure.now a.never.now a.node_queue.now a.row_queues.now a.rings)) l.so_far.step ((let l = c.loop-busy in live_of l.figures l.cursors l.sure l.never l.node_queue l.row_queues l.so_far.rings)) l.invariant.0 e, l.invariant.3)
+    (settling_end c.args.bounds.now ((let a = c.args in built (held_rows a.row_conditions.now a.row_weights.now a.rows.now a.guard_bounds.now a.guard_nodes.now) a.nodes.now a.edges.now a.links.now)) ((let a = c.args in live_of a.figures.now a.cursors.now a.sure.now a.never.now a.node_queue.now a.row_queues.now a.rings)) l.so_far.step ((let l = c.loop-busy in live_of l.figures l.cursors l.sure l.never l.node_queue l.row_queues l.so_far.rings)) l.invariant.0 e, l.invariant.3)
 
 pub waits-busy-requires : goal.waits-busy-requires
 waits-busy-requires c = tt

@@ -25,7 +25,7 @@ threshold_prefixes-requires c = let v = (let a = c.args in live_of a.figures.now
     let q = n.new.row_queues in
     let r = c.args.rings in
     let i = row_there (length c.args.rows.now) v.dirty c.requires.1.dirty w.2 w.3 c.oldest_row-row.result c.oldest_row-row.ensures in
-    ((w.0, w.1, i), row_run v w.2 (rows_in 0 q n.result) (rows_in 2 q r.residuals) n.ensures.0 (n.ensures.1 r.residuals) ((let a = c.args in held_rows a.row-conditions.now a.row-weights.now a.rows.now a.guard_bounds.now a.guard_nodes.now)) figure_limit c.requires.1)
+    ((w.0, w.1, i), row_run v w.2 (rows_in 0 q n.result) (rows_in 2 q r.residuals) n.ensures.0 (n.ensures.1 r.residuals) ((let a = c.args in held_rows a.row_conditions.now a.row_weights.now a.rows.now a.guard_bounds.now a.guard_nodes.now)) figure_limit c.requires.1)
 
 pub returns : goal.returns
 returns c = let v = (let a = c.args in live_of a.figures.now a.cursors.now a.sure.now a.never.now a.node_queue.now a.row_queues.now a.rings) in

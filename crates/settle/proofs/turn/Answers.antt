@@ -11,7 +11,7 @@ use Rattle.settle.proofs.turn.Goals as goal
 pub take_row-requires : goal.take_row-requires
 take_row-requires c = let w = c.requires in
     let s = w.0.0.1 in
-    ((s.shaped, s.linked, w.0.1 c.if-count-eq0.true, w.1.within.tracked.dirty), going_run ((let a = c.args in held_rows a.row-conditions.now a.row-weights.now a.rows.now a.guard_bounds.now a.guard_nodes.now)) c.args.nodes.now ((let a = c.args in live_of a.figures.now a.cursors.now a.sure.now a.never.now a.node_queue.now a.row_queues.now a.rings)) w.1)
+    ((s.shaped, s.linked, w.0.1 c.if-count-eq0.true, w.1.within.tracked.dirty), going_run ((let a = c.args in held_rows a.row_conditions.now a.row_weights.now a.rows.now a.guard_bounds.now a.guard_nodes.now)) c.args.nodes.now ((let a = c.args in live_of a.figures.now a.cursors.now a.sure.now a.never.now a.node_queue.now a.row_queues.now a.rings)) w.1)
 
 pub returns-then-count-eq0 : goal.returns-then-count-eq0
 returns-then-count-eq0 c = let t = c.take_row in

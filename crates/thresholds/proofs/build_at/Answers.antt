@@ -18,13 +18,13 @@ use Rattle.thresholds.proofs.build_at.Goals as goal
 pub build_row-count-requires : goal.build_row-count-requires
 build_row-count-requires c = let g = c.args in
     let p = c.requires in
-    let cs = g.raw-conditions.now in
-    let ws = g.raw-weights.now in
+    let cs = g.raw_conditions.now in
+    let ws = g.raw_weights.now in
     let lc = stretch-length g.a g.e cs p.1 in
     let to = g.at + (g.e - g.a) in
     let lw = stretch-length g.a g.e ws (omega arith) in
-    let lr = stretch-length g.at to g.row-conditions.now (omega arith) in
-    let lv = stretch-length g.at to g.row-weights.now (omega arith) in
+    let lr = stretch-length g.at to g.row_conditions.now (omega arith) in
+    let lv = stretch-length g.at to g.row_weights.now (omega arith) in
     let ls = stretch-length 1024 (length g.scratch.now) g.scratch.now (omega arith) in (
       omega (arith, lw, lc),
       omega (arith, lr, lc),
@@ -38,8 +38,8 @@ build_row-count-requires c = let g = c.args in
 pub returns : goal.returns
 returns c = let g = c.args in
     let p = c.requires in
-    let cs = g.raw-conditions.now in
-    let ws = g.raw-weights.now in
+    let cs = g.raw_conditions.now in
+    let ws = g.raw_weights.now in
     let lc = stretch-length g.a g.e cs p.1 in
     let x = row_terms (terms (stretch g.a g.e cs) (stretch g.a g.e ws)) in
     let s = c.build_row-count.ensures in
@@ -50,8 +50,8 @@ returns c = let g = c.args in
     let k = s.0 in (
       ap (λ (x : ℕ). at + x) k,
       omega (arith, n, k, lc),
-      splice_by at m (at + m - at) _ g.row-conditions.now _ (conditions_of x) s.2 lc f,
-      splice_by at m (at + m - at) _ g.row-weights.now _ (weights_of x) s.3 lc f,
+      splice_by at m (at + m - at) _ g.row_conditions.now _ (conditions_of x) s.2 lc f,
+      splice_by at m (at + m - at) _ g.row_weights.now _ (weights_of x) s.3 lc f,
       ap (λ (y : List ℕ). take 1024 g.scratch.now ++ (y ++ drop (length g.scratch.now - 1024) (drop 1024 g.scratch.now))) s.4
           ∙ clear_part g.scratch.now 1024 (length (stretch g.a g.e cs)) (omega (arith, p.8)) p.9 (omega (arith, lc, p.3, p.0, p.8)),
     )

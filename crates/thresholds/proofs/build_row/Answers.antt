@@ -16,7 +16,7 @@ pub new_row-requires : goal.new_row-requires
 new_row-requires c = let g = c.args in
     let p = c.requires in
     let k = c.copy_list.ensures in
-    let r : Raw g.raw-conditions.now g.raw-weights.now = record {
+    let r : Raw g.raw_conditions.now g.raw_weights.now = record {
       even = sym p.0;
       few = p.3;
       conditions = p.5;
@@ -31,8 +31,8 @@ returns c = let g = c.args in
     let a = s.1 ∙ ap₂ (λ (cs ws : List ℕ). laid (length cs) (conditions_of (row_terms (terms cs ws)))) k.0 k.1 in
     let n = s.0 ∙ ap₂ (λ (cs ws : List ℕ). length (row_terms (terms cs ws))) k.0 k.1 in (
       n,
-      subst (λ (m : ℕ). m ≤ length g.raw-conditions.now) (sym n)
-          (laid-fits (λ (t : Term). t.condition) (row_terms (terms g.raw-conditions.now g.raw-weights.now)) _ (length g.raw-conditions.now) a (c.new_row.auto.conditions ∙ ap length k.0)),
+      subst (λ (m : ℕ). m ≤ length g.raw_conditions.now) (sym n)
+          (laid-fits (λ (t : Term). t.condition) (row_terms (terms g.raw_conditions.now g.raw_weights.now)) _ (length g.raw_conditions.now) a (c.new_row.auto.conditions ∙ ap length k.0)),
       a,
       s.2 ∙ ap₂ (λ (cs ws : List ℕ). laid (length cs) (weights_of (row_terms (terms cs ws)))) k.0 k.1,
       s.3 ∙ ap (λ (cs : List ℕ). cleared (length cs) g.scratch.now) k.0,

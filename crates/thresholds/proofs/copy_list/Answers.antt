@@ -27,8 +27,8 @@ loop-i-preserved c = let g = c.args in
     let p = c.requires in
     let t = c.loop-i-test.true in (
       omega arith,
-      ap (λ (l : List ℕ). set l w.i (get_or g.raw-conditions.now w.i 0)) w.invariant.1 ∙ blend_next w.i g.raw-conditions.now g.row-conditions.now 0 t (omega (arith, p.1, t)),
-      ap (λ (l : List ℕ). set l w.i (get_or g.raw-weights.now w.i 0)) w.invariant.2 ∙ blend_next w.i g.raw-weights.now g.row-weights.now 0 (omega (arith, p.0, t)) (omega (arith, p.2, t)),
+      ap (λ (l : List ℕ). set l w.i (get_or g.raw_conditions.now w.i 0)) w.invariant.1 ∙ blend_next w.i g.raw_conditions.now g.row_conditions.now 0 t (omega (arith, p.1, t)),
+      ap (λ (l : List ℕ). set l w.i (get_or g.raw_weights.now w.i 0)) w.invariant.2 ∙ blend_next w.i g.raw_weights.now g.row_weights.now 0 (omega (arith, p.0, t)) (omega (arith, p.2, t)),
       simp length-set w.invariant.3,
       simp length-set w.invariant.4,
     )
@@ -44,6 +44,6 @@ returns c = let g = c.args in
     let w = c.loop-i in
     let p = c.requires in
     let t = c.loop-i-test.false in (
-      w.invariant.1 ∙ blend_all w.i g.raw-conditions.now g.row-conditions.now t (omega (arith, p.1, t)),
-      w.invariant.2 ∙ blend_all w.i g.raw-weights.now g.row-weights.now (omega (arith, p.0, t)) (omega (arith, p.2, t)),
+      w.invariant.1 ∙ blend_all w.i g.raw_conditions.now g.row_conditions.now t (omega (arith, p.1, t)),
+      w.invariant.2 ∙ blend_all w.i g.raw_weights.now g.row_weights.now (omega (arith, p.0, t)) (omega (arith, p.2, t)),
     )

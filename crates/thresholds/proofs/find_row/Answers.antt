@@ -18,7 +18,7 @@ pub class_of-class-requires : goal.class_of-class-requires
 class_of-class-requires c = let g = c.args in
     let p = c.requires in
     let e = p.6 in
-    let h = print_small (raw_lists g.raw-conditions.now g.raw-weights.now g.thresholds.now) g.t p.0 p.1 in
+    let h = print_small (raw_lists g.raw_conditions.now g.raw_weights.now g.thresholds.now) g.t p.0 p.1 in
     omega arith
 
 pub bounds-heads-class : goal.bounds-heads-class
@@ -27,7 +27,7 @@ bounds-heads-class c = let w = c.requires.3.wide in let e = c.class_of-class.ens
 pub loop-k-init : goal.loop-k-init
 loop-k-init c = let g = c.args in
     let p = c.requires in
-    let r = raw_lists g.raw-conditions.now g.raw-weights.now g.thresholds.now in (
+    let r = raw_lists g.raw_conditions.now g.raw_weights.now g.thresholds.now in (
       search-start r g.marks.now g.heads.now (list_at r g.t) p.3 _ _
           (c.place-k.ensures.0 ∙ ap (λ (h : ℕ). get_or g.heads.now h 0) (c.class_of-class.ensures.0 ∙ ap class_of p.6)) c.word_at-word.ensures,
       c.word_at-word.ensures,
@@ -55,7 +55,7 @@ has_word-same-requires c = let p = c.requires in
 pub is_same-requires : goal.is_same-requires
 is_same-requires c = let g = c.args in
     let p = c.requires in
-    let r = raw_lists g.raw-conditions.now g.raw-weights.now g.thresholds.now in
+    let r = raw_lists g.raw_conditions.now g.raw_weights.now g.thresholds.now in
     let w = c.loop-k in
     let k = w.k - 1 in
     let t = c.loop-k-test.true in
@@ -66,7 +66,7 @@ is_same-requires c = let g = c.args in
 pub returns-then-is_same : goal.returns-then-is_same
 returns-then-is_same c = let g = c.args in
     let p = c.requires in
-    let r = raw_lists g.raw-conditions.now g.raw-weights.now g.thresholds.now in
+    let r = raw_lists g.raw_conditions.now g.raw_weights.now g.thresholds.now in
     let w = c.loop-k in
     let t = c.loop-k-test.true in
     let f = w.invariant.0.few in
@@ -116,7 +116,7 @@ loop-k-preserved c = let g = (s c).args in
 pub returns : goal.returns
 returns c = let g = c.args in
     let p = c.requires in
-    let r = raw_lists g.raw-conditions.now g.raw-weights.now g.thresholds.now in
+    let r = raw_lists g.raw_conditions.now g.raw_weights.now g.thresholds.now in
     let w = c.loop-k in
     let h = c.loop-k-test.false in
     search-none r g.marks.now g.heads.now (list_at r g.t) p.3 w.k w.p w.rest w.link (omega arith) w.invariant.0

@@ -15,7 +15,7 @@ use Rattle.thresholds.proofs.is_marked.Goals as goal
 pub returns-then-mark-print : goal.returns-then-mark-print
 returns-then-mark-print c = let g = c.args in
     let p = c.requires in
-    let r = raw_lists g.raw-conditions.now g.raw-weights.now g.thresholds.now in
+    let r = raw_lists g.raw_conditions.now g.raw_weights.now g.thresholds.now in
     sym (prints_differ r g.mark (list_at r g.t) p.3 (λ e. c.if-mark-print.true (e ∙ ap (λ (n : ℕ). n % shorts) (sym p.4))))
 
 pub same_stretch-requires : goal.same_stretch-requires
@@ -32,7 +32,7 @@ same_stretch-requires c = let g = c.args in
 
 pub returns : goal.returns
 returns c = let g = c.args in
-    let r = raw_lists g.raw-conditions.now g.raw-weights.now g.thresholds.now in
+    let r = raw_lists g.raw_conditions.now g.raw_weights.now g.thresholds.now in
     c.same_stretch.ensures
     ∙ ap₂ same_terms (list_is r (g.mark % 1024) c.start_of-a.result c.end_of-e.result c.start_of-a.ensures c.end_of-e.ensures)
     (list_is r g.t c.start_of-b.result c.end_of-g.result c.start_of-b.ensures c.end_of-g.ensures)

@@ -10,5 +10,5 @@ use Rattle.thresholds.proofs.is_same.Goals as goal
 pub returns : goal.returns
 returns c = let g = c.args in
     let p = c.requires in
-    let r = raw_lists g.raw-conditions.now g.raw-weights.now g.thresholds.now in
+    let r = raw_lists g.raw_conditions.now g.raw_weights.now g.thresholds.now in
     sym (words_differ (marked_list r g.mark) (list_at r g.t) g.p (sym p.5 ∙ c.if-same.false))

@@ -19,4 +19,4 @@ print_stretch-requires c = let g = c.args in
 pub returns : goal.returns
 returns c = let g = c.args in
     c.print_stretch.ensures
-    ∙ ap fingerprint (list_is (raw_lists g.raw-conditions.now g.raw-weights.now g.thresholds.now) g.t _ _ c.start_of-a.ensures c.end_of-e.ensures)
+    ∙ ap fingerprint (list_is (raw_lists g.raw_conditions.now g.raw_weights.now g.thresholds.now) g.t _ _ c.start_of-a.ensures c.end_of-e.ensures)

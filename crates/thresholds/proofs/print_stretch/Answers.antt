@@ -9,8 +9,8 @@ use Rattle.thresholds.proofs.print_stretch.Goals as goal
 pub fingerprint-requires : goal.fingerprint-requires
 fingerprint-requires c = let g = c.args in
     let p = c.requires in
-    let cs = g.raw-conditions.now in
-    let ws = g.raw-weights.now in
+    let cs = g.raw_conditions.now in
+    let ws = g.raw_weights.now in
     let lc = stretch-length g.a g.e cs p.1 in
     let lw = stretch-length g.a g.e ws (omega (arith, p.1, p.3)) in
     (omega (arith, lc, p.0, p.2), omega (arith, lw, lc), stretch_small g.a g.e ws raw_limit p.4)

@@ -24,8 +24,8 @@ returns-then-p-e c = let g = c.args in
     let p = c.requires in
     let a = c.start_of-a.ensures in
     let e = c.end_of-e.ensures in
-    sym (ap (λ (l : List Term). word_at l g.p) (sym (list_is (raw_lists g.raw-conditions.now g.raw-weights.now g.thresholds.now) g.t _ _ a e))
-    ∙ word_past g.raw-conditions.now g.raw-weights.now _ _ g.p p.0.weighed (omega (arith, p.0.inside g.t p.1)) c.if-p-e.true)
+    sym (ap (λ (l : List Term). word_at l g.p) (sym (list_is (raw_lists g.raw_conditions.now g.raw_weights.now g.thresholds.now) g.t _ _ a e))
+    ∙ word_past g.raw_conditions.now g.raw_weights.now _ _ g.p p.0.weighed (omega (arith, p.0.inside g.t p.1)) c.if-p-e.true)
 
 pub offset_bounds-raw_conditions-i : goal.offset_bounds-raw_conditions-i
 offset_bounds-raw_conditions-i c = let g = c.args in
@@ -104,5 +104,5 @@ returns c = let g = c.args in
     let p = c.requires in
     let a = c.start_of-a.ensures in
     let e = c.end_of-e.ensures in
-    sym (ap (λ (l : List Term). word_at l g.p) (sym (list_is (raw_lists g.raw-conditions.now g.raw-weights.now g.thresholds.now) g.t _ _ a e))
-    ∙ word_here g.raw-conditions.now g.raw-weights.now _ _ g.p p.0.weighed (omega (arith, p.0.inside g.t p.1)) c.if-p-e.false)
+    sym (ap (λ (l : List Term). word_at l g.p) (sym (list_is (raw_lists g.raw_conditions.now g.raw_weights.now g.thresholds.now) g.t _ _ a e))
+    ∙ word_here g.raw_conditions.now g.raw_weights.now _ _ g.p p.0.weighed (omega (arith, p.0.inside g.t p.1)) c.if-p-e.false)

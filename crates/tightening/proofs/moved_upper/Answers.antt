@@ -11,16 +11,14 @@ returns-then-from-to c = let a = c.args in upper_not a.source a.before a.from a.
 
 pub returns-then-upper_at_most : goal.returns-then-upper_at_most
 returns-then-upper_at_most c = let a = c.args in
-    let u = c.upper-1.given in
-    let hu : to_z w64 (of_z w64 u.0.0) ≡ u.0.0 = search rules in
-    upper_stays a.source a.before a.from a.to c.if-from-to.false u.0.0 u.1 (sym (simp hu at c.upper_at_most.ensures) ∙ c.if-upper_at_most.true)
+    let hu : to_z w64 (of_z w64 c.in-Under.limit) ≡ c.in-Under.limit = search rules in
+    upper_stays a.source a.before a.from a.to c.if-from-to.false c.in-Under.limit c.in-Under.is (sym (simp hu at c.upper_at_most.ensures) ∙ c.if-upper_at_most.true)
 
 pub returns-in-Open : goal.returns-in-Open
-returns-in-Open c = let a = c.args in upper_none a.source a.before a.from a.to c.if-from-to.false c.enum_told-1.given.1
+returns-in-Open c = let a = c.args in upper_none a.source a.before a.from a.to c.if-from-to.false c.in-Open.is
 
 pub returns-else-upper_at_most : goal.returns-else-upper_at_most
 returns-else-upper_at_most c = let a = c.args in
-    let u = c.upper-1.given in
-    let hu : to_z w64 (of_z w64 u.0.0) ≡ u.0.0 = search rules in
-    upper_moves a.source a.before a.from a.to c.if-from-to.false u.0.0 u.1 (sym (simp hu at c.upper_at_most.ensures) ∙ c.if-upper_at_most.false)
+    let hu : to_z w64 (of_z w64 c.in-Under.limit) ≡ c.in-Under.limit = search rules in
+    upper_moves a.source a.before a.from a.to c.if-from-to.false c.in-Under.limit c.in-Under.is (sym (simp hu at c.upper_at_most.ensures) ∙ c.if-upper_at_most.false)
     c.tighten-lowered.result (simp hu at c.tighten-lowered.ensures)

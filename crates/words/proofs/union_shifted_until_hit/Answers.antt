@@ -13,7 +13,7 @@ use Rattle.words.proofs.union_shifted_until_hit.Goals as goal
 pub loop-source-init : goal.loop-source-init
 loop-source-init c = let g = c.args in
     let r = c.readable_words-source.ensures in
-    (refl, omega arith, from_start g.shift g.start g.end g.words.now g.source-words g.allowance c.readable_words-source.result r)
+    (refl, omega arith, from_start g.shift g.start g.end g.words.now g.source_words g.allowance c.readable_words-source.result r)
 
 pub returns-then-left-eq0 : goal.returns-then-left-eq0
 returns-then-left-eq0 c = let g = c.args in

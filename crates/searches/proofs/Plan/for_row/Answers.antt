@@ -43,40 +43,36 @@ returns-then-not-has_residual_interval c = let g = c.args in
 
 pub returns-in_default : goal.returns-in_default
 returns-in_default c = let g = c.args in
-    sym (plan_wide (terms g.conditions.now g.weights.now) g.state (heavy (goal.at.returns-in_default c).Else-not-has_nonunit) (open_wide g.state c.enum_told-1.given.1))
+    sym (plan_wide (terms g.conditions.now g.weights.now) g.state (heavy (goal.at.returns-in_default c).Else-not-has_nonunit) (open_wide g.state c.in_default.is))
 
 pub returns-then-limit-known : goal.returns-then-limit-known
 returns-then-limit-known c = let g = c.args in
     let s = g.state in
-    let e = c.upper-1.given in
     let hk : to_z w64 (of_z w64 s.known) ≡ s.known = search rules in
-    let hb : to_z w64 (of_z w64 e.0.0) ≡ e.0.0 = search rules in
+    let hb : to_z w64 (of_z w64 c.in-Under.limit) ≡ c.in-Under.limit = search rules in
     sym
     (plan-reached (terms g.conditions.now g.weights.now) s (heavy (goal.at.returns-then-limit-known c).Else-not-has_nonunit) ((let it : has_residual_interval c.args.state ≡ true = sym c.has_residual_interval.ensures ∙ not-false c.has_residual_interval.result c.if-not-has_residual_interval.false-raw in it))
-    (subst (λ (u : Upper). lt_z s.known (limit u) ≡ false) (sym e.1) (le_z-nlt s.known e.0.0 (simp (hk, hb) at c.if-limit-known.true))))
+    (subst (λ (u : Upper). lt_z s.known (limit u) ≡ false) (sym c.in-Under.is) (le_z-nlt s.known c.in-Under.limit (simp (hk, hb) at c.if-limit-known.true))))
 
 pub overflow_sub-state : goal.overflow_sub-state
 overflow_sub-state c = let s = c.args.state in
-    let e = c.upper-1.given in
     let hk : to_z w64 (of_z w64 s.known) ≡ s.known = search rules in
-    let hb : to_z w64 (of_z w64 e.0.0) ≡ e.0.0 = search rules in
+    let hb : to_z w64 (of_z w64 c.in-Under.limit) ≡ c.in-Under.limit = search rules in
     let hl : to_z w64 (of_z w64 s.lower) ≡ s.lower = search rules in
-    simp (hk, hl) (lower_known s e.0.0 c.requires.2 e.1)
+    simp (hk, hl) (lower_known s c.in-Under.limit c.requires.2 c.in-Under.is)
 
 pub overflow_sub-limit : goal.overflow_sub-limit
 overflow_sub-limit c = let s = c.args.state in
-    let e = c.upper-1.given in
     let hk : to_z w64 (of_z w64 s.known) ≡ s.known = search rules in
-    let hb : to_z w64 (of_z w64 e.0.0) ≡ e.0.0 = search rules in
-    simp (hk, hb) (limit-known s e.0.0 c.requires.2 e.1)
+    let hb : to_z w64 (of_z w64 c.in-Under.limit) ≡ c.in-Under.limit = search rules in
+    simp (hk, hb) (limit-known s c.in-Under.limit c.requires.2 c.in-Under.is)
 
 pub overflow_sub-limit-2 : goal.overflow_sub-limit-2
 overflow_sub-limit-2 c = let s = c.args.state in
-    let e = c.upper-1.given in
     let hk : to_z w64 (of_z w64 s.known) ≡ s.known = search rules in
-    let hb : to_z w64 (of_z w64 e.0.0) ≡ e.0.0 = search rules in
-    let hd = to_z-of_z (limit-known s e.0.0 c.requires.2 e.1) in
-    simp (hk, hb, hd) (last_known s e.0.0 c.requires.2 e.1)
+    let hb : to_z w64 (of_z w64 c.in-Under.limit) ≡ c.in-Under.limit = search rules in
+    let hd = to_z-of_z (limit-known s c.in-Under.limit c.requires.2 c.in-Under.is) in
+    simp (hk, hb, hd) (last_known s c.in-Under.limit c.requires.2 c.in-Under.is)
 
 pub overflow_add-words : goal.overflow_add-words
 overflow_add-words c = omega arith
@@ -97,18 +93,17 @@ numbers : (c : After-natural-maximum) → (has_nonunit (terms c.args.conditions.
 numbers c = let g = c.args in
     let p = c.requires in
     let s = c.args.state in
-    let e = c.upper-1.given in
     let hk : to_z w64 (of_z w64 s.known) ≡ s.known = search rules in
-    let hb : to_z w64 (of_z w64 e.0.0) ≡ e.0.0 = search rules in
+    let hb : to_z w64 (of_z w64 c.in-Under.limit) ≡ c.in-Under.limit = search rules in
     let hl : to_z w64 (of_z w64 s.lower) ≡ s.lower = search rules in
-    let hd = to_z-of_z (lower_known s e.0.0 p.2 e.1) in
-    let hm = to_z-of_z (limit-known s e.0.0 p.2 e.1) in
-    let hn = to_z-of_z (last_known s e.0.0 p.2 e.1) in (
+    let hd = to_z-of_z (lower_known s c.in-Under.limit p.2 c.in-Under.is) in
+    let hm = to_z-of_z (limit-known s c.in-Under.limit p.2 c.in-Under.is) in
+    let hn = to_z-of_z (last_known s c.in-Under.limit p.2 c.in-Under.is) in (
       heavy (goal.at.overflow_add-words c).Else-not-has_nonunit,
       (let it : has_residual_interval c.args.state ≡ true = sym c.has_residual_interval.ensures ∙ not-false c.has_residual_interval.result c.if-not-has_residual_interval.false-raw in it),
-      subst (λ (u : Upper). lt_z s.known (limit u) ≡ true) (sym e.1) (nle-lt_z s.known e.0.0 (simp (hk, hb) at c.if-limit-known.false)),
+      subst (λ (u : Upper). lt_z s.known (limit u) ≡ true) (sym c.in-Under.is) (nle-lt_z s.known c.in-Under.limit (simp (hk, hb) at c.if-limit-known.false)),
       simp (hk, hl, hd) at c.natural-lower.ensures,
-      simp (hk, hb, hm, hn) at c.natural-maximum.ensures ∙ ap (λ (u : Upper). natural (limit u -ℤ s.known -ℤ pos 1)) (sym e.1),
+      simp (hk, hb, hm, hn) at c.natural-maximum.ensures ∙ ap (λ (u : Upper). natural (limit u -ℤ s.known -ℤ pos 1)) (sym c.in-Under.is),
       omega (arith, length-terms g.conditions.now g.weights.now, p.0),
     )
 

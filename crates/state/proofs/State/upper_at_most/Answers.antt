@@ -7,7 +7,6 @@ use Rattle.state.proofs.State.upper_at_most.Goals as goal
 
 pub returns-in-Under : goal.returns-in-Under
 returns-in-Under c = let b = c.args.bound in
-    let e = c.upper-1.given in
     let hb : to_z w64 (of_z w64 b) ≡ b = search rules in
-    let hu : to_z w64 (of_z w64 e.0.0) ≡ e.0.0 = search rules in
-    simp (e.1, hu, hb)
+    let hu : to_z w64 (of_z w64 c.in-Under.limit) ≡ c.in-Under.limit = search rules in
+    simp (c.in-Under.is, hu, hb)
