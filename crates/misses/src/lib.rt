@@ -1,5 +1,6 @@
 // The gcd, from a table or by its loop, and sums that miss a window by it: the leaves of residual.rs.
 #![tactic(auto)]
+
 ghost use Rattle.std.specs.Prelude.{◌≡◌, ◌-◌, ◌<◌, ◌≤◌, min, max, false, cond};
 ghost use Rattle.divisors.specs.Gcd.{gcd};
 ghost use Rattle.misses.specs.Misses.{misses, branch_misses};

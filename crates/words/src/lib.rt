@@ -1,5 +1,6 @@
 // Bits of 64-bit words: words.rs, region.rs, and `bit` and `learn` of regions.rs.
 #![tactic(auto)]
+
 ghost use Rattle.std.specs.Prelude.{◌≡◌, ◌+◌, ◌-◌, ◌*◌, ◌/◌, ◌^◌, ◌<◌, ◌≤◌, min, length};
 ghost use Rattle.words.specs.Mask.{bit as is_set, in_either, count as nodes, learn as learnt};
 ghost use Rattle.words.specs.Shift.{meets as inside, shift_word, word_hits, union_shifted};

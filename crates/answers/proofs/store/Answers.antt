@@ -33,19 +33,22 @@ room : (r : Record) (k : Step) (n : ℕ) (a : Answer) → answered r k n ≡ a �
 room r k n a e = subst (λ (l : List Answer). 0 < length l) (sym e) (omega arith)
 
 pub put-requires : goal.put-requires
-put-requires c = let a = c.args in
+put-requires c =
+    let a = c.args in
     let e = ap (λ (r : Record). answered r a.step a.visits) c.in-Settle.is in
     let h = c.requires.0 (room a.given a.step a.visits (settled a.step) e) in
     (omega (arith, c.requires.1), h)
 
 pub put-requires-in-Sift : goal.put-requires-in-Sift
-put-requires-in-Sift c = let a = c.args in
+put-requires-in-Sift c =
+    let a = c.args in
     let e = ap (λ (r : Record). answered r a.step a.visits) c.in-Sift.is in
     let h = c.requires.0 (room a.given a.step a.visits (sifted a.step a.visits) e) in
     (omega (arith, c.requires.1), h)
 
 pub returns-in-Settle : goal.returns-in-Settle
-returns-in-Settle c = let a = c.args in
+returns-in-Settle c =
+    let a = c.args in
     let e = ap (λ (r : Record). answered r a.step a.visits) c.in-Settle.is in
     let h = c.requires.0 (room a.given a.step a.visits (settled a.step) e) in
     λ before base long many laid.
@@ -55,7 +58,8 @@ returns-in-Settle c = let a = c.args in
     )
 
 pub returns-in-Sift : goal.returns-in-Sift
-returns-in-Sift c = let a = c.args in
+returns-in-Sift c =
+    let a = c.args in
     let e = ap (λ (r : Record). answered r a.step a.visits) c.in-Sift.is in
     let h = c.requires.0 (room a.given a.step a.visits (sifted a.step a.visits) e) in
     λ before base long many laid.
@@ -65,6 +69,7 @@ returns-in-Sift c = let a = c.args in
     )
 
 pub returns-in_default : goal.returns-in_default
-returns-in_default c = let a = c.args in
+returns-in_default c =
+    let a = c.args in
     let e = none a.given c.in_default.in_default-own.keys3 a.step a.visits in
     λ before base long many laid. rw e (answer_none before base a.answers.now laid, answer_same before a.count many)

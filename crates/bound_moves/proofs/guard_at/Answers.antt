@@ -16,7 +16,8 @@ pub threshold_of-t-requires : goal.threshold_of-t-requires
 threshold_of-t-requires c = c.requires.0.2
 
 pub returns-then-t-eq0 : goal.returns-then-t-eq0
-returns-then-t-eq0 c = let threshold-of = c.threshold_of-t in
+returns-then-t-eq0 c =
+    let threshold-of = c.threshold_of-t in
     let a = c.args in
     let v = live_of a.figures.now a.cursors.now a.sure.now a.never.now a.node_queue.now a.row_queues.now a.rings in
     (λ x z y n. guard-not x a.nodes.now a.bounds.now y a.node c.requires.0.2 v threshold-of.result threshold-of.ensures.0 c.if-t-eq0.true, λ t. t)
@@ -25,12 +26,14 @@ pub row_of_node-row-requires : goal.row_of_node-row-requires
 row_of_node-row-requires c = c.requires.0.2
 
 pub bound_of-bound-requires : goal.bound_of-bound-requires
-bound_of-bound-requires c = let threshold-of = c.threshold_of-t in
+bound_of-bound-requires c =
+    let threshold-of = c.threshold_of-t in
     let p = c.requires in
     (omega (arith, c.if-t-eq0.false), omega (arith, threshold-of.ensures.0, p.0.1.inside c.args.node p.0.2))
 
 pub links_count-links-requires : goal.links_count-links-requires
-links_count-links-requires c = let row-of-node = c.row_of_node-row in
+links_count-links-requires c =
+    let row-of-node = c.row_of_node-row in
     let if1 = c.if-t-eq0 in
     let threshold-of = c.threshold_of-t in
     let a = c.args in
@@ -39,7 +42,8 @@ links_count-links-requires c = let row-of-node = c.row_of_node-row in
     (k, p.0.4 row-of-node.result k)
 
 pub threshold_guard-requires : goal.threshold_guard-requires
-threshold_guard-requires c = let bound_of_lem = c.bound_of-bound in
+threshold_guard-requires c =
+    let bound_of_lem = c.bound_of-bound in
     let row-of-node = c.row_of_node-row in
     let if1 = c.if-t-eq0 in
     let threshold-of = c.threshold_of-t in
@@ -70,7 +74,8 @@ pub shape_of-row_queues : goal.shape_of-row_queues
 shape_of-row_queues c = c.threshold_guard.auto.row_queues
 
 pub returns : goal.returns
-returns c = let threshold-guard = c.threshold_guard in
+returns c =
+    let threshold-guard = c.threshold_guard in
     let links-count = c.links_count-links in
     let bound_of_lem = c.bound_of-bound in
     let row-of-node = c.row_of_node-row in

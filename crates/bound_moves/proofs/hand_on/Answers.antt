@@ -21,15 +21,18 @@ use borrow.Author.Rules.{rules}
 use Rattle.bound_moves.proofs.hand_on.Goals as goal
 
 pub load-state-requires : goal.load-state-requires
-load-state-requires c = let p = c.requires in
+load-state-requires c =
+    let p = c.requires in
     omega (arith, p.1.ready.long, p.0.1)
 
 pub rests_at-requires : goal.rests_at-requires
-rests_at-requires c = let p = c.requires in
+rests_at-requires c =
+    let p = c.requires in
     ((c.args.guard_nodes.now, p.0.0, (let it : Fit ((let a = c.args in held_rows a.row_conditions.now a.row_weights.now a.rows.now a.guard_bounds.now a.guard_nodes.now)) figure_limit c.args.row c.moved_state-moved.result.state = let a = c.args in let p = c.requires in let r = a.row in let f = fit_prefix ((let a = c.args in held_rows a.row_conditions.now a.row_weights.now a.rows.now a.guard_bounds.now a.guard_nodes.now)) figure_limit r a.source (state_at ((let a = c.args in live_of a.figures.now a.cursors.now a.sure.now a.never.now a.node_queue.now a.row_queues.now a.rings)) r) a.many a.own p.0.2 p.0.3 (p.1.ready.fit r p.0.1) in fit_by ((let a = c.args in held_rows a.row_conditions.now a.row_weights.now a.rows.now a.guard_bounds.now a.guard_nodes.now)) figure_limit r c.moved_state-moved.result.state ((let a = c.args in moved_state a.source (state_at ((let a = c.args in live_of a.figures.now a.cursors.now a.sure.now a.never.now a.node_queue.now a.row_queues.now a.rings)) a.row) a.many a.own)).state (ap (λ (y : Tightened). y.state) ((let it : c.moved_state-moved.result ≡ (let a = c.args in moved_state a.source (state_at ((let a = c.args in live_of a.figures.now a.cursors.now a.sure.now a.never.now a.node_queue.now a.row_queues.now a.rings)) a.row) a.many a.own) = let a = c.args in c.moved_state-moved.ensures ∙ ap (λ (y : State). moved_state a.source y a.many a.own) c.load-state.ensures in it))) f in it)), p.0.1, omega (arith, p.1.ready.waits.sures), omega (arith, p.1.ready.waits.nevers))
 
 pub note-stand-requires : goal.note-stand-requires
-note-stand-requires c = let p = c.requires in
+note-stand-requires c =
+    let p = c.requires in
     (omega (arith, p.1.ready.long, p.0.1), p.1.dirty.held, omega (arith, p.0.0.few, p.0.1))
 
 pub shape_of-figures-then-rests_at : goal.shape_of-figures-then-rests_at
@@ -42,7 +45,8 @@ pub shape_of-row_queues-then-rests_at : goal.shape_of-row_queues-then-rests_at
 shape_of-row_queues-then-rests_at c = c.note-stand.auto.row_queues
 
 pub returns-then-rests_at : goal.returns-then-rests_at
-returns-then-rests_at c = let note = c.note-stand in
+returns-then-rests_at c =
+    let note = c.note-stand in
     let rests-at = c.rests_at in
     let moved-state = c.moved_state-moved in
     let a = c.args in
@@ -58,7 +62,8 @@ returns-then-rests_at c = let note = c.note-stand in
     (handed_new row v r t moved-state.result ((let it : c.moved_state-moved.result ≡ (let a = c.args in moved_state a.source (state_at ((let a = c.args in live_of a.figures.now a.cursors.now a.sure.now a.never.now a.node_queue.now a.row_queues.now a.rings)) a.row) a.many a.own) = let a = c.args in c.moved_state-moved.ensures ∙ ap (λ (y : State). moved_state a.source y a.many a.own) c.load-state.ensures in it)) c.if-moved.true (did o Unchanged) ran Changed refl, note.ensures.1)
 
 pub run_bounded-ran-requires : goal.run_bounded-ran-requires
-run_bounded-ran-requires c = let p = c.requires in
+run_bounded-ran-requires c =
+    let p = c.requires in
     ((p.0.0, p.0.1, (let it : Fit ((let a = c.args in held_rows a.row_conditions.now a.row_weights.now a.rows.now a.guard_bounds.now a.guard_nodes.now)) figure_limit c.args.row c.moved_state-moved.result.state = let a = c.args in let p = c.requires in let r = a.row in let f = fit_prefix ((let a = c.args in held_rows a.row_conditions.now a.row_weights.now a.rows.now a.guard_bounds.now a.guard_nodes.now)) figure_limit r a.source (state_at ((let a = c.args in live_of a.figures.now a.cursors.now a.sure.now a.never.now a.node_queue.now a.row_queues.now a.rings)) r) a.many a.own p.0.2 p.0.3 (p.1.ready.fit r p.0.1) in fit_by ((let a = c.args in held_rows a.row_conditions.now a.row_weights.now a.rows.now a.guard_bounds.now a.guard_nodes.now)) figure_limit r c.moved_state-moved.result.state ((let a = c.args in moved_state a.source (state_at ((let a = c.args in live_of a.figures.now a.cursors.now a.sure.now a.never.now a.node_queue.now a.row_queues.now a.rings)) a.row) a.many a.own)).state (ap (λ (y : Tightened). y.state) ((let it : c.moved_state-moved.result ≡ (let a = c.args in moved_state a.source (state_at ((let a = c.args in live_of a.figures.now a.cursors.now a.sure.now a.never.now a.node_queue.now a.row_queues.now a.rings)) a.row) a.many a.own) = let a = c.args in c.moved_state-moved.ensures ∙ ap (λ (y : State). moved_state a.source y a.many a.own) c.load-state.ensures in it))) f in it)), p.1)
 
 pub shape_of-figures-then-moved : goal.shape_of-figures-then-moved
@@ -80,7 +85,8 @@ pub shape_of-row_queues-then-moved : goal.shape_of-row_queues-then-moved
 shape_of-row_queues-then-moved c = c.run_bounded-ran.auto.row_queues
 
 pub returns-then-moved : goal.returns-then-moved
-returns-then-moved c = let answer = c.tell in
+returns-then-moved c =
+    let answer = c.tell in
     let ran = c.run_bounded-ran in
     let moved-state = c.moved_state-moved in
     let a = c.args in
@@ -94,7 +100,8 @@ returns-then-moved c = let answer = c.tell in
     )
 
 pub returns : goal.returns
-returns c = let a = c.args in
+returns c =
+    let a = c.args in
     let row = held_row ((let a = c.args in held_rows a.row_conditions.now a.row_weights.now a.rows.now a.guard_bounds.now a.guard_nodes.now)) a.row in
     let v = (let a = c.args in live_of a.figures.now a.cursors.now a.sure.now a.never.now a.node_queue.now a.row_queues.now a.rings) in
     let r = a.row in

@@ -6,7 +6,8 @@ use borrow.Author.Rules.{rules}
 use Rattle.bound_moves.proofs.note.Goals as goal
 
 pub returns : goal.returns
-returns c = let queue-row = c.queue_row-left in
+returns c =
+    let queue-row = c.queue_row-left in
     let store = c.store in
     let a = c.args in
     let p = c.requires in

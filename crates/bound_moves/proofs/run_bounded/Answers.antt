@@ -13,11 +13,13 @@ use Rattle.row_moves.specs.ReadyLaws.{ready_queue}
 use Rattle.bound_moves.proofs.run_bounded.Goals as goal
 
 pub queue_linked-left-requires : goal.queue_linked-left-requires
-queue_linked-left-requires c = let p = c.requires in
+queue_linked-left-requires c =
+    let p = c.requires in
     (p.1.dirty.held, omega (arith, p.0.0.few, p.0.1))
 
 pub run_from-requires : goal.run_from-requires
-run_from-requires c = let queue-linked = c.queue_linked-left in
+run_from-requires c =
+    let queue-linked = c.queue_linked-left in
     let a = c.args in
     let p = c.requires in
     let h = held_rows a.row_conditions.now a.row_weights.now a.rows.now a.guard_bounds.now a.guard_nodes.now in
@@ -41,12 +43,14 @@ pub shape_of-node_queue : goal.shape_of-node_queue
 shape_of-node_queue c = c.run_from.auto.node_queue
 
 pub shape_of-row_queues : goal.shape_of-row_queues
-shape_of-row_queues c = let run-from = c.run_from in
+shape_of-row_queues c =
+    let run-from = c.run_from in
     let queue-linked = c.queue_linked-left in
     ◌∙◌ {b = length queue-linked.new.row_queues} run-from.auto.row_queues queue-linked.auto.row_queues
 
 pub returns : goal.returns
-returns c = let run-from = c.run_from in
+returns c =
+    let run-from = c.run_from in
     let queue-linked = c.queue_linked-left in
     let a = c.args in
     let h = held_rows a.row_conditions.now a.row_weights.now a.rows.now a.guard_bounds.now a.guard_nodes.now in

@@ -16,15 +16,18 @@ use borrow.Author.Rules.{rules}
 use Rattle.bound_moves.proofs.threshold_guard.Goals as goal
 
 pub load-state-requires : goal.load-state-requires
-load-state-requires c = let p = c.requires in
+load-state-requires c =
+    let p = c.requires in
     omega (arith, p.1.ready.long, p.0.1)
 
 pub bit-value-requires : goal.bit-value-requires
-bit-value-requires c = let p = c.requires in
+bit-value-requires c =
+    let p = c.requires in
     omega (arith, p.0.2, p.1.ready.waits.sures)
 
 pub run_bounded-requires : goal.run_bounded-requires
-run_bounded-requires c = let guard-state = c.guard_state-told in
+run_bounded-requires c =
+    let guard-state = c.guard_state-told in
     let bit = c.bit-value in
     let load = c.load-state in
     let a = c.args in
@@ -59,7 +62,8 @@ pub shape_of-row_queues-then-told : goal.shape_of-row_queues-then-told
 shape_of-row_queues-then-told c = c.run_bounded.auto.row_queues
 
 pub returns-then-told : goal.returns-then-told
-returns-then-told c = let ran = c.run_bounded in
+returns-then-told c =
+    let ran = c.run_bounded in
     let if1 = c.if-told in
     let guard-state = c.guard_state-told in
     let bit = c.bit-value in
@@ -81,7 +85,8 @@ returns-then-told c = let ran = c.run_bounded in
     )
 
 pub returns : goal.returns
-returns c = let guard-state = c.guard_state-told in
+returns c =
+    let guard-state = c.guard_state-told in
     let bit = c.bit-value in
     let load = c.load-state in
     let a = c.args in

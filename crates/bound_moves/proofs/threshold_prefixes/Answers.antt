@@ -14,11 +14,13 @@ use borrow.Author.Rules.{rules}
 use Rattle.bound_moves.proofs.threshold_prefixes.Goals as goal
 
 pub load-source-requires : goal.load-source-requires
-load-source-requires c = let p = c.requires in
+load-source-requires c =
+    let p = c.requires in
     omega (arith, p.1.ready.long, p.0.2)
 
 pub terms_count-many-requires : goal.terms_count-many-requires
-terms_count-many-requires c = let p = c.requires in
+terms_count-many-requires c =
+    let p = c.requires in
     (p.0.2, p.0.0.terms.rising c.args.row p.0.2)
 
 pub links_end-end-requires : goal.links_end-end-requires
@@ -28,7 +30,8 @@ pub links_start-at-requires : goal.links_start-at-requires
 links_start-at-requires c = omega (arith, c.requires.0.2)
 
 pub loop-at-init : goal.loop-at-init
-loop-at-init c = let links-start = c.links_start-at in
+loop-at-init c =
+    let links-start = c.links_start-at in
     let links_end = c.links_end-end in
     let load = c.load-source in
     let a = c.args in
@@ -42,16 +45,19 @@ loop-at-init c = let links-start = c.links_start-at in
     )
 
 pub link_at-other-requires : goal.link_at-other-requires
-link_at-other-requires c = omega (arith, c.loop-at-test.true, c.loop-at.invariant.0.own.inside)
+link_at-other-requires c =
+    omega (arith, c.loop-at-test.true, c.loop-at.invariant.0.own.inside)
 
 pub terms_count-own-requires : goal.terms_count-own-requires
-terms_count-own-requires c = let link_at = c.link_at-other in
+terms_count-own-requires c =
+    let link_at = c.link_at-other in
     let w = c.loop-at in
     let k = w.invariant.0.own.rows w.at link_at.result w.invariant.0.above c.loop-at-test.true link_at.ensures in
     (k, c.requires.0.0.terms.rising link_at.result k)
 
 pub hand_on-turn-requires : goal.hand_on-turn-requires
-hand_on-turn-requires c = let link_at = c.link_at-other in
+hand_on-turn-requires c =
+    let link_at = c.link_at-other in
     let test = c.loop-at-test in
     let w = c.loop-at in
     let load = c.load-source in
@@ -65,37 +71,44 @@ hand_on-turn-requires c = let link_at = c.link_at-other in
     ((p.0.0, k, f.lower, f.upper), l.runnable)
 
 pub shape_of-figures-then-contradicts : goal.shape_of-figures-then-contradicts
-shape_of-figures-then-contradicts c = let hand_on = c.hand_on-turn in
+shape_of-figures-then-contradicts c =
+    let hand_on = c.hand_on-turn in
     let w = c.loop-at in
     ◌∙◌ {b = length w.figures} hand_on.auto.figures w.invariant.1.figures
 
 pub shape_of-cursors-then-contradicts : goal.shape_of-cursors-then-contradicts
-shape_of-cursors-then-contradicts c = let hand_on = c.hand_on-turn in
+shape_of-cursors-then-contradicts c =
+    let hand_on = c.hand_on-turn in
     let w = c.loop-at in
     ◌∙◌ {b = length w.cursors} hand_on.auto.cursors w.invariant.1.cursors
 
 pub shape_of-sure-then-contradicts : goal.shape_of-sure-then-contradicts
-shape_of-sure-then-contradicts c = let hand_on = c.hand_on-turn in
+shape_of-sure-then-contradicts c =
+    let hand_on = c.hand_on-turn in
     let w = c.loop-at in
     ◌∙◌ {b = length w.sure} hand_on.auto.sure w.invariant.1.sure
 
 pub shape_of-never-then-contradicts : goal.shape_of-never-then-contradicts
-shape_of-never-then-contradicts c = let hand_on = c.hand_on-turn in
+shape_of-never-then-contradicts c =
+    let hand_on = c.hand_on-turn in
     let w = c.loop-at in
     ◌∙◌ {b = length w.never} hand_on.auto.never w.invariant.1.never
 
 pub shape_of-node_queue-then-contradicts : goal.shape_of-node_queue-then-contradicts
-shape_of-node_queue-then-contradicts c = let hand_on = c.hand_on-turn in
+shape_of-node_queue-then-contradicts c =
+    let hand_on = c.hand_on-turn in
     let w = c.loop-at in
     ◌∙◌ {b = length w.node_queue} hand_on.auto.node_queue w.invariant.1.node_queue
 
 pub shape_of-row_queues-then-contradicts : goal.shape_of-row_queues-then-contradicts
-shape_of-row_queues-then-contradicts c = let hand_on = c.hand_on-turn in
+shape_of-row_queues-then-contradicts c =
+    let hand_on = c.hand_on-turn in
     let w = c.loop-at in
     ◌∙◌ {b = length w.row_queues} hand_on.auto.row_queues w.invariant.1.row_queues
 
 pub returns-then-contradicts : goal.returns-then-contradicts
-returns-then-contradicts c = let hand_on = c.hand_on-turn in
+returns-then-contradicts c =
+    let hand_on = c.hand_on-turn in
     let terms-count2 = c.terms_count-own in
     let link_at = c.link_at-other in
     let test = c.loop-at-test in
@@ -120,7 +133,8 @@ returns-then-contradicts c = let hand_on = c.hand_on-turn in
     )
 
 pub overflow_add-at : goal.overflow_add-at
-overflow_add-at c = let test = c.loop-at-test in
+overflow_add-at c =
+    let test = c.loop-at-test in
     let links_end = c.links_end-end in
     omega (arith, test.true, links_end.ensures.1)
 
@@ -128,7 +142,8 @@ pub loop-at-smaller : goal.loop-at-smaller
 loop-at-smaller c = omega (arith, c.loop-at-test.true)
 
 pub loop-at-preserved : goal.loop-at-preserved
-loop-at-preserved c = let join = c.join in
+loop-at-preserved c =
+    let join = c.join in
     let if1 = c.if-contradicts in
     let contradicts = c.contradicts in
     let hand_on = c.hand_on-turn in
@@ -182,7 +197,8 @@ pub shape_of-row_queues : goal.shape_of-row_queues
 shape_of-row_queues c = c.loop-at.invariant.1.row_queues
 
 pub returns : goal.returns
-returns c = let w = c.loop-at in
+returns c =
+    let w = c.loop-at in
     let links-start = c.links_start-at in
     let links_end = c.links_end-end in
     let load = c.load-source in

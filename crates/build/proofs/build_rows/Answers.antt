@@ -11,28 +11,34 @@ use borrow.Author.Rules.{rules}
 use Rattle.build.proofs.build_rows.Goals as goal
 
 pub slice_bounds-prepare-end : goal.slice_bounds-prepare-end
-slice_bounds-prepare-end c = let g = c.args in
+slice_bounds-prepare-end c =
+    let g = c.args in
     sym (conditions_long g.standing g.raw_conditions.now g.raw_weights.now g.thresholds.now g.bounds.now c.requires.0)
 
 pub slice_bounds-prepare-end-2 : goal.slice_bounds-prepare-end-2
-slice_bounds-prepare-end-2 c = let g = c.args in
+slice_bounds-prepare-end-2 c =
+    let g = c.args in
     sym (weights_long g.standing g.raw_conditions.now g.raw_weights.now g.thresholds.now g.bounds.now c.requires.0)
 
 pub slice_bounds-prepare-end-3 : goal.slice_bounds-prepare-end-3
-slice_bounds-prepare-end-3 c = let g = c.args in
+slice_bounds-prepare-end-3 c =
+    let g = c.args in
     sym (long g.standing g.raw_conditions.now g.raw_weights.now g.thresholds.now g.bounds.now c.requires.0)
 
 pub slice_bounds-prepare-end-4 : goal.slice_bounds-prepare-end-4
-slice_bounds-prepare-end-4 c = let g = c.args in
+slice_bounds-prepare-end-4 c =
+    let g = c.args in
     sym (bounds_long g.standing g.raw_conditions.now g.raw_weights.now g.thresholds.now g.bounds.now c.requires.0)
 
 pub slice_bounds-prepare-end-6 : goal.slice_bounds-prepare-end-6
-slice_bounds-prepare-end-6 c = let g = c.args in
+slice_bounds-prepare-end-6 c =
+    let g = c.args in
     let b = built (held_rows g.row_conditions.now g.row_weights.now g.rows.now g.guard_bounds.now g.guard_nodes.now) g.nodes.now g.edges.now [] in
     sym (length-take-le g.standing.nodes g.nodes.now (nodes_inside g.standing g.raw_conditions.now g.raw_weights.now g.thresholds.now g.bounds.now c.requires.0 b c.requires.1))
 
 pub prepare-so-requires : goal.prepare-so-requires
-prepare-so-requires c = let g = c.args in
+prepare-so-requires c =
+    let g = c.args in
     let p = c.requires in
     let b = built (held_rows g.row_conditions.now g.row_weights.now g.rows.now g.guard_bounds.now g.guard_nodes.now) g.nodes.now g.edges.now [] in
     let i = nodes_inside g.standing g.raw_conditions.now g.raw_weights.now g.thresholds.now g.bounds.now p.0 b p.1 in (
@@ -41,7 +47,8 @@ prepare-so-requires c = let g = c.args in
     )
 
 pub returns : goal.returns
-returns c = let g = c.args in
+returns c =
+    let g = c.args in
     let p = c.requires in
     let b = built (held_rows g.row_conditions.now g.row_weights.now g.rows.now g.guard_bounds.now g.guard_nodes.now) g.nodes.now g.edges.now [] in
     let i = nodes_inside g.standing g.raw_conditions.now g.raw_weights.now g.thresholds.now g.bounds.now p.0 b p.1 in

@@ -7,25 +7,29 @@ use Rattle.call.specs.RunLaws.{raw_room, built_room, links_room, long, whole-non
 use Rattle.call.proofs.run.Goals as goal
 
 pub returns-then-short : goal.returns-then-short
-returns-then-short c = let t = c.short in
+returns-then-short c =
+    let t = c.short in
     let h = whole-none c.args.input.now ((let a = c.args in work (raw (raw_lists a.raw_conditions.now a.raw_weights.now a.thresholds.now) a.bounds.now) (built (held_rows a.row_conditions.now a.row_weights.now a.rows.now a.guard_bounds.now a.guard_nodes.now) a.nodes.now a.edges.now a.links.now) (kept a.figures.now a.cursors.now a.sure.now a.never.now a.search.now a.gcds.now a.node_queue.now a.row_queues.now a.answers.now))) t.result t.ensures c.if-short.true in
     h
 
 pub read-job-requires : goal.read-job-requires
-read-job-requires c = let x = c.args.input.now in
+read-job-requires c =
+    let x = c.args.input.now in
     let w = (let a = c.args in work (raw (raw_lists a.raw_conditions.now a.raw_weights.now a.thresholds.now) a.bounds.now) (built (held_rows a.row_conditions.now a.row_weights.now a.rows.now a.guard_bounds.now a.guard_nodes.now) a.nodes.now a.edges.now a.links.now) (kept a.figures.now a.cursors.now a.sure.now a.never.now a.search.now a.gcds.now a.node_queue.now a.row_queues.now a.answers.now)) in
     let y = (let it : fits c.args.input.now ((let a = c.args in work (raw (raw_lists a.raw_conditions.now a.raw_weights.now a.thresholds.now) a.bounds.now) (built (held_rows a.row_conditions.now a.row_weights.now a.rows.now a.guard_bounds.now a.guard_nodes.now) a.nodes.now a.edges.now a.links.now) (kept a.figures.now a.cursors.now a.sure.now a.never.now a.search.now a.gcds.now a.node_queue.now a.row_queues.now a.answers.now))) ≡ true = let t = c.short in long c.args.input.now ((let a = c.args in work (raw (raw_lists a.raw_conditions.now a.raw_weights.now a.thresholds.now) a.bounds.now) (built (held_rows a.row_conditions.now a.row_weights.now a.rows.now a.guard_bounds.now a.guard_nodes.now) a.nodes.now a.edges.now a.links.now) (kept a.figures.now a.cursors.now a.sure.now a.never.now a.search.now a.gcds.now a.node_queue.now a.row_queues.now a.answers.now))) t.result t.ensures c.if-short.false in it) in
     raw_room w (fits_sized x w y)
 
 pub build-count-requires : goal.build-count-requires
-build-count-requires c = let x = c.args.input.now in
+build-count-requires c =
+    let x = c.args.input.now in
     let w = (let a = c.args in work (raw (raw_lists a.raw_conditions.now a.raw_weights.now a.thresholds.now) a.bounds.now) (built (held_rows a.row_conditions.now a.row_weights.now a.rows.now a.guard_bounds.now a.guard_nodes.now) a.nodes.now a.edges.now a.links.now) (kept a.figures.now a.cursors.now a.sure.now a.never.now a.search.now a.gcds.now a.node_queue.now a.row_queues.now a.answers.now)) in
     let y = (let it : fits c.args.input.now ((let a = c.args in work (raw (raw_lists a.raw_conditions.now a.raw_weights.now a.thresholds.now) a.bounds.now) (built (held_rows a.row_conditions.now a.row_weights.now a.rows.now a.guard_bounds.now a.guard_nodes.now) a.nodes.now a.edges.now a.links.now) (kept a.figures.now a.cursors.now a.sure.now a.never.now a.search.now a.gcds.now a.node_queue.now a.row_queues.now a.answers.now))) ≡ true = let t = c.short in long c.args.input.now ((let a = c.args in work (raw (raw_lists a.raw_conditions.now a.raw_weights.now a.thresholds.now) a.bounds.now) (built (held_rows a.row_conditions.now a.row_weights.now a.rows.now a.guard_bounds.now a.guard_nodes.now) a.nodes.now a.edges.now a.links.now) (kept a.figures.now a.cursors.now a.sure.now a.never.now a.search.now a.gcds.now a.node_queue.now a.row_queues.now a.answers.now))) t.result t.ensures c.if-short.false in it) in
     let s = fits_sized x w y in
     (c.read-job.ensures.held.gathered, built_room w s, links_room w s)
 
 pub serve-end-requires : goal.serve-end-requires
-serve-end-requires c = let x = c.args.input.now in
+serve-end-requires c =
+    let x = c.args.input.now in
     let w = (let a = c.args in work (raw (raw_lists a.raw_conditions.now a.raw_weights.now a.thresholds.now) a.bounds.now) (built (held_rows a.row_conditions.now a.row_weights.now a.rows.now a.guard_bounds.now a.guard_nodes.now) a.nodes.now a.edges.now a.links.now) (kept a.figures.now a.cursors.now a.sure.now a.never.now a.search.now a.gcds.now a.node_queue.now a.row_queues.now a.answers.now)) in
     let y = (let it : fits c.args.input.now ((let a = c.args in work (raw (raw_lists a.raw_conditions.now a.raw_weights.now a.thresholds.now) a.bounds.now) (built (held_rows a.row_conditions.now a.row_weights.now a.rows.now a.guard_bounds.now a.guard_nodes.now) a.nodes.now a.edges.now a.links.now) (kept a.figures.now a.cursors.now a.sure.now a.never.now a.search.now a.gcds.now a.node_queue.now a.row_queues.now a.answers.now))) ≡ true = let t = c.short in long c.args.input.now ((let a = c.args in work (raw (raw_lists a.raw_conditions.now a.raw_weights.now a.thresholds.now) a.bounds.now) (built (held_rows a.row_conditions.now a.row_weights.now a.rows.now a.guard_bounds.now a.guard_nodes.now) a.nodes.now a.edges.now a.links.now) (kept a.figures.now a.cursors.now a.sure.now a.never.now a.search.now a.gcds.now a.node_queue.now a.row_queues.now a.answers.now))) t.result t.ensures c.if-short.false in it) in
     let h = serve_asks x w y c.read-job.result c.read-job.new.raw_conditions c.read-job.new.raw_weights c.read-job.new.thresholds c.read-job.new.bounds c.read-job.ensures ((built (held_rows c.build-count.new.row_conditions c.build-count.new.row_weights c.build-count.new.rows c.build-count.new.guard_bounds c.build-count.new.guard_nodes) c.build-count.new.nodes c.build-count.new.edges c.build-count.new.links)) c.build-count.result
@@ -96,7 +100,8 @@ pub shape_of-answers : goal.shape_of-answers
 shape_of-answers c = c.serve-end.auto.answers
 
 pub returns : goal.returns
-returns c = let x = c.args.input.now in
+returns c =
+    let x = c.args.input.now in
     let w = (let a = c.args in work (raw (raw_lists a.raw_conditions.now a.raw_weights.now a.thresholds.now) a.bounds.now) (built (held_rows a.row_conditions.now a.row_weights.now a.rows.now a.guard_bounds.now a.guard_nodes.now) a.nodes.now a.edges.now a.links.now) (kept a.figures.now a.cursors.now a.sure.now a.never.now a.search.now a.gcds.now a.node_queue.now a.row_queues.now a.answers.now)) in
     let y = (let it : fits c.args.input.now ((let a = c.args in work (raw (raw_lists a.raw_conditions.now a.raw_weights.now a.thresholds.now) a.bounds.now) (built (held_rows a.row_conditions.now a.row_weights.now a.rows.now a.guard_bounds.now a.guard_nodes.now) a.nodes.now a.edges.now a.links.now) (kept a.figures.now a.cursors.now a.sure.now a.never.now a.search.now a.gcds.now a.node_queue.now a.row_queues.now a.answers.now))) ≡ true = let t = c.short in long c.args.input.now ((let a = c.args in work (raw (raw_lists a.raw_conditions.now a.raw_weights.now a.thresholds.now) a.bounds.now) (built (held_rows a.row_conditions.now a.row_weights.now a.rows.now a.guard_bounds.now a.guard_nodes.now) a.nodes.now a.edges.now a.links.now) (kept a.figures.now a.cursors.now a.sure.now a.never.now a.search.now a.gcds.now a.node_queue.now a.row_queues.now a.answers.now))) t.result t.ensures c.if-short.false in it) in
     let h = whole_all x w y c.read-job.result c.read-job.new.raw_conditions c.read-job.new.raw_weights c.read-job.new.thresholds c.read-job.new.bounds c.read-job.ensures ((built (held_rows c.build-count.new.row_conditions c.build-count.new.row_weights c.build-count.new.rows c.build-count.new.guard_bounds c.build-count.new.guard_nodes) c.build-count.new.nodes c.build-count.new.edges c.build-count.new.links)) c.build-count.result

@@ -12,7 +12,8 @@ pub returns-then-input-at-le6 : goal.returns-then-input-at-le6
 returns-then-input-at-le6 c e = absurd (unequal cc)
 
 pub returns : goal.returns
-returns c e = let a = c.args in
+returns c e =
+    let a = c.args in
     let u = c.u16_at-condition in
     let n = c.term_refusal in
     entry_next a.standing a.input.now a.at (either_kind _ c.if-kind.false) c.requires c.if-input-at-le6.false u.result n.result u.ensures n.ensures

@@ -12,20 +12,23 @@ pub returns-then-node : goal.returns-then-node
 returns-then-node c = first_next_lem _ 3 _ _ c.if-turn.false (first_next_lem _ 9 _ _ c.if-contradicted.false (first_here _ 5 _ c.if-node.true))
 
 pub returns-then-rising : goal.returns-then-rising
-returns-then-rising c = first_next_lem _ 3 _ _ c.if-turn.false
+returns-then-rising c =
+    first_next_lem _ 3 _ _ c.if-turn.false
     (first_next_lem _ 9 _ _ c.if-contradicted.false
     (first_next_lem _ 5 _ _ c.if-node.false
     (first_here _ 6 _ c.if-rising.true)))
 
 pub returns-then-bound : goal.returns-then-bound
-returns-then-bound c = first_next_lem _ 3 _ _ c.if-turn.false
+returns-then-bound c =
+    first_next_lem _ 3 _ _ c.if-turn.false
     (first_next_lem _ 9 _ _ c.if-contradicted.false
     (first_next_lem _ 5 _ _ c.if-node.false
     (first_next_lem _ 6 _ _ c.if-rising.false
     (first_here _ 7 _ c.if-bound.true))))
 
 pub returns-then-value : goal.returns-then-value
-returns-then-value c = first_next_lem _ 3 _ _ c.if-turn.false
+returns-then-value c =
+    first_next_lem _ 3 _ _ c.if-turn.false
     (first_next_lem _ 9 _ _ c.if-contradicted.false
     (first_next_lem _ 5 _ _ c.if-node.false
     (first_next_lem _ 6 _ _ c.if-rising.false
@@ -33,7 +36,8 @@ returns-then-value c = first_next_lem _ 3 _ _ c.if-turn.false
     (first_here _ 8 _ c.if-value.true)))))
 
 pub returns-then-count : goal.returns-then-count
-returns-then-count c = first_next_lem _ 3 _ _ c.if-turn.false
+returns-then-count c =
+    first_next_lem _ 3 _ _ c.if-turn.false
     (first_next_lem _ 9 _ _ c.if-contradicted.false
     (first_next_lem _ 5 _ _ c.if-node.false
     (first_next_lem _ 6 _ _ c.if-rising.false
@@ -42,7 +46,8 @@ returns-then-count c = first_next_lem _ 3 _ _ c.if-turn.false
     (first_here _ 4 _ c.if-count.true))))))
 
 pub returns : goal.returns
-returns c = first_next_lem _ 3 _ _ c.if-turn.false
+returns c =
+    first_next_lem _ 3 _ _ c.if-turn.false
     (first_next_lem _ 9 _ _ c.if-contradicted.false
     (first_next_lem _ 5 _ _ c.if-node.false
     (first_next_lem _ 6 _ _ c.if-rising.false

@@ -10,20 +10,23 @@ pub returns-then-kind : goal.returns-then-kind
 returns-then-kind c = let a = c.args in next_unknown a.standing a.input.now a.at c.if-kind.true
 
 pub returns-then-input-at : goal.returns-then-input-at
-returns-then-input-at c = let a = c.args in
+returns-then-input-at c =
+    let a = c.args in
     let e = c.body_length-size.ensures in
     let l = c.if-input-at.true in
     next_cut a.standing a.input.now a.at c.if-kind.false c.requires (omega (arith, e, l))
 
 pub returns-then-number-ne0 : goal.returns-then-number-ne0
-returns-then-number-ne0 c = let a = c.args in
+returns-then-number-ne0 c =
+    let a = c.args in
     let e = c.body_length-size.ensures in
     let l = c.if-input-at.false in
     let n = c.refusal-number.ensures ∙ ap (refused_by a.standing) c.record_at-entry.ensures in
     next_refused a.standing a.input.now a.at c.if-kind.false c.requires (omega (arith, e, l)) c.refusal-number.result n c.if-number-ne0.true
 
 pub returns : goal.returns
-returns c = let a = c.args in
+returns c =
+    let a = c.args in
     let e = c.body_length-size.ensures in
     let l = c.if-input-at.false in
     let n = c.refusal-number.ensures ∙ ap (refused_by a.standing) c.record_at-entry.ensures in

@@ -13,7 +13,8 @@ unfolding first
 returns-in-Header c = refused_as c.args.standing c.plain_refusal.result c.in-Header.is c.plain_refusal.ensures
 
 pub returns-in-Opens : goal.returns-in-Opens
-returns-in-Opens c = let s = c.args.standing in
+returns-in-Opens c =
+    let s = c.args.standing in
     let z = c.in-Opens.bound in
     let same : to_z w64 (of_z w64 z) ≡ z = search rules in
     refused_as s c.first_number.result c.in-Opens.is
@@ -29,7 +30,8 @@ unfolding first
 returns-in-Areas c = refused_as c.args.standing c.term_refusal-in-Areas.result c.in-Areas.is c.term_refusal-in-Areas.ensures
 
 pub returns-in-Seal : goal.returns-in-Seal
-returns-in-Seal c = let s = c.args.standing in
+returns-in-Seal c =
+    let s = c.args.standing in
     refused_as s c.plain_refusal-in-Seal.result c.in-Seal.is (seal_number s c.plain_refusal-in-Seal.result _ c.not_building-in-Seal.ensures c.plain_refusal-in-Seal.ensures)
 
 pub returns-in-Mark : goal.returns-in-Mark

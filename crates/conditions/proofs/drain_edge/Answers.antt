@@ -22,11 +22,13 @@ use borrow.Author.Rules.{rules}
 use Rattle.conditions.proofs.drain_edge.Goals as goal
 
 pub load-state-requires : goal.load-state-requires
-load-state-requires c = let p = c.requires in
+load-state-requires c =
+    let p = c.requires in
     omega (arith, p.1.long, p.0.1)
 
 pub drained-next-requires : goal.drained-next-requires
-drained-next-requires c = let load = c.load-state in
+drained-next-requires c =
+    let load = c.load-state in
     let a = c.args in
     let p = c.requires in
     let h = held_rows a.row_conditions.now a.row_weights.now a.rows.now a.guard_bounds.now a.guard_nodes.now in
@@ -36,12 +38,14 @@ drained-next-requires c = let load = c.load-state in
     (fit_drains h (figure_limit - drain_limit) r (state_at v r) a.weight (omega arith) p.0.2 (p.1.fit r p.0.1))
 
 pub store_sums-requires : goal.store_sums-requires
-store_sums-requires c = let a = c.args in
+store_sums-requires c =
+    let a = c.args in
     let p = c.requires in
     omega (arith, p.1.long, p.0.1, states_figures a.figures.now a.cursors.now)
 
 pub run_at-requires : goal.run_at-requires
-run_at-requires c = let a = c.args in
+run_at-requires c =
+    let a = c.args in
     let p = c.requires in
     let h = held_rows a.row_conditions.now a.row_weights.now a.rows.now a.guard_bounds.now a.guard_nodes.now in
     let v = (let a = c.args in live_of a.figures.now a.cursors.now a.sure.now a.never.now a.node_queue.now a.row_queues.now a.rings) in
@@ -53,7 +57,8 @@ run_at-requires c = let a = c.args in
     ((p.0.0, p.0.1), ready_states h figure_limit (set v.states r t) (states_of c.store_sums.new.figures a.cursors.now) v.marks v.residuals ((let it : Stored c.args.figures.now c.args.cursors.now c.store_sums.new.figures c.args.cursors.now c.args.row ((let a = c.args in drained a.value a.weight (state_at ((let a = c.args in live_of a.figures.now a.cursors.now a.sure.now a.never.now a.node_queue.now a.row_queues.now a.rings)) a.row))) = let a = c.args in let p = c.requires in let moved = c.drained-next in let load = c.load-state in let s = state_at ((let a = c.args in live_of a.figures.now a.cursors.now a.sure.now a.never.now a.node_queue.now a.row_queues.now a.rings)) a.row in let n = moved.result in let hk : to_z w64 (of_z w64 n.known) ≡ n.known = search rules in let hp : to_z w64 (of_z w64 n.possible) ≡ n.possible = search rules in let words : c.store_sums.new.figures ≡ set a.figures.now a.row (sum_words (get_or a.figures.now a.row []) n.known n.possible) = simp (hk, hp) at c.store_sums.ensures in let e = moved.ensures ∙ ap (drained a.value a.weight) load.ensures in subst (λ (y : State). Stored a.figures.now a.cursors.now c.store_sums.new.figures a.cursors.now a.row y) (sums_drained a.value a.weight s n e) (stored_sums a.figures.now a.cursors.now a.row (omega (arith, p.1.long, p.0.1)) c.store_sums.new.figures n.known n.possible words) in it)).states y)
 
 pub shape_of-figures : goal.shape_of-figures
-shape_of-figures c = let run_at = c.run_at in
+shape_of-figures c =
+    let run_at = c.run_at in
     let store = c.store_sums in
     ◌∙◌ {b = length store.new.figures} run_at.auto.figures store.auto.figures
 
@@ -73,7 +78,8 @@ pub shape_of-row_queues : goal.shape_of-row_queues
 shape_of-row_queues c = c.run_at.auto.row_queues
 
 pub returns : goal.returns
-returns c = let run_at = c.run_at in
+returns c =
+    let run_at = c.run_at in
     let a = c.args in
     let h = held_rows a.row_conditions.now a.row_weights.now a.rows.now a.guard_bounds.now a.guard_nodes.now in
     let o = live_of run_at.new.figures run_at.new.cursors run_at.new.sure run_at.new.never run_at.new.node_queue run_at.new.row_queues run_at.result.rings in

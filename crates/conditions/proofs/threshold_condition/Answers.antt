@@ -11,7 +11,8 @@ use borrow.Author.Rules.{rules}
 use Rattle.conditions.proofs.threshold_condition.Goals as goal
 
 pub bit-value-requires : goal.bit-value-requires
-bit-value-requires c = let p = c.requires in
+bit-value-requires c =
+    let p = c.requires in
     omega (arith, p.0.3, p.1.waits.sures)
 
 pub edges_end-end-requires : goal.edges_end-end-requires
@@ -21,7 +22,8 @@ pub edges_start-at-requires : goal.edges_start-at-requires
 edges_start-at-requires c = omega (arith, c.requires.0.2)
 
 pub loop-at-init : goal.loop-at-init
-loop-at-init c = let edges-start = c.edges_start-at in
+loop-at-init c =
+    let edges-start = c.edges_start-at in
     let edges_end = c.edges_end-end in
     let bit = c.bit-value in
     let a = c.args in
@@ -35,14 +37,17 @@ loop-at-init c = let edges-start = c.edges_start-at in
     )
 
 pub edge_row-row-requires : goal.edge_row-row-requires
-edge_row-row-requires c = omega (arith, c.loop-at-test.true, c.loop-at.invariant.0.own.inside)
+edge_row-row-requires c =
+    omega (arith, c.loop-at-test.true, c.loop-at.invariant.0.own.inside)
 
 pub edge_weight-weight-requires : goal.edge_weight-weight-requires
-edge_weight-weight-requires c = let w = c.loop-at in
+edge_weight-weight-requires c =
+    let w = c.loop-at in
     omega (arith, c.loop-at-test.true, w.invariant.0.own.inside)
 
 pub drain_edge-turn-requires : goal.drain_edge-turn-requires
-drain_edge-turn-requires c = let edge-weight = c.edge_weight-weight in
+drain_edge-turn-requires c =
+    let edge-weight = c.edge_weight-weight in
     let edge_row = c.edge_row-row in
     let test = c.loop-at-test in
     let w = c.loop-at in
@@ -62,37 +67,44 @@ drain_edge-turn-requires c = let edge-weight = c.edge_weight-weight in
     )
 
 pub shape_of-figures-then-contradicts : goal.shape_of-figures-then-contradicts
-shape_of-figures-then-contradicts c = let drain-edge = c.drain_edge-turn in
+shape_of-figures-then-contradicts c =
+    let drain-edge = c.drain_edge-turn in
     let w = c.loop-at in
     ◌∙◌ {b = length w.figures} drain-edge.auto.figures w.invariant.1.figures
 
 pub shape_of-cursors-then-contradicts : goal.shape_of-cursors-then-contradicts
-shape_of-cursors-then-contradicts c = let drain-edge = c.drain_edge-turn in
+shape_of-cursors-then-contradicts c =
+    let drain-edge = c.drain_edge-turn in
     let w = c.loop-at in
     ◌∙◌ {b = length w.cursors} drain-edge.auto.cursors w.invariant.1.cursors
 
 pub shape_of-sure-then-contradicts : goal.shape_of-sure-then-contradicts
-shape_of-sure-then-contradicts c = let drain-edge = c.drain_edge-turn in
+shape_of-sure-then-contradicts c =
+    let drain-edge = c.drain_edge-turn in
     let w = c.loop-at in
     ◌∙◌ {b = length w.sure} drain-edge.auto.sure w.invariant.1.sure
 
 pub shape_of-never-then-contradicts : goal.shape_of-never-then-contradicts
-shape_of-never-then-contradicts c = let drain-edge = c.drain_edge-turn in
+shape_of-never-then-contradicts c =
+    let drain-edge = c.drain_edge-turn in
     let w = c.loop-at in
     ◌∙◌ {b = length w.never} drain-edge.auto.never w.invariant.1.never
 
 pub shape_of-node_queue-then-contradicts : goal.shape_of-node_queue-then-contradicts
-shape_of-node_queue-then-contradicts c = let drain-edge = c.drain_edge-turn in
+shape_of-node_queue-then-contradicts c =
+    let drain-edge = c.drain_edge-turn in
     let w = c.loop-at in
     ◌∙◌ {b = length w.node_queue} drain-edge.auto.node_queue w.invariant.1.node_queue
 
 pub shape_of-row_queues-then-contradicts : goal.shape_of-row_queues-then-contradicts
-shape_of-row_queues-then-contradicts c = let drain-edge = c.drain_edge-turn in
+shape_of-row_queues-then-contradicts c =
+    let drain-edge = c.drain_edge-turn in
     let w = c.loop-at in
     ◌∙◌ {b = length w.row_queues} drain-edge.auto.row_queues w.invariant.1.row_queues
 
 pub returns-then-contradicts : goal.returns-then-contradicts
-returns-then-contradicts c = let drain-edge = c.drain_edge-turn in
+returns-then-contradicts c =
+    let drain-edge = c.drain_edge-turn in
     let edge-weight = c.edge_weight-weight in
     let edge_row = c.edge_row-row in
     let test = c.loop-at-test in
@@ -115,7 +127,8 @@ returns-then-contradicts c = let drain-edge = c.drain_edge-turn in
     )
 
 pub overflow_add-at : goal.overflow_add-at
-overflow_add-at c = let test = c.loop-at-test in
+overflow_add-at c =
+    let test = c.loop-at-test in
     let edges_end = c.edges_end-end in
     omega (arith, test.true, edges_end.ensures.1)
 
@@ -123,7 +136,8 @@ pub loop-at-smaller : goal.loop-at-smaller
 loop-at-smaller c = omega (arith, c.loop-at-test.true)
 
 pub loop-at-preserved : goal.loop-at-preserved
-loop-at-preserved c = let join = c.join in
+loop-at-preserved c =
+    let join = c.join in
     let if1 = c.if-contradicts in
     let contradicts = c.contradicts in
     let drain-edge = c.drain_edge-turn in
@@ -174,7 +188,8 @@ pub shape_of-row_queues : goal.shape_of-row_queues
 shape_of-row_queues c = c.loop-at.invariant.1.row_queues
 
 pub returns : goal.returns
-returns c = let w = c.loop-at in
+returns c =
+    let w = c.loop-at in
     let edges-start = c.edges_start-at in
     let edges_end = c.edges_end-end in
     let bit = c.bit-value in

@@ -5,4 +5,5 @@ use Rattle.divisors.specs.TableLaws.{small_gcd}
 use Rattle.divisors.proofs.small_gcd.Goals as goal
 
 pub returns : goal.returns
-returns c = c.in_table.ensures ∙ small_gcd _ c.small_gcds.ensures c.args.left c.args.right c.requires.0 c.requires.1
+returns c =
+    c.in_table.ensures ∙ small_gcd _ c.small_gcds.ensures c.args.left c.args.right c.requires.0 c.requires.1

@@ -7,21 +7,25 @@ use borrow.Author.Rules.{rules}
 use Rattle.gather.proofs.add_area.Goals as goal
 
 pub overflow_sub-standing : goal.overflow_sub-standing
-overflow_sub-standing c = let g = c.args in
+overflow_sub-standing c =
+    let g = c.args in
     omega (arith, area_open g.standing g.condition g.area g.raw_conditions.now g.raw_weights.now g.thresholds.now g.places.now g.sums.now c.requires.0 c.requires.1 c.requires.2 c.requires.4)
 
 pub bounds-places-condition : goal.bounds-places-condition
-bounds-places-condition c = let g = c.args in
+bounds-places-condition c =
+    let g = c.args in
     area_named g.standing g.condition g.area g.raw_conditions.now g.raw_weights.now g.thresholds.now g.places.now g.sums.now c.requires.0 c.requires.1 c.requires.2 c.requires.4
 
 pub more_area-requires : goal.more_area-requires
-more_area-requires c = (c.requires.0, c.requires.1, c.requires.2, c.requires.3, c.requires.4, omega (arith, c.start_of-start.ensures, c.place.ensures.0, c.if-place-start.true))
+more_area-requires c =
+    (c.requires.0, c.requires.1, c.requires.2, c.requires.3, c.requires.4, omega (arith, c.start_of-start.ensures, c.place.ensures.0, c.if-place-start.true))
 
 pub returns-then-place-start : goal.returns-then-place-start
 returns-then-place-start c = more c.more_area.ensures refl refl refl
 
 pub first_area-requires : goal.first_area-requires
-first_area-requires c = (c.requires.0, c.requires.1, c.requires.2, c.requires.3, c.requires.4, omega (arith, c.start_of-start.ensures, c.place.ensures.0, c.if-place-start.false))
+first_area-requires c =
+    (c.requires.0, c.requires.1, c.requires.2, c.requires.3, c.requires.4, omega (arith, c.start_of-start.ensures, c.place.ensures.0, c.if-place-start.false))
 
 pub returns : goal.returns
 returns c = first c.first_area.ensures

@@ -19,7 +19,8 @@ pub bounds-bounds-at : goal.bounds-bounds-at
 bounds-bounds-at c = let g = c.args in omega (arith, open_room g.standing g.node g.bound g.thresholds.now g.bounds.now c.requires.0 c.requires.1 c.requires.2, c.requires.1.room)
 
 pub returns : goal.returns
-returns c = let g = c.args in
+returns c =
+    let g = c.args in
     let same : to_z w64 (of_z w64 g.bound) ≡ g.bound = search rules in
     let at = g.standing.thresholds in
     subst

@@ -7,9 +7,11 @@ pub returns-then-weight-width : goal.returns-then-weight-width
 returns-then-weight-width c = simp (le-leb c.args.weight c.args.i.width c.if-weight-width.true)
 
 pub returns-then-next-eq0 : goal.returns-then-next-eq0
-returns-then-next-eq0 c = let g = c.args in
+returns-then-next-eq0 c =
+    let g = c.args in
     simp (lt-leb g.weight g.i.width c.if-weight-width.false, le-ltb 0 g.next (omega arith))
 
 pub returns : goal.returns
-returns c = let g = c.args in
+returns c =
+    let g = c.args in
     simp (lt-leb g.weight g.i.width c.if-weight-width.false, lt-ltb 0 g.next (omega arith))

@@ -6,7 +6,8 @@ use borrow.Author.Rules.{rules}
 use Rattle.intervals.proofs.interval_of.Goals as goal
 
 pub returns : goal.returns
-returns c = let s = c.args.state in
+returns c =
+    let s = c.args.state in
     let hl : to_z w64 (of_z w64 s.lower) ≡ s.lower = search rules in
     let hk : to_z w64 (of_z w64 s.known) ≡ s.known = search rules in
     let hp : to_z w64 (of_z w64 s.possible) ≡ s.possible = search rules in

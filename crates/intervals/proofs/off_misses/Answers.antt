@@ -6,5 +6,6 @@ use borrow.Author.Rules.{rules}
 use Rattle.intervals.proofs.off_misses.Goals as goal
 
 pub returns : goal.returns
-returns c = let g = c.args in
+returns c =
+    let g = c.args in
     c.branch_misses.ensures ∙ ap (λ (x : ℕ). branch_misses g.i.known x g.i.lower g.i.upper g.divisor) c.minus-maximum.ensures

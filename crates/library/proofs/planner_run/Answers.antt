@@ -69,6 +69,7 @@ pub shape_of-answers : goal.shape_of-answers
 shape_of-answers c = c.run-given.auto.answers
 
 pub returns : goal.returns
-returns c = let r = c.run-given in
+returns c =
+    let r = c.run-given in
     let n = c.number in
     exports r.result n.result c.flag.result ((work (raw (raw_lists c.run-given.new.raw_conditions c.run-given.new.raw_weights c.run-given.new.thresholds) c.run-given.new.bounds) (built (held_rows c.run-given.new.row_conditions c.run-given.new.row_weights c.run-given.new.rows c.run-given.new.guard_bounds c.run-given.new.guard_nodes) c.run-given.new.nodes c.run-given.new.edges c.run-given.new.links) (kept c.run-given.new.figures c.run-given.new.cursors c.run-given.new.sure c.run-given.new.never c.run-given.new.search c.run-given.new.gcds c.run-given.new.node_queue c.run-given.new.row_queues c.run-given.new.answers))) (whole c.args.input.now ((let a = c.args in work (raw (raw_lists a.raw_conditions.now a.raw_weights.now a.thresholds.now) a.bounds.now) (built (held_rows a.row_conditions.now a.row_weights.now a.rows.now a.guard_bounds.now a.guard_nodes.now) a.nodes.now a.edges.now a.links.now) (kept a.figures.now a.cursors.now a.sure.now a.never.now a.search.now a.gcds.now a.node_queue.now a.row_queues.now a.answers.now)))) n.ensures c.flag.ensures r.ensures

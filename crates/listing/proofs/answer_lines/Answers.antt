@@ -7,15 +7,18 @@ use Rattle.listing.specs.Lines.{answer_at}
 use Rattle.listing.proofs.answer_lines.Goals as goal
 
 pub loop-i-init : goal.loop-i-init
-loop-i-init c = let a = c.args in
+loop-i-init c =
+    let a = c.args in
     joins_none 40 a.out.now a.at (answer_at a.answers.now) a.count
 
 pub answer-end-requires : goal.answer-end-requires
-answer-end-requires c = joins_room c.requires.1 c.loop-i-test.true c.loop-i.invariant
+answer-end-requires c =
+    joins_room c.requires.1 c.loop-i-test.true c.loop-i.invariant
 
 pub loop-i-preserved : goal.loop-i-preserved
 unfolding answer_at
-loop-i-preserved c = let d = c.answer-end in
+loop-i-preserved c =
+    let d = c.answer-end in
     joins_next (omega arith) c.loop-i-test.true c.loop-i.invariant d.auto.out d.ensures
 
 pub shape_of-out : goal.shape_of-out

@@ -12,20 +12,25 @@ use Rattle.listing.specs.LinesLaws.{counted}
 use Rattle.listing.proofs.end_line.Goals as goal
 
 pub slice_bounds-count-end : goal.slice_bounds-count-end
-slice_bounds-count-end c = omega (arith, length-take 64 c.args.sure.now)
+slice_bounds-count-end c =
+    omega (arith, length-take 64 c.args.sure.now)
 
 pub count-sures-requires : goal.count-sures-requires
-count-sures-requires c = omega (arith, length-take 64 c.args.sure.now)
+count-sures-requires c =
+    omega (arith, length-take 64 c.args.sure.now)
 
 pub slice_bounds-count-end-2 : goal.slice_bounds-count-end-2
-slice_bounds-count-end-2 c = omega (arith, length-take 64 c.args.never.now)
+slice_bounds-count-end-2 c =
+    omega (arith, length-take 64 c.args.never.now)
 
 pub count-nevers-requires : goal.count-nevers-requires
-count-nevers-requires c = omega (arith, length-take 64 c.args.never.now)
+count-nevers-requires c =
+    omega (arith, length-take 64 c.args.never.now)
 
 pub returns : goal.returns
 unfolding end_line text
-returns c = let h : c.args.at ≤ length c.args.out.now = omega arith in
+returns c =
+    let h : c.args.at ≤ length c.args.out.now = omega arith in
     let a = c.count-sures.ensures ∙ counted c.args.sure.now c.requires.1 in
     let b = c.count-nevers.ensures ∙ counted c.args.never.now c.requires.2 in
     wrote_as (omega arith) (ap₂ end_line a b)

@@ -12,6 +12,7 @@ use Rattle.listing.proofs.figure.Goals as goal
 
 pub returns : goal.returns
 unfolding text
-returns c = let h : c.args.at ≤ length c.args.out.now = omega arith in
+returns c =
+    let h : c.args.at ≤ length c.args.out.now = omega arith in
     let e : held c.args.z ≡ c.args.z = search rules in
     wrote_then h (wrote_same (ap decimal_z e) c.signed-end.ensures) c.put.ensures

@@ -13,7 +13,8 @@ use Rattle.text.specs.NumberLaws.{held}
 use Rattle.listing.proofs.figures.Goals as goal
 
 pub returns : goal.returns
-returns c = let x = c.args.state in
+returns c =
+    let x = c.args.state in
     let k = (let it : let x = c.args.state in (held x.known ≡ x.known) × (held x.possible ≡ x.possible) × (held x.lower ≡ x.lower) = (search rules, search rules, search rules) in it) in
     let h : c.args.at ≤ length c.args.out.now = omega arith in
     let a = wrote_same (ap (λ (z : ℤ). decimal_z z ++ text " ") k.0) c.figure-a.ensures in

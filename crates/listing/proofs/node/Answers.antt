@@ -9,5 +9,6 @@ use Rattle.listing.proofs.node.Goals as goal
 
 pub returns : goal.returns
 unfolding text
-returns c = let h : c.args.at ≤ length c.args.out.now = omega arith in
+returns c =
+    let h : c.args.at ≤ length c.args.out.now = omega arith in
     wrote_then h c.labelled-a.ensures c.put.ensures

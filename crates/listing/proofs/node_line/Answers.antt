@@ -9,11 +9,14 @@ use Rattle.listing.proofs.node_line.Goals as goal
 
 pub returns-then-bit : goal.returns-then-bit
 unfolding text
-returns-then-bit c = wrote_as (omega arith) (sym (node_sure c.args.sure.now c.args.never.now c.args.n (sym c.bit.ensures ∙ c.if-bit.true))) c.node.ensures
+returns-then-bit c =
+    wrote_as (omega arith) (sym (node_sure c.args.sure.now c.args.never.now c.args.n (sym c.bit.ensures ∙ c.if-bit.true))) c.node.ensures
 
 pub returns-then-bit-2 : goal.returns-then-bit-2
 unfolding text
-returns-then-bit-2 c = wrote_as (omega arith) (sym (node_never c.args.sure.now c.args.never.now c.args.n (sym c.bit.ensures ∙ c.if-bit.false) (sym c.bit-2.ensures ∙ c.if-bit-2.true))) c.node-then-bit-2.ensures
+returns-then-bit-2 c =
+    wrote_as (omega arith) (sym (node_never c.args.sure.now c.args.never.now c.args.n (sym c.bit.ensures ∙ c.if-bit.false) (sym c.bit-2.ensures ∙ c.if-bit-2.true))) c.node-then-bit-2.ensures
 
 pub returns : goal.returns
-returns c = wrote_as (omega arith) (sym (node_none c.args.sure.now c.args.never.now c.args.n (sym c.bit.ensures ∙ c.if-bit.false) (sym c.bit-2.ensures ∙ c.if-bit-2.false))) (wrote_none c.args.out.now c.args.at)
+returns c =
+    wrote_as (omega arith) (sym (node_none c.args.sure.now c.args.never.now c.args.n (sym c.bit.ensures ∙ c.if-bit.false) (sym c.bit-2.ensures ∙ c.if-bit-2.false))) (wrote_none c.args.out.now c.args.at)

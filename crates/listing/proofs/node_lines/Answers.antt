@@ -7,15 +7,18 @@ use Rattle.listing.specs.Lines.{node_at}
 use Rattle.listing.proofs.node_lines.Goals as goal
 
 pub loop-n-init : goal.loop-n-init
-loop-n-init c = let a = c.args in
+loop-n-init c =
+    let a = c.args in
     joins_none 32 a.out.now a.at (node_at a.sure.now a.never.now) a.count
 
 pub node_line-end-requires : goal.node_line-end-requires
-node_line-end-requires c = let w = c.loop-n in
+node_line-end-requires c =
+    let w = c.loop-n in
     (joins_room c.requires.0 c.loop-n-test.true w.invariant, omega arith, omega arith)
 
 pub loop-n-preserved : goal.loop-n-preserved
-loop-n-preserved c = let d = c.node_line-end in
+loop-n-preserved c =
+    let d = c.node_line-end in
     joins_next (omega arith) c.loop-n-test.true c.loop-n.invariant d.auto.out d.ensures
 
 pub shape_of-out : goal.shape_of-out

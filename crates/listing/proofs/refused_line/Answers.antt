@@ -11,5 +11,6 @@ use Rattle.listing.proofs.refused_line.Goals as goal
 
 pub returns : goal.returns
 unfolding refused_line text
-returns c = let h : c.args.at ≤ length c.args.out.now = omega arith in
+returns c =
+    let h : c.args.at ≤ length c.args.out.now = omega arith in
     wrote_then h (wrote_both (text " at ") (decimal c.args.offset) h c.labelled-a.ensures c.labelled-b.ensures) c.put.ensures

@@ -10,5 +10,6 @@ use Rattle.listing.proofs.row_line.Goals as goal
 
 pub returns : goal.returns
 unfolding row_line text
-returns c = let h : c.args.at ≤ length c.args.out.now = omega arith in
+returns c =
+    let h : c.args.at ≤ length c.args.out.now = omega arith in
     wrote_then h (wrote_then h (wrote_then h c.labelled-a.ensures c.put-b.ensures) c.figures-c.ensures) c.put.ensures

@@ -5,7 +5,8 @@ use Rattle.memory.specs.BuffersLaws.{by_built}
 use Rattle.memory.proofs.clear_built.Goals as goal
 
 pub returns : goal.returns
-returns c = let a = c.args in
+returns c =
+    let a = c.args in
     by_built (built (held_rows a.row_conditions.now a.row_weights.now a.rows.now a.guard_bounds.now a.guard_nodes.now) a.nodes.now a.edges.now a.links.now)
     c.clear_u16.ensures c.clear_u64.ensures c.clear_u16x3.ensures c.clear_i64.ensures c.clear_u16-2.ensures c.clear_u16x3-2.ensures c.clear_u64x2.ensures c.clear_u16-3.ensures
 

@@ -5,7 +5,8 @@ use Rattle.memory.specs.BuffersLaws.{by_kept}
 use Rattle.memory.proofs.clear_kept.Goals as goal
 
 pub returns : goal.returns
-returns c = let a = c.args in
+returns c =
+    let a = c.args in
     by_kept (kept a.figures.now a.cursors.now a.sure.now a.never.now a.search.now a.gcds.now a.node_queue.now a.row_queues.now a.answers.now)
     c.clear_i64x4.ensures c.clear_usizex5.ensures c.clear_u64.ensures c.clear_u64-2.ensures c.clear_u64-3.ensures c.clear_u64-4.ensures c.clear_u16.ensures c.clear_u16x4.ensures c.clear_u16x2.ensures
 

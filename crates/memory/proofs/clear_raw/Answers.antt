@@ -5,7 +5,8 @@ use Rattle.memory.specs.BuffersLaws.{by_raw}
 use Rattle.memory.proofs.clear_raw.Goals as goal
 
 pub returns : goal.returns
-returns c = let a = c.args in
+returns c =
+    let a = c.args in
     by_raw (raw (raw_lists a.raw_conditions.now a.raw_weights.now a.thresholds.now) a.bounds.now)
     c.clear_u16.ensures c.clear_u64.ensures c.clear_u16x2.ensures c.clear_i64.ensures
 

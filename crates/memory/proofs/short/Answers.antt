@@ -7,7 +7,8 @@ use Rattle.memory.proofs.short.Goals as goal
 
 pub returns : goal.returns
 unfolding enough_from
-returns c = let a = c.args in
+returns c =
+    let a = c.args in
     ap not
     (fits_from_lem
     (a.raw_conditions ∷ a.raw_weights ∷ a.thresholds ∷ a.bounds

@@ -7,11 +7,13 @@ use Rattle.misses.specs.MissesLaws.{branch_empty, branch_open}
 use Rattle.misses.proofs.branch_misses.Goals as goal
 
 pub returns-then-from-to : goal.returns-then-from-to
-returns-then-from-to c = let g = c.args in
+returns-then-from-to c =
+    let g = c.args in
     sym (branch_empty g.base g.maximum g.lower g.upper g.divisor (search rules))
 
 pub returns : goal.returns
-returns c = let g = c.args in
+returns c =
+    let g = c.args in
     c.misses.ensures
     ∙ ap₂ (λ (x y : ℕ). misses g.base x y g.divisor) c.larger-from.ensures c.smaller-to.ensures
     ∙ sym (branch_open g.base g.maximum g.lower g.upper g.divisor (search rules))

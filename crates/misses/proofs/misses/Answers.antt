@@ -9,17 +9,20 @@ use Rattle.misses.proofs.misses.Goals as goal
 
 pub returns-then-base-lower : goal.returns-then-base-lower
 unfolding misses
-returns-then-base-lower c = let g = c.args in
+returns-then-base-lower c =
+    let g = c.args in
     simp (eq-eqb g.divisor 0 c.if-divisor-eq0.true, lt-ltb g.base g.lower c.if-base-lower.true)
 
 pub returns-else-base-lower : goal.returns-else-base-lower
 unfolding misses
-returns-else-base-lower c = let g = c.args in
+returns-else-base-lower c =
+    let g = c.args in
     simp (eq-eqb g.divisor 0 c.if-divisor-eq0.true, le-ltb g.base g.lower c.if-base-lower.false)
 
 pub returns-then-remainder-eq0 : goal.returns-then-remainder-eq0
 unfolding misses
-returns-then-remainder-eq0 c = let g = c.args in
+returns-then-remainder-eq0 c =
+    let g = c.args in
     simp (
       ne_eqb g.divisor 0 c.if-divisor-eq0.false,
       eq-eqb ((g.lower - g.base) % g.divisor) 0 c.if-remainder-eq0.true,
@@ -27,10 +30,12 @@ returns-then-remainder-eq0 c = let g = c.args in
     )
 
 pub overflow_sub-distance : goal.overflow_sub-distance
-overflow_sub-distance c = let g = c.args in
+overflow_sub-distance c =
+    let g = c.args in
     omega (arith, mod-lt (g.lower - g.base) {m = g.divisor} (omega arith))
 
 pub returns : goal.returns
 unfolding misses
-returns c = let g = c.args in
+returns c =
+    let g = c.args in
     simp (ne_eqb g.divisor 0 c.if-divisor-eq0.false, ne_eqb ((g.lower - g.base) % g.divisor) 0 c.if-remainder-eq0.false)

@@ -9,7 +9,9 @@ use Rattle.notice.proofs.left.Goals as goal
 
 pub returns-then-contradicts : goal.returns-then-contradicts
 unfolding text
-returns-then-contradicts c = wrote_as (omega arith) (sym (left_some c.args.last (sym c.contradicts.ensures ∙ c.if-contradicts.true))) c.put.ensures
+returns-then-contradicts c =
+    wrote_as (omega arith) (sym (left_some c.args.last (sym c.contradicts.ensures ∙ c.if-contradicts.true))) c.put.ensures
 
 pub returns : goal.returns
-returns c = wrote_as (omega arith) (sym (left-none c.args.last (sym c.contradicts.ensures ∙ c.if-contradicts.false))) (wrote_none c.args.out.now c.args.at)
+returns c =
+    wrote_as (omega arith) (sym (left-none c.args.last (sym c.contradicts.ensures ∙ c.if-contradicts.false))) (wrote_none c.args.out.now c.args.at)

@@ -7,4 +7,5 @@ use Rattle.notice.proofs.notice.Goals as goal
 
 pub returns : goal.returns
 unfolding notice
-returns c = wrote_then (omega arith) c.refused-end.ensures c.left.ensures
+returns c =
+    wrote_then (omega arith) c.refused-end.ensures c.left.ensures

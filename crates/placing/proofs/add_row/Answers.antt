@@ -16,7 +16,8 @@ use borrow.Author.Rules.{rules}
 use Rattle.placing.proofs.add_row.Goals as goal
 
 pub build_at-end-requires : goal.build_at-end-requires
-build_at-end-requires c = let g = c.args in
+build_at-end-requires c =
+    let g = c.args in
     let p = c.requires in
     let r = raw_lists g.raw_conditions.now g.raw_weights.now g.thresholds.now in
     let l = p.0.lists in
@@ -45,19 +46,22 @@ overflow_cast-entry c = let g = c.args in
     record { fits = omega arith }
 
 pub offset_bounds-rows-row : goal.offset_bounds-rows-row
-offset_bounds-rows-row c = let g = c.args in
+offset_bounds-rows-row c =
+    let g = c.args in
     let p = c.requires in
     let w = within (raw_lists g.raw_conditions.now g.raw_weights.now g.thresholds.now) g.t g.so g.row_conditions.now g.row_weights.now g.rows.now g.scratch.now g.heads.now p.0 p.3 p.1 in
     record { fits = omega arith }
 
 pub bounds-rows-row : goal.bounds-rows-row
-bounds-rows-row c = let g = c.args in
+bounds-rows-row c =
+    let g = c.args in
     let p = c.requires in
     let w = within (raw_lists g.raw_conditions.now g.raw_weights.now g.thresholds.now) g.t g.so g.row_conditions.now g.row_weights.now g.rows.now g.scratch.now g.heads.now p.0 p.3 p.1 in
     w.row
 
 pub link_row-requires : goal.link_row-requires
-link_row-requires c = let g = c.args in
+link_row-requires c =
+    let g = c.args in
     let p = c.requires in
     let r = raw_lists g.raw_conditions.now g.raw_weights.now g.thresholds.now in
     let s = print_small r g.t p.0.lists p.1 in
@@ -69,14 +73,16 @@ link_row-requires c = let g = c.args in
     (omega arith, omega arith, p.3.marks.treed.wide, link_free r g.heads.now (list_at r g.t) g.link g.so.rows g.scratch.now _ p.5 (omega arith) c.build_at-end.ensures.4)
 
 pub overflow_add-scratch : goal.overflow_add-scratch
-overflow_add-scratch c = let g = c.args in
+overflow_add-scratch c =
+    let g = c.args in
     let p = c.requires in
     let w = within (raw_lists g.raw_conditions.now g.raw_weights.now g.thresholds.now) g.t g.so g.row_conditions.now g.row_weights.now g.rows.now g.scratch.now g.heads.now p.0 p.3 p.1 in
     let turn = w.turn in
     record { fits = omega arith }
 
 pub offset_bounds-scratch-row : goal.offset_bounds-scratch-row
-offset_bounds-scratch-row c = let g = c.args in
+offset_bounds-scratch-row c =
+    let g = c.args in
     let p = c.requires in
     let w = within (raw_lists g.raw_conditions.now g.raw_weights.now g.thresholds.now) g.t g.so g.row_conditions.now g.row_weights.now g.rows.now g.scratch.now g.heads.now p.0 p.3 p.1 in
     let turn = w.turn in
@@ -84,7 +90,8 @@ offset_bounds-scratch-row c = let g = c.args in
     record { fits = omega arith }
 
 pub bounds-scratch-row : goal.bounds-scratch-row
-bounds-scratch-row c = let g = c.args in
+bounds-scratch-row c =
+    let g = c.args in
     let p = c.requires in
     let w = within (raw_lists g.raw_conditions.now g.raw_weights.now g.thresholds.now) g.t g.so g.row_conditions.now g.row_weights.now g.rows.now g.scratch.now g.heads.now p.0 p.3 p.1 in
     let word = w.word in
@@ -93,7 +100,8 @@ bounds-scratch-row c = let g = c.args in
     omega arith
 
 pub overflow_add-result : goal.overflow_add-result
-overflow_add-result c = let g = c.args in
+overflow_add-result c =
+    let g = c.args in
     let p = c.requires in
     let w = within (raw_lists g.raw_conditions.now g.raw_weights.now g.thresholds.now) g.t g.so g.row_conditions.now g.row_weights.now g.rows.now g.scratch.now g.heads.now p.0 p.3 p.1 in
     let turn = w.turn in
@@ -101,10 +109,12 @@ overflow_add-result c = let g = c.args in
     record { fits = omega arith }
 
 pub shape_of-scratch : goal.shape_of-scratch
-shape_of-scratch c = simp length-set (c.link_row.auto.marks ∙ c.build_at-end.auto.scratch)
+shape_of-scratch c =
+    simp length-set (c.link_row.auto.marks ∙ c.build_at-end.auto.scratch)
 
 pub returns : goal.returns
-returns c = let g = c.args in
+returns c =
+    let g = c.args in
     let p = c.requires in
     let r = raw_lists g.raw_conditions.now g.raw_weights.now g.thresholds.now in
     let w = within r g.t g.so g.row_conditions.now g.row_weights.now g.rows.now g.scratch.now g.heads.now p.0 p.3 p.1 in

@@ -14,7 +14,8 @@ later : (p : Else-link-eq0) → 0 < p.args.link
 later p = omega (arith, p.if-link-eq0.false)
 
 pub returns-then-link-eq0 : goal.returns-then-link-eq0
-returns-then-link-eq0 c = let g = c.args in
+returns-then-link-eq0 c =
+    let g = c.args in
     let e = c.if-link-eq0.true in (
       ap (λ (h : ℕ). set g.heads.now h (g.row + 1)) c.class_of-class.ensures.0 ∙ heads_first g.link (class_of g.print) (g.row + 1) g.heads.now e,
       marks-first g.link (g.row + 1) g.marks.now e,
@@ -39,7 +40,8 @@ pub bounds-marks-at-2 : goal.bounds-marks-at-2
 bounds-marks-at-2 c = (c.requires.3 (later (goal.at.bounds-marks-at-2 c).Else-link-eq0)).0
 
 pub returns : goal.returns
-returns c = let g = c.args in
+returns c =
+    let g = c.args in
     let o = later (goal.at.returns c).Else-link-eq0 in (
       heads_later g.link (class_of g.print) (g.row + 1) g.heads.now o,
       ap (set g.marks.now (g.link / 3 - 1)) c.with_link.ensures ∙ marks_later g.link (g.row + 1) g.marks.now o,

@@ -18,13 +18,15 @@ use borrow.Author.Rules.{rules}
 use Rattle.placing.proofs.place_one.Goals as goal
 
 pub slice_bounds-find_row-end : goal.slice_bounds-find_row-end
-slice_bounds-find_row-end c = let g = c.args in
+slice_bounds-find_row-end c =
+    let g = c.args in
     let p = c.requires in
     let w = within (raw_lists g.raw_conditions.now g.raw_weights.now g.thresholds.now) g.t g.so g.row_conditions.now g.row_weights.now g.rows.now g.scratch.now g.heads.now p.0 p.3 p.1 in
     omega arith
 
 pub slice_bounds-find_row-end-2 : goal.slice_bounds-find_row-end-2
-slice_bounds-find_row-end-2 c = let g = c.args in
+slice_bounds-find_row-end-2 c =
+    let g = c.args in
     let p = c.requires in
     let w = within (raw_lists g.raw_conditions.now g.raw_weights.now g.thresholds.now) g.t g.so g.row_conditions.now g.row_weights.now g.rows.now g.scratch.now g.heads.now p.0 p.3 p.1 in
     sym (length-take-le g.so.rows g.scratch.now (omega arith))
@@ -53,14 +55,16 @@ enter_node-requires c = let g = c.args in
     (p.1, omega arith, omega arith, p.2)
 
 pub enter_node-requires-in-Free : goal.enter_node-requires-in-Free
-enter_node-requires-in-Free c = let g = c.args in
+enter_node-requires-in-Free c =
+    let g = c.args in
     let p = c.requires in
     let r = raw_lists g.raw_conditions.now g.raw_weights.now g.thresholds.now in
     let w = within r g.t g.so g.row_conditions.now g.row_weights.now g.rows.now g.scratch.now g.heads.now p.0 p.3 p.1 in
     (p.1, omega arith, omega arith, p.2)
 
 pub add_row-requires : goal.add_row-requires
-add_row-requires c = let g = c.args in
+add_row-requires c =
+    let g = c.args in
     let p = c.requires in
     let r = raw_lists g.raw_conditions.now g.raw_weights.now g.thresholds.now in
     let e = (let it : Finds ((let g = c.args in raw_lists g.raw_conditions.now g.raw_weights.now g.thresholds.now)) ((let g = c.args in take g.so.rows g.scratch.now)) ((c.args.heads.now)) ((list_at ((let g = c.args in raw_lists g.raw_conditions.now g.raw_weights.now g.thresholds.now)) c.args.t)) (Free c.in-Free.link) = subst (Finds ((let g = c.args in raw_lists g.raw_conditions.now g.raw_weights.now g.thresholds.now)) ((let g = c.args in take g.so.rows g.scratch.now)) ((c.args.heads.now)) ((list_at ((let g = c.args in raw_lists g.raw_conditions.now g.raw_weights.now g.thresholds.now)) c.args.t))) c.in-Free.is c.find_row-found.ensures in it) in
@@ -68,7 +72,8 @@ add_row-requires c = let g = c.args in
     (p.0, p.1, c.print_of-print.ensures, p.3, f ∙ sym p.3.marks.many, e.1)
 
 pub returns-in-At : goal.returns-in-At
-returns-in-At c = let g = c.args in
+returns-in-At c =
+    let g = c.args in
     let p = c.requires in
     let r = raw_lists g.raw_conditions.now g.raw_weights.now g.thresholds.now in
     let ms = take g.so.rows g.scratch.now in
@@ -79,7 +84,8 @@ returns-in-At c = let g = c.args in
     )
 
 pub returns-in-Free : goal.returns-in-Free
-returns-in-Free c = let g = c.args in
+returns-in-Free c =
+    let g = c.args in
     let p = c.requires in
     let r = raw_lists g.raw_conditions.now g.raw_weights.now g.thresholds.now in
     let f = found_new r g.t (take g.so.rows g.scratch.now) p.3.marks.named g.heads.now _ ((let it : Finds ((let g = c.args in raw_lists g.raw_conditions.now g.raw_weights.now g.thresholds.now)) ((let g = c.args in take g.so.rows g.scratch.now)) ((c.args.heads.now)) ((list_at ((let g = c.args in raw_lists g.raw_conditions.now g.raw_weights.now g.thresholds.now)) c.args.t)) (Free c.in-Free.link) = subst (Finds ((let g = c.args in raw_lists g.raw_conditions.now g.raw_weights.now g.thresholds.now)) ((let g = c.args in take g.so.rows g.scratch.now)) ((c.args.heads.now)) ((list_at ((let g = c.args in raw_lists g.raw_conditions.now g.raw_weights.now g.thresholds.now)) c.args.t))) c.in-Free.is c.find_row-found.ensures in it)) in

@@ -12,7 +12,8 @@ use borrow.Author.Rules.{rules}
 use Rattle.placing.proofs.place_rows.Goals as goal
 
 pub loop-t-init : goal.loop-t-init
-loop-t-init c = let g = c.args in
+loop-t-init c =
+    let g = c.args in
     let p = c.requires in (
       omega arith,
       record { row-conditions = refl; row-weights = refl; rows = refl; nodes = refl; scratch = refl; heads = refl },
@@ -22,7 +23,8 @@ loop-t-init c = let g = c.args in
     )
 
 pub place_one-so-requires : goal.place_one-so-requires
-place_one-so-requires c = let g = c.args in
+place_one-so-requires c =
+    let g = c.args in
     let p = c.requires in
     let w = c.loop-t in
     let k = w.invariant.1 in
@@ -36,12 +38,14 @@ place_one-so-requires c = let g = c.args in
     )
 
 pub overflow_add-t : goal.overflow_add-t
-overflow_add-t c = let h = c.loop-t-test.true in
+overflow_add-t c =
+    let h = c.loop-t-test.true in
     let many = c.requires.0.lists.many in
     record { fits = omega arith }
 
 pub loop-t-preserved : goal.loop-t-preserved
-loop-t-preserved c = let g = c.args in
+loop-t-preserved c =
+    let g = c.args in
     let p = c.requires in
     let w = c.loop-t in
     let r = (raw_lists c.args.raw_conditions.now c.args.raw_weights.now c.args.thresholds.now) in
@@ -65,7 +69,8 @@ loop-t-preserved c = let g = c.args in
     )
 
 pub returns : goal.returns
-returns c = let g = c.args in
+returns c =
+    let g = c.args in
     let w = c.loop-t in
     let h = c.loop-t-test.false in
     let a = w.invariant.0 in

@@ -12,7 +12,8 @@ use borrow.Author.Rules.{rules}
 use Rattle.placing.proofs.place_rows.Given as goal
 
 abbrev pub invariant-loop-t : goal.invariant-loop-t
-invariant-loop-t l = (l.t ≤ length l.thresholds) × (Same l.initial.row_conditions l.initial.row_weights l.initial.rows l.initial.nodes l.initial.scratch l.initial.heads l.row_conditions l.row_weights l.rows l.nodes l.scratch l.heads)
+invariant-loop-t l =
+    (l.t ≤ length l.thresholds) × (Same l.initial.row_conditions l.initial.row_weights l.initial.rows l.initial.nodes l.initial.scratch l.initial.heads l.row_conditions l.row_weights l.rows l.nodes l.scratch l.heads)
     × (Placing (raw_lists l.raw_conditions l.raw_weights l.thresholds) l.t l.so l.row_conditions l.row_weights l.scratch l.heads)
     × (l.rows ≡ over (row_ends (raw_lists l.raw_conditions l.raw_weights l.thresholds) l.t) l.initial.rows) × (l.nodes ≡ nodes_to (raw_lists l.raw_conditions l.raw_weights l.thresholds) l.initial.nodes l.t)
 

@@ -10,7 +10,8 @@ use Rattle.searches.specs.Search.{search_from}
 use Rattle.possible_sums.proofs.attempt.Goals as goal
 
 pub returns : goal.returns
-returns c = let g = c.args in
+returns c =
+    let g = c.args in
     let p = c.prepare-allowance.ensures in
     let n = c.requires.1.1 in (
       c.search_from-found.ensures

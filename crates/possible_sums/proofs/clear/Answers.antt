@@ -13,11 +13,13 @@ pub loop-i-smaller : goal.loop-i-smaller
 loop-i-smaller c = simp length-set (omega arith)
 
 pub loop-i-preserved : goal.loop-i-preserved
-loop-i-preserved c = let w = c.loop-i in
+loop-i-preserved c =
+    let w = c.loop-i in
     (simp length-set (omega arith), simp length-set (omega arith), zero_next w.words w.i (omega arith) w.invariant.2)
 
 pub returns : goal.returns
-returns c = let w = c.loop-i in
+returns c =
+    let w = c.loop-i in
     zero_all w.words (length c.args.words.now) w.i (omega arith) (omega arith) w.invariant.2
 
 pub offset_bounds-words-i : goal.offset_bounds-words-i

@@ -20,7 +20,8 @@ use Rattle.possible_sums.proofs.search_from.Goals as goal
 use Rattle.possible_sums.proofs.search_from.Goals.{Else-left-eq0, Else-weight-limit}
 
 pub loop-count-init : goal.loop-count-init
-loop-count-init c = let g = c.args in
+loop-count-init c =
+    let g = c.args in
     let p = c.requires in (
       refl,
       refl,
@@ -33,7 +34,8 @@ loop-count-init c = let g = c.args in
     )
 
 pub returns-then-left-eq0 : goal.returns-then-left-eq0
-returns-then-left-eq0 c = let g = c.args in
+returns-then-left-eq0 c =
+    let g = c.args in
     let v = c.loop-count in
     let s = c.requires.0.same in
     sym
@@ -48,7 +50,8 @@ from_here : (c : Else-left-eq0) → search_from c.args.w (in_either c.args.sure.
     c.loop-count.words c.loop-count.maximum (suc (c.loop-count.left - 1))
     ≡ search_from c.args.w (in_either c.args.sure.now c.args.never.now)
     (reverse (terms c.args.conditions.now c.args.weights.now)) c.args.words.now 0 c.args.allowance
-from_here c = let g = c.args in
+from_here c =
+    let g = c.args in
     let v = c.loop-count in
     let s = c.requires.0.same in
     sym
@@ -57,7 +60,8 @@ from_here c = let g = c.args in
     ∙ v.invariant.6
 
 pub returns-then-weight-limit : goal.returns-then-weight-limit
-returns-then-weight-limit c = let g = c.args in
+returns-then-weight-limit c =
+    let g = c.args in
     let v = c.loop-count in
     sym
     (from_heavy g.w (in_either g.sure.now g.never.now) (last_term g.conditions.now g.weights.now v.count) (last_terms_of g.conditions.now g.weights.now (v.count - 1))
@@ -73,14 +77,16 @@ pub bounds-conditions-count : goal.bounds-conditions-count
 bounds-conditions-count c = let s = c.requires.0.same in omega arith
 
 pub decided-requires : goal.decided-requires
-decided-requires c = let p = c.requires.0 in
+decided-requires c =
+    let p = c.requires.0 in
     let s = p.same in
     let v = c.loop-count in
     let t = c.loop-count-test.true in
     (p.below (v.count - 1) (omega arith), p.in_sure, p.in_never)
 
 pub loop-count-preserved-then-decided : goal.loop-count-preserved-then-decided
-loop-count-preserved-then-decided c = let g = c.args in
+loop-count-preserved-then-decided c =
+    let g = c.args in
     let v = c.loop-count in (
       refl,
       refl,
@@ -96,13 +102,15 @@ loop-count-preserved-then-decided c = let g = c.args in
     )
 
 pub overflow_sub-hit : goal.overflow_sub-hit
-overflow_sub-hit c = let g = c.args in
+overflow_sub-hit c =
+    let g = c.args in
     let v = c.loop-count in
     let h = hit_left v.words (v.maximum / 64 + 1) (get_or g.weights.now (v.count - 1) 0) g.w.lower g.w.maximum (v.left - 1) c.in-Hit.after (sym c.union_shifted_until_hit-ended.ensures.1 ∙ c.in-Hit.is) in
     omega arith
 
 pub returns-in-Hit : goal.returns-in-Hit
-returns-in-Hit c = let g = c.args in
+returns-in-Hit c =
+    let g = c.args in
     let v = c.loop-count in
     sym
     (from_fits g.w (in_either g.sure.now g.never.now) (last_term g.conditions.now g.weights.now v.count) (last_terms_of g.conditions.now g.weights.now (v.count - 1))
@@ -111,7 +119,8 @@ returns-in-Hit c = let g = c.args in
     ∙ from_here (goal.at.returns-in-Hit c).Else-left-eq0
 
 pub returns-in-Stopped : goal.returns-in-Stopped
-returns-in-Stopped c = let g = c.args in
+returns-in-Stopped c =
+    let g = c.args in
     let v = c.loop-count in
     sym
     (from_stopped g.w (in_either g.sure.now g.never.now) (last_term g.conditions.now g.weights.now v.count) (last_terms_of g.conditions.now g.weights.now (v.count - 1))
@@ -120,11 +129,13 @@ returns-in-Stopped c = let g = c.args in
     ∙ from_here (goal.at.returns-in-Stopped c).Else-left-eq0
 
 pub overflow_add-maximum-in-Complete : goal.overflow_add-maximum-in-Complete
-overflow_add-maximum-in-Complete c = let p = c.requires.1.0 in
+overflow_add-maximum-in-Complete c =
+    let p = c.requires.1.0 in
     omega (arith, p.words, p.enough, p.visits, c.loop-count.invariant.4, c.if-weight-limit.false)
 
 pub loop-count-preserved : goal.loop-count-preserved
-loop-count-preserved c = let g = c.args in
+loop-count-preserved c =
+    let g = c.args in
     let v = c.loop-count in
     let u = c.union_shifted_until_hit-ended.ensures in
     let q : (union_shifted v.words (v.maximum / 64 + 1) (get_or g.weights.now (v.count - 1) 0) g.w.lower g.w.maximum (v.left - 1)).ended ≡ _ = sym u.1 ∙ c.in-Complete.is in
@@ -145,7 +156,8 @@ loop-count-preserved c = let g = c.args in
     )
 
 pub returns : goal.returns
-returns c = let g = c.args in
+returns c =
+    let g = c.args in
     let v = c.loop-count in
     sym
     (turn-none g.w (in_either g.sure.now g.never.now) g.conditions.now g.weights.now v.words v.count v.maximum v.left

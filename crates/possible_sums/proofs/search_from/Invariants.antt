@@ -19,7 +19,8 @@ use Rattle.searches.specs.SearchStepsLaws.{
 use Rattle.possible_sums.proofs.search_from.Given as goal
 
 abbrev pub invariant-loop-count : goal.invariant-loop-count
-invariant-loop-count l = (l.limit ≡ l.w.maximum) × (l.visits ≡ l.w.visits) × (l.count ≤ length l.weights) × (l.left ≤ l.w.visits) × (l.maximum ≤ l.w.maximum)
+invariant-loop-count l =
+    (l.limit ≡ l.w.maximum) × (l.visits ≡ l.w.visits) × (l.count ≤ length l.weights) × (l.left ≤ l.w.visits) × (l.maximum ≤ l.w.maximum)
     × (length l.words ≡ length l.initial.words)
     × (search_from l.w (in_either l.sure l.never) (last_terms_of l.conditions l.weights l.count) l.words l.maximum l.left
     ≡ search_from l.w (in_either l.sure l.never) (reverse (terms l.conditions l.weights)) l.initial.words 0 l.allowance)

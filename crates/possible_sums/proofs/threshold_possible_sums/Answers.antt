@@ -14,7 +14,8 @@ use Rattle.searches.specs.SearchStepsLaws.{search-none, search-begins, plan_prep
 use Rattle.possible_sums.proofs.threshold_possible_sums.Goals as goal
 
 pub returns-in_default : goal.returns-in_default
-returns-in_default c = let g = c.args in (
+returns-in_default c =
+    let g = c.args in (
       sym
           (search-none (terms g.conditions.now g.weights.now) g.state (in_either g.sure.now g.never.now)
           (sym c.for_row.ensures ∙ c.in_default.is)),
@@ -25,13 +26,15 @@ pub slice_bounds-attempt-end : goal.slice_bounds-attempt-end
 slice_bounds-attempt-end c = (let it : c.in-Planned.w.words ≤ length c.args.words.now = let r = (let it : Prepared c.in-Planned.w = let g = c.args in plan_prepared (terms g.conditions.now g.weights.now) g.state c.in-Planned.w (omega (arith, length-terms g.conditions.now g.weights.now, c.requires.0.1)) (sym c.for_row.ensures ∙ c.in-Planned.is) in it) in omega (arith, r.enough, r.visits, c.requires.1.0) in it)
 
 pub attempt-requires : goal.attempt-requires
-attempt-requires c = let g = c.args in
+attempt-requires c =
+    let g = c.args in
     let n = c.in-Planned.w.words in
     let e : n - 0 ≡ n = omega arith in
     (c.requires.0.0, ((let it : Prepared c.in-Planned.w = let g = c.args in plan_prepared (terms g.conditions.now g.weights.now) g.state c.in-Planned.w (omega (arith, length-terms g.conditions.now g.weights.now, c.requires.0.1)) (sym c.for_row.ensures ∙ c.in-Planned.is) in it), rw e (length-take-le n g.words.now ((let it : c.in-Planned.w.words ≤ length c.args.words.now = let r = (let it : Prepared c.in-Planned.w = let g = c.args in plan_prepared (terms g.conditions.now g.weights.now) g.state c.in-Planned.w (omega (arith, length-terms g.conditions.now g.weights.now, c.requires.0.1)) (sym c.for_row.ensures ∙ c.in-Planned.is) in it) in omega (arith, r.enough, r.visits, c.requires.1.0) in it)))))
 
 pub returns : goal.returns
-returns c = let g = c.args in
+returns c =
+    let g = c.args in
     let a = c.attempt.ensures in (
       a.0
           ∙ sym

@@ -19,7 +19,8 @@ place_rows-so-requires c = let p = c.requires in
     (p.0, p.1, p.2, p.3, p.4, p.5, p.6)
 
 pub returns : goal.returns
-returns c = let g = c.args in
+returns c =
+    let g = c.args in
     let p = c.requires in
     let r = (raw_lists c.args.raw_conditions.now c.args.raw_weights.now c.args.thresholds.now) in
     let s = c.place_rows-so.ensures in

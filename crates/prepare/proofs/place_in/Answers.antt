@@ -31,12 +31,14 @@ slice_bounds-place_all-end-4 c = let g = c.args in
     sym (length-take-le (length g.raw_conditions.now) g.row_weights.now c.requires.weights)
 
 pub place_all-requires : goal.place_all-requires
-place_all-requires c = let g = c.args in
+place_all-requires c =
+    let g = c.args in
     let r = raw_lists g.raw_conditions.now g.raw_weights.now g.thresholds.now in
     open_ready r g.row_conditions.now g.row_weights.now g.rows.now g.nodes.now g.scratch.now g.heads.now c.requires
 
 pub returns : goal.returns
-returns c = let g = c.args in
+returns c =
+    let g = c.args in
     let p = c.requires in
     let r = raw_lists g.raw_conditions.now g.raw_weights.now g.thresholds.now in
     let s = c.place_all.ensures in

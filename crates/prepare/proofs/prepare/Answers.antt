@@ -15,22 +15,26 @@ order_keys-requires c = let p = c.requires in
     (omega arith, p.0.bounded, omega arith, omega arith, p.1.weights_clear)
 
 pub place_in-so-requires : goal.place_in-so-requires
-place_in-so-requires c = let o = c.order_keys.ensures in
+place_in-so-requires c =
+    let o = c.order_keys.ensures in
     opened ((raw_lists c.args.raw_conditions.now c.args.raw_weights.now c.args.thresholds.now)) c.args.bounds.now ((let g = c.args in built (held_rows g.row_conditions.now g.row_weights.now g.rows.now g.guard_bounds.now g.guard_nodes.now) g.nodes.now g.edges.now [])) c.args.scratch.now c.requires.0 c.requires.1 _ _ o.0 o.1
 
 pub guards_in-requires : goal.guards_in-requires
-guards_in-requires c = let o = c.order_keys.ensures in
+guards_in-requires c =
+    let o = c.order_keys.ensures in
     let q = c.place_in-so.ensures in
     guards_ready ((raw_lists c.args.raw_conditions.now c.args.raw_weights.now c.args.thresholds.now)) c.args.bounds.now ((let g = c.args in built (held_rows g.row_conditions.now g.row_weights.now g.rows.now g.guard_bounds.now g.guard_nodes.now) g.nodes.now g.edges.now [])) c.args.scratch.now c.requires.0 c.requires.1 _ _ o.0 o.1 c.place_in-so.result _ _ _ _ _ _ q.0 q.1 q.2
 
 pub edges_in-requires : goal.edges_in-requires
-edges_in-requires c = let o = c.order_keys.ensures in
+edges_in-requires c =
+    let o = c.order_keys.ensures in
     let q = c.place_in-so.ensures in
     let h = c.guards_in.ensures in
     edges_ready ((raw_lists c.args.raw_conditions.now c.args.raw_weights.now c.args.thresholds.now)) c.args.bounds.now ((let g = c.args in built (held_rows g.row_conditions.now g.row_weights.now g.rows.now g.guard_bounds.now g.guard_nodes.now) g.nodes.now g.edges.now [])) c.args.scratch.now c.requires.0 c.requires.1 _ _ o.0 o.1 c.place_in-so.result _ _ _ _ _ _ q.0 q.1 q.2 _ _ _ _ h.0 h.1 c.guards_in.auto.rows
 
 pub returns : goal.returns
-returns c = let o = c.order_keys.ensures in
+returns c =
+    let o = c.order_keys.ensures in
     let q = c.place_in-so.ensures in
     let h = c.guards_in.ensures in
     prepared ((raw_lists c.args.raw_conditions.now c.args.raw_weights.now c.args.thresholds.now)) c.args.bounds.now ((let g = c.args in built (held_rows g.row_conditions.now g.row_weights.now g.rows.now g.guard_bounds.now g.guard_nodes.now) g.nodes.now g.edges.now [])) c.args.scratch.now c.requires.0 c.requires.1 _ _ o.0 o.1 c.place_in-so.result _ _ _ _ _ _ q.0 q.1 q.2 _ _ _ _ h.0 h.1 _ _ c.edges_in.ensures

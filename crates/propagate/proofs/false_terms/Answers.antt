@@ -24,7 +24,8 @@ use Rattle.row_runs.specs.RowLaws.{stay_false, false-none, false-forced, forced_
 use Rattle.propagate.proofs.false_terms.Goals as goal
 
 pub overflow_sub-cutoff : goal.overflow_sub-cutoff
-overflow_sub-cutoff c = let a = c.args in
+overflow_sub-cutoff c =
+    let a = c.args in
     let p = c.requires in
     let v = c.in-Under.limit in
     let l : limit a.state.upper ≡ v = ap limit c.in-Under.is in
@@ -33,12 +34,14 @@ overflow_sub-cutoff c = let a = c.args in
     simp (hu, hk) (sub_sfits v a.state.known (omega (arith, p.1.upper, p.1.known, ap mag l)))
 
 pub returns-in-Open : goal.returns-in-Open
-returns-in-Open c = let a = c.args in
+returns-in-Open c =
+    let a = c.args in
     let m = marks a.sure.now a.never.now (queue a.node_queue.now a.ring) in
     (ap (λ (y : State). ran y m Unchanged) (sym (stay_false a.state)) ∙ false-none (terms a.conditions.now a.weights.now) a.state m (ap limited c.in-Open.is), omega arith)
 
 pub returns-in-Under : goal.returns-in-Under
-returns-in-Under c = let a = c.args in
+returns-in-Under c =
+    let a = c.args in
     let p = c.requires in
     let f = c.forced_terms in
     let s = a.state in

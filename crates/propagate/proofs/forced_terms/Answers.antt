@@ -25,7 +25,8 @@ pub waits-waits-requires : goal.waits-waits-requires
 waits-waits-requires c = c.requires.0.light c.loop-at.at (omega arith)
 
 pub term_turn-turn-requires : goal.term_turn-turn-requires
-term_turn-turn-requires c = let p = c.requires in
+term_turn-turn-requires c =
+    let p = c.requires in
     let w = c.loop-at in
     let t = c.loop-at-test.true in
     (w.invariant.5, p.0.below w.at (omega arith), omega arith)
@@ -40,7 +41,8 @@ pub shape_of-node_queue-then-turn : goal.shape_of-node_queue-then-turn
 shape_of-node_queue-then-turn c = c.term_turn-turn.auto.node_queue ∙ c.loop-at.invariant.4
 
 pub returns-then-turn : goal.returns-then-turn
-returns-then-turn c = let g = c.args in
+returns-then-turn c =
+    let g = c.args in
     let w = c.loop-at in
     let t = c.term_turn-turn in
     let test = c.loop-at-test.true in
@@ -63,7 +65,8 @@ pub loop-at-smaller : goal.loop-at-smaller
 loop-at-smaller c = omega (arith, c.loop-at-test.true)
 
 pub loop-at-preserved : goal.loop-at-preserved
-loop-at-preserved c = let g = c.args in
+loop-at-preserved c =
+    let g = c.args in
     let w = c.loop-at in
     let t = c.term_turn-turn in
     let test = c.loop-at-test.true in
@@ -99,7 +102,8 @@ pub shape_of-node_queue : goal.shape_of-node_queue
 shape_of-node_queue c = c.loop-at.invariant.4
 
 pub returns : goal.returns
-returns c = let g = c.args in
+returns c =
+    let g = c.args in
     let w = c.loop-at in
     let m = marks w.sure w.never (queue w.node_queue w.so_far.ring) in
     let e : drop w.at (terms g.conditions.now g.weights.now) ≡ [] = drop_of_length-le (terms g.conditions.now g.weights.now) {i = w.at} (omega (arith, length-terms g.conditions.now g.weights.now)) in

@@ -19,7 +19,8 @@ use Rattle.row_runs.specs.Row.{term_waits, forces, forced}
 use Rattle.propagate.proofs.forced_terms.Given as goal
 
 abbrev pub invariant-loop-at : goal.invariant-loop-at
-invariant-loop-at l = (l.at ≡ l.from + l.so_far.passed) × (l.so_far.passed ≤ length l.weights) × (length l.sure ≡ length l.initial.sure) × (length l.never ≡ length l.initial.never) × (length l.node_queue ≡ length l.initial.node_queue)
+invariant-loop-at l =
+    (l.at ≡ l.from + l.so_far.passed) × (l.so_far.passed ≤ length l.weights) × (length l.sure ≡ length l.initial.sure) × (length l.never ≡ length l.initial.never) × (length l.node_queue ≡ length l.initial.node_queue)
     × Waits (marks l.sure l.never (queue l.node_queue l.so_far.ring))
     × (scan (term_waits (light l.cutoff)) (forces l.cutoff.value) (drop l.at (terms l.conditions l.weights)) l.so_far.passed (marks l.sure l.never (queue l.node_queue l.so_far.ring)) l.so_far.step
     ≡ forced l.cutoff.value (light l.cutoff) (drop l.from (terms l.conditions l.weights)) (marks l.initial.sure l.initial.never (queue l.initial.node_queue l.initial.so_far.ring)))

@@ -26,7 +26,8 @@ pub loop-at-init : goal.loop-at-init
 loop-at-init c = (omega arith, omega arith, refl, refl, refl, c.requires.2, refl)
 
 pub guard_turn-turn-requires : goal.guard_turn-turn-requires
-guard_turn-turn-requires c = let p = c.requires in
+guard_turn-turn-requires c =
+    let p = c.requires in
     let w = c.loop-at in
     let t = c.loop-at-test.true in
     (w.invariant.5, p.0.below (w.at - 1) (omega arith), omega arith)
@@ -41,7 +42,8 @@ pub shape_of-node_queue-then-turn : goal.shape_of-node_queue-then-turn
 shape_of-node_queue-then-turn c = c.guard_turn-turn.auto.node_queue ∙ c.loop-at.invariant.4
 
 pub returns-then-turn : goal.returns-then-turn
-returns-then-turn c = let g = c.args in
+returns-then-turn c =
+    let g = c.args in
     let w = c.loop-at in
     let t = c.guard_turn-turn in
     let test = c.loop-at-test.true in
@@ -66,7 +68,8 @@ pub loop-at-smaller : goal.loop-at-smaller
 loop-at-smaller c = omega (arith, c.loop-at-test.true)
 
 pub loop-at-preserved : goal.loop-at-preserved
-loop-at-preserved c = let g = c.args in
+loop-at-preserved c =
+    let g = c.args in
     let w = c.loop-at in
     let t = c.guard_turn-turn in
     let test = c.loop-at-test.true in
@@ -104,7 +107,8 @@ pub shape_of-node_queue : goal.shape_of-node_queue
 shape_of-node_queue c = c.loop-at.invariant.4
 
 pub returns : goal.returns
-returns c = let g = c.args in
+returns c =
+    let g = c.args in
     let w = c.loop-at in
     let m = marks w.sure w.never (queue w.node_queue w.so_far.ring) in
     let e : reverse (take w.at (guards g.bounds.now g.names.now)) ≡ [] = let z : w.at ≡ 0 = omega (arith, c.loop-at-test.false) in ap (λ (j : ℕ). reverse (take j (guards g.bounds.now g.names.now))) z in

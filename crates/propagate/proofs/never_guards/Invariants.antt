@@ -23,7 +23,8 @@ use Rattle.row_runs.specs.Row.{decides, never_guards, never_waits}
 use Rattle.propagate.proofs.never_guards.Given as goal
 
 abbrev pub invariant-loop-at : goal.invariant-loop-at
-invariant-loop-at l = (l.at + l.so_far.passed ≡ l.state.never_guard) × (l.so_far.passed ≤ length l.bounds) × (length l.sure ≡ length l.initial.sure) × (length l.never ≡ length l.initial.never) × (length l.node_queue ≡ length l.initial.node_queue)
+invariant-loop-at l =
+    (l.at + l.so_far.passed ≡ l.state.never_guard) × (l.so_far.passed ≤ length l.bounds) × (length l.sure ≡ length l.initial.sure) × (length l.never ≡ length l.initial.never) × (length l.node_queue ≡ length l.initial.node_queue)
     × Waits (marks l.sure l.never (queue l.node_queue l.so_far.ring))
     × (scan (never_waits l.state) (decides false) (reverse (take l.at (guards l.bounds l.names))) l.so_far.passed (marks l.sure l.never (queue l.node_queue l.so_far.ring)) l.so_far.step
     ≡ never_guards (guards l.bounds l.names) l.state (marks l.initial.sure l.initial.never (queue l.initial.node_queue l.initial.so_far.ring)) l.initial.so_far.step)

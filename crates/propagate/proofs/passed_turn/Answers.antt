@@ -11,11 +11,13 @@ use borrow.Author.Rules.{rules}
 use Rattle.propagate.proofs.passed_turn.Goals as goal
 
 pub returns-then-contradicts : goal.returns-then-contradicts
-returns-then-contradicts c = let a = c.args in
+returns-then-contradicts c =
+    let a = c.args in
     (λ m n. sym (turn_stops (decided m a.made.step) (scanned a.scan.passed n a.scan.step) (sym c.contradicts.ensures ∙ c.if-contradicts.true)), refl)
 
 pub returns : goal.returns
-returns c = let a = c.args in (
+returns c =
+    let a = c.args in (
       λ m n. ap (λ (k : Step). turn (scanned (a.scan.passed + 1) m k) false) c.join-joined.ensures
           ∙ sym (turn_on (decided m a.made.step) (scanned a.scan.passed n a.scan.step) (sym c.contradicts.ensures ∙ c.if-contradicts.false)),
       refl,

@@ -9,7 +9,8 @@ use borrow.Author.Rules.{rules}
 use Rattle.propagate.proofs.term_turn.Goals as goal
 
 pub returns-then-decided : goal.returns-then-decided
-returns-then-decided c = let a = c.args in
+returns-then-decided c =
+    let a = c.args in
     let t = c.passed_turn in
     let m = marks a.sure.now a.never.now (queue a.node_queue.now a.scan.ring) in
     term_passed a.value a.waits m a.node a.scan.passed a.scan.step
@@ -20,7 +21,8 @@ pub guard_turn-requires : goal.guard_turn-requires
 guard_turn-requires c = c.requires
 
 pub returns : goal.returns
-returns c = let a = c.args in
+returns c =
+    let a = c.args in
     let m = marks a.sure.now a.never.now (queue a.node_queue.now a.scan.ring) in
     c.guard_turn.ensures
     ∙ term_free a.value a.waits m a.node (scanned a.scan.passed m a.scan.step) (sym c.decided.ensures ∙ c.if-decided.false)

@@ -14,13 +14,15 @@ pub sure_guards-first-requires : goal.sure_guards-first-requires
 sure_guards-first-requires c = let p = c.requires in (p.0, p.2)
 
 pub overflow_add-up : goal.overflow_add-up
-overflow_add-up c = let a = c.args in
+overflow_add-up c =
+    let a = c.args in
     let gs = guards a.bounds.now a.names.now in
     let m = marks a.sure.now a.never.now (queue a.node_queue.now a.ring) in
     omega (arith, sure_within gs a.state m, ap (λ (x : Scanned). x.passed) c.sure_guards-first.ensures, length-guards a.bounds.now a.names.now)
 
 pub returns-then-contradicts : goal.returns-then-contradicts
-returns-then-contradicts c = let a = c.args in
+returns-then-contradicts c =
+    let a = c.args in
     let f = c.sure_guards-first in
     let gs = guards a.bounds.now a.names.now in
     let m = marks a.sure.now a.never.now (queue a.node_queue.now a.ring) in
@@ -28,7 +30,8 @@ returns-then-contradicts c = let a = c.args in
     c.with_guards-moved.result (sym c.contradicts.ensures ∙ c.if-contradicts.true) c.with_guards-moved.ensures
 
 pub never_guards-second-requires : goal.never_guards-second-requires
-never_guards-second-requires c = let a = c.args in
+never_guards-second-requires c =
+    let a = c.args in
     let p = c.requires in
     let f = c.sure_guards-first in
     let gs = guards a.bounds.now a.names.now in
@@ -37,7 +40,8 @@ never_guards-second-requires c = let a = c.args in
     (p.0, p.1, rw e (sure_keeps gs a.state m (all_guards a.bounds.now a.names.now p.0.below) p.2))
 
 pub overflow_sub-low : goal.overflow_sub-low
-overflow_sub-low c = let a = c.args in
+overflow_sub-low c =
+    let a = c.args in
     let f = c.sure_guards-first in
     let n = c.never_guards-second in
     let gs = guards a.bounds.now a.names.now in
@@ -54,7 +58,8 @@ pub shape_of-node_queue : goal.shape_of-node_queue
 shape_of-node_queue c = c.never_guards-second.auto.node_queue ∙ c.sure_guards-first.auto.node_queue
 
 pub returns : goal.returns
-returns c = let a = c.args in
+returns c =
+    let a = c.args in
     let f = c.sure_guards-first in
     let n = c.never_guards-second in
     let gs = guards a.bounds.now a.names.now in

@@ -12,7 +12,8 @@ use Rattle.row_runs.specs.RowLaws.{kept-guards, kept_by_lem, figures-moved, row-
 use Rattle.propagate.proofs.threshold_row.Goals as goal
 
 pub returns-then-conflict : goal.returns-then-conflict
-returns-then-conflict c = let a = c.args in
+returns-then-conflict c =
+    let a = c.args in
     λ raw. row-conflict (row_of raw (terms a.conditions.now a.weights.now) (guards a.bounds.now a.names.now)) a.state
     (marks a.sure.now a.never.now (queue a.node_queue.now a.ring)) (sym c.conflict.ensures ∙ c.if-conflict.true)
 
@@ -20,7 +21,8 @@ pub threshold_guards-first-requires : goal.threshold_guards-first-requires
 threshold_guards-first-requires c = let p = c.requires in (p.1, p.3, p.4)
 
 pub returns-then-contradicts : goal.returns-then-contradicts
-returns-then-contradicts c = let a = c.args in
+returns-then-contradicts c =
+    let a = c.args in
     let f = c.threshold_guards-first in
     λ raw. row-guards (row_of raw (terms a.conditions.now a.weights.now) (guards a.bounds.now a.names.now)) a.state
     (marks a.sure.now a.never.now (queue a.node_queue.now a.ring)) (sym c.conflict.ensures ∙ c.if-conflict.false)
@@ -28,7 +30,8 @@ returns-then-contradicts c = let a = c.args in
     f.ensures (sym c.contradicts.ensures ∙ c.if-contradicts.true)
 
 pub threshold_terms-requires : goal.threshold_terms-requires
-threshold_terms-requires c = let a = c.args in
+threshold_terms-requires c =
+    let a = c.args in
     let p = c.requires in
     let f = c.threshold_guards-first in
     let m = marks a.sure.now a.never.now (queue a.node_queue.now a.ring) in
@@ -47,7 +50,8 @@ pub shape_of-node_queue : goal.shape_of-node_queue
 shape_of-node_queue c = c.threshold_terms.auto.node_queue ∙ c.threshold_guards-first.auto.node_queue
 
 pub returns : goal.returns
-returns c = let a = c.args in
+returns c =
+    let a = c.args in
     let f = c.threshold_guards-first in
     let t = c.threshold_terms in
     λ raw. row-terms (row_of raw (terms a.conditions.now a.weights.now) (guards a.bounds.now a.names.now)) a.state

@@ -23,7 +23,8 @@ use Rattle.row_runs.specs.RowLaws.{stay_true, true-none, true-forced, forced_wit
 use Rattle.propagate.proofs.true_terms.Goals as goal
 
 pub returns-then-known-lower : goal.returns-then-known-lower
-returns-then-known-lower c = let a = c.args in
+returns-then-known-lower c =
+    let a = c.args in
     let p = c.requires in
     let hk : to_z w64 (of_z w64 a.state.known) ≡ a.state.known = signed a.state.known p.1.known in
     let hl : to_z w64 (of_z w64 a.state.lower) ≡ a.state.lower = signed a.state.lower p.1.lower in
@@ -31,14 +32,16 @@ returns-then-known-lower c = let a = c.args in
     (ap (λ (y : State). ran y m Unchanged) (sym (stay_true a.state)) ∙ true-none (terms a.conditions.now a.weights.now) a.state m (simp (hk, hl) at c.if-known-lower.true), omega arith)
 
 pub overflow_sub-cutoff : goal.overflow_sub-cutoff
-overflow_sub-cutoff c = let a = c.args in
+overflow_sub-cutoff c =
+    let a = c.args in
     let p = c.requires in
     let hp : to_z w64 (of_z w64 a.state.possible) ≡ a.state.possible = signed a.state.possible p.1.possible in
     let hl : to_z w64 (of_z w64 a.state.lower) ≡ a.state.lower = signed a.state.lower p.1.lower in
     simp (hp, hl) (sub_sfits a.state.possible a.state.lower (omega (arith, p.1.possible, p.1.lower)))
 
 pub returns : goal.returns
-returns c = let a = c.args in
+returns c =
+    let a = c.args in
     let p = c.requires in
     let f = c.forced_terms in
     let s = a.state in

@@ -12,11 +12,13 @@ pub slice_copy_out-slot : goal.slice_copy_out-slot
 slice_copy_out-slot c = let a = c.args in omega (arith, c.requires.2.head, c.requires.2.long, length-column a.k a.row_queues.now)
 
 pub put-requires : goal.put-requires
-put-requires c = let a = c.args in
+put-requires c =
+    let a = c.args in
     (omega (arith, c.requires.4, column-at a.k a.row_queues.now a.ring.head, c.place-row.ensures), omega (arith, c.requires.0, c.requires.1))
 
 pub returns : goal.returns
-returns c = let a = c.args in
+returns c =
+    let a = c.args in
     let l = a.row_queues.now in
     let x = c.place-row in
     let p = c.put in (

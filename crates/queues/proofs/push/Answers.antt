@@ -9,5 +9,6 @@ use Rattle.queues.proofs.push.Goals as goal
 
 pub returns : goal.returns
 unfolding push
-returns c = let a = c.args in
+returns c =
+    let a = c.args in
     ap₂ (λ (k : ℕ) (r : Ring). queue (set a.items.now k a.x) r) c.behind-at.ensures.0 c.longer.ensures

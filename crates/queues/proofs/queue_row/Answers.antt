@@ -13,19 +13,23 @@ pub slice_copy_out-slot : goal.slice_copy_out-slot
 slice_copy_out-slot c = let a = c.args in omega (arith, c.requires.2.long, c.requires.3, length-column a.k a.row_queues.now)
 
 pub returns-then-slot-k-eq1 : goal.returns-then-slot-k-eq1
-returns-then-slot-k-eq1 c = let a = c.args in
+returns-then-slot-k-eq1 c =
+    let a = c.args in
     (slots_waits a.k c.requires.0 c.requires.1 a.row_queues.now a.ring a.row c.if-slot-k-eq1.true, λ other. refl)
 
 pub put-requires : goal.put-requires
-put-requires c = let a = c.args in
+put-requires c =
+    let a = c.args in
     (omega (arith, c.requires.2.long, c.requires.3, length-column a.k a.row_queues.now), omega (arith, c.requires.0, c.requires.1))
 
 pub put-requires-2 : goal.put-requires-2
-put-requires-2 c = let a = c.args in
+put-requires-2 c =
+    let a = c.args in
     (omega (arith, c.behind-at.ensures.1, c.requires.2.long, length-column a.k a.row_queues.now, c.put.auto.row_queues), c.requires.0)
 
 pub returns : goal.returns
-returns c = let a = c.args in
+returns c =
+    let a = c.args in
     let l = a.row_queues.now in
     let new = c.if-slot-k-eq1.false in
     let at = c.behind-at in

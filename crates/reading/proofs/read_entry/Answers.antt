@@ -5,26 +5,30 @@ use borrow.Author.Rules.{rules}
 use Rattle.reading.proofs.read_entry.Goals as goal
 
 pub add_area-after-requires : goal.add_area-after-requires
-add_area-after-requires c = let w = c.u32_at-figure in
+add_area-after-requires c =
+    let w = c.u32_at-figure in
     let n = c.u16_at-condition in
     let g = c.args in
     (c.requires.1, c.requires.2, c.requires.3, search rules, area_passes g.input.now g.at g.standing c.requires.0 n.result w.result n.ensures w.ensures c.if-input-at-eq8.true)
 
 pub returns-then-input-at-eq8 : goal.returns-then-input-at-eq8
-returns-then-input-at-eq8 c = let w = c.u32_at-figure in
+returns-then-input-at-eq8 c =
+    let w = c.u32_at-figure in
     let n = c.u16_at-condition in
     let g = c.args in
     let t = c.add_area-after in
     (read_area g.input.now g.at g.standing c.requires.0 n.result w.result n.ensures w.ensures c.if-input-at-eq8.true g.raw_conditions.now g.raw_weights.now g.thresholds.now g.places.now g.sums.now t.result _ _ _ _ _ t.ensures, refl, refl)
 
 pub add_term-after-requires : goal.add_term-after-requires
-add_term-after-requires c = let w = c.u32_at-figure in
+add_term-after-requires c =
+    let w = c.u32_at-figure in
     let n = c.u16_at-condition in
     let g = c.args in
     (c.requires.1, c.requires.2, search rules, term_passes g.input.now g.at g.standing c.requires.0 n.result w.result n.ensures w.ensures c.if-input-at-eq8.false)
 
 pub returns : goal.returns
-returns c = let w = c.u32_at-figure in
+returns c =
+    let w = c.u32_at-figure in
     let n = c.u16_at-condition in
     let g = c.args in
     let t = c.add_term-after in

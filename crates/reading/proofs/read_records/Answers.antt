@@ -10,25 +10,29 @@ use borrow.Author.Rules.{rules}
 use Rattle.reading.proofs.read_records.Goals as goal
 
 pub loop-read-init : goal.loop-read-init
-loop-read-init c = let g = c.args in
+loop-read-init c =
+    let g = c.args in
     (from_here g.input.now g.at g.standing g.raw_conditions.now g.raw_weights.now g.thresholds.now g.bounds.now g.places.now g.sums.now c.requires.1, refl, refl, refl, refl, refl, refl)
 
 pub entry_comes-requires : goal.entry_comes-requires
 entry_comes-requires c = c.loop-read-test.true
 
 pub read_entry-read-requires : goal.read_entry-read-requires
-read_entry-read-requires c = let r = (let it : let v = c.loop-read in NextOfJob c.args.input.now v.read.at v.read.standing × Gathered v.read.standing v.raw_conditions v.raw_weights v.thresholds v.bounds × Joinable v.read.standing v.thresholds v.places v.sums = let g = c.args in let v = c.loop-read in from_asks g.input.now g.at g.standing g.raw_conditions.now g.raw_weights.now g.thresholds.now g.bounds.now g.places.now g.sums.now v.read v.raw_conditions v.raw_weights v.thresholds v.bounds v.places v.sums v.invariant.0 c.requires.0.0 c.requires.0.1 c.requires.0.2 c.requires.0.3 in it) in
+read_entry-read-requires c =
+    let r = (let it : let v = c.loop-read in NextOfJob c.args.input.now v.read.at v.read.standing × Gathered v.read.standing v.raw_conditions v.raw_weights v.thresholds v.bounds × Joinable v.read.standing v.thresholds v.places v.sums = let g = c.args in let v = c.loop-read in from_asks g.input.now g.at g.standing g.raw_conditions.now g.raw_weights.now g.thresholds.now g.bounds.now g.places.now g.sums.now v.read v.raw_conditions v.raw_weights v.thresholds v.bounds v.places v.sums v.invariant.0 c.requires.0.0 c.requires.0.1 c.requires.0.2 c.requires.0.3 in it) in
     (c.entry_comes.ensures c.if-entry_comes.true, r.1.listed, r.1.termed, r.2)
 
 pub loop-read-smaller-then-entry_comes : goal.loop-read-smaller-then-entry_comes
-loop-read-smaller-then-entry_comes c = let g = c.args in
+loop-read-smaller-then-entry_comes c =
+    let g = c.args in
     let v = c.loop-read in
     let n = c.read_entry-read in
     let e = goes n.result n.ensures.1 n.ensures.2 in
     omega (arith, c.loop-read-test.true, from_farther g.input.now g.at g.standing g.raw_conditions.now g.raw_weights.now g.thresholds.now g.bounds.now g.places.now g.sums.now v.read v.raw_conditions v.raw_weights v.thresholds v.bounds v.places v.sums v.invariant.0 c.loop-read-test.true n.result _ _ _ _ _ _ (n.ensures.0 v.bounds) c.requires.0.0 c.requires.0.1 c.requires.0.2 c.requires.0.3 e)
 
 pub loop-read-preserved-then-entry_comes : goal.loop-read-preserved-then-entry_comes
-loop-read-preserved-then-entry_comes c = let g = c.args in
+loop-read-preserved-then-entry_comes c =
+    let g = c.args in
     let v = c.loop-read in
     let n = c.read_entry-read in
     let e = goes n.result n.ensures.1 n.ensures.2 in (
@@ -42,7 +46,8 @@ loop-read-preserved-then-entry_comes c = let g = c.args in
     )
 
 pub read_record-next-requires : goal.read_record-next-requires
-read_record-next-requires c = let r = (let it : let v = c.loop-read in NextOfJob c.args.input.now v.read.at v.read.standing × Gathered v.read.standing v.raw_conditions v.raw_weights v.thresholds v.bounds × Joinable v.read.standing v.thresholds v.places v.sums = let g = c.args in let v = c.loop-read in from_asks g.input.now g.at g.standing g.raw_conditions.now g.raw_weights.now g.thresholds.now g.bounds.now g.places.now g.sums.now v.read v.raw_conditions v.raw_weights v.thresholds v.bounds v.places v.sums v.invariant.0 c.requires.0.0 c.requires.0.1 c.requires.0.2 c.requires.0.3 in it) in
+read_record-next-requires c =
+    let r = (let it : let v = c.loop-read in NextOfJob c.args.input.now v.read.at v.read.standing × Gathered v.read.standing v.raw_conditions v.raw_weights v.thresholds v.bounds × Joinable v.read.standing v.thresholds v.places v.sums = let g = c.args in let v = c.loop-read in from_asks g.input.now g.at g.standing g.raw_conditions.now g.raw_weights.now g.thresholds.now g.bounds.now g.places.now g.sums.now v.read v.raw_conditions v.raw_weights v.thresholds v.bounds v.places v.sums v.invariant.0 c.requires.0.0 c.requires.0.1 c.requires.0.2 c.requires.0.3 in it) in
     (c.loop-read-test.true, r.0, r.1, r.2)
 
 pub shape_of-raw_conditions-then-next : goal.shape_of-raw_conditions-then-next
@@ -64,19 +69,22 @@ pub shape_of-sums-then-next : goal.shape_of-sums-then-next
 shape_of-sums-then-next c = c.read_record-next.auto.sums ∙ c.loop-read.invariant.6
 
 pub returns-then-next : goal.returns-then-next
-returns-then-next c = let g = c.args in
+returns-then-next c =
+    let g = c.args in
     let v = c.loop-read in
     let n = c.read_record-next in
     from_stops g.input.now g.at g.standing g.raw_conditions.now g.raw_weights.now g.thresholds.now g.bounds.now g.places.now g.sums.now v.read v.raw_conditions v.raw_weights v.thresholds v.bounds v.places v.sums v.invariant.0 c.loop-read-test.true n.result _ _ _ _ _ _ n.ensures c.if-next.true
 
 pub loop-read-smaller : goal.loop-read-smaller
-loop-read-smaller c = let g = c.args in
+loop-read-smaller c =
+    let g = c.args in
     let v = c.loop-read in
     let n = c.read_record-next in
     omega (arith, c.loop-read-test.true, from_farther g.input.now g.at g.standing g.raw_conditions.now g.raw_weights.now g.thresholds.now g.bounds.now g.places.now g.sums.now v.read v.raw_conditions v.raw_weights v.thresholds v.bounds v.places v.sums v.invariant.0 c.loop-read-test.true n.result _ _ _ _ _ _ n.ensures c.requires.0.0 c.requires.0.1 c.requires.0.2 c.requires.0.3 c.if-next.false)
 
 pub loop-read-preserved : goal.loop-read-preserved
-loop-read-preserved c = let g = c.args in
+loop-read-preserved c =
+    let g = c.args in
     let v = c.loop-read in
     let n = c.read_record-next in (
       from_on g.input.now g.at g.standing g.raw_conditions.now g.raw_weights.now g.thresholds.now g.bounds.now g.places.now g.sums.now v.read v.raw_conditions v.raw_weights v.thresholds v.bounds v.places v.sums v.invariant.0 c.loop-read-test.true n.result _ _ _ _ _ _ n.ensures c.if-next.false,
@@ -89,6 +97,7 @@ loop-read-preserved c = let g = c.args in
     )
 
 pub returns : goal.returns
-returns c = let g = c.args in
+returns c =
+    let g = c.args in
     let v = c.loop-read in
     from_ends g.input.now g.at g.standing g.raw_conditions.now g.raw_weights.now g.thresholds.now g.bounds.now g.places.now g.sums.now v.read v.raw_conditions v.raw_weights v.thresholds v.bounds v.places v.sums v.invariant.0 c.loop-read-test.false

@@ -10,7 +10,8 @@ use borrow.Author.Rules.{rules}
 use Rattle.reading.proofs.read_records.Given as goal
 
 abbrev pub invariant-loop-read : goal.invariant-loop-read
-invariant-loop-read l = GoesFrom l.input l.initial.read.at l.initial.read.standing l.initial.raw_conditions l.initial.raw_weights l.initial.thresholds l.initial.bounds l.initial.places l.initial.sums l.read l.raw_conditions l.raw_weights l.thresholds l.bounds l.places l.sums
+invariant-loop-read l =
+    GoesFrom l.input l.initial.read.at l.initial.read.standing l.initial.raw_conditions l.initial.raw_weights l.initial.thresholds l.initial.bounds l.initial.places l.initial.sums l.read l.raw_conditions l.raw_weights l.thresholds l.bounds l.places l.sums
     × (length l.raw_conditions ≡ length l.initial.raw_conditions)
     × (length l.raw_weights ≡ length l.initial.raw_weights) × (length l.thresholds ≡ length l.initial.thresholds) × (length l.bounds ≡ length l.initial.bounds) × (length l.places ≡ length l.initial.places) × (length l.sums ≡ length l.initial.sums)
 

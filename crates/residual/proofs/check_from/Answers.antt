@@ -14,16 +14,19 @@ use Rattle.intervals.specs.CheckLaws.{
 use Rattle.residual.proofs.check_from.Goals as goal
 
 pub loop-remaining-init : goal.loop-remaining-init
-loop-remaining-init c = let g = c.args in
+loop-remaining-init c =
+    let g = c.args in
     let p = c.requires.0 in
     (omega arith, ap (λ (l : List Term). check_from g.i (in_either g.sure.now g.never.now) l 0) (last_all g.conditions.now g.weights.now p.same))
 
 pub decided-requires : goal.decided-requires
-decided-requires c = let p = c.requires.0 in
+decided-requires c =
+    let p = c.requires.0 in
     (p.below (c.loop-remaining.remaining - 1) (omega arith), p.in_sure, p.in_never)
 
 pub loop-remaining-preserved-then-decided : goal.loop-remaining-preserved-then-decided
-loop-remaining-preserved-then-decided c = let g = c.args in
+loop-remaining-preserved-then-decided c =
+    let g = c.args in
     let w = c.loop-remaining in (
       omega arith,
       sym
@@ -36,7 +39,8 @@ pub stops-requires : goal.stops-requires
 stops-requires c = c.requires.1
 
 pub returns-then-stops : goal.returns-then-stops
-returns-then-stops c = let g = c.args in
+returns-then-stops c =
+    let g = c.args in
     let w = c.loop-remaining in
     sym
     (turn_stop g.i (in_either g.sure.now g.never.now) g.conditions.now g.weights.now w.remaining w.divisor (omega arith) (omega arith) (omega arith)
@@ -45,7 +49,8 @@ returns-then-stops c = let g = c.args in
     ∙ w.invariant.1
 
 pub loop-remaining-preserved : goal.loop-remaining-preserved
-loop-remaining-preserved c = let g = c.args in
+loop-remaining-preserved c =
+    let g = c.args in
     let w = c.loop-remaining in
     (
       omega arith,
@@ -57,7 +62,8 @@ loop-remaining-preserved c = let g = c.args in
     )
 
 pub returns-then-divisor-ne0 : goal.returns-then-divisor-ne0
-returns-then-divisor-ne0 c = let g = c.args in
+returns-then-divisor-ne0 c =
+    let g = c.args in
     let d = in_either g.sure.now g.never.now in
     let w = c.loop-remaining in
     sym
@@ -66,11 +72,13 @@ returns-then-divisor-ne0 c = let g = c.args in
     ∙ w.invariant.1
 
 pub misses-requires : goal.misses-requires
-misses-requires c = let p = c.requires.1 in
+misses-requires c =
+    let p = c.requires.1 in
     (p.above, omega (arith, p.inside, c.smaller-upper.ensures))
 
 pub returns-then-misses : goal.returns-then-misses
-returns-then-misses c = let g = c.args in
+returns-then-misses c =
+    let g = c.args in
     let d = in_either g.sure.now g.never.now in
     let w = c.loop-remaining in
     let z : w.divisor ≡ 0 = omega (arith, c.if-divisor-ne0.false) in
@@ -81,7 +89,8 @@ returns-then-misses c = let g = c.args in
     ∙ w.invariant.1
 
 pub returns : goal.returns
-returns c = let g = c.args in
+returns c =
+    let g = c.args in
     let d = in_either g.sure.now g.never.now in
     let w = c.loop-remaining in
     let z : w.divisor ≡ 0 = omega (arith, c.if-divisor-ne0.false) in

@@ -14,7 +14,8 @@ use Rattle.intervals.specs.CheckLaws.{
 use Rattle.residual.proofs.check_from.Given as goal
 
 abbrev pub invariant-loop-remaining : goal.invariant-loop-remaining
-invariant-loop-remaining l = (l.remaining ≤ length l.weights)
+invariant-loop-remaining l =
+    (l.remaining ≤ length l.weights)
     × (check_from l.i (in_either l.sure l.never) (last_terms_of l.conditions l.weights l.remaining) l.divisor
     ≡ check_from l.i (in_either l.sure l.never) (reverse (terms l.conditions l.weights)) 0)
 

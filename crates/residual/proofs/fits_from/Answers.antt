@@ -14,12 +14,14 @@ use Rattle.intervals.specs.FitsLaws.{fits_wide, fits_skip, fits-first, fits_both
 use Rattle.residual.proofs.fits_from.Goals as goal
 
 pub loop-unread-init : goal.loop-unread-init
-loop-unread-init c = let g = c.args in
+loop-unread-init c =
+    let g = c.args in
     let p = c.requires in
     (omega arith, ap (λ (l : List Term). fits_from g.i (in_either g.sure.now g.never.now) l false 0) (last_all g.conditions.now g.weights.now p.same))
 
 pub returns-then-too_wide : goal.returns-then-too_wide
-returns-then-too_wide c = let w = c.loop-unread in
+returns-then-too_wide c =
+    let w = c.loop-unread in
     let g = c.args in
     sym
     (fits_wide g.i (in_either g.sure.now g.never.now) g.conditions.now g.weights.now w.unread w.fitting w.complement (omega arith) (omega arith) (omega arith)
@@ -27,11 +29,13 @@ returns-then-too_wide c = let w = c.loop-unread in
     ∙ w.invariant.1
 
 pub decided-requires : goal.decided-requires
-decided-requires c = let p = c.requires in
+decided-requires c =
+    let p = c.requires in
     (p.below (c.loop-unread.unread - 1) (omega arith), p.in_sure, p.in_never)
 
 pub loop-unread-preserved-then-decided : goal.loop-unread-preserved-then-decided
-loop-unread-preserved-then-decided c = let w = c.loop-unread in
+loop-unread-preserved-then-decided c =
+    let w = c.loop-unread in
     let g = c.args in
     (
       omega arith,
@@ -42,7 +46,8 @@ loop-unread-preserved-then-decided c = let w = c.loop-unread in
     )
 
 pub returns-then-both_fit : goal.returns-then-both_fit
-returns-then-both_fit c = let w = c.loop-unread in
+returns-then-both_fit c =
+    let w = c.loop-unread in
     let g = c.args in
     sym
     (fits_both g.i (in_either g.sure.now g.never.now) g.conditions.now g.weights.now w.unread w.fitting w.complement (omega arith) (omega arith) (omega arith)
@@ -52,7 +57,8 @@ returns-then-both_fit c = let w = c.loop-unread in
     ∙ w.invariant.1
 
 pub loop-unread-preserved-else-both_fit : goal.loop-unread-preserved-else-both_fit
-loop-unread-preserved-else-both_fit c = let w = c.loop-unread in
+loop-unread-preserved-else-both_fit c =
+    let w = c.loop-unread in
     let g = c.args in
     (
       omega arith,
@@ -65,7 +71,8 @@ loop-unread-preserved-else-both_fit c = let w = c.loop-unread in
     )
 
 pub loop-unread-preserved : goal.loop-unread-preserved
-loop-unread-preserved c = let w = c.loop-unread in
+loop-unread-preserved c =
+    let w = c.loop-unread in
     let g = c.args in
     (
       omega arith,
@@ -76,7 +83,8 @@ loop-unread-preserved c = let w = c.loop-unread in
     )
 
 pub returns : goal.returns
-returns c = let w = c.loop-unread in
+returns c =
+    let w = c.loop-unread in
     let g = c.args in
     sym (fits-none g.i (in_either g.sure.now g.never.now) g.conditions.now g.weights.now w.unread w.fitting w.complement (omega arith))
     ∙ w.invariant.1

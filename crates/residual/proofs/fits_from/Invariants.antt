@@ -14,7 +14,8 @@ use Rattle.intervals.specs.FitsLaws.{fits_wide, fits_skip, fits-first, fits_both
 use Rattle.residual.proofs.fits_from.Given as goal
 
 abbrev pub invariant-loop-unread : goal.invariant-loop-unread
-invariant-loop-unread l = (l.unread ≤ length l.weights)
+invariant-loop-unread l =
+    (l.unread ≤ length l.weights)
     × (fits_from l.i (in_either l.sure l.never) (last_terms_of l.conditions l.weights l.unread) l.fitting l.complement
     ≡ fits_from l.i (in_either l.sure l.never) (reverse (terms l.conditions l.weights)) false 0)
 

@@ -13,17 +13,20 @@ use Rattle.intervals.specs.ForceLaws.{force_skip, turn-waits, turn_stops, turn_g
 use Rattle.residual.proofs.force_from.Goals as goal
 
 pub loop-position-init : goal.loop-position-init
-loop-position-init c = let g = c.args in
+loop-position-init c =
+    let g = c.args in
     let p = c.requires.1.3 in
     (omega arith, refl, refl, refl, p, refl)
 
 pub decided-requires : goal.decided-requires
-decided-requires c = let p = c.requires.0 in
+decided-requires c =
+    let p = c.requires.0 in
     let w = c.loop-position in
     (p.below w.position (omega arith), omega (arith, w.invariant.1, p.in_sure), omega (arith, w.invariant.2, p.in_never))
 
 pub loop-position-preserved-then-decided : goal.loop-position-preserved-then-decided
-loop-position-preserved-then-decided c = let g = c.args in
+loop-position-preserved-then-decided c =
+    let g = c.args in
     let p = c.requires.0 in
     let w = c.loop-position in (
       omega arith,
@@ -38,7 +41,8 @@ loop-position-preserved-then-decided c = let g = c.args in
     )
 
 pub force_term-forced-requires : goal.force_term-forced-requires
-force_term-forced-requires c = let w = c.loop-position in
+force_term-forced-requires c =
+    let w = c.loop-position in
     let t = c.loop-position-test.true in
     let p = c.requires.0 in
     let q = c.requires.1 in (
@@ -47,7 +51,8 @@ force_term-forced-requires c = let w = c.loop-position in
     )
 
 pub returns-then-contradicts : goal.returns-then-contradicts
-returns-then-contradicts c = let g = c.args in
+returns-then-contradicts c =
+    let g = c.args in
     let p = c.requires.0 in
     let w = c.loop-position in
     let t = c.loop-position-test.true in
@@ -60,7 +65,8 @@ returns-then-contradicts c = let g = c.args in
     ∙ w.invariant.5
 
 pub loop-position-preserved : goal.loop-position-preserved
-loop-position-preserved c = let g = c.args in
+loop-position-preserved c =
+    let g = c.args in
     let p = c.requires.0 in
     let w = c.loop-position in
     let t = c.loop-position-test.true in
@@ -82,7 +88,8 @@ loop-position-preserved c = let g = c.args in
     )
 
 pub returns : goal.returns
-returns c = let g = c.args in
+returns c =
+    let g = c.args in
     let w = c.loop-position in
     sym (force_end g.i (placed g.gcds.now) g.conditions.now g.weights.now w.position w.prefix ((let w = c.loop-position in marks w.sure w.never (queue w.node_queue w.so_far.ring))) w.so_far.step c.loop-position-test.false) ∙ w.invariant.5
 

@@ -13,7 +13,8 @@ use Rattle.intervals.specs.ForceLaws.{force_skip, turn-waits, turn_stops, turn_g
 use Rattle.residual.proofs.force_from.Given as goal
 
 abbrev pub invariant-loop-position : goal.invariant-loop-position
-invariant-loop-position l = (l.position ≤ length l.weights) × (length l.sure ≡ length l.initial.sure) × (length l.never ≡ length l.initial.never) × (length l.node_queue ≡ length l.initial.node_queue)
+invariant-loop-position l =
+    (l.position ≤ length l.weights) × (length l.sure ≡ length l.initial.sure) × (length l.never ≡ length l.initial.never) × (length l.node_queue ≡ length l.initial.node_queue)
     × Waits (marks l.sure l.never (queue l.node_queue l.so_far.ring))
     × (force_from l.i (placed l.gcds) (drop l.position (terms l.conditions l.weights)) l.prefix (marks l.sure l.never (queue l.node_queue l.so_far.ring)) l.so_far.step
     ≡ force_from l.i (placed l.gcds) (terms l.conditions l.weights) 0 (marks l.initial.sure l.initial.never (queue l.initial.node_queue l.initial.so_far.ring)) Unchanged)

@@ -7,30 +7,35 @@ use Rattle.intervals.specs.ForceLaws.{force-unit, force-none, force_sure, force_
 use Rattle.residual.proofs.force_term.Goals as goal
 
 pub returns-then-divisor-eq1 : goal.returns-then-divisor-eq1
-returns-then-divisor-eq1 c = sym (force-unit c.args.i ((let a = c.args in marks a.sure.now a.never.now (queue a.node_queue.now a.ring))) ((term c.args.node c.args.weight)) c.args.divisor c.if-divisor-eq1.true)
+returns-then-divisor-eq1 c =
+    sym (force-unit c.args.i ((let a = c.args in marks a.sure.now a.never.now (queue a.node_queue.now a.ring))) ((term c.args.node c.args.weight)) c.args.divisor c.if-divisor-eq1.true)
 
 pub returns-then-on : goal.returns-then-on
-returns-then-on c = sym
+returns-then-on c =
+    sym
     (force-none c.args.i ((let a = c.args in marks a.sure.now a.never.now (queue a.node_queue.now a.ring))) ((term c.args.node c.args.weight)) c.args.divisor c.if-divisor-eq1.false
     (sym c.off_misses-off.ensures ∙ c.if-off.true)
     (sym c.on_misses-on.ensures ∙ c.if-on.true))
 
 pub returns-then-off : goal.returns-then-off
-returns-then-off c = c.decide.ensures
+returns-then-off c =
+    c.decide.ensures
     ∙ sym
     (force_sure c.args.i ((let a = c.args in marks a.sure.now a.never.now (queue a.node_queue.now a.ring))) ((term c.args.node c.args.weight)) c.args.divisor c.if-divisor-eq1.false
     (sym c.off_misses-off.ensures ∙ c.if-off.true)
     (sym c.on_misses-on.ensures ∙ c.if-on.false))
 
 pub returns-then-on-2 : goal.returns-then-on-2
-returns-then-on-2 c = c.decide-then-on-2.ensures
+returns-then-on-2 c =
+    c.decide-then-on-2.ensures
     ∙ sym
     (force_never c.args.i ((let a = c.args in marks a.sure.now a.never.now (queue a.node_queue.now a.ring))) ((term c.args.node c.args.weight)) c.args.divisor c.if-divisor-eq1.false
     (sym c.off_misses-off.ensures ∙ c.if-off.false)
     (sym c.on_misses-on.ensures ∙ c.if-on-2.true))
 
 pub returns : goal.returns
-returns c = sym
+returns c =
+    sym
     (force_free c.args.i ((let a = c.args in marks a.sure.now a.never.now (queue a.node_queue.now a.ring))) ((term c.args.node c.args.weight)) c.args.divisor c.if-divisor-eq1.false
     (sym c.off_misses-off.ensures ∙ c.if-off.false)
     (sym c.on_misses-on.ensures ∙ c.if-on-2.false))

@@ -12,13 +12,15 @@ use borrow.Author.Rules.{rules}
 use Rattle.residual.proofs.nothing_forced.Goals as goal
 
 pub returns-then-not-has_nonunit : goal.returns-then-not-has_nonunit
-returns-then-not-has_nonunit c = let g = c.args in
+returns-then-not-has_nonunit c =
+    let g = c.args in
     sym
     (nothing-unit (terms g.conditions.now g.weights.now) g.state (in_either g.sure.now g.never.now)
     (sym c.has_nonunit.ensures ∙ not-true c.has_nonunit.result c.if-not-has_nonunit.true-raw))
 
 pub returns-then-not-has_residual_interval : goal.returns-then-not-has_residual_interval
-returns-then-not-has_residual_interval c = let g = c.args in
+returns-then-not-has_residual_interval c =
+    let g = c.args in
     let n = c.has_nonunit in
     let r = c.has_residual_interval in
     sym
@@ -26,7 +28,8 @@ returns-then-not-has_residual_interval c = let g = c.args in
     (sym n.ensures ∙ not-false n.result c.if-not-has_nonunit.false-raw) (sym r.ensures ∙ not-true r.result c.if-not-has_residual_interval.true-raw))
 
 pub returns : goal.returns
-returns c = let g = c.args in
+returns c =
+    let g = c.args in
     let ts = terms g.conditions.now g.weights.now in
     let d = in_either g.sure.now g.never.now in
     let n = c.has_nonunit in

@@ -14,7 +14,8 @@ use Rattle.intervals.specs.SuffixLaws.{laid, laid-start, laid_next, laid_end}
 use Rattle.residual.proofs.prepare_suffix.Goals as goal
 
 pub loop-left-init : goal.loop-left-init
-loop-left-init c = let g = c.args in
+loop-left-init c =
+    let g = c.args in
     let e = length-terms g.conditions.now g.weights.now in (
       refl,
       omega arith,
@@ -24,10 +25,12 @@ loop-left-init c = let g = c.args in
     )
 
 pub decided-skip-requires : goal.decided-skip-requires
-decided-skip-requires c = (c.requires.0.below (c.loop-left.left - 1) (omega arith), c.requires.0.in_sure, c.requires.0.in_never)
+decided-skip-requires c =
+    (c.requires.0.below (c.loop-left.left - 1) (omega arith), c.requires.0.in_sure, c.requires.0.in_never)
 
 pub loop-left-preserved : goal.loop-left-preserved
-loop-left-preserved c = let g = c.args in
+loop-left-preserved c =
+    let g = c.args in
     let w = c.loop-left in
     let d = in_either g.sure.now g.never.now in
     let n = length g.weights.now in (
@@ -45,7 +48,8 @@ pub shape_of-gcds : goal.shape_of-gcds
 shape_of-gcds c = simp length-set (omega arith)
 
 pub returns : goal.returns
-returns c = let g = c.args in
+returns c =
+    let g = c.args in
     let w = c.loop-left in
     laid_end (in_either g.sure.now g.never.now) (terms g.conditions.now g.weights.now) (length g.weights.now) w.left w.suffix w.gcds
     (omega arith)

@@ -14,7 +14,8 @@ use Rattle.intervals.specs.SuffixLaws.{laid, laid-start, laid_next, laid_end}
 use Rattle.residual.proofs.prepare_suffix.Given as goal
 
 abbrev pub invariant-loop-left : goal.invariant-loop-left
-invariant-loop-left l = (l.count ≡ length l.weights) × (l.left ≤ l.count) × (length l.gcds ≡ length l.initial.gcds)
+invariant-loop-left l =
+    (l.count ≡ length l.weights) × (l.left ≤ l.count) × (length l.gcds ≡ length l.initial.gcds)
     × (laid (in_either l.sure l.never) (terms l.conditions l.weights) l.count l.left l.suffix l.gcds
     ≡ over (suffixes (in_either l.sure l.never) (terms l.conditions l.weights)) l.initial.gcds)
 

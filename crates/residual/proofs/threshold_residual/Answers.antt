@@ -19,7 +19,8 @@ pub threshold_residual_check-checked-requires : goal.threshold_residual_check-ch
 threshold_residual_check-checked-requires c = c.requires.0
 
 pub returns-then-contradicts : goal.returns-then-contradicts
-returns-then-contradicts c = let g = c.args in
+returns-then-contradicts c =
+    let g = c.args in
     sym
     (residual-none (terms g.conditions.now g.weights.now) g.state (marks g.sure.now g.never.now (queue g.node_queue.now g.ring)) g.gcds.now
     (sym (c.contradicts.ensures ∙ ap contradicts c.threshold_residual_check-checked.ensures) ∙ c.if-contradicts.true))
@@ -28,7 +29,8 @@ pub nothing_forced-requires : goal.nothing_forced-requires
 nothing_forced-requires c = c.requires.0
 
 pub returns-then-nothing_forced : goal.returns-then-nothing_forced
-returns-then-nothing_forced c = let g = c.args in
+returns-then-nothing_forced c =
+    let g = c.args in
     sym
     (residual_rest (terms g.conditions.now g.weights.now) g.state (marks g.sure.now g.never.now (queue g.node_queue.now g.ring)) g.gcds.now
     (sym (c.contradicts.ensures ∙ ap contradicts c.threshold_residual_check-checked.ensures) ∙ c.if-contradicts.false)
@@ -38,7 +40,8 @@ pub prepare_suffix-requires : goal.prepare_suffix-requires
 prepare_suffix-requires c = (c.requires.0, c.requires.1.0)
 
 pub force_from-requires : goal.force_from-requires
-force_from-requires c = let g = c.args in
+force_from-requires c =
+    let g = c.args in
     let f : SFits w64 g.state.known = search rules in
     let k = natural_small g.state.known f in
     let i = ap (λ (x : Interval). x.known) c.interval_of.ensures in
@@ -58,7 +61,8 @@ pub shape_of-gcds : goal.shape_of-gcds
 shape_of-gcds c = c.prepare_suffix.auto.gcds
 
 pub returns : goal.returns
-returns c = let g = c.args in
+returns c =
+    let g = c.args in
     let f = c.force_from in
     let s = c.prepare_suffix in
     residual-forced (terms g.conditions.now g.weights.now) g.state (marks g.sure.now g.never.now (queue g.node_queue.now g.ring)) g.gcds.now

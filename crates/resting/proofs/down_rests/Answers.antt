@@ -12,7 +12,8 @@ use Rattle.resting.specs.RestLaws.{down_place, down_none}
 use Rattle.resting.proofs.down_rests.Goals as goal
 
 pub returns-then-at-gt0 : goal.returns-then-at-gt0
-returns-then-at-gt0 c = let a = c.args in
+returns-then-at-gt0 c =
+    let a = c.args in
     let p = c.requires in
     let s = a.state in
     let b = get_or a.bounds.now (s.never_guard - 1) (pos 0) in

@@ -19,7 +19,8 @@ pub returns-in-Under : goal.returns-in-Under
 returns-in-Under c = (λ h. contrary (sym h))
 
 pub returns-else-possible-lower : goal.returns-else-possible-lower
-returns-else-possible-lower c = let a = c.args in
+returns-else-possible-lower c =
+    let a = c.args in
     let p = c.requires in
     let hp : to_z w64 (of_z w64 a.state.possible) ≡ a.state.possible = signed a.state.possible p.1.possible in
     let hl : to_z w64 (of_z w64 a.state.lower) ≡ a.state.lower = signed a.state.lower p.1.lower in

@@ -5,7 +5,8 @@ use Rattle.base.specs.TestLaws.{contrary}
 use Rattle.resting.proofs.scans_rest.Goals as goal
 
 pub returns-then-down_rests : goal.returns-then-down_rests
-returns-then-down_rests c = let down = c.down_rests.ensures c.if-down_rests.true in
+returns-then-down_rests c =
+    let down = c.down_rests.ensures c.if-down_rests.true in
     let up = c.up_rests.ensures c.if-up_rests.true in
     (λ h. (up, down, c.true_rests.ensures h))
 

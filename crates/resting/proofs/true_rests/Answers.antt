@@ -14,21 +14,24 @@ use Rattle.resting.specs.RestLaws.{true_met, true-waits}
 use Rattle.resting.proofs.true_rests.Goals as goal
 
 pub returns-then-known-lower : goal.returns-then-known-lower
-returns-then-known-lower c = let a = c.args in
+returns-then-known-lower c =
+    let a = c.args in
     let p = c.requires in
     let hk : to_z w64 (of_z w64 a.state.known) ≡ a.state.known = signed a.state.known p.1.known in
     let hl : to_z w64 (of_z w64 a.state.lower) ≡ a.state.lower = signed a.state.lower p.1.lower in
     (λ h q. true_met (terms a.conditions.now a.weights.now) a.state (marks a.sure.now a.never.now q) (simp (hk, hl) at c.if-known-lower.true))
 
 pub overflow_sub-cutoff : goal.overflow_sub-cutoff
-overflow_sub-cutoff c = let a = c.args in
+overflow_sub-cutoff c =
+    let a = c.args in
     let p = c.requires in
     let hp : to_z w64 (of_z w64 a.state.possible) ≡ a.state.possible = signed a.state.possible p.1.possible in
     let hl : to_z w64 (of_z w64 a.state.lower) ≡ a.state.lower = signed a.state.lower p.1.lower in
     simp (hp, hl) (sub_sfits a.state.possible a.state.lower (omega (arith, p.1.possible, p.1.lower)))
 
 pub returns : goal.returns
-returns c = let a = c.args in
+returns c =
+    let a = c.args in
     let p = c.requires in
     let hk : to_z w64 (of_z w64 a.state.known) ≡ a.state.known = signed a.state.known p.1.known in
     let hp : to_z w64 (of_z w64 a.state.possible) ≡ a.state.possible = signed a.state.possible p.1.possible in

@@ -12,7 +12,8 @@ use Rattle.resting.specs.RestLaws.{up_place, up_none}
 use Rattle.resting.proofs.up_rests.Goals as goal
 
 pub returns-then-at-bounds : goal.returns-then-at-bounds
-returns-then-at-bounds c = let a = c.args in
+returns-then-at-bounds c =
+    let a = c.args in
     let s = a.state in
     let b = get_or a.bounds.now s.sure_guard (pos 0) in
     let hb : to_z w64 (of_z w64 b) ≡ b = search rules in

@@ -10,5 +10,6 @@ pub returns-in-Open : goal.returns-in-Open
 returns-in-Open c = sym (ap limit c.in-Open.is)
 
 pub returns-in-Under : goal.returns-in-Under
-returns-in-Under c = let hu : to_z w64 (of_z w64 c.in-Under.bound) ≡ c.in-Under.bound = search rules in
+returns-in-Under c =
+    let hu : to_z w64 (of_z w64 c.in-Under.bound) ≡ c.in-Under.bound = search rules in
     hu ∙ sym (ap limit c.in-Under.is)

@@ -11,7 +11,8 @@ use Rattle.row_moves.proofs.make.Goals as goal
 
 pub returns-then-cursors-eq1 : goal.returns-then-cursors-eq1
 unfolding row_state
-returns-then-cursors-eq1 c = let a = c.args in
+returns-then-cursors-eq1 c =
+    let a = c.args in
     let f = a.t1 in
     let h0 : to_z w64 (of_z w64 (get_or f 0 (pos 0))) ≡ get_or f 0 (pos 0) = search rules in
     let h1 : to_z w64 (of_z w64 (get_or f 1 (pos 0))) ≡ get_or f 1 (pos 0) = search rules in
@@ -21,7 +22,8 @@ returns-then-cursors-eq1 c = let a = c.args in
 
 pub returns : goal.returns
 unfolding row_state
-returns c = let a = c.args in
+returns c =
+    let a = c.args in
     let f = a.t1 in
     let h0 : to_z w64 (of_z w64 (get_or f 0 (pos 0))) ≡ get_or f 0 (pos 0) = search rules in
     let h1 : to_z w64 (of_z w64 (get_or f 1 (pos 0))) ≡ get_or f 1 (pos 0) = search rules in

@@ -8,7 +8,8 @@ use borrow.Author.Rules.{rules}
 use Rattle.row_moves.proofs.queue_residual.Goals as goal
 
 pub returns-then-wants_residual : goal.returns-then-wants_residual
-returns-then-wants_residual c = let queue-row = c.queue_row in
+returns-then-wants_residual c =
+    let queue-row = c.queue_row in
     let if1 = c.if-wants_residual in
     let wants-residual = c.wants_residual in
     let a = c.args in (
@@ -19,7 +20,8 @@ returns-then-wants_residual c = let queue-row = c.queue_row in
     )
 
 pub returns : goal.returns
-returns c = let a = c.args in (
+returns c =
+    let a = c.args in (
       λ raw gs. residual-not (row_of raw (terms a.row_conditions.now a.row_weights.now) gs) a.state (rows_in 2 a.row_queues.now a.ring) a.row
           (sym (c.wants_residual.ensures raw gs) ∙ c.if-wants_residual.false),
       λ other. refl,

@@ -14,19 +14,23 @@ use Rattle.row_moves.proofs.rests_at.Goals.{After-guards_end-f}
 
 -- The stretch of the terms lies in its buffers, and that of the guards.
 terms-rise : (c : After-guards_end-f) → c.terms_start-a.result ≤ c.terms_end-e.result
-terms-rise c = let p = c.requires in
+terms-rise c =
+    let p = c.requires in
     omega (arith, c.terms_start-a.ensures.0, c.terms_end-e.ensures.0, p.0.1.terms.rising c.args.row p.1)
 
 terms-inside : (c : After-guards_end-f) → c.terms_end-e.result ≤ length c.args.row_conditions.now
-terms-inside c = let p = c.requires in
+terms-inside c =
+    let p = c.requires in
     omega (arith, c.terms_end-e.ensures.0, p.0.1.terms.ends c.args.row p.1)
 
 guards-rise : (c : After-guards_end-f) → c.guards_start-b.result ≤ c.guards_end-f.result
-guards-rise c = let p = c.requires in
+guards-rise c =
+    let p = c.requires in
     omega (arith, c.guards_start-b.ensures.0, c.guards_end-f.ensures.0, p.0.1.guards.rising c.args.row p.1)
 
 guards-inside : (c : After-guards_end-f) → c.guards_end-f.result ≤ length c.args.guard_bounds.now
-guards-inside c = let p = c.requires in
+guards-inside c =
+    let p = c.requires in
     omega (arith, c.guards_end-f.ensures.0, p.0.1.guards.ends c.args.row p.1)
 
 pub slice_bounds-rests-count : goal.slice_bounds-rests-count
@@ -57,7 +61,8 @@ pub slice_bounds-rests-end-3 : goal.slice_bounds-rests-end-3
 slice_bounds-rests-end-3 c = omega (arith, guards-inside (goal.at.slice_bounds-rests-end-3 c).After-guards_end-f)
 
 pub rests-requires : goal.rests-requires
-rests-requires c = let a = c.args in
+rests-requires c =
+    let a = c.args in
     let p = c.requires in
     let h = held_rows a.row_conditions.now a.row_weights.now a.rows.now a.guard_bounds.now p.0.0 in
     let terms-start = c.terms_start-a in
@@ -69,7 +74,8 @@ rests-requires c = let a = c.args in
     (terms, runs.figures, runs.inside, p.2, p.3)
 
 pub returns : goal.returns
-returns c = let a = c.args in
+returns c =
+    let a = c.args in
     let k = c.requires.1 in
     let terms-start = c.terms_start-a in
     let terms_end = c.terms_end-e in

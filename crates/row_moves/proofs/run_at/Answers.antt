@@ -17,18 +17,21 @@ use borrow.Author.Rules.{rules}
 use Rattle.row_moves.proofs.run_at.Goals as goal
 
 pub load-state-requires : goal.load-state-requires
-load-state-requires c = let p = c.requires in
+load-state-requires c =
+    let p = c.requires in
     omega (arith, p.1.long, p.0.1)
 
 pub rests_at-requires : goal.rests_at-requires
-rests_at-requires c = let a = c.args in
+rests_at-requires c =
+    let a = c.args in
     let p = c.requires in
     let load = c.load-state in
     let fit = fit_by ((let a = c.args in held_rows a.row_conditions.now a.row_weights.now a.rows.now a.guard_bounds.now a.guard_nodes.now)) figure_limit a.row load.result (state_at ((let a = c.args in live_of a.figures.now a.cursors.now a.sure.now a.never.now a.node_queue.now a.row_queues.now a.rings)) a.row) load.ensures (p.1.fit a.row p.0.1) in
     ((a.guard_nodes.now, p.0.0, fit), p.0.1, omega (arith, p.1.waits.sures), omega (arith, p.1.waits.nevers))
 
 pub returns-then-rests_at : goal.returns-then-rests_at
-returns-then-rests_at c = let a = c.args in
+returns-then-rests_at c =
+    let a = c.args in
     let p = c.requires in
     let load = c.load-state in
     let row = held_row ((let a = c.args in held_rows a.row_conditions.now a.row_weights.now a.rows.now a.guard_bounds.now a.guard_nodes.now)) a.row in
@@ -61,7 +64,8 @@ pub shape_of-row_queues : goal.shape_of-row_queues
 shape_of-row_queues c = c.run_cut-made.auto.row_queues
 
 pub returns : goal.returns
-returns c = let run_cut = c.run_cut-made in
+returns c =
+    let run_cut = c.run_cut-made in
     let Did-of = c.did_of-2 in
     let a = c.args in
     let y = run_cut.result in

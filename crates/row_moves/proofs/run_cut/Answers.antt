@@ -14,19 +14,22 @@ pub offset_bounds-row_conditions-a : goal.offset_bounds-row_conditions-a
 offset_bounds-row_conditions-a c = omega (arith, c.terms_start-a.ensures.1)
 
 pub slice_bounds-run_row-count : goal.slice_bounds-run_row-count
-slice_bounds-run_row-count c = let terms_end = c.terms_end-e in
+slice_bounds-run_row-count c =
+    let terms_end = c.terms_end-e in
     let terms-start = c.terms_start-a in
     let p = c.requires in
     omega (arith, terms-start.ensures.0, terms_end.ensures.0, p.0.0.terms.rising c.args.row p.0.1)
 
 pub slice_bounds-run_row-start : goal.slice_bounds-run_row-start
-slice_bounds-run_row-start c = let terms_end = c.terms_end-e in
+slice_bounds-run_row-start c =
+    let terms_end = c.terms_end-e in
     let terms-start = c.terms_start-a in
     let p = c.requires in
     omega (arith, terms-start.ensures.0, terms_end.ensures.0, p.0.0.terms.rising c.args.row p.0.1)
 
 pub slice_bounds-run_row-end : goal.slice_bounds-run_row-end
-slice_bounds-run_row-end c = let terms_end = c.terms_end-e in
+slice_bounds-run_row-end c =
+    let terms_end = c.terms_end-e in
     let p = c.requires in
     omega (arith, terms_end.ensures.0, p.0.0.terms.ends c.args.row p.0.1)
 
@@ -34,19 +37,22 @@ pub offset_bounds-row_weights-a : goal.offset_bounds-row_weights-a
 offset_bounds-row_weights-a c = omega (arith, c.terms_start-a.ensures.1)
 
 pub slice_bounds-run_row-count-2 : goal.slice_bounds-run_row-count-2
-slice_bounds-run_row-count-2 c = let terms_end = c.terms_end-e in
+slice_bounds-run_row-count-2 c =
+    let terms_end = c.terms_end-e in
     let terms-start = c.terms_start-a in
     let p = c.requires in
     omega (arith, terms-start.ensures.0, terms_end.ensures.0, p.0.0.terms.rising c.args.row p.0.1)
 
 pub slice_bounds-run_row-start-2 : goal.slice_bounds-run_row-start-2
-slice_bounds-run_row-start-2 c = let terms_end = c.terms_end-e in
+slice_bounds-run_row-start-2 c =
+    let terms_end = c.terms_end-e in
     let terms-start = c.terms_start-a in
     let p = c.requires in
     omega (arith, terms-start.ensures.0, terms_end.ensures.0, p.0.0.terms.rising c.args.row p.0.1)
 
 pub slice_bounds-run_row-end-2 : goal.slice_bounds-run_row-end-2
-slice_bounds-run_row-end-2 c = let terms_end = c.terms_end-e in
+slice_bounds-run_row-end-2 c =
+    let terms_end = c.terms_end-e in
     let p = c.requires in
     omega (arith, terms_end.ensures.0, p.0.0.terms.ends c.args.row p.0.1, p.0.0.weighed)
 
@@ -54,19 +60,22 @@ pub offset_bounds-guard_bounds-b : goal.offset_bounds-guard_bounds-b
 offset_bounds-guard_bounds-b c = omega (arith, c.guards_start-b.ensures.1)
 
 pub slice_bounds-run_row-count-3 : goal.slice_bounds-run_row-count-3
-slice_bounds-run_row-count-3 c = let guards_end = c.guards_end-f in
+slice_bounds-run_row-count-3 c =
+    let guards_end = c.guards_end-f in
     let guards-start = c.guards_start-b in
     let p = c.requires in
     omega (arith, guards-start.ensures.0, guards_end.ensures.0, p.0.0.guards.rising c.args.row p.0.1)
 
 pub slice_bounds-run_row-start-3 : goal.slice_bounds-run_row-start-3
-slice_bounds-run_row-start-3 c = let guards_end = c.guards_end-f in
+slice_bounds-run_row-start-3 c =
+    let guards_end = c.guards_end-f in
     let guards-start = c.guards_start-b in
     let p = c.requires in
     omega (arith, guards-start.ensures.0, guards_end.ensures.0, p.0.0.guards.rising c.args.row p.0.1)
 
 pub slice_bounds-run_row-end-3 : goal.slice_bounds-run_row-end-3
-slice_bounds-run_row-end-3 c = let guards_end = c.guards_end-f in
+slice_bounds-run_row-end-3 c =
+    let guards_end = c.guards_end-f in
     let p = c.requires in
     omega (arith, guards_end.ensures.0, p.0.0.guards.ends c.args.row p.0.1)
 
@@ -74,24 +83,28 @@ pub offset_bounds-guard_nodes-b : goal.offset_bounds-guard_nodes-b
 offset_bounds-guard_nodes-b c = omega (arith, c.guards_start-b.ensures.1)
 
 pub slice_bounds-run_row-count-4 : goal.slice_bounds-run_row-count-4
-slice_bounds-run_row-count-4 c = let guards_end = c.guards_end-f in
+slice_bounds-run_row-count-4 c =
+    let guards_end = c.guards_end-f in
     let guards-start = c.guards_start-b in
     let p = c.requires in
     omega (arith, guards-start.ensures.0, guards_end.ensures.0, p.0.0.guards.rising c.args.row p.0.1)
 
 pub slice_bounds-run_row-start-4 : goal.slice_bounds-run_row-start-4
-slice_bounds-run_row-start-4 c = let guards_end = c.guards_end-f in
+slice_bounds-run_row-start-4 c =
+    let guards_end = c.guards_end-f in
     let guards-start = c.guards_start-b in
     let p = c.requires in
     omega (arith, guards-start.ensures.0, guards_end.ensures.0, p.0.0.guards.rising c.args.row p.0.1)
 
 pub slice_bounds-run_row-end-4 : goal.slice_bounds-run_row-end-4
-slice_bounds-run_row-end-4 c = let guards_end = c.guards_end-f in
+slice_bounds-run_row-end-4 c =
+    let guards_end = c.guards_end-f in
     let p = c.requires in
     omega (arith, guards_end.ensures.0, p.0.0.guards.ends c.args.row p.0.1, p.0.0.named)
 
 pub run_row-requires : goal.run_row-requires
-run_row-requires c = let guards_end = c.guards_end-f in
+run_row-requires c =
+    let guards_end = c.guards_end-f in
     let guards-start = c.guards_start-b in
     let terms_end = c.terms_end-e in
     let terms-start = c.terms_start-a in
@@ -126,7 +139,8 @@ pub shape_of-row_queues : goal.shape_of-row_queues
 shape_of-row_queues c = c.run_row.auto.row_queues
 
 pub returns : goal.returns
-returns c = let run_row_lem = c.run_row in
+returns c =
+    let run_row_lem = c.run_row in
     let guards_end = c.guards_end-f in
     let guards-start = c.guards_start-b in
     let terms_end = c.terms_end-e in

@@ -15,11 +15,13 @@ use borrow.Author.Rules.{rules}
 use Rattle.row_moves.proofs.run_from.Goals as goal
 
 pub store-requires : goal.store-requires
-store-requires c = let p = c.requires in
+store-requires c =
+    let p = c.requires in
     omega (arith, p.1.long, p.0.1)
 
 pub run_cut-made-requires : goal.run_cut-made-requires
-run_cut-made-requires c = let store = c.store in
+run_cut-made-requires c =
+    let store = c.store in
     let a = c.args in
     let p = c.requires in
     let h = held_rows a.row_conditions.now a.row_weights.now a.rows.now a.guard_bounds.now a.guard_nodes.now in
@@ -29,12 +31,14 @@ run_cut-made-requires c = let store = c.store in
     ((p.0.0, p.0.1), ready_states h figure_limit (set v.states a.row a.state) (states_of store.new.figures store.new.cursors) v.marks v.residuals e stored)
 
 pub shape_of-figures : goal.shape_of-figures
-shape_of-figures c = let run_cut = c.run_cut-made in
+shape_of-figures c =
+    let run_cut = c.run_cut-made in
     let store = c.store in
     ◌∙◌ {b = length store.new.figures} run_cut.auto.figures store.auto.figures
 
 pub shape_of-cursors : goal.shape_of-cursors
-shape_of-cursors c = let run_cut = c.run_cut-made in
+shape_of-cursors c =
+    let run_cut = c.run_cut-made in
     let store = c.store in
     ◌∙◌ {b = length store.new.cursors} run_cut.auto.cursors store.auto.cursors
 
@@ -51,7 +55,8 @@ pub shape_of-row_queues : goal.shape_of-row_queues
 shape_of-row_queues c = c.run_cut-made.auto.row_queues
 
 pub returns : goal.returns
-returns c = let Did-of = c.did_of in
+returns c =
+    let Did-of = c.did_of in
     let run_cut = c.run_cut-made in
     let store = c.store in
     let a = c.args in

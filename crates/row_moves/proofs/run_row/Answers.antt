@@ -26,11 +26,13 @@ pub load-state-requires : goal.load-state-requires
 load-state-requires c = c.requires.0.0
 
 pub queue_residual-left-requires : goal.queue_residual-left-requires
-queue_residual-left-requires c = let p = c.requires in
+queue_residual-left-requires c =
+    let p = c.requires in
     (p.0.1.same, p.1.1.0, p.1.1.1)
 
 pub threshold_row-ran-requires : goal.threshold_row-ran-requires
-threshold_row-ran-requires c = let load = c.load-state in
+threshold_row-ran-requires c =
+    let load = c.load-state in
     let a = c.args in
     let p = c.requires in
     let v = live_of a.figures.now a.cursors.now a.sure.now a.never.now a.node_queue.now a.row_queues.now (standing a.nodes a.nodes a.residuals) in
@@ -38,7 +40,8 @@ threshold_row-ran-requires c = let load = c.load-state in
     (p.0.1, p.0.2, r.figures, r.inside, p.1.0.1)
 
 pub store_cursors-requires : goal.store_cursors-requires
-store_cursors-requires c = omega (arith, c.requires.0.0, states_cursors c.args.figures.now c.args.cursors.now)
+store_cursors-requires c =
+    omega (arith, c.requires.0.0, states_cursors c.args.figures.now c.args.cursors.now)
 
 pub shape_of-cursors : goal.shape_of-cursors
 shape_of-cursors c = c.store_cursors.auto.cursors
@@ -56,7 +59,8 @@ pub shape_of-row_queues : goal.shape_of-row_queues
 shape_of-row_queues c = c.queue_residual-left.auto.row_queues
 
 pub returns : goal.returns
-returns c = let store = c.store_cursors in
+returns c =
+    let store = c.store_cursors in
     let threshold-row = c.threshold_row-ran in
     let queue-residual = c.queue_residual-left in
     let load = c.load-state in

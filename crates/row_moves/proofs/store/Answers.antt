@@ -20,7 +20,8 @@ pub bounds-cursors-row : goal.bounds-cursors-row
 bounds-cursors-row c = omega (arith, c.requires, states_cursors c.args.figures.now c.args.cursors.now)
 
 pub returns : goal.returns
-returns c = let s = c.args.state in
+returns c =
+    let s = c.args.state in
     let l = c.limit_of-limit in
     let hk : to_z w64 (of_z w64 s.known) ≡ s.known = search rules in
     let hp : to_z w64 (of_z w64 s.possible) ≡ s.possible = search rules in

@@ -15,7 +15,8 @@ pub loop-i-init : goal.loop-i-init
 loop-i-init c = (search rules, c.requires.1, beside_self c.args.j _, refl, sum-zero _)
 
 pub overflow_add-sum : goal.overflow_add-sum
-overflow_add-sum c = let w = c.loop-i in
+overflow_add-sum c =
+    let w = c.loop-i in
     let rows = c.args.rows.now in
     let j = c.args.j in
     let cs = column j rows in
@@ -33,7 +34,8 @@ overflow_add-sum c = let w = c.loop-i in
     omega arith
 
 pub loop-i-preserved : goal.loop-i-preserved
-loop-i-preserved c = let w = c.loop-i in
+loop-i-preserved c =
+    let w = c.loop-i in
     let rows = c.args.rows.now in
     let j = c.args.j in
     let cs = column j rows in
@@ -60,7 +62,8 @@ pub shape_of-rows : goal.shape_of-rows
 shape_of-rows c = c.loop-i.invariant.2.long
 
 pub returns : goal.returns
-returns c = let w = c.loop-i in
+returns c =
+    let w = c.loop-i in
     let rows = c.args.rows.now in
     let j = c.args.j in
     let t = c.loop-i-test.false in

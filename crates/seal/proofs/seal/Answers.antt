@@ -11,13 +11,15 @@ use mathlib.Core.Path.{◌∙◌}
 use Rattle.seal.proofs.seal.Goals as goal
 
 pub first_states-requires : goal.first_states-requires
-first_states-requires c = let w = c.requires.0 in
+first_states-requires c =
+    let w = c.requires.0 in
     let h = (let a = c.args in held_rows a.row_conditions.now a.row_weights.now a.rows.now a.guard_bounds.now a.guard_nodes.now) in
     let y = w.1 in
     (y.terms, y.weighed, y.guards.rising, y.few, totals_more total_limit room_limit h.row-conditions h.row-weights h.rows (omega arith) w.2, w.3)
 
 pub seed_thresholds-requires : goal.seed_thresholds-requires
-seed_thresholds-requires c = let w = c.requires in
+seed_thresholds-requires c =
+    let w = c.requires in
     let h = (let a = c.args in held_rows a.row_conditions.now a.row_weights.now a.rows.now a.guard_bounds.now a.guard_nodes.now) in
     let v = (let a = c.args in live_of a.figures.now a.cursors.now a.sure.now a.never.now a.node_queue.now a.row_queues.now a.rings) in
     let x = w.0.0.0 in
@@ -26,7 +28,8 @@ seed_thresholds-requires c = let w = c.requires in
     (w.0.1, seal_ready x h z w.0.1 w.0.2 v.states ((states_of c.first_states.new.figures c.first_states.new.cursors)) w.0.3 e v.marks w.1.0 v.residuals w.1.1)
 
 pub returns : goal.returns
-returns c = let h = (let a = c.args in held_rows a.row_conditions.now a.row_weights.now a.rows.now a.guard_bounds.now a.guard_nodes.now) in
+returns c =
+    let h = (let a = c.args in held_rows a.row_conditions.now a.row_weights.now a.rows.now a.guard_bounds.now a.guard_nodes.now) in
     let t = c.seed_thresholds in (
       λ x z.
           let e = c.first_states.ensures.0 x h.guard_bounds h.guard_nodes c.requires.0.1 z in

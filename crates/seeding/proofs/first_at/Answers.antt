@@ -16,36 +16,43 @@ pub offset_bounds-row_conditions-a : goal.offset_bounds-row_conditions-a
 offset_bounds-row_conditions-a c = omega (arith, c.terms_start-a.ensures.1)
 
 pub slice_bounds-total-count : goal.slice_bounds-total-count
-slice_bounds-total-count c = let p = c.requires in
+slice_bounds-total-count c =
+    let p = c.requires in
     omega (arith, c.terms_start-a.ensures.0, c.terms_end-e.ensures.0, p.0.rising c.args.row p.3)
 
 pub slice_bounds-total-start : goal.slice_bounds-total-start
-slice_bounds-total-start c = let p = c.requires in
+slice_bounds-total-start c =
+    let p = c.requires in
     omega (arith, c.terms_start-a.ensures.0, c.terms_end-e.ensures.0, p.0.rising c.args.row p.3)
 
 pub slice_bounds-total-end : goal.slice_bounds-total-end
-slice_bounds-total-end c = let p = c.requires in
+slice_bounds-total-end c =
+    let p = c.requires in
     omega (arith, c.terms_end-e.ensures.0, p.0.ends c.args.row p.3)
 
 pub offset_bounds-row_weights-a : goal.offset_bounds-row_weights-a
 offset_bounds-row_weights-a c = omega (arith, c.terms_start-a.ensures.1)
 
 pub slice_bounds-total-count-2 : goal.slice_bounds-total-count-2
-slice_bounds-total-count-2 c = let terms-start = c.terms_start-a in
+slice_bounds-total-count-2 c =
+    let terms-start = c.terms_start-a in
     let p = c.requires in
     omega (arith, terms-start.ensures.0, c.terms_end-e.ensures.0, p.0.rising c.args.row p.3)
 
 pub slice_bounds-total-start-2 : goal.slice_bounds-total-start-2
-slice_bounds-total-start-2 c = let terms-start = c.terms_start-a in
+slice_bounds-total-start-2 c =
+    let terms-start = c.terms_start-a in
     let p = c.requires in
     omega (arith, terms-start.ensures.0, c.terms_end-e.ensures.0, p.0.rising c.args.row p.3)
 
 pub slice_bounds-total-end-2 : goal.slice_bounds-total-end-2
-slice_bounds-total-end-2 c = let p = c.requires in
+slice_bounds-total-end-2 c =
+    let p = c.requires in
     omega (arith, c.terms_end-e.ensures.0, p.0.ends c.args.row p.3, p.1)
 
 pub total-total-requires : goal.total-total-requires
-total-total-requires c = let terms_end = c.terms_end-e in
+total-total-requires c =
+    let terms_end = c.terms_end-e in
     let terms-start = c.terms_start-a in
     let a = c.args in
     let p = c.requires in
@@ -60,18 +67,21 @@ total-total-requires c = let terms_end = c.terms_end-e in
     (weights ∙ sym conditions, omega (arith, small))
 
 pub guards_count-guards-requires : goal.guards_count-guards-requires
-guards_count-guards-requires c = let p = c.requires in
+guards_count-guards-requires c =
+    let p = c.requires in
     (p.3, p.2 c.args.row p.3)
 
 pub first-requires : goal.first-requires
-first-requires c = let terms_end = c.terms_end-e in
+first-requires c =
+    let terms_end = c.terms_end-e in
     let terms-start = c.terms_start-a in
     let a = c.args in
     let small = small_cut a.row_conditions.now a.row_weights.now a.rows.now a.row terms-start.result terms_end.result room_limit terms-start.ensures.0 terms_end.ensures.0 c.requires.4 in
     omega (arith, c.total-total.ensures, small)
 
 pub returns : goal.returns
-returns c = let guards-count = c.guards_count-guards in
+returns c =
+    let guards-count = c.guards_count-guards in
     let sum = c.total-total in
     let terms_end = c.terms_end-e in
     let terms-start = c.terms_start-a in

@@ -9,7 +9,8 @@ use Rattle.row_moves.specs.FirstLaws.{Starting, starting_first, starting_next, s
 use Rattle.seeding.proofs.first_states.Given as goal
 
 abbrev pub invariant-loop-at : goal.invariant-loop-at
-invariant-loop-at l = Starting l.row_conditions l.row_weights l.rows (states_of l.initial.figures l.initial.cursors) l.at (states_of l.figures l.cursors)
+invariant-loop-at l =
+    Starting l.row_conditions l.row_weights l.rows (states_of l.initial.figures l.initial.cursors) l.at (states_of l.figures l.cursors)
     × (length l.figures ≡ length l.initial.figures) × (length l.cursors ≡ length l.initial.cursors) × (Tidy l.initial.figures l.initial.cursors → Tidy l.figures l.cursors)
 
 abbrev pub decreases-loop-at : goal.decreases-loop-at

@@ -11,7 +11,8 @@ use borrow.Author.Rules.{rules}
 use Rattle.seeding.proofs.seed_thresholds.Goals as goal
 
 pub loop-row-init : goal.loop-row-init
-loop-row-init c = let a = c.args in
+loop-row-init c =
+    let a = c.args in
     let h = held_rows a.row_conditions.now a.row_weights.now a.rows.now a.guard_bounds.now a.guard_nodes.now in
     let v = live_of a.figures.now a.cursors.now a.sure.now a.never.now a.node_queue.now a.row_queues.now a.rings in (
       seeding_first h v c.requires.1,
@@ -20,42 +21,50 @@ loop-row-init c = let a = c.args in
     )
 
 pub run_at-turn-requires : goal.run_at-turn-requires
-run_at-turn-requires c = let test = c.loop-row-test in
+run_at-turn-requires c =
+    let test = c.loop-row-test in
     let w = c.loop-row in
     ((c.requires.0, test.true), w.invariant.0.ready)
 
 pub shape_of-figures-then-contradicts : goal.shape_of-figures-then-contradicts
-shape_of-figures-then-contradicts c = let run_at = c.run_at-turn in
+shape_of-figures-then-contradicts c =
+    let run_at = c.run_at-turn in
     let w = c.loop-row in
     ◌∙◌ {b = length w.figures} run_at.auto.figures w.invariant.1.figures
 
 pub shape_of-cursors-then-contradicts : goal.shape_of-cursors-then-contradicts
-shape_of-cursors-then-contradicts c = let run_at = c.run_at-turn in
+shape_of-cursors-then-contradicts c =
+    let run_at = c.run_at-turn in
     let w = c.loop-row in
     ◌∙◌ {b = length w.cursors} run_at.auto.cursors w.invariant.1.cursors
 
 pub shape_of-sure-then-contradicts : goal.shape_of-sure-then-contradicts
-shape_of-sure-then-contradicts c = let run_at = c.run_at-turn in
+shape_of-sure-then-contradicts c =
+    let run_at = c.run_at-turn in
     let w = c.loop-row in
     ◌∙◌ {b = length w.sure} run_at.auto.sure w.invariant.1.sure
 
 pub shape_of-never-then-contradicts : goal.shape_of-never-then-contradicts
-shape_of-never-then-contradicts c = let run_at = c.run_at-turn in
+shape_of-never-then-contradicts c =
+    let run_at = c.run_at-turn in
     let w = c.loop-row in
     ◌∙◌ {b = length w.never} run_at.auto.never w.invariant.1.never
 
 pub shape_of-node_queue-then-contradicts : goal.shape_of-node_queue-then-contradicts
-shape_of-node_queue-then-contradicts c = let run_at = c.run_at-turn in
+shape_of-node_queue-then-contradicts c =
+    let run_at = c.run_at-turn in
     let w = c.loop-row in
     ◌∙◌ {b = length w.node_queue} run_at.auto.node_queue w.invariant.1.node_queue
 
 pub shape_of-row_queues-then-contradicts : goal.shape_of-row_queues-then-contradicts
-shape_of-row_queues-then-contradicts c = let run_at = c.run_at-turn in
+shape_of-row_queues-then-contradicts c =
+    let run_at = c.run_at-turn in
     let w = c.loop-row in
     ◌∙◌ {b = length w.row_queues} run_at.auto.row_queues w.invariant.1.row_queues
 
 pub returns-then-contradicts : goal.returns-then-contradicts
-returns-then-contradicts c = let run_at = c.run_at-turn in
+returns-then-contradicts c =
+    let run_at = c.run_at-turn in
     let test = c.loop-row-test in
     let w = c.loop-row in
     let a = c.args in
@@ -69,14 +78,16 @@ returns-then-contradicts c = let run_at = c.run_at-turn in
     )
 
 pub overflow_add-row : goal.overflow_add-row
-overflow_add-row c = let test = c.loop-row-test in
+overflow_add-row c =
+    let test = c.loop-row-test in
     omega (arith, test.true, c.requires.0.few)
 
 pub loop-row-smaller : goal.loop-row-smaller
 loop-row-smaller c = omega (arith, c.loop-row-test.true)
 
 pub loop-row-preserved : goal.loop-row-preserved
-loop-row-preserved c = let join = c.join in
+loop-row-preserved c =
+    let join = c.join in
     let if1 = c.if-contradicts in
     let contradicts = c.contradicts in
     let run_at = c.run_at-turn in
@@ -120,7 +131,8 @@ pub shape_of-row_queues : goal.shape_of-row_queues
 shape_of-row_queues c = c.loop-row.invariant.1.row_queues
 
 pub returns : goal.returns
-returns c = let w = c.loop-row in
+returns c =
+    let w = c.loop-row in
     let a = c.args in
     let h = held_rows a.row_conditions.now a.row_weights.now a.rows.now a.guard_bounds.now a.guard_nodes.now in
     let v = live_of a.figures.now a.cursors.now a.sure.now a.never.now a.node_queue.now a.row_queues.now a.rings in

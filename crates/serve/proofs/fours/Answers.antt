@@ -22,7 +22,9 @@ pub loop-i-init : goal.loop-i-init
 loop-i-init c = (omega arith, λ n h. absurd (not-suc-le-zero h))
 
 pub loop-i-preserved : goal.loop-i-preserved
-loop-i-preserved c = (omega arith, more c.args.row_queues.now c.loop-i.i c.loop-i.invariant.1 c.four.ensures)
+loop-i-preserved c =
+    (omega arith, more c.args.row_queues.now c.loop-i.i c.loop-i.invariant.1 c.four.ensures)
 
 pub returns : goal.returns
-returns c = fourfold_all c.args.row_queues.now (λ n h. c.loop-i.invariant.1 n (omega arith))
+returns c =
+    fourfold_all c.args.row_queues.now (λ n h. c.loop-i.invariant.1 n (omega arith))

@@ -15,14 +15,16 @@ use Rattle.serve.proofs.seal_and_serve.Goals.{After-stood-next}
 
 -- With the seal the records behind it have a beginning.
 reaches : (p : After-stood-next) → (f : File) (base : List (List ℕ)) → Seals p.args.bounds.now ((let a = p.args in built (held_rows a.row_conditions.now a.row_weights.now a.rows.now a.guard_bounds.now a.guard_nodes.now) a.nodes.now a.edges.now a.links.now)) f → Lies base f ((let a = p.args in kept a.figures.now a.cursors.now a.sure.now a.never.now a.search.now a.gcds.now a.node_queue.now a.row_queues.now a.answers.now)) p.args.rings → p.args.standing ≡ standing f → Reaches p.args.bounds.now ((let a = p.args in built (held_rows a.row_conditions.now a.row_weights.now a.rows.now a.guard_bounds.now a.guard_nodes.now) a.nodes.now a.edges.now a.links.now)) base ((let a = p.args in kept p.seal-did.new.figures p.seal-did.new.cursors p.seal-did.new.sure p.seal-did.new.never a.search.now a.gcds.now p.seal-did.new.node_queue p.seal-did.new.row_queues a.answers.now)) ((record { at = p.args.at + 1; refused = 0; standing = p.stood-next.result; last = p.seal-did.result.step; rings = p.seal-did.result.rings })) (outcome (apply f Seal) [] 0 ((record { at = p.args.at + 1; refused = 0; standing = p.stood-next.result; last = p.seal-did.result.step; rings = p.seal-did.result.rings })).at)
-reaches p f base z l e = let a = p.args in
+reaches p f base z l e =
+    let a = p.args in
     let t = p.seal-did in
     let passed = seals_passed f a.input.now a.at p.requires.1 a.standing e p.requires.2 in
     seals_reaches a.bounds.now ((let a = p.args in built (held_rows a.row_conditions.now a.row_weights.now a.rows.now a.guard_bounds.now a.guard_nodes.now) a.nodes.now a.edges.now a.links.now)) base f ((let a = p.args in kept a.figures.now a.cursors.now a.sure.now a.never.now a.search.now a.gcds.now a.node_queue.now a.row_queues.now a.answers.now)) a.rings z l ((let a = p.args in kept p.seal-did.new.figures p.seal-did.new.cursors p.seal-did.new.sure p.seal-did.new.never a.search.now a.gcds.now p.seal-did.new.node_queue p.seal-did.new.row_queues a.answers.now)) t.result.rings t.result.step t.ensures.0 passed
     (t.ensures.1 l.tidy) refl refl refl ((record { at = p.args.at + 1; refused = 0; standing = p.stood-next.result; last = p.seal-did.result.step; rings = p.seal-did.result.rings })) refl refl refl a.standing e p.stood-next.ensures
 
 pub seal-did-requires : goal.seal-did-requires
-seal-did-requires c = let a = c.args in
+seal-did-requires c =
+    let a = c.args in
     let p = c.requires.0 in (
       (
         seals_holds a.bounds.now ((let a = c.args in built (held_rows a.row_conditions.now a.row_weights.now a.rows.now a.guard_bounds.now a.guard_nodes.now) a.nodes.now a.edges.now a.links.now)) p.1 p.0 ((let a = c.args in kept a.figures.now a.cursors.now a.sure.now a.never.now a.search.now a.gcds.now a.node_queue.now a.row_queues.now a.answers.now)) a.rings p.2 p.3,
@@ -37,15 +39,18 @@ seal-did-requires c = let a = c.args in
     )
 
 pub overflow_add-behind : goal.overflow_add-behind
-overflow_add-behind c = omega (arith, c.requires.1, c.requires.3)
+overflow_add-behind c =
+    omega (arith, c.requires.1, c.requires.3)
 
 pub serve_records-reached-requires : goal.serve_records-reached-requires
-serve_records-reached-requires c = let w = c.requires in
+serve_records-reached-requires c =
+    let w = c.requires in
     let p = w.0 in
     ((apply p.0 Seal, p.1, reaches (goal.at.serve_records-reached-requires c).After-stood-next p.0 p.1 p.2 p.3 p.4), w.3)
 
 pub returns : goal.returns
-returns c = let a = c.args in
+returns c =
+    let a = c.args in
     let w = c.requires in
     let t = c.serve_records-reached in (
       λ f base z l e.

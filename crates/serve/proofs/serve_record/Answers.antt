@@ -10,11 +10,13 @@ use borrow.Author.Rules.{rules}
 use Rattle.serve.proofs.serve_record.Goals as goal
 
 pub overflow_add-behind-in-Taken : goal.overflow_add-behind-in-Taken
-overflow_add-behind-in-Taken c = let a = c.args in
+overflow_add-behind-in-Taken c =
+    let a = c.args in
     omega (arith, c.requires.1, c.requires.2, body_small (get_or a.input.now a.reached.at 0), c.body_length-size.ensures)
 
 pub take_record-requires : goal.take_record-requires
-take_record-requires c = let a = c.args in
+take_record-requires c =
+    let a = c.args in
     let p = c.requires in
     let n = c.next_record-found in
     (
@@ -26,12 +28,14 @@ take_record-requires c = let a = c.args in
     )
 
 pub returns-in-Refused : goal.returns-in-Refused
-returns-in-Refused c = let a = c.args in
+returns-in-Refused c =
+    let a = c.args in
     let n = c.next_record-found in
     λ f base z. next_refused a.bounds.now ((let a = c.args in built (held_rows a.row_conditions.now a.row_weights.now a.rows.now a.guard_bounds.now a.guard_nodes.now) a.nodes.now a.edges.now a.links.now)) base f ((let a = c.args in kept a.figures.now a.cursors.now a.sure.now a.never.now a.search.now a.gcds.now a.node_queue.now a.row_queues.now a.answers.now)) a.reached z a.input.now c.requires.1 n.result n.ensures c.in-Refused.number c.in-Refused.is _ refl refl refl refl refl
 
 pub returns-in-Taken : goal.returns-in-Taken
-returns-in-Taken c = let a = c.args in
+returns-in-Taken c =
+    let a = c.args in
     let n = c.next_record-found in
     let t = c.take_record in
     let size = c.body_length-size in

@@ -9,31 +9,36 @@ use Rattle.serve.specs.ServeLaws.{Loops, loops_first, loops_end, loops_stop, loo
 use Rattle.serve.proofs.serve_records.Goals as goal
 
 pub loop-reached-init : goal.loop-reached-init
-loop-reached-init c = let a = c.args in (
+loop-reached-init c =
+    let a = c.args in (
       loops_first a.input.now a.bounds.now ((let a = c.args in built (held_rows a.row_conditions.now a.row_weights.now a.rows.now a.guard_bounds.now a.guard_nodes.now) a.nodes.now a.edges.now a.links.now)) ((let a = c.args in kept a.figures.now a.cursors.now a.sure.now a.never.now a.search.now a.gcds.now a.node_queue.now a.row_queues.now a.answers.now)) a.first,
       record { figures = refl; cursors = refl; sure = refl; never = refl; search = refl; gcds = refl; node_queue = refl; row_queues = refl; answers = refl },
     )
 
 pub serve_record-next-requires : goal.serve_record-next-requires
-serve_record-next-requires c = let p = c.requires in
+serve_record-next-requires c =
+    let p = c.requires in
     let w = c.loop-reached.invariant.0.so_far p.0.0 p.0.1 p.0.2 in
     ((w.0, p.0.1, w.1), c.loop-reached-test.true, p.1)
 
 pub returns-then-number-ne0 : goal.returns-then-number-ne0
-returns-then-number-ne0 c = let a = c.args in
+returns-then-number-ne0 c =
+    let a = c.args in
     let l = c.loop-reached in
     let s = c.serve_record-next in
     loops_stop a.input.now a.bounds.now ((let a = c.args in built (held_rows a.row_conditions.now a.row_weights.now a.rows.now a.guard_bounds.now a.guard_nodes.now) a.nodes.now a.edges.now a.links.now)) ((let a = c.args in kept a.figures.now a.cursors.now a.sure.now a.never.now a.search.now a.gcds.now a.node_queue.now a.row_queues.now a.answers.now)) a.first ((let l = c.loop-reached in kept l.figures l.cursors l.sure l.never l.search l.gcds l.node_queue l.row_queues l.answers)) l.reached l.invariant.0 c.loop-reached-test.true ((kept c.serve_record-next.new.figures c.serve_record-next.new.cursors c.serve_record-next.new.sure c.serve_record-next.new.never c.serve_record-next.new.search c.serve_record-next.new.gcds c.serve_record-next.new.node_queue c.serve_record-next.new.row_queues c.serve_record-next.new.answers)) s.result s.ensures c.if-number-ne0.true
 
 pub loop-reached-smaller : goal.loop-reached-smaller
-loop-reached-smaller c = let a = c.args in
+loop-reached-smaller c =
+    let a = c.args in
     let l = c.loop-reached in
     let s = c.serve_record-next in
     let p = c.requires in
     loops_less a.input.now a.bounds.now ((let a = c.args in built (held_rows a.row_conditions.now a.row_weights.now a.rows.now a.guard_bounds.now a.guard_nodes.now) a.nodes.now a.edges.now a.links.now)) ((let a = c.args in kept a.figures.now a.cursors.now a.sure.now a.never.now a.search.now a.gcds.now a.node_queue.now a.row_queues.now a.answers.now)) a.first ((let l = c.loop-reached in kept l.figures l.cursors l.sure l.never l.search l.gcds l.node_queue l.row_queues l.answers)) l.reached l.invariant.0 c.loop-reached-test.true ((kept c.serve_record-next.new.figures c.serve_record-next.new.cursors c.serve_record-next.new.sure c.serve_record-next.new.never c.serve_record-next.new.search c.serve_record-next.new.gcds c.serve_record-next.new.node_queue c.serve_record-next.new.row_queues c.serve_record-next.new.answers)) s.result s.ensures c.if-number-ne0.false p.0.0 p.0.1 p.0.2
 
 pub loop-reached-preserved : goal.loop-reached-preserved
-loop-reached-preserved c = let a = c.args in
+loop-reached-preserved c =
+    let a = c.args in
     let l = c.loop-reached in
     let s = c.serve_record-next in (
       loops_next a.input.now a.bounds.now ((let a = c.args in built (held_rows a.row_conditions.now a.row_weights.now a.rows.now a.guard_bounds.now a.guard_nodes.now) a.nodes.now a.edges.now a.links.now)) ((let a = c.args in kept a.figures.now a.cursors.now a.sure.now a.never.now a.search.now a.gcds.now a.node_queue.now a.row_queues.now a.answers.now)) a.first ((let l = c.loop-reached in kept l.figures l.cursors l.sure l.never l.search l.gcds l.node_queue l.row_queues l.answers)) l.reached l.invariant.0 c.loop-reached-test.true ((kept c.serve_record-next.new.figures c.serve_record-next.new.cursors c.serve_record-next.new.sure c.serve_record-next.new.never c.serve_record-next.new.search c.serve_record-next.new.gcds c.serve_record-next.new.node_queue c.serve_record-next.new.row_queues c.serve_record-next.new.answers)) s.result s.ensures c.if-number-ne0.false,
@@ -41,7 +46,8 @@ loop-reached-preserved c = let a = c.args in
     )
 
 pub returns : goal.returns
-returns c = let a = c.args in
+returns c =
+    let a = c.args in
     let l = c.loop-reached in
     loops_end a.input.now a.bounds.now ((let a = c.args in built (held_rows a.row_conditions.now a.row_weights.now a.rows.now a.guard_bounds.now a.guard_nodes.now) a.nodes.now a.edges.now a.links.now)) ((let a = c.args in kept a.figures.now a.cursors.now a.sure.now a.never.now a.search.now a.gcds.now a.node_queue.now a.row_queues.now a.answers.now)) a.first ((let l = c.loop-reached in kept l.figures l.cursors l.sure l.never l.search l.gcds l.node_queue l.row_queues l.answers)) l.reached l.invariant.0 (omega (arith, c.loop-reached-test.false))
 

@@ -6,7 +6,8 @@ use borrow.Author.Rules.{rules}
 use Rattle.serve.proofs.stood.Goals as goal
 
 pub returns : goal.returns
-returns c = let s = c.args.standing in
+returns c =
+    let s = c.args.standing in
     let n = c.args.answers in
     ap (λ (b : Bool).
     let y : Standing = record {

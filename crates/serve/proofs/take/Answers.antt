@@ -22,7 +22,8 @@ no_other Settle a h = miss (0 ∷ 1 ∷ 2 ∷ 3 ∷ 4 ∷ 8 ∷ []) 6 tt h
 no_other Sift a h = miss (0 ∷ 1 ∷ 2 ∷ 3 ∷ 4 ∷ 8 ∷ []) 7 tt h
 
 pub mark-did-requires : goal.mark-did-requires
-mark-did-requires c = let a = c.args in
+mark-did-requires c =
+    let a = c.args in
     let p = c.requires in
     (
       (takes_going a.bounds.now ((let a = c.args in built (held_rows a.row_conditions.now a.row_weights.now a.rows.now a.guard_bounds.now a.guard_nodes.now) a.nodes.now a.edges.now a.links.now)) p.0 a.given ((let a = c.args in live_of a.figures.now a.cursors.now a.sure.now a.never.now a.node_queue.now a.row_queues.now a.rings)) a.gcds.now a.search.now p.1).sound.waits,
@@ -30,14 +31,16 @@ mark-did-requires c = let a = c.args in
     )
 
 pub settle-did-requires : goal.settle-did-requires
-settle-did-requires c = let a = c.args in
+settle-did-requires c =
+    let a = c.args in
     let p = c.requires in (
       takes_serves a.bounds.now ((let a = c.args in built (held_rows a.row_conditions.now a.row_weights.now a.rows.now a.guard_bounds.now a.guard_nodes.now) a.nodes.now a.edges.now a.links.now)) p.0 a.given ((let a = c.args in live_of a.figures.now a.cursors.now a.sure.now a.never.now a.node_queue.now a.row_queues.now a.rings)) a.gcds.now a.search.now p.1,
       takes_going a.bounds.now ((let a = c.args in built (held_rows a.row_conditions.now a.row_weights.now a.rows.now a.guard_bounds.now a.guard_nodes.now) a.nodes.now a.edges.now a.links.now)) p.0 a.given ((let a = c.args in live_of a.figures.now a.cursors.now a.sure.now a.never.now a.node_queue.now a.row_queues.now a.rings)) a.gcds.now a.search.now p.1,
     )
 
 pub sift-requires : goal.sift-requires
-sift-requires c = let a = c.args in
+sift-requires c =
+    let a = c.args in
     let p = c.requires in (
       (
         takes_serves a.bounds.now ((let a = c.args in built (held_rows a.row_conditions.now a.row_weights.now a.rows.now a.guard_bounds.now a.guard_nodes.now) a.nodes.now a.edges.now a.links.now)) p.0 a.given ((let a = c.args in live_of a.figures.now a.cursors.now a.sure.now a.never.now a.node_queue.now a.row_queues.now a.rings)) a.gcds.now a.search.now p.1,
@@ -48,19 +51,23 @@ sift-requires c = let a = c.args in
     )
 
 pub returns-in-Mark : goal.returns-in-Mark
-returns-in-Mark c = let a = c.args in
+returns-in-Mark c =
+    let a = c.args in
     let m = c.mark-did in
     (λ f t. took_mark a.bounds.now ((let a = c.args in built (held_rows a.row_conditions.now a.row_weights.now a.rows.now a.guard_bounds.now a.guard_nodes.now) a.nodes.now a.edges.now a.links.now)) f a.given ((let a = c.args in live_of a.figures.now a.cursors.now a.sure.now a.never.now a.node_queue.now a.row_queues.now a.rings)) a.gcds.now a.search.now t c.in-Mark.node c.in-Mark.value c.in-Mark.is ((let d = c.mark-did.result in did (live_of c.mark-did.new.figures c.mark-did.new.cursors c.mark-did.new.sure c.mark-did.new.never c.mark-did.new.node_queue c.mark-did.new.row_queues d.rings) d.step)) m.ensures.0, m.ensures.1, refl)
 
 pub returns-in-Settle : goal.returns-in-Settle
-returns-in-Settle c = let a = c.args in
+returns-in-Settle c =
+    let a = c.args in
     let m = c.settle-did in
     (λ f t. took_settle a.bounds.now ((let a = c.args in built (held_rows a.row_conditions.now a.row_weights.now a.rows.now a.guard_bounds.now a.guard_nodes.now) a.nodes.now a.edges.now a.links.now)) f a.given ((let a = c.args in live_of a.figures.now a.cursors.now a.sure.now a.never.now a.node_queue.now a.row_queues.now a.rings)) a.gcds.now a.search.now t c.in-Settle.is ((let d = c.settle-did.result in did (live_of c.settle-did.new.figures c.settle-did.new.cursors c.settle-did.new.sure c.settle-did.new.never c.settle-did.new.node_queue c.settle-did.new.row_queues d.rings) d.step)) m.ensures.0, m.ensures.1, refl)
 
 pub returns-in-Sift : goal.returns-in-Sift
-returns-in-Sift c = let a = c.args in
+returns-in-Sift c =
+    let a = c.args in
     let m = c.sift in
     (λ f t. took_sift a.bounds.now ((let a = c.args in built (held_rows a.row_conditions.now a.row_weights.now a.rows.now a.guard_bounds.now a.guard_nodes.now) a.nodes.now a.edges.now a.links.now)) f a.given ((let a = c.args in live_of a.figures.now a.cursors.now a.sure.now a.never.now a.node_queue.now a.row_queues.now a.rings)) a.gcds.now a.search.now t c.in-Sift.is ((let d = c.sift.result in sifted (live_of c.sift.new.figures c.sift.new.cursors c.sift.new.sure c.sift.new.never c.sift.new.node_queue c.sift.new.row_queues d.rings) c.sift.new.gcds d.step d.visits)) m.ensures.0, m.ensures.1, m.ensures.2)
 
 pub returns-in_default : goal.returns-in_default
-returns-in_default c = (λ f t. absurd (no_other c.args.given t.asks c.in_default.in_default-own.keys4), λ t. t, refl)
+returns-in_default c =
+    (λ f t. absurd (no_other c.args.given t.asks c.in_default.in_default-own.keys4), λ t. t, refl)

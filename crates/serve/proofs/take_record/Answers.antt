@@ -10,12 +10,14 @@ use borrow.Author.Rules.{rules}
 use Rattle.serve.proofs.take_record.Goals as goal
 
 pub take-came-requires : goal.take-came-requires
-take-came-requires c = let a = c.args in
+take-came-requires c =
+    let a = c.args in
     let p = c.requires in
     (p.0, record_takes a.bounds.now ((let a = c.args in built (held_rows a.row_conditions.now a.row_weights.now a.rows.now a.guard_bounds.now a.guard_nodes.now) a.nodes.now a.edges.now a.links.now)) p.1 p.0 ((let a = c.args in kept a.figures.now a.cursors.now a.sure.now a.never.now a.search.now a.gcds.now a.node_queue.now a.row_queues.now a.answers.now)) a.reached p.2 a.given p.3 p.4)
 
 pub store-count-requires : goal.store-count-requires
-store-count-requires c = let a = c.args in
+store-count-requires c =
+    let a = c.args in
     let p = c.requires in
     let t = c.take-came in
     let takes = record_takes a.bounds.now ((let a = c.args in built (held_rows a.row_conditions.now a.row_weights.now a.rows.now a.guard_bounds.now a.guard_nodes.now) a.nodes.now a.edges.now a.links.now)) p.1 p.0 ((let a = c.args in kept a.figures.now a.cursors.now a.sure.now a.never.now a.search.now a.gcds.now a.node_queue.now a.row_queues.now a.answers.now)) a.reached p.2 a.given p.3 p.4 in (
@@ -25,7 +27,8 @@ store-count-requires c = let a = c.args in
     )
 
 pub returns : goal.returns
-returns c = let a = c.args in
+returns c =
+    let a = c.args in
     let t = c.take-came in
     let s = c.store-count in
     λ f base z asks passed.

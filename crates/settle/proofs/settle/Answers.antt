@@ -13,7 +13,8 @@ use borrow.Author.Rules.{rules}
 use Rattle.settle.proofs.settle.Goals as goal
 
 pub loop-busy-init : goal.loop-busy-init
-loop-busy-init c = (
+loop-busy-init c =
+    (
       settling_first c.args.bounds.now ((let a = c.args in built (held_rows a.row_conditions.now a.row_weights.now a.rows.now a.guard_bounds.now a.guard_nodes.now) a.nodes.now a.edges.now a.links.now)) ((let a = c.args in live_of a.figures.now a.cursors.now a.sure.now a.never.now a.node_queue.now a.row_queues.now a.rings)) c.requires.1,
       c.waits-busy.ensures,
       same_self c.args.figures.now c.args.cursors.now c.args.sure.now c.args.never.now c.args.node_queue.now c.args.row_queues.now,
@@ -21,11 +22,13 @@ loop-busy-init c = (
     )
 
 pub turn-turned-requires : goal.turn-turned-requires
-turn-turned-requires c = let l = c.loop-busy in
+turn-turned-requires c =
+    let l = c.loop-busy in
     ((c.requires.0, row-waits l.so_far.rings.nodes.count l.so_far.rings.rows.count ((let l = c.loop-busy in not-true (eqb l.so_far.rings.nodes.count 0 && eqb l.so_far.rings.rows.count 0) (sym l.invariant.1 ∙ c.loop-busy-test.true)))), l.invariant.0.going)
 
 pub returns-then-contradicts : goal.returns-then-contradicts
-returns-then-contradicts c = let l = c.loop-busy in
+returns-then-contradicts c =
+    let l = c.loop-busy in
     let t = c.turn-turned in (
       settling_stop c.args.bounds.now ((let a = c.args in built (held_rows a.row_conditions.now a.row_weights.now a.rows.now a.guard_bounds.now a.guard_nodes.now) a.nodes.now a.edges.now a.links.now)) ((let a = c.args in live_of a.figures.now a.cursors.now a.sure.now a.never.now a.node_queue.now a.row_queues.now a.rings)) l.so_far.step ((let l = c.loop-busy in live_of l.figures l.cursors l.sure l.never l.node_queue l.row_queues l.so_far.rings)) l.invariant.0 ((let l = c.loop-busy in not-true (eqb l.so_far.rings.nodes.count 0 && eqb l.so_far.rings.rows.count 0) (sym l.invariant.1 ∙ c.loop-busy-test.true))) (did ((live_of c.turn-turned.new.figures c.turn-turned.new.cursors c.turn-turned.new.sure c.turn-turned.new.never c.turn-turned.new.node_queue c.turn-turned.new.row_queues c.turn-turned.result.rings)) t.result.step) t.ensures.0
           (sym c.contradicts.ensures ∙ c.if-contradicts.true),
@@ -33,13 +36,15 @@ returns-then-contradicts c = let l = c.loop-busy in
     )
 
 pub loop-busy-smaller : goal.loop-busy-smaller
-loop-busy-smaller c = let l = c.loop-busy in
+loop-busy-smaller c =
+    let l = c.loop-busy in
     let t = c.turn-turned in
     let w = c.requires.0 in
     settling_less c.args.bounds.now ((let a = c.args in built (held_rows a.row_conditions.now a.row_weights.now a.rows.now a.guard_bounds.now a.guard_nodes.now) a.nodes.now a.edges.now a.links.now)) ((let a = c.args in live_of a.figures.now a.cursors.now a.sure.now a.never.now a.node_queue.now a.row_queues.now a.rings)) l.so_far.step ((let l = c.loop-busy in live_of l.figures l.cursors l.sure l.never l.node_queue l.row_queues l.so_far.rings)) l.invariant.0 ((let l = c.loop-busy in not-true (eqb l.so_far.rings.nodes.count 0 && eqb l.so_far.rings.rows.count 0) (sym l.invariant.1 ∙ c.loop-busy-test.true))) (did ((live_of c.turn-turned.new.figures c.turn-turned.new.cursors c.turn-turned.new.sure c.turn-turned.new.never c.turn-turned.new.node_queue c.turn-turned.new.row_queues c.turn-turned.result.rings)) t.result.step) t.ensures.0 w.0 w.1
 
 pub loop-busy-preserved : goal.loop-busy-preserved
-loop-busy-preserved c = let l = c.loop-busy in
+loop-busy-preserved c =
+    let l = c.loop-busy in
     let t = c.turn-turned in
     let w = c.requires.0 in (
       settling_next c.args.bounds.now ((let a = c.args in built (held_rows a.row_conditions.now a.row_weights.now a.rows.now a.guard_bounds.now a.guard_nodes.now) a.nodes.now a.edges.now a.links.now)) ((let a = c.args in live_of a.figures.now a.cursors.now a.sure.now a.never.now a.node_queue.now a.row_queues.now a.rings)) l.so_far.step ((let l = c.loop-busy in live_of l.figures l.cursors l.sure l.never l.node_queue l.row_queues l.so_far.rings)) l.invariant.0 ((let l = c.loop-busy in not-true (eqb l.so_far.rings.nodes.count 0 && eqb l.so_far.rings.rows.count 0) (sym l.invariant.1 ∙ c.loop-busy-test.true))) (did ((live_of c.turn-turned.new.figures c.turn-turned.new.cursors c.turn-turned.new.sure c.turn-turned.new.never c.turn-turned.new.node_queue c.turn-turned.new.row_queues c.turn-turned.result.rings)) t.result.step) t.ensures.0 w.0 w.1
@@ -50,7 +55,8 @@ loop-busy-preserved c = let l = c.loop-busy in
     )
 
 pub returns : goal.returns
-returns c = let l = c.loop-busy in
+returns c =
+    let l = c.loop-busy in
     let e = not-false (eqb l.so_far.rings.nodes.count 0 && eqb l.so_far.rings.rows.count 0) (sym l.invariant.1 ∙ c.loop-busy-test.false) in
     (settling_end c.args.bounds.now ((let a = c.args in built (held_rows a.row_conditions.now a.row_weights.now a.rows.now a.guard_bounds.now a.guard_nodes.now) a.nodes.now a.edges.now a.links.now)) ((let a = c.args in live_of a.figures.now a.cursors.now a.sure.now a.never.now a.node_queue.now a.row_queues.now a.rings)) l.so_far.step ((let l = c.loop-busy in live_of l.figures l.cursors l.sure l.never l.node_queue l.row_queues l.so_far.rings)) l.invariant.0 e, l.invariant.3)
 

@@ -13,7 +13,8 @@ use borrow.Author.Rules.{rules}
 use Rattle.settle.proofs.settle.Given as goal
 
 abbrev pub invariant-loop-busy : goal.invariant-loop-busy
-invariant-loop-busy l = let b = built (held_rows l.row_conditions l.row_weights l.rows l.guard_bounds l.guard_nodes) l.nodes l.edges l.links in
+invariant-loop-busy l =
+    let b = built (held_rows l.row_conditions l.row_weights l.rows l.guard_bounds l.guard_nodes) l.nodes l.edges l.links in
     let v₀ = live_of l.initial.figures l.initial.cursors l.initial.sure l.initial.never l.initial.node_queue l.initial.row_queues l.initial.so_far.rings in
     let v = live_of l.figures l.cursors l.sure l.never l.node_queue l.row_queues l.so_far.rings in
     Settling l.bounds b v₀ l.so_far.step v
@@ -22,5 +23,6 @@ invariant-loop-busy l = let b = built (held_rows l.row_conditions l.row_weights 
     × (Tidy l.initial.figures l.initial.cursors → Tidy l.figures l.cursors)
 
 abbrev pub decreases-loop-busy : goal.decreases-loop-busy
-decreases-loop-busy l = let v = live_of l.figures l.cursors l.sure l.never l.node_queue l.row_queues l.so_far.rings in
+decreases-loop-busy l =
+    let v = live_of l.figures l.cursors l.sure l.never l.node_queue l.row_queues l.so_far.rings in
     left v

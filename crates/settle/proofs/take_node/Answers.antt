@@ -12,14 +12,17 @@ use borrow.Author.Rules.{rules}
 use Rattle.settle.proofs.take_node.Goals as goal
 
 pub oldest_node-node-requires : goal.oldest_node-node-requires
-oldest_node-node-requires c = let h = c.requires.1.sound.waits.held in
+oldest_node-node-requires c =
+    let h = c.requires.1.sound.waits.held in
     omega (arith, h.head, h.long)
 
 pub popped-next-requires : goal.popped-next-requires
-popped-next-requires c = (c.requires.1.sound.waits.held.head, c.requires.0.1)
+popped-next-requires c =
+    (c.requires.1.sound.waits.held.head, c.requires.0.1)
 
 pub guard_at-told-requires : goal.guard_at-told-requires
-guard_at-told-requires c = let w = c.requires in
+guard_at-told-requires c =
+    let w = c.requires in
     let s = w.0.0.2 in
     let o = c.oldest_node-node in
     let p = c.popped-next in
@@ -27,7 +30,8 @@ guard_at-told-requires c = let w = c.requires in
     ((s.shaped, s.guarded, t.there, t.small, s.linked.inside.rising), t.run)
 
 pub returns-then-contradicts : goal.returns-then-contradicts
-returns-then-contradicts c = let w = c.requires in
+returns-then-contradicts c =
+    let w = c.requires in
     let o = c.oldest_node-node in
     let p = c.popped-next in
     let g = c.guard_at-told in (
@@ -38,7 +42,8 @@ returns-then-contradicts c = let w = c.requires in
     )
 
 pub threshold_condition-ran-requires : goal.threshold_condition-ran-requires
-threshold_condition-ran-requires c = let w = c.requires in
+threshold_condition-ran-requires c =
+    let w = c.requires in
     let x = w.0.0.0 in
     let l = w.0.0.1 in
     let b = (λ links. built ((let a = c.args in held_rows a.row_conditions.now a.row_weights.now a.rows.now a.guard_bounds.now a.guard_nodes.now)) c.args.nodes.now c.args.edges.now links) l in
@@ -54,7 +59,8 @@ threshold_condition-ran-requires c = let w = c.requires in
     ((s.shaped, s.edged, t.there, t.small), run.ready)
 
 pub returns : goal.returns
-returns c = let w = c.requires in
+returns c =
+    let w = c.requires in
     let o = c.oldest_node-node in
     let p = c.popped-next in
     let g = c.guard_at-told in

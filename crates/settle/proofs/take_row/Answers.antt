@@ -11,15 +11,18 @@ use mathlib.Core.Path.{◌∙◌, refl}
 use Rattle.settle.proofs.take_row.Goals as goal
 
 pub oldest_row-row-requires : goal.oldest_row-row-requires
-oldest_row-row-requires c = (slots_head 0 c.args.row_queues.now c.args.rings.rows c.requires.1.dirty, omega arith)
+oldest_row-row-requires c =
+    (slots_head 0 c.args.row_queues.now c.args.rings.rows c.requires.1.dirty, omega arith)
 
 pub next_row-next-requires : goal.next_row-next-requires
-next_row-next-requires c = let f = c.requires.1.dirty in
+next_row-next-requires c =
+    let f = c.requires.1.dirty in
     let some = c.requires.0.2 in
     (omega arith, refl, f.held, some, slots_oldest 0 c.args.row_queues.now c.args.rings.rows f some)
 
 pub threshold_prefixes-requires : goal.threshold_prefixes-requires
-threshold_prefixes-requires c = let v = (let a = c.args in live_of a.figures.now a.cursors.now a.sure.now a.never.now a.node_queue.now a.row_queues.now a.rings) in
+threshold_prefixes-requires c =
+    let v = (let a = c.args in live_of a.figures.now a.cursors.now a.sure.now a.never.now a.node_queue.now a.row_queues.now a.rings) in
     let w = c.requires.0 in
     let n = c.next_row-next in
     let q = n.new.row_queues in
@@ -28,7 +31,8 @@ threshold_prefixes-requires c = let v = (let a = c.args in live_of a.figures.now
     ((w.0, w.1, i), row_run v w.2 (rows_in 0 q n.result) (rows_in 2 q r.residuals) n.ensures.0 (n.ensures.1 r.residuals) ((let a = c.args in held_rows a.row_conditions.now a.row_weights.now a.rows.now a.guard_bounds.now a.guard_nodes.now)) figure_limit c.requires.1)
 
 pub returns : goal.returns
-returns c = let v = (let a = c.args in live_of a.figures.now a.cursors.now a.sure.now a.never.now a.node_queue.now a.row_queues.now a.rings) in
+returns c =
+    let v = (let a = c.args in live_of a.figures.now a.cursors.now a.sure.now a.never.now a.node_queue.now a.row_queues.now a.rings) in
     let n = c.next_row-next in
     let q = n.new.row_queues in
     let r = c.args.rings in

@@ -9,21 +9,25 @@ use Rattle.theorem_keeps.specs.TurnLaws.{going_run, turn_is}
 use Rattle.settle.proofs.turn.Goals as goal
 
 pub take_row-requires : goal.take_row-requires
-take_row-requires c = let w = c.requires in
+take_row-requires c =
+    let w = c.requires in
     let s = w.0.0.1 in
     ((s.shaped, s.linked, w.0.1 c.if-count-eq0.true, w.1.within.tracked.dirty), going_run ((let a = c.args in held_rows a.row_conditions.now a.row_weights.now a.rows.now a.guard_bounds.now a.guard_nodes.now)) c.args.nodes.now ((let a = c.args in live_of a.figures.now a.cursors.now a.sure.now a.never.now a.node_queue.now a.row_queues.now a.rings)) w.1)
 
 pub returns-then-count-eq0 : goal.returns-then-count-eq0
-returns-then-count-eq0 c = let t = c.take_row in
+returns-then-count-eq0 c =
+    let t = c.take_row in
     let e = eq-eqb c.args.rings.nodes.count 0 c.if-count-eq0.true in
     (λ x s. turn_is x ((let a = c.args in live_of a.figures.now a.cursors.now a.sure.now a.never.now a.node_queue.now a.row_queues.now a.rings)) (did ((live_of c.take_row.new.figures c.take_row.new.cursors c.take_row.new.sure c.take_row.new.never c.take_row.new.node_queue c.take_row.new.row_queues c.take_row.result.rings)) t.result.step) true e (t.ensures.0 x s.holds s.holds_links), t.ensures.1)
 
 pub take_node-requires : goal.take_node-requires
-take_node-requires c = let w = c.requires in
+take_node-requires c =
+    let w = c.requires in
     (((w.0.0.0, c.args.links.now, w.0.0.1), omega (arith, c.if-count-eq0.false)), w.1)
 
 pub returns : goal.returns
-returns c = let t = c.take_node in
+returns c =
+    let t = c.take_node in
     let e = ne_eqb c.args.rings.nodes.count 0 c.if-count-eq0.false in
     (λ x s. turn_is x ((let a = c.args in live_of a.figures.now a.cursors.now a.sure.now a.never.now a.node_queue.now a.row_queues.now a.rings)) (did ((live_of c.take_node.new.figures c.take_node.new.cursors c.take_node.new.sure c.take_node.new.never c.take_node.new.node_queue c.take_node.new.row_queues c.take_node.result.rings)) t.result.step) false e (t.ensures.0 x c.args.links.now s), t.ensures.1)
 

@@ -16,7 +16,8 @@ use borrow.Author.Rules.{rules}
 use Rattle.sift.proofs.sift.Goals as goal
 
 pub loop-more-init : goal.loop-more-init
-loop-more-init c = (
+loop-more-init c =
+    (
       sifting_first c.args.bounds.now ((let a = c.args in built (held_rows a.row_conditions.now a.row_weights.now a.rows.now a.guard_bounds.now a.guard_nodes.now) a.nodes.now a.edges.now a.links.now)) ((let a = c.args in live_of a.figures.now a.cursors.now a.sure.now a.never.now a.node_queue.now a.row_queues.now a.rings)) c.args.gcds.now c.requires.1,
       c.requires.0.2,
       refl,
@@ -26,10 +27,12 @@ loop-more-init c = (
     )
 
 pub sift_once-round-requires : goal.sift_once-round-requires
-sift_once-round-requires c = ((c.requires.0.0, c.requires.0.1, c.loop-more.invariant.1), c.loop-more.invariant.0.going)
+sift_once-round-requires c =
+    ((c.requires.0.0, c.requires.0.1, c.loop-more.invariant.1), c.loop-more.invariant.0.going)
 
 pub returns-then-contradicts : goal.returns-then-contradicts
-returns-then-contradicts c = let a = c.args in
+returns-then-contradicts c =
+    let a = c.args in
     let l = c.loop-more in
     let t = c.sift_once-round in (
       sifting_stop a.bounds.now ((let a = c.args in built (held_rows a.row_conditions.now a.row_weights.now a.rows.now a.guard_bounds.now a.guard_nodes.now) a.nodes.now a.edges.now a.links.now)) ((let a = c.args in live_of a.figures.now a.cursors.now a.sure.now a.never.now a.node_queue.now a.row_queues.now a.rings)) a.gcds.now l.so_far.step l.so_far.visits l.more ((let l = c.loop-more in live_of l.figures l.cursors l.sure l.never l.node_queue l.row_queues l.so_far.rings)) l.gcds l.invariant.0 c.loop-more-test.true
@@ -39,14 +42,16 @@ returns-then-contradicts c = let a = c.args in
     )
 
 pub loop-more-smaller : goal.loop-more-smaller
-loop-more-smaller c = let a = c.args in
+loop-more-smaller c =
+    let a = c.args in
     let l = c.loop-more in
     let w = c.requires.0.0 in
     sifting_less a.bounds.now ((let a = c.args in built (held_rows a.row_conditions.now a.row_weights.now a.rows.now a.guard_bounds.now a.guard_nodes.now) a.nodes.now a.edges.now a.links.now)) ((let a = c.args in live_of a.figures.now a.cursors.now a.sure.now a.never.now a.node_queue.now a.row_queues.now a.rings)) a.gcds.now l.so_far.step l.so_far.visits l.more ((let l = c.loop-more in live_of l.figures l.cursors l.sure l.never l.node_queue l.row_queues l.so_far.rings)) l.gcds l.invariant.0 c.loop-more-test.true
     ((let r = c.sift_once-round.result in round (sifted (live_of c.sift_once-round.new.figures c.sift_once-round.new.cursors c.sift_once-round.new.sure c.sift_once-round.new.never c.sift_once-round.new.node_queue c.sift_once-round.new.row_queues r.rings) c.sift_once-round.new.gcds r.step r.visits) r.more)) c.sift_once-round.ensures.0 w.0 w.1
 
 pub loop-more-preserved : goal.loop-more-preserved
-loop-more-preserved c = let a = c.args in
+loop-more-preserved c =
+    let a = c.args in
     let l = c.loop-more in
     let w = c.requires.0.0 in
     let t = c.sift_once-round in
@@ -61,7 +66,8 @@ loop-more-preserved c = let a = c.args in
     )
 
 pub returns : goal.returns
-returns c = let a = c.args in
+returns c =
+    let a = c.args in
     let l = c.loop-more in (
       sifting_end a.bounds.now ((let a = c.args in built (held_rows a.row_conditions.now a.row_weights.now a.rows.now a.guard_bounds.now a.guard_nodes.now) a.nodes.now a.edges.now a.links.now)) ((let a = c.args in live_of a.figures.now a.cursors.now a.sure.now a.never.now a.node_queue.now a.row_queues.now a.rings)) a.gcds.now l.so_far.step l.so_far.visits l.more ((let l = c.loop-more in live_of l.figures l.cursors l.sure l.never l.node_queue l.row_queues l.so_far.rings)) l.gcds l.invariant.0 c.loop-more-test.false,
       l.invariant.5,

@@ -16,7 +16,8 @@ use borrow.Author.Rules.{rules}
 use Rattle.sift.proofs.sift.Given as goal
 
 abbrev pub invariant-loop-more : goal.invariant-loop-more
-invariant-loop-more l = let b = built (held_rows l.row_conditions l.row_weights l.rows l.guard_bounds l.guard_nodes) l.nodes l.edges l.links in
+invariant-loop-more l =
+    let b = built (held_rows l.row_conditions l.row_weights l.rows l.guard_bounds l.guard_nodes) l.nodes l.edges l.links in
     let v₀ = live_of l.initial.figures l.initial.cursors l.initial.sure l.initial.never l.initial.node_queue l.initial.row_queues l.initial.so_far.rings in
     let v = live_of l.figures l.cursors l.sure l.never l.node_queue l.row_queues l.so_far.rings in
     Sifting l.bounds b v₀ l.initial.gcds l.so_far.step l.so_far.visits l.more v l.gcds
@@ -27,5 +28,6 @@ invariant-loop-more l = let b = built (held_rows l.row_conditions l.row_weights 
     × (Tidy l.initial.figures l.initial.cursors → Tidy l.figures l.cursors)
 
 abbrev pub decreases-loop-more : goal.decreases-loop-more
-decreases-loop-more l = let v = live_of l.figures l.cursors l.sure l.never l.node_queue l.row_queues l.so_far.rings in
+decreases-loop-more l =
+    let v = live_of l.figures l.cursors l.sure l.never l.node_queue l.row_queues l.so_far.rings in
     left v + cond l.more 1 0

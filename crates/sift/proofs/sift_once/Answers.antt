@@ -11,26 +11,31 @@ use borrow.Author.Rules.{rules}
 use Rattle.sift.proofs.sift_once.Goals as goal
 
 pub settle-settled-requires : goal.settle-settled-requires
-settle-settled-requires c = (c.requires.0.0, c.requires.1)
+settle-settled-requires c =
+    (c.requires.0.0, c.requires.1)
 
 pub returns-then-contradicts : goal.returns-then-contradicts
-returns-then-contradicts c = let t = c.settle-settled in
+returns-then-contradicts c =
+    let t = c.settle-settled in
     (λ x s. once_stop x ((let a = c.args in live_of a.figures.now a.cursors.now a.sure.now a.never.now a.node_queue.now a.row_queues.now a.rings)) c.args.gcds.now c.args.visits ((let d = c.settle-settled.result in did (live_of c.settle-settled.new.figures c.settle-settled.new.cursors c.settle-settled.new.sure c.settle-settled.new.never c.settle-settled.new.node_queue c.settle-settled.new.row_queues d.rings) d.step)) (t.ensures.0 x s) (sym c.contradicts.ensures ∙ c.if-contradicts.true), t.ensures.1, refl)
 
 pub returns-then-count-eq0 : goal.returns-then-count-eq0
-returns-then-count-eq0 c = let t = c.settle-settled in
+returns-then-count-eq0 c =
+    let t = c.settle-settled in
     let e = eq-eqb t.result.rings.residuals.count 0 c.if-count-eq0.true in
     (λ x s. once-none x ((let a = c.args in live_of a.figures.now a.cursors.now a.sure.now a.never.now a.node_queue.now a.row_queues.now a.rings)) c.args.gcds.now c.args.visits ((let d = c.settle-settled.result in did (live_of c.settle-settled.new.figures c.settle-settled.new.cursors c.settle-settled.new.sure c.settle-settled.new.never c.settle-settled.new.node_queue c.settle-settled.new.row_queues d.rings) d.step)) (t.ensures.0 x s) (sym c.contradicts.ensures ∙ c.if-contradicts.false) e, t.ensures.1, refl)
 
 pub try_row-tried-requires : goal.try_row-tried-requires
-try_row-tried-requires c = let w = c.requires in
+try_row-tried-requires c =
+    let w = c.requires in
     let x = w.0.0.0 in
     let s = w.0.0.1 in
     let v = settled_tries x c.args.bounds.now ((let a = c.args in built (held_rows a.row_conditions.now a.row_weights.now a.rows.now a.guard_bounds.now a.guard_nodes.now) a.nodes.now a.edges.now a.links.now)) s ((let a = c.args in live_of a.figures.now a.cursors.now a.sure.now a.never.now a.node_queue.now a.row_queues.now a.rings)) w.1 ((let d = c.settle-settled.result in did (live_of c.settle-settled.new.figures c.settle-settled.new.cursors c.settle-settled.new.sure c.settle-settled.new.never c.settle-settled.new.node_queue c.settle-settled.new.row_queues d.rings) d.step)) (c.settle-settled.ensures.0 x s) (omega (arith, c.if-count-eq0.false)) in
     (c.args.guard_bounds.now, c.args.guard_nodes.now, v c.args.gcds.now c.args.search.now w.0.1 w.0.2)
 
 pub returns : goal.returns
-returns c = let a = c.args in
+returns c =
+    let a = c.args in
     let t = c.settle-settled in
     let o = c.try_row-tried in
     let e = ne_eqb t.result.rings.residuals.count 0 c.if-count-eq0.false in (

@@ -18,23 +18,28 @@ use Rattle.sift.proofs.try_row.Goals.{After-terms_end-e}
 
 -- Its terms lie in the buffers, and are few.
 cut : (p : After-terms_end-e) → Cut ((let a = p.args in held_rows a.row_conditions.now a.row_weights.now a.rows.now p.requires.0 p.requires.1)) p.terms_start-a.result p.terms_end-e.result
-cut p = let a = p.terms_start-a in
+cut p =
+    let a = p.terms_start-a in
     let e = p.terms_end-e in
     try_cut ((let a = p.args in held_rows a.row_conditions.now a.row_weights.now a.rows.now p.requires.0 p.requires.1)) ((let a = p.args in live_of a.figures.now a.cursors.now a.sure.now a.never.now a.node_queue.now a.row_queues.now a.rings)) p.args.gcds.now p.args.search.now p.requires.2 p.oldest_row-row.result p.oldest_row-row.ensures a.result e.result a.ensures.0 e.ensures.0
 
 pub oldest_row-row-requires : goal.oldest_row-row-requires
-oldest_row-row-requires c = (slots_head 2 c.args.row_queues.now c.args.rings.residuals c.requires.2.ready.flags, omega arith)
+oldest_row-row-requires c =
+    (slots_head 2 c.args.row_queues.now c.args.rings.residuals c.requires.2.ready.flags, omega arith)
 
 pub next_row-left-requires : goal.next_row-left-requires
-next_row-left-requires c = let t = c.requires.2 in
+next_row-left-requires c =
+    let t = c.requires.2 in
     let f = t.ready.flags in
     (omega arith, refl, f.held, t.some, slots_oldest 2 c.args.row_queues.now c.args.rings.residuals f t.some)
 
 pub load-state-requires : goal.load-state-requires
-load-state-requires c = try_state ((let a = c.args in held_rows a.row_conditions.now a.row_weights.now a.rows.now c.requires.0 c.requires.1)) ((let a = c.args in live_of a.figures.now a.cursors.now a.sure.now a.never.now a.node_queue.now a.row_queues.now a.rings)) c.args.gcds.now c.args.search.now c.requires.2 c.oldest_row-row.result c.oldest_row-row.ensures
+load-state-requires c =
+    try_state ((let a = c.args in held_rows a.row_conditions.now a.row_weights.now a.rows.now c.requires.0 c.requires.1)) ((let a = c.args in live_of a.figures.now a.cursors.now a.sure.now a.never.now a.node_queue.now a.row_queues.now a.rings)) c.args.gcds.now c.args.search.now c.requires.2 c.oldest_row-row.result c.oldest_row-row.ensures
 
 pub try_terms-tried-requires : goal.try_terms-tried-requires
-try_terms-tried-requires c = let t = c.requires.2 in
+try_terms-tried-requires c =
+    let t = c.requires.2 in
     let o = c.oldest_row-row in
     let a = c.terms_start-a in
     let e = c.terms_end-e in
@@ -43,7 +48,8 @@ try_terms-tried-requires c = let t = c.requires.2 in
     (slices, (cut (goal.at.try_terms-tried-requires c).After-terms_end-e).few, figures, t.ready.waits, t.scratch)
 
 pub returns : goal.returns
-returns c = let o = c.oldest_row-row in
+returns c =
+    let o = c.oldest_row-row in
     let a = c.terms_start-a in
     let e = c.terms_end-e in
     let v = (let a = c.args in live_of a.figures.now a.cursors.now a.sure.now a.never.now a.node_queue.now a.row_queues.now a.rings) in

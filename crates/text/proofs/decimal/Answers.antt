@@ -9,7 +9,8 @@ use borrow.Author.Rules.{rules}
 use Rattle.text.proofs.decimal.Goals as goal
 
 pub returns-then-n-lt100000000 : goal.returns-then-n-lt100000000
-returns-then-n-lt100000000 c = let n = c.args.n in
+returns-then-n-lt100000000 c =
+    let n = c.args.n in
     let from : 10000 ≤ n = omega (arith, c.if-n-lt10000.false) in
     let below : n < 100000000 = omega (arith, c.if-n-lt100000000.true) in
     let h : c.args.at ≤ length c.args.out.now = omega (arith, c.requires) in

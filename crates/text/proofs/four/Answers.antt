@@ -7,5 +7,6 @@ use borrow.Author.Rules.{rules}
 use Rattle.text.proofs.four.Goals as goal
 
 pub returns : goal.returns
-returns c = let h : c.args.at ≤ length c.args.out.now = omega arith in
+returns c =
+    let h : c.args.at ≤ length c.args.out.now = omega arith in
     wrote_then h c.two-next.ensures c.two.ensures

@@ -7,5 +7,6 @@ use Rattle.text.specs.TextLaws.{wrote_then}
 use Rattle.text.proofs.labelled.Goals as goal
 
 pub returns : goal.returns
-returns c = let h : c.args.at ≤ length c.args.out.now = omega arith in
+returns c =
+    let h : c.args.at ≤ length c.args.out.now = omega arith in
     wrote_then h c.put-next.ensures c.decimal.ensures

@@ -11,7 +11,8 @@ use borrow.Author.Rules.{rules}
 use Rattle.text.proofs.long.Goals as goal
 
 pub returns : goal.returns
-returns c = let d = c.digits-first in
+returns c =
+    let d = c.digits-first in
     let l = c.digits-first.new.into in
     let e : take (20 - d.result) (drop d.result l) ≡ decimal c.args.n =
     take_all (20 - d.result) (drop d.result l) (omega (arith, length-drop d.result l, d.auto.into)) ∙ d.ensures.1 in

@@ -7,6 +7,7 @@ use borrow.Author.Rules.{rules}
 use Rattle.text.proofs.one.Goals as goal
 
 pub returns : goal.returns
-returns c = let a = c.args in
+returns c =
+    let a = c.args in
     let d = a.out.now in
     wrote_one d (set d a.at c.digit.result) a.at (unit a.n) _ c.requires (ap (set d a.at) c.digit.ensures) refl

@@ -11,12 +11,14 @@ pub loop-i-init : goal.loop-i-init
 loop-i-init c = (omega arith, refl, paste-zero c.args.out.now c.args.at c.args.text.now)
 
 pub loop-i-preserved : goal.loop-i-preserved
-loop-i-preserved c = let a = c.args in
+loop-i-preserved c =
+    let a = c.args in
     let w = c.loop-i in
     (omega arith, simp length-set (omega arith), put_next a.out.now w.out a.at a.text.now w.i (omega arith) (omega arith) w.invariant.2)
 
 pub returns : goal.returns
-returns c = let a = c.args in
+returns c =
+    let a = c.args in
     let w = c.loop-i in
     put_done a.out.now w.out a.at a.text.now w.i (omega arith) w.invariant.2
 

@@ -15,12 +15,14 @@ use Rattle.text.specs.NumberLaws.{held, signed_below, signed_from}
 use Rattle.text.proofs.signed.Goals as goal
 
 pub returns-then-z-lt0 : goal.returns-then-z-lt0
-returns-then-z-lt0 c = let h : c.args.at ≤ length c.args.out.now = omega arith in
+returns-then-z-lt0 c =
+    let h : c.args.at ≤ length c.args.out.now = omega arith in
     let f : SFits w64 c.args.z = search rules in
     let e : held c.args.z ≡ c.args.z = to_z-of_z {w = w64} f in
     wrote_as (omega arith) (ap (λ (n : ℕ). 45 ∷ decimal n) (c.magnitude-n.ensures ∙ ap nat_abs e) ∙ sym (signed_below c.args.z (rw e at c.if-z-lt0.true))) (wrote_then h c.put-next.ensures c.decimal.ensures)
 
 pub returns : goal.returns
-returns c = let f : SFits w64 c.args.z = search rules in
+returns c =
+    let f : SFits w64 c.args.z = search rules in
     let e : held c.args.z ≡ c.args.z = to_z-of_z {w = w64} f in
     wrote_as (omega arith) (ap (λ (n : ℕ). decimal n) (c.magnitude-n.ensures ∙ ap nat_abs e) ∙ sym (signed_from c.args.z (rw e at c.if-z-lt0.false))) c.decimal-2.ensures

@@ -16,7 +16,8 @@ use borrow.Author.Rules.{rules}
 use Rattle.thresholds.proofs.build_at.Goals as goal
 
 pub build_row-count-requires : goal.build_row-count-requires
-build_row-count-requires c = let g = c.args in
+build_row-count-requires c =
+    let g = c.args in
     let p = c.requires in
     let cs = g.raw_conditions.now in
     let ws = g.raw_weights.now in
@@ -36,7 +37,8 @@ build_row-count-requires c = let g = c.args in
     )
 
 pub returns : goal.returns
-returns c = let g = c.args in
+returns c =
+    let g = c.args in
     let p = c.requires in
     let cs = g.raw_conditions.now in
     let ws = g.raw_weights.now in

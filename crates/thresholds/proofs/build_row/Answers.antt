@@ -13,7 +13,8 @@ use borrow.Author.Rules.{rules}
 use Rattle.thresholds.proofs.build_row.Goals as goal
 
 pub new_row-requires : goal.new_row-requires
-new_row-requires c = let g = c.args in
+new_row-requires c =
+    let g = c.args in
     let p = c.requires in
     let k = c.copy_list.ensures in
     let r : Raw g.raw_conditions.now g.raw_weights.now = record {
@@ -25,7 +26,8 @@ new_row-requires c = let g = c.args in
     (raw_by _ _ _ _ k.0 k.1 r, subst (λ (n : ℕ). n ≤ length g.scratch.now) (sym (ap length k.0)) p.4)
 
 pub returns : goal.returns
-returns c = let g = c.args in
+returns c =
+    let g = c.args in
     let k = c.copy_list.ensures in
     let s = c.new_row.ensures in
     let a = s.1 ∙ ap₂ (λ (cs ws : List ℕ). laid (length cs) (conditions_of (row_terms (terms cs ws)))) k.0 k.1 in

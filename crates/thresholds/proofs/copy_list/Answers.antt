@@ -12,17 +12,20 @@ pub loop-i-init : goal.loop-i-init
 loop-i-init c = (search rules, refl, refl, refl, refl)
 
 pub bounds-row_conditions-i : goal.bounds-row_conditions-i
-bounds-row_conditions-i c = let p = c.requires in
+bounds-row_conditions-i c =
+    let p = c.requires in
     let v = c.loop-i.invariant in
     omega (arith, p.1, v.3, c.loop-i-test.true)
 
 pub bounds-row_weights-i : goal.bounds-row_weights-i
-bounds-row_weights-i c = let p = c.requires in
+bounds-row_weights-i c =
+    let p = c.requires in
     let v = c.loop-i.invariant in
     omega (arith, p.2, v.4, c.loop-i-test.true)
 
 pub loop-i-preserved : goal.loop-i-preserved
-loop-i-preserved c = let g = c.args in
+loop-i-preserved c =
+    let g = c.args in
     let w = c.loop-i in
     let p = c.requires in
     let t = c.loop-i-test.true in (
@@ -40,7 +43,8 @@ pub shape_of-row_weights : goal.shape_of-row_weights
 shape_of-row_weights c = c.loop-i.invariant.4
 
 pub returns : goal.returns
-returns c = let g = c.args in
+returns c =
+    let g = c.args in
     let w = c.loop-i in
     let p = c.requires in
     let t = c.loop-i-test.false in (

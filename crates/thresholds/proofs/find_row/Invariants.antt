@@ -15,7 +15,8 @@ use borrow.Author.Rules.{rules}
 use Rattle.thresholds.proofs.find_row.Given as goal
 
 abbrev pub invariant-loop-k : goal.invariant-loop-k
-invariant-loop-k l = Searching (raw_lists l.raw_conditions l.raw_weights l.thresholds) l.marks l.heads (list_at (raw_lists l.raw_conditions l.raw_weights l.thresholds) l.t) l.k l.p l.rest l.link
+invariant-loop-k l =
+    Searching (raw_lists l.raw_conditions l.raw_weights l.thresholds) l.marks l.heads (list_at (raw_lists l.raw_conditions l.raw_weights l.thresholds) l.t) l.k l.p l.rest l.link
     × (l.word ≡ word_at (list_at (raw_lists l.raw_conditions l.raw_weights l.thresholds) l.t) l.p)
 
 abbrev pub decreases-loop-k : goal.decreases-loop-k

@@ -24,7 +24,8 @@ pub overflow_add-mixed : goal.overflow_add-mixed
 overflow_add-mixed c = omega (arith, c.shared_slice_known-1.given c.loop-i.i)
 
 pub overflow_add-mixed-in-loop-i : goal.overflow_add-mixed-in-loop-i
-overflow_add-mixed-in-loop-i c = let i = c.loop-i.i in
+overflow_add-mixed-in-loop-i c =
+    let i = c.loop-i.i in
     omega (arith, c.requires.2 i, c.shared_slice_known-1.given i)
 
 pub loop-i-preserved : goal.loop-i-preserved

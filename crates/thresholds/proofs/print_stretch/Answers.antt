@@ -7,7 +7,8 @@ use borrow.Author.Rules.{rules}
 use Rattle.thresholds.proofs.print_stretch.Goals as goal
 
 pub fingerprint-requires : goal.fingerprint-requires
-fingerprint-requires c = let g = c.args in
+fingerprint-requires c =
+    let g = c.args in
     let p = c.requires in
     let cs = g.raw_conditions.now in
     let ws = g.raw_weights.now in

@@ -13,14 +13,16 @@ use borrow.Author.Rules.{rules}
 use Rattle.thresholds.proofs.word_at.Goals as goal
 
 pub overflow_sub-e : goal.overflow_sub-e
-overflow_sub-e c = let g = c.args in
+overflow_sub-e c =
+    let g = c.args in
     let p = c.requires in
     let a = c.start_of-a.ensures in
     let e = c.end_of-e.ensures in
     omega (arith, p.0.rising g.t p.1)
 
 pub returns-then-p-e : goal.returns-then-p-e
-returns-then-p-e c = let g = c.args in
+returns-then-p-e c =
+    let g = c.args in
     let p = c.requires in
     let a = c.start_of-a.ensures in
     let e = c.end_of-e.ensures in
@@ -28,7 +30,8 @@ returns-then-p-e c = let g = c.args in
     ∙ word_past g.raw_conditions.now g.raw_weights.now _ _ g.p p.0.weighed (omega (arith, p.0.inside g.t p.1)) c.if-p-e.true)
 
 pub offset_bounds-raw_conditions-i : goal.offset_bounds-raw_conditions-i
-offset_bounds-raw_conditions-i c = let g = c.args in
+offset_bounds-raw_conditions-i c =
+    let g = c.args in
     let p = c.requires in
     let a = c.start_of-a.result in
     let ea = c.start_of-a.ensures in
@@ -37,7 +40,8 @@ offset_bounds-raw_conditions-i c = let g = c.args in
     record { fits = omega (arith, p.0.inside g.t p.1, p.0.rising g.t p.1, p.0.light (a + g.p), h) }
 
 pub bounds-raw_conditions-i : goal.bounds-raw_conditions-i
-bounds-raw_conditions-i c = let g = c.args in
+bounds-raw_conditions-i c =
+    let g = c.args in
     let p = c.requires in
     let a = c.start_of-a.result in
     let ea = c.start_of-a.ensures in
@@ -46,7 +50,8 @@ bounds-raw_conditions-i c = let g = c.args in
     omega (arith, p.0.inside g.t p.1, p.0.rising g.t p.1, p.0.light (a + g.p), h)
 
 pub overflow_cast-result : goal.overflow_cast-result
-overflow_cast-result c = let g = c.args in
+overflow_cast-result c =
+    let g = c.args in
     let p = c.requires in
     let a = c.start_of-a.result in
     let ea = c.start_of-a.ensures in
@@ -55,7 +60,8 @@ overflow_cast-result c = let g = c.args in
     omega (arith, p.0.inside g.t p.1, p.0.rising g.t p.1, p.0.light (a + g.p), c.shared_slice_known-3-1.given (a + g.p), h)
 
 pub overflow_add-result : goal.overflow_add-result
-overflow_add-result c = let g = c.args in
+overflow_add-result c =
+    let g = c.args in
     let p = c.requires in
     let a = c.start_of-a.result in
     let ea = c.start_of-a.ensures in
@@ -64,7 +70,8 @@ overflow_add-result c = let g = c.args in
     record { fits = omega (arith, p.0.inside g.t p.1, p.0.rising g.t p.1, p.0.light (a + g.p), c.shared_slice_known-3-1.given (a + g.p), h) }
 
 pub offset_bounds-raw_weights-i : goal.offset_bounds-raw_weights-i
-offset_bounds-raw_weights-i c = let g = c.args in
+offset_bounds-raw_weights-i c =
+    let g = c.args in
     let p = c.requires in
     let a = c.start_of-a.result in
     let ea = c.start_of-a.ensures in
@@ -73,7 +80,8 @@ offset_bounds-raw_weights-i c = let g = c.args in
     record { fits = omega (arith, p.0.inside g.t p.1, p.0.rising g.t p.1, p.0.light (a + g.p), h) }
 
 pub bounds-raw_weights-i : goal.bounds-raw_weights-i
-bounds-raw_weights-i c = let g = c.args in
+bounds-raw_weights-i c =
+    let g = c.args in
     let p = c.requires in
     let a = c.start_of-a.result in
     let ea = c.start_of-a.ensures in
@@ -82,7 +90,8 @@ bounds-raw_weights-i c = let g = c.args in
     omega (arith, p.0.inside g.t p.1, p.0.rising g.t p.1, p.0.light (a + g.p), h)
 
 pub overflow_mul-result : goal.overflow_mul-result
-overflow_mul-result c = let g = c.args in
+overflow_mul-result c =
+    let g = c.args in
     let p = c.requires in
     let a = c.start_of-a.result in
     let ea = c.start_of-a.ensures in
@@ -91,7 +100,8 @@ overflow_mul-result c = let g = c.args in
     record { fits = omega (arith, p.0.inside g.t p.1, p.0.rising g.t p.1, p.0.light (a + g.p), h) }
 
 pub overflow_add-result-2 : goal.overflow_add-result-2
-overflow_add-result-2 c = let g = c.args in
+overflow_add-result-2 c =
+    let g = c.args in
     let p = c.requires in
     let a = c.start_of-a.result in
     let ea = c.start_of-a.ensures in
@@ -100,7 +110,8 @@ overflow_add-result-2 c = let g = c.args in
     record { fits = omega (arith, p.0.inside g.t p.1, p.0.rising g.t p.1, p.0.light (a + g.p), c.shared_slice_known-3-1.given (a + g.p), h) }
 
 pub returns : goal.returns
-returns c = let g = c.args in
+returns c =
+    let g = c.args in
     let p = c.requires in
     let a = c.start_of-a.ensures in
     let e = c.end_of-e.ensures in

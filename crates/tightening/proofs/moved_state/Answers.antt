@@ -6,5 +6,6 @@ use Rattle.tightening.specs.Told.{moved_upper}
 use Rattle.tightening.proofs.moved_state.Goals as goal
 
 pub returns : goal.returns
-returns c = let a = c.args in
+returns c =
+    let a = c.args in
     c.moved_upper.ensures ∙ ap (λ (t : Tightened). moved_upper a.source t a.from a.to) c.moved_lower-raised.ensures

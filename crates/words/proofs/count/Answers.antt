@@ -14,25 +14,29 @@ pub loop-i-init : goal.loop-i-init
 loop-i-init c = (omega arith, sym (count_none c.args.mask.now))
 
 pub overflow_cast-sum : goal.overflow_cast-sum
-overflow_cast-sum c = let m = c.args.mask.now in
+overflow_cast-sum c =
+    let m = c.args.mask.now in
     let i = c.loop-i.i in
     let h : get_or m i 0 < 2 ^ 64 = omega (arith, c.shared_slice_known-1.given i) in
     omega (arith, ones-le 64 (get_or m i 0) h)
 
 pub overflow_add-sum : goal.overflow_add-sum
-overflow_add-sum c = let m = c.args.mask.now in
+overflow_add-sum c =
+    let m = c.args.mask.now in
     let i = c.loop-i.i in
     let h : get_or m i 0 < 2 ^ 64 = omega (arith, c.shared_slice_known-1.given i) in
     omega (arith, ones-le 64 (get_or m i 0) h, count-le m (64 * i))
 
 pub loop-i-preserved : goal.loop-i-preserved
-loop-i-preserved c = let m = c.args.mask.now in
+loop-i-preserved c =
+    let m = c.args.mask.now in
     let w = c.loop-i in
     let h : get_or m w.i 0 < 2 ^ 64 = omega (arith, c.shared_slice_known-1.given w.i) in
     (omega arith, ap (λ (x : ℕ). x + ones (get_or m w.i 0)) w.invariant.1 ∙ sym (count_ones m w.i h))
 
 pub returns : goal.returns
-returns c = let m = c.args.mask.now in
+returns c =
+    let m = c.args.mask.now in
     let w = c.loop-i in
     let e : w.i ≡ length m = omega arith in
     w.invariant.1 ∙ ap (λ (x : ℕ). count m (64 * x)) e

@@ -11,18 +11,21 @@ use Rattle.words.specs.ShiftStepsLaws.{length_shift, from_none, from_stopped, fr
 use Rattle.words.proofs.union_shifted_until_hit.Goals as goal
 
 pub loop-source-init : goal.loop-source-init
-loop-source-init c = let g = c.args in
+loop-source-init c =
+    let g = c.args in
     let r = c.readable_words-source.ensures in
     (refl, omega arith, from_start g.shift g.start g.end g.words.now g.source_words g.allowance c.readable_words-source.result r)
 
 pub returns-then-left-eq0 : goal.returns-then-left-eq0
-returns-then-left-eq0 c = let g = c.args in
+returns-then-left-eq0 c =
+    let g = c.args in
     let w = c.loop-source in
     let e = sym w.invariant.2 ∙ from_stopped g.shift g.start g.end w.words w.source w.left c.loop-source-test.true c.if-left-eq0.true in
     (ap (λ (x : Shifted). x.words) (sym e), ap (λ (x : Shifted). x.ended) (sym e))
 
 pub returns-then-shift_word : goal.returns-then-shift_word
-returns-then-shift_word c = let g = c.args in
+returns-then-shift_word c =
+    let g = c.args in
     let w = c.loop-source in
     let k = c.shift_word.ensures in
     let e = sym w.invariant.2
@@ -31,7 +34,8 @@ returns-then-shift_word c = let g = c.args in
     (k.0 ∙ ap (λ (x : Shifted). x.words) (sym e), ap (λ (x : Shifted). x.ended) (sym e))
 
 pub loop-source-preserved : goal.loop-source-preserved
-loop-source-preserved c = let g = c.args in
+loop-source-preserved c =
+    let g = c.args in
     let w = c.loop-source in
     let k = c.shift_word.ensures in (
       ap length k.0 ∙ length_shift w.words (w.source - 1) g.shift ∙ w.invariant.0,
@@ -43,7 +47,8 @@ loop-source-preserved c = let g = c.args in
     )
 
 pub returns : goal.returns
-returns c = let g = c.args in
+returns c =
+    let g = c.args in
     let w = c.loop-source in
     let e = sym w.invariant.2 ∙ from_none g.shift g.start g.end w.words w.source w.left (omega arith) in
     (ap (λ (x : Shifted). x.words) (sym e), ap (λ (x : Shifted). x.ended) (sym e))

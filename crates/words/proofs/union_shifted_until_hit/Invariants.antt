@@ -10,7 +10,8 @@ use Rattle.words.specs.ShiftStepsLaws.{length_shift, from_none, from_stopped, fr
 use Rattle.words.proofs.union_shifted_until_hit.Given as goal
 
 abbrev pub invariant-loop-source : goal.invariant-loop-source
-invariant-loop-source l = (length l.words ≡ length l.initial.words) × (l.source ≤ length l.initial.words - l.shift / 64)
+invariant-loop-source l =
+    (length l.words ≡ length l.initial.words) × (l.source ≤ length l.initial.words - l.shift / 64)
     × (shift_from l.shift l.start l.end l.source l.words l.left ≡ union_shifted l.initial.words l.source_words l.shift l.start l.end l.allowance)
 
 abbrev pub decreases-loop-source : goal.decreases-loop-source

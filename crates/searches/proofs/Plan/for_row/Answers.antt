@@ -26,7 +26,8 @@ pub has_nonunit-requires : goal.has_nonunit-requires
 has_nonunit-requires c = sym c.requires.0
 
 pub returns-then-not-has_nonunit : goal.returns-then-not-has_nonunit
-returns-then-not-has_nonunit c = let g = c.args in
+returns-then-not-has_nonunit c =
+    let g = c.args in
     sym
     (plan-unit (terms g.conditions.now g.weights.now) g.state
     (sym c.has_nonunit.ensures ∙ not-true c.has_nonunit.result c.if-not-has_nonunit.true-raw))
@@ -36,17 +37,20 @@ heavy : (c : Else-not-has_nonunit) → has_nonunit (terms c.args.conditions.now 
 heavy c = sym c.has_nonunit.ensures ∙ not-false c.has_nonunit.result c.if-not-has_nonunit.false-raw
 
 pub returns-then-not-has_residual_interval : goal.returns-then-not-has_residual_interval
-returns-then-not-has_residual_interval c = let g = c.args in
+returns-then-not-has_residual_interval c =
+    let g = c.args in
     sym
     (plan_wide (terms g.conditions.now g.weights.now) g.state (heavy (goal.at.returns-then-not-has_residual_interval c).Else-not-has_nonunit)
     (sym c.has_residual_interval.ensures ∙ not-true c.has_residual_interval.result c.if-not-has_residual_interval.true-raw))
 
 pub returns-in_default : goal.returns-in_default
-returns-in_default c = let g = c.args in
+returns-in_default c =
+    let g = c.args in
     sym (plan_wide (terms g.conditions.now g.weights.now) g.state (heavy (goal.at.returns-in_default c).Else-not-has_nonunit) (open_wide g.state c.in_default.is))
 
 pub returns-then-limit-known : goal.returns-then-limit-known
-returns-then-limit-known c = let g = c.args in
+returns-then-limit-known c =
+    let g = c.args in
     let s = g.state in
     let hk : to_z w64 (of_z w64 s.known) ≡ s.known = search rules in
     let hb : to_z w64 (of_z w64 c.in-Under.limit) ≡ c.in-Under.limit = search rules in
@@ -55,20 +59,23 @@ returns-then-limit-known c = let g = c.args in
     (subst (λ (u : Upper). lt_z s.known (limit u) ≡ false) (sym c.in-Under.is) (le_z-nlt s.known c.in-Under.limit (simp (hk, hb) at c.if-limit-known.true))))
 
 pub overflow_sub-state : goal.overflow_sub-state
-overflow_sub-state c = let s = c.args.state in
+overflow_sub-state c =
+    let s = c.args.state in
     let hk : to_z w64 (of_z w64 s.known) ≡ s.known = search rules in
     let hb : to_z w64 (of_z w64 c.in-Under.limit) ≡ c.in-Under.limit = search rules in
     let hl : to_z w64 (of_z w64 s.lower) ≡ s.lower = search rules in
     simp (hk, hl) (lower_known s c.in-Under.limit c.requires.2 c.in-Under.is)
 
 pub overflow_sub-limit : goal.overflow_sub-limit
-overflow_sub-limit c = let s = c.args.state in
+overflow_sub-limit c =
+    let s = c.args.state in
     let hk : to_z w64 (of_z w64 s.known) ≡ s.known = search rules in
     let hb : to_z w64 (of_z w64 c.in-Under.limit) ≡ c.in-Under.limit = search rules in
     simp (hk, hb) (limit-known s c.in-Under.limit c.requires.2 c.in-Under.is)
 
 pub overflow_sub-limit-2 : goal.overflow_sub-limit-2
-overflow_sub-limit-2 c = let s = c.args.state in
+overflow_sub-limit-2 c =
+    let s = c.args.state in
     let hk : to_z w64 (of_z w64 s.known) ≡ s.known = search rules in
     let hb : to_z w64 (of_z w64 c.in-Under.limit) ≡ c.in-Under.limit = search rules in
     let hd = to_z-of_z (limit-known s c.in-Under.limit c.requires.2 c.in-Under.is) in
@@ -90,7 +97,8 @@ numbers : (c : After-natural-maximum) → (has_nonunit (terms c.args.conditions.
     × (c.natural-lower.result ≡ natural (c.args.state.lower -ℤ c.args.state.known))
     × (c.natural-maximum.result ≡ natural (limit c.args.state.upper -ℤ c.args.state.known -ℤ pos 1))
     × (length c.args.weights.now ≡ length (terms c.args.conditions.now c.args.weights.now))
-numbers c = let g = c.args in
+numbers c =
+    let g = c.args in
     let p = c.requires in
     let s = c.args.state in
     let hk : to_z w64 (of_z w64 s.known) ≡ s.known = search rules in
@@ -108,14 +116,16 @@ numbers c = let g = c.args in
     )
 
 pub returns-then-words-visits : goal.returns-then-words-visits
-returns-then-words-visits c = let n = numbers (goal.at.returns-then-words-visits c).After-natural-maximum in
+returns-then-words-visits c =
+    let n = numbers (goal.at.returns-then-words-visits c).After-natural-maximum in
     let g = c.args in
     sym
     (not-planned (terms g.conditions.now g.weights.now) g.state n.0 n.1 n.2 c.natural-lower.result c.natural-maximum.result (length g.weights.now)
     n.3 n.4 n.5 (omega (arith, c.if-words-visits.true)))
 
 pub returns : goal.returns
-returns c = let n = numbers (goal.at.returns c).After-natural-maximum in
+returns c =
+    let n = numbers (goal.at.returns c).After-natural-maximum in
     let g = c.args in
     sym
     (is_planned (terms g.conditions.now g.weights.now) g.state n.0 n.1 n.2 c.natural-lower.result c.natural-maximum.result (length g.weights.now)

@@ -8,14 +8,16 @@ use Rattle.state.proofs.State.conflict.Goals as goal
 
 pub returns-then-lower-possible : goal.returns-then-lower-possible
 unfolding conflict
-returns-then-lower-possible c = let s = c.args.self in
+returns-then-lower-possible c =
+    let s = c.args.self in
     let hp : to_z w64 (of_z w64 s.possible) ≡ s.possible = search rules in
     let hl : to_z w64 (of_z w64 s.lower) ≡ s.lower = search rules in
     simp (simp (hp, hl) at c.if-lower-possible.true)
 
 pub returns : goal.returns
 unfolding conflict
-returns c = let s = c.args.self in
+returns c =
+    let s = c.args.self in
     let hp : to_z w64 (of_z w64 s.possible) ≡ s.possible = search rules in
     let hl : to_z w64 (of_z w64 s.lower) ≡ s.lower = search rules in
     let reach = c.reached-reached.result in

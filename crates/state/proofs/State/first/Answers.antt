@@ -11,5 +11,6 @@ use Rattle.state.proofs.State.first.Goals as goal
 
 pub returns : goal.returns
 unfolding first_state
-returns c = let h : to_z w64 c.args.total ≡ pos c.args.total = to_z_pos w64 (omega (arith, c.requires)) in
+returns c =
+    let h : to_z w64 c.args.total ≡ pos c.args.total = to_z_pos w64 (omega (arith, c.requires)) in
     simp h

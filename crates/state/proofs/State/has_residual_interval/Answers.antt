@@ -8,7 +8,8 @@ use Rattle.state.proofs.State.has_residual_interval.Goals as goal
 
 pub returns-then-lower-known : goal.returns-then-lower-known
 unfolding has_residual_interval
-returns-then-lower-known c = let s = c.args.self in
+returns-then-lower-known c =
+    let s = c.args.self in
     let hk : to_z w64 (of_z w64 s.known) ≡ s.known = search rules in
     let hl : to_z w64 (of_z w64 s.lower) ≡ s.lower = search rules in
     let hp : to_z w64 (of_z w64 s.possible) ≡ s.possible = search rules in
@@ -17,7 +18,8 @@ returns-then-lower-known c = let s = c.args.self in
 
 pub returns : goal.returns
 unfolding has_residual_interval
-returns c = let s = c.args.self in
+returns c =
+    let s = c.args.self in
     let hk : to_z w64 (of_z w64 s.known) ≡ s.known = search rules in
     let hl : to_z w64 (of_z w64 s.lower) ≡ s.lower = search rules in
     simp (simp (hk, hl) at c.if-lower-known.false)

@@ -7,7 +7,8 @@ use Rattle.base.specs.SignedLaws.{lt_z-not}
 use Rattle.state.proofs.State.needs_lower.Goals as goal
 
 pub returns : goal.returns
-returns c = let s = c.args.self in
+returns c =
+    let s = c.args.self in
     let b = c.args.bound in
     let hb : to_z w64 (of_z w64 b) ≡ b = search rules in
     let hl : to_z w64 (of_z w64 s.lower) ≡ s.lower = search rules in

@@ -6,7 +6,8 @@ use borrow.Author.Rules.{rules}
 use Rattle.state.proofs.State.upper_at_most.Goals as goal
 
 pub returns-in-Under : goal.returns-in-Under
-returns-in-Under c = let b = c.args.bound in
+returns-in-Under c =
+    let b = c.args.bound in
     let hb : to_z w64 (of_z w64 b) ≡ b = search rules in
     let hu : to_z w64 (of_z w64 c.in-Under.limit) ≡ c.in-Under.limit = search rules in
     simp (c.in-Under.is, hu, hb)

@@ -1,2 +1,0 @@
-pub mod Alters
-pub mod Lends
