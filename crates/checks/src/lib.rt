@@ -1,5 +1,6 @@
 // The first check that refuses a record, and the record that comes next with it.
 #![tactic(auto)]
+
 ghost use Rattle.std.specs.Prelude.{◌≡◌, ◌+◌, ◌<◌, length, true, [], ◌∷◌};
 ghost use Rattle.records.specs.declared.Record.TheVariants.{Adds};
 ghost use Rattle.records.specs.Facts.{building, within, ofTerms, action};

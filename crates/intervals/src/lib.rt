@@ -1,5 +1,6 @@
 // The interval that a row's undecided sums must meet, and its check by divisors, as values; the tests that its code makes.
 #![tactic(auto)]
+
 ghost use Rattle.std.specs.Prelude.{◌≡◌, ◌+◌, ◌-◌, ◌^◌, ◌<◌, false, ◌&&◌, eqb, leb};
 ghost use Rattle.base.specs.Signed.{natural as naturalOf};
 ghost use Rattle.state.specs.State.{limit};

@@ -1,5 +1,6 @@
 // Nodes and rows that wait their turn: `sure`, `never`, `queue_row` and `next_row` of regions.rs.
 #![tactic(auto)]
+
 ghost use Rattle.std.specs.Prelude.{◌≡◌, ◌+◌, ◌-◌, ◌<◌, ◌≤◌, ◌%◌, ◌^◌, length, get_or};
 ghost use Rattle.base.specs.Columns.{column};
 ghost use Rattle.queues.specs.declared.Ring.{Ring};

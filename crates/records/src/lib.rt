@@ -1,5 +1,6 @@
 // Records of a job file: kinds, bodies and their fields, read at an offset.
 #![tactic(auto)]
+
 ghost use Rattle.std.specs.Prelude.{◌≡◌, ◌+◌, ◌<◌, ◌≤◌, length, get_or, take, drop};
 ghost use Rattle.records.specs.declared.Record.TheVariants.{Adds};
 ghost use Rattle.records.specs.Record.{kind_of, body_length, little_endian, signed};

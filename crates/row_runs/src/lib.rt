@@ -1,5 +1,6 @@
 // One row run once, as a value: scans of guards and terms, their laws; and the tests that its code makes of a state.
 #![tactic(auto)]
+
 ghost use Rattle.std.specs.Prelude.{◌≡◌, false, ◌-◌, ◌<◌, ◌^◌, length, List};
 ghost use Rattle.std.specs.Int.Signed.{lt_z};
 ghost use Rattle.numeric.specs.Threshold.{Term};

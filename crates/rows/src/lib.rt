@@ -1,6 +1,7 @@
 // Rows as values and in buffers, and what is read of them and of nodes: where a row's terms, guards and neighbours lie, its weights' sum,
 // a node's threshold and where its edges lie.
 #![tactic(auto)]
+
 ghost use Rattle.std.specs.Prelude.{◌≡◌, ◌+◌, ◌-◌, ◌^◌, ◌≤◌, ◌<◌, length};
 ghost use Rattle.numeric.specs.Slices.{terms};
 ghost use Rattle.row.specs.Terms.{total};

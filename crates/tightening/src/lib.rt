@@ -1,5 +1,6 @@
 // What a row's bounds take from a guard or from a neighbour: a state and whether it is new.
 #![tactic(auto)]
+
 ghost use Rattle.std.specs.Prelude.{◌≡◌, cond, true, false, ◌-◌, ◌<◌};
 ghost use Rattle.state.specs.State.{limit, with_lower, with_upper};
 ghost use Rattle.tightening.specs.Told.{guard_state, moved_lower, moved_upper, moved_state};

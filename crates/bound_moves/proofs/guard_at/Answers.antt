@@ -13,23 +13,22 @@ use Rattle.row_moves.specs.GuardLaws.{guard-not, guard_is, guard_bound, guard-ro
 use Rattle.bound_moves.proofs.guard_at.Goals as goal
 
 pub threshold_of-t-requires : goal.threshold_of-t-requires
-threshold_of-t-requires c = c.requires.0.2
+threshold_of-t-requires c = c.requires.shaped.2
 
 pub returns-then-t-eq0 : goal.returns-then-t-eq0
 returns-then-t-eq0 c =
     let threshold-of = c.threshold_of-t in
     let a = c.args in
     let v = live_of a.figures.now a.cursors.now a.sure.now a.never.now a.node_queue.now a.row_queues.now a.rings in
-    (λ x z y n. guard-not x a.nodes.now a.bounds.now y a.node c.requires.0.2 v threshold-of.result threshold-of.ensures.0 c.if-t-eq0.true, λ t. t)
+    (λ x z y n. guard-not x a.nodes.now a.bounds.now y a.node c.requires.shaped.2 v threshold-of.result threshold-of.ensures.0 c.if-t-eq0.true, λ t. t)
 
 pub row_of_node-row-requires : goal.row_of_node-row-requires
-row_of_node-row-requires c = c.requires.0.2
+row_of_node-row-requires c = c.requires.shaped.2
 
 pub bound_of-bound-requires : goal.bound_of-bound-requires
 bound_of-bound-requires c =
     let threshold-of = c.threshold_of-t in
-    let p = c.requires in
-    (omega (arith, c.if-t-eq0.false), omega (arith, threshold-of.ensures.0, p.0.1.inside c.args.node p.0.2))
+    (omega (arith, c.if-t-eq0.false), omega (arith, threshold-of.ensures.0, c.requires.shaped.1.inside c.args.node c.requires.shaped.2))
 
 pub links_count-links-requires : goal.links_count-links-requires
 links_count-links-requires c =
@@ -37,9 +36,8 @@ links_count-links-requires c =
     let if1 = c.if-t-eq0 in
     let threshold-of = c.threshold_of-t in
     let a = c.args in
-    let p = c.requires in
-    let k : row-of-node.result < length a.rows.now = omega (arith, row-of-node.ensures.0, p.0.1.rows a.node p.0.2 (omega (arith, threshold-of.ensures.0, if1.false))) in
-    (k, p.0.4 row-of-node.result k)
+    let k : row-of-node.result < length a.rows.now = omega (arith, row-of-node.ensures.0, c.requires.shaped.1.rows a.node c.requires.shaped.2 (omega (arith, threshold-of.ensures.0, if1.false))) in
+    (k, c.requires.shaped.4 row-of-node.result k)
 
 pub threshold_guard-requires : goal.threshold_guard-requires
 threshold_guard-requires c =
@@ -48,12 +46,11 @@ threshold_guard-requires c =
     let if1 = c.if-t-eq0 in
     let threshold-of = c.threshold_of-t in
     let a = c.args in
-    let p = c.requires in
-    let y = p.0.1 in
+    let y = c.requires.shaped.1 in
     let n = a.node in
-    let k : row-of-node.result < length a.rows.now = omega (arith, row-of-node.ensures.0, y.rows n p.0.2 (omega (arith, threshold-of.ensures.0, if1.false))) in
-    let z : mag bound_of_lem.result < figure_limit = rw bound_of_lem.ensures (y.small (threshold-of.result - 1) (omega (arith, threshold-of.ensures.0, if1.false, y.inside n p.0.2))) in
-    ((p.0.0, k, p.0.3, rw (signed bound_of_lem.result z) z), p.1)
+    let k : row-of-node.result < length a.rows.now = omega (arith, row-of-node.ensures.0, y.rows n c.requires.shaped.2 (omega (arith, threshold-of.ensures.0, if1.false))) in
+    let z : mag bound_of_lem.result < figure_limit = rw bound_of_lem.ensures (y.small (threshold-of.result - 1) (omega (arith, threshold-of.ensures.0, if1.false, y.inside n c.requires.shaped.2))) in
+    record { shaped = (c.requires.shaped.0, k, c.requires.shaped.3, rw (signed bound_of_lem.result z) z); runnable = c.requires.runnable }
 
 pub shape_of-figures : goal.shape_of-figures
 shape_of-figures c = c.threshold_guard.auto.figures
@@ -82,19 +79,18 @@ returns c =
     let if1 = c.if-t-eq0 in
     let threshold-of = c.threshold_of-t in
     let a = c.args in
-    let p = c.requires in
     let v = live_of a.figures.now a.cursors.now a.sure.now a.never.now a.node_queue.now a.row_queues.now a.rings in
     let o = live_of threshold-guard.new.figures threshold-guard.new.cursors threshold-guard.new.sure threshold-guard.new.never threshold-guard.new.node_queue threshold-guard.new.row_queues threshold-guard.result.rings in
-    let y = p.0.1 in
+    let y = c.requires.shaped.1 in
     let n = a.node in
     let t = threshold-of.result in
-    let k : row-of-node.result < length a.rows.now = omega (arith, row-of-node.ensures.0, y.rows n p.0.2 (omega (arith, threshold-of.ensures.0, if1.false))) in
-    let z : mag bound_of_lem.result < figure_limit = rw bound_of_lem.ensures (y.small (t - 1) (omega (arith, threshold-of.ensures.0, if1.false, y.inside n p.0.2))) in (
+    let k : row-of-node.result < length a.rows.now = omega (arith, row-of-node.ensures.0, y.rows n c.requires.shaped.2 (omega (arith, threshold-of.ensures.0, if1.false))) in
+    let z : mag bound_of_lem.result < figure_limit = rw bound_of_lem.ensures (y.small (t - 1) (omega (arith, threshold-of.ensures.0, if1.false, y.inside n c.requires.shaped.2))) in (
       λ x held holds counts.
           let some : 0 < t = omega (arith, if1.false) in
-          let f = guard_is x a.nodes.now a.bounds.now holds n p.0.2 v t threshold-of.ensures.0 some in
-          let b = guard_bound x a.nodes.now a.bounds.now holds n p.0.2 v t threshold-of.ensures.0 in
-          let row = guard-row x a.nodes.now a.bounds.now holds n p.0.2 v t threshold-of.ensures.0 some row-of-node.result row-of-node.ensures.0 in
+          let f = guard_is x a.nodes.now a.bounds.now holds n c.requires.shaped.2 v t threshold-of.ensures.0 some in
+          let b = guard_bound x a.nodes.now a.bounds.now holds n c.requires.shaped.2 v t threshold-of.ensures.0 in
+          let row = guard-row x a.nodes.now a.bounds.now holds n c.requires.shaped.2 v t threshold-of.ensures.0 some row-of-node.result row-of-node.ensures.0 in
           let th = get_or x.thresholds (t - 1) no_threshold in
           let bound = b ∙ sym bound_of_lem.ensures ∙ sym (signed bound_of_lem.result z) in
           ◌∙◌ {a = did o threshold-guard.result.step} {b = threshold_guard x v th}

@@ -22,18 +22,15 @@ use Rattle.bound_moves.proofs.hand_on.Goals as goal
 
 pub load-state-requires : goal.load-state-requires
 load-state-requires c =
-    let p = c.requires in
-    omega (arith, p.1.ready.long, p.0.1)
+    omega (arith, c.requires.runnable.ready.long, c.requires.shaped.1)
 
 pub rests_at-requires : goal.rests_at-requires
 rests_at-requires c =
-    let p = c.requires in
-    ((c.args.guard_nodes.now, p.0.0, (let it : Fit ((let a = c.args in held_rows a.row_conditions.now a.row_weights.now a.rows.now a.guard_bounds.now a.guard_nodes.now)) figure_limit c.args.row c.moved_state-moved.result.state = let a = c.args in let p = c.requires in let r = a.row in let f = fit_prefix ((let a = c.args in held_rows a.row_conditions.now a.row_weights.now a.rows.now a.guard_bounds.now a.guard_nodes.now)) figure_limit r a.source (state_at ((let a = c.args in live_of a.figures.now a.cursors.now a.sure.now a.never.now a.node_queue.now a.row_queues.now a.rings)) r) a.many a.own p.0.2 p.0.3 (p.1.ready.fit r p.0.1) in fit_by ((let a = c.args in held_rows a.row_conditions.now a.row_weights.now a.rows.now a.guard_bounds.now a.guard_nodes.now)) figure_limit r c.moved_state-moved.result.state ((let a = c.args in moved_state a.source (state_at ((let a = c.args in live_of a.figures.now a.cursors.now a.sure.now a.never.now a.node_queue.now a.row_queues.now a.rings)) a.row) a.many a.own)).state (ap (λ (y : Tightened). y.state) ((let it : c.moved_state-moved.result ≡ (let a = c.args in moved_state a.source (state_at ((let a = c.args in live_of a.figures.now a.cursors.now a.sure.now a.never.now a.node_queue.now a.row_queues.now a.rings)) a.row) a.many a.own) = let a = c.args in c.moved_state-moved.ensures ∙ ap (λ (y : State). moved_state a.source y a.many a.own) c.load-state.ensures in it))) f in it)), p.0.1, omega (arith, p.1.ready.waits.sures), omega (arith, p.1.ready.waits.nevers))
+    ((c.args.guard_nodes.now, c.requires.shaped.0, (let it : Fit ((let a = c.args in held_rows a.row_conditions.now a.row_weights.now a.rows.now a.guard_bounds.now a.guard_nodes.now)) figure_limit c.args.row c.moved_state-moved.result.state = let a = c.args in let r = a.row in let f = fit_prefix ((let a = c.args in held_rows a.row_conditions.now a.row_weights.now a.rows.now a.guard_bounds.now a.guard_nodes.now)) figure_limit r a.source (state_at ((let a = c.args in live_of a.figures.now a.cursors.now a.sure.now a.never.now a.node_queue.now a.row_queues.now a.rings)) r) a.many a.own c.requires.shaped.2 c.requires.shaped.3 (c.requires.runnable.ready.fit r c.requires.shaped.1) in fit_by ((let a = c.args in held_rows a.row_conditions.now a.row_weights.now a.rows.now a.guard_bounds.now a.guard_nodes.now)) figure_limit r c.moved_state-moved.result.state ((let a = c.args in moved_state a.source (state_at ((let a = c.args in live_of a.figures.now a.cursors.now a.sure.now a.never.now a.node_queue.now a.row_queues.now a.rings)) a.row) a.many a.own)).state (ap (λ (y : Tightened). y.state) ((let it : c.moved_state-moved.result ≡ (let a = c.args in moved_state a.source (state_at ((let a = c.args in live_of a.figures.now a.cursors.now a.sure.now a.never.now a.node_queue.now a.row_queues.now a.rings)) a.row) a.many a.own) = let a = c.args in c.moved_state-moved.ensures ∙ ap (λ (y : State). moved_state a.source y a.many a.own) c.load-state.ensures in it))) f in it)), c.requires.shaped.1, omega (arith, c.requires.runnable.ready.waits.sures), omega (arith, c.requires.runnable.ready.waits.nevers))
 
 pub note-stand-requires : goal.note-stand-requires
 note-stand-requires c =
-    let p = c.requires in
-    (omega (arith, p.1.ready.long, p.0.1), p.1.dirty.held, omega (arith, p.0.0.few, p.0.1))
+    (omega (arith, c.requires.runnable.ready.long, c.requires.shaped.1), c.requires.runnable.dirty.held, omega (arith, c.requires.shaped.0.few, c.requires.shaped.1))
 
 pub shape_of-figures-then-rests_at : goal.shape_of-figures-then-rests_at
 shape_of-figures-then-rests_at c = c.note-stand.auto.figures
@@ -50,21 +47,19 @@ returns-then-rests_at c =
     let rests-at = c.rests_at in
     let moved-state = c.moved_state-moved in
     let a = c.args in
-    let p = c.requires in
     let row = held_row ((let a = c.args in held_rows a.row_conditions.now a.row_weights.now a.rows.now a.guard_bounds.now a.guard_nodes.now)) a.row in
     let v = (let a = c.args in live_of a.figures.now a.cursors.now a.sure.now a.never.now a.node_queue.now a.row_queues.now a.rings) in
     let r = a.row in
     let t = (let a = c.args in moved_state a.source (state_at ((let a = c.args in live_of a.figures.now a.cursors.now a.sure.now a.never.now a.node_queue.now a.row_queues.now a.rings)) a.row) a.many a.own) in
     let o = live_of note.new.figures note.new.cursors a.sure.now a.never.now a.node_queue.now note.new.row_queues note.result in
-    let rest = rests-at.ensures c.if-rests_at.true a.guard_nodes.now (queue a.node_queue.now a.rings.nodes) p.0.0 in
+    let rest = rests-at.ensures c.if-rests_at.true a.guard_nodes.now (queue a.node_queue.now a.rings.nodes) c.requires.shaped.0 in
     let same : o.marks ≡ v.marks = ap (λ (y : Ring). marks a.sure.now a.never.now (queue a.node_queue.now y)) note.ensures.4 in
-    let ran = rest_told row v r moved-state.result.state (omega (arith, p.1.ready.long, p.0.1)) rest o note.ensures.0 same note.ensures.2 note.ensures.3 in
+    let ran = rest_told row v r moved-state.result.state (omega (arith, c.requires.runnable.ready.long, c.requires.shaped.1)) rest o note.ensures.0 same note.ensures.2 note.ensures.3 in
     (handed_new row v r t moved-state.result ((let it : c.moved_state-moved.result ≡ (let a = c.args in moved_state a.source (state_at ((let a = c.args in live_of a.figures.now a.cursors.now a.sure.now a.never.now a.node_queue.now a.row_queues.now a.rings)) a.row) a.many a.own) = let a = c.args in c.moved_state-moved.ensures ∙ ap (λ (y : State). moved_state a.source y a.many a.own) c.load-state.ensures in it)) c.if-moved.true (did o Unchanged) ran Changed refl, note.ensures.1)
 
 pub run_bounded-ran-requires : goal.run_bounded-ran-requires
 run_bounded-ran-requires c =
-    let p = c.requires in
-    ((p.0.0, p.0.1, (let it : Fit ((let a = c.args in held_rows a.row_conditions.now a.row_weights.now a.rows.now a.guard_bounds.now a.guard_nodes.now)) figure_limit c.args.row c.moved_state-moved.result.state = let a = c.args in let p = c.requires in let r = a.row in let f = fit_prefix ((let a = c.args in held_rows a.row_conditions.now a.row_weights.now a.rows.now a.guard_bounds.now a.guard_nodes.now)) figure_limit r a.source (state_at ((let a = c.args in live_of a.figures.now a.cursors.now a.sure.now a.never.now a.node_queue.now a.row_queues.now a.rings)) r) a.many a.own p.0.2 p.0.3 (p.1.ready.fit r p.0.1) in fit_by ((let a = c.args in held_rows a.row_conditions.now a.row_weights.now a.rows.now a.guard_bounds.now a.guard_nodes.now)) figure_limit r c.moved_state-moved.result.state ((let a = c.args in moved_state a.source (state_at ((let a = c.args in live_of a.figures.now a.cursors.now a.sure.now a.never.now a.node_queue.now a.row_queues.now a.rings)) a.row) a.many a.own)).state (ap (λ (y : Tightened). y.state) ((let it : c.moved_state-moved.result ≡ (let a = c.args in moved_state a.source (state_at ((let a = c.args in live_of a.figures.now a.cursors.now a.sure.now a.never.now a.node_queue.now a.row_queues.now a.rings)) a.row) a.many a.own) = let a = c.args in c.moved_state-moved.ensures ∙ ap (λ (y : State). moved_state a.source y a.many a.own) c.load-state.ensures in it))) f in it)), p.1)
+    record { shaped = (c.requires.shaped.0, c.requires.shaped.1, (let it : Fit ((let a = c.args in held_rows a.row_conditions.now a.row_weights.now a.rows.now a.guard_bounds.now a.guard_nodes.now)) figure_limit c.args.row c.moved_state-moved.result.state = let a = c.args in let r = a.row in let f = fit_prefix ((let a = c.args in held_rows a.row_conditions.now a.row_weights.now a.rows.now a.guard_bounds.now a.guard_nodes.now)) figure_limit r a.source (state_at ((let a = c.args in live_of a.figures.now a.cursors.now a.sure.now a.never.now a.node_queue.now a.row_queues.now a.rings)) r) a.many a.own c.requires.shaped.2 c.requires.shaped.3 (c.requires.runnable.ready.fit r c.requires.shaped.1) in fit_by ((let a = c.args in held_rows a.row_conditions.now a.row_weights.now a.rows.now a.guard_bounds.now a.guard_nodes.now)) figure_limit r c.moved_state-moved.result.state ((let a = c.args in moved_state a.source (state_at ((let a = c.args in live_of a.figures.now a.cursors.now a.sure.now a.never.now a.node_queue.now a.row_queues.now a.rings)) a.row) a.many a.own)).state (ap (λ (y : Tightened). y.state) ((let it : c.moved_state-moved.result ≡ (let a = c.args in moved_state a.source (state_at ((let a = c.args in live_of a.figures.now a.cursors.now a.sure.now a.never.now a.node_queue.now a.row_queues.now a.rings)) a.row) a.many a.own) = let a = c.args in c.moved_state-moved.ensures ∙ ap (λ (y : State). moved_state a.source y a.many a.own) c.load-state.ensures in it))) f in it)); runnable = c.requires.runnable }
 
 pub shape_of-figures-then-moved : goal.shape_of-figures-then-moved
 shape_of-figures-then-moved c = c.run_bounded-ran.auto.figures

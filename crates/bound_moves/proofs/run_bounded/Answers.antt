@@ -14,18 +14,16 @@ use Rattle.bound_moves.proofs.run_bounded.Goals as goal
 
 pub queue_linked-left-requires : goal.queue_linked-left-requires
 queue_linked-left-requires c =
-    let p = c.requires in
-    (p.1.dirty.held, omega (arith, p.0.0.few, p.0.1))
+    (c.requires.runnable.dirty.held, omega (arith, c.requires.shaped.0.few, c.requires.shaped.1))
 
 pub run_from-requires : goal.run_from-requires
 run_from-requires c =
     let queue-linked = c.queue_linked-left in
     let a = c.args in
-    let p = c.requires in
     let h = held_rows a.row_conditions.now a.row_weights.now a.rows.now a.guard_bounds.now a.guard_nodes.now in
     let v = live_of a.figures.now a.cursors.now a.sure.now a.never.now a.node_queue.now a.row_queues.now a.rings in
     let left = rows_in 2 queue-linked.new.row_queues a.rings.residuals in
-    ((p.0.0, p.0.1, p.0.2), ready_queue h figure_limit v left (queue-linked.ensures.1 a.rings.residuals) p.1.ready)
+    record { shaped = (c.requires.shaped.0, c.requires.shaped.1, c.requires.shaped.2); ready_live = ready_queue h figure_limit v left (queue-linked.ensures.1 a.rings.residuals) c.requires.runnable.ready }
 
 pub shape_of-figures : goal.shape_of-figures
 shape_of-figures c = c.run_from.auto.figures

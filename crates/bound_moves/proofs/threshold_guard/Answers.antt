@@ -17,13 +17,11 @@ use Rattle.bound_moves.proofs.threshold_guard.Goals as goal
 
 pub load-state-requires : goal.load-state-requires
 load-state-requires c =
-    let p = c.requires in
-    omega (arith, p.1.ready.long, p.0.1)
+    omega (arith, c.requires.runnable.ready.long, c.requires.shaped.1)
 
 pub bit-value-requires : goal.bit-value-requires
 bit-value-requires c =
-    let p = c.requires in
-    omega (arith, p.0.2, p.1.ready.waits.sures)
+    omega (arith, c.requires.shaped.2, c.requires.runnable.ready.waits.sures)
 
 pub run_bounded-requires : goal.run_bounded-requires
 run_bounded-requires c =
@@ -31,17 +29,16 @@ run_bounded-requires c =
     let bit = c.bit-value in
     let load = c.load-state in
     let a = c.args in
-    let p = c.requires in
     let h = held_rows a.row_conditions.now a.row_weights.now a.rows.now a.guard_bounds.now a.guard_nodes.now in
     let v = live_of a.figures.now a.cursors.now a.sure.now a.never.now a.node_queue.now a.row_queues.now a.rings in
     let r = a.row in
     let b = bit.result in
-    let bound : to_z w64 (of_z w64 a.bound) ≡ a.bound = signed a.bound p.0.3 in
+    let bound : to_z w64 (of_z w64 a.bound) ≡ a.bound = signed a.bound c.requires.shaped.3 in
     let told = guard-state.ensures ∙ ap (guard_state load.result b) bound in
-    let at = fit_by h figure_limit r load.result (state_at v r) load.ensures (p.1.ready.fit r p.0.1) in
-    let f = fit_guard h figure_limit r load.result b a.bound p.0.3 at in
+    let at = fit_by h figure_limit r load.result (state_at v r) load.ensures (c.requires.runnable.ready.fit r c.requires.shaped.1) in
+    let f = fit_guard h figure_limit r load.result b a.bound c.requires.shaped.3 at in
     let fit = fit_by h figure_limit r guard-state.result.state (guard_state load.result b a.bound).state (ap (λ (y : Tightened). y.state) told) f in
-    ((p.0.0, p.0.1, fit), p.1)
+    record { shaped = (c.requires.shaped.0, c.requires.shaped.1, fit); runnable = c.requires.runnable }
 
 pub shape_of-figures-then-told : goal.shape_of-figures-then-told
 shape_of-figures-then-told c = c.run_bounded.auto.figures
@@ -69,16 +66,15 @@ returns-then-told c =
     let bit = c.bit-value in
     let load = c.load-state in
     let a = c.args in
-    let p = c.requires in
     let h = held_rows a.row_conditions.now a.row_weights.now a.rows.now a.guard_bounds.now a.guard_nodes.now in
     let v = live_of a.figures.now a.cursors.now a.sure.now a.never.now a.node_queue.now a.row_queues.now a.rings in
     let o = live_of ran.new.figures ran.new.cursors ran.new.sure ran.new.never ran.new.node_queue ran.new.row_queues ran.result.rings in
     let r = a.row in
     let b = bit.result in
-    let bound : to_z w64 (of_z w64 a.bound) ≡ a.bound = signed a.bound p.0.3 in
+    let bound : to_z w64 (of_z w64 a.bound) ≡ a.bound = signed a.bound c.requires.shaped.3 in
     let told = guard-state.ensures ∙ ap (guard_state load.result b) bound in (
       λ x t z many row node is.
-          let moved = bounded_held x h z v r guard-state.result.state a.links p.0.1 many (did o ran.result.step) ran.ensures.0 in
+          let moved = bounded_held x h z v r guard-state.result.state a.links c.requires.shaped.1 many (did o ran.result.step) ran.ensures.0 in
           guard_moves x v t r row load.result (sym load.ensures) a.node node a.bound is b (sym bit.ensures) guard-state.result told
           if1.true (did o ran.result.step) moved,
       ran.ensures.1,
@@ -93,7 +89,7 @@ returns c =
     let v = live_of a.figures.now a.cursors.now a.sure.now a.never.now a.node_queue.now a.row_queues.now a.rings in
     let r = a.row in
     let b = bit.result in
-    let bound : to_z w64 (of_z w64 a.bound) ≡ a.bound = signed a.bound c.requires.0.3 in
+    let bound : to_z w64 (of_z w64 a.bound) ≡ a.bound = signed a.bound c.requires.shaped.3 in
     let told = guard-state.ensures ∙ ap (guard_state load.result b) bound in (
       λ x t z many row node is.
           guard_tells_nothing x v t r row load.result (sym load.ensures) a.node node a.bound is b (sym bit.ensures) guard-state.result told c.if-told.false,

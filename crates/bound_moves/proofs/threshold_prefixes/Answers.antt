@@ -15,19 +15,17 @@ use Rattle.bound_moves.proofs.threshold_prefixes.Goals as goal
 
 pub load-source-requires : goal.load-source-requires
 load-source-requires c =
-    let p = c.requires in
-    omega (arith, p.1.ready.long, p.0.2)
+    omega (arith, c.requires.runnable.ready.long, c.requires.shaped.2)
 
 pub terms_count-many-requires : goal.terms_count-many-requires
 terms_count-many-requires c =
-    let p = c.requires in
-    (p.0.2, p.0.0.terms.rising c.args.row p.0.2)
+    (c.requires.shaped.2, c.requires.shaped.0.terms.rising c.args.row c.requires.shaped.2)
 
 pub links_end-end-requires : goal.links_end-end-requires
-links_end-end-requires c = c.requires.0.2
+links_end-end-requires c = c.requires.shaped.2
 
 pub links_start-at-requires : goal.links_start-at-requires
-links_start-at-requires c = omega (arith, c.requires.0.2)
+links_start-at-requires c = omega (arith, c.requires.shaped.2)
 
 pub loop-at-init : goal.loop-at-init
 loop-at-init c =
@@ -35,11 +33,10 @@ loop-at-init c =
     let links_end = c.links_end-end in
     let load = c.load-source in
     let a = c.args in
-    let p = c.requires in
     let h = held_rows a.row_conditions.now a.row_weights.now a.rows.now a.guard_bounds.now a.guard_nodes.now in
     let v = live_of a.figures.now a.cursors.now a.sure.now a.never.now a.node_queue.now a.row_queues.now a.rings in
-    let own = links_of h a.links.now p.0.1 a.row p.0.2 links-start.result links_end.result links-start.ensures.0 links_end.ensures.0 in (
-      handing_first h a.links.now a.row load.result links-start.result links_end.result v own p.1,
+    let own = links_of h a.links.now c.requires.shaped.1 a.row c.requires.shaped.2 links-start.result links_end.result links-start.ensures.0 links_end.ensures.0 in (
+      handing_first h a.links.now a.row load.result links-start.result links_end.result v own c.requires.runnable,
       same_self a.figures.now a.cursors.now a.sure.now a.never.now a.node_queue.now a.row_queues.now,
       λ t. t,
     )
@@ -53,7 +50,7 @@ terms_count-own-requires c =
     let link_at = c.link_at-other in
     let w = c.loop-at in
     let k = w.invariant.0.own.rows w.at link_at.result w.invariant.0.above c.loop-at-test.true link_at.ensures in
-    (k, c.requires.0.0.terms.rising link_at.result k)
+    (k, c.requires.shaped.0.terms.rising link_at.result k)
 
 pub hand_on-turn-requires : goal.hand_on-turn-requires
 hand_on-turn-requires c =
@@ -62,13 +59,12 @@ hand_on-turn-requires c =
     let w = c.loop-at in
     let load = c.load-source in
     let a = c.args in
-    let p = c.requires in
     let h = held_rows a.row_conditions.now a.row_weights.now a.rows.now a.guard_bounds.now a.guard_nodes.now in
     let v = live_of a.figures.now a.cursors.now a.sure.now a.never.now a.node_queue.now a.row_queues.now a.rings in
     let l = w.invariant.0 in
     let k = l.own.rows w.at link_at.result l.above test.true link_at.ensures in
-    let f = fit_by h figure_limit a.row load.result (state_at v a.row) load.ensures (p.1.ready.fit a.row p.0.2) in
-    ((p.0.0, k, f.lower, f.upper), l.runnable)
+    let f = fit_by h figure_limit a.row load.result (state_at v a.row) load.ensures (c.requires.runnable.ready.fit a.row c.requires.shaped.2) in
+    record { shaped = (c.requires.shaped.0, k, f.lower, f.upper); runnable = l.runnable }
 
 pub shape_of-figures-then-contradicts : goal.shape_of-figures-then-contradicts
 shape_of-figures-then-contradicts c =
@@ -118,16 +114,15 @@ returns-then-contradicts c =
     let terms-count = c.terms_count-many in
     let load = c.load-source in
     let a = c.args in
-    let p = c.requires in
     let h = held_rows a.row_conditions.now a.row_weights.now a.rows.now a.guard_bounds.now a.guard_nodes.now in
     let v = live_of a.figures.now a.cursors.now a.sure.now a.never.now a.node_queue.now a.row_queues.now a.rings in
     let u = live_of w.figures w.cursors w.sure w.never w.node_queue w.row_queues w.so_far.rings in
     let o = live_of hand_on.new.figures hand_on.new.cursors hand_on.new.sure hand_on.new.never hand_on.new.node_queue hand_on.new.row_queues hand_on.result.rings in
     let stop = handing_stop h a.links.now a.row load.result links-start.result links_end.result v w.at w.so_far.step u w.invariant.0
-    p.0.0 test.true p.0.2 terms-count.result terms-count.ensures link_at.result link_at.ensures terms-count2.result terms-count2.ensures
+    c.requires.shaped.0 test.true c.requires.shaped.2 terms-count.result terms-count.ensures link_at.result link_at.ensures terms-count2.result terms-count2.ensures
     o hand_on.result.step hand_on.ensures.0 (sym c.contradicts.ensures ∙ c.if-contradicts.true) in (
       λ x z y. stop x z
-          ∙ prefixes_held x h a.links.now y a.row p.0.2 links-start.result links_end.result links-start.ensures.0 links_end.ensures.0 v load.result
+          ∙ prefixes_held x h a.links.now y a.row c.requires.shaped.2 links-start.result links_end.result links-start.ensures.0 links_end.ensures.0 v load.result
           load.ensures,
       λ t. hand_on.ensures.1 (w.invariant.2 t),
     )
@@ -156,15 +151,14 @@ loop-at-preserved c =
     let terms-count = c.terms_count-many in
     let load = c.load-source in
     let a = c.args in
-    let p = c.requires in
     let h = held_rows a.row_conditions.now a.row_weights.now a.rows.now a.guard_bounds.now a.guard_nodes.now in
     let v = live_of a.figures.now a.cursors.now a.sure.now a.never.now a.node_queue.now a.row_queues.now a.rings in
     let u = live_of w.figures w.cursors w.sure w.never w.node_queue w.row_queues w.so_far.rings in
     let o = live_of hand_on.new.figures hand_on.new.cursors hand_on.new.sure hand_on.new.never hand_on.new.node_queue hand_on.new.row_queues hand_on.result.rings in
     let same = w.invariant.1 in
-    let f = fit_by h figure_limit a.row load.result (state_at v a.row) load.ensures (p.1.ready.fit a.row p.0.2) in
+    let f = fit_by h figure_limit a.row load.result (state_at v a.row) load.ensures (c.requires.runnable.ready.fit a.row c.requires.shaped.2) in
     let next = handing_next h a.links.now a.row load.result links-start.result links_end.result v w.at w.so_far.step u w.invariant.0
-    p.0.0 test.true p.0.2 terms-count.result terms-count.ensures link_at.result link_at.ensures terms-count2.result terms-count2.ensures
+    c.requires.shaped.0 test.true c.requires.shaped.2 terms-count.result terms-count.ensures link_at.result link_at.ensures terms-count2.result terms-count2.ensures
     o hand_on.result.step hand_on.ensures.0 f.lower f.upper (sym contradicts.ensures ∙ if1.false) join.result join.ensures in (
       next,
       record {
@@ -208,7 +202,7 @@ returns c =
     let u = live_of w.figures w.cursors w.sure w.never w.node_queue w.row_queues w.so_far.rings in
     let last = handing_end h a.links.now a.row load.result links-start.result links_end.result v w.at w.so_far.step u w.invariant.0 c.loop-at-test.false in (
       λ x z y. last x z
-          ∙ prefixes_held x h a.links.now y a.row c.requires.0.2 links-start.result links_end.result links-start.ensures.0 links_end.ensures.0 v load.result
+          ∙ prefixes_held x h a.links.now y a.row c.requires.shaped.2 links-start.result links_end.result links-start.ensures.0 links_end.ensures.0 v load.result
           load.ensures,
       w.invariant.2,
     )

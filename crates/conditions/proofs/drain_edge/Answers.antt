@@ -23,38 +23,34 @@ use Rattle.conditions.proofs.drain_edge.Goals as goal
 
 pub load-state-requires : goal.load-state-requires
 load-state-requires c =
-    let p = c.requires in
-    omega (arith, p.1.long, p.0.1)
+    omega (arith, c.requires.ready_live.long, c.requires.shaped.1)
 
 pub drained-next-requires : goal.drained-next-requires
 drained-next-requires c =
     let load = c.load-state in
     let a = c.args in
-    let p = c.requires in
     let h = held_rows a.row_conditions.now a.row_weights.now a.rows.now a.guard_bounds.now a.guard_nodes.now in
     let v = live_of a.figures.now a.cursors.now a.sure.now a.never.now a.node_queue.now a.row_queues.now a.rings in
     let r = a.row in
     drains_by load.result (state_at v r) a.weight load.ensures
-    (fit_drains h (figure_limit - drain_limit) r (state_at v r) a.weight (omega arith) p.0.2 (p.1.fit r p.0.1))
+    (fit_drains h (figure_limit - drain_limit) r (state_at v r) a.weight (omega arith) c.requires.shaped.2 (c.requires.ready_live.fit r c.requires.shaped.1))
 
 pub store_sums-requires : goal.store_sums-requires
 store_sums-requires c =
     let a = c.args in
-    let p = c.requires in
-    omega (arith, p.1.long, p.0.1, states_figures a.figures.now a.cursors.now)
+    omega (arith, c.requires.ready_live.long, c.requires.shaped.1, states_figures a.figures.now a.cursors.now)
 
 pub run_at-requires : goal.run_at-requires
 run_at-requires c =
     let a = c.args in
-    let p = c.requires in
     let h = held_rows a.row_conditions.now a.row_weights.now a.rows.now a.guard_bounds.now a.guard_nodes.now in
     let v = (let a = c.args in live_of a.figures.now a.cursors.now a.sure.now a.never.now a.node_queue.now a.row_queues.now a.rings) in
     let n : ℕ = figure_limit - drain_limit in
     let r = a.row in
     let t = (let a = c.args in drained a.value a.weight (state_at ((let a = c.args in live_of a.figures.now a.cursors.now a.sure.now a.never.now a.node_queue.now a.row_queues.now a.rings)) a.row)) in
-    let f = fit_more h (n + drain_limit) figure_limit r t (omega arith) (fit_drained h n r (state_at v r) a.value a.weight p.0.2 (p.1.fit r p.0.1)) in
-    let y = ready_set h figure_limit v.states v.marks v.residuals (ready_more h n figure_limit v.states v.marks v.residuals (omega arith) p.1) r t f in
-    ((p.0.0, p.0.1), ready_states h figure_limit (set v.states r t) (states_of c.store_sums.new.figures a.cursors.now) v.marks v.residuals ((let it : Stored c.args.figures.now c.args.cursors.now c.store_sums.new.figures c.args.cursors.now c.args.row ((let a = c.args in drained a.value a.weight (state_at ((let a = c.args in live_of a.figures.now a.cursors.now a.sure.now a.never.now a.node_queue.now a.row_queues.now a.rings)) a.row))) = let a = c.args in let p = c.requires in let moved = c.drained-next in let load = c.load-state in let s = state_at ((let a = c.args in live_of a.figures.now a.cursors.now a.sure.now a.never.now a.node_queue.now a.row_queues.now a.rings)) a.row in let n = moved.result in let hk : to_z w64 (of_z w64 n.known) ≡ n.known = search rules in let hp : to_z w64 (of_z w64 n.possible) ≡ n.possible = search rules in let words : c.store_sums.new.figures ≡ set a.figures.now a.row (sum_words (get_or a.figures.now a.row []) n.known n.possible) = simp (hk, hp) at c.store_sums.ensures in let e = moved.ensures ∙ ap (drained a.value a.weight) load.ensures in subst (λ (y : State). Stored a.figures.now a.cursors.now c.store_sums.new.figures a.cursors.now a.row y) (sums_drained a.value a.weight s n e) (stored_sums a.figures.now a.cursors.now a.row (omega (arith, p.1.long, p.0.1)) c.store_sums.new.figures n.known n.possible words) in it)).states y)
+    let f = fit_more h (n + drain_limit) figure_limit r t (omega arith) (fit_drained h n r (state_at v r) a.value a.weight c.requires.shaped.2 (c.requires.ready_live.fit r c.requires.shaped.1)) in
+    let y = ready_set h figure_limit v.states v.marks v.residuals (ready_more h n figure_limit v.states v.marks v.residuals (omega arith) c.requires.ready_live) r t f in
+    record { shaped = (c.requires.shaped.0, c.requires.shaped.1); ready_live = ready_states h figure_limit (set v.states r t) (states_of c.store_sums.new.figures a.cursors.now) v.marks v.residuals ((let it : Stored c.args.figures.now c.args.cursors.now c.store_sums.new.figures c.args.cursors.now c.args.row ((let a = c.args in drained a.value a.weight (state_at ((let a = c.args in live_of a.figures.now a.cursors.now a.sure.now a.never.now a.node_queue.now a.row_queues.now a.rings)) a.row))) = let a = c.args in let moved = c.drained-next in let load = c.load-state in let s = state_at ((let a = c.args in live_of a.figures.now a.cursors.now a.sure.now a.never.now a.node_queue.now a.row_queues.now a.rings)) a.row in let n = moved.result in let hk : to_z w64 (of_z w64 n.known) ≡ n.known = search rules in let hp : to_z w64 (of_z w64 n.possible) ≡ n.possible = search rules in let words : c.store_sums.new.figures ≡ set a.figures.now a.row (sum_words (get_or a.figures.now a.row []) n.known n.possible) = simp (hk, hp) at c.store_sums.ensures in let e = moved.ensures ∙ ap (drained a.value a.weight) load.ensures in subst (λ (y : State). Stored a.figures.now a.cursors.now c.store_sums.new.figures a.cursors.now a.row y) (sums_drained a.value a.weight s n e) (stored_sums a.figures.now a.cursors.now a.row (omega (arith, c.requires.ready_live.long, c.requires.shaped.1)) c.store_sums.new.figures n.known n.possible words) in it)).states y }
 
 pub shape_of-figures : goal.shape_of-figures
 shape_of-figures c =
@@ -84,6 +80,6 @@ returns c =
     let h = held_rows a.row_conditions.now a.row_weights.now a.rows.now a.guard_bounds.now a.guard_nodes.now in
     let o = live_of run_at.new.figures run_at.new.cursors run_at.new.sure run_at.new.never run_at.new.node_queue run_at.new.row_queues run_at.result.rings in
     let r = a.row in (
-      store_run (held_row h r) ((let a = c.args in live_of a.figures.now a.cursors.now a.sure.now a.never.now a.node_queue.now a.row_queues.now a.rings)) r ((let a = c.args in drained a.value a.weight (state_at ((let a = c.args in live_of a.figures.now a.cursors.now a.sure.now a.never.now a.node_queue.now a.row_queues.now a.rings)) a.row))) (states_of c.store_sums.new.figures a.cursors.now) ((let it : Stored c.args.figures.now c.args.cursors.now c.store_sums.new.figures c.args.cursors.now c.args.row ((let a = c.args in drained a.value a.weight (state_at ((let a = c.args in live_of a.figures.now a.cursors.now a.sure.now a.never.now a.node_queue.now a.row_queues.now a.rings)) a.row))) = let a = c.args in let p = c.requires in let moved = c.drained-next in let load = c.load-state in let s = state_at ((let a = c.args in live_of a.figures.now a.cursors.now a.sure.now a.never.now a.node_queue.now a.row_queues.now a.rings)) a.row in let n = moved.result in let hk : to_z w64 (of_z w64 n.known) ≡ n.known = search rules in let hp : to_z w64 (of_z w64 n.possible) ≡ n.possible = search rules in let words : c.store_sums.new.figures ≡ set a.figures.now a.row (sum_words (get_or a.figures.now a.row []) n.known n.possible) = simp (hk, hp) at c.store_sums.ensures in let e = moved.ensures ∙ ap (drained a.value a.weight) load.ensures in subst (λ (y : State). Stored a.figures.now a.cursors.now c.store_sums.new.figures a.cursors.now a.row y) (sums_drained a.value a.weight s n e) (stored_sums a.figures.now a.cursors.now a.row (omega (arith, p.1.long, p.0.1)) c.store_sums.new.figures n.known n.possible words) in it)).states (did o run_at.result.step) run_at.ensures.0,
-      λ t. run_at.ensures.1 (((let it : Stored c.args.figures.now c.args.cursors.now c.store_sums.new.figures c.args.cursors.now c.args.row ((let a = c.args in drained a.value a.weight (state_at ((let a = c.args in live_of a.figures.now a.cursors.now a.sure.now a.never.now a.node_queue.now a.row_queues.now a.rings)) a.row))) = let a = c.args in let p = c.requires in let moved = c.drained-next in let load = c.load-state in let s = state_at ((let a = c.args in live_of a.figures.now a.cursors.now a.sure.now a.never.now a.node_queue.now a.row_queues.now a.rings)) a.row in let n = moved.result in let hk : to_z w64 (of_z w64 n.known) ≡ n.known = search rules in let hp : to_z w64 (of_z w64 n.possible) ≡ n.possible = search rules in let words : c.store_sums.new.figures ≡ set a.figures.now a.row (sum_words (get_or a.figures.now a.row []) n.known n.possible) = simp (hk, hp) at c.store_sums.ensures in let e = moved.ensures ∙ ap (drained a.value a.weight) load.ensures in subst (λ (y : State). Stored a.figures.now a.cursors.now c.store_sums.new.figures a.cursors.now a.row y) (sums_drained a.value a.weight s n e) (stored_sums a.figures.now a.cursors.now a.row (omega (arith, p.1.long, p.0.1)) c.store_sums.new.figures n.known n.possible words) in it)).tidy t),
+      store_run (held_row h r) ((let a = c.args in live_of a.figures.now a.cursors.now a.sure.now a.never.now a.node_queue.now a.row_queues.now a.rings)) r ((let a = c.args in drained a.value a.weight (state_at ((let a = c.args in live_of a.figures.now a.cursors.now a.sure.now a.never.now a.node_queue.now a.row_queues.now a.rings)) a.row))) (states_of c.store_sums.new.figures a.cursors.now) ((let it : Stored c.args.figures.now c.args.cursors.now c.store_sums.new.figures c.args.cursors.now c.args.row ((let a = c.args in drained a.value a.weight (state_at ((let a = c.args in live_of a.figures.now a.cursors.now a.sure.now a.never.now a.node_queue.now a.row_queues.now a.rings)) a.row))) = let a = c.args in let moved = c.drained-next in let load = c.load-state in let s = state_at ((let a = c.args in live_of a.figures.now a.cursors.now a.sure.now a.never.now a.node_queue.now a.row_queues.now a.rings)) a.row in let n = moved.result in let hk : to_z w64 (of_z w64 n.known) ≡ n.known = search rules in let hp : to_z w64 (of_z w64 n.possible) ≡ n.possible = search rules in let words : c.store_sums.new.figures ≡ set a.figures.now a.row (sum_words (get_or a.figures.now a.row []) n.known n.possible) = simp (hk, hp) at c.store_sums.ensures in let e = moved.ensures ∙ ap (drained a.value a.weight) load.ensures in subst (λ (y : State). Stored a.figures.now a.cursors.now c.store_sums.new.figures a.cursors.now a.row y) (sums_drained a.value a.weight s n e) (stored_sums a.figures.now a.cursors.now a.row (omega (arith, c.requires.ready_live.long, c.requires.shaped.1)) c.store_sums.new.figures n.known n.possible words) in it)).states (did o run_at.result.step) run_at.ensures.0,
+      λ t. run_at.ensures.1 (((let it : Stored c.args.figures.now c.args.cursors.now c.store_sums.new.figures c.args.cursors.now c.args.row ((let a = c.args in drained a.value a.weight (state_at ((let a = c.args in live_of a.figures.now a.cursors.now a.sure.now a.never.now a.node_queue.now a.row_queues.now a.rings)) a.row))) = let a = c.args in let moved = c.drained-next in let load = c.load-state in let s = state_at ((let a = c.args in live_of a.figures.now a.cursors.now a.sure.now a.never.now a.node_queue.now a.row_queues.now a.rings)) a.row in let n = moved.result in let hk : to_z w64 (of_z w64 n.known) ≡ n.known = search rules in let hp : to_z w64 (of_z w64 n.possible) ≡ n.possible = search rules in let words : c.store_sums.new.figures ≡ set a.figures.now a.row (sum_words (get_or a.figures.now a.row []) n.known n.possible) = simp (hk, hp) at c.store_sums.ensures in let e = moved.ensures ∙ ap (drained a.value a.weight) load.ensures in subst (λ (y : State). Stored a.figures.now a.cursors.now c.store_sums.new.figures a.cursors.now a.row y) (sums_drained a.value a.weight s n e) (stored_sums a.figures.now a.cursors.now a.row (omega (arith, c.requires.ready_live.long, c.requires.shaped.1)) c.store_sums.new.figures n.known n.possible words) in it)).tidy t),
     )

@@ -12,14 +12,13 @@ use Rattle.conditions.proofs.threshold_condition.Goals as goal
 
 pub bit-value-requires : goal.bit-value-requires
 bit-value-requires c =
-    let p = c.requires in
-    omega (arith, p.0.3, p.1.waits.sures)
+    omega (arith, c.requires.shaped.3, c.requires.ready_live.waits.sures)
 
 pub edges_end-end-requires : goal.edges_end-end-requires
-edges_end-end-requires c = c.requires.0.2
+edges_end-end-requires c = c.requires.shaped.2
 
 pub edges_start-at-requires : goal.edges_start-at-requires
-edges_start-at-requires c = omega (arith, c.requires.0.2)
+edges_start-at-requires c = omega (arith, c.requires.shaped.2)
 
 pub loop-at-init : goal.loop-at-init
 loop-at-init c =
@@ -27,11 +26,10 @@ loop-at-init c =
     let edges_end = c.edges_end-end in
     let bit = c.bit-value in
     let a = c.args in
-    let p = c.requires in
     let h = held_rows a.row_conditions.now a.row_weights.now a.rows.now a.guard_bounds.now a.guard_nodes.now in
     let v = live_of a.figures.now a.cursors.now a.sure.now a.never.now a.node_queue.now a.row_queues.now a.rings in
-    let own = edges_of_lem h a.nodes.now a.edges.now p.0.1 a.node p.0.2 edges-start.result edges_end.result edges-start.ensures.0 edges_end.ensures.0 in (
-      draining_first h a.edges.now bit.result edges-start.result edges_end.result v own p.1,
+    let own = edges_of_lem h a.nodes.now a.edges.now c.requires.shaped.1 a.node c.requires.shaped.2 edges-start.result edges_end.result edges-start.ensures.0 edges_end.ensures.0 in (
+      draining_first h a.edges.now bit.result edges-start.result edges_end.result v own c.requires.ready_live,
       same_self a.figures.now a.cursors.now a.sure.now a.never.now a.node_queue.now a.row_queues.now,
       λ t. t,
     )
@@ -61,10 +59,7 @@ drain_edge-turn-requires c =
     let l = w.invariant.0 in
     let k = test.true in
     let row = l.own.rows w.at edge_row.result l.above k edge_row.ensures in
-    let light = l.own.light w.at edge-weight.result l.above k edge-weight.ensures in (
-      (c.requires.0.0, row, light),
-      draining_ready h a.edges.now bit.result edges-start.result edges_end.result v w.at w.so_far.step u l k,
-    )
+    let light = l.own.light w.at edge-weight.result l.above k edge-weight.ensures in record { shaped = (c.requires.shaped.0, row, light); ready_live = draining_ready h a.edges.now bit.result edges-start.result edges_end.result v w.at w.so_far.step u l k }
 
 pub shape_of-figures-then-contradicts : goal.shape_of-figures-then-contradicts
 shape_of-figures-then-contradicts c =
@@ -113,16 +108,15 @@ returns-then-contradicts c =
     let edges_end = c.edges_end-end in
     let bit = c.bit-value in
     let a = c.args in
-    let p = c.requires in
     let h = held_rows a.row_conditions.now a.row_weights.now a.rows.now a.guard_bounds.now a.guard_nodes.now in
     let v = live_of a.figures.now a.cursors.now a.sure.now a.never.now a.node_queue.now a.row_queues.now a.rings in
     let u = live_of w.figures w.cursors w.sure w.never w.node_queue w.row_queues w.so_far.rings in
     let o = live_of drain-edge.new.figures drain-edge.new.cursors drain-edge.new.sure drain-edge.new.never drain-edge.new.node_queue drain-edge.new.row_queues drain-edge.result.rings in
     let stop = draining_stop h a.edges.now bit.result edges-start.result edges_end.result v w.at w.so_far.step u w.invariant.0
-    p.0.0 test.true edge_row.result edge-weight.result edge_row.ensures edge-weight.ensures
+    c.requires.shaped.0 test.true edge_row.result edge-weight.result edge_row.ensures edge-weight.ensures
     o drain-edge.result.step drain-edge.ensures.0 (sym c.contradicts.ensures ∙ c.if-contradicts.true) in (
       λ x z y. stop x z
-          ∙ condition_held x a.nodes.now a.edges.now y a.node p.0.2 edges-start.result edges_end.result edges-start.ensures.0 edges_end.ensures.0 v bit.result bit.ensures,
+          ∙ condition_held x a.nodes.now a.edges.now y a.node c.requires.shaped.2 edges-start.result edges_end.result edges-start.ensures.0 edges_end.ensures.0 v bit.result bit.ensures,
       λ t. drain-edge.ensures.1 (w.invariant.2 t),
     )
 
@@ -155,7 +149,7 @@ loop-at-preserved c =
     let o = live_of drain-edge.new.figures drain-edge.new.cursors drain-edge.new.sure drain-edge.new.never drain-edge.new.node_queue drain-edge.new.row_queues drain-edge.result.rings in
     let same = w.invariant.1 in
     let next = draining_next h a.edges.now bit.result edges-start.result edges_end.result v w.at w.so_far.step u w.invariant.0
-    c.requires.0.0 test.true edge_row.result edge-weight.result edge_row.ensures edge-weight.ensures
+    c.requires.shaped.0 test.true edge_row.result edge-weight.result edge_row.ensures edge-weight.ensures
     o drain-edge.result.step drain-edge.ensures.0 (sym contradicts.ensures ∙ if1.false) join.result join.ensures in (
       next,
       record {
@@ -199,6 +193,6 @@ returns c =
     let u = live_of w.figures w.cursors w.sure w.never w.node_queue w.row_queues w.so_far.rings in
     let last = draining_end h a.edges.now bit.result edges-start.result edges_end.result v w.at w.so_far.step u w.invariant.0 c.loop-at-test.false in (
       λ x z y. last x z
-          ∙ condition_held x a.nodes.now a.edges.now y a.node c.requires.0.2 edges-start.result edges_end.result edges-start.ensures.0 edges_end.ensures.0 v bit.result bit.ensures,
+          ∙ condition_held x a.nodes.now a.edges.now y a.node c.requires.shaped.2 edges-start.result edges_end.result edges-start.ensures.0 edges_end.ensures.0 v bit.result bit.ensures,
       w.invariant.2,
     )

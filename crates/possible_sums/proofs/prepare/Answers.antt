@@ -14,4 +14,4 @@ pub overflow_sub-result : goal.overflow_sub-result
 overflow_sub-result c = simp length-set (omega arith)
 
 pub returns : goal.returns
-returns c = (simp length-set (omega arith), ap (λ (l : List ℕ). set l 0 1) c.clear.ensures)
+returns c = record { left = simp length-set (omega arith); fresh = ap (λ (l : List ℕ). set l 0 1) c.clear.ensures }

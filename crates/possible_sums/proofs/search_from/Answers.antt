@@ -22,22 +22,22 @@ use Rattle.possible_sums.proofs.search_from.Goals.{Else-left-eq0, Else-weight-li
 pub loop-count-init : goal.loop-count-init
 loop-count-init c =
     let g = c.args in
-    let p = c.requires in (
+    (
       refl,
       refl,
       omega arith,
-      p.1.1,
+      c.requires.prepared.1,
       omega arith,
       refl,
       ap (λ (l : List Term). search_from g.w (in_either g.sure.now g.never.now) l g.words.now 0 g.allowance)
-          (last_all g.conditions.now g.weights.now p.0.same),
+          (last_all g.conditions.now g.weights.now c.requires.shape.same),
     )
 
 pub returns-then-left-eq0 : goal.returns-then-left-eq0
 returns-then-left-eq0 c =
     let g = c.args in
     let v = c.loop-count in
-    let s = c.requires.0.same in
+    let s = c.requires.shape.same in
     sym
     (turn-cut g.w (in_either g.sure.now g.never.now) g.conditions.now g.weights.now v.words v.count v.maximum v.left
     (omega arith) (omega arith) (omega arith) c.if-left-eq0.true)
@@ -53,7 +53,7 @@ from_here : (c : Else-left-eq0) → search_from c.args.w (in_either c.args.sure.
 from_here c =
     let g = c.args in
     let v = c.loop-count in
-    let s = c.requires.0.same in
+    let s = c.requires.shape.same in
     sym
     (turn g.w (in_either g.sure.now g.never.now) g.conditions.now g.weights.now v.words v.count v.maximum v.left
     (omega arith) (omega arith) (omega arith) c.if-left-eq0.false)
@@ -74,11 +74,11 @@ light : (c : Else-weight-limit) → ltb c.args.w.maximum (get_or c.args.weights.
 light c = le-ltb c.args.w.maximum (get_or c.args.weights.now (c.loop-count.count - 1) 0) c.if-weight-limit.false
 
 pub bounds-conditions-count : goal.bounds-conditions-count
-bounds-conditions-count c = let s = c.requires.0.same in omega arith
+bounds-conditions-count c = let s = c.requires.shape.same in omega arith
 
 pub decided-requires : goal.decided-requires
 decided-requires c =
-    let p = c.requires.0 in
+    let p = c.requires.shape in
     let s = p.same in
     let v = c.loop-count in
     let t = c.loop-count-test.true in
@@ -105,7 +105,7 @@ pub overflow_sub-hit : goal.overflow_sub-hit
 overflow_sub-hit c =
     let g = c.args in
     let v = c.loop-count in
-    let h = hit_left v.words (v.maximum / 64 + 1) (get_or g.weights.now (v.count - 1) 0) g.w.lower g.w.maximum (v.left - 1) c.in-Hit.after (sym c.union_shifted_until_hit-ended.ensures.1 ∙ c.in-Hit.is) in
+    let h = hit_left v.words (v.maximum / 64 + 1) (get_or g.weights.now (v.count - 1) 0) g.w.lower g.w.maximum (v.left - 1) c.in-Hit.after (sym c.union_shifted_until_hit-ended.ensures.ended ∙ c.in-Hit.is) in
     omega arith
 
 pub returns-in-Hit : goal.returns-in-Hit
@@ -115,7 +115,7 @@ returns-in-Hit c =
     sym
     (from_fits g.w (in_either g.sure.now g.never.now) (last_term g.conditions.now g.weights.now v.count) (last_terms_of g.conditions.now g.weights.now (v.count - 1))
     v.words v.maximum (v.left - 1)
-    (light (goal.at.returns-in-Hit c).Else-weight-limit) ((let it : in_either c.args.sure.now c.args.never.now (get_or c.args.conditions.now (c.loop-count.count - 1) 0) ≡ false = sym c.decided.ensures ∙ c.if-decided.false in it)) c.in-Hit.after (sym c.union_shifted_until_hit-ended.ensures.1 ∙ c.in-Hit.is))
+    (light (goal.at.returns-in-Hit c).Else-weight-limit) ((let it : in_either c.args.sure.now c.args.never.now (get_or c.args.conditions.now (c.loop-count.count - 1) 0) ≡ false = sym c.decided.ensures ∙ c.if-decided.false in it)) c.in-Hit.after (sym c.union_shifted_until_hit-ended.ensures.ended ∙ c.in-Hit.is))
     ∙ from_here (goal.at.returns-in-Hit c).Else-left-eq0
 
 pub returns-in-Stopped : goal.returns-in-Stopped
@@ -125,20 +125,19 @@ returns-in-Stopped c =
     sym
     (from_stopped g.w (in_either g.sure.now g.never.now) (last_term g.conditions.now g.weights.now v.count) (last_terms_of g.conditions.now g.weights.now (v.count - 1))
     v.words v.maximum (v.left - 1)
-    (light (goal.at.returns-in-Stopped c).Else-weight-limit) ((let it : in_either c.args.sure.now c.args.never.now (get_or c.args.conditions.now (c.loop-count.count - 1) 0) ≡ false = sym c.decided.ensures ∙ c.if-decided.false in it)) (sym c.union_shifted_until_hit-ended.ensures.1 ∙ c.in-Stopped.is))
+    (light (goal.at.returns-in-Stopped c).Else-weight-limit) ((let it : in_either c.args.sure.now c.args.never.now (get_or c.args.conditions.now (c.loop-count.count - 1) 0) ≡ false = sym c.decided.ensures ∙ c.if-decided.false in it)) (sym c.union_shifted_until_hit-ended.ensures.ended ∙ c.in-Stopped.is))
     ∙ from_here (goal.at.returns-in-Stopped c).Else-left-eq0
 
 pub overflow_add-maximum-in-Complete : goal.overflow_add-maximum-in-Complete
 overflow_add-maximum-in-Complete c =
-    let p = c.requires.1.0 in
+    let p = c.requires.prepared.0 in
     omega (arith, p.words, p.enough, p.visits, c.loop-count.invariant.4, c.if-weight-limit.false)
 
 pub loop-count-preserved : goal.loop-count-preserved
 loop-count-preserved c =
     let g = c.args in
     let v = c.loop-count in
-    let u = c.union_shifted_until_hit-ended.ensures in
-    let q : (union_shifted v.words (v.maximum / 64 + 1) (get_or g.weights.now (v.count - 1) 0) g.w.lower g.w.maximum (v.left - 1)).ended ≡ _ = sym u.1 ∙ c.in-Complete.is in
+    let q : (union_shifted v.words (v.maximum / 64 + 1) (get_or g.weights.now (v.count - 1) 0) g.w.lower g.w.maximum (v.left - 1)).ended ≡ _ = sym c.union_shifted_until_hit-ended.ensures.ended ∙ c.in-Complete.is in
     let k = complete_visits v.words (v.maximum / 64 + 1) (get_or g.weights.now (v.count - 1) 0) g.w.lower g.w.maximum (v.left - 1) c.in-Complete.after q in
     let m = c.smaller-maximum.ensures in (
       refl,
@@ -146,8 +145,8 @@ loop-count-preserved c =
       omega arith,
       omega arith,
       omega arith,
-      ap length u.0 ∙ union_length v.words (v.maximum / 64 + 1) (get_or g.weights.now (v.count - 1) 0) g.w.lower g.w.maximum (v.left - 1) ∙ v.invariant.5,
-      ap₂ (λ (l : List ℕ) (n : ℕ). search_from g.w (in_either g.sure.now g.never.now) (last_terms_of g.conditions.now g.weights.now (v.count - 1)) l n c.in-Complete.after) u.0 m
+      ap length c.union_shifted_until_hit-ended.ensures.moved ∙ union_length v.words (v.maximum / 64 + 1) (get_or g.weights.now (v.count - 1) 0) g.w.lower g.w.maximum (v.left - 1) ∙ v.invariant.5,
+      ap₂ (λ (l : List ℕ) (n : ℕ). search_from g.w (in_either g.sure.now g.never.now) (last_terms_of g.conditions.now g.weights.now (v.count - 1)) l n c.in-Complete.after) c.union_shifted_until_hit-ended.ensures.moved m
           ∙ sym
           (from_more g.w (in_either g.sure.now g.never.now) (last_term g.conditions.now g.weights.now v.count) (last_terms_of g.conditions.now g.weights.now (v.count - 1))
           v.words v.maximum (v.left - 1)

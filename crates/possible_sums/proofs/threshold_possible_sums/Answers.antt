@@ -15,30 +15,24 @@ use Rattle.possible_sums.proofs.threshold_possible_sums.Goals as goal
 
 pub returns-in_default : goal.returns-in_default
 returns-in_default c =
-    let g = c.args in (
-      sym
+    let g = c.args in record { found = sym
           (search-none (terms g.conditions.now g.weights.now) g.state (in_either g.sure.now g.never.now)
-          (sym c.for_row.ensures ∙ c.in_default.is)),
-      search rules,
-    )
+          (sym c.for_row.ensures ∙ c.in_default.is)); kept = search rules }
 
 pub slice_bounds-attempt-end : goal.slice_bounds-attempt-end
-slice_bounds-attempt-end c = (let it : c.in-Planned.w.words ≤ length c.args.words.now = let r = (let it : Prepared c.in-Planned.w = let g = c.args in plan_prepared (terms g.conditions.now g.weights.now) g.state c.in-Planned.w (omega (arith, length-terms g.conditions.now g.weights.now, c.requires.0.1)) (sym c.for_row.ensures ∙ c.in-Planned.is) in it) in omega (arith, r.enough, r.visits, c.requires.1.0) in it)
+slice_bounds-attempt-end c = (let it : c.in-Planned.w.words ≤ length c.args.words.now = let r = (let it : Prepared c.in-Planned.w = let g = c.args in plan_prepared (terms g.conditions.now g.weights.now) g.state c.in-Planned.w (omega (arith, length-terms g.conditions.now g.weights.now, c.requires.shape.1)) (sym c.for_row.ensures ∙ c.in-Planned.is) in it) in omega (arith, r.enough, r.visits, c.requires.in_bounds.0) in it)
 
 pub attempt-requires : goal.attempt-requires
 attempt-requires c =
     let g = c.args in
     let n = c.in-Planned.w.words in
     let e : n - 0 ≡ n = omega arith in
-    (c.requires.0.0, ((let it : Prepared c.in-Planned.w = let g = c.args in plan_prepared (terms g.conditions.now g.weights.now) g.state c.in-Planned.w (omega (arith, length-terms g.conditions.now g.weights.now, c.requires.0.1)) (sym c.for_row.ensures ∙ c.in-Planned.is) in it), rw e (length-take-le n g.words.now ((let it : c.in-Planned.w.words ≤ length c.args.words.now = let r = (let it : Prepared c.in-Planned.w = let g = c.args in plan_prepared (terms g.conditions.now g.weights.now) g.state c.in-Planned.w (omega (arith, length-terms g.conditions.now g.weights.now, c.requires.0.1)) (sym c.for_row.ensures ∙ c.in-Planned.is) in it) in omega (arith, r.enough, r.visits, c.requires.1.0) in it)))))
+    record { shape = c.requires.shape.0; prepared = ((let it : Prepared c.in-Planned.w = let g = c.args in plan_prepared (terms g.conditions.now g.weights.now) g.state c.in-Planned.w (omega (arith, length-terms g.conditions.now g.weights.now, c.requires.shape.1)) (sym c.for_row.ensures ∙ c.in-Planned.is) in it), rw e (length-take-le n g.words.now ((let it : c.in-Planned.w.words ≤ length c.args.words.now = let r = (let it : Prepared c.in-Planned.w = let g = c.args in plan_prepared (terms g.conditions.now g.weights.now) g.state c.in-Planned.w (omega (arith, length-terms g.conditions.now g.weights.now, c.requires.shape.1)) (sym c.for_row.ensures ∙ c.in-Planned.is) in it) in omega (arith, r.enough, r.visits, c.requires.in_bounds.0) in it)))) }
 
 pub returns : goal.returns
 returns c =
     let g = c.args in
-    let a = c.attempt.ensures in (
-      a.0
+    record { found = c.attempt.ensures.searched
           ∙ sym
           (search-begins (terms g.conditions.now g.weights.now) g.state (in_either g.sure.now g.never.now) c.in-Planned.w
-          (sym c.for_row.ensures ∙ c.in-Planned.is)),
-      zeros_back g.words.now c.in-Planned.w.words c.requires.1.1 ((let it : c.in-Planned.w.words ≤ length c.args.words.now = let r = (let it : Prepared c.in-Planned.w = let g = c.args in plan_prepared (terms g.conditions.now g.weights.now) g.state c.in-Planned.w (omega (arith, length-terms g.conditions.now g.weights.now, c.requires.0.1)) (sym c.for_row.ensures ∙ c.in-Planned.is) in it) in omega (arith, r.enough, r.visits, c.requires.1.0) in it)) _ a.1,
-    )
+          (sym c.for_row.ensures ∙ c.in-Planned.is)); kept = zeros_back g.words.now c.in-Planned.w.words c.requires.in_bounds.1 ((let it : c.in-Planned.w.words ≤ length c.args.words.now = let r = (let it : Prepared c.in-Planned.w = let g = c.args in plan_prepared (terms g.conditions.now g.weights.now) g.state c.in-Planned.w (omega (arith, length-terms g.conditions.now g.weights.now, c.requires.shape.1)) (sym c.for_row.ensures ∙ c.in-Planned.is) in it) in omega (arith, r.enough, r.visits, c.requires.in_bounds.0) in it)) _ c.attempt.ensures.cleared }

@@ -9,11 +9,11 @@ returns-then-value c =
     let a = c.args in
     let l = c.learn-step in
     decide_sure_lem a.sure.now a.never.now (queue a.node_queue.now a.ring) a.n a.value
-    l.new.mask l.result (queue c.wait-next.new.node_queue c.wait-next.result) c.wait-next.ensures c.if-value.true l.ensures.0 l.ensures.1
+    l.new.mask l.result (queue c.wait-next.new.node_queue c.wait-next.result) c.wait-next.ensures c.if-value.true l.ensures.into l.ensures.step
 
 pub returns : goal.returns
 returns c =
     let a = c.args in
     let l = c.learn-step-2 in
     decide_never_lem a.sure.now a.never.now (queue a.node_queue.now a.ring) a.n a.value
-    l.new.mask l.result (queue c.wait-next-2.new.node_queue c.wait-next-2.result) c.wait-next-2.ensures c.if-value.false l.ensures.0 l.ensures.1
+    l.new.mask l.result (queue c.wait-next-2.new.node_queue c.wait-next-2.result) c.wait-next-2.ensures c.if-value.false l.ensures.into l.ensures.step

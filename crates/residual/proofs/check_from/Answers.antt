@@ -16,12 +16,12 @@ use Rattle.residual.proofs.check_from.Goals as goal
 pub loop-remaining-init : goal.loop-remaining-init
 loop-remaining-init c =
     let g = c.args in
-    let p = c.requires.0 in
+    let p = c.requires.shape in
     (omega arith, ap (λ (l : List Term). check_from g.i (in_either g.sure.now g.never.now) l 0) (last_all g.conditions.now g.weights.now p.same))
 
 pub decided-requires : goal.decided-requires
 decided-requires c =
-    let p = c.requires.0 in
+    let p = c.requires.shape in
     (p.below (c.loop-remaining.remaining - 1) (omega arith), p.in_sure, p.in_never)
 
 pub loop-remaining-preserved-then-decided : goal.loop-remaining-preserved-then-decided
@@ -36,7 +36,7 @@ loop-remaining-preserved-then-decided c =
     )
 
 pub stops-requires : goal.stops-requires
-stops-requires c = c.requires.1
+stops-requires c = c.requires.window
 
 pub returns-then-stops : goal.returns-then-stops
 returns-then-stops c =
@@ -73,7 +73,7 @@ returns-then-divisor-ne0 c =
 
 pub misses-requires : goal.misses-requires
 misses-requires c =
-    let p = c.requires.1 in
+    let p = c.requires.window in
     (p.above, omega (arith, p.inside, c.smaller-upper.ensures))
 
 pub returns-then-misses : goal.returns-then-misses

@@ -15,19 +15,19 @@ use Rattle.residual.proofs.force_from.Goals as goal
 pub loop-position-init : goal.loop-position-init
 loop-position-init c =
     let g = c.args in
-    let p = c.requires.1.3 in
+    let p = c.requires.weights_in_bounds.3 in
     (omega arith, refl, refl, refl, p, refl)
 
 pub decided-requires : goal.decided-requires
 decided-requires c =
-    let p = c.requires.0 in
+    let p = c.requires.shape in
     let w = c.loop-position in
     (p.below w.position (omega arith), omega (arith, w.invariant.1, p.in_sure), omega (arith, w.invariant.2, p.in_never))
 
 pub loop-position-preserved-then-decided : goal.loop-position-preserved-then-decided
 loop-position-preserved-then-decided c =
     let g = c.args in
-    let p = c.requires.0 in
+    let p = c.requires.shape in
     let w = c.loop-position in (
       omega arith,
       w.invariant.1,
@@ -44,16 +44,13 @@ pub force_term-forced-requires : goal.force_term-forced-requires
 force_term-forced-requires c =
     let w = c.loop-position in
     let t = c.loop-position-test.true in
-    let p = c.requires.0 in
-    let q = c.requires.1 in (
-      omega (arith, q.1, q.2 w.position (omega (arith, t))),
-      (w.invariant.4.held, p.below w.position (omega (arith, t, p.same)), omega (arith, w.invariant.1, p.in_sure), omega (arith, w.invariant.2, p.in_never)),
-    )
+    let p = c.requires.shape in
+    let q = c.requires.weights_in_bounds in record { weight_bound = omega (arith, q.1, q.2 w.position (omega (arith, t))); held = (w.invariant.4.held, p.below w.position (omega (arith, t, p.same)), omega (arith, w.invariant.1, p.in_sure), omega (arith, w.invariant.2, p.in_never)) }
 
 pub returns-then-contradicts : goal.returns-then-contradicts
 returns-then-contradicts c =
     let g = c.args in
-    let p = c.requires.0 in
+    let p = c.requires.shape in
     let w = c.loop-position in
     let t = c.loop-position-test.true in
     let j = c.joined_decision-so_far in
@@ -67,7 +64,7 @@ returns-then-contradicts c =
 pub loop-position-preserved : goal.loop-position-preserved
 loop-position-preserved c =
     let g = c.args in
-    let p = c.requires.0 in
+    let p = c.requires.shape in
     let w = c.loop-position in
     let t = c.loop-position-test.true in
     let j = c.joined_decision-so_far in

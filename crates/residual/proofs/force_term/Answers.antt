@@ -44,10 +44,10 @@ pub off_misses-off-requires : goal.off_misses-off-requires
 off_misses-off-requires c = tt
 
 pub on_misses-on-requires : goal.on_misses-on-requires
-on_misses-on-requires c = c.requires.0
+on_misses-on-requires c = c.requires.weight_bound
 
 pub decide-requires : goal.decide-requires
-decide-requires c = c.requires.1
+decide-requires c = c.requires.held
 
 pub shape_of-sure-then-off : goal.shape_of-sure-then-off
 shape_of-sure-then-off c = c.decide.auto.sure
@@ -59,7 +59,7 @@ pub shape_of-node_queue-then-off : goal.shape_of-node_queue-then-off
 shape_of-node_queue-then-off c = c.decide.auto.node_queue
 
 pub decide-requires-then-on-2 : goal.decide-requires-then-on-2
-decide-requires-then-on-2 c = c.requires.1
+decide-requires-then-on-2 c = c.requires.held
 
 pub shape_of-sure-then-on-2 : goal.shape_of-sure-then-on-2
 shape_of-sure-then-on-2 c = c.decide-then-on-2.auto.sure

@@ -26,7 +26,7 @@ loop-left-init c =
 
 pub decided-skip-requires : goal.decided-skip-requires
 decided-skip-requires c =
-    (c.requires.0.below (c.loop-left.left - 1) (omega arith), c.requires.0.in_sure, c.requires.0.in_never)
+    (c.requires.shape.below (c.loop-left.left - 1) (omega arith), c.requires.shape.in_sure, c.requires.shape.in_never)
 
 pub loop-left-preserved : goal.loop-left-preserved
 loop-left-preserved c =

@@ -16,7 +16,7 @@ use borrow.Author.Rules.{rules}
 use Rattle.residual.proofs.threshold_residual.Goals as goal
 
 pub threshold_residual_check-checked-requires : goal.threshold_residual_check-checked-requires
-threshold_residual_check-checked-requires c = c.requires.0
+threshold_residual_check-checked-requires c = c.requires.shape
 
 pub returns-then-contradicts : goal.returns-then-contradicts
 returns-then-contradicts c =
@@ -26,7 +26,7 @@ returns-then-contradicts c =
     (sym (c.contradicts.ensures ∙ ap contradicts c.threshold_residual_check-checked.ensures) ∙ c.if-contradicts.true))
 
 pub nothing_forced-requires : goal.nothing_forced-requires
-nothing_forced-requires c = c.requires.0
+nothing_forced-requires c = c.requires.shape
 
 pub returns-then-nothing_forced : goal.returns-then-nothing_forced
 returns-then-nothing_forced c =
@@ -37,7 +37,7 @@ returns-then-nothing_forced c =
     (sym c.nothing_forced.ensures ∙ c.if-nothing_forced.true))
 
 pub prepare_suffix-requires : goal.prepare_suffix-requires
-prepare_suffix-requires c = (c.requires.0, c.requires.1.0)
+prepare_suffix-requires c = record { shape = c.requires.shape; weights_in_bounds = c.requires.weights_in_bounds.0 }
 
 pub force_from-requires : goal.force_from-requires
 force_from-requires c =
@@ -46,7 +46,7 @@ force_from-requires c =
     let k = natural_small g.state.known f in
     let i = ap (λ (x : Interval). x.known) c.interval_of.ensures in
     let n = c.prepare_suffix.auto.gcds in
-    (c.requires.0, (omega (arith, c.requires.1.0, n), omega (arith, i, k), c.requires.1.1, c.requires.1.2))
+    record { shape = c.requires.shape; weights_in_bounds = (omega (arith, c.requires.weights_in_bounds.0, n), omega (arith, i, k), c.requires.weights_in_bounds.1, c.requires.weights_in_bounds.2) }
 
 pub shape_of-sure : goal.shape_of-sure
 shape_of-sure c = c.force_from.auto.sure

@@ -18,32 +18,29 @@ use Rattle.row_moves.proofs.run_at.Goals as goal
 
 pub load-state-requires : goal.load-state-requires
 load-state-requires c =
-    let p = c.requires in
-    omega (arith, p.1.long, p.0.1)
+    omega (arith, c.requires.ready_live.long, c.requires.shaped.1)
 
 pub rests_at-requires : goal.rests_at-requires
 rests_at-requires c =
     let a = c.args in
-    let p = c.requires in
     let load = c.load-state in
-    let fit = fit_by ((let a = c.args in held_rows a.row_conditions.now a.row_weights.now a.rows.now a.guard_bounds.now a.guard_nodes.now)) figure_limit a.row load.result (state_at ((let a = c.args in live_of a.figures.now a.cursors.now a.sure.now a.never.now a.node_queue.now a.row_queues.now a.rings)) a.row) load.ensures (p.1.fit a.row p.0.1) in
-    ((a.guard_nodes.now, p.0.0, fit), p.0.1, omega (arith, p.1.waits.sures), omega (arith, p.1.waits.nevers))
+    let fit = fit_by ((let a = c.args in held_rows a.row_conditions.now a.row_weights.now a.rows.now a.guard_bounds.now a.guard_nodes.now)) figure_limit a.row load.result (state_at ((let a = c.args in live_of a.figures.now a.cursors.now a.sure.now a.never.now a.node_queue.now a.row_queues.now a.rings)) a.row) load.ensures (c.requires.ready_live.fit a.row c.requires.shaped.1) in
+    ((a.guard_nodes.now, c.requires.shaped.0, fit), c.requires.shaped.1, omega (arith, c.requires.ready_live.waits.sures), omega (arith, c.requires.ready_live.waits.nevers))
 
 pub returns-then-rests_at : goal.returns-then-rests_at
 returns-then-rests_at c =
     let a = c.args in
-    let p = c.requires in
     let load = c.load-state in
     let row = held_row ((let a = c.args in held_rows a.row_conditions.now a.row_weights.now a.rows.now a.guard_bounds.now a.guard_nodes.now)) a.row in
     let v = (let a = c.args in live_of a.figures.now a.cursors.now a.sure.now a.never.now a.node_queue.now a.row_queues.now a.rings) in
-    let rest = c.rests_at.ensures c.if-rests_at.true a.guard_nodes.now (queue a.node_queue.now a.rings.nodes) p.0.0 in
+    let rest = c.rests_at.ensures c.if-rests_at.true a.guard_nodes.now (queue a.node_queue.now a.rings.nodes) c.requires.shaped.0 in
     let there = subst (λ (y : State). Rests row y v.marks) load.ensures rest in
     let o : Rings → Live = λ q. live_of a.figures.now a.cursors.now a.sure.now a.never.now a.node_queue.now a.row_queues.now q in
     let Did-of = c.did_of in
     (stood_as o Did-of.result.rings a.rings Did-of.result.step Unchanged Did-of.ensures.0 Did-of.ensures.1 (run_with row v a.row) (rest_run row v a.row there), λ t. t)
 
 pub run_cut-made-requires : goal.run_cut-made-requires
-run_cut-made-requires c = c.requires
+run_cut-made-requires c = record { shaped = c.requires.shaped; ready = c.requires.ready_live }
 
 pub shape_of-figures : goal.shape_of-figures
 shape_of-figures c = c.run_cut-made.auto.figures

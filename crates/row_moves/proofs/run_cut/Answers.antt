@@ -17,21 +17,18 @@ pub slice_bounds-run_row-count : goal.slice_bounds-run_row-count
 slice_bounds-run_row-count c =
     let terms_end = c.terms_end-e in
     let terms-start = c.terms_start-a in
-    let p = c.requires in
-    omega (arith, terms-start.ensures.0, terms_end.ensures.0, p.0.0.terms.rising c.args.row p.0.1)
+    omega (arith, terms-start.ensures.0, terms_end.ensures.0, c.requires.shaped.0.terms.rising c.args.row c.requires.shaped.1)
 
 pub slice_bounds-run_row-start : goal.slice_bounds-run_row-start
 slice_bounds-run_row-start c =
     let terms_end = c.terms_end-e in
     let terms-start = c.terms_start-a in
-    let p = c.requires in
-    omega (arith, terms-start.ensures.0, terms_end.ensures.0, p.0.0.terms.rising c.args.row p.0.1)
+    omega (arith, terms-start.ensures.0, terms_end.ensures.0, c.requires.shaped.0.terms.rising c.args.row c.requires.shaped.1)
 
 pub slice_bounds-run_row-end : goal.slice_bounds-run_row-end
 slice_bounds-run_row-end c =
     let terms_end = c.terms_end-e in
-    let p = c.requires in
-    omega (arith, terms_end.ensures.0, p.0.0.terms.ends c.args.row p.0.1)
+    omega (arith, terms_end.ensures.0, c.requires.shaped.0.terms.ends c.args.row c.requires.shaped.1)
 
 pub offset_bounds-row_weights-a : goal.offset_bounds-row_weights-a
 offset_bounds-row_weights-a c = omega (arith, c.terms_start-a.ensures.1)
@@ -40,21 +37,18 @@ pub slice_bounds-run_row-count-2 : goal.slice_bounds-run_row-count-2
 slice_bounds-run_row-count-2 c =
     let terms_end = c.terms_end-e in
     let terms-start = c.terms_start-a in
-    let p = c.requires in
-    omega (arith, terms-start.ensures.0, terms_end.ensures.0, p.0.0.terms.rising c.args.row p.0.1)
+    omega (arith, terms-start.ensures.0, terms_end.ensures.0, c.requires.shaped.0.terms.rising c.args.row c.requires.shaped.1)
 
 pub slice_bounds-run_row-start-2 : goal.slice_bounds-run_row-start-2
 slice_bounds-run_row-start-2 c =
     let terms_end = c.terms_end-e in
     let terms-start = c.terms_start-a in
-    let p = c.requires in
-    omega (arith, terms-start.ensures.0, terms_end.ensures.0, p.0.0.terms.rising c.args.row p.0.1)
+    omega (arith, terms-start.ensures.0, terms_end.ensures.0, c.requires.shaped.0.terms.rising c.args.row c.requires.shaped.1)
 
 pub slice_bounds-run_row-end-2 : goal.slice_bounds-run_row-end-2
 slice_bounds-run_row-end-2 c =
     let terms_end = c.terms_end-e in
-    let p = c.requires in
-    omega (arith, terms_end.ensures.0, p.0.0.terms.ends c.args.row p.0.1, p.0.0.weighed)
+    omega (arith, terms_end.ensures.0, c.requires.shaped.0.terms.ends c.args.row c.requires.shaped.1, c.requires.shaped.0.weighed)
 
 pub offset_bounds-guard_bounds-b : goal.offset_bounds-guard_bounds-b
 offset_bounds-guard_bounds-b c = omega (arith, c.guards_start-b.ensures.1)
@@ -63,21 +57,18 @@ pub slice_bounds-run_row-count-3 : goal.slice_bounds-run_row-count-3
 slice_bounds-run_row-count-3 c =
     let guards_end = c.guards_end-f in
     let guards-start = c.guards_start-b in
-    let p = c.requires in
-    omega (arith, guards-start.ensures.0, guards_end.ensures.0, p.0.0.guards.rising c.args.row p.0.1)
+    omega (arith, guards-start.ensures.0, guards_end.ensures.0, c.requires.shaped.0.guards.rising c.args.row c.requires.shaped.1)
 
 pub slice_bounds-run_row-start-3 : goal.slice_bounds-run_row-start-3
 slice_bounds-run_row-start-3 c =
     let guards_end = c.guards_end-f in
     let guards-start = c.guards_start-b in
-    let p = c.requires in
-    omega (arith, guards-start.ensures.0, guards_end.ensures.0, p.0.0.guards.rising c.args.row p.0.1)
+    omega (arith, guards-start.ensures.0, guards_end.ensures.0, c.requires.shaped.0.guards.rising c.args.row c.requires.shaped.1)
 
 pub slice_bounds-run_row-end-3 : goal.slice_bounds-run_row-end-3
 slice_bounds-run_row-end-3 c =
     let guards_end = c.guards_end-f in
-    let p = c.requires in
-    omega (arith, guards_end.ensures.0, p.0.0.guards.ends c.args.row p.0.1)
+    omega (arith, guards_end.ensures.0, c.requires.shaped.0.guards.ends c.args.row c.requires.shaped.1)
 
 pub offset_bounds-guard_nodes-b : goal.offset_bounds-guard_nodes-b
 offset_bounds-guard_nodes-b c = omega (arith, c.guards_start-b.ensures.1)
@@ -86,21 +77,18 @@ pub slice_bounds-run_row-count-4 : goal.slice_bounds-run_row-count-4
 slice_bounds-run_row-count-4 c =
     let guards_end = c.guards_end-f in
     let guards-start = c.guards_start-b in
-    let p = c.requires in
-    omega (arith, guards-start.ensures.0, guards_end.ensures.0, p.0.0.guards.rising c.args.row p.0.1)
+    omega (arith, guards-start.ensures.0, guards_end.ensures.0, c.requires.shaped.0.guards.rising c.args.row c.requires.shaped.1)
 
 pub slice_bounds-run_row-start-4 : goal.slice_bounds-run_row-start-4
 slice_bounds-run_row-start-4 c =
     let guards_end = c.guards_end-f in
     let guards-start = c.guards_start-b in
-    let p = c.requires in
-    omega (arith, guards-start.ensures.0, guards_end.ensures.0, p.0.0.guards.rising c.args.row p.0.1)
+    omega (arith, guards-start.ensures.0, guards_end.ensures.0, c.requires.shaped.0.guards.rising c.args.row c.requires.shaped.1)
 
 pub slice_bounds-run_row-end-4 : goal.slice_bounds-run_row-end-4
 slice_bounds-run_row-end-4 c =
     let guards_end = c.guards_end-f in
-    let p = c.requires in
-    omega (arith, guards_end.ensures.0, p.0.0.guards.ends c.args.row p.0.1, p.0.0.named)
+    omega (arith, guards_end.ensures.0, c.requires.shaped.0.guards.ends c.args.row c.requires.shaped.1, c.requires.shaped.0.named)
 
 pub run_row-requires : goal.run_row-requires
 run_row-requires c =
@@ -109,16 +97,15 @@ run_row-requires c =
     let terms_end = c.terms_end-e in
     let terms-start = c.terms_start-a in
     let a = c.args in
-    let p = c.requires in
     let h = held_rows a.row_conditions.now a.row_weights.now a.rows.now a.guard_bounds.now a.guard_nodes.now in
     let v = live_of a.figures.now a.cursors.now a.sure.now a.never.now a.node_queue.now a.row_queues.now (standing a.nodes a.nodes a.residuals) in
-    let y = p.0.0 in
-    let k = p.0.1 in
-    let z = p.1 in
+    let y = c.requires.shaped.0 in
+    let k = c.requires.shaped.1 in
+    let z = c.requires.ready in
     let terms = term_slices h y a.row k terms-start.result terms_end.result terms-start.ensures.0 terms_end.ensures.0 in
     let guards = guard_slices h y a.row k guards-start.result guards_end.result guards-start.ensures.0 guards_end.ensures.0 in
     let runs = fit_runs h figure_limit a.row (state_at v a.row) (omega arith) y k guards-start.result guards_end.result guards-start.ensures.0 guards_end.ensures.0 (z.fit a.row k) in
-    ((omega (arith, k, z.long), terms, guards), ((runs, z.waits), (z.flags.held, omega (arith, y.few, k))))
+    record { row_in_bounds = (((omega (arith, k, z.long), terms, guards), ((runs, z.waits), (z.flags.held, omega (arith, y.few, k))))).0; runs = (((omega (arith, k, z.long), terms, guards), ((runs, z.waits), (z.flags.held, omega (arith, y.few, k))))).1; held = (((omega (arith, k, z.long), terms, guards), ((runs, z.waits), (z.flags.held, omega (arith, y.few, k))))).2 }
 
 pub shape_of-figures : goal.shape_of-figures
 shape_of-figures c = c.run_row.auto.figures

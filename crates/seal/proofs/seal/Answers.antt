@@ -12,27 +12,26 @@ use Rattle.seal.proofs.seal.Goals as goal
 
 pub first_states-requires : goal.first_states-requires
 first_states-requires c =
-    let w = c.requires.0 in
+    let w = c.requires.shaped in
     let h = (let a = c.args in held_rows a.row_conditions.now a.row_weights.now a.rows.now a.guard_bounds.now a.guard_nodes.now) in
     let y = w.1 in
     (y.terms, y.weighed, y.guards.rising, y.few, totals_more total_limit room_limit h.row-conditions h.row-weights h.rows (omega arith) w.2, w.3)
 
 pub seed_thresholds-requires : goal.seed_thresholds-requires
 seed_thresholds-requires c =
-    let w = c.requires in
     let h = (let a = c.args in held_rows a.row_conditions.now a.row_weights.now a.rows.now a.guard_bounds.now a.guard_nodes.now) in
     let v = (let a = c.args in live_of a.figures.now a.cursors.now a.sure.now a.never.now a.node_queue.now a.row_queues.now a.rings) in
-    let x = w.0.0.0 in
-    let z = w.0.0.1 in
-    let e = c.first_states.ensures.0 x h.guard_bounds h.guard_nodes w.0.1 z in
-    (w.0.1, seal_ready x h z w.0.1 w.0.2 v.states ((states_of c.first_states.new.figures c.first_states.new.cursors)) w.0.3 e v.marks w.1.0 v.residuals w.1.1)
+    let x = c.requires.shaped.0.0 in
+    let z = c.requires.shaped.0.1 in
+    let e = c.first_states.ensures.0 x h.guard_bounds h.guard_nodes c.requires.shaped.1 z in
+    record { shaped = c.requires.shaped.1; ready_live = seal_ready x h z c.requires.shaped.1 c.requires.shaped.2 v.states ((states_of c.first_states.new.figures c.first_states.new.cursors)) c.requires.shaped.3 e v.marks c.requires.waits.0 v.residuals c.requires.waits.1 }
 
 pub returns : goal.returns
 returns c =
     let h = (let a = c.args in held_rows a.row_conditions.now a.row_weights.now a.rows.now a.guard_bounds.now a.guard_nodes.now) in
     let t = c.seed_thresholds in (
       λ x z.
-          let e = c.first_states.ensures.0 x h.guard_bounds h.guard_nodes c.requires.0.1 z in
+          let e = c.first_states.ensures.0 x h.guard_bounds h.guard_nodes c.requires.shaped.1 z in
           seal_is x ((let a = c.args in live_of a.figures.now a.cursors.now a.sure.now a.never.now a.node_queue.now a.row_queues.now a.rings)) ((states_of c.first_states.new.figures c.first_states.new.cursors)) e (did ((live_of c.seed_thresholds.new.figures c.seed_thresholds.new.cursors c.seed_thresholds.new.sure c.seed_thresholds.new.never c.seed_thresholds.new.node_queue c.seed_thresholds.new.row_queues c.seed_thresholds.result.rings)) t.result.step) (t.ensures.0 x z),
       λ i. t.ensures.1 (c.first_states.ensures.1 i),
     )

@@ -15,7 +15,7 @@ loop-row-init c =
     let a = c.args in
     let h = held_rows a.row_conditions.now a.row_weights.now a.rows.now a.guard_bounds.now a.guard_nodes.now in
     let v = live_of a.figures.now a.cursors.now a.sure.now a.never.now a.node_queue.now a.row_queues.now a.rings in (
-      seeding_first h v c.requires.1,
+      seeding_first h v c.requires.ready_live,
       same_self a.figures.now a.cursors.now a.sure.now a.never.now a.node_queue.now a.row_queues.now,
       λ t. t,
     )
@@ -24,7 +24,7 @@ pub run_at-turn-requires : goal.run_at-turn-requires
 run_at-turn-requires c =
     let test = c.loop-row-test in
     let w = c.loop-row in
-    ((c.requires.0, test.true), w.invariant.0.ready)
+    record { shaped = (c.requires.shaped, test.true); ready_live = w.invariant.0.ready }
 
 pub shape_of-figures-then-contradicts : goal.shape_of-figures-then-contradicts
 shape_of-figures-then-contradicts c =
@@ -72,7 +72,7 @@ returns-then-contradicts c =
     let v = live_of a.figures.now a.cursors.now a.sure.now a.never.now a.node_queue.now a.row_queues.now a.rings in
     let u = live_of w.figures w.cursors w.sure w.never w.node_queue w.row_queues w.so_far.rings in
     let o = live_of run_at.new.figures run_at.new.cursors run_at.new.sure run_at.new.never run_at.new.node_queue run_at.new.row_queues run_at.result.rings in (
-      seeding_stop h v w.row w.so_far.step u w.invariant.0 c.requires.0 test.true
+      seeding_stop h v w.row w.so_far.step u w.invariant.0 c.requires.shaped test.true
           o run_at.result.step run_at.ensures.0 (sym c.contradicts.ensures ∙ c.if-contradicts.true),
       λ t. run_at.ensures.1 (w.invariant.2 t),
     )
@@ -80,7 +80,7 @@ returns-then-contradicts c =
 pub overflow_add-row : goal.overflow_add-row
 overflow_add-row c =
     let test = c.loop-row-test in
-    omega (arith, test.true, c.requires.0.few)
+    omega (arith, test.true, c.requires.shaped.few)
 
 pub loop-row-smaller : goal.loop-row-smaller
 loop-row-smaller c = omega (arith, c.loop-row-test.true)
@@ -99,7 +99,7 @@ loop-row-preserved c =
     let u = live_of w.figures w.cursors w.sure w.never w.node_queue w.row_queues w.so_far.rings in
     let o = live_of run_at.new.figures run_at.new.cursors run_at.new.sure run_at.new.never run_at.new.node_queue run_at.new.row_queues run_at.result.rings in
     let same = w.invariant.1 in (
-      seeding_next h v w.row w.so_far.step u w.invariant.0 c.requires.0 test.true
+      seeding_next h v w.row w.so_far.step u w.invariant.0 c.requires.shaped test.true
           o run_at.result.step run_at.ensures.0 (sym contradicts.ensures ∙ if1.false) join.result join.ensures,
       record {
         figures = ◌∙◌ {b = length w.figures} run_at.auto.figures same.figures;

@@ -25,18 +25,15 @@ reaches p f base z l e =
 pub seal-did-requires : goal.seal-did-requires
 seal-did-requires c =
     let a = c.args in
-    let p = c.requires.0 in (
-      (
+    let p = c.requires.0 in record { shaped = (
         seals_holds a.bounds.now ((let a = c.args in built (held_rows a.row_conditions.now a.row_weights.now a.rows.now a.guard_bounds.now a.guard_nodes.now) a.nodes.now a.edges.now a.links.now)) p.1 p.0 ((let a = c.args in kept a.figures.now a.cursors.now a.sure.now a.never.now a.search.now a.gcds.now a.node_queue.now a.row_queues.now a.answers.now)) a.rings p.2 p.3,
         seals_shaped a.bounds.now ((let a = c.args in built (held_rows a.row_conditions.now a.row_weights.now a.rows.now a.guard_bounds.now a.guard_nodes.now) a.nodes.now a.edges.now a.links.now)) p.1 p.0 ((let a = c.args in kept a.figures.now a.cursors.now a.sure.now a.never.now a.search.now a.gcds.now a.node_queue.now a.row_queues.now a.answers.now)) a.rings p.2 p.3,
         seals_totals a.bounds.now ((let a = c.args in built (held_rows a.row_conditions.now a.row_weights.now a.rows.now a.guard_bounds.now a.guard_nodes.now) a.nodes.now a.edges.now a.links.now)) p.1 p.0 ((let a = c.args in kept a.figures.now a.cursors.now a.sure.now a.never.now a.search.now a.gcds.now a.node_queue.now a.row_queues.now a.answers.now)) a.rings p.2 p.3,
         seals_room a.bounds.now ((let a = c.args in built (held_rows a.row_conditions.now a.row_weights.now a.rows.now a.guard_bounds.now a.guard_nodes.now) a.nodes.now a.edges.now a.links.now)) p.1 p.0 ((let a = c.args in kept a.figures.now a.cursors.now a.sure.now a.never.now a.search.now a.gcds.now a.node_queue.now a.row_queues.now a.answers.now)) a.rings p.2 p.3,
-      ),
-      (
+      ); waits = (
         seals_waits a.bounds.now ((let a = c.args in built (held_rows a.row_conditions.now a.row_weights.now a.rows.now a.guard_bounds.now a.guard_nodes.now) a.nodes.now a.edges.now a.links.now)) p.1 p.0 ((let a = c.args in kept a.figures.now a.cursors.now a.sure.now a.never.now a.search.now a.gcds.now a.node_queue.now a.row_queues.now a.answers.now)) a.rings p.2 p.3,
         seals_flags a.bounds.now ((let a = c.args in built (held_rows a.row_conditions.now a.row_weights.now a.rows.now a.guard_bounds.now a.guard_nodes.now) a.nodes.now a.edges.now a.links.now)) p.1 p.0 ((let a = c.args in kept a.figures.now a.cursors.now a.sure.now a.never.now a.search.now a.gcds.now a.node_queue.now a.row_queues.now a.answers.now)) a.rings p.2 p.3,
-      ),
-    )
+      ) }
 
 pub overflow_add-behind : goal.overflow_add-behind
 overflow_add-behind c =

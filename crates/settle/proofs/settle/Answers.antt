@@ -15,7 +15,7 @@ use Rattle.settle.proofs.settle.Goals as goal
 pub loop-busy-init : goal.loop-busy-init
 loop-busy-init c =
     (
-      settling_first c.args.bounds.now ((let a = c.args in built (held_rows a.row_conditions.now a.row_weights.now a.rows.now a.guard_bounds.now a.guard_nodes.now) a.nodes.now a.edges.now a.links.now)) ((let a = c.args in live_of a.figures.now a.cursors.now a.sure.now a.never.now a.node_queue.now a.row_queues.now a.rings)) c.requires.1,
+      settling_first c.args.bounds.now ((let a = c.args in built (held_rows a.row_conditions.now a.row_weights.now a.rows.now a.guard_bounds.now a.guard_nodes.now) a.nodes.now a.edges.now a.links.now)) ((let a = c.args in live_of a.figures.now a.cursors.now a.sure.now a.never.now a.node_queue.now a.row_queues.now a.rings)) c.requires.going,
       c.waits-busy.ensures,
       same_self c.args.figures.now c.args.cursors.now c.args.sure.now c.args.never.now c.args.node_queue.now c.args.row_queues.now,
       λ t. t,
@@ -24,7 +24,7 @@ loop-busy-init c =
 pub turn-turned-requires : goal.turn-turned-requires
 turn-turned-requires c =
     let l = c.loop-busy in
-    ((c.requires.0, row-waits l.so_far.rings.nodes.count l.so_far.rings.rows.count ((let l = c.loop-busy in not-true (eqb l.so_far.rings.nodes.count 0 && eqb l.so_far.rings.rows.count 0) (sym l.invariant.1 ∙ c.loop-busy-test.true)))), l.invariant.0.going)
+    record { count_nonzero = (c.requires.serves, row-waits l.so_far.rings.nodes.count l.so_far.rings.rows.count ((let l = c.loop-busy in not-true (eqb l.so_far.rings.nodes.count 0 && eqb l.so_far.rings.rows.count 0) (sym l.invariant.1 ∙ c.loop-busy-test.true)))); going = l.invariant.0.going }
 
 pub returns-then-contradicts : goal.returns-then-contradicts
 returns-then-contradicts c =
@@ -39,14 +39,14 @@ pub loop-busy-smaller : goal.loop-busy-smaller
 loop-busy-smaller c =
     let l = c.loop-busy in
     let t = c.turn-turned in
-    let w = c.requires.0 in
+    let w = c.requires.serves in
     settling_less c.args.bounds.now ((let a = c.args in built (held_rows a.row_conditions.now a.row_weights.now a.rows.now a.guard_bounds.now a.guard_nodes.now) a.nodes.now a.edges.now a.links.now)) ((let a = c.args in live_of a.figures.now a.cursors.now a.sure.now a.never.now a.node_queue.now a.row_queues.now a.rings)) l.so_far.step ((let l = c.loop-busy in live_of l.figures l.cursors l.sure l.never l.node_queue l.row_queues l.so_far.rings)) l.invariant.0 ((let l = c.loop-busy in not-true (eqb l.so_far.rings.nodes.count 0 && eqb l.so_far.rings.rows.count 0) (sym l.invariant.1 ∙ c.loop-busy-test.true))) (did ((live_of c.turn-turned.new.figures c.turn-turned.new.cursors c.turn-turned.new.sure c.turn-turned.new.never c.turn-turned.new.node_queue c.turn-turned.new.row_queues c.turn-turned.result.rings)) t.result.step) t.ensures.0 w.0 w.1
 
 pub loop-busy-preserved : goal.loop-busy-preserved
 loop-busy-preserved c =
     let l = c.loop-busy in
     let t = c.turn-turned in
-    let w = c.requires.0 in (
+    let w = c.requires.serves in (
       settling_next c.args.bounds.now ((let a = c.args in built (held_rows a.row_conditions.now a.row_weights.now a.rows.now a.guard_bounds.now a.guard_nodes.now) a.nodes.now a.edges.now a.links.now)) ((let a = c.args in live_of a.figures.now a.cursors.now a.sure.now a.never.now a.node_queue.now a.row_queues.now a.rings)) l.so_far.step ((let l = c.loop-busy in live_of l.figures l.cursors l.sure l.never l.node_queue l.row_queues l.so_far.rings)) l.invariant.0 ((let l = c.loop-busy in not-true (eqb l.so_far.rings.nodes.count 0 && eqb l.so_far.rings.rows.count 0) (sym l.invariant.1 ∙ c.loop-busy-test.true))) (did ((live_of c.turn-turned.new.figures c.turn-turned.new.cursors c.turn-turned.new.sure c.turn-turned.new.never c.turn-turned.new.node_queue c.turn-turned.new.row_queues c.turn-turned.result.rings)) t.result.step) t.ensures.0 w.0 w.1
           (sym c.contradicts.ensures ∙ c.if-contradicts.false) c.join.result c.join.ensures,
       c.waits-busy-in-loop-busy.ensures,

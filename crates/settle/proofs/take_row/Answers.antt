@@ -12,23 +12,23 @@ use Rattle.settle.proofs.take_row.Goals as goal
 
 pub oldest_row-row-requires : goal.oldest_row-row-requires
 oldest_row-row-requires c =
-    (slots_head 0 c.args.row_queues.now c.args.rings.rows c.requires.1.dirty, omega arith)
+    (slots_head 0 c.args.row_queues.now c.args.rings.rows c.requires.runnable.dirty, omega arith)
 
 pub next_row-next-requires : goal.next_row-next-requires
 next_row-next-requires c =
-    let f = c.requires.1.dirty in
-    let some = c.requires.0.2 in
+    let f = c.requires.runnable.dirty in
+    let some = c.requires.shaped.2 in
     (omega arith, refl, f.held, some, slots_oldest 0 c.args.row_queues.now c.args.rings.rows f some)
 
 pub threshold_prefixes-requires : goal.threshold_prefixes-requires
 threshold_prefixes-requires c =
     let v = (let a = c.args in live_of a.figures.now a.cursors.now a.sure.now a.never.now a.node_queue.now a.row_queues.now a.rings) in
-    let w = c.requires.0 in
+    let w = c.requires.shaped in
     let n = c.next_row-next in
     let q = n.new.row_queues in
     let r = c.args.rings in
-    let i = row_there (length c.args.rows.now) v.dirty c.requires.1.dirty w.2 w.3 c.oldest_row-row.result c.oldest_row-row.ensures in
-    ((w.0, w.1, i), row_run v w.2 (rows_in 0 q n.result) (rows_in 2 q r.residuals) n.ensures.0 (n.ensures.1 r.residuals) ((let a = c.args in held_rows a.row_conditions.now a.row_weights.now a.rows.now a.guard_bounds.now a.guard_nodes.now)) figure_limit c.requires.1)
+    let i = row_there (length c.args.rows.now) v.dirty c.requires.runnable.dirty w.2 w.3 c.oldest_row-row.result c.oldest_row-row.ensures in
+    record { shaped = (w.0, w.1, i); runnable = row_run v w.2 (rows_in 0 q n.result) (rows_in 2 q r.residuals) n.ensures.0 (n.ensures.1 r.residuals) ((let a = c.args in held_rows a.row_conditions.now a.row_weights.now a.rows.now a.guard_bounds.now a.guard_nodes.now)) figure_limit c.requires.runnable }
 
 pub returns : goal.returns
 returns c =
@@ -38,7 +38,7 @@ returns c =
     let r = c.args.rings in
     let t = c.threshold_prefixes in (
       λ x z y.
-          row_is v c.requires.0.2 (rows_in 0 q n.result) (rows_in 2 q r.residuals) n.ensures.0 (n.ensures.1 r.residuals) x c.oldest_row-row.result c.oldest_row-row.ensures
+          row_is v c.requires.shaped.2 (rows_in 0 q n.result) (rows_in 2 q r.residuals) n.ensures.0 (n.ensures.1 r.residuals) x c.oldest_row-row.result c.oldest_row-row.ensures
           (did ((live_of c.threshold_prefixes.new.figures c.threshold_prefixes.new.cursors c.threshold_prefixes.new.sure c.threshold_prefixes.new.never c.threshold_prefixes.new.node_queue c.threshold_prefixes.new.row_queues c.threshold_prefixes.result.rings)) t.result.step) (t.ensures.0 x z y),
       t.ensures.1,
     )

@@ -10,9 +10,8 @@ use Rattle.settle.proofs.turn.Goals as goal
 
 pub take_row-requires : goal.take_row-requires
 take_row-requires c =
-    let w = c.requires in
-    let s = w.0.0.1 in
-    ((s.shaped, s.linked, w.0.1 c.if-count-eq0.true, w.1.within.tracked.dirty), going_run ((let a = c.args in held_rows a.row_conditions.now a.row_weights.now a.rows.now a.guard_bounds.now a.guard_nodes.now)) c.args.nodes.now ((let a = c.args in live_of a.figures.now a.cursors.now a.sure.now a.never.now a.node_queue.now a.row_queues.now a.rings)) w.1)
+    let s = c.requires.count_nonzero.0.1 in
+    record { shaped = (s.shaped, s.linked, c.requires.count_nonzero.1 c.if-count-eq0.true, c.requires.going.within.tracked.dirty); runnable = going_run ((let a = c.args in held_rows a.row_conditions.now a.row_weights.now a.rows.now a.guard_bounds.now a.guard_nodes.now)) c.args.nodes.now ((let a = c.args in live_of a.figures.now a.cursors.now a.sure.now a.never.now a.node_queue.now a.row_queues.now a.rings)) c.requires.going }
 
 pub returns-then-count-eq0 : goal.returns-then-count-eq0
 returns-then-count-eq0 c =
@@ -22,8 +21,7 @@ returns-then-count-eq0 c =
 
 pub take_node-requires : goal.take_node-requires
 take_node-requires c =
-    let w = c.requires in
-    (((w.0.0.0, c.args.links.now, w.0.0.1), omega (arith, c.if-count-eq0.false)), w.1)
+    record { count_nonzero = ((c.requires.count_nonzero.0.0, c.args.links.now, c.requires.count_nonzero.0.1), omega (arith, c.if-count-eq0.false)); going = c.requires.going }
 
 pub returns : goal.returns
 returns c =

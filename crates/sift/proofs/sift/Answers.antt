@@ -18,8 +18,8 @@ use Rattle.sift.proofs.sift.Goals as goal
 pub loop-more-init : goal.loop-more-init
 loop-more-init c =
     (
-      sifting_first c.args.bounds.now ((let a = c.args in built (held_rows a.row_conditions.now a.row_weights.now a.rows.now a.guard_bounds.now a.guard_nodes.now) a.nodes.now a.edges.now a.links.now)) ((let a = c.args in live_of a.figures.now a.cursors.now a.sure.now a.never.now a.node_queue.now a.row_queues.now a.rings)) c.args.gcds.now c.requires.1,
-      c.requires.0.2,
+      sifting_first c.args.bounds.now ((let a = c.args in built (held_rows a.row_conditions.now a.row_weights.now a.rows.now a.guard_bounds.now a.guard_nodes.now) a.nodes.now a.edges.now a.links.now)) ((let a = c.args in live_of a.figures.now a.cursors.now a.sure.now a.never.now a.node_queue.now a.row_queues.now a.rings)) c.args.gcds.now c.requires.going,
+      c.requires.short.2,
       refl,
       same_self c.args.figures.now c.args.cursors.now c.args.sure.now c.args.never.now c.args.node_queue.now c.args.row_queues.now,
       refl,
@@ -28,7 +28,7 @@ loop-more-init c =
 
 pub sift_once-round-requires : goal.sift_once-round-requires
 sift_once-round-requires c =
-    ((c.requires.0.0, c.requires.0.1, c.loop-more.invariant.1), c.loop-more.invariant.0.going)
+    record { short = (c.requires.short.0, c.requires.short.1, c.loop-more.invariant.1); going = c.loop-more.invariant.0.going }
 
 pub returns-then-contradicts : goal.returns-then-contradicts
 returns-then-contradicts c =
@@ -45,7 +45,7 @@ pub loop-more-smaller : goal.loop-more-smaller
 loop-more-smaller c =
     let a = c.args in
     let l = c.loop-more in
-    let w = c.requires.0.0 in
+    let w = c.requires.short.0 in
     sifting_less a.bounds.now ((let a = c.args in built (held_rows a.row_conditions.now a.row_weights.now a.rows.now a.guard_bounds.now a.guard_nodes.now) a.nodes.now a.edges.now a.links.now)) ((let a = c.args in live_of a.figures.now a.cursors.now a.sure.now a.never.now a.node_queue.now a.row_queues.now a.rings)) a.gcds.now l.so_far.step l.so_far.visits l.more ((let l = c.loop-more in live_of l.figures l.cursors l.sure l.never l.node_queue l.row_queues l.so_far.rings)) l.gcds l.invariant.0 c.loop-more-test.true
     ((let r = c.sift_once-round.result in round (sifted (live_of c.sift_once-round.new.figures c.sift_once-round.new.cursors c.sift_once-round.new.sure c.sift_once-round.new.never c.sift_once-round.new.node_queue c.sift_once-round.new.row_queues r.rings) c.sift_once-round.new.gcds r.step r.visits) r.more)) c.sift_once-round.ensures.0 w.0 w.1
 
@@ -53,7 +53,7 @@ pub loop-more-preserved : goal.loop-more-preserved
 loop-more-preserved c =
     let a = c.args in
     let l = c.loop-more in
-    let w = c.requires.0.0 in
+    let w = c.requires.short.0 in
     let t = c.sift_once-round in
     (
       sifting_next a.bounds.now ((let a = c.args in built (held_rows a.row_conditions.now a.row_weights.now a.rows.now a.guard_bounds.now a.guard_nodes.now) a.nodes.now a.edges.now a.links.now)) ((let a = c.args in live_of a.figures.now a.cursors.now a.sure.now a.never.now a.node_queue.now a.row_queues.now a.rings)) a.gcds.now l.so_far.step l.so_far.visits l.more ((let l = c.loop-more in live_of l.figures l.cursors l.sure l.never l.node_queue l.row_queues l.so_far.rings)) l.gcds l.invariant.0 c.loop-more-test.true

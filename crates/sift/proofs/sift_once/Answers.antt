@@ -12,7 +12,7 @@ use Rattle.sift.proofs.sift_once.Goals as goal
 
 pub settle-settled-requires : goal.settle-settled-requires
 settle-settled-requires c =
-    (c.requires.0.0, c.requires.1)
+    record { serves = c.requires.short.0; going = c.requires.going }
 
 pub returns-then-contradicts : goal.returns-then-contradicts
 returns-then-contradicts c =
@@ -27,11 +27,10 @@ returns-then-count-eq0 c =
 
 pub try_row-tried-requires : goal.try_row-tried-requires
 try_row-tried-requires c =
-    let w = c.requires in
-    let x = w.0.0.0 in
-    let s = w.0.0.1 in
-    let v = settled_tries x c.args.bounds.now ((let a = c.args in built (held_rows a.row_conditions.now a.row_weights.now a.rows.now a.guard_bounds.now a.guard_nodes.now) a.nodes.now a.edges.now a.links.now)) s ((let a = c.args in live_of a.figures.now a.cursors.now a.sure.now a.never.now a.node_queue.now a.row_queues.now a.rings)) w.1 ((let d = c.settle-settled.result in did (live_of c.settle-settled.new.figures c.settle-settled.new.cursors c.settle-settled.new.sure c.settle-settled.new.never c.settle-settled.new.node_queue c.settle-settled.new.row_queues d.rings) d.step)) (c.settle-settled.ensures.0 x s) (omega (arith, c.if-count-eq0.false)) in
-    (c.args.guard_bounds.now, c.args.guard_nodes.now, v c.args.gcds.now c.args.search.now w.0.1 w.0.2)
+    let x = c.requires.short.0.0 in
+    let s = c.requires.short.0.1 in
+    let v = settled_tries x c.args.bounds.now ((let a = c.args in built (held_rows a.row_conditions.now a.row_weights.now a.rows.now a.guard_bounds.now a.guard_nodes.now) a.nodes.now a.edges.now a.links.now)) s ((let a = c.args in live_of a.figures.now a.cursors.now a.sure.now a.never.now a.node_queue.now a.row_queues.now a.rings)) c.requires.going ((let d = c.settle-settled.result in did (live_of c.settle-settled.new.figures c.settle-settled.new.cursors c.settle-settled.new.sure c.settle-settled.new.never c.settle-settled.new.node_queue c.settle-settled.new.row_queues d.rings) d.step)) (c.settle-settled.ensures.0 x s) (omega (arith, c.if-count-eq0.false)) in
+    (c.args.guard_bounds.now, c.args.guard_nodes.now, v c.args.gcds.now c.args.search.now c.requires.short.1 c.requires.short.2)
 
 pub returns : goal.returns
 returns c =

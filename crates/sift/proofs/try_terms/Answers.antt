@@ -16,10 +16,7 @@ pub threshold_residual-forced-requires : goal.threshold_residual-forced-requires
 threshold_residual-forced-requires c =
     let w = c.requires in
     let m = w.3 in
-    let t = w.0 in (
-      record { same = t.same; below = t.below; in_sure = omega (arith, m.sures); in_never = omega (arith, m.nevers) },
-      (omega (arith, w.1, w.4.room), t.light, m),
-    )
+    let t = w.0 in record { shape = record { same = t.same; below = t.below; in_sure = omega (arith, m.sures); in_never = omega (arith, m.nevers) }; weights_in_bounds = (omega (arith, w.1, w.4.room), t.light, m) }
 
 pub returns-then-number-ne0 : goal.returns-then-number-ne0
 returns-then-number-ne0 c =
@@ -34,18 +31,15 @@ pub threshold_possible_sums-found-requires : goal.threshold_possible_sums-found-
 threshold_possible_sums-found-requires c =
     let w = c.requires in
     let t = w.0 in
-    (
-      (record { same = t.same; below = t.below; in_sure = omega (arith, w.3.sures, c.threshold_residual-forced.auto.sure); in_never = omega (arith, w.3.nevers, c.threshold_residual-forced.auto.never) }, w.1, w.2),
-      (w.4.long, w.4.zero),
-    )
+    record { shape = (record { same = t.same; below = t.below; in_sure = omega (arith, w.3.sures, c.threshold_residual-forced.auto.sure); in_never = omega (arith, w.3.nevers, c.threshold_residual-forced.auto.never) }, w.1, w.2); in_bounds = (w.4.long, w.4.zero) }
 
 pub returns : goal.returns
 returns c =
     let f = c.threshold_possible_sums-found in (
       λ v.
           tried-search ((terms c.args.conditions.now c.args.weights.now)) c.args.state (with_marks v ((let a = c.args in marks a.sure.now a.never.now (queue a.node_queue.now a.ring)))) c.args.gcds.now c.args.visits ((let r = c.threshold_residual-forced in residual (marks r.new.sure r.new.never (queue r.new.node_queue r.result.ring)) r.result.step r.new.gcds)) c.threshold_residual-forced.ensures
-          c.number-number.result c.number-number.ensures c.if-number-ne0.false f.result f.ensures.0 c.step-last.result c.step-last.ensures c.visits-used.result c.visits-used.ensures,
-      f.ensures.1,
+          c.number-number.result c.number-number.ensures c.if-number-ne0.false f.result f.ensures.found c.step-last.result c.step-last.ensures c.visits-used.result c.visits-used.ensures,
+      f.ensures.kept,
     )
 
 pub shape_of-sure-then-number-ne0 : goal.shape_of-sure-then-number-ne0

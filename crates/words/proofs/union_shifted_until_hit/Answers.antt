@@ -21,28 +21,26 @@ returns-then-left-eq0 c =
     let g = c.args in
     let w = c.loop-source in
     let e = sym w.invariant.2 ∙ from_stopped g.shift g.start g.end w.words w.source w.left c.loop-source-test.true c.if-left-eq0.true in
-    (ap (λ (x : Shifted). x.words) (sym e), ap (λ (x : Shifted). x.ended) (sym e))
+    record { moved = ap (λ (x : Shifted). x.words) (sym e); ended = ap (λ (x : Shifted). x.ended) (sym e) }
 
 pub returns-then-shift_word : goal.returns-then-shift_word
 returns-then-shift_word c =
     let g = c.args in
     let w = c.loop-source in
-    let k = c.shift_word.ensures in
     let e = sym w.invariant.2
     ∙ from_hit g.shift g.start g.end w.words w.source w.left c.shift_word.result c.loop-source-test.true
-    c.if-left-eq0.false k.1 c.if-shift_word.true in
-    (k.0 ∙ ap (λ (x : Shifted). x.words) (sym e), ap (λ (x : Shifted). x.ended) (sym e))
+    c.if-left-eq0.false c.shift_word.ensures.hit c.if-shift_word.true in
+    record { moved = c.shift_word.ensures.moved ∙ ap (λ (x : Shifted). x.words) (sym e); ended = ap (λ (x : Shifted). x.ended) (sym e) }
 
 pub loop-source-preserved : goal.loop-source-preserved
 loop-source-preserved c =
     let g = c.args in
-    let w = c.loop-source in
-    let k = c.shift_word.ensures in (
-      ap length k.0 ∙ length_shift w.words (w.source - 1) g.shift ∙ w.invariant.0,
+    let w = c.loop-source in (
+      ap length c.shift_word.ensures.moved ∙ length_shift w.words (w.source - 1) g.shift ∙ w.invariant.0,
       search rules,
-      ap (λ (l : List ℕ). shift_from g.shift g.start g.end (w.source - 1) l (w.left - 1)) k.0
+      ap (λ (l : List ℕ). shift_from g.shift g.start g.end (w.source - 1) l (w.left - 1)) c.shift_word.ensures.moved
           ∙ sym (from_next g.shift g.start g.end w.words w.source w.left c.shift_word.result c.loop-source-test.true
-          c.if-left-eq0.false k.1 c.if-shift_word.false)
+          c.if-left-eq0.false c.shift_word.ensures.hit c.if-shift_word.false)
           ∙ w.invariant.2,
     )
 
@@ -51,4 +49,4 @@ returns c =
     let g = c.args in
     let w = c.loop-source in
     let e = sym w.invariant.2 ∙ from_none g.shift g.start g.end w.words w.source w.left (omega arith) in
-    (ap (λ (x : Shifted). x.words) (sym e), ap (λ (x : Shifted). x.ended) (sym e))
+    record { moved = ap (λ (x : Shifted). x.words) (sym e); ended = ap (λ (x : Shifted). x.ended) (sym e) }
