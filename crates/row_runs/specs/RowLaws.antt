@@ -311,4 +311,4 @@ module _ (r : Row) (s : State) where
 
 -- A number in this range is what its bits say.
 pub signed : (z : ℤ) → mag z < 2 ^ 61 → to_z w64 (of_z w64 z) ≡ z
-signed z h = to_z-of_z (record { sfits = omega arith })
+signed z h = to_z-of_z {w = w64} (record { sfits = omega arith })

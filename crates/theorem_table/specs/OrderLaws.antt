@@ -2,7 +2,7 @@
 use Rattle.std.specs.Prelude.{ℕ, ◌+◌, ◌-◌, ◌≤◌, ◌≡◌, refl, Bool, true, false, ◌⊎◌, T, ℤ, pos, ◌+ℤ◌, ◌-ℤ◌, ◌≤ℤ◌, ◌<ℤ◌}
 use Rattle.std.proofs.Common.{arith, sym, ap, ap₂, ◌∙◌, subst, inl, inr, le-leb}
 use Rattle.std.proofs.Math.Path.{subst⁻¹}
-use Rattle.std.proofs.Math.IntN.{-ℤ-+ℤ_cancel, +ℤ_comm, pos-+ℤ-pos}
+use Rattle.std.proofs.Math.IntN.{+ℤ_comm, -ℤ-+ℤ_cancel, pos-+ℤ-pos}
 use Rattle.std.specs.Int.Signed.{le_z, lt_z, le_z_yes, lt_z_yes, ≤ℤ_refl, clash_ℤ}
 use Rattle.base.specs.TestLaws.{clash}
 use Rattle.base.specs.SignedLaws.{le_z_trans, le_z_antisymm, le_z-lt_z, lt_z_weaken, nle-lt_z, le_z-add, le_z_minus, pos_minus, le_z-pos, max-left, max_right, max_least}
