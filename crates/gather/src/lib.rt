@@ -1,5 +1,6 @@
 // The job while its records come in: thresholds, terms and areas stored in the raw buffers.
 #![tactic(auto)]
+
 ghost use Rattle.std.specs.Prelude.{◌≡◌, [], ◌∷◌, ◌-◌, ◌<◌, ◌≤◌, length, get_or, set};
 ghost use Rattle.rows.specs.Guards.{node_at};
 ghost use Rattle.memory.specs.Ranges.{raw_limit};

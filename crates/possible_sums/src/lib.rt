@@ -1,5 +1,6 @@
 // A search over the possible sums of a drained row: possible_sums.rs.
 #![tactic(auto)]
+
 ghost use Rattle.std.specs.Prelude.{◌≡◌, ◌+◌, ◌-◌, ◌/◌, ◌<◌, ◌≤◌, min, reverse, length, replicate, set};
 ghost use Rattle.numeric.specs.Slices.{Shape, terms};
 ghost use Rattle.state.specs.Shape.{Figures};

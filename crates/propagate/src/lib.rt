@@ -1,5 +1,6 @@
 // One row run once: propagate.rs on the state of a row, its guards and its terms.
 #![tactic(auto)]
+
 ghost use Rattle.std.specs.Prelude.{◌≡◌, true, false, not, ◌&&◌, ◌+◌, ◌-◌, ◌<◌, ◌≤◌, ◌^◌, length, drop, List};
 ghost use Rattle.numeric.specs.Threshold.{Term};
 ghost use Rattle.numeric.specs.Slices.{terms};

@@ -1,5 +1,6 @@
 // Residual divisibility of a drained row: residual.rs.
 #![tactic(auto)]
+
 ghost use Rattle.std.specs.Prelude.{◌≡◌, ◌+◌, ◌-◌, ◌^◌, ◌<◌, ◌≤◌, false, reverse, length};
 ghost use Rattle.numeric.specs.Threshold.{term};
 ghost use Rattle.numeric.specs.Slices.{Below, Shape, terms};

@@ -1,5 +1,6 @@
 // Whether a row's run would change nothing, by one look at each of its cursors.
 #![tactic(auto)]
+
 ghost use Rattle.std.specs.Prelude.{◌≡◌, true, false, ℕ, ◌-◌, ◌<◌, ◌≤◌, length, drop, List, []};
 ghost use Rattle.numeric.specs.Slices.{terms};
 ghost use Rattle.state.specs.Shape.{Figures};

@@ -1,5 +1,6 @@
 // A row at its place in the buffers: its state loaded, the row run, its state stored (`threshold_row` of propagate.rs, over the buffers).
 #![tactic(auto)]
+
 ghost use Rattle.std.specs.Prelude.{◌≡◌, cond, true, ℕ, ◌<◌, ◌≤◌, length, get_or, set, List, []};
 ghost use Rattle.memory.specs.Buffers.{held_rows};
 ghost use Rattle.base.specs.Columns.{column};

@@ -32,7 +32,10 @@ overflow_add-sum c =
     }
 
 pub bounds-sums-i-2 : goal.bounds-sums-i-2
-bounds-sums-i-2 c = slice-read-sum c
+bounds-sums-i-2 c =
+    let g = c.args in
+    read_inside g.standing g.condition g.area g.raw_conditions.now g.raw_weights.now g.thresholds.now g.places.now g.sums.now c.requires.0 c.requires.1 c.requires.2 c.requires.4 c.requires.3 c.requires.5
+    c.place-at.result c.start_of.result c.place-at.ensures.0 c.start_of.ensures
 
 pub bounds-raw_weights-at : goal.bounds-raw_weights-at
 bounds-raw_weights-at c =

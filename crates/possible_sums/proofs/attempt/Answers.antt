@@ -12,6 +12,9 @@ use Rattle.possible_sums.proofs.attempt.Goals as goal
 pub returns : goal.returns
 returns c =
     let g = c.args in
-    let n = c.requires.prepared.1 in record { searched = c.search_from-found.ensures
+    let n = c.requires.prepared.1 in record {
+      searched = c.search_from-found.ensures
           ∙ ap₂ (λ (l : List ℕ) (k : ℕ). search_from g.w (in_either g.sure.now g.never.now) (reverse (terms g.conditions.now g.weights.now)) l 0 k)
-          (c.prepare-allowance.ensures.fresh ∙ ap (λ (k : ℕ). set (replicate k 0) 0 1) n) (c.prepare-allowance.ensures.left ∙ ap (λ (k : ℕ). g.w.visits - (k + 2)) n); cleared = c.clear.ensures ∙ ap (λ (k : ℕ). replicate k 0) (c.search_from-found.auto.words ∙ c.prepare-allowance.auto.words) }
+          (c.prepare-allowance.ensures.fresh ∙ ap (λ (k : ℕ). set (replicate k 0) 0 1) n) (c.prepare-allowance.ensures.left ∙ ap (λ (k : ℕ). g.w.visits - (k + 2)) n);
+      cleared = c.clear.ensures ∙ ap (λ (k : ℕ). replicate k 0) (c.search_from-found.auto.words ∙ c.prepare-allowance.auto.words);
+    }

@@ -15,14 +15,13 @@ use Rattle.words.specs.Shift.{union_shifted}
 use Rattle.words.specs.ShiftLaws.{union_length, complete_visits}
 use Rattle.searches.specs.Search.{search_from}
 use Rattle.numeric.specs.TermsLaws.{last_terms_of, last_all}
-use Rattle.searches.specs.SearchStepsLaws.{
+use Rattle.searches.specs.SearchStepsLaws.{last_term, turn, turn-none, turn-cut, from_heavy, from_skip, from_fits, from_stopped, from_more, hit_left}
 use Rattle.possible_sums.proofs.search_from.Goals as goal
 use Rattle.possible_sums.proofs.search_from.Goals.{Else-left-eq0, Else-weight-limit}
 
 pub loop-count-init : goal.loop-count-init
 loop-count-init c =
-    let g = c.args in
-    (
+    let g = c.args in (
       refl,
       refl,
       omega arith,

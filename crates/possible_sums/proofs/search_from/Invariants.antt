@@ -15,7 +15,7 @@ use Rattle.words.specs.Shift.{union_shifted}
 use Rattle.words.specs.ShiftLaws.{union_length, complete_visits}
 use Rattle.searches.specs.Search.{search_from}
 use Rattle.numeric.specs.TermsLaws.{last_terms_of, last_all}
-use Rattle.searches.specs.SearchStepsLaws.{
+use Rattle.searches.specs.SearchStepsLaws.{last_term, turn, turn-none, turn-cut, from_heavy, from_skip, from_fits, from_stopped, from_more, hit_left}
 use Rattle.possible_sums.proofs.search_from.Given as goal
 
 abbrev pub invariant-loop-count : goal.invariant-loop-count

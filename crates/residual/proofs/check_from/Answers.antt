@@ -10,7 +10,7 @@ use Rattle.numeric.specs.TermsLaws.{last_terms_of, last_all, last_none}
 use Rattle.words.specs.Mask.{in_either}
 use Rattle.misses.specs.Misses.{misses}
 use Rattle.intervals.specs.Residual.{check_from}
-use Rattle.intervals.specs.CheckLaws.{
+use Rattle.intervals.specs.CheckLaws.{turn_skip, turn_stop, turn_more, check_end_divisor, check_end_misses, check_end_hits}
 use Rattle.residual.proofs.check_from.Goals as goal
 
 pub loop-remaining-init : goal.loop-remaining-init
@@ -51,8 +51,7 @@ returns-then-stops c =
 pub loop-remaining-preserved : goal.loop-remaining-preserved
 loop-remaining-preserved c =
     let g = c.args in
-    let w = c.loop-remaining in
-    (
+    let w = c.loop-remaining in (
       omega arith,
       sym
           (turn_more g.i (in_either g.sure.now g.never.now) g.conditions.now g.weights.now w.remaining w.divisor (omega arith) (omega arith) (omega arith)

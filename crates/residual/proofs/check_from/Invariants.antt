@@ -10,7 +10,7 @@ use Rattle.numeric.specs.TermsLaws.{last_terms_of, last_all, last_none}
 use Rattle.words.specs.Mask.{in_either}
 use Rattle.misses.specs.Misses.{misses}
 use Rattle.intervals.specs.Residual.{check_from}
-use Rattle.intervals.specs.CheckLaws.{
+use Rattle.intervals.specs.CheckLaws.{turn_skip, turn_stop, turn_more, check_end_divisor, check_end_misses, check_end_hits}
 use Rattle.residual.proofs.check_from.Given as goal
 
 abbrev pub invariant-loop-remaining : goal.invariant-loop-remaining

@@ -36,8 +36,7 @@ decided-requires c =
 pub loop-unread-preserved-then-decided : goal.loop-unread-preserved-then-decided
 loop-unread-preserved-then-decided c =
     let w = c.loop-unread in
-    let g = c.args in
-    (
+    let g = c.args in (
       omega arith,
       sym
           (fits_skip g.i (in_either g.sure.now g.never.now) g.conditions.now g.weights.now w.unread w.fitting w.complement (omega arith) (omega arith) (omega arith)
@@ -59,8 +58,7 @@ returns-then-both_fit c =
 pub loop-unread-preserved-else-both_fit : goal.loop-unread-preserved-else-both_fit
 loop-unread-preserved-else-both_fit c =
     let w = c.loop-unread in
-    let g = c.args in
-    (
+    let g = c.args in (
       omega arith,
       sym
           (fits_more g.i (in_either g.sure.now g.never.now) g.conditions.now g.weights.now w.unread w.fitting w.complement (omega arith) (omega arith) (omega arith)
@@ -73,8 +71,7 @@ loop-unread-preserved-else-both_fit c =
 pub loop-unread-preserved : goal.loop-unread-preserved
 loop-unread-preserved c =
     let w = c.loop-unread in
-    let g = c.args in
-    (
+    let g = c.args in (
       omega arith,
       sym
           (fits-first g.i (in_either g.sure.now g.never.now) g.conditions.now g.weights.now w.unread w.fitting w.complement (omega arith) (omega arith) (omega arith)

@@ -36,7 +36,7 @@ returns-then-not-has_residual_interval c =
 pub returns-then-upper_at_most : goal.returns-then-upper_at_most
 returns-then-upper_at_most c =
     let g = c.args in
-    let o = (let it : (has_nonunit (terms c.args.conditions.now c.args.weights.now) ≡ true) × (has_residual_interval c.args.state ≡ true) × (upper_at_most c.args.state.upper (reached c.args.state) ≡ c.upper_at_most.result) = let g = c.args in let hr : to_z w64 (of_z w64 c.reached-reached.result) ≡ c.reached-reached.result = search rules in ( sym c.has_nonunit.ensures ∙ not-false c.has_nonunit.result c.if-not-has_nonunit.false-raw, sym c.has_residual_interval.ensures ∙ not-false c.has_residual_interval.result c.if-not-has_residual_interval.false-raw, sym (simp hr at c.upper_at_most.ensures ∙ ap (upper_at_most g.state.upper) c.reached-reached.ensures), ) in it) in
+    let o = (let it : (has_nonunit (terms c.args.conditions.now c.args.weights.now) ≡ true) × (has_residual_interval c.args.state ≡ true) × (upper_at_most c.args.state.upper (reached c.args.state) ≡ c.upper_at_most.result) = let g = c.args in let hr : to_z w64 (of_z w64 c.reached-reached.result) ≡ c.reached-reached.result = search rules in (sym c.has_nonunit.ensures ∙ not-false c.has_nonunit.result c.if-not-has_nonunit.false-raw, sym c.has_residual_interval.ensures ∙ not-false c.has_residual_interval.result c.if-not-has_residual_interval.false-raw, sym (simp hr at c.upper_at_most.ensures ∙ ap (upper_at_most g.state.upper) c.reached-reached.ensures)) in it) in
     sym
     (check-reached (terms g.conditions.now g.weights.now) g.state (in_either g.sure.now g.never.now) o.0 o.1
     (o.2 ∙ c.if-upper_at_most.true))
@@ -52,7 +52,7 @@ left_over c =
 pub returns-then-possible-reached : goal.returns-then-possible-reached
 returns-then-possible-reached c =
     let g = c.args in
-    let o = (let it : (has_nonunit (terms c.args.conditions.now c.args.weights.now) ≡ true) × (has_residual_interval c.args.state ≡ true) × (upper_at_most c.args.state.upper (reached c.args.state) ≡ c.upper_at_most.result) = let g = c.args in let hr : to_z w64 (of_z w64 c.reached-reached.result) ≡ c.reached-reached.result = search rules in ( sym c.has_nonunit.ensures ∙ not-false c.has_nonunit.result c.if-not-has_nonunit.false-raw, sym c.has_residual_interval.ensures ∙ not-false c.has_residual_interval.result c.if-not-has_residual_interval.false-raw, sym (simp hr at c.upper_at_most.ensures ∙ ap (upper_at_most g.state.upper) c.reached-reached.ensures), ) in it) in
+    let o = (let it : (has_nonunit (terms c.args.conditions.now c.args.weights.now) ≡ true) × (has_residual_interval c.args.state ≡ true) × (upper_at_most c.args.state.upper (reached c.args.state) ≡ c.upper_at_most.result) = let g = c.args in let hr : to_z w64 (of_z w64 c.reached-reached.result) ≡ c.reached-reached.result = search rules in (sym c.has_nonunit.ensures ∙ not-false c.has_nonunit.result c.if-not-has_nonunit.false-raw, sym c.has_residual_interval.ensures ∙ not-false c.has_residual_interval.result c.if-not-has_residual_interval.false-raw, sym (simp hr at c.upper_at_most.ensures ∙ ap (upper_at_most g.state.upper) c.reached-reached.ensures)) in it) in
     let r = c.reached-reached in
     let hr : to_z w64 (of_z w64 r.result) ≡ r.result = search rules in
     let hp : to_z w64 (of_z w64 g.state.possible) ≡ g.state.possible = search rules in
@@ -62,13 +62,13 @@ returns-then-possible-reached c =
 
 pub check_from-requires : goal.check_from-requires
 check_from-requires c =
-    let o = (let it : (has_nonunit (terms c.args.conditions.now c.args.weights.now) ≡ true) × (has_residual_interval c.args.state ≡ true) × (upper_at_most c.args.state.upper (reached c.args.state) ≡ c.upper_at_most.result) = let g = c.args in let hr : to_z w64 (of_z w64 c.reached-reached.result) ≡ c.reached-reached.result = search rules in ( sym c.has_nonunit.ensures ∙ not-false c.has_nonunit.result c.if-not-has_nonunit.false-raw, sym c.has_residual_interval.ensures ∙ not-false c.has_residual_interval.result c.if-not-has_residual_interval.false-raw, sym (simp hr at c.upper_at_most.ensures ∙ ap (upper_at_most g.state.upper) c.reached-reached.ensures), ) in it) in
+    let o = (let it : (has_nonunit (terms c.args.conditions.now c.args.weights.now) ≡ true) × (has_residual_interval c.args.state ≡ true) × (upper_at_most c.args.state.upper (reached c.args.state) ≡ c.upper_at_most.result) = let g = c.args in let hr : to_z w64 (of_z w64 c.reached-reached.result) ≡ c.reached-reached.result = search rules in (sym c.has_nonunit.ensures ∙ not-false c.has_nonunit.result c.if-not-has_nonunit.false-raw, sym c.has_residual_interval.ensures ∙ not-false c.has_residual_interval.result c.if-not-has_residual_interval.false-raw, sym (simp hr at c.upper_at_most.ensures ∙ ap (upper_at_most g.state.upper) c.reached-reached.ensures)) in it) in
     record { shape = c.requires; window = rw c.interval_of.ensures (window c.args.state o.1 (o.2 ∙ c.if-upper_at_most.false) (left_over (goal.at.check_from-requires c).Else-possible-reached)) }
 
 pub returns : goal.returns
 returns c =
     let g = c.args in
-    let o = (let it : (has_nonunit (terms c.args.conditions.now c.args.weights.now) ≡ true) × (has_residual_interval c.args.state ≡ true) × (upper_at_most c.args.state.upper (reached c.args.state) ≡ c.upper_at_most.result) = let g = c.args in let hr : to_z w64 (of_z w64 c.reached-reached.result) ≡ c.reached-reached.result = search rules in ( sym c.has_nonunit.ensures ∙ not-false c.has_nonunit.result c.if-not-has_nonunit.false-raw, sym c.has_residual_interval.ensures ∙ not-false c.has_residual_interval.result c.if-not-has_residual_interval.false-raw, sym (simp hr at c.upper_at_most.ensures ∙ ap (upper_at_most g.state.upper) c.reached-reached.ensures), ) in it) in
+    let o = (let it : (has_nonunit (terms c.args.conditions.now c.args.weights.now) ≡ true) × (has_residual_interval c.args.state ≡ true) × (upper_at_most c.args.state.upper (reached c.args.state) ≡ c.upper_at_most.result) = let g = c.args in let hr : to_z w64 (of_z w64 c.reached-reached.result) ≡ c.reached-reached.result = search rules in (sym c.has_nonunit.ensures ∙ not-false c.has_nonunit.result c.if-not-has_nonunit.false-raw, sym c.has_residual_interval.ensures ∙ not-false c.has_residual_interval.result c.if-not-has_residual_interval.false-raw, sym (simp hr at c.upper_at_most.ensures ∙ ap (upper_at_most g.state.upper) c.reached-reached.ensures)) in it) in
     let d = in_either g.sure.now g.never.now in
     let ts = terms g.conditions.now g.weights.now in
     c.check_from.ensures

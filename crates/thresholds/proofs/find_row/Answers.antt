@@ -13,6 +13,7 @@ use lib.ListN.{length, get_or}
 use lib.Dec.{eqb}
 use borrow.Author.Rules.{rules}
 use Rattle.thresholds.proofs.find_row.Goals as goal
+use Rattle.thresholds.proofs.find_row.Goals.{After-link_of-k}
 
 pub class_of-class-requires : goal.class_of-class-requires
 class_of-class-requires c = let g = c.args in
@@ -94,23 +95,40 @@ overflow_add-link c = let w = c.loop-k in
     let n = side_most c.has_word-same.result w.rest in
     record { fits = omega arith }
 
+-- The row's list is another, and has the search's term or not.
+module _ (c : After-link_of-k) where
+  abbrev r : RawLists
+  r = raw_lists c.args.raw_conditions.now c.args.raw_weights.now c.args.thresholds.now
+
+  abbrev x : List Term
+  x = list_at r c.args.t
+
+  abbrev v : List Term
+  v = marked_list r (get_or c.args.marks.now (c.loop-k.k - 1) 0)
+
+  met : c.has_word-same.result ≡ meets v x c.loop-k.p
+  met = c.has_word-same.ensures ∙ ap (eqb (word_at v c.loop-k.p)) c.loop-k.invariant.1
+
+  side : c.turn-on.result.side ≡ side_at v x c.loop-k.p c.loop-k.rest
+  side = c.turn-on.ensures.0 ∙ ap (λ (b : Bool). cond b 2 (c.loop-k.rest % 2)) met
+
 pub loop-k-smaller : goal.loop-k-smaller
-loop-k-smaller c = let g = (s c).args in
-    let w = (loop c).loop in
-    let same = (turn c).before.before in
-    search_less (r c) g.marks.now g.heads.now (x c) (s c).requires.3 w.k w.p w.rest w.link w.inv.0 same.before.before.before.loop-test.taken
-    (sym same.is_same.ensures ∙ (turn c).before.if1.false) _ (c.link_of-k.ensures ∙ ap (λ (s : ℕ). link_in s (get_or g.marks.now (w.k - 1) 0)) (side c))
+loop-k-smaller c =
+    let g = c.args in
+    let w = c.loop-k in
+    search_less (r c) g.marks.now g.heads.now (x c) c.requires.3 w.k w.p w.rest w.link w.invariant.0 c.loop-k-test.true
+    (sym c.is_same.ensures ∙ c.if-is_same.false) _ (c.link_of-k.ensures ∙ ap (λ (s : ℕ). link_in s (get_or g.marks.now (w.k - 1) 0)) (side c))
 
 pub loop-k-preserved : goal.loop-k-preserved
-loop-k-preserved c = let g = (s c).args in
-    let w = (loop c).loop in
-    let same = (turn c).before.before in
-    let e = (turn c).turn.ensures in
+loop-k-preserved c =
+    let g = c.args in
+    let w = c.loop-k in
+    let e = c.turn-on.ensures in
     let place = e.1 ∙ ap (λ (b : Bool). cond b (w.p + 1) w.p) (met c) in (
-      search_on (r c) g.marks.now g.heads.now (x c) (s c).requires.3 w.k w.p w.rest w.link w.inv.0 same.before.before.before.loop-test.taken
-          (sym same.is_same.ensures ∙ (turn c).before.if1.false) _ _ _ _ (c.link_of-k.ensures ∙ ap (λ (s : ℕ). link_in s (get_or g.marks.now (w.k - 1) 0)) (side c))
+      search_on (r c) g.marks.now g.heads.now (x c) c.requires.3 w.k w.p w.rest w.link w.invariant.0 c.loop-k-test.true
+          (sym c.is_same.ensures ∙ c.if-is_same.false) _ _ _ _ (c.link_of-k.ensures ∙ ap (λ (s : ℕ). link_in s (get_or g.marks.now (w.k - 1) 0)) (side c))
           place (e.3 ∙ ap (λ (b : Bool). cond b (word_at (x c) (w.p + 1)) (w.rest / 2)) (met c)) (ap (λ (s : ℕ). 3 * w.k + s) (side c)),
-      e.2 ∙ ap (λ (b : Bool). cond b (word_at (x c) (w.p + 1)) w.word) (met c) ∙ word_next (v c) (x c) w.p w.word w.inv.1 ∙ ap (word_at (x c)) (sym place),
+      e.2 ∙ ap (λ (b : Bool). cond b (word_at (x c) (w.p + 1)) w.word) (met c) ∙ word_next (v c) (x c) w.p w.word w.invariant.1 ∙ ap (word_at (x c)) (sym place),
     )
 
 pub returns : goal.returns
