@@ -1,6 +1,7 @@
 // What a row is told and hands on, over the buffers: `threshold_guard` of propagate.rs, `threshold_prefixes` of prefixes.rs.
 // The definitions and their laws are those of `between`.
 #![tactic(auto)]
+
 ghost use Rattle.std.specs.Prelude.{◌≡◌, ◌-◌, ◌<◌, ◌≤◌, length, get_or, set, pos};
 ghost use Rattle.std.specs.Int.Signed.{mag};
 ghost use Rattle.memory.specs.Buffers.{held_rows};

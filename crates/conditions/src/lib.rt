@@ -1,5 +1,6 @@
 // A drained condition: every row in which it stands takes its weight and is run (`threshold_condition` of propagate.rs).
 #![tactic(auto)]
+
 ghost use Rattle.std.specs.Prelude.{◌≡◌, ◌-◌, ◌<◌, length, get_or, []};
 ghost use Rattle.memory.specs.Buffers.{held_rows};
 ghost use Rattle.state.specs.State.{no_state, drained};

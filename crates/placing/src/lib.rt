@@ -1,5 +1,6 @@
 // Rows placed one threshold after the other: each finds a row with its raw list, or makes one.
 #![tactic(auto)]
+
 ghost use Rattle.std.specs.Prelude.{◌≡◌, ◌+◌, ◌-◌, ◌/◌, ◌%◌, ◌<◌, ◌≤◌, length, take, set, get_or};
 ghost use Rattle.base.specs.Laid.{over};
 ghost use Rattle.rows.specs.Guards.{node_at, NodesIn};

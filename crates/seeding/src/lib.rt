@@ -1,5 +1,6 @@
 // What a seal does to rows: their first states, and each run once in order (`seed_thresholds` of propagate.rs).
 #![tactic(auto)]
+
 ghost use Rattle.std.specs.Prelude.{◌≡◌, ℕ, ◌-◌, ◌<◌, ◌≤◌, length, List, ℤ};
 ghost use Rattle.memory.specs.Buffers.{held_rows};
 ghost use Rattle.numeric.specs.Slices.{terms};

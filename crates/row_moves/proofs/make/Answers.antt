@@ -13,19 +13,19 @@ pub returns-then-cursors-eq1 : goal.returns-then-cursors-eq1
 unfolding row_state
 returns-then-cursors-eq1 c =
     let a = c.args in
-    let f = a.t1 in
+    let f = a.figures in
     let h0 : to_z w64 (of_z w64 (get_or f 0 (pos 0))) ≡ get_or f 0 (pos 0) = search rules in
     let h1 : to_z w64 (of_z w64 (get_or f 1 (pos 0))) ≡ get_or f 1 (pos 0) = search rules in
     let h2 : to_z w64 (of_z w64 (get_or f 2 (pos 0))) ≡ get_or f 2 (pos 0) = search rules in
     let h3 : to_z w64 (of_z w64 (get_or f 3 (pos 0))) ≡ get_or f 3 (pos 0) = search rules in
-    simp (h0, h1, h2, h3, eq-eqb (get_or a.t2 4 0) 1 c.if-cursors-eq1.true)
+    simp (h0, h1, h2, h3, eq-eqb (get_or a.cursors 4 0) 1 c.if-cursors-eq1.true)
 
 pub returns : goal.returns
 unfolding row_state
 returns c =
     let a = c.args in
-    let f = a.t1 in
+    let f = a.figures in
     let h0 : to_z w64 (of_z w64 (get_or f 0 (pos 0))) ≡ get_or f 0 (pos 0) = search rules in
     let h1 : to_z w64 (of_z w64 (get_or f 1 (pos 0))) ≡ get_or f 1 (pos 0) = search rules in
     let h2 : to_z w64 (of_z w64 (get_or f 2 (pos 0))) ≡ get_or f 2 (pos 0) = search rules in
-    simp (h0, h1, h2, ne_eqb (get_or a.t2 4 0) 1 c.if-cursors-eq1.false)
+    simp (h0, h1, h2, ne_eqb (get_or a.cursors 4 0) 1 c.if-cursors-eq1.false)

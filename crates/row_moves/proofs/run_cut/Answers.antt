@@ -105,7 +105,7 @@ run_row-requires c =
     let terms = term_slices h y a.row k terms-start.result terms_end.result terms-start.ensures.0 terms_end.ensures.0 in
     let guards = guard_slices h y a.row k guards-start.result guards_end.result guards-start.ensures.0 guards_end.ensures.0 in
     let runs = fit_runs h figure_limit a.row (state_at v a.row) (omega arith) y k guards-start.result guards_end.result guards-start.ensures.0 guards_end.ensures.0 (z.fit a.row k) in
-    record { row_in_bounds = (((omega (arith, k, z.long), terms, guards), ((runs, z.waits), (z.flags.held, omega (arith, y.few, k))))).0; runs = (((omega (arith, k, z.long), terms, guards), ((runs, z.waits), (z.flags.held, omega (arith, y.few, k))))).1; held = (((omega (arith, k, z.long), terms, guards), ((runs, z.waits), (z.flags.held, omega (arith, y.few, k))))).2 }
+    record { row_in_bounds = (omega (arith, k, z.long), terms, guards); runs = (runs, z.waits); held = (z.flags.held, omega (arith, y.few, k)) }
 
 pub shape_of-figures : goal.shape_of-figures
 shape_of-figures c = c.run_row.auto.figures

@@ -27,15 +27,15 @@ load-state-requires c = c.requires.row_in_bounds.0
 
 pub queue_residual-left-requires : goal.queue_residual-left-requires
 queue_residual-left-requires c =
-    (c.requires.row_in_bounds.1.same, c.requires.runs.1.0, c.requires.runs.1.1)
+    (c.requires.row_in_bounds.1.same, c.requires.held.0, c.requires.held.1)
 
 pub threshold_row-ran-requires : goal.threshold_row-ran-requires
 threshold_row-ran-requires c =
     let load = c.load-state in
     let a = c.args in
     let v = live_of a.figures.now a.cursors.now a.sure.now a.never.now a.node_queue.now a.row_queues.now (standing a.nodes a.nodes a.residuals) in
-    let r = runs_by load.result (state_at v a.row) a.guard_bounds.now load.ensures c.requires.runs.0.0 in
-    (c.requires.row_in_bounds.1, c.requires.row_in_bounds.2, r.figures, r.inside, c.requires.runs.0.1)
+    let r = runs_by load.result (state_at v a.row) a.guard_bounds.now load.ensures c.requires.runs.0 in
+    (c.requires.row_in_bounds.1, c.requires.row_in_bounds.2, r.figures, r.inside, c.requires.runs.1)
 
 pub store_cursors-requires : goal.store_cursors-requires
 store_cursors-requires c =
@@ -73,7 +73,7 @@ returns c =
     let m = marks a.sure.now a.never.now (queue a.node_queue.now a.nodes) in
     let n = marks threshold-row.new.sure threshold-row.new.never (queue threshold-row.new.node_queue t.ring) in
     let after : Ring → Live = λ w. live_of fs cs' threshold-row.new.sure threshold-row.new.never threshold-row.new.node_queue queue-residual.new.row_queues (standing t.ring w queue-residual.result) in
-    let whole = kept_row row load.result m (all_guards a.guard_bounds.now a.guard_nodes.now c.requires.row_in_bounds.2.below) (all_terms_lem a.row_conditions.now a.row_weights.now c.requires.row_in_bounds.1.below) c.requires.runs.0.1 in
+    let whole = kept_row row load.result m (all_guards a.guard_bounds.now a.guard_nodes.now c.requires.row_in_bounds.2.below) (all_terms_lem a.row_conditions.now a.row_weights.now c.requires.row_in_bounds.1.below) c.requires.runs.1 in
     let kept = kept_by_lem load.result (ran t.state n t.step) (threshold_row row load.result m) (threshold-row.ensures []) whole in
     let stored = stored_cursors fs cs a.row c.requires.row_in_bounds.0 cs' t.state store.ensures in
     let states =
