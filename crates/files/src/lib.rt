@@ -1,5 +1,6 @@
 // The whole file: records, refusals, answers, and the lent buffers.
 #![tactic(auto)]
+
 use records::Standing;
 use state::Step;
 
