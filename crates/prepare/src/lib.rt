@@ -1,5 +1,6 @@
 // `prepare` of thresholds.rs: from the raw lists of a job to its rows, their guards and the edges of every node.
 #![tactic(auto)]
+
 ghost use Rattle.std.specs.Prelude.{◌≡◌, [], ◌≤◌, length, take};
 ghost use Rattle.base.specs.Laid.{over};
 ghost use Rattle.sort.specs.Sorted.{sorted};
