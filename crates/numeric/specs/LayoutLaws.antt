@@ -31,15 +31,15 @@ pub one_rises : (a b : Bool) (w : ℕ) → (a ≡ true → b ≡ true) → cond 
 one_rises true b w h = subst (λ (c : Bool). w ≤ cond c w 0) (sym (h refl)) (le_refl w)
 one_rises false b w h = omega arith
 
-module _ (v w : Layout) (i : Included v w) where
-  pub sum_rises : (ts : List Term) → sum_of v ts ≤ sum_of w ts
-  unfolding sum_of
-  sum_rises [] = omega arith
-  sum_rises (t ∷ ts) = omega (arith, one_rises (v t.condition) (w t.condition) t.weight (i t.condition), sum_rises ts)
+pub sum_rises : (v w : Layout) (i : Included v w) (ts : List Term) → sum_of v ts ≤ sum_of w ts
+unfolding sum_of
+sum_rises v w i [] = omega arith
+sum_rises v w i (t ∷ ts) = omega (arith, one_rises (v t.condition) (w t.condition) t.weight (i t.condition), sum_rises v w i ts)
 
+module _ (v w : Layout) (i : Included v w) where
   -- THE LAW: with more nodes true, a threshold that asks for true goes on asking
   pub asked_rises : (t : Threshold) → asked v t ≡ true → asked w t ≡ true
   asked_rises t h =
       let ts = t.terms in
       ap (le_z t.bound) (value-sum w ts)
-      ∙ le_z_trans t.bound (pos (sum_of v ts)) (pos (sum_of w ts)) (sym (ap (le_z t.bound) (value-sum v ts)) ∙ h) (le-leb (sum_of v ts) (sum_of w ts) (sum_rises ts))
+      ∙ le_z_trans t.bound (pos (sum_of v ts)) (pos (sum_of w ts)) (sym (ap (le_z t.bound) (value-sum v ts)) ∙ h) (le-leb (sum_of v ts) (sum_of w ts) (sum_rises v w i ts))

@@ -1,10 +1,8 @@
 pub mod Threshold
 pub mod Area
-pub mod AreaLaws
 pub mod Layout
 pub mod LayoutLaws
 pub mod Least
-pub mod LeastLaws
 pub mod Slices
 pub mod TermsLaws
 pub mod Rewrite

@@ -10,7 +10,7 @@ use borrow.Author.Tests.{lt-ltb, ltb-false, ne_eqb, not-false}
 use Rattle.base.specs.TestLaws.{or-false, true-false, unequal, contrary}
 use Rattle.numeric.specs.Threshold.{term, Threshold, Job}
 use Rattle.numeric.specs.Area.{Entry, plain, area, joined, weight_of_area, rounded, weighed, weighed_threshold, Draft, job_of}
-use Rattle.numeric.specs.AreaLaws.{joined-plain, joined_area, joined_long}
+use Rattle.numeric.proofs.AreaLaws.{joined-plain, joined_area, joined_long}
 use Rattle.memory.specs.Limits.{max_nodes, max_terms, max_thresholds, list_terms}
 use Rattle.memory.specs.Buffers.{Raw, raw_lists, raw}
 use Rattle.base.specs.Laid.{numbers, join_all, ends, pairs}

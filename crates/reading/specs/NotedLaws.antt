@@ -9,7 +9,7 @@ use Rattle.std.proofs.Math.Seq.{get_or-set_same, get_or-set_other}
 use Rattle.base.specs.TestLaws.{unequal}
 use Rattle.numeric.specs.Threshold.{Term, term}
 use Rattle.numeric.specs.Area.{Entry, plain, area, condition_of, weight_of_area, rounded}
-use Rattle.numeric.specs.AreaLaws.{add_area, add_hit, add_miss}
+use Rattle.numeric.proofs.AreaLaws.{add_area, add_hit, add_miss}
 use Rattle.memory.specs.Limits.{max_nodes, list_terms}
 use Rattle.records.specs.declared.Standing.{Standing}
 use Rattle.job.specs.Taken.{weighing}

@@ -2,7 +2,7 @@
 use Rattle.std.specs.Prelude.{ℕ, zero, suc, ◌+◌, ◌^◌, ◌<◌, ◌≤◌, Bool, true, false, List, [], ◌∷◌, ◌++◌, length, get_or, take, drop, eqb, ltb}
 use Rattle.std.proofs.Common.{not-suc-le-zero, le_of_suc-le-suc, pow-suc, arith, length-take, length-drop}
 use Rattle.base.specs.All.{All}
-use Rattle.numeric.specs.AreaLaws.{Small}
+use Rattle.numeric.proofs.AreaLaws.{Small}
 use Rattle.records.specs.declared.Record.{Record}
 use Rattle.records.specs.Record.{little_endian, behind, kind_of, body_length}
 use Rattle.records.specs.Facts.{Action, begins, changes, closes, decides, settles, sifts, idles, opens, adds, action}

@@ -7,7 +7,7 @@ use Rattle.memory.specs.Ranges.{raw_limit}
 use Rattle.memory.specs.Buffers.{Built, held_rows, built}
 use Rattle.numeric.specs.Threshold.{Term, ThresholdOf, Threshold, Job}
 use Rattle.numeric.specs.Area.{Entry, plain, area, condition_of, weighed_threshold, Draft, job_of}
-use Rattle.numeric.specs.AreaLaws.{Small, weighed-light}
+use Rattle.numeric.proofs.AreaLaws.{Small, weighed-light}
 use Rattle.words.specs.Mask.{bit}
 use Rattle.job.specs.JobBuffers.{built_of}
 use Rattle.records.specs.declared.Record.{Record}

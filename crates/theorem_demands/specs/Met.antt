@@ -1,6 +1,6 @@
 -- WHICH DEMANDS ARE MET: a value of the type that states each. The proofs stand in the files named `Laws` beside this one, and in `theorem_ends`.
-use Rattle.numeric.specs.AreaLaws as AreaLaws
-use Rattle.numeric.specs.LeastLaws as LeastLaws
+use Rattle.numeric.proofs.AreaLaws as AreaLaws
+use Rattle.numeric.proofs.LeastLaws as LeastLaws
 use Rattle.searches.specs.SearchLaws as SearchLaws
 use Rattle.job.specs.JobLaws.{last_added, all_added}
 use Rattle.files.specs.File.{act}

@@ -6,7 +6,7 @@ use Rattle.base.specs.TestLaws.{clash, true-false}
 use Rattle.numeric.specs.Area.{job_of}
 use Rattle.numeric.specs.Layout.{Layout, IsLayout}
 use Rattle.numeric.specs.Least.{least_layout}
-use Rattle.numeric.specs.LeastLaws.{least_layout_lem}
+use Rattle.numeric.proofs.LeastLaws.{least_layout_lem}
 use Rattle.state.specs.declared.Step.TheVariants.{Contradiction}
 use Rattle.memory.specs.Buffers.{Work, fits}
 use Rattle.records.specs.declared.Record.{Record}

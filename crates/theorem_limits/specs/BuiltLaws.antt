@@ -10,7 +10,7 @@ use Rattle.memory.specs.Limits.{max_nodes, max_terms, max_thresholds, list_terms
 use Rattle.base.specs.InsertionLaws.{insert_all}
 use Rattle.numeric.specs.Threshold.{Term, ThresholdOf, Threshold, Job}
 use Rattle.numeric.specs.Area.{Entry, condition_of, joined, rounded, weighed_threshold, Draft, job_of}
-use Rattle.numeric.specs.AreaLaws.{joined_long, weighed-conditions}
+use Rattle.numeric.proofs.AreaLaws.{joined_long, weighed-conditions}
 use Rattle.row.specs.Terms.{row_terms, merged, same_terms}
 use Rattle.row.specs.TermsLaws.{all_map, conditions-merged, all_sorted}
 use Rattle.rows.specs.Guards.{Bound}
