@@ -1,5 +1,6 @@
 // The answer of a settle or a sift, encoded and put after those that are there.
 #![tactic(auto)]
+
 ghost use Rattle.std.specs.Prelude.{◌≡◌, List, [], ◌∷◌, ◌++◌, ℕ, ◌+◌, ◌<◌, ◌≤◌, length, set};
 ghost use Rattle.base.specs.Laid.{over};
 ghost use Rattle.files.specs.File.{Answer};

@@ -1,5 +1,6 @@
 // The records of a job read into the raw buffers, from an offset on up to the next seal.
 #![tactic(auto)]
+
 ghost use Rattle.std.specs.Prelude.{◌≡◌, false, ◌<◌, List, length, ℤ};
 ghost use Rattle.memory.specs.Buffers.{Raw, raw_lists, raw, clear_raw};
 ghost use Rattle.records.specs.Facts.{action};

@@ -1,5 +1,6 @@
 // Draining over the buffers: `settle` of regions.rs with its turns. Nodes come before rows, each in the order in which they were queued.
 #![tactic(auto)]
+
 ghost use Rattle.std.specs.Prelude.{◌≡◌, not, ◌&&◌, List, ℕ, ◌<◌, eqb, length};
 ghost use Rattle.memory.specs.Ranges.{figure_limit};
 ghost use Rattle.memory.specs.Buffers.{held_rows, built};

@@ -87,19 +87,19 @@ pub shape_of-row_queues-then-contradicts : goal.shape_of-row_queues-then-contrad
 shape_of-row_queues-then-contradicts c = c.guard_at-told.auto.row_queues
 
 pub shape_of-figures : goal.shape_of-figures
-shape_of-figures c = ((let it : let a = c.args in Same a.figures.now a.cursors.now a.sure.now a.never.now a.node_queue.now a.row_queues.now c.threshold_condition-ran.new.figures c.threshold_condition-ran.new.cursors c.threshold_condition-ran.new.sure c.threshold_condition-ran.new.never c.threshold_condition-ran.new.node_queue c.threshold_condition-ran.new.row_queues = record { figures = c.threshold_condition-ran.auto.figures ∙ c.guard_at-told.auto.figures; cursors = c.threshold_condition-ran.auto.cursors ∙ c.guard_at-told.auto.cursors; sure = c.threshold_condition-ran.auto.sure ∙ c.guard_at-told.auto.sure; never = c.threshold_condition-ran.auto.never ∙ c.guard_at-told.auto.never; node_queue = c.threshold_condition-ran.auto.node_queue ∙ c.guard_at-told.auto.node_queue; row_queues = c.threshold_condition-ran.auto.row_queues ∙ c.guard_at-told.auto.row_queues; } in it)).figures
+shape_of-figures c = ((let it : let a = c.args in Same a.figures.now a.cursors.now a.sure.now a.never.now a.node_queue.now a.row_queues.now c.threshold_condition-ran.new.figures c.threshold_condition-ran.new.cursors c.threshold_condition-ran.new.sure c.threshold_condition-ran.new.never c.threshold_condition-ran.new.node_queue c.threshold_condition-ran.new.row_queues = record { figures = c.threshold_condition-ran.auto.figures ∙ c.guard_at-told.auto.figures; cursors = c.threshold_condition-ran.auto.cursors ∙ c.guard_at-told.auto.cursors; sure = c.threshold_condition-ran.auto.sure ∙ c.guard_at-told.auto.sure; never = c.threshold_condition-ran.auto.never ∙ c.guard_at-told.auto.never; node_queue = c.threshold_condition-ran.auto.node_queue ∙ c.guard_at-told.auto.node_queue; row_queues = c.threshold_condition-ran.auto.row_queues ∙ c.guard_at-told.auto.row_queues } in it)).figures
 
 pub shape_of-cursors : goal.shape_of-cursors
-shape_of-cursors c = ((let it : let a = c.args in Same a.figures.now a.cursors.now a.sure.now a.never.now a.node_queue.now a.row_queues.now c.threshold_condition-ran.new.figures c.threshold_condition-ran.new.cursors c.threshold_condition-ran.new.sure c.threshold_condition-ran.new.never c.threshold_condition-ran.new.node_queue c.threshold_condition-ran.new.row_queues = record { figures = c.threshold_condition-ran.auto.figures ∙ c.guard_at-told.auto.figures; cursors = c.threshold_condition-ran.auto.cursors ∙ c.guard_at-told.auto.cursors; sure = c.threshold_condition-ran.auto.sure ∙ c.guard_at-told.auto.sure; never = c.threshold_condition-ran.auto.never ∙ c.guard_at-told.auto.never; node_queue = c.threshold_condition-ran.auto.node_queue ∙ c.guard_at-told.auto.node_queue; row_queues = c.threshold_condition-ran.auto.row_queues ∙ c.guard_at-told.auto.row_queues; } in it)).cursors
+shape_of-cursors c = ((let it : let a = c.args in Same a.figures.now a.cursors.now a.sure.now a.never.now a.node_queue.now a.row_queues.now c.threshold_condition-ran.new.figures c.threshold_condition-ran.new.cursors c.threshold_condition-ran.new.sure c.threshold_condition-ran.new.never c.threshold_condition-ran.new.node_queue c.threshold_condition-ran.new.row_queues = record { figures = c.threshold_condition-ran.auto.figures ∙ c.guard_at-told.auto.figures; cursors = c.threshold_condition-ran.auto.cursors ∙ c.guard_at-told.auto.cursors; sure = c.threshold_condition-ran.auto.sure ∙ c.guard_at-told.auto.sure; never = c.threshold_condition-ran.auto.never ∙ c.guard_at-told.auto.never; node_queue = c.threshold_condition-ran.auto.node_queue ∙ c.guard_at-told.auto.node_queue; row_queues = c.threshold_condition-ran.auto.row_queues ∙ c.guard_at-told.auto.row_queues } in it)).cursors
 
 pub shape_of-sure : goal.shape_of-sure
-shape_of-sure c = ((let it : let a = c.args in Same a.figures.now a.cursors.now a.sure.now a.never.now a.node_queue.now a.row_queues.now c.threshold_condition-ran.new.figures c.threshold_condition-ran.new.cursors c.threshold_condition-ran.new.sure c.threshold_condition-ran.new.never c.threshold_condition-ran.new.node_queue c.threshold_condition-ran.new.row_queues = record { figures = c.threshold_condition-ran.auto.figures ∙ c.guard_at-told.auto.figures; cursors = c.threshold_condition-ran.auto.cursors ∙ c.guard_at-told.auto.cursors; sure = c.threshold_condition-ran.auto.sure ∙ c.guard_at-told.auto.sure; never = c.threshold_condition-ran.auto.never ∙ c.guard_at-told.auto.never; node_queue = c.threshold_condition-ran.auto.node_queue ∙ c.guard_at-told.auto.node_queue; row_queues = c.threshold_condition-ran.auto.row_queues ∙ c.guard_at-told.auto.row_queues; } in it)).sure
+shape_of-sure c = ((let it : let a = c.args in Same a.figures.now a.cursors.now a.sure.now a.never.now a.node_queue.now a.row_queues.now c.threshold_condition-ran.new.figures c.threshold_condition-ran.new.cursors c.threshold_condition-ran.new.sure c.threshold_condition-ran.new.never c.threshold_condition-ran.new.node_queue c.threshold_condition-ran.new.row_queues = record { figures = c.threshold_condition-ran.auto.figures ∙ c.guard_at-told.auto.figures; cursors = c.threshold_condition-ran.auto.cursors ∙ c.guard_at-told.auto.cursors; sure = c.threshold_condition-ran.auto.sure ∙ c.guard_at-told.auto.sure; never = c.threshold_condition-ran.auto.never ∙ c.guard_at-told.auto.never; node_queue = c.threshold_condition-ran.auto.node_queue ∙ c.guard_at-told.auto.node_queue; row_queues = c.threshold_condition-ran.auto.row_queues ∙ c.guard_at-told.auto.row_queues } in it)).sure
 
 pub shape_of-never : goal.shape_of-never
-shape_of-never c = ((let it : let a = c.args in Same a.figures.now a.cursors.now a.sure.now a.never.now a.node_queue.now a.row_queues.now c.threshold_condition-ran.new.figures c.threshold_condition-ran.new.cursors c.threshold_condition-ran.new.sure c.threshold_condition-ran.new.never c.threshold_condition-ran.new.node_queue c.threshold_condition-ran.new.row_queues = record { figures = c.threshold_condition-ran.auto.figures ∙ c.guard_at-told.auto.figures; cursors = c.threshold_condition-ran.auto.cursors ∙ c.guard_at-told.auto.cursors; sure = c.threshold_condition-ran.auto.sure ∙ c.guard_at-told.auto.sure; never = c.threshold_condition-ran.auto.never ∙ c.guard_at-told.auto.never; node_queue = c.threshold_condition-ran.auto.node_queue ∙ c.guard_at-told.auto.node_queue; row_queues = c.threshold_condition-ran.auto.row_queues ∙ c.guard_at-told.auto.row_queues; } in it)).never
+shape_of-never c = ((let it : let a = c.args in Same a.figures.now a.cursors.now a.sure.now a.never.now a.node_queue.now a.row_queues.now c.threshold_condition-ran.new.figures c.threshold_condition-ran.new.cursors c.threshold_condition-ran.new.sure c.threshold_condition-ran.new.never c.threshold_condition-ran.new.node_queue c.threshold_condition-ran.new.row_queues = record { figures = c.threshold_condition-ran.auto.figures ∙ c.guard_at-told.auto.figures; cursors = c.threshold_condition-ran.auto.cursors ∙ c.guard_at-told.auto.cursors; sure = c.threshold_condition-ran.auto.sure ∙ c.guard_at-told.auto.sure; never = c.threshold_condition-ran.auto.never ∙ c.guard_at-told.auto.never; node_queue = c.threshold_condition-ran.auto.node_queue ∙ c.guard_at-told.auto.node_queue; row_queues = c.threshold_condition-ran.auto.row_queues ∙ c.guard_at-told.auto.row_queues } in it)).never
 
 pub shape_of-node_queue : goal.shape_of-node_queue
-shape_of-node_queue c = ((let it : let a = c.args in Same a.figures.now a.cursors.now a.sure.now a.never.now a.node_queue.now a.row_queues.now c.threshold_condition-ran.new.figures c.threshold_condition-ran.new.cursors c.threshold_condition-ran.new.sure c.threshold_condition-ran.new.never c.threshold_condition-ran.new.node_queue c.threshold_condition-ran.new.row_queues = record { figures = c.threshold_condition-ran.auto.figures ∙ c.guard_at-told.auto.figures; cursors = c.threshold_condition-ran.auto.cursors ∙ c.guard_at-told.auto.cursors; sure = c.threshold_condition-ran.auto.sure ∙ c.guard_at-told.auto.sure; never = c.threshold_condition-ran.auto.never ∙ c.guard_at-told.auto.never; node_queue = c.threshold_condition-ran.auto.node_queue ∙ c.guard_at-told.auto.node_queue; row_queues = c.threshold_condition-ran.auto.row_queues ∙ c.guard_at-told.auto.row_queues; } in it)).node_queue
+shape_of-node_queue c = ((let it : let a = c.args in Same a.figures.now a.cursors.now a.sure.now a.never.now a.node_queue.now a.row_queues.now c.threshold_condition-ran.new.figures c.threshold_condition-ran.new.cursors c.threshold_condition-ran.new.sure c.threshold_condition-ran.new.never c.threshold_condition-ran.new.node_queue c.threshold_condition-ran.new.row_queues = record { figures = c.threshold_condition-ran.auto.figures ∙ c.guard_at-told.auto.figures; cursors = c.threshold_condition-ran.auto.cursors ∙ c.guard_at-told.auto.cursors; sure = c.threshold_condition-ran.auto.sure ∙ c.guard_at-told.auto.sure; never = c.threshold_condition-ran.auto.never ∙ c.guard_at-told.auto.never; node_queue = c.threshold_condition-ran.auto.node_queue ∙ c.guard_at-told.auto.node_queue; row_queues = c.threshold_condition-ran.auto.row_queues ∙ c.guard_at-told.auto.row_queues } in it)).node_queue
 
 pub shape_of-row_queues : goal.shape_of-row_queues
-shape_of-row_queues c = ((let it : let a = c.args in Same a.figures.now a.cursors.now a.sure.now a.never.now a.node_queue.now a.row_queues.now c.threshold_condition-ran.new.figures c.threshold_condition-ran.new.cursors c.threshold_condition-ran.new.sure c.threshold_condition-ran.new.never c.threshold_condition-ran.new.node_queue c.threshold_condition-ran.new.row_queues = record { figures = c.threshold_condition-ran.auto.figures ∙ c.guard_at-told.auto.figures; cursors = c.threshold_condition-ran.auto.cursors ∙ c.guard_at-told.auto.cursors; sure = c.threshold_condition-ran.auto.sure ∙ c.guard_at-told.auto.sure; never = c.threshold_condition-ran.auto.never ∙ c.guard_at-told.auto.never; node_queue = c.threshold_condition-ran.auto.node_queue ∙ c.guard_at-told.auto.node_queue; row_queues = c.threshold_condition-ran.auto.row_queues ∙ c.guard_at-told.auto.row_queues; } in it)).row_queues
+shape_of-row_queues c = ((let it : let a = c.args in Same a.figures.now a.cursors.now a.sure.now a.never.now a.node_queue.now a.row_queues.now c.threshold_condition-ran.new.figures c.threshold_condition-ran.new.cursors c.threshold_condition-ran.new.sure c.threshold_condition-ran.new.never c.threshold_condition-ran.new.node_queue c.threshold_condition-ran.new.row_queues = record { figures = c.threshold_condition-ran.auto.figures ∙ c.guard_at-told.auto.figures; cursors = c.threshold_condition-ran.auto.cursors ∙ c.guard_at-told.auto.cursors; sure = c.threshold_condition-ran.auto.sure ∙ c.guard_at-told.auto.sure; never = c.threshold_condition-ran.auto.never ∙ c.guard_at-told.auto.never; node_queue = c.threshold_condition-ran.auto.node_queue ∙ c.guard_at-told.auto.node_queue; row_queues = c.threshold_condition-ran.auto.row_queues ∙ c.guard_at-told.auto.row_queues } in it)).row_queues
