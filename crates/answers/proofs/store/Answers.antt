@@ -4,11 +4,8 @@ use mathlib.Core.Path.{◌≡◌, refl, sym, ap, subst}
 use mathlib.Core.List.{List, [], ◌∷◌}
 use Prim.Native.Nat.{ℕ, ◌+◌, ◌<◌}
 use lib.ListN.{length}
-use types.Run.{OneOf, miss}
-use denote.Enum.Declared.{tag_of}
 use Rattle.state.specs.declared.Step.{Step}
 use Rattle.records.specs.declared.Record.{Record}
-use Rattle.records.specs.contracts.Record.{the_type}
 use Rattle.records.specs.declared.Record.TheVariants.{Header, Opens, Adds, Areas, Seal, Mark, Settle, Sift, Unknown}
 use Rattle.files.specs.File.{Answer, settled, sifted}
 use Rattle.answers.specs.Answers.{answered}
@@ -17,16 +14,16 @@ use borrow.Author.Rules.{rules}
 use Rattle.answers.proofs.store.Goals as goal
 
 -- No other record has an answer.
-none : (r : Record) → OneOf (0 ∷ 1 ∷ 2 ∷ 3 ∷ 4 ∷ 5 ∷ 8 ∷ []) (tag_of the_type r) → (k : Step) (n : ℕ) → answered r k n ≡ []
-none (Header n) h k m = refl
-none (Opens n z) h k m = refl
-none (Adds c w) h k m = refl
-none (Areas c a) h k m = refl
-none Seal h k m = refl
-none (Mark n v) h k m = refl
-none Settle h k m = absurd (miss (0 ∷ 1 ∷ 2 ∷ 3 ∷ 4 ∷ 5 ∷ 8 ∷ []) 6 tt h)
-none Sift h k m = absurd (miss (0 ∷ 1 ∷ 2 ∷ 3 ∷ 4 ∷ 5 ∷ 8 ∷ []) 7 tt h)
-none Unknown h k m = refl
+none : (r : Record) → (r ≡ Settle → ⊥) → (r ≡ Sift → ⊥) → (k : Step) (n : ℕ) → answered r k n ≡ []
+none (Header n) p q k m = refl
+none (Opens n z) p q k m = refl
+none (Adds c w) p q k m = refl
+none (Areas c a) p q k m = refl
+none Seal p q k m = refl
+none (Mark n v) p q k m = refl
+none Settle p q k m = absurd (p refl)
+none Sift p q k m = absurd (q refl)
+none Unknown p q k m = refl
 
 -- A place for the answer.
 room : (r : Record) (k : Step) (n : ℕ) (a : Answer) → answered r k n ≡ a ∷ [] → 0 < length (answered r k n)
@@ -71,5 +68,5 @@ returns-in-Sift c =
 pub returns-in_default : goal.returns-in_default
 returns-in_default c =
     let a = c.args in
-    let e = none a.given c.in_default.in_default-own.keys3 a.step a.visits in
+    let e = none a.given c.in_default.not-Settle c.in_default.not-Sift a.step a.visits in
     λ before base long many laid. rw e (answer_none before base a.answers.now laid, answer_same before a.count many)

@@ -25,7 +25,7 @@ guard_at-told-requires c =
     let s = c.requires.count_nonzero.0.2 in
     let o = c.oldest_node-node in
     let p = c.popped-next in
-    let t = node_taken c.requires.count_nonzero.0.0 c.args.bounds.now ((λ links. built ((let a = c.args in held_rows a.row_conditions.now a.row_weights.now a.rows.now a.guard_bounds.now a.guard_nodes.now)) c.args.nodes.now c.args.edges.now links) c.requires.count_nonzero.0.1) s ((let a = c.args in live_of a.figures.now a.cursors.now a.sure.now a.never.now a.node_queue.now a.row_queues.now a.rings)) c.requires.going c.requires.count_nonzero.1 o.result o.ensures p.result p.ensures in
+    let t = node_taken c.requires.count_nonzero.0.0 c.args.bounds.now ((λ (links : List ℕ). built ((let a = c.args in held_rows a.row_conditions.now a.row_weights.now a.rows.now a.guard_bounds.now a.guard_nodes.now)) c.args.nodes.now c.args.edges.now links) c.requires.count_nonzero.0.1) s ((let a = c.args in live_of a.figures.now a.cursors.now a.sure.now a.never.now a.node_queue.now a.row_queues.now a.rings)) c.requires.going c.requires.count_nonzero.1 o.result o.ensures p.result p.ensures in
     record { shaped = (s.shaped, s.guarded, t.there, t.small, s.linked.inside.rising); runnable = t.run }
 
 pub returns-then-contradicts : goal.returns-then-contradicts
@@ -34,7 +34,7 @@ returns-then-contradicts c =
     let p = c.popped-next in
     let g = c.guard_at-told in (
       λ x l s.
-          node_stop x c.args.bounds.now ((λ links. built ((let a = c.args in held_rows a.row_conditions.now a.row_weights.now a.rows.now a.guard_bounds.now a.guard_nodes.now)) c.args.nodes.now c.args.edges.now links) l) s ((let a = c.args in live_of a.figures.now a.cursors.now a.sure.now a.never.now a.node_queue.now a.row_queues.now a.rings)) c.requires.going c.requires.count_nonzero.1 o.result o.ensures p.result p.ensures (did ((live_of c.guard_at-told.new.figures c.guard_at-told.new.cursors c.guard_at-told.new.sure c.guard_at-told.new.never c.guard_at-told.new.node_queue c.guard_at-told.new.row_queues c.guard_at-told.result.rings)) g.result.step)
+          node_stop x c.args.bounds.now ((λ (links : List ℕ). built ((let a = c.args in held_rows a.row_conditions.now a.row_weights.now a.rows.now a.guard_bounds.now a.guard_nodes.now)) c.args.nodes.now c.args.edges.now links) l) s ((let a = c.args in live_of a.figures.now a.cursors.now a.sure.now a.never.now a.node_queue.now a.row_queues.now a.rings)) c.requires.going c.requires.count_nonzero.1 o.result o.ensures p.result p.ensures (did ((live_of c.guard_at-told.new.figures c.guard_at-told.new.cursors c.guard_at-told.new.sure c.guard_at-told.new.never c.guard_at-told.new.node_queue c.guard_at-told.new.row_queues c.guard_at-told.result.rings)) g.result.step)
           (g.ensures.0 x s.holds s.holds_guards (counts-links x ((let a = c.args in held_rows a.row_conditions.now a.row_weights.now a.rows.now a.guard_bounds.now a.guard_nodes.now)) l s.linked s.holds_links)) (sym c.contradicts.ensures ∙ c.if-contradicts.true),
       g.ensures.1,
     )
@@ -43,7 +43,7 @@ pub threshold_condition-ran-requires : goal.threshold_condition-ran-requires
 threshold_condition-ran-requires c =
     let x = c.requires.count_nonzero.0.0 in
     let l = c.requires.count_nonzero.0.1 in
-    let b = (λ links. built ((let a = c.args in held_rows a.row_conditions.now a.row_weights.now a.rows.now a.guard_bounds.now a.guard_nodes.now)) c.args.nodes.now c.args.edges.now links) l in
+    let b = (λ (links : List ℕ). built ((let a = c.args in held_rows a.row_conditions.now a.row_weights.now a.rows.now a.guard_bounds.now a.guard_nodes.now)) c.args.nodes.now c.args.edges.now links) l in
     let s = c.requires.count_nonzero.0.2 in
     let v = (let a = c.args in live_of a.figures.now a.cursors.now a.sure.now a.never.now a.node_queue.now a.row_queues.now a.rings) in
     let bounds = c.args.bounds.now in
@@ -62,7 +62,7 @@ returns c =
     let g = c.guard_at-told in
     let t = c.threshold_condition-ran in (
       λ x l s.
-          node_next x c.args.bounds.now ((λ links. built ((let a = c.args in held_rows a.row_conditions.now a.row_weights.now a.rows.now a.guard_bounds.now a.guard_nodes.now)) c.args.nodes.now c.args.edges.now links) l) s ((let a = c.args in live_of a.figures.now a.cursors.now a.sure.now a.never.now a.node_queue.now a.row_queues.now a.rings)) c.requires.going c.requires.count_nonzero.1 o.result o.ensures p.result p.ensures (did ((live_of c.guard_at-told.new.figures c.guard_at-told.new.cursors c.guard_at-told.new.sure c.guard_at-told.new.never c.guard_at-told.new.node_queue c.guard_at-told.new.row_queues c.guard_at-told.result.rings)) g.result.step)
+          node_next x c.args.bounds.now ((λ (links : List ℕ). built ((let a = c.args in held_rows a.row_conditions.now a.row_weights.now a.rows.now a.guard_bounds.now a.guard_nodes.now)) c.args.nodes.now c.args.edges.now links) l) s ((let a = c.args in live_of a.figures.now a.cursors.now a.sure.now a.never.now a.node_queue.now a.row_queues.now a.rings)) c.requires.going c.requires.count_nonzero.1 o.result o.ensures p.result p.ensures (did ((live_of c.guard_at-told.new.figures c.guard_at-told.new.cursors c.guard_at-told.new.sure c.guard_at-told.new.never c.guard_at-told.new.node_queue c.guard_at-told.new.row_queues c.guard_at-told.result.rings)) g.result.step)
           (g.ensures.0 x s.holds s.holds_guards (counts-links x ((let a = c.args in held_rows a.row_conditions.now a.row_weights.now a.rows.now a.guard_bounds.now a.guard_nodes.now)) l s.linked s.holds_links)) (sym c.contradicts.ensures ∙ c.if-contradicts.false)
           (did ((live_of c.threshold_condition-ran.new.figures c.threshold_condition-ran.new.cursors c.threshold_condition-ran.new.sure c.threshold_condition-ran.new.never c.threshold_condition-ran.new.node_queue c.threshold_condition-ran.new.row_queues c.threshold_condition-ran.result.rings)) t.result.step) (t.ensures.0 x s.holds s.holds_edges) c.join.result c.join.ensures,
       λ i. t.ensures.1 (g.ensures.1 i),
