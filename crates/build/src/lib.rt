@@ -1,5 +1,6 @@
 // What the seal builds of the raw buffers: rows, guards, edges, links.
 #![tactic(auto)]
+
 ghost use Rattle.std.specs.Prelude.{◌≡◌, [], ◌-◌, ◌≤◌, length};
 ghost use Rattle.rows.specs.Rows.{rows_of};
 ghost use Rattle.memory.specs.Limits.{max_thresholds, max_links};

@@ -1,5 +1,6 @@
 // A seal and a mark over the buffers.
 #![tactic(auto)]
+
 ghost use Rattle.std.specs.Prelude.{◌≡◌, ◌<◌, ◌≤◌, length};
 ghost use Rattle.memory.specs.Limits.{max_nodes};
 ghost use Rattle.memory.specs.Ranges.{total_limit};

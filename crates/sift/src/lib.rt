@@ -1,5 +1,6 @@
 // Sifting over the buffers: `sift` of regions.rs. Rows that wait for it are tried between settlings.
 #![tactic(auto)]
+
 ghost use Rattle.std.specs.Prelude.{◌≡◌, List, ℕ, ◌≤◌, length, ℤ};
 ghost use Rattle.memory.specs.Limits.{list_terms};
 ghost use Rattle.memory.specs.Buffers.{held_rows, built};

@@ -19,13 +19,12 @@ threshold_residual-forced-requires c =
     let t = w.0 in record { shape = record { same = t.same; below = t.below; in_sure = omega (arith, m.sures); in_never = omega (arith, m.nevers) }; weights_in_bounds = (omega (arith, w.1, w.4.room), t.light, m) }
 
 pub returns-then-number-ne0 : goal.returns-then-number-ne0
-returns-then-number-ne0 c =
-    (
-      λ v.
-          tried-not ((terms c.args.conditions.now c.args.weights.now)) c.args.state (with_marks v ((let a = c.args in marks a.sure.now a.never.now (queue a.node_queue.now a.ring)))) c.args.gcds.now c.args.visits ((let r = c.threshold_residual-forced in residual (marks r.new.sure r.new.never (queue r.new.node_queue r.result.ring)) r.result.step r.new.gcds)) c.threshold_residual-forced.ensures
-          c.number-number.result c.number-number.ensures c.if-number-ne0.true,
-      refl,
-    )
+returns-then-number-ne0 c = (
+  λ v.
+      tried-not ((terms c.args.conditions.now c.args.weights.now)) c.args.state (with_marks v ((let a = c.args in marks a.sure.now a.never.now (queue a.node_queue.now a.ring)))) c.args.gcds.now c.args.visits ((let r = c.threshold_residual-forced in residual (marks r.new.sure r.new.never (queue r.new.node_queue r.result.ring)) r.result.step r.new.gcds)) c.threshold_residual-forced.ensures
+      c.number-number.result c.number-number.ensures c.if-number-ne0.true,
+  refl,
+)
 
 pub threshold_possible_sums-found-requires : goal.threshold_possible_sums-found-requires
 threshold_possible_sums-found-requires c =
