@@ -175,6 +175,12 @@ came_applied f (Mark n v) a =
     ap (λ (t : List Answer). told f f.closed d.step d.live f.gcds t) (sym (append-nil f.answers))
 came_applied f Settle a = refl
 came_applied f Sift a = refl
+came_applied f (Header n) a = elim a [ ]
+came_applied f (Opens n z) a = elim a [ ]
+came_applied f (Adds n w) a = elim a [ ]
+came_applied f (Areas n w) a = elim a [ ]
+came_applied f Seal a = elim a [ ]
+came_applied f Unknown a = elim a [ ]
 
 module _ (bs : List ℤ) (b : Built) (base : List (List ℕ)) (f : File) (k : Kept) (at : Reached) (z : Reaches bs b base k at (outcome f [] 0 at.at)) (r : Record) (asks : Asks r) (passed : refusal f r ≡ 0) where
   pub record_takes : Takes bs b f r (live_in k at.rings) k.gcds k.search
@@ -188,6 +194,12 @@ module _ (bs : List ℤ) (b : Built) (base : List (List ℕ)) (f : File) (k : Ke
       by (Mark n i) a p k = absurd (not-suc-le-zero k)
       by Settle a p k = leb-false 64 (length f.answers) (taken f Settle p).room
       by Sift a p k = leb-false 64 (length f.answers) (taken f Sift p).room
+      by (Header n) a p k = elim a [ ]
+      by (Opens n z) a p k = elim a [ ]
+      by (Adds n w) a p k = elim a [ ]
+      by (Areas n w) a p k = elim a [ ]
+      by Seal a p k = elim a [ ]
+      by Unknown a p k = elim a [ ]
 
   pub record_long : 64 ≤ length k.answers
   record_long =

@@ -1,6 +1,7 @@
 // The records after the seal: marks, settles and sifts over the buffers of Kept, up to the end of the input or the first that is
 // refused.
 #![tactic(auto)]
+
 ghost use Rattle.std.specs.Prelude.{◌≡◌, true, List, [], ℕ, ◌+◌, ◌<◌, ◌≤◌, length};
 ghost use Rattle.memory.specs.Buffers.{held_rows, built, kept, longest_input};
 ghost use Rattle.row_moves.specs.Numbers.{live_of, Tidy};

@@ -1,9 +1,2 @@
-pub mod Pairs
-pub mod ChainLaws
-pub mod AgainLaws
-pub mod LocalsLaws
-pub mod SaidLaws
-pub mod SharedLaws
-pub mod StepsLaws
 pub mod States
 pub mod StatesLaws

@@ -1,5 +1,6 @@
 // Row states as a lent slice of records: one state loaded, one stored, and every state written out of the rows of numbers that the core keeps.
 #![tactic(auto)]
+
 ghost use Rattle.std.specs.Prelude.{◌≡◌, ◌<◌, ◌≤◌, length, get_or, set, take};
 ghost use Rattle.memory.specs.Limits.{max_thresholds};
 ghost use Rattle.state.specs.State.{no_state};

@@ -18,8 +18,7 @@ pub take_record-requires : goal.take_record-requires
 take_record-requires c =
     let a = c.args in
     let p = c.requires in
-    let n = c.next_record-found in
-    (
+    let n = c.next_record-found in (
       p.0.0,
       p.0.1,
       p.0.2,

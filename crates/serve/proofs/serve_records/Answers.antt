@@ -42,7 +42,7 @@ loop-reached-preserved c =
     let l = c.loop-reached in
     let s = c.serve_record-next in (
       loops_next a.input.now a.bounds.now ((let a = c.args in built (held_rows a.row_conditions.now a.row_weights.now a.rows.now a.guard_bounds.now a.guard_nodes.now) a.nodes.now a.edges.now a.links.now)) ((let a = c.args in kept a.figures.now a.cursors.now a.sure.now a.never.now a.search.now a.gcds.now a.node_queue.now a.row_queues.now a.answers.now)) a.first ((let l = c.loop-reached in kept l.figures l.cursors l.sure l.never l.search l.gcds l.node_queue l.row_queues l.answers)) l.reached l.invariant.0 c.loop-reached-test.true ((kept c.serve_record-next.new.figures c.serve_record-next.new.cursors c.serve_record-next.new.sure c.serve_record-next.new.never c.serve_record-next.new.search c.serve_record-next.new.gcds c.serve_record-next.new.node_queue c.serve_record-next.new.row_queues c.serve_record-next.new.answers)) s.result s.ensures c.if-number-ne0.false,
-      (let it : Same ((let a = c.args in kept a.figures.now a.cursors.now a.sure.now a.never.now a.search.now a.gcds.now a.node_queue.now a.row_queues.now a.answers.now)) ((kept c.serve_record-next.new.figures c.serve_record-next.new.cursors c.serve_record-next.new.sure c.serve_record-next.new.never c.serve_record-next.new.search c.serve_record-next.new.gcds c.serve_record-next.new.node_queue c.serve_record-next.new.row_queues c.serve_record-next.new.answers)) = let o = c.loop-reached.invariant.1 in record { figures = c.serve_record-next.auto.figures ∙ o.figures; cursors = c.serve_record-next.auto.cursors ∙ o.cursors; sure = c.serve_record-next.auto.sure ∙ o.sure; never = c.serve_record-next.auto.never ∙ o.never; node_queue = c.serve_record-next.auto.node_queue ∙ o.node_queue; row_queues = c.serve_record-next.auto.row_queues ∙ o.row_queues; gcds = c.serve_record-next.auto.gcds ∙ o.gcds; search = c.serve_record-next.auto.search ∙ o.search; answers = c.serve_record-next.auto.answers ∙ o.answers; } in it),
+      (let it : Same ((let a = c.args in kept a.figures.now a.cursors.now a.sure.now a.never.now a.search.now a.gcds.now a.node_queue.now a.row_queues.now a.answers.now)) ((kept c.serve_record-next.new.figures c.serve_record-next.new.cursors c.serve_record-next.new.sure c.serve_record-next.new.never c.serve_record-next.new.search c.serve_record-next.new.gcds c.serve_record-next.new.node_queue c.serve_record-next.new.row_queues c.serve_record-next.new.answers)) = let o = c.loop-reached.invariant.1 in record { figures = c.serve_record-next.auto.figures ∙ o.figures; cursors = c.serve_record-next.auto.cursors ∙ o.cursors; sure = c.serve_record-next.auto.sure ∙ o.sure; never = c.serve_record-next.auto.never ∙ o.never; node_queue = c.serve_record-next.auto.node_queue ∙ o.node_queue; row_queues = c.serve_record-next.auto.row_queues ∙ o.row_queues; gcds = c.serve_record-next.auto.gcds ∙ o.gcds; search = c.serve_record-next.auto.search ∙ o.search; answers = c.serve_record-next.auto.answers ∙ o.answers } in it),
     )
 
 pub returns : goal.returns
@@ -52,31 +52,31 @@ returns c =
     loops_end a.input.now a.bounds.now ((let a = c.args in built (held_rows a.row_conditions.now a.row_weights.now a.rows.now a.guard_bounds.now a.guard_nodes.now) a.nodes.now a.edges.now a.links.now)) ((let a = c.args in kept a.figures.now a.cursors.now a.sure.now a.never.now a.search.now a.gcds.now a.node_queue.now a.row_queues.now a.answers.now)) a.first ((let l = c.loop-reached in kept l.figures l.cursors l.sure l.never l.search l.gcds l.node_queue l.row_queues l.answers)) l.reached l.invariant.0 (omega (arith, c.loop-reached-test.false))
 
 pub shape_of-figures-then-number-ne0 : goal.shape_of-figures-then-number-ne0
-shape_of-figures-then-number-ne0 c = ((let it : Same ((let a = c.args in kept a.figures.now a.cursors.now a.sure.now a.never.now a.search.now a.gcds.now a.node_queue.now a.row_queues.now a.answers.now)) ((kept c.serve_record-next.new.figures c.serve_record-next.new.cursors c.serve_record-next.new.sure c.serve_record-next.new.never c.serve_record-next.new.search c.serve_record-next.new.gcds c.serve_record-next.new.node_queue c.serve_record-next.new.row_queues c.serve_record-next.new.answers)) = let o = c.loop-reached.invariant.1 in record { figures = c.serve_record-next.auto.figures ∙ o.figures; cursors = c.serve_record-next.auto.cursors ∙ o.cursors; sure = c.serve_record-next.auto.sure ∙ o.sure; never = c.serve_record-next.auto.never ∙ o.never; node_queue = c.serve_record-next.auto.node_queue ∙ o.node_queue; row_queues = c.serve_record-next.auto.row_queues ∙ o.row_queues; gcds = c.serve_record-next.auto.gcds ∙ o.gcds; search = c.serve_record-next.auto.search ∙ o.search; answers = c.serve_record-next.auto.answers ∙ o.answers; } in it)).figures
+shape_of-figures-then-number-ne0 c = ((let it : Same ((let a = c.args in kept a.figures.now a.cursors.now a.sure.now a.never.now a.search.now a.gcds.now a.node_queue.now a.row_queues.now a.answers.now)) ((kept c.serve_record-next.new.figures c.serve_record-next.new.cursors c.serve_record-next.new.sure c.serve_record-next.new.never c.serve_record-next.new.search c.serve_record-next.new.gcds c.serve_record-next.new.node_queue c.serve_record-next.new.row_queues c.serve_record-next.new.answers)) = let o = c.loop-reached.invariant.1 in record { figures = c.serve_record-next.auto.figures ∙ o.figures; cursors = c.serve_record-next.auto.cursors ∙ o.cursors; sure = c.serve_record-next.auto.sure ∙ o.sure; never = c.serve_record-next.auto.never ∙ o.never; node_queue = c.serve_record-next.auto.node_queue ∙ o.node_queue; row_queues = c.serve_record-next.auto.row_queues ∙ o.row_queues; gcds = c.serve_record-next.auto.gcds ∙ o.gcds; search = c.serve_record-next.auto.search ∙ o.search; answers = c.serve_record-next.auto.answers ∙ o.answers } in it)).figures
 
 pub shape_of-cursors-then-number-ne0 : goal.shape_of-cursors-then-number-ne0
-shape_of-cursors-then-number-ne0 c = ((let it : Same ((let a = c.args in kept a.figures.now a.cursors.now a.sure.now a.never.now a.search.now a.gcds.now a.node_queue.now a.row_queues.now a.answers.now)) ((kept c.serve_record-next.new.figures c.serve_record-next.new.cursors c.serve_record-next.new.sure c.serve_record-next.new.never c.serve_record-next.new.search c.serve_record-next.new.gcds c.serve_record-next.new.node_queue c.serve_record-next.new.row_queues c.serve_record-next.new.answers)) = let o = c.loop-reached.invariant.1 in record { figures = c.serve_record-next.auto.figures ∙ o.figures; cursors = c.serve_record-next.auto.cursors ∙ o.cursors; sure = c.serve_record-next.auto.sure ∙ o.sure; never = c.serve_record-next.auto.never ∙ o.never; node_queue = c.serve_record-next.auto.node_queue ∙ o.node_queue; row_queues = c.serve_record-next.auto.row_queues ∙ o.row_queues; gcds = c.serve_record-next.auto.gcds ∙ o.gcds; search = c.serve_record-next.auto.search ∙ o.search; answers = c.serve_record-next.auto.answers ∙ o.answers; } in it)).cursors
+shape_of-cursors-then-number-ne0 c = ((let it : Same ((let a = c.args in kept a.figures.now a.cursors.now a.sure.now a.never.now a.search.now a.gcds.now a.node_queue.now a.row_queues.now a.answers.now)) ((kept c.serve_record-next.new.figures c.serve_record-next.new.cursors c.serve_record-next.new.sure c.serve_record-next.new.never c.serve_record-next.new.search c.serve_record-next.new.gcds c.serve_record-next.new.node_queue c.serve_record-next.new.row_queues c.serve_record-next.new.answers)) = let o = c.loop-reached.invariant.1 in record { figures = c.serve_record-next.auto.figures ∙ o.figures; cursors = c.serve_record-next.auto.cursors ∙ o.cursors; sure = c.serve_record-next.auto.sure ∙ o.sure; never = c.serve_record-next.auto.never ∙ o.never; node_queue = c.serve_record-next.auto.node_queue ∙ o.node_queue; row_queues = c.serve_record-next.auto.row_queues ∙ o.row_queues; gcds = c.serve_record-next.auto.gcds ∙ o.gcds; search = c.serve_record-next.auto.search ∙ o.search; answers = c.serve_record-next.auto.answers ∙ o.answers } in it)).cursors
 
 pub shape_of-sure-then-number-ne0 : goal.shape_of-sure-then-number-ne0
-shape_of-sure-then-number-ne0 c = ((let it : Same ((let a = c.args in kept a.figures.now a.cursors.now a.sure.now a.never.now a.search.now a.gcds.now a.node_queue.now a.row_queues.now a.answers.now)) ((kept c.serve_record-next.new.figures c.serve_record-next.new.cursors c.serve_record-next.new.sure c.serve_record-next.new.never c.serve_record-next.new.search c.serve_record-next.new.gcds c.serve_record-next.new.node_queue c.serve_record-next.new.row_queues c.serve_record-next.new.answers)) = let o = c.loop-reached.invariant.1 in record { figures = c.serve_record-next.auto.figures ∙ o.figures; cursors = c.serve_record-next.auto.cursors ∙ o.cursors; sure = c.serve_record-next.auto.sure ∙ o.sure; never = c.serve_record-next.auto.never ∙ o.never; node_queue = c.serve_record-next.auto.node_queue ∙ o.node_queue; row_queues = c.serve_record-next.auto.row_queues ∙ o.row_queues; gcds = c.serve_record-next.auto.gcds ∙ o.gcds; search = c.serve_record-next.auto.search ∙ o.search; answers = c.serve_record-next.auto.answers ∙ o.answers; } in it)).sure
+shape_of-sure-then-number-ne0 c = ((let it : Same ((let a = c.args in kept a.figures.now a.cursors.now a.sure.now a.never.now a.search.now a.gcds.now a.node_queue.now a.row_queues.now a.answers.now)) ((kept c.serve_record-next.new.figures c.serve_record-next.new.cursors c.serve_record-next.new.sure c.serve_record-next.new.never c.serve_record-next.new.search c.serve_record-next.new.gcds c.serve_record-next.new.node_queue c.serve_record-next.new.row_queues c.serve_record-next.new.answers)) = let o = c.loop-reached.invariant.1 in record { figures = c.serve_record-next.auto.figures ∙ o.figures; cursors = c.serve_record-next.auto.cursors ∙ o.cursors; sure = c.serve_record-next.auto.sure ∙ o.sure; never = c.serve_record-next.auto.never ∙ o.never; node_queue = c.serve_record-next.auto.node_queue ∙ o.node_queue; row_queues = c.serve_record-next.auto.row_queues ∙ o.row_queues; gcds = c.serve_record-next.auto.gcds ∙ o.gcds; search = c.serve_record-next.auto.search ∙ o.search; answers = c.serve_record-next.auto.answers ∙ o.answers } in it)).sure
 
 pub shape_of-never-then-number-ne0 : goal.shape_of-never-then-number-ne0
-shape_of-never-then-number-ne0 c = ((let it : Same ((let a = c.args in kept a.figures.now a.cursors.now a.sure.now a.never.now a.search.now a.gcds.now a.node_queue.now a.row_queues.now a.answers.now)) ((kept c.serve_record-next.new.figures c.serve_record-next.new.cursors c.serve_record-next.new.sure c.serve_record-next.new.never c.serve_record-next.new.search c.serve_record-next.new.gcds c.serve_record-next.new.node_queue c.serve_record-next.new.row_queues c.serve_record-next.new.answers)) = let o = c.loop-reached.invariant.1 in record { figures = c.serve_record-next.auto.figures ∙ o.figures; cursors = c.serve_record-next.auto.cursors ∙ o.cursors; sure = c.serve_record-next.auto.sure ∙ o.sure; never = c.serve_record-next.auto.never ∙ o.never; node_queue = c.serve_record-next.auto.node_queue ∙ o.node_queue; row_queues = c.serve_record-next.auto.row_queues ∙ o.row_queues; gcds = c.serve_record-next.auto.gcds ∙ o.gcds; search = c.serve_record-next.auto.search ∙ o.search; answers = c.serve_record-next.auto.answers ∙ o.answers; } in it)).never
+shape_of-never-then-number-ne0 c = ((let it : Same ((let a = c.args in kept a.figures.now a.cursors.now a.sure.now a.never.now a.search.now a.gcds.now a.node_queue.now a.row_queues.now a.answers.now)) ((kept c.serve_record-next.new.figures c.serve_record-next.new.cursors c.serve_record-next.new.sure c.serve_record-next.new.never c.serve_record-next.new.search c.serve_record-next.new.gcds c.serve_record-next.new.node_queue c.serve_record-next.new.row_queues c.serve_record-next.new.answers)) = let o = c.loop-reached.invariant.1 in record { figures = c.serve_record-next.auto.figures ∙ o.figures; cursors = c.serve_record-next.auto.cursors ∙ o.cursors; sure = c.serve_record-next.auto.sure ∙ o.sure; never = c.serve_record-next.auto.never ∙ o.never; node_queue = c.serve_record-next.auto.node_queue ∙ o.node_queue; row_queues = c.serve_record-next.auto.row_queues ∙ o.row_queues; gcds = c.serve_record-next.auto.gcds ∙ o.gcds; search = c.serve_record-next.auto.search ∙ o.search; answers = c.serve_record-next.auto.answers ∙ o.answers } in it)).never
 
 pub shape_of-node_queue-then-number-ne0 : goal.shape_of-node_queue-then-number-ne0
-shape_of-node_queue-then-number-ne0 c = ((let it : Same ((let a = c.args in kept a.figures.now a.cursors.now a.sure.now a.never.now a.search.now a.gcds.now a.node_queue.now a.row_queues.now a.answers.now)) ((kept c.serve_record-next.new.figures c.serve_record-next.new.cursors c.serve_record-next.new.sure c.serve_record-next.new.never c.serve_record-next.new.search c.serve_record-next.new.gcds c.serve_record-next.new.node_queue c.serve_record-next.new.row_queues c.serve_record-next.new.answers)) = let o = c.loop-reached.invariant.1 in record { figures = c.serve_record-next.auto.figures ∙ o.figures; cursors = c.serve_record-next.auto.cursors ∙ o.cursors; sure = c.serve_record-next.auto.sure ∙ o.sure; never = c.serve_record-next.auto.never ∙ o.never; node_queue = c.serve_record-next.auto.node_queue ∙ o.node_queue; row_queues = c.serve_record-next.auto.row_queues ∙ o.row_queues; gcds = c.serve_record-next.auto.gcds ∙ o.gcds; search = c.serve_record-next.auto.search ∙ o.search; answers = c.serve_record-next.auto.answers ∙ o.answers; } in it)).node_queue
+shape_of-node_queue-then-number-ne0 c = ((let it : Same ((let a = c.args in kept a.figures.now a.cursors.now a.sure.now a.never.now a.search.now a.gcds.now a.node_queue.now a.row_queues.now a.answers.now)) ((kept c.serve_record-next.new.figures c.serve_record-next.new.cursors c.serve_record-next.new.sure c.serve_record-next.new.never c.serve_record-next.new.search c.serve_record-next.new.gcds c.serve_record-next.new.node_queue c.serve_record-next.new.row_queues c.serve_record-next.new.answers)) = let o = c.loop-reached.invariant.1 in record { figures = c.serve_record-next.auto.figures ∙ o.figures; cursors = c.serve_record-next.auto.cursors ∙ o.cursors; sure = c.serve_record-next.auto.sure ∙ o.sure; never = c.serve_record-next.auto.never ∙ o.never; node_queue = c.serve_record-next.auto.node_queue ∙ o.node_queue; row_queues = c.serve_record-next.auto.row_queues ∙ o.row_queues; gcds = c.serve_record-next.auto.gcds ∙ o.gcds; search = c.serve_record-next.auto.search ∙ o.search; answers = c.serve_record-next.auto.answers ∙ o.answers } in it)).node_queue
 
 pub shape_of-row_queues-then-number-ne0 : goal.shape_of-row_queues-then-number-ne0
-shape_of-row_queues-then-number-ne0 c = ((let it : Same ((let a = c.args in kept a.figures.now a.cursors.now a.sure.now a.never.now a.search.now a.gcds.now a.node_queue.now a.row_queues.now a.answers.now)) ((kept c.serve_record-next.new.figures c.serve_record-next.new.cursors c.serve_record-next.new.sure c.serve_record-next.new.never c.serve_record-next.new.search c.serve_record-next.new.gcds c.serve_record-next.new.node_queue c.serve_record-next.new.row_queues c.serve_record-next.new.answers)) = let o = c.loop-reached.invariant.1 in record { figures = c.serve_record-next.auto.figures ∙ o.figures; cursors = c.serve_record-next.auto.cursors ∙ o.cursors; sure = c.serve_record-next.auto.sure ∙ o.sure; never = c.serve_record-next.auto.never ∙ o.never; node_queue = c.serve_record-next.auto.node_queue ∙ o.node_queue; row_queues = c.serve_record-next.auto.row_queues ∙ o.row_queues; gcds = c.serve_record-next.auto.gcds ∙ o.gcds; search = c.serve_record-next.auto.search ∙ o.search; answers = c.serve_record-next.auto.answers ∙ o.answers; } in it)).row_queues
+shape_of-row_queues-then-number-ne0 c = ((let it : Same ((let a = c.args in kept a.figures.now a.cursors.now a.sure.now a.never.now a.search.now a.gcds.now a.node_queue.now a.row_queues.now a.answers.now)) ((kept c.serve_record-next.new.figures c.serve_record-next.new.cursors c.serve_record-next.new.sure c.serve_record-next.new.never c.serve_record-next.new.search c.serve_record-next.new.gcds c.serve_record-next.new.node_queue c.serve_record-next.new.row_queues c.serve_record-next.new.answers)) = let o = c.loop-reached.invariant.1 in record { figures = c.serve_record-next.auto.figures ∙ o.figures; cursors = c.serve_record-next.auto.cursors ∙ o.cursors; sure = c.serve_record-next.auto.sure ∙ o.sure; never = c.serve_record-next.auto.never ∙ o.never; node_queue = c.serve_record-next.auto.node_queue ∙ o.node_queue; row_queues = c.serve_record-next.auto.row_queues ∙ o.row_queues; gcds = c.serve_record-next.auto.gcds ∙ o.gcds; search = c.serve_record-next.auto.search ∙ o.search; answers = c.serve_record-next.auto.answers ∙ o.answers } in it)).row_queues
 
 pub shape_of-gcds-then-number-ne0 : goal.shape_of-gcds-then-number-ne0
-shape_of-gcds-then-number-ne0 c = ((let it : Same ((let a = c.args in kept a.figures.now a.cursors.now a.sure.now a.never.now a.search.now a.gcds.now a.node_queue.now a.row_queues.now a.answers.now)) ((kept c.serve_record-next.new.figures c.serve_record-next.new.cursors c.serve_record-next.new.sure c.serve_record-next.new.never c.serve_record-next.new.search c.serve_record-next.new.gcds c.serve_record-next.new.node_queue c.serve_record-next.new.row_queues c.serve_record-next.new.answers)) = let o = c.loop-reached.invariant.1 in record { figures = c.serve_record-next.auto.figures ∙ o.figures; cursors = c.serve_record-next.auto.cursors ∙ o.cursors; sure = c.serve_record-next.auto.sure ∙ o.sure; never = c.serve_record-next.auto.never ∙ o.never; node_queue = c.serve_record-next.auto.node_queue ∙ o.node_queue; row_queues = c.serve_record-next.auto.row_queues ∙ o.row_queues; gcds = c.serve_record-next.auto.gcds ∙ o.gcds; search = c.serve_record-next.auto.search ∙ o.search; answers = c.serve_record-next.auto.answers ∙ o.answers; } in it)).gcds
+shape_of-gcds-then-number-ne0 c = ((let it : Same ((let a = c.args in kept a.figures.now a.cursors.now a.sure.now a.never.now a.search.now a.gcds.now a.node_queue.now a.row_queues.now a.answers.now)) ((kept c.serve_record-next.new.figures c.serve_record-next.new.cursors c.serve_record-next.new.sure c.serve_record-next.new.never c.serve_record-next.new.search c.serve_record-next.new.gcds c.serve_record-next.new.node_queue c.serve_record-next.new.row_queues c.serve_record-next.new.answers)) = let o = c.loop-reached.invariant.1 in record { figures = c.serve_record-next.auto.figures ∙ o.figures; cursors = c.serve_record-next.auto.cursors ∙ o.cursors; sure = c.serve_record-next.auto.sure ∙ o.sure; never = c.serve_record-next.auto.never ∙ o.never; node_queue = c.serve_record-next.auto.node_queue ∙ o.node_queue; row_queues = c.serve_record-next.auto.row_queues ∙ o.row_queues; gcds = c.serve_record-next.auto.gcds ∙ o.gcds; search = c.serve_record-next.auto.search ∙ o.search; answers = c.serve_record-next.auto.answers ∙ o.answers } in it)).gcds
 
 pub shape_of-search-then-number-ne0 : goal.shape_of-search-then-number-ne0
-shape_of-search-then-number-ne0 c = ((let it : Same ((let a = c.args in kept a.figures.now a.cursors.now a.sure.now a.never.now a.search.now a.gcds.now a.node_queue.now a.row_queues.now a.answers.now)) ((kept c.serve_record-next.new.figures c.serve_record-next.new.cursors c.serve_record-next.new.sure c.serve_record-next.new.never c.serve_record-next.new.search c.serve_record-next.new.gcds c.serve_record-next.new.node_queue c.serve_record-next.new.row_queues c.serve_record-next.new.answers)) = let o = c.loop-reached.invariant.1 in record { figures = c.serve_record-next.auto.figures ∙ o.figures; cursors = c.serve_record-next.auto.cursors ∙ o.cursors; sure = c.serve_record-next.auto.sure ∙ o.sure; never = c.serve_record-next.auto.never ∙ o.never; node_queue = c.serve_record-next.auto.node_queue ∙ o.node_queue; row_queues = c.serve_record-next.auto.row_queues ∙ o.row_queues; gcds = c.serve_record-next.auto.gcds ∙ o.gcds; search = c.serve_record-next.auto.search ∙ o.search; answers = c.serve_record-next.auto.answers ∙ o.answers; } in it)).search
+shape_of-search-then-number-ne0 c = ((let it : Same ((let a = c.args in kept a.figures.now a.cursors.now a.sure.now a.never.now a.search.now a.gcds.now a.node_queue.now a.row_queues.now a.answers.now)) ((kept c.serve_record-next.new.figures c.serve_record-next.new.cursors c.serve_record-next.new.sure c.serve_record-next.new.never c.serve_record-next.new.search c.serve_record-next.new.gcds c.serve_record-next.new.node_queue c.serve_record-next.new.row_queues c.serve_record-next.new.answers)) = let o = c.loop-reached.invariant.1 in record { figures = c.serve_record-next.auto.figures ∙ o.figures; cursors = c.serve_record-next.auto.cursors ∙ o.cursors; sure = c.serve_record-next.auto.sure ∙ o.sure; never = c.serve_record-next.auto.never ∙ o.never; node_queue = c.serve_record-next.auto.node_queue ∙ o.node_queue; row_queues = c.serve_record-next.auto.row_queues ∙ o.row_queues; gcds = c.serve_record-next.auto.gcds ∙ o.gcds; search = c.serve_record-next.auto.search ∙ o.search; answers = c.serve_record-next.auto.answers ∙ o.answers } in it)).search
 
 pub shape_of-answers-then-number-ne0 : goal.shape_of-answers-then-number-ne0
-shape_of-answers-then-number-ne0 c = ((let it : Same ((let a = c.args in kept a.figures.now a.cursors.now a.sure.now a.never.now a.search.now a.gcds.now a.node_queue.now a.row_queues.now a.answers.now)) ((kept c.serve_record-next.new.figures c.serve_record-next.new.cursors c.serve_record-next.new.sure c.serve_record-next.new.never c.serve_record-next.new.search c.serve_record-next.new.gcds c.serve_record-next.new.node_queue c.serve_record-next.new.row_queues c.serve_record-next.new.answers)) = let o = c.loop-reached.invariant.1 in record { figures = c.serve_record-next.auto.figures ∙ o.figures; cursors = c.serve_record-next.auto.cursors ∙ o.cursors; sure = c.serve_record-next.auto.sure ∙ o.sure; never = c.serve_record-next.auto.never ∙ o.never; node_queue = c.serve_record-next.auto.node_queue ∙ o.node_queue; row_queues = c.serve_record-next.auto.row_queues ∙ o.row_queues; gcds = c.serve_record-next.auto.gcds ∙ o.gcds; search = c.serve_record-next.auto.search ∙ o.search; answers = c.serve_record-next.auto.answers ∙ o.answers; } in it)).answers
+shape_of-answers-then-number-ne0 c = ((let it : Same ((let a = c.args in kept a.figures.now a.cursors.now a.sure.now a.never.now a.search.now a.gcds.now a.node_queue.now a.row_queues.now a.answers.now)) ((kept c.serve_record-next.new.figures c.serve_record-next.new.cursors c.serve_record-next.new.sure c.serve_record-next.new.never c.serve_record-next.new.search c.serve_record-next.new.gcds c.serve_record-next.new.node_queue c.serve_record-next.new.row_queues c.serve_record-next.new.answers)) = let o = c.loop-reached.invariant.1 in record { figures = c.serve_record-next.auto.figures ∙ o.figures; cursors = c.serve_record-next.auto.cursors ∙ o.cursors; sure = c.serve_record-next.auto.sure ∙ o.sure; never = c.serve_record-next.auto.never ∙ o.never; node_queue = c.serve_record-next.auto.node_queue ∙ o.node_queue; row_queues = c.serve_record-next.auto.row_queues ∙ o.row_queues; gcds = c.serve_record-next.auto.gcds ∙ o.gcds; search = c.serve_record-next.auto.search ∙ o.search; answers = c.serve_record-next.auto.answers ∙ o.answers } in it)).answers
 
 pub shape_of-figures : goal.shape_of-figures
 shape_of-figures c = c.loop-reached.invariant.1.figures
