@@ -1,5 +1,6 @@
 // The last phase of the call, over its own group of buffers, which it clears: the seal and the records after it.
 #![tactic(auto)]
+
 ghost use Rattle.std.specs.Prelude.{◌≡◌, true, ◌<◌, ◌≤◌, length};
 ghost use Rattle.memory.specs.Buffers.{held_rows, built, Kept, kept, longest_input};
 ghost use Rattle.files.specs.File.{File, standing as standing_of};
