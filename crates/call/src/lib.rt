@@ -1,5 +1,6 @@
 // The call: reads the job, builds what its seal needs, seals and serves, over every lent buffer.
 #![tactic(auto)]
+
 ghost use Rattle.std.specs.Prelude.{◌≡◌};
 ghost use Rattle.memory.specs.Buffers.{raw_lists, raw, held_rows, built, kept, work};
 ghost use Rattle.files.specs.Contents.{out, whole};

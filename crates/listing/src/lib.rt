@@ -1,5 +1,6 @@
 // The listing of document 01: what the call gave back and what it left in its buffers, as bytes in a lent buffer of fixed length.
 #![tactic(auto)]
+
 ghost use Rattle.std.specs.Prelude.{◌≡◌, true, ◌++◌, ◌+◌, ◌*◌, ◌<◌, ◌≤◌, length};
 ghost use Rattle.files.specs.Listing.{text as text_of, upper_text, step_word, figures as figuresText, answer_line, max_listing};
 ghost use Rattle.text.specs.Decimal.{decimal as decimalOf, decimal_z};

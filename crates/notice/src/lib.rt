@@ -1,5 +1,6 @@
 // What the listing does not show, in words for a person: what a refusal means, and that no layout is left.
 #![tactic(auto)]
+
 ghost use Rattle.std.specs.Prelude.{◌≤◌, ◌+◌, length};
 ghost use Rattle.text.specs.Text.{Wrote};
 ghost use Rattle.notice.specs.Notice.{meaning as meaningOf, refused_text, left_text, notice as noticeOf, max_meaning, max_refused, max_left, max_notice};
