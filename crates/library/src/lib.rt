@@ -1,4 +1,4 @@
-// The library for programs in other languages: the call and its listing, exported for C. Neither requires anything of its caller.
+// The library for programs in other languages: the call and its listing, which library_c exports for C. Neither requires anything of its caller.
 #![tactic(auto)]
 
 ghost use Rattle.std.specs.Prelude.{◌≡◌, cond};
