@@ -15,7 +15,7 @@ import subprocess
 from command import Failed
 
 ROOT = pathlib.Path(__file__).resolve().parent.parent
-PROGRAM = ROOT / "target/bin/planner_main"
+PROGRAM = ROOT / "crates/planner_main/out/planner_main"
 LONGEST = 65_536
 
 Kind = collections.namedtuple("Kind", "number name fields body")

@@ -1,6 +1,7 @@
 //! Links libplanner.a: the one in the folder that `PLANNER_LIB` names, else that of this repository, made where it is missing or old.
 
 use std::env;
+use std::fs;
 use std::path::PathBuf;
 use std::process::Command;
 
@@ -14,14 +15,12 @@ fn main() {
 fn made_here() -> PathBuf {
     let home = PathBuf::from(env::var("CARGO_MANIFEST_DIR").expect("set by cargo"));
     let script = home.join("../archive");
-    for part in [
-        "../archive",
-        "../c/version.c",
-        "../../include/planner.h",
-        "../../crates",
-        "../../crates.txt",
-    ] {
+    for part in ["../archive", "../c/version.c", "../../include/planner.h", "../../crates.txt"] {
         println!("cargo:rerun-if-changed={}", home.join(part).display());
+    }
+    // Of a crate the code alone: what rt makes beside it, in out/, is large.
+    for part in fs::read_dir(home.join("../../crates")).expect("a folder").flatten() {
+        println!("cargo:rerun-if-changed={}", part.path().join("src").display());
     }
     let done = Command::new(&script)
         .output()

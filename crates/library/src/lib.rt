@@ -1,5 +1,6 @@
-// The library for programs in other languages: the call and its listing, exported for C. Neither requires anything of its caller.
+// The library for programs in other languages: the call and its listing, which library_c exports for C. Neither requires anything of its caller.
 #![tactic(auto)]
+
 ghost use Rattle.std.specs.Prelude.{◌≡◌, cond};
 ghost use Rattle.memory.specs.Buffers.{raw_lists, raw, held_rows, built, kept, work};
 ghost use Rattle.files.specs.Contents.{whole};
@@ -29,8 +30,7 @@ fn flag(b: bool) -> u8
 }
 
 // THE CALL, for C: each slice is a pointer and a number of elements.
-#[unsafe(no_mangle)]
-pub extern "C" fn planner_run(
+pub fn planner_run(
     input: &[u8],
     raw_conditions: &mut [u16],
     raw_weights: &mut [u64],
@@ -100,8 +100,7 @@ pub extern "C" fn planner_run(
 // ---- the listing
 
 // THE LISTING of an input's file, for C: how many bytes of `out` it has; 0, and nothing written, if `out` is too short.
-#[unsafe(no_mangle)]
-pub extern "C" fn planner_list(input: &[u8], out: &mut [u8]) -> usize
+pub fn planner_list(input: &[u8], out: &mut [u8]) -> usize
     ensures { Lists input.now out.old out.new result }
 {
     let planned = report::plan(input, out);
