@@ -1,5 +1,6 @@
 // THE PUBLIC CALL: a whole file over every lent buffer, the row states among them as records.
 #![tactic(auto)]
+
 ghost use Rattle.std.specs.Prelude.{◌≡◌, eqb};
 ghost use Rattle.memory.specs.Buffers.{raw_lists, raw, held_rows, built, kept, work};
 ghost use Rattle.files.specs.Contents.{out, nothing};
