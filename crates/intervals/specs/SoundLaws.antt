@@ -21,7 +21,7 @@ use Rattle.state.specs.Step.{joined, contradicts}
 use Rattle.state.specs.State.{limit, upper_at_most, has_residual_interval}
 use Rattle.words.specs.Mask.{bit}
 use Rattle.queues.specs.Marks.{Marks, is_decided, Decided, decide, mask}
-use Rattle.queues.specs.MarksLaws.{decide_there, decide_new, decide_other, decide_opposite}
+use Rattle.queues.proofs.MarksLaws.{decide_there, decide_new, decide_other, decide_opposite}
 use Rattle.row.specs.TermsLaws as Terms
 use Rattle.rows.specs.Rows.{has_nonunit}
 use Rattle.intervals.specs.declared.Interval.{Interval}

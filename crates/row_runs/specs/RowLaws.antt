@@ -14,7 +14,7 @@ use Rattle.state.specs.Step.{joined, contradicts}
 use Rattle.state.specs.State.{limit, limited, conflict, has_residual_interval, with_guards, with_terms}
 use Rattle.state.specs.Shape.{Figures}
 use Rattle.queues.specs.Marks.{Marks, decided, decide}
-use Rattle.queues.specs.MarksLaws.{waits-decide}
+use Rattle.queues.proofs.MarksLaws.{waits-decide}
 use Rattle.queues.specs.Waiting.{Waits}
 use Rattle.rows.specs.Rows.{Row, row_of, Guard, has_nonunit}
 use Rattle.row_runs.specs.Scan.{Scanned}

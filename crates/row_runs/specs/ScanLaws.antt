@@ -14,7 +14,7 @@ use Rattle.state.specs.Step.{joined, contradicts}
 use Rattle.queues.specs.declared.Ring.{Ring}
 use Rattle.queues.specs.Queue.{queue}
 use Rattle.queues.specs.Marks.{Marks, marks, Decided, decided, is_decided, decide}
-use Rattle.queues.specs.MarksLaws.{waits-decide}
+use Rattle.queues.proofs.MarksLaws.{waits-decide}
 use Rattle.queues.specs.Waiting.{Waits}
 use Rattle.row_runs.specs.Scan.{Scanned, scanned, scan, force}
 use Rattle.row_runs.specs.Turns.{Turned, turn, turned}

@@ -26,7 +26,7 @@ use Rattle.theorem_limits.specs.FilesLaws.{good_begun, both, Taken, taken, build
 use Rattle.theorem_limits.specs.ActionLaws.{act_unsealed, act_sealed, act-served}
 use Rattle.theorem_follows.specs.Ordered.{Ordered}
 use Rattle.theorem_follows.specs.StandsLaws.{apart_decide}
-use Rattle.queues.specs.StayLaws.{stay_same, stay_decide}
+use Rattle.queues.proofs.StayLaws.{stay_same, stay_decide}
 use Rattle.theorem_follows.specs.BuiltLaws.{Built, built, rows-ordered}
 use Rattle.theorem_follows.specs.WaitingLaws.{queued_decide}
 use Rattle.theorem_follows.specs.FirstLaws.{Undrained, undrained_from, undrained_none}

@@ -24,7 +24,7 @@ use Rattle.state.specs.State.{upper_at_most}
 use Rattle.words.specs.Mask.{bit}
 use Rattle.queues.specs.Queue.{is_empty, oldest, next_row}
 use Rattle.queues.specs.Marks.{Marks, is_decided, Decided, decide, mask}
-use Rattle.queues.specs.MarksLaws.{decide_there, decide_clash, decide_new}
+use Rattle.queues.proofs.MarksLaws.{decide_there, decide_clash, decide_new}
 use Rattle.row.specs.Terms.{row_terms}
 use Rattle.rows.specs.Rows.{Row, no_row, rows_of, has_nonunit}
 use Rattle.row_runs.specs.Guards.{Condition}
@@ -47,7 +47,7 @@ use Rattle.theorem_table.specs.OrderLaws.{UpLe, le, lt, of_le, ≤ℤ_trans}
 use Rattle.theorem_table.specs.LayoutLaws.{row_made}
 use Rattle.theorem_ends.specs.KeepsLaws.{residual-named}
 use Rattle.theorem_follows.specs.StandsLaws.{table_at, Apart, apart_decide, known_exact, possible_exact}
-use Rattle.queues.specs.StayLaws.{Stay, stay_same, stay_decide}
+use Rattle.queues.proofs.StayLaws.{Stay, stay_same, stay_decide}
 use Rattle.theorem_follows.specs.BuiltLaws.{Built}
 use Rattle.theorem_follows.specs.WaitingLaws.{queued_decide, none_left}
 use Rattle.queues.specs.Waiting.{Queued}

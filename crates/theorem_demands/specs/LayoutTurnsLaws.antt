@@ -21,7 +21,7 @@ use Rattle.theorem_table.specs.Table.{IsRow}
 use Rattle.theorem_table.specs.TableLaws.{le_same, follows_start}
 use Rattle.theorem_follows.specs.Ordered.{Ordered}
 use Rattle.theorem_follows.specs.StandsLaws.{table_at, also, also_this, Apart, Stands, restart}
-use Rattle.queues.specs.StayLaws.{Stay}
+use Rattle.queues.proofs.StayLaws.{Stay}
 use Rattle.theorem_follows.specs.MovesLaws.{Kept, run_stands, guard_stands, prefixes_stand}
 use Rattle.theorem_follows.specs.DrainedLaws.{condition_stands}
 use Rattle.theorem_follows.specs.BuiltLaws.{Built}

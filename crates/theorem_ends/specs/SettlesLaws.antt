@@ -9,7 +9,7 @@ use Rattle.state.specs.Step.{contradicts}
 use Rattle.queues.specs.Queue.{is_empty, oldest, popped, next_row}
 use Rattle.queues.specs.RowsLaws.{flags_next}
 use Rattle.queues.specs.Marks.{Marks}
-use Rattle.queues.specs.MarksLaws.{waits-popped}
+use Rattle.queues.proofs.MarksLaws.{waits-popped}
 use Rattle.queues.specs.Waiting.{Waits}
 use Rattle.base.specs.TestLaws.{contrary}
 use Rattle.row_moves.specs.Between.{Index, Live, Did, state_at}

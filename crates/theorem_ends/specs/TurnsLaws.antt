@@ -16,7 +16,7 @@ use Rattle.queues.specs.Queue.{Rows, push, queue_row}
 use Rattle.queues.specs.QueueLaws.{row-waits, row_new}
 use Rattle.queues.specs.RowsLaws.{flags_queue}
 use Rattle.queues.specs.Marks.{Marks, decide}
-use Rattle.queues.specs.MarksLaws.{waits-decide}
+use Rattle.queues.proofs.MarksLaws.{waits-decide}
 use Rattle.queues.specs.Waiting.{Waits, Flags}
 use Rattle.rows.specs.Guards.{Bound}
 use Rattle.rows.specs.Rows.{Row, no_row, Edge, edges_of, row_number}

@@ -19,7 +19,7 @@ use Rattle.state.specs.Step.{joined, contradicts}
 use Rattle.state.specs.State.{reached, upper_at_most}
 use Rattle.words.specs.Mask.{bit}
 use Rattle.queues.specs.Marks.{Marks, is_decided, Decided, decided, decide, mask}
-use Rattle.queues.specs.MarksLaws.{decide_has, decide-length}
+use Rattle.queues.proofs.MarksLaws.{decide_has, decide-length}
 use Rattle.state.specs.declared.Upper.{Upper}
 use Rattle.state.specs.declared.Upper.TheVariants.{Open, Under}
 use Rattle.rows.specs.Rows.{Guard}

@@ -12,7 +12,7 @@ use Rattle.state.specs.declared.Upper.{Upper}
 use Rattle.state.specs.Step.{joined, contradicts}
 use Rattle.words.specs.Mask.{bit}
 use Rattle.queues.specs.Marks.{Marks, Decided, decide, mask}
-use Rattle.queues.specs.MarksLaws.{decide_there, decide_new, decide_other, decide_opposite}
+use Rattle.queues.proofs.MarksLaws.{decide_there, decide_new, decide_other, decide_opposite}
 use Rattle.rows.specs.Rows.{Row}
 use Rattle.row_runs.specs.Scan.{scan, Scanned}
 use Rattle.theorem_table.specs.Table as T

@@ -36,7 +36,7 @@ use Rattle.theorem_follows.specs.DecideLaws.{table_of, Broken, follows_below}
 use Rattle.theorem_follows.specs.RowLaws.{Fine, row_fine}
 use Rattle.theorem_follows.specs.CursorsLaws.{row_goes}
 use Rattle.theorem_follows.specs.StandsLaws.{table_at, Apart, Stands, stay_le, apart_decide, put_state, known_inside, possible_inside, restart, put_stands}
-use Rattle.queues.specs.StayLaws.{Stay, stay_same, stay_decide}
+use Rattle.queues.proofs.StayLaws.{Stay, stay_same, stay_decide}
 
 -- An upper bound that lies above a number says no more than the number as a bound would.
 pub not_above : (z : ℤ) (y : Upper) → upper_at_most y z ≡ false → UpLe (Under z) y

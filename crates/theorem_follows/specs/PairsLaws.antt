@@ -31,7 +31,7 @@ use Rattle.theorem_follows.specs.CompleteLaws.{Has}
 use Rattle.theorem_follows.specs.DoneLaws.{Grows, taken_cases}
 use Rattle.theorem_follows.specs.RowCompleteLaws.{SameFigures, RowDone}
 use Rattle.theorem_follows.specs.StandsLaws.{table_at, Stands, known_inside, possible_inside, stay_le, Apart, apart_decide}
-use Rattle.queues.specs.StayLaws.{Stay, stay_same, stay_decide}
+use Rattle.queues.proofs.StayLaws.{Stay, stay_same, stay_decide}
 
 -- The figures of a row reach a bound; those of the other row, if a guard asks for one.
 abbrev pub Reaches : Live → ℕ → ℤ → Type 0

@@ -28,7 +28,7 @@ use Rattle.theorem_table.specs.OrderLaws.{le, ≤ℤ_trans, UpLe, up_refl, up_tr
 use Rattle.theorem_table.specs.TableLaws.{Le}
 use Rattle.theorem_table.specs.LayoutLaws.{row_made}
 use Rattle.theorem_follows.specs.StandsLaws.{table_at, also, also_which, Apart, Stands, restart}
-use Rattle.queues.specs.StayLaws.{Stay, stay_decided}
+use Rattle.queues.proofs.StayLaws.{Stay, stay_decided}
 use Rattle.theorem_follows.specs.BoundsLaws.{SameBounds, put_here}
 use Rattle.theorem_follows.specs.MovesLaws.{guard_stands}
 

@@ -11,7 +11,7 @@ use Rattle.state.specs.declared.Step.{Step}
 use Rattle.state.specs.declared.Step.TheVariants.{Unchanged}
 use Rattle.queues.specs.Queue.{Rows}
 use Rattle.queues.specs.Marks.{Marks, Decided, decided, decide}
-use Rattle.queues.specs.MarksLaws.{waits-decide}
+use Rattle.queues.proofs.MarksLaws.{waits-decide}
 use Rattle.queues.specs.Waiting.{Waits, Flags}
 use Rattle.row_moves.specs.Between.{Index, Live, Did, did, first_states, seed_from, with_states, with_marks}
 use Rattle.row_moves.specs.Held.{start_by, end_by, EdgesShaped, Shaped, Holds}

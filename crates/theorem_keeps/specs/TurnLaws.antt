@@ -18,7 +18,7 @@ use Rattle.queues.specs.Queue.{Rows, queue, is_empty, oldest, popped_ring, poppe
 use Rattle.queues.specs.Slot.{rows_in}
 use Rattle.queues.specs.RowsLaws.{flags_next, oldest-row}
 use Rattle.queues.specs.Marks.{Marks, marks, is_decided}
-use Rattle.queues.specs.MarksLaws.{waits-popped}
+use Rattle.queues.proofs.MarksLaws.{waits-popped}
 use Rattle.queues.specs.Waiting.{Waits, Flags}
 use Rattle.row_moves.specs.Between.{Index, Live, Did, did, guard_of, threshold_condition, threshold_prefixes, with_dirty_rows, with_marks, with_residuals}
 use Rattle.row_moves.specs.Handing.{after}

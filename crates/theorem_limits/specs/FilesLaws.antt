@@ -12,7 +12,7 @@ use Rattle.state.specs.declared.State.{State}
 use Rattle.state.specs.State.{no_state}
 use Rattle.queues.specs.Queue.{is_empty}
 use Rattle.queues.specs.RowsLaws.{flags_none}
-use Rattle.queues.specs.MarksLaws.{waits-none, waits-decide}
+use Rattle.queues.proofs.MarksLaws.{waits-none, waits-decide}
 use Rattle.rows.specs.Guards.{Bound}
 use Rattle.drain.specs.Drain as Drain
 use Rattle.drain.specs.Drain.{at_rest}

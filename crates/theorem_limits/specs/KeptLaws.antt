@@ -11,7 +11,7 @@ use Rattle.state.specs.declared.Step.TheVariants.{Unchanged, Changed, Contradict
 use Rattle.state.specs.declared.State.{State}
 use Rattle.queues.specs.Queue.{Queue, Rows, rows, push, popped, queue_row, next_row, oldest}
 use Rattle.queues.specs.Marks.{Marks, waiting, decide}
-use Rattle.queues.specs.MarksLaws.{decide-waits}
+use Rattle.queues.proofs.MarksLaws.{decide-waits}
 use Rattle.rows.specs.Rows.{Row, no_row}
 use Rattle.row_runs.specs.Row.{wants_residual}
 use Rattle.intervals.specs.ForceLaws.{gcds_length}

@@ -12,7 +12,7 @@ use borrow.Author.Rules.{rules}
 use Rattle.rows.specs.Rows.{Guard, guard}
 use Rattle.queues.specs.Queue.{queue}
 use Rattle.queues.specs.Marks.{marks}
-use Rattle.queues.specs.MarksLaws.{waits-decide}
+use Rattle.queues.proofs.MarksLaws.{waits-decide}
 use Rattle.queues.specs.Waiting.{Waits}
 use Rattle.row_runs.specs.Scan.{scan, scanned}
 use Rattle.row_runs.specs.Turns.{turn}

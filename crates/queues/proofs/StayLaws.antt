@@ -5,7 +5,7 @@ use Rattle.std.proofs.Common.{sym, ap, ap₂, ◌∙◌, subst, ⊎_elim}
 use Rattle.base.specs.TestLaws.{true-false, clash, never_true}
 use Rattle.words.specs.Mask.{bit}
 use Rattle.queues.specs.Marks.{Marks, mask, is_decided, Decided, decide}
-use Rattle.queues.specs.MarksLaws.{decide_there, decide_clash, decide_other}
+use Rattle.queues.proofs.MarksLaws.{decide_there, decide_clash, decide_other}
 
 -- DECIDED NODES keep their value, whatever else is decided.
 abbrev pub Stay : Marks → Marks → Type 0
