@@ -17,7 +17,7 @@ use Rattle.rows.specs.Guards.{Bound}
 use Rattle.rows.specs.Rows.{Row, row_of, no_row, guard, below, insert_guard, place, place_all, rows_of, row_number, Edge, edge, edges_in, edges_from}
 use Rattle.rows.specs.ListsLaws.{same_refl}
 use Rattle.links.specs.Links.{Link, links, neighbours}
-use Rattle.links.specs.LinksLaws.{links_range, Joined, downward, upward, neighbours-joined}
+use Rattle.links.proofs.LinksLaws.{links_range, Joined, downward, upward, neighbours-joined}
 use Rattle.row_runs.specs.Guards.{Node, Condition}
 use Rattle.row_moves.specs.Between.{Live}
 use Rattle.drain.specs.Drain.{index_of, seal}

@@ -11,8 +11,8 @@ use Rattle.std.proofs.Math.Dec.{eqb, ltb}
 use Rattle.numeric.specs.Threshold.{Term}
 use Rattle.rows.specs.Rows.{Row}
 use Rattle.links.specs.Links.{Link, terms_at, common, order_from, ancestors, stacked, linked, links_from, links}
-use Rattle.links.specs.OrderLaws.{Distinct, order_distinct}
-use Rattle.links.specs.LinksLaws.{link, pop, keep, replaced, topped, kept_from, stacked_from, from_range}
+use Rattle.links.proofs.OrderLaws.{Distinct, order_distinct}
+use Rattle.links.proofs.LinksLaws.{link, pop, keep, replaced, topped, kept_from, stacked_from, from_range}
 
 module _ (rs : List Row) where
   kept-distinct : (c : ℕ) (st : List ℕ) → Distinct st → Distinct (ancestors rs c st)

@@ -17,8 +17,8 @@ use Rattle.base.specs.Laid.{numbers}
 use Rattle.numeric.specs.Threshold.{Term}
 use Rattle.rows.specs.Rows.{Row}
 use Rattle.links.specs.Links.{terms_at, not_after, order_from, common, Link, ancestors, stacked, linked, links_from, links, neighbours, neighbour_lists}
-use Rattle.links.specs.WordsLaws.{Starts, starts_common, common_starts, common_sym, common_right, common_through, common-between, common_back, common_self, not_after_refl, not_after_trans}
-use Rattle.links.specs.OrderLaws.{Rising, Distinct, order_rising, order_has, order_range, order_length, order_distinct, order_same}
+use Rattle.links.proofs.WordsLaws.{Starts, starts_common, common_starts, common_sym, common_right, common_through, common-between, common_back, common_self, not_after_refl, not_after_trans}
+use Rattle.links.proofs.OrderLaws.{Rising, Distinct, order_rising, order_has, order_range, order_length, order_distinct, order_same}
 
 abbrev pub link : ℕ → ℕ → Link
 link p e = record { prefix = p; extension = e }
