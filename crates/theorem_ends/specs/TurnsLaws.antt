@@ -22,7 +22,7 @@ use Rattle.rows.specs.Guards.{Bound}
 use Rattle.rows.specs.Rows.{Row, no_row, Edge, edges_of, row_number}
 use Rattle.links.specs.Links.{neighbours}
 use Rattle.row_runs.specs.Row.{Ran, threshold_row, wants_residual}
-use Rattle.row_runs.specs.RowLaws.{Kept, kept_row}
+use Rattle.row_runs.proofs.RowLaws.{Kept, kept_row}
 use Rattle.row_moves.specs.Between.{Index, Live, Did, state_at, with_state, residual_queued, run_with, run_row, linked_queued, threshold_guard, guard_of, threshold_condition, term_count, threshold_prefixes, with_dirty_rows}
 use Rattle.row_moves.specs.LoopLaws.{drained_lower, drained_upper}
 use Rattle.row_moves.specs.Handing.{edge_run, moved, moved_run, guard_row, guard_told}

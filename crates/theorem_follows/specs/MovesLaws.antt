@@ -113,7 +113,7 @@ module _ (x : Index) (drained : ℕ → ℕ → Bool) where
       room : r < length v.states
       room = let z = h.sized in omega arith
 
-      goes : Rattle.row_runs.specs.RowLaws.Moved (state_at v r) a.state
+      goes : Rattle.row_runs.proofs.RowLaws.Moved (state_at v r) a.state
       goes = (row_goes row (state_at v r) v.marks).0
 
       More : Marks → Type 0

@@ -18,7 +18,7 @@ use Rattle.queues.proofs.MarksLaws.{waits-decide}
 use Rattle.queues.specs.Waiting.{Waits}
 use Rattle.rows.specs.Rows.{Row, row_of, Guard, has_nonunit}
 use Rattle.row_runs.specs.Scan.{Scanned}
-use Rattle.row_runs.specs.ScanLaws.{all_drop, all_take, all_reverse, scan_keeps, scan_within, force_keeps}
+use Rattle.row_runs.proofs.ScanLaws.{all_drop, all_take, all_reverse, scan_keeps, scan_within, force_keeps}
 use Rattle.row_runs.specs.Guards.{Node, Condition}
 use Rattle.row_runs.specs.Row.{Ran, ran, deciding, decides, sure_waits, sure_guards, never_waits, never_guards, threshold_guards, term_waits, forces, forced, true_terms, false_terms, row_terms, scans, threshold_row, wants_residual}
 use Rattle.row_runs.specs.Turns.{light, cut}
