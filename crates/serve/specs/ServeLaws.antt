@@ -16,7 +16,7 @@ use Rattle.rows.specs.Rows.{no_row}
 use Rattle.searches.specs.declared.Search.{Search}
 use Rattle.searches.specs.declared.Search.TheVariants.{Skipped, Fits, Nothing, Cut}
 use Rattle.searches.specs.Search.{search, search_visits}
-use Rattle.searches.specs.SearchLaws.{search_visits_lem}
+use Rattle.searches.proofs.SearchLaws.{search_visits_lem}
 use Rattle.row_moves.specs.Between.{Index, Live, live, Did, state_at}
 use Rattle.row_moves.specs.Numbers.{Tidy}
 use Rattle.drain.specs.Drain as Drain

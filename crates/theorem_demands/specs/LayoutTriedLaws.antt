@@ -36,7 +36,7 @@ use Rattle.intervals.specs.ForceLaws.{force-cases, from_skip, from_stop, from_mo
 use Rattle.intervals.specs.SumsLaws.{open_weights, open_sum, sum, open_skip, open_more}
 use Rattle.intervals.specs.SoundLaws.{distinct_in, residual_sound}
 use Rattle.searches.specs.Search.{plan, search, search_step, chosen}
-use Rattle.searches.specs.SearchLaws.{search_refutes}
+use Rattle.searches.proofs.SearchLaws.{search_refutes}
 use Rattle.row_moves.specs.Between.{Index, Live, state_at}
 use Rattle.row_moves.specs.KeepsLaws.{Small}
 use Rattle.drain.specs.Sift.{Sifted, try_row}

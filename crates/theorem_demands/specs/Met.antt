@@ -1,7 +1,7 @@
 -- WHICH DEMANDS ARE MET: a value of the type that states each. The proofs stand in the files named `Laws` beside this one, and in `theorem_ends`.
 use Rattle.numeric.proofs.AreaLaws as AreaLaws
 use Rattle.numeric.proofs.LeastLaws as LeastLaws
-use Rattle.searches.specs.SearchLaws as SearchLaws
+use Rattle.searches.proofs.SearchLaws as SearchLaws
 use Rattle.job.specs.JobLaws.{last_added, all_added}
 use Rattle.files.specs.File.{act}
 use Rattle.theorem_limits.specs.FilesLaws as Files
