@@ -11,7 +11,7 @@ use Rattle.numeric.specs.Area.{job_of}
 use Rattle.numeric.specs.Layout.{Layout, IsLayout}
 use Rattle.queues.specs.Marks.{Marks, decide}
 use Rattle.rows.specs.Rows.{no_row, rows_of}
-use Rattle.intervals.specs.SoundLaws.{Kept, decide-kept}
+use Rattle.intervals.proofs.SoundLaws.{Kept, decide-kept}
 use Rattle.row_moves.specs.Between.{with_marks}
 use Rattle.drain.specs.Drain as Drain
 use Rattle.drain.specs.Drain.{index_of}

@@ -32,9 +32,9 @@ use Rattle.intervals.specs.declared.Interval.{Interval}
 use Rattle.divisors.specs.Gcd.{gcd}
 use Rattle.intervals.specs.Residual.{interval, residual_check, suffixes, placed, force_term, force_from, Residual, residual, over, nothing_forced, threshold_residual}
 use Rattle.intervals.specs.CheckLaws.{check-unit}
-use Rattle.intervals.specs.ForceLaws.{force-cases, from_skip, from_stop, from_more, residual-none, residual_rest, residual-forced}
+use Rattle.intervals.proofs.ForceLaws.{force-cases, from_skip, from_stop, from_more, residual-none, residual_rest, residual-forced}
 use Rattle.intervals.specs.SumsLaws.{open_weights, open_sum, sum, open_skip, open_more}
-use Rattle.intervals.specs.SoundLaws.{distinct_in, residual_sound}
+use Rattle.intervals.proofs.SoundLaws.{distinct_in, residual_sound}
 use Rattle.searches.specs.Search.{plan, search, search_step, chosen}
 use Rattle.searches.proofs.SearchLaws.{search_refutes}
 use Rattle.row_moves.specs.Between.{Index, Live, state_at}

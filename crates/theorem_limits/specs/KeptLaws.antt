@@ -14,7 +14,7 @@ use Rattle.queues.specs.Marks.{Marks, waiting, decide}
 use Rattle.queues.proofs.MarksLaws.{decide-waits}
 use Rattle.rows.specs.Rows.{Row, no_row}
 use Rattle.row_runs.specs.Row.{wants_residual}
-use Rattle.intervals.specs.ForceLaws.{gcds_length}
+use Rattle.intervals.proofs.ForceLaws.{gcds_length}
 use Rattle.row_moves.specs.Between.{Index, Live, live, state_at, residual_queued, run_with, run_row}
 use Rattle.drain.specs.Drain.{index_of}
 use Rattle.row_moves.specs.WalkLaws.{Moves}

@@ -30,7 +30,7 @@ use Rattle.divisors.specs.GcdLaws.{chosen, gcd-left, gcd_right}
 use Rattle.misses.specs.MissesLaws.{clash, branch_sum}
 use Rattle.intervals.specs.Residual.{interval, residual_check, fits_from, suffix_from, suffixes, placed, off_misses, on_misses, force_term, force_from, Residual, over, nothing_forced, threshold_residual}
 use Rattle.intervals.specs.IntervalLaws.{natural_mono, natural_last, limit_above}
-use Rattle.intervals.specs.ForceLaws.{force-cases, Each, residual_keeping, from_skip, from_more, force-over, residual_rest, residual-forced}
+use Rattle.intervals.proofs.ForceLaws.{force-cases, Each, residual_keeping, from_skip, from_more, force-over, residual_rest, residual-forced}
 use Rattle.intervals.specs.SuffixLaws.{length_suffix}
 use Rattle.intervals.specs.SumsLaws.{
   open_weights,
