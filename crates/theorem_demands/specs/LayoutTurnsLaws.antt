@@ -15,7 +15,7 @@ use Rattle.rows.specs.Rows.{no_row}
 use Rattle.row_moves.specs.Between.{Index, Live, Did, run_row, threshold_guard, threshold_condition, threshold_prefixes, with_dirty_rows, with_marks, with_residuals}
 use Rattle.row_moves.specs.WalkLaws.{guard_of_ends}
 use Rattle.drain.specs.Drain.{take_node, take_row, turn, at_rest, settle}
-use Rattle.drain.specs.DrainLaws.{node_ends, row_ends_lem, turn-ends, settle_walks}
+use Rattle.drain.proofs.DrainLaws.{node_ends, row_ends_lem, turn-ends, settle_walks}
 use Rattle.drain.specs.Steps.{untaken, unrowed, node_told, node_drained}
 use Rattle.theorem_table.specs.Table.{IsRow}
 use Rattle.theorem_table.specs.TableLaws.{le_same, follows_start}

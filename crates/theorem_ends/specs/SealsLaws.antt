@@ -7,7 +7,7 @@ use Rattle.row.specs.Terms.{total}
 use Rattle.rows.specs.Rows.{Row, state_of_row}
 use Rattle.row_moves.specs.Between.{Index, Live, first_states}
 use Rattle.drain.specs.Drain.{seal}
-use Rattle.drain.specs.DrainLaws.{seal_keeps}
+use Rattle.drain.proofs.DrainLaws.{seal_keeps}
 use Rattle.theorem_ends.specs.RoomsLaws.{set-bounded, first-bounded}
 use Rattle.theorem_ends.specs.Sound.{AllBounded, Indexed, Sound}
 use Rattle.theorem_ends.specs.TurnsLaws.{run_row_lem}

@@ -15,7 +15,7 @@ use Rattle.base.specs.TestLaws.{contrary}
 use Rattle.row_moves.specs.Between.{Index, Live, Did, state_at}
 use Rattle.row_moves.specs.KeepsLaws.{Small}
 use Rattle.drain.specs.Drain.{take_node, take_row, turn, at_rest, settle}
-use Rattle.drain.specs.DrainLaws.{node_ends, row_ends_lem, turn-ends, settle_walks, settle_keeps}
+use Rattle.drain.proofs.DrainLaws.{node_ends, row_ends_lem, turn-ends, settle_walks, settle_keeps}
 use Rattle.drain.specs.Steps.{untaken, unrowed, node_told, node_drained, try_terms}
 use Rattle.drain.specs.Sift.{Sifted, try_row, sift}
 use Rattle.drain.specs.SiftLaws.{try_leaves, sift_walks, sift_keeps}

@@ -28,7 +28,7 @@ use Rattle.row_moves.specs.Ready.{Ready, Runnable}
 use Rattle.row_moves.specs.KeptLaws.{runnable_more, runnable_by}
 use Rattle.row_moves.specs.KeptHeldLaws.{edges_light, edges_many, kept_node, kept-links, kept-guard_of}
 use Rattle.drain.specs.Drain.{take_node, take_row, turn, at_rest}
-use Rattle.drain.specs.DrainLaws.{node_ends, row_ends_lem, turn-ends}
+use Rattle.drain.proofs.DrainLaws.{node_ends, row_ends_lem, turn-ends}
 use Rattle.drain.specs.Steps.{untaken, unrowed, node_told, node_drained}
 use Rattle.theorem_ends.specs.SettlesLaws.{fall_turn}
 use Rattle.theorem_follows.specs.StandsLaws.{also, also_other, also_this}

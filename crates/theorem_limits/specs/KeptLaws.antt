@@ -20,7 +20,7 @@ use Rattle.drain.specs.Drain.{index_of}
 use Rattle.row_moves.specs.WalkLaws.{Moves}
 use Rattle.row_moves.specs.KeepsLaws.{Small, run_named}
 use Rattle.drain.specs.Drain as Drain
-use Rattle.drain.specs.DrainLaws.{seal_keeps, keep_turn, settle_keeps}
+use Rattle.drain.proofs.DrainLaws.{seal_keeps, keep_turn, settle_keeps}
 use Rattle.drain.specs.Sift.{try_row}
 use Rattle.drain.specs.Sift as Sift
 use Rattle.drain.specs.SiftLaws.{try_leaves, sift_keeps}
