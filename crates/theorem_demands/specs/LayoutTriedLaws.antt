@@ -44,7 +44,7 @@ use Rattle.drain.specs.SiftLaws.{try_ends}
 use Rattle.drain.specs.Steps.{try_terms, try_residual, try_live}
 use Rattle.theorem_table.specs.Table.{IsRow, terms_of, known, possible}
 use Rattle.theorem_table.specs.OrderLaws.{UpLe, le, lt, of_le, ≤ℤ_trans}
-use Rattle.theorem_table.specs.LayoutLaws.{row_made}
+use Rattle.theorem_table.proofs.LayoutLaws.{row_made}
 use Rattle.theorem_ends.specs.KeepsLaws.{residual-named}
 use Rattle.theorem_follows.specs.StandsLaws.{table_at, Apart, apart_decide, known_exact, possible_exact}
 use Rattle.queues.proofs.StayLaws.{Stay, stay_same, stay_decide}

@@ -18,7 +18,7 @@ use Rattle.drain.specs.Drain.{take_node, take_row, turn, at_rest, settle}
 use Rattle.drain.proofs.DrainLaws.{node_ends, row_ends_lem, turn-ends, settle_walks}
 use Rattle.drain.specs.Steps.{untaken, unrowed, node_told, node_drained}
 use Rattle.theorem_table.specs.Table.{IsRow}
-use Rattle.theorem_table.specs.TableLaws.{le_same, follows_start}
+use Rattle.theorem_table.proofs.TableLaws.{le_same, follows_start}
 use Rattle.theorem_follows.specs.Ordered.{Ordered}
 use Rattle.theorem_follows.specs.StandsLaws.{table_at, also, also_this, Apart, Stands, restart}
 use Rattle.queues.proofs.StayLaws.{Stay}

@@ -5,7 +5,7 @@ use Rattle.searches.proofs.SearchLaws as SearchLaws
 use Rattle.job.specs.JobLaws.{last_added, all_added}
 use Rattle.files.specs.File.{act}
 use Rattle.theorem_limits.specs.FilesLaws as Files
-use Rattle.theorem_table.specs.TableLaws as Table
+use Rattle.theorem_table.proofs.TableLaws as Table
 use Rattle.theorem_demands.specs.Demands.{Demand1, Demand2, Demand3, AreasAdded, UnmarkedHasLayout, Call, ClauseA, PublicCall, ClauseC}
 use Rattle.theorem_demands.specs.RefusalLaws as Refusals
 use Rattle.theorem_demands.specs.ReadLaws as Reads

@@ -22,7 +22,7 @@ use Rattle.links.specs.Links.{Link, links, neighbours}
 use Rattle.links.proofs.LinksLaws.{link, link_starts, links_range, links_apart, Joined, downward, upward, neighbours-joined}
 use Rattle.row_moves.specs.Between.{Index}
 use Rattle.theorem_table.specs.Table.{IsRow, terms_of, Guards, IsPrefix}
-use Rattle.theorem_table.specs.LayoutLaws.{row_made}
+use Rattle.theorem_table.proofs.LayoutLaws.{row_made}
 use Rattle.theorem_follows.specs.Ordered.{Each, Rising, Falling, Ordered}
 
 pub record Built (j : Job) (x : Index) : Type 0 where

@@ -30,7 +30,7 @@ use Rattle.row_moves.specs.Handing.{moved_run, guard_row, guard_told}
 use Rattle.row_moves.specs.WalkLaws.{guard-ends, prefix_walks}
 use Rattle.theorem_table.specs.Table.{Table, IsRow, terms_of, Guards, IsPrefix, AtRest}
 use Rattle.theorem_table.specs.OrderLaws.{lt, ≤ℤ_trans, <ℤ_≤ℤ, UpLe, up_refl, up_trans}
-use Rattle.theorem_table.specs.TableLaws.{Le, alone_reached}
+use Rattle.theorem_table.proofs.TableLaws.{Le, alone_reached}
 use Rattle.theorem_table.specs.JudgedLaws.{rest_calm, calm_sure, calm_never, calm_longer, calm_shorter}
 use Rattle.theorem_follows.specs.DecideLaws.{table_of, Broken, follows_below}
 use Rattle.theorem_follows.specs.RowLaws.{Fine, row_fine}

@@ -18,7 +18,7 @@ use Rattle.state.specs.State.{no_state, max_z, reached}
 use Rattle.rows.specs.Rows.{Row, row_of, no_row, Guard, Other, alone, beside, is_alone, MayDecide}
 use Rattle.queues.specs.Queue.{Rows}
 use Rattle.queues.specs.Marks.{Marks, decide}
-use Rattle.theorem_table.specs.TableLaws.{other_up}
+use Rattle.theorem_table.proofs.TableLaws.{other_up}
 use Rattle.row_runs.specs.Row.{Ran, deciding, threshold_row}
 use Rattle.row_moves.specs.Between.{Live, state_at, with_dirty_rows, with_marks, with_residuals, with_state}
 use Rattle.theorem_table.specs.Table.{Table, IsRow, Guards, known_of, reached_of, OtherReached}

@@ -24,7 +24,7 @@ use Rattle.rows.specs.Rows.{Row, no_row, Guard, state_of_row}
 use Rattle.row_moves.specs.Between.{Index, Live, state_at, did, with_dirty_rows, with_marks, with_residuals}
 use Rattle.theorem_table.specs.Table.{Table, start, IsRow, terms_of, known, possible}
 use Rattle.theorem_table.specs.OrderLaws.{UpLe, up_refl}
-use Rattle.theorem_table.specs.TableLaws.{Le, le_then, Follows, follows_more}
+use Rattle.theorem_table.proofs.TableLaws.{Le, le_then, Follows, follows_more}
 use Rattle.theorem_follows.specs.DecideLaws.{table_of, Broken, decide_as, decided-below, against}
 use Rattle.theorem_follows.specs.RowLaws.{decide_grows}
 use Rattle.theorem_follows.specs.CompleteLaws.{Wide, wide_decide}

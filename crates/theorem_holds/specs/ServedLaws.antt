@@ -21,7 +21,7 @@ use Rattle.rows.specs.Guards.{Bound}
 use Rattle.base.specs.Parts.{stretch}
 use Rattle.rows.specs.ListsLaws.{stretch-length, length-terms}
 use Rattle.rows.specs.Rows.{Row, no_row, Guard, guard, rows_of, Edge, edges_of}
-use Rattle.theorem_table.specs.LayoutLaws.{row_made}
+use Rattle.theorem_table.proofs.LayoutLaws.{row_made}
 use Rattle.rows.specs.Laid.{threshold_of, row_of_node, edge_lists, edge_row}
 use Rattle.links.specs.Links.{links, neighbours, neighbour_lists}
 use Rattle.base.specs.LaidLaws.{length-numbers}

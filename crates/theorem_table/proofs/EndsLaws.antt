@@ -10,8 +10,8 @@ use Rattle.base.specs.TestLaws.{unequal}
 use Rattle.rows.specs.Rows.{Row}
 use Rattle.theorem_table.specs.Table.{Table, start, Step, Conflict, Run, done, more, steps, Ended}
 use Rattle.theorem_table.specs.Ends.{nodes_of, levels, Finite, most}
-use Rattle.theorem_table.specs.EndsCountLaws.{left, left-most, finite_step, finite_run, falls, finite_steps}
-use Rattle.theorem_table.specs.EndsDecideLaws.{SomeStep, step_or-none, conflict-or-none}
+use Rattle.theorem_table.proofs.EndsCountLaws.{left, left-most, finite_step, finite_run, falls, finite_steps}
+use Rattle.theorem_table.proofs.EndsDecideLaws.{SomeStep, step_or-none, conflict-or-none}
 
 module _ (rows : List Row) where
   -- the start is finite, if its sure nodes end somewhere

@@ -18,7 +18,7 @@ use Rattle.state.specs.declared.Upper.TheVariants.{Open, Under}
 use Rattle.rows.specs.Rows.{Row, Guard, no_row}
 use Rattle.theorem_table.specs.Table.{Table, Below, at, decide_sure, decide_never, raise_lower, lower_upper, Guards, HasTerm, Step, sure-guard, never-guard, bound-reached, bound-out-of-reach, term-needed, term-too-heavy, longer-lower, shorter-upper, Run, done, more, steps}
 use Rattle.theorem_table.specs.OrderLaws.{of_le, of_lt, UpLe, up_refl}
-use Rattle.theorem_table.specs.TableLaws.{Le, grows}
+use Rattle.theorem_table.proofs.TableLaws.{Le, grows}
 use Rattle.theorem_table.specs.Ends.{nodes_in, nodes_of, bounds_in, levels, UpperIn, Finite, most}
 
 -- HOW MANY of a list pass a test

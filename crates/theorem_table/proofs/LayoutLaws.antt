@@ -18,7 +18,7 @@ use Rattle.row.specs.SumLaws.{row-sum}
 use Rattle.rows.specs.Rows.{Row, row_of, Guard, guard, no_row, insert_guard, below, place, place_all, rows_of}
 use Rattle.theorem_table.specs.Table.{Table, possible, terms_of, Guards, known_of, possible_of, reached_of, Step, sure-guard, never-guard, bound-reached, bound-out-of-reach, term-needed, term-too-heavy, longer-lower, shorter-upper, Conflict, both, lower-above, upper-reached, AtRest}
 use Rattle.theorem_table.specs.OrderLaws.{le, lt, of_le, ≤ℤ_trans, pos_≤ℤ}
-use Rattle.theorem_table.specs.TableLaws.{Le, known-sum, Follows, conflict_up}
+use Rattle.theorem_table.proofs.TableLaws.{Le, known-sum, Follows, conflict_up}
 
 -- ROWS come from thresholds: a row's terms are those of its raw list, and each of its guards is a threshold with that list
 

@@ -14,7 +14,7 @@ use Rattle.state.specs.declared.Upper.TheVariants.{Open, Under}
 use Rattle.rows.specs.Rows.{Row, Guard, Other, alone, beside, linked_by, Linked, no_row}
 use Rattle.theorem_table.specs.Table.{Table, known, possible, AtMost, Below, at, decide_sure, decide_never, raise_lower, lower_upper, IsRow, terms_of, Guards, HasTerm, IsPrefix, known_of, possible_of, reached_of, OtherReached, Reached, OutOfReach, Undecided, Step, sure-guard, never-guard, bound-reached, bound-out-of-reach, term-needed, term-too-heavy, longer-lower, shorter-upper, Conflict, both, lower-above, upper-reached, Run, done, more, AtRest, Ended}
 use Rattle.theorem_table.specs.OrderLaws.{le, of_le, ≤ℤ_trans, ≤ℤ_<ℤ_trans, ≤ℤ_or_<ℤ, pos_≤ℤ, zero-le, max_up, max_above, sub_up, needed_clash, heavy_clash, UpLe, up_refl, up_trans, le-or-below, at-most_up}
-use Rattle.theorem_table.specs.TableLaws.{alone_reached, known_up, possible_down, known_rise, possible-drop}
+use Rattle.theorem_table.proofs.TableLaws.{alone_reached, known_up, possible_down, known_rise, possible-drop}
 use Rattle.theorem_table.specs.Judged.{Calm}
 use Rattle.theorem_table.specs.JudgedLaws.{rest_calm, calm_sure, calm_never, calm_longer, calm_shorter}
 
