@@ -13,7 +13,7 @@ use Rattle.drain.proofs.DrainLaws.{seal_walks}
 use Rattle.drain.specs.Steps.{begun}
 use Rattle.theorem_table.specs.Table.{IsRow, start}
 use Rattle.theorem_ends.specs.Sound.{Sound}
-use Rattle.theorem_ends.specs.SealsLaws.{first_long}
+use Rattle.theorem_ends.proofs.SealsLaws.{first_long}
 use Rattle.theorem_follows.specs.Ordered.{Ordered}
 use Rattle.theorem_follows.specs.StandsLaws.{restart}
 use Rattle.theorem_follows.specs.BuiltLaws.{Built}

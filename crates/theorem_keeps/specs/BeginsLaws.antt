@@ -21,7 +21,7 @@ use Rattle.row_moves.specs.FirstLaws.{ready_first}
 use Rattle.row_moves.specs.KeptLaws.{kept_run}
 use Rattle.drain.specs.Drain.{mark, seal}
 use Rattle.drain.proofs.DrainLaws.{seal_keeps}
-use Rattle.theorem_ends.specs.SealsLaws.{seal_stays}
+use Rattle.theorem_ends.proofs.SealsLaws.{seal_stays}
 use Rattle.theorem_follows.specs.WaitingLaws.{queued_decide}
 use Rattle.theorem_keeps.specs.Serves.{Serves, owed, Tracked, Going, Fresh}
 use Rattle.theorem_keeps.specs.KeepingLaws.{low_decide, tracked_run}

@@ -30,7 +30,7 @@ use Rattle.row_moves.specs.KeptHeldLaws.{edges_light, edges_many, kept_node, kep
 use Rattle.drain.specs.Drain.{take_node, take_row, turn, at_rest}
 use Rattle.drain.proofs.DrainLaws.{node_ends, row_ends_lem, turn-ends}
 use Rattle.drain.specs.Steps.{untaken, unrowed, node_told, node_drained}
-use Rattle.theorem_ends.specs.SettlesLaws.{fall_turn}
+use Rattle.theorem_ends.proofs.SettlesLaws.{fall_turn}
 use Rattle.theorem_follows.specs.StandsLaws.{also, also_other, also_this}
 use Rattle.theorem_follows.specs.WaitingLaws.{first-decided, first-fresh, queued_taken}
 use Rattle.theorem_keeps.specs.Serves.{Serves, Among, owed, Tracked, Within, Going}

@@ -26,7 +26,7 @@ use Rattle.job.specs.JobLaws.{all_more, length_on, every_on}
 use Rattle.job.specs.Taken.{with_threshold, with_term}
 use Rattle.theorem_limits.specs.Good.{FitBy, Fit, Fits, Drafted}
 use Rattle.theorem_ends.specs.Sound.{Indexed, Sound}
-use Rattle.theorem_ends.specs.SealsLaws.{seal_stays}
+use Rattle.theorem_ends.proofs.SealsLaws.{seal_stays}
 
 -- ---- lists
 

@@ -29,7 +29,7 @@ use Rattle.files.specs.FileLaws.{checked, after_snoc}
 use Rattle.theorem_ends.specs.RoomsLaws.{none-bounded}
 use Rattle.theorem_limits.specs.Good.{Fits, Drafted, Good}
 use Rattle.theorem_ends.specs.Sound.{Bounded, Sound}
-use Rattle.theorem_ends.specs.SettlesLaws.{settle_stays, settle-ends, sift_sound, sift-ends as sift-rests}
+use Rattle.theorem_ends.proofs.SettlesLaws.{settle_stays, settle-ends, sift_sound, sift-ends as sift-rests}
 use Rattle.theorem_limits.specs.BuiltLaws.{drafted_none, drafted_threshold, drafted_term, fits-none, fits_of, indexed, seal_sound}
 use Rattle.theorem_limits.specs.BlankLaws.{same_at}
 

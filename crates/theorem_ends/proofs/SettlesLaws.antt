@@ -21,7 +21,8 @@ use Rattle.drain.specs.Sift.{Sifted, try_row, sift}
 use Rattle.drain.specs.SiftLaws.{try_leaves, sift_walks, sift_keeps}
 use Rattle.theorem_ends.specs.LeftLaws.{load, load_popped}
 use Rattle.theorem_ends.specs.KeepsLaws.{residual-named}
-use Rattle.theorem_ends.specs.TurnsLaws.{left, left-most, Then, then, less_decide, run_guards, run_condition, run_prefixes}
+use Rattle.theorem_ends.specs.TurnsLaws.{left, left-most}
+use Rattle.theorem_ends.proofs.TurnsLaws.{Then, then, less_decide, run_guards, run_condition, run_prefixes}
 use Rattle.theorem_ends.specs.Sound.{Indexed, Sound}
 
 -- One came of the other, and has less left to do; or no more.

@@ -10,7 +10,7 @@ use Rattle.drain.specs.Drain.{seal}
 use Rattle.drain.proofs.DrainLaws.{seal_keeps}
 use Rattle.theorem_ends.specs.RoomsLaws.{set-bounded, first-bounded}
 use Rattle.theorem_ends.specs.Sound.{AllBounded, Indexed, Sound}
-use Rattle.theorem_ends.specs.TurnsLaws.{run_row_lem}
+use Rattle.theorem_ends.proofs.TurnsLaws.{run_row_lem}
 
 first_states_lem : (r : ℕ) (rs : List Row) (ss : List State) → AllBounded ss → AllBounded (first_states r rs ss)
 unfolding first_states
