@@ -17,8 +17,8 @@ use Rattle.records.specs.declared.Standing.{Standing}
 use Rattle.job.specs.Gathered.{job_in, Gathered}
 use Rattle.job.specs.GatheredLaws.{gathered, many, length_at, all_terms_lem}
 use Rattle.theorem_limits.specs.Good.{Fit, Fits, Light}
-use Rattle.theorem_holds.specs.ServedLaws.{Served}
-use Rattle.theorem_holds.specs.LentLaws.{served-built}
+use Rattle.theorem_holds.proofs.ServedLaws.{Served}
+use Rattle.theorem_holds.proofs.LentLaws.{served-built}
 use Rattle.theorem_holds.specs.Lent.{lent_of, Lendable}
 
 every_number : {X : Type 0} (P : X → Type 0) (f : ℕ → X) (s n : ℕ) → ((t : ℕ) → s ≤ t → t < s + n → P (f t)) → All P (map f (numbers s n))

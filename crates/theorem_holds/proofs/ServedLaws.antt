@@ -36,7 +36,8 @@ use Rattle.theorem_follows.specs.BuiltLaws.{built, guard_threshold, rows-ordered
 use Rattle.theorem_keeps.specs.Serves.{Serves}
 use Rattle.theorem_keeps.specs.Tries.{Short}
 use Rattle.theorem_holds.specs.HoldsLaws.{LaidRows, inside_laid, front, holds_rows, shaped_rows, holds_edges, holds_links, holds_guards}
-use Rattle.theorem_holds.specs.WeightsLaws.{totals, weights, edges_light}
+use Rattle.theorem_holds.specs.WeightsLaws.{weights, edges_light}
+use Rattle.theorem_holds.proofs.WeightsLaws.{totals}
 use Rattle.theorem_holds.specs.Lent.{bounds_of}
 
 -- What the seal laid of a job, as it is lent: `rows` and `nodes` cut to their number. What stands behind the lists in the other

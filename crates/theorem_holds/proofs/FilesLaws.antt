@@ -25,8 +25,8 @@ use Rattle.theorem_keeps.specs.Serves.{Serves, Going, Fresh}
 use Rattle.theorem_keeps.specs.SettlingLaws.{going_settle}
 use Rattle.theorem_keeps.specs.BeginsLaws.{going_seal, going_mark}
 use Rattle.theorem_holds.specs.Lent.{bounds_of, lent_of, Lendable, Serving}
-use Rattle.theorem_holds.specs.LentLaws.{served-built}
-use Rattle.theorem_holds.specs.GoesLaws.{fresh-begun}
+use Rattle.theorem_holds.proofs.LentLaws.{served-built}
+use Rattle.theorem_holds.proofs.GoesLaws.{fresh-begun}
 use Rattle.theorem_keeps.specs.SiftingLaws.{going_sift}
 
 module _ (j : Job) (fits : Fits j) (light : Light raw_limit j) (w : Built) (p : Lendable w) where

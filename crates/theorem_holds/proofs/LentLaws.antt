@@ -26,8 +26,9 @@ use Rattle.job.specs.JobBuffersLaws.{length-first}
 use Rattle.theorem_limits.specs.BuiltLaws.{every_append, every_mem}
 use Rattle.theorem_limits.specs.Good.{Fits, Light}
 use Rattle.theorem_limits.specs.SizeLaws.{zeros_long, edges_most}
-use Rattle.theorem_holds.specs.WeightsLaws.{totals, weights as row-weights}
-use Rattle.theorem_holds.specs.ServedLaws.{Laid, Served, every_image, job_names, served}
+use Rattle.theorem_holds.specs.WeightsLaws.{weights as row-weights}
+use Rattle.theorem_holds.proofs.WeightsLaws.{totals}
+use Rattle.theorem_holds.proofs.ServedLaws.{Laid, Served, every_image, job_names, served}
 use Rattle.theorem_holds.specs.Lent.{bounds_of, lent_of, Lendable}
 
 -- The bounds are those of the raw buffers.
