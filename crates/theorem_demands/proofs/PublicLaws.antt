@@ -21,7 +21,7 @@ use Rattle.theorem_demands.specs.MemoryLaws as Memory
 use Rattle.theorem_demands.specs.MemoryLaws.{SameLengths, zeros_same}
 use Rattle.theorem_demands.specs.LengthLaws as Lengths
 use Rattle.theorem_demands.specs.LengthLaws.{laid_long}
-use Rattle.theorem_demands.specs.CallLaws.{over-map}
+use Rattle.theorem_demands.proofs.CallLaws.{over-map}
 
 -- ---- the two ways of the call
 

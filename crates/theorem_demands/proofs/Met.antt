@@ -13,13 +13,13 @@ use Rattle.theorem_demands.specs.ForcedLaws as Forced
 use Rattle.theorem_demands.specs.SettleLaws as Settles
 use Rattle.theorem_demands.specs.MarksLaws as Marks
 use Rattle.theorem_demands.specs.OrderLaws as Order
-use Rattle.theorem_demands.specs.CallLaws as Calls
-use Rattle.theorem_demands.specs.UnmarkedLaws as Unmarked
+use Rattle.theorem_demands.proofs.CallLaws as Calls
+use Rattle.theorem_demands.proofs.UnmarkedLaws as Unmarked
 use Rattle.theorem_demands.specs.MemoryLaws as Memory
 use Rattle.theorem_demands.specs.LengthLaws as Lengths
-use Rattle.theorem_demands.specs.PublicLaws as Public
+use Rattle.theorem_demands.proofs.PublicLaws as Public
 use Rattle.theorem_demands.specs.PassesLaws as Passes
-use Rattle.theorem_demands.specs.ShutOutLaws as ShutOut
+use Rattle.theorem_demands.proofs.ShutOutLaws as ShutOut
 
 -- DEMAND 1, whole
 pub demand1 : Demand1

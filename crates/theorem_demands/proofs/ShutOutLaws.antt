@@ -30,7 +30,8 @@ use Rattle.files.specs.Contents.{Out, whole}
 use Rattle.theorem_limits.specs.FilesLaws.{both}
 use Rattle.theorem_demands.specs.Reading.{Marked, marks, or_before, tried_search, last_from, last_search}
 use Rattle.theorem_demands.specs.RefusalLaws.{taken, files}
-use Rattle.theorem_demands.specs.Cases.{Right, takes, forces, drains, two_wait, file_A, file_B, written_all, written, bytes, shown_right}
+use Rattle.theorem_demands.specs.Cases.{Right, takes, forces, drains, two_wait, file_A, file_B, written_all, written, bytes}
+use Rattle.theorem_demands.proofs.Cases.{shown_right}
 
 -- ---- THE VISITS OF A SIFT are those of its last search
 

@@ -20,7 +20,7 @@ use Rattle.theorem_demands.specs.LayoutFilesLaws.{file_layouts}
 use Rattle.theorem_demands.specs.RefusalLaws as Refusals
 use Rattle.theorem_demands.specs.ReadLaws as Reads
 use Rattle.theorem_demands.specs.ReadOnLaws.{refused_nine}
-use Rattle.theorem_demands.specs.CallLaws as Calls
+use Rattle.theorem_demands.proofs.CallLaws as Calls
 
 agrees : (rs : List Record) → Unmarked rs → (v : Layout) → Agrees rs v
 agrees rs u v n b m = absurd (u n b m)
