@@ -3,4 +3,4 @@ pub mod CallLaws
 pub mod UnmarkedLaws
 pub mod PublicLaws
 pub mod ShutOutLaws
-pub mod Met
+pub mod MetLaws

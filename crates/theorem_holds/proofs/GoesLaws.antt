@@ -25,7 +25,7 @@ use Rattle.theorem_keeps.specs.SiftingLaws.{going_sift}
 use Rattle.theorem_holds.proofs.ServedLaws.{Served}
 use Rattle.theorem_holds.specs.Lent.{bounds_of, lent_of, Lendable}
 use Rattle.theorem_holds.proofs.LentLaws.{served-built}
-use Rattle.theorem_holds.specs.GoesLaws.{Deed, Inside, followed}
+use Rattle.theorem_holds.specs.GoesLaws.{Deed, marks, settles, sifts, Inside, followed}
 
 -- ---- cleared memory can be sealed
 

@@ -1,4 +1,4 @@
--- WHICH DEMANDS ARE MET: a value of the type that states each. The proofs stand in the files named `Laws` beside this one, and in `theorem_ends`.
+-- WHICH DEMANDS ARE MET: a value of the type that states each. The proofs stand in the files named `Laws` beside this one and in specs/, and in `theorem_ends`.
 use Rattle.numeric.proofs.AreaLaws as AreaLaws
 use Rattle.numeric.proofs.LeastLaws as LeastLaws
 use Rattle.searches.proofs.SearchLaws as SearchLaws
