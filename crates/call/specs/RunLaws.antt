@@ -30,7 +30,7 @@ use Rattle.reading.specs.Held.{Room, HeldPart}
 use Rattle.theorem_limits.specs.Good.{Light, Good}
 use Rattle.theorem_limits.specs.FilesLaws.{good_apply, both, Taken as Passes, taken, refused_by_lem}
 use Rattle.theorem_limits.specs.ActionLaws.{act-served, started_if}
-use Rattle.theorem_holds.specs.GatheredLaws.{gathered_light}
+use Rattle.theorem_holds.proofs.GatheredLaws.{gathered_light}
 use Rattle.serve.specs.declared.Reached.{Reached}
 use Rattle.serve.specs.Serve.{read_at}
 use Rattle.serve.specs.ReadLaws.{ended, taken_any, seal_goes}

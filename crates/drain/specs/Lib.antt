@@ -1,5 +1,4 @@
 pub mod Drain
 pub mod Sift
 pub mod Steps
-pub mod DrainLaws
 pub mod SiftLaws

@@ -4,7 +4,5 @@ pub mod CheckLaws
 pub mod FitsLaws
 pub mod IntervalLaws
 pub mod SuffixLaws
-pub mod ForceLaws
 pub mod ResidualLaws
-pub mod SoundLaws
 pub mod SumsLaws

@@ -1,7 +1,2 @@
 pub mod Links
-pub mod WordsLaws
-pub mod OrderLaws
-pub mod LinksLaws
-pub mod ChainLaws
 pub mod Neighbours
-pub mod NeighboursLaws

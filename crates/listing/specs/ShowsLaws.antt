@@ -12,7 +12,7 @@ use Rattle.state.specs.declared.Step.TheVariants.{Unchanged, Changed, Contradict
 use Rattle.state.specs.declared.State.{State}
 use Rattle.state.specs.State.{no_state}
 use Rattle.words.specs.Mask.{digit, bit, count}
-use Rattle.words.specs.CountLaws.{count_above}
+use Rattle.words.proofs.CountLaws.{count_above}
 use Rattle.rows.specs.Rows.{Row, rows_of}
 use Rattle.memory.specs.Limits.{max_nodes}
 use Rattle.files.specs.File.{File, Answer, settled, sifted, Outcome, begun}

@@ -15,7 +15,7 @@ use Rattle.states.specs.States.{shown}
 use Rattle.files.specs.File.{File, file_of}
 use Rattle.files.specs.Contents.{Out, served, untouched, whole, kept_of, laid}
 use Rattle.theorem_demands.specs.RefusalLaws.{ten, served_when, untouched_when}
-use Rattle.theorem_demands.specs.PublicLaws.{plan-served, plan-untouched, long_fits}
+use Rattle.theorem_demands.proofs.PublicLaws.{plan-served, plan-untouched, long_fits}
 use Rattle.theorem_limits.specs.KeptLaws.{kept-file}
 use Rattle.files.specs.Planner.{left, plan}
 

@@ -15,12 +15,12 @@ use Rattle.memory.specs.Limits.{max_thresholds}
 use Rattle.numeric.specs.Threshold.{Term}
 use Rattle.rows.specs.Rows.{Row}
 use Rattle.links.specs.Links.{Link, terms_at, common, order_from, ancestors, stacked, linked, links_from, links}
-use Rattle.links.specs.WordsLaws.{common_right}
-use Rattle.links.specs.OrderLaws.{Distinct, order_distinct, order_length, order_range}
+use Rattle.links.proofs.WordsLaws.{common_right}
+use Rattle.links.proofs.OrderLaws.{Distinct, order_distinct, order_length, order_range}
 use Rattle.row_order.specs.Held.{held_terms, rows_held, Held}
 use Rattle.row_order.specs.HeldLaws.{held_terms_lem, held_length, stretch-length}
 use Rattle.links.specs.Neighbours.{word_link, links_in}
-use Rattle.links.specs.NeighboursLaws.{links-append}
+use Rattle.links.proofs.NeighboursLaws.{links-append}
 use Rattle.prefixes.specs.Pass.{Chain, length_at, kept_by, under_by, depth, Falling, named, head_word, Popped, Under, Fresh}
 use Rattle.row_order.specs.Merge.{rows_in}
 

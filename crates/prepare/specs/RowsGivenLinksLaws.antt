@@ -12,7 +12,7 @@ use Rattle.rows.specs.Rows.{Row, no_row}
 use Rattle.rows.specs.Laid.{conditions, weights, term_lists}
 use Rattle.job.specs.Incidents.{held_terms as rowTermsHeld}
 use Rattle.links.specs.Links.{terms_at, neighbour_lists}
-use Rattle.links.specs.LinksLaws.{neighbour_lists_same}
+use Rattle.links.proofs.LinksLaws.{neighbour_lists_same}
 use Rattle.row_order.specs.Held.{terms_in, held_terms, rows_held, Held}
 use Rattle.row_order.specs.HeldLaws.{held_terms_lem, held_length}
 use Rattle.job.specs.RowsGivenLaidLaws.{length-ends, over_rising, over_inside}

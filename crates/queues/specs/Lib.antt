@@ -6,8 +6,6 @@ pub mod QueueLaws
 pub mod RowsLaws
 pub mod SlotLaws
 pub mod Marks
-pub mod MarksLaws
-pub mod StayLaws
 pub mod Waiting
 pub mod Requeue
 pub mod RequeueLaws

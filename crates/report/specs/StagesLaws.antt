@@ -19,10 +19,10 @@ use Rattle.theorem_limits.specs.BuiltLaws.{every_last, fits_of}
 use Rattle.theorem_limits.specs.Good.{FitBy, Fits, Light, Good}
 use Rattle.theorem_limits.specs.FilesLaws.{good_begun, both, taken, serving_turn, good_apply, planned_passed}
 use Rattle.theorem_keeps.specs.Serves.{Low, Fresh}
-use Rattle.theorem_holds.specs.LentLaws.{served-built}
+use Rattle.theorem_holds.proofs.LentLaws.{served-built}
 use Rattle.theorem_holds.specs.Lent.{lent_of, Lendable, Serving}
-use Rattle.theorem_holds.specs.GoesLaws.{fresh-begun}
-use Rattle.theorem_holds.specs.FilesLaws.{serving_seal, serving_apply}
+use Rattle.theorem_holds.proofs.GoesLaws.{fresh-begun}
+use Rattle.theorem_holds.proofs.FilesLaws.{serving_seal, serving_apply}
 use Rattle.theorem_demands.specs.RefusalLaws as Refusals
 use Rattle.listing.specs.Shows.{Inside}
 use Rattle.report.specs.BytesLaws.{SmallRecord, planned_small}

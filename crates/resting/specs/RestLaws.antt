@@ -18,13 +18,13 @@ use Rattle.state.specs.State.{reached, limited, upper_at_most, conflict, has_res
 use Rattle.queues.specs.Marks.{Marks, Decided, is_decided}
 use Rattle.rows.specs.Rows.{row_of, Guard, guard, has_nonunit}
 use Rattle.row_runs.specs.Scan.{scanned, scan}
-use Rattle.row_runs.specs.ScanLaws.{scan-none}
+use Rattle.row_runs.proofs.ScanLaws.{scan-none}
 use Rattle.row_runs.specs.Guards.{guards}
 use Rattle.row_runs.specs.GuardsLaws.{up_guards, down_guards, length-guards}
 use Rattle.row_runs.specs.Turns.{light, cut}
 use Rattle.row_runs.specs.declared.Cutoff.{Cutoff}
 use Rattle.row_runs.specs.Row.{ran, decides, sure_waits, sure_guards, never_waits, never_guards, reachable, threshold_guards, term_waits, forces, forced, false_terms, row_terms, wants_residual}
-use Rattle.row_runs.specs.RowLaws.{guards_more, stay_true, true-none, true-forced, false-none, terms_more, row-terms, wants_unit, wants_interval}
+use Rattle.row_runs.proofs.RowLaws.{guards_more, stay_true, true-none, true-forced, false-none, terms_more, row-terms, wants_unit, wants_interval}
 use Rattle.resting.specs.Rest.{Rests, UpRests, DownRests, TrueRests}
 
 -- A scan whose first place waits, and one of nothing.

@@ -14,7 +14,7 @@ use Rattle.numeric.specs.Slices.{Below, terms}
 use Rattle.row_runs.specs.Shape.{TermSlices, GuardSlices}
 use Rattle.row_runs.specs.Guards.{guards}
 use Rattle.row_runs.specs.Row.{Ran, wants_residual}
-use Rattle.row_runs.specs.RowLaws.{row-raw}
+use Rattle.row_runs.proofs.RowLaws.{row-raw}
 use Rattle.resting.specs.Rest.{Rests}
 use Rattle.row_moves.specs.Between.{Index, Live, Did, did, state_at, residual_queued, run_with, run_row, with_marks, with_residuals, with_state}
 use Rattle.row_moves.specs.Held.{end_by, start_by, held_row, edges_in, Shaped, Holds}

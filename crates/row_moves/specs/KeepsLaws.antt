@@ -21,8 +21,8 @@ use Rattle.state.specs.State.{limited, limit, with_guards, with_terms}
 use Rattle.queues.specs.Marks.{Marks, is_decided, decided, decide}
 use Rattle.rows.specs.Rows.{Row, no_row, Guard}
 use Rattle.row_runs.specs.Scan.{Scanned, force}
-use Rattle.row_runs.specs.ScanLaws.{all_drop, all_take, all_reverse, scan_keeps}
-use Rattle.row_runs.specs.RowLaws.{decides_keeps}
+use Rattle.row_runs.proofs.ScanLaws.{all_drop, all_take, all_reverse, scan_keeps}
+use Rattle.row_runs.proofs.RowLaws.{decides_keeps}
 use Rattle.row_runs.specs.Row.{Ran, ran, sure_waits, decides, sure_guards, never_waits, never_guards, threshold_guards, term_waits, forces, forced, true_terms, false_terms, threshold_row}
 use Rattle.row_moves.specs.Between.{Index, Live, state_at, run_row, run_with, threshold_guard, threshold_condition, threshold_prefixes}
 use Rattle.row_runs.specs.RunsLaws.{run_ends}

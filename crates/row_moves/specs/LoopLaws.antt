@@ -11,7 +11,7 @@ use Rattle.state.specs.declared.State.{State}
 use Rattle.state.specs.Step.{joined, contradicts}
 use Rattle.state.specs.State.{drained, with_known, with_possible}
 use Rattle.rows.specs.Rows.{Row, Edge}
-use Rattle.row_runs.specs.ScanLaws.{joined_last}
+use Rattle.row_runs.proofs.ScanLaws.{joined_last}
 use Rattle.row_moves.specs.Between.{Index, Live, Did, did, run_row, condition_from, prefixes_from, seed_from}
 use Rattle.row_moves.specs.Handing.{after, after-told, handed_on, edge_run, moved, moved_run, hand_run}
 

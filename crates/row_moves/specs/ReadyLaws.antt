@@ -19,7 +19,7 @@ use Rattle.base.specs.Parts.{stretch}
 use Rattle.rows.specs.ListsLaws.{stretch-length}
 use Rattle.row_runs.specs.GuardsLaws.{all_guards, all_terms_lem}
 use Rattle.row_runs.specs.Row.{wants_residual, threshold_row}
-use Rattle.row_runs.specs.RowLaws.{Moved, kept_row}
+use Rattle.row_runs.proofs.RowLaws.{Moved, kept_row}
 use Rattle.tightening.specs.declared.Tightened.{Tightened}
 use Rattle.tightening.specs.Told.{guard_state, moved_lower, moved_state}
 use Rattle.tightening.specs.ToldLaws.{guard-cases, lower_cases, upper_cases}

@@ -9,7 +9,7 @@ use Rattle.std.proofs.Math.IntN.{ℤ}
 use Rattle.state.specs.declared.State.{State}
 use Rattle.state.specs.State.{state_of, no_state, with_known, with_possible, with_guards, with_terms, drained, figures_of, cursors_of}
 use Rattle.queues.specs.SlotLaws.{map-set}
-use Rattle.row_runs.specs.RowLaws.{Moved}
+use Rattle.row_runs.proofs.RowLaws.{Moved}
 use Rattle.row_moves.specs.Numbers.{row_state, states_of, Tidy}
 use Rattle.row_moves.specs.NumbersLaws.{states_at}
 use Rattle.row_moves.specs.Stored.{Stored, with_sums, with_cursors, sum_words, cursor_words}

@@ -1,7 +1,6 @@
 pub mod ChoiceLaws
 pub mod RowLaws
 pub mod Search
-pub mod SearchLaws
 pub mod SearchStepsLaws
 pub mod Shape
 pub mod SumsLaws

@@ -23,9 +23,9 @@ use Rattle.files.specs.File.{File, standing, refusal, told, sealed_file, act, ap
 use Rattle.theorem_limits.specs.BuiltLaws.{fits_of}
 use Rattle.theorem_keeps.specs.Serves.{Fresh}
 use Rattle.theorem_keeps.specs.Tries.{Scratch}
-use Rattle.theorem_holds.specs.ServedLaws.{Served}
-use Rattle.theorem_holds.specs.LentLaws.{served-built}
-use Rattle.theorem_holds.specs.FilesLaws.{serving_seal}
+use Rattle.theorem_holds.proofs.ServedLaws.{Served}
+use Rattle.theorem_holds.proofs.LentLaws.{served-built}
+use Rattle.theorem_holds.proofs.FilesLaws.{serving_seal}
 use Rattle.serve.specs.declared.Reached.{Reached}
 use Rattle.serve.specs.Serve.{Lent, live_in, Lies, Seals, stood, Reaches, read_at}
 use Rattle.answers.specs.Answers.{answers_of}

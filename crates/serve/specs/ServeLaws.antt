@@ -16,7 +16,7 @@ use Rattle.rows.specs.Rows.{no_row}
 use Rattle.searches.specs.declared.Search.{Search}
 use Rattle.searches.specs.declared.Search.TheVariants.{Skipped, Fits, Nothing, Cut}
 use Rattle.searches.specs.Search.{search, search_visits}
-use Rattle.searches.specs.SearchLaws.{search_visits_lem}
+use Rattle.searches.proofs.SearchLaws.{search_visits_lem}
 use Rattle.row_moves.specs.Between.{Index, Live, live, Did, state_at}
 use Rattle.row_moves.specs.Numbers.{Tidy}
 use Rattle.drain.specs.Drain as Drain
@@ -40,9 +40,9 @@ use Rattle.theorem_limits.specs.SizeLaws.{row-terms_few}
 use Rattle.theorem_keeps.specs.Serves.{Serves, Going}
 use Rattle.theorem_keeps.specs.Tries.{Short}
 use Rattle.theorem_keeps.specs.SiftingLaws.{scratch_next}
-use Rattle.theorem_holds.specs.ServedLaws.{Served}
-use Rattle.theorem_holds.specs.LentLaws.{served-built}
-use Rattle.theorem_holds.specs.FilesLaws.{serving_apply}
+use Rattle.theorem_holds.proofs.ServedLaws.{Served}
+use Rattle.theorem_holds.proofs.LentLaws.{served-built}
+use Rattle.theorem_holds.proofs.FilesLaws.{serving_apply}
 use Rattle.serve.specs.declared.Reached.{Reached}
 use Rattle.serve.specs.Serve.{Lent, live_in, Lies, Asks, plain, came, Takes, stood, Reaches, read_at}
 use Rattle.answers.specs.Answers.{answers_of, answered}

@@ -30,8 +30,8 @@ use Rattle.theorem_limits.specs.Good.{Fits}
 use Rattle.theorem_limits.specs.SizeLaws.{terms_few, guards_few, edges_most}
 use Rattle.theorem_keeps.specs.Serves.{Fresh}
 use Rattle.theorem_holds.specs.Lent.{bounds_of, lent_of}
-use Rattle.theorem_holds.specs.LentLaws.{lendable_clear, bounds_lent}
-use Rattle.theorem_holds.specs.GoesLaws.{fresh-begun}
+use Rattle.theorem_holds.proofs.LentLaws.{lendable_clear, bounds_lent}
+use Rattle.theorem_holds.proofs.GoesLaws.{fresh-begun}
 use Rattle.serve.specs.declared.Reached.{Reached}
 use Rattle.serve.specs.Serve.{live_in, Lies, Seals, no_rings, Reaches, read_at, Same, fourfold}
 use Rattle.answers.specs.Answers.{answers_of}

@@ -1,11 +1,10 @@
 -- The cases P1 to P12 of document 01, an empty input and a file read on after a refusal 9, and those of joined areas and of unmarked jobs (document
--- 02, sections 1 and 2), rows of tables under one theorem each, proved by computing the definitions.
+-- 02, sections 1 and 2), rows of tables, proved by computing the definitions. Each table has one theorem in proofs/Cases.
 use Rattle.std.specs.Prelude.{ℕ, zero, suc, ◌+◌, ◌-◌, ◌/◌, ◌%◌, ◌^◌, ◌≤◌, ◌≡◌, refl, Bool, true, false, cond, ℤ, pos, negsuc}
 use Prim.Native.String.{String}
 use Rattle.std.proofs.Common.{arith}
-use mathlib.Core.List.{List, [], ◌∷◌, ◌++◌, Memᴰ}
+use mathlib.Core.List.{List, [], ◌∷◌, ◌++◌}
 use Rattle.base.specs.All.{All}
-use Rattle.base.specs.AllLaws.{all_each}
 use Rattle.base.specs.Insertion as Insertion
 use Rattle.numeric.specs.Area.{area, weighed}
 use Rattle.numeric.specs.Area as Area
@@ -201,7 +200,7 @@ unmarked =
     "settle changed\nnode 1 sure\nnode 2 sure\nrow 0 0 3 0 -\nrow 1 2 2 2 -\nrow 2 5 5 0 -\nend 2 0\n"
     ∷ []
 
-computed : All Right cases × All Right shown × All Right joining × All Right unmarked × All Right ended
+pub computed : All Right cases × All Right shown × All Right joining × All Right unmarked × All Right ended
 unfolding States.first_state States.no_state States.with_known States.with_possible States.with_lower States.with_upper States.with_guards States.with_terms States.drained States.conflict States.has_residual_interval Mask.set_bit Mask.learn Mask.count Shift.shift_word Shift.word_hits Shift.shift_from Shift.union_shifted Queues.push Queues.popped Queues.queue_row Queues.next_row Marks.decide Terms.merge Terms.merged Insertion.insert Insertion.sort_by Terms.total Terms.same_terms Rows.place Rows.place_all Rows.row_number Rows.has_nonunit Rows.edges_in Rows.edges_from Links.not_after Links.order_from Links.common Links.ancestors Links.stacked Links.linked Links.links_from Links.links Links.neighbours Gcd.gcd_in Gcd.gcd Misses.misses Misses.branch_misses Residuals.check_from Residuals.residual_check Residuals.fits_from Residuals.suffix_from Residuals.force_term Residuals.force_from Residuals.threshold_residual Searches.plan Searches.chosen Searches.search_from Searches.search Scan.scan Row.threshold_guards Row.true_terms Row.false_terms Row.scans Row.threshold_row Row.wants_residual Between.run_with Between.run_row Between.bounded Between.threshold_guard Between.condition_from Between.threshold_condition Between.prefixes_from Between.threshold_prefixes Between.first_states Between.seed_from Between.guard_of Drain.seal Drain.mark Drain.take_node Drain.take_row Drain.drain Sift.try_row Sift.sift_from File.begun Job.last_node_of Job.last_list Job.all_terms Checks.first File.refusal Job.on_last Area.hundredths Area.without Area.joined Layout.value Least.among Least.asked_nodes Least.grown File.sealed_file File.marked_file File.settled_file File.sifted_file File.act File.apply File.read_from File.file_of File.planned File.after Listing.text Decimal.digits Listing.answer_lines Listing.node_lines Listing.row_lines Listing.listing little_endian Reading.decode_from Reading.decoded Reading.plain Reading.plainly Reading.Passes Reading.marked_node bytes twos written written_all
 computed = (
   (refl, (refl, (refl, (refl, (refl, (refl, (refl, (refl, (refl, (refl, (refl, (nothing-fits, (refl, (refl, (refl, (refl, (refl, (refl, tt)))))))))))))))))),
@@ -213,19 +212,3 @@ computed = (
   where
     nothing-fits : Right (misses (term 0 301 ∷ term 1 299 ∷ term 2 200 ∷ []) (fresh 800 400 431))
     nothing-fits choice h = between (choice 0) (choice 1) (choice 2) h.0 h.1
-
--- EVERY CASE OF THE TABLE
-pub worked : (c : Case) → Memᴰ c cases → Right c
-worked c m = all_each Right cases computed.0 c m
-
-pub shown_right : (c : Case) → Memᴰ c shown → Right c
-shown_right c m = all_each Right shown computed.1 c m
-
-pub joining_right : (c : Case) → Memᴰ c joining → Right c
-joining_right c m = all_each Right joining computed.2 c m
-
-pub unmarked_right : (c : Case) → Memᴰ c unmarked → Right c
-unmarked_right c m = all_each Right unmarked computed.3 c m
-
-pub ended_right : (c : Case) → Memᴰ c ended → Right c
-ended_right c m = all_each Right ended computed.4 c m

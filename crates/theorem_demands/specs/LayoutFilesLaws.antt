@@ -11,7 +11,7 @@ use Rattle.numeric.specs.Area.{job_of}
 use Rattle.numeric.specs.Layout.{Layout, IsLayout}
 use Rattle.queues.specs.Marks.{Marks, decide}
 use Rattle.rows.specs.Rows.{no_row, rows_of}
-use Rattle.intervals.specs.SoundLaws.{Kept, decide-kept}
+use Rattle.intervals.proofs.SoundLaws.{Kept, decide-kept}
 use Rattle.row_moves.specs.Between.{with_marks}
 use Rattle.drain.specs.Drain as Drain
 use Rattle.drain.specs.Drain.{index_of}
@@ -26,7 +26,7 @@ use Rattle.theorem_limits.specs.FilesLaws.{good_begun, both, Taken, taken, build
 use Rattle.theorem_limits.specs.ActionLaws.{act_unsealed, act_sealed, act-served}
 use Rattle.theorem_follows.specs.Ordered.{Ordered}
 use Rattle.theorem_follows.specs.StandsLaws.{apart_decide}
-use Rattle.queues.specs.StayLaws.{stay_same, stay_decide}
+use Rattle.queues.proofs.StayLaws.{stay_same, stay_decide}
 use Rattle.theorem_follows.specs.BuiltLaws.{Built, built, rows-ordered}
 use Rattle.theorem_follows.specs.WaitingLaws.{queued_decide}
 use Rattle.theorem_follows.specs.FirstLaws.{Undrained, undrained_from, undrained_none}

@@ -9,11 +9,11 @@ use Rattle.words.specs.Mask.{bit}
 use Rattle.rows.specs.Rows.{no_row}
 use Rattle.row_moves.specs.Between.{Index, Live, run_row}
 use Rattle.drain.specs.Drain.{seal}
-use Rattle.drain.specs.DrainLaws.{seal_walks}
+use Rattle.drain.proofs.DrainLaws.{seal_walks}
 use Rattle.drain.specs.Steps.{begun}
 use Rattle.theorem_table.specs.Table.{IsRow, start}
 use Rattle.theorem_ends.specs.Sound.{Sound}
-use Rattle.theorem_ends.specs.SealsLaws.{first_long}
+use Rattle.theorem_ends.proofs.SealsLaws.{first_long}
 use Rattle.theorem_follows.specs.Ordered.{Ordered}
 use Rattle.theorem_follows.specs.StandsLaws.{restart}
 use Rattle.theorem_follows.specs.BuiltLaws.{Built}

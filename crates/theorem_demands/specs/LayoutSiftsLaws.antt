@@ -11,7 +11,7 @@ use Rattle.drain.specs.Sift.{Sifted, try_row, sift}
 use Rattle.drain.specs.SiftLaws.{sift_walks}
 use Rattle.theorem_table.specs.Table.{IsRow}
 use Rattle.theorem_ends.specs.Sound.{Indexed, Sound}
-use Rattle.theorem_ends.specs.SettlesLaws.{settle_stays, settle-ends, fall_try}
+use Rattle.theorem_ends.proofs.SettlesLaws.{settle_stays, settle-ends, fall_try}
 use Rattle.theorem_follows.specs.Ordered.{Ordered}
 use Rattle.theorem_follows.specs.BuiltLaws.{Built}
 use Rattle.theorem_demands.specs.LayoutTurnsLaws.{Between, FineBetween, settle_fine}

@@ -24,7 +24,7 @@ use Rattle.state.specs.State.{upper_at_most}
 use Rattle.words.specs.Mask.{bit}
 use Rattle.queues.specs.Queue.{is_empty, oldest, next_row}
 use Rattle.queues.specs.Marks.{Marks, is_decided, Decided, decide, mask}
-use Rattle.queues.specs.MarksLaws.{decide_there, decide_clash, decide_new}
+use Rattle.queues.proofs.MarksLaws.{decide_there, decide_clash, decide_new}
 use Rattle.row.specs.Terms.{row_terms}
 use Rattle.rows.specs.Rows.{Row, no_row, rows_of, has_nonunit}
 use Rattle.row_runs.specs.Guards.{Condition}
@@ -32,11 +32,11 @@ use Rattle.intervals.specs.declared.Interval.{Interval}
 use Rattle.divisors.specs.Gcd.{gcd}
 use Rattle.intervals.specs.Residual.{interval, residual_check, suffixes, placed, force_term, force_from, Residual, residual, over, nothing_forced, threshold_residual}
 use Rattle.intervals.specs.CheckLaws.{check-unit}
-use Rattle.intervals.specs.ForceLaws.{force-cases, from_skip, from_stop, from_more, residual-none, residual_rest, residual-forced}
+use Rattle.intervals.proofs.ForceLaws.{force-cases, from_skip, from_stop, from_more, residual-none, residual_rest, residual-forced}
 use Rattle.intervals.specs.SumsLaws.{open_weights, open_sum, sum, open_skip, open_more}
-use Rattle.intervals.specs.SoundLaws.{distinct_in, residual_sound}
+use Rattle.intervals.proofs.SoundLaws.{distinct_in, residual_sound}
 use Rattle.searches.specs.Search.{plan, search, search_step, chosen}
-use Rattle.searches.specs.SearchLaws.{search_refutes}
+use Rattle.searches.proofs.SearchLaws.{search_refutes}
 use Rattle.row_moves.specs.Between.{Index, Live, state_at}
 use Rattle.row_moves.specs.KeepsLaws.{Small}
 use Rattle.drain.specs.Sift.{Sifted, try_row}
@@ -44,10 +44,10 @@ use Rattle.drain.specs.SiftLaws.{try_ends}
 use Rattle.drain.specs.Steps.{try_terms, try_residual, try_live}
 use Rattle.theorem_table.specs.Table.{IsRow, terms_of, known, possible}
 use Rattle.theorem_table.specs.OrderLaws.{UpLe, le, lt, of_le, ≤ℤ_trans}
-use Rattle.theorem_table.specs.LayoutLaws.{row_made}
+use Rattle.theorem_table.proofs.LayoutLaws.{row_made}
 use Rattle.theorem_ends.specs.KeepsLaws.{residual-named}
 use Rattle.theorem_follows.specs.StandsLaws.{table_at, Apart, apart_decide, known_exact, possible_exact}
-use Rattle.queues.specs.StayLaws.{Stay, stay_same, stay_decide}
+use Rattle.queues.proofs.StayLaws.{Stay, stay_same, stay_decide}
 use Rattle.theorem_follows.specs.BuiltLaws.{Built}
 use Rattle.theorem_follows.specs.WaitingLaws.{queued_decide, none_left}
 use Rattle.queues.specs.Waiting.{Queued}

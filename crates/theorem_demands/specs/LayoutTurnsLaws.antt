@@ -15,13 +15,13 @@ use Rattle.rows.specs.Rows.{no_row}
 use Rattle.row_moves.specs.Between.{Index, Live, Did, run_row, threshold_guard, threshold_condition, threshold_prefixes, with_dirty_rows, with_marks, with_residuals}
 use Rattle.row_moves.specs.WalkLaws.{guard_of_ends}
 use Rattle.drain.specs.Drain.{take_node, take_row, turn, at_rest, settle}
-use Rattle.drain.specs.DrainLaws.{node_ends, row_ends_lem, turn-ends, settle_walks}
+use Rattle.drain.proofs.DrainLaws.{node_ends, row_ends_lem, turn-ends, settle_walks}
 use Rattle.drain.specs.Steps.{untaken, unrowed, node_told, node_drained}
 use Rattle.theorem_table.specs.Table.{IsRow}
-use Rattle.theorem_table.specs.TableLaws.{le_same, follows_start}
+use Rattle.theorem_table.proofs.TableLaws.{le_same, follows_start}
 use Rattle.theorem_follows.specs.Ordered.{Ordered}
 use Rattle.theorem_follows.specs.StandsLaws.{table_at, also, also_this, Apart, Stands, restart}
-use Rattle.queues.specs.StayLaws.{Stay}
+use Rattle.queues.proofs.StayLaws.{Stay}
 use Rattle.theorem_follows.specs.MovesLaws.{Kept, run_stands, guard_stands, prefixes_stand}
 use Rattle.theorem_follows.specs.DrainedLaws.{condition_stands}
 use Rattle.theorem_follows.specs.BuiltLaws.{Built}

@@ -14,16 +14,11 @@ pub mod Reading
 pub mod Demands
 pub mod RefusalLaws
 pub mod ReadLaws
-pub mod ShutOutLaws
 pub mod MemoryLaws
 pub mod LengthLaws
-pub mod PublicLaws
 pub mod ForcedLaws
 pub mod SettleLaws
 pub mod MarksLaws
 pub mod ReadOnLaws
 pub mod OrderLaws
 pub mod PassesLaws
-pub mod CallLaws
-pub mod UnmarkedLaws
-pub mod Met

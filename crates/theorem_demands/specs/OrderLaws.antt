@@ -17,7 +17,7 @@ use Rattle.files.specs.File.{File, contradicted, begun, settled_file, act, apply
 use Rattle.files.specs.FileLaws.{after_snoc}
 use Rattle.theorem_limits.specs.FilesLaws.{both, taken as accepts, serving_turn, planned_passed}
 use Rattle.theorem_table.specs.Table.{Table, known_of, possible_of}
-use Rattle.theorem_table.specs.TableLaws.{Le, follows_more}
+use Rattle.theorem_table.proofs.TableLaws.{Le, follows_more}
 use Rattle.theorem_follows.specs.DecideLaws.{Broken}
 use Rattle.theorem_demands.specs.TableRecordsLaws.{keeps_begun, keeps_after}
 use Rattle.theorem_demands.specs.TableStillLaws.{Still, not_broken, known_is, possible_is, one_table, settle_still}

@@ -13,10 +13,10 @@ use Rattle.records.specs.declared.Record.TheVariants.{Seal, Mark, Settle}
 use Rattle.files.specs.File.{File, contradicted, begun, refusal, sealed_file, marked_file, settled_file, act, apply, after, planned, Passed}
 use Rattle.theorem_limits.specs.FilesLaws.{taken, planned_passed}
 use Rattle.theorem_table.specs.Table.{Table, start, ReachesConflict, AtRest}
-use Rattle.theorem_table.specs.TableLaws.{run_below}
+use Rattle.theorem_table.proofs.TableLaws.{run_below}
 use Rattle.theorem_table.specs.Ends.{Finite}
-use Rattle.theorem_table.specs.EndsLaws as Ends
-use Rattle.theorem_table.specs.EndsLaws.{start_finite}
+use Rattle.theorem_table.proofs.EndsLaws as Ends
+use Rattle.theorem_table.proofs.EndsLaws.{start_finite}
 use Rattle.theorem_follows.specs.DecideLaws.{Broken, decide_as}
 use Rattle.theorem_follows.specs.StandsLaws.{table_at}
 use Rattle.theorem_follows.specs.SettledLaws.{every_conflict}

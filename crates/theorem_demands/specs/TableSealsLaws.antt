@@ -10,7 +10,7 @@ use Rattle.row_moves.specs.Between.{Live}
 use Rattle.drain.specs.Drain.{index_of, seal}
 use Rattle.theorem_ends.specs.Sound as Ends
 use Rattle.theorem_limits.specs.BuiltLaws.{rows_few}
-use Rattle.theorem_ends.specs.SealsLaws.{first_long}
+use Rattle.theorem_ends.proofs.SealsLaws.{first_long}
 use Rattle.theorem_limits.specs.Good.{Fits}
 use Rattle.theorem_table.specs.Table.{Table, start}
 use Rattle.theorem_follows.specs.FirstLaws.{Undrained, first_undrained}

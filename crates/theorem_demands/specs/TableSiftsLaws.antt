@@ -10,7 +10,7 @@ use Rattle.state.specs.Step.{contradicts}
 use Rattle.words.specs.Mask.{bit}
 use Rattle.queues.specs.Queue.{Rows, oldest, next_row}
 use Rattle.queues.specs.Marks.{Marks, is_decided, Decided, decide}
-use Rattle.queues.specs.MarksLaws.{decide_new}
+use Rattle.queues.proofs.MarksLaws.{decide_new}
 use Rattle.row_moves.specs.Between.{Index, Live, state_at, with_marks, with_residuals}
 use Rattle.row_moves.specs.KeepsLaws.{Small}
 use Rattle.drain.specs.Drain.{index_of, mark, settle}
@@ -23,7 +23,7 @@ use Rattle.theorem_ends.specs.Sound.{Indexed}
 use Rattle.theorem_limits.specs.BuiltLaws.{indexed}
 use Rattle.theorem_table.specs.Table.{Table, start}
 use Rattle.theorem_follows.specs.DecideLaws.{decide_as}
-use Rattle.queues.specs.StayLaws.{decide-nothing, not-decided}
+use Rattle.queues.proofs.StayLaws.{decide-nothing, not-decided}
 use Rattle.theorem_follows.specs.StartLaws.{mark_leads, restarted}
 use Rattle.theorem_demands.specs.TableJobsLaws.{job_built, job_ordered, job_single}
 use Rattle.theorem_demands.specs.TableTurnsLaws.{Steady, Goes, settle_goes}

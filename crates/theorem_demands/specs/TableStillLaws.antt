@@ -12,7 +12,7 @@ use Rattle.files.specs.File.{File, contradicted, refusal, settled_file, act, app
 use Rattle.theorem_limits.specs.Good.{Fits}
 use Rattle.theorem_limits.specs.FilesLaws.{taken, good_apply, rests_settle}
 use Rattle.theorem_table.specs.Table.{Table, known_of, possible_of, AtRest, Ended}
-use Rattle.theorem_table.specs.TableLaws.{le_both, only_end, conflict_up}
+use Rattle.theorem_table.proofs.TableLaws.{le_both, only_end, conflict_up}
 use Rattle.theorem_follows.specs.DecideLaws.{Broken}
 use Rattle.theorem_follows.specs.StandsLaws.{table_at}
 use Rattle.theorem_demands.specs.TableJobsLaws.{job_built, job_ordered, job_single}

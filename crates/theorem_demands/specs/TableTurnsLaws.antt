@@ -18,7 +18,7 @@ use Rattle.rows.specs.Rows.{Row, no_row}
 use Rattle.row_moves.specs.Between.{Index, Live, Did, did, state_at, run_row, threshold_guard, guard_of}
 use Rattle.row_moves.specs.WalkLaws.{guard_of_ends}
 use Rattle.drain.specs.Drain.{seal, take_node, take_row, turn, at_rest, settle}
-use Rattle.drain.specs.DrainLaws.{node_ends, row_ends_lem, turn-ends, seal_walks, settle_walks}
+use Rattle.drain.proofs.DrainLaws.{node_ends, row_ends_lem, turn-ends, seal_walks, settle_walks}
 use Rattle.drain.specs.Steps.{begun, untaken, unrowed, node_told, node_drained}
 use Rattle.theorem_table.specs.Table.{Table, IsRow, known_of, possible_of, AtRest}
 use Rattle.theorem_follows.specs.DecideLaws.{Broken}

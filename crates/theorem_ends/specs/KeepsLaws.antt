@@ -6,7 +6,7 @@ use Rattle.state.specs.declared.State.{State}
 use Rattle.queues.specs.Marks.{Marks, Decided, decide}
 use Rattle.intervals.specs.Residual.{threshold_residual}
 use Rattle.intervals.specs.declared.Interval.{Interval}
-use Rattle.intervals.specs.ForceLaws.{Each, force-cases, residual_keeping}
+use Rattle.intervals.proofs.ForceLaws.{Each, force-cases, residual_keeping}
 
 inside : (Q : Term → Type 0) (ts : List Term) → All Q ts → Each Q ts
 inside Q [] h = tt

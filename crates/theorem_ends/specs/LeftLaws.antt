@@ -13,7 +13,7 @@ use Rattle.state.specs.declared.Step.TheVariants.{Changed, Contradiction}
 use Rattle.words.specs.Mask.{bit}
 use Rattle.queues.specs.Queue.{Queue, push, popped}
 use Rattle.queues.specs.Marks.{Marks, marks, is_decided, Decided, decide, waiting, mask}
-use Rattle.queues.specs.MarksLaws.{decide_there, decide_clash, decide_new, decide-waits, decide_has, decide_other}
+use Rattle.queues.proofs.MarksLaws.{decide_there, decide_clash, decide_new, decide-waits, decide_has, decide_other}
 use Rattle.queues.specs.Waiting.{Waits}
 
 -- How many of the first n nodes are not decided.

@@ -19,10 +19,10 @@ use Rattle.row.specs.TermsLaws.{Distinct, distinct, sorted_falling, conditions-m
 use Rattle.rows.specs.Rows.{Row, row_of, no_row, linked_by, Linked, Guard, alone, guard, below, insert_guard, place, place_all, rows_of, row_number}
 use Rattle.rows.specs.ListsLaws.{same_refl}
 use Rattle.links.specs.Links.{Link, links, neighbours}
-use Rattle.links.specs.LinksLaws.{link, link_starts, links_range, links_apart, Joined, downward, upward, neighbours-joined}
+use Rattle.links.proofs.LinksLaws.{link, link_starts, links_range, links_apart, Joined, downward, upward, neighbours-joined}
 use Rattle.row_moves.specs.Between.{Index}
 use Rattle.theorem_table.specs.Table.{IsRow, terms_of, Guards, IsPrefix}
-use Rattle.theorem_table.specs.LayoutLaws.{row_made}
+use Rattle.theorem_table.proofs.LayoutLaws.{row_made}
 use Rattle.theorem_follows.specs.Ordered.{Each, Rising, Falling, Ordered}
 
 pub record Built (j : Job) (x : Index) : Type 0 where

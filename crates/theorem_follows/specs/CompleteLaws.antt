@@ -19,13 +19,13 @@ use Rattle.state.specs.Step.{joined, contradicts}
 use Rattle.state.specs.State.{reached, upper_at_most}
 use Rattle.words.specs.Mask.{bit}
 use Rattle.queues.specs.Marks.{Marks, is_decided, Decided, decided, decide, mask}
-use Rattle.queues.specs.MarksLaws.{decide_has, decide-length}
+use Rattle.queues.proofs.MarksLaws.{decide_has, decide-length}
 use Rattle.state.specs.declared.Upper.{Upper}
 use Rattle.state.specs.declared.Upper.TheVariants.{Open, Under}
 use Rattle.rows.specs.Rows.{Guard}
 use Rattle.row_runs.specs.Scan.{scan, Scanned, scanned, force}
 use Rattle.row_runs.specs.Row.{sure_waits, deciding, decides, sure_guards, reachable, never_waits, never_guards, term_waits, forces, forced}
-use Rattle.row_runs.specs.RowLaws.{decides_keeps}
+use Rattle.row_runs.proofs.RowLaws.{decides_keeps}
 use Rattle.theorem_follows.specs.DecideLaws.{scan_keeps}
 use Rattle.theorem_follows.specs.RowLaws.{decide_grows}
 use Rattle.base.specs.MembersLaws.{mem_drop, mem_take, mem_reverse}

@@ -14,7 +14,7 @@ use Rattle.queues.specs.Marks.{Marks}
 use Rattle.rows.specs.Rows.{Row}
 use Rattle.row_runs.specs.Scan.{Scanned}
 use Rattle.row_runs.specs.Row.{Ran, ran, sure_guards, never_guards, threshold_guards, forced, true_terms, false_terms, threshold_row}
-use Rattle.row_runs.specs.RowLaws.{Moved, sure_within, forced_within}
+use Rattle.row_runs.proofs.RowLaws.{Moved, sure_within, forced_within}
 use Rattle.row_runs.specs.RunsLaws.{run_ends}
 use Rattle.row_runs.specs.Runs.{guards_run, true_run, false_run}
 

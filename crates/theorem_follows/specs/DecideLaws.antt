@@ -12,13 +12,13 @@ use Rattle.state.specs.declared.Upper.{Upper}
 use Rattle.state.specs.Step.{joined, contradicts}
 use Rattle.words.specs.Mask.{bit}
 use Rattle.queues.specs.Marks.{Marks, Decided, decide, mask}
-use Rattle.queues.specs.MarksLaws.{decide_there, decide_new, decide_other, decide_opposite}
+use Rattle.queues.proofs.MarksLaws.{decide_there, decide_new, decide_other, decide_opposite}
 use Rattle.rows.specs.Rows.{Row}
 use Rattle.row_runs.specs.Scan.{scan, Scanned}
 use Rattle.theorem_table.specs.Table as T
 use Rattle.theorem_table.specs.Table.{Table, decide_sure, decide_never, Conflict, both}
 use Rattle.theorem_table.specs.OrderLaws.{up_refl}
-use Rattle.theorem_table.specs.TableLaws.{Le, le_then, Follows, follows_step}
+use Rattle.theorem_table.proofs.TableLaws.{Le, le_then, Follows, follows_step}
 
 -- The nodes of the masks, with lowers and uppers of rows, as a state of the table.
 abbrev pub table_of : Marks → (ℕ → ℤ) → (ℕ → Upper) → Table

@@ -30,7 +30,7 @@ use Rattle.row_moves.specs.Handing.{edge_run}
 use Rattle.row_moves.specs.WalkLaws.{walks}
 use Rattle.theorem_table.specs.Table.{Table, IsRow, terms_of, known, possible}
 use Rattle.theorem_table.specs.OrderLaws.{UpLe, up_refl}
-use Rattle.theorem_table.specs.TableLaws.{le_then}
+use Rattle.theorem_table.proofs.TableLaws.{le_then}
 use Rattle.theorem_follows.specs.DecideLaws.{Broken}
 use Rattle.theorem_follows.specs.StandsLaws.{table_at, among, also, Stands, known_same, possible_same, put_state, restart}
 use Rattle.theorem_follows.specs.MovesLaws.{Kept, run_stands}

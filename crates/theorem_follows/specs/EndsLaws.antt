@@ -4,9 +4,9 @@ use Rattle.std.specs.Prelude.{ℕ, List, ◌⊎◌}
 use Rattle.std.proofs.Common.{inl, inr, ⊎_elim}
 use Rattle.rows.specs.Rows.{Row}
 use Rattle.theorem_table.specs.Table.{Table, Conflict, Run, done, ReachesConflict, AtRest}
-use Rattle.theorem_table.specs.TableLaws.{Le, Follows, run_above, only_conflict}
+use Rattle.theorem_table.proofs.TableLaws.{Le, Follows, run_above, only_conflict}
 use Rattle.theorem_table.specs.Ends.{Finite}
-use Rattle.theorem_table.specs.EndsLaws.{some_end}
+use Rattle.theorem_table.proofs.EndsLaws.{some_end}
 use Rattle.theorem_follows.specs.DecideLaws.{Broken}
 
 module _ (rows : List Row) (n : ℕ) (s : Table) (finite : Finite rows n s) where

@@ -25,7 +25,7 @@ use Rattle.queues.specs.Queue.{Rows, oldest, queue_row, next_row}
 use Rattle.queues.specs.QueueLaws.{row-waits, row_new}
 use Rattle.rows.specs.Rows.{Edge, edges_of, row_number}
 use Rattle.links.specs.Links.{Link, links, neighbours}
-use Rattle.links.specs.LinksLaws.{link, link_starts, Climbs, stay, up, across, onward, climbs_exactly, downward, upward, joined-neighbours}
+use Rattle.links.proofs.LinksLaws.{link, link_starts, Climbs, stay, up, across, onward, climbs_exactly, downward, upward, joined-neighbours}
 use Rattle.tightening.specs.declared.Tightened.{Tightened}
 use Rattle.tightening.specs.Told.{moved_lower, moved_state, under}
 use Rattle.tightening.specs.ToldLaws.{lower_cases, upper_cases}

@@ -13,8 +13,8 @@ use Rattle.rows.specs.Rows.{Row}
 use Rattle.row_moves.specs.Between.{Index, Live, state_at, Did}
 use Rattle.theorem_table.specs.Table.{Table, start, terms_of}
 use Rattle.theorem_table.specs.OrderLaws.{UpLe, pos_≤ℤ}
-use Rattle.theorem_table.specs.TableLaws.{Le, Follows}
-use Rattle.theorem_table.specs.LayoutLaws.{of_layout, layout_agrees, no_layout}
+use Rattle.theorem_table.proofs.TableLaws.{Le, Follows}
+use Rattle.theorem_table.proofs.LayoutLaws.{of_layout, layout_agrees, no_layout}
 use Rattle.theorem_follows.specs.DecideLaws.{Broken}
 use Rattle.theorem_follows.specs.StandsLaws.{table_at, Stands}
 use Rattle.theorem_follows.specs.MovesLaws.{Kept}

@@ -29,7 +29,7 @@ use Rattle.row_moves.specs.Handing.{moved, moved_run, guard_row, guard_told}
 use Rattle.row_moves.specs.WalkLaws.{guard-ends, condition_keeps, prefix_keeps}
 use Rattle.theorem_table.specs.Table.{Table, IsRow, Guards, IsPrefix}
 use Rattle.theorem_table.specs.OrderLaws.{≤ℤ_trans, UpLe, up_refl, up_trans}
-use Rattle.theorem_table.specs.TableLaws.{alone_reached}
+use Rattle.theorem_table.proofs.TableLaws.{alone_reached}
 use Rattle.theorem_table.specs.Judged.{Calm}
 use Rattle.theorem_table.specs.JudgedLaws.{calm_sure, calm_never, calm_longer, calm_shorter}
 use Rattle.theorem_follows.specs.Ordered.{Ordered}

@@ -30,13 +30,13 @@ use Rattle.row_moves.specs.Handing.{moved_run, guard_row, guard_told}
 use Rattle.row_moves.specs.WalkLaws.{guard-ends, prefix_walks}
 use Rattle.theorem_table.specs.Table.{Table, IsRow, terms_of, Guards, IsPrefix, AtRest}
 use Rattle.theorem_table.specs.OrderLaws.{lt, ≤ℤ_trans, <ℤ_≤ℤ, UpLe, up_refl, up_trans}
-use Rattle.theorem_table.specs.TableLaws.{Le, alone_reached}
+use Rattle.theorem_table.proofs.TableLaws.{Le, alone_reached}
 use Rattle.theorem_table.specs.JudgedLaws.{rest_calm, calm_sure, calm_never, calm_longer, calm_shorter}
 use Rattle.theorem_follows.specs.DecideLaws.{table_of, Broken, follows_below}
 use Rattle.theorem_follows.specs.RowLaws.{Fine, row_fine}
 use Rattle.theorem_follows.specs.CursorsLaws.{row_goes}
 use Rattle.theorem_follows.specs.StandsLaws.{table_at, Apart, Stands, stay_le, apart_decide, put_state, known_inside, possible_inside, restart, put_stands}
-use Rattle.queues.specs.StayLaws.{Stay, stay_same, stay_decide}
+use Rattle.queues.proofs.StayLaws.{Stay, stay_same, stay_decide}
 
 -- An upper bound that lies above a number says no more than the number as a bound would.
 pub not_above : (z : ℤ) (y : Upper) → upper_at_most y z ≡ false → UpLe (Under z) y
@@ -113,7 +113,7 @@ module _ (x : Index) (drained : ℕ → ℕ → Bool) where
       room : r < length v.states
       room = let z = h.sized in omega arith
 
-      goes : Rattle.row_runs.specs.RowLaws.Moved (state_at v r) a.state
+      goes : Rattle.row_runs.proofs.RowLaws.Moved (state_at v r) a.state
       goes = (row_goes row (state_at v r) v.marks).0
 
       More : Marks → Type 0

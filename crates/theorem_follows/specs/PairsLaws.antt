@@ -18,7 +18,7 @@ use Rattle.state.specs.State.{no_state, max_z, reached}
 use Rattle.rows.specs.Rows.{Row, row_of, no_row, Guard, Other, alone, beside, is_alone, MayDecide}
 use Rattle.queues.specs.Queue.{Rows}
 use Rattle.queues.specs.Marks.{Marks, decide}
-use Rattle.theorem_table.specs.TableLaws.{other_up}
+use Rattle.theorem_table.proofs.TableLaws.{other_up}
 use Rattle.row_runs.specs.Row.{Ran, deciding, threshold_row}
 use Rattle.row_moves.specs.Between.{Live, state_at, with_dirty_rows, with_marks, with_residuals, with_state}
 use Rattle.theorem_table.specs.Table.{Table, IsRow, Guards, known_of, reached_of, OtherReached}
@@ -31,7 +31,7 @@ use Rattle.theorem_follows.specs.CompleteLaws.{Has}
 use Rattle.theorem_follows.specs.DoneLaws.{Grows, taken_cases}
 use Rattle.theorem_follows.specs.RowCompleteLaws.{SameFigures, RowDone}
 use Rattle.theorem_follows.specs.StandsLaws.{table_at, Stands, known_inside, possible_inside, stay_le, Apart, apart_decide}
-use Rattle.queues.specs.StayLaws.{Stay, stay_same, stay_decide}
+use Rattle.queues.proofs.StayLaws.{Stay, stay_same, stay_decide}
 
 -- The figures of a row reach a bound; those of the other row, if a guard asks for one.
 abbrev pub Reaches : Live → ℕ → ℤ → Type 0

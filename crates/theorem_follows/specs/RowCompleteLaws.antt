@@ -21,7 +21,7 @@ use Rattle.queues.specs.Marks.{Marks, is_decided, Decided}
 use Rattle.rows.specs.Rows.{Row, Guard}
 use Rattle.row_runs.specs.Scan.{Scanned, scan}
 use Rattle.row_runs.specs.Row.{Ran, ran, decides, sure_waits, sure_guards, reachable, never_waits, never_guards, threshold_guards, term_waits, forces, forced, true_terms, false_terms, threshold_row}
-use Rattle.row_runs.specs.RowLaws.{decides_keeps}
+use Rattle.row_runs.proofs.RowLaws.{decides_keeps}
 use Rattle.row_runs.specs.RunsLaws.{run_ends}
 use Rattle.row_runs.specs.Runs.{guards_run, true_run, false_run, whole_run}
 use Rattle.theorem_follows.specs.DecideLaws.{scan_keeps}

@@ -31,7 +31,7 @@ use Rattle.row_runs.specs.Row.{Ran, ran, deciding, decides, sure_guards, never_g
 use Rattle.theorem_table.specs.Table as T
 use Rattle.theorem_table.specs.Table.{Table, decide_sure, decide_never, IsRow, Guards, terms_of, known_of, possible_of, reached_of, OtherReached, AtMost, Conflict, lower-above, upper-reached, bound-reached, bound-out-of-reach, term-needed, term-too-heavy}
 use Rattle.theorem_table.specs.OrderLaws.{le, lt, ≤ℤ_trans, ≤ℤ_<ℤ_trans, pos_≤ℤ, max_up, sub_up, up_refl, at_most, at-most_up}
-use Rattle.theorem_table.specs.TableLaws.{Le, known_up, possible_down}
+use Rattle.theorem_table.proofs.TableLaws.{Le, known_up, possible_down}
 use Rattle.row_runs.specs.RunsLaws.{run_ends}
 use Rattle.row_runs.specs.Runs.{guards_run, true_run, false_run}
 use Rattle.theorem_follows.specs.Ordered.{Each}

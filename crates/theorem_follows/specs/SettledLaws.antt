@@ -13,7 +13,7 @@ use Rattle.links.specs.Links as L
 use Rattle.links.specs.Links.{Link, neighbours}
 use Rattle.row_moves.specs.Between.{Index, Live, state_at, Did, run_row, threshold_guard, threshold_condition, threshold_prefixes}
 use Rattle.theorem_table.specs.Table.{Table, IsRow, IsPrefix, Guards, known_of, possible_of, Conflict, ReachesConflict, AtRest, Ended}
-use Rattle.theorem_table.specs.TableLaws.{conflict_up, run_below, only_end, only_conflict}
+use Rattle.theorem_table.proofs.TableLaws.{conflict_up, run_below, only_end, only_conflict}
 use Rattle.theorem_follows.specs.DecideLaws.{Broken}
 use Rattle.theorem_follows.specs.Ordered.{Ordered}
 use Rattle.theorem_follows.specs.StandsLaws.{table_at, also, also_this, Stands, AllDrained, known_exact, possible_exact, restart}

@@ -14,14 +14,14 @@ use Rattle.state.specs.declared.Upper.{Upper}
 use Rattle.state.specs.State.{no_state}
 use Rattle.words.specs.Mask.{bit}
 use Rattle.queues.specs.Marks.{Marks, is_decided, decide, mask}
-use Rattle.queues.specs.MarksLaws.{decide_other, decide_opposite}
-use Rattle.queues.specs.StayLaws.{Stay, stay_decided, sure_decided, never_decided, decide-nothing, not-decided}
+use Rattle.queues.proofs.MarksLaws.{decide_other, decide_opposite}
+use Rattle.queues.proofs.StayLaws.{Stay, stay_decided, sure_decided, never_decided, decide-nothing, not-decided}
 use Rattle.queues.specs.Queue.{Rows}
 use Rattle.rows.specs.Rows.{Row}
 use Rattle.row_moves.specs.Between.{Live, state_at, with_dirty_rows, with_marks, with_residuals, with_state}
 use Rattle.theorem_table.specs.Table.{Table, IsRow, terms_of, known, possible, known_of, possible_of}
 use Rattle.theorem_table.specs.OrderLaws.{pos_≤ℤ, up_refl}
-use Rattle.theorem_table.specs.TableLaws.{Le, le_same, le_then, Follows, follows_start, known_up, possible_down}
+use Rattle.theorem_table.proofs.TableLaws.{Le, le_same, le_then, Follows, follows_start, known_up, possible_down}
 use Rattle.theorem_follows.specs.DecideLaws.{table_of}
 
 -- The nodes of the masks and the bounds of the row states, as a state of the table.

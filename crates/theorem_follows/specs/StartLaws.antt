@@ -17,20 +17,20 @@ use Rattle.state.specs.State.{no_state, first_state}
 use Rattle.words.specs.Mask.{bit}
 use Rattle.queues.specs.Queue.{Rows, oldest, popped, next_row}
 use Rattle.queues.specs.Marks.{Marks, marks, is_decided, Decided, decide, mask}
-use Rattle.queues.specs.MarksLaws.{decide_has, decide_there, decide_new}
+use Rattle.queues.proofs.MarksLaws.{decide_has, decide_there, decide_new}
 use Rattle.queues.specs.Waiting.{Waits, Queued}
 use Rattle.row.specs.Terms.{total}
 use Rattle.rows.specs.Rows.{Row, no_row, Guard, state_of_row}
 use Rattle.row_moves.specs.Between.{Index, Live, state_at, did, with_dirty_rows, with_marks, with_residuals}
 use Rattle.theorem_table.specs.Table.{Table, start, IsRow, terms_of, known, possible}
 use Rattle.theorem_table.specs.OrderLaws.{UpLe, up_refl}
-use Rattle.theorem_table.specs.TableLaws.{Le, le_then, Follows, follows_more}
+use Rattle.theorem_table.proofs.TableLaws.{Le, le_then, Follows, follows_more}
 use Rattle.theorem_follows.specs.DecideLaws.{table_of, Broken, decide_as, decided-below, against}
 use Rattle.theorem_follows.specs.RowLaws.{decide_grows}
 use Rattle.theorem_follows.specs.CompleteLaws.{Wide, wide_decide}
 use Rattle.theorem_follows.specs.RowCompleteLaws.{Passed}
 use Rattle.theorem_follows.specs.StandsLaws.{table_at, among, also, also_this, also_before, also_which, Apart, Stands, known_same, possible_same, among_stay, stay_le, apart_decide}
-use Rattle.queues.specs.StayLaws.{Stay, stay_same, stay_decide, stay_decided}
+use Rattle.queues.proofs.StayLaws.{Stay, stay_same, stay_decide, stay_decided}
 use Rattle.theorem_follows.specs.DoneLaws.{Done, Grows, passed_up, complete_up}
 use Rattle.theorem_follows.specs.ToldLaws.{Told}
 use Rattle.theorem_follows.specs.HandedLaws.{Handed, taken_handed}

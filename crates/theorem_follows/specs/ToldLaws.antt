@@ -25,10 +25,10 @@ use Rattle.row_moves.specs.WalkLaws.{guard-ends}
 use Rattle.row_moves.specs.Handing.{guard_told, guard_run}
 use Rattle.theorem_table.specs.Table.{Table, Guards}
 use Rattle.theorem_table.specs.OrderLaws.{le, ≤ℤ_trans, UpLe, up_refl, up_trans}
-use Rattle.theorem_table.specs.TableLaws.{Le}
-use Rattle.theorem_table.specs.LayoutLaws.{row_made}
+use Rattle.theorem_table.proofs.TableLaws.{Le}
+use Rattle.theorem_table.proofs.LayoutLaws.{row_made}
 use Rattle.theorem_follows.specs.StandsLaws.{table_at, also, also_which, Apart, Stands, restart}
-use Rattle.queues.specs.StayLaws.{Stay, stay_decided}
+use Rattle.queues.proofs.StayLaws.{Stay, stay_decided}
 use Rattle.theorem_follows.specs.BoundsLaws.{SameBounds, put_here}
 use Rattle.theorem_follows.specs.MovesLaws.{guard_stands}
 

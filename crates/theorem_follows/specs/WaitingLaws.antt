@@ -11,9 +11,9 @@ use Rattle.queues.specs.QueueLaws.{push-times, popped-times, empty_none}
 use Rattle.queues.specs.OnceLaws.{times_none, times_same, times_other}
 use Rattle.queues.specs.Waiting.{times, waiting_list, waits, Queued}
 use Rattle.queues.specs.Marks.{Marks, marks, is_decided, Decided, decide, mask}
-use Rattle.queues.specs.MarksLaws.{put, decide_new, decide_other, waits_room, waits-decide, waits-popped}
+use Rattle.queues.proofs.MarksLaws.{put, decide_new, decide_other, waits_room, waits-decide, waits-popped}
 use Rattle.theorem_follows.specs.StandsLaws.{also, also_other, also_this}
-use Rattle.queues.specs.StayLaws.{decide-nothing, not-decided}
+use Rattle.queues.proofs.StayLaws.{decide-nothing, not-decided}
 
 module _ (drained : ℕ → Bool) where
   -- ONE MORE NODE DECIDED: a new one waits

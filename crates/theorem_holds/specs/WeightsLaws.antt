@@ -3,16 +3,14 @@
 use Rattle.std.specs.Prelude.{ℕ, ◌+◌, ◌*◌, ◌≤◌, ◌<◌, Bool, true, false, List, [], ◌∷◌, eqb, length}
 use Rattle.std.proofs.Common.{arith}
 use Rattle.base.specs.All.{All}
-use Rattle.base.specs.AllLaws.{all_each}
 use Rattle.memory.specs.Limits.{list_terms}
 use Rattle.memory.specs.Ranges.{raw_limit, weight_limit}
-use Rattle.numeric.specs.Threshold.{Term, Threshold, Job}
+use Rattle.numeric.specs.Threshold.{Term, Threshold}
 use Rattle.row.specs.Terms.{row_terms, total}
 use Rattle.row.specs.TermsLaws.{all_map}
 use Rattle.row.specs.SumLaws.{row-total}
-use Rattle.rows.specs.Rows.{Row, rows_of, Edge, edge, edges_in, edges_from}
-use Rattle.theorem_limits.specs.BuiltLaws.{every_append, every_mem, rows_all}
-use Rattle.theorem_limits.specs.Good.{Fit, Fits, Light}
+use Rattle.rows.specs.Rows.{Row, Edge, edge, edges_in, edges_from}
+use Rattle.theorem_limits.specs.BuiltLaws.{every_append}
 
 total-most : (ts : List Term) → All (λ (u : Term). u.weight < raw_limit) ts → total ts + length ts ≤ length ts * raw_limit
 unfolding total
@@ -26,17 +24,11 @@ weight_most (t ∷ ts) = (omega arith, all_map (λ (u : Term). u.weight ≤ tota
 
 -- ---- each row of a job
 
-abbrev Few : Threshold → Type 0
+abbrev pub Few : Threshold → Type 0
 Few t = (length t.terms ≤ list_terms) × All (λ (u : Term). u.weight < raw_limit) t.terms
 
-row-most : (t : Threshold) → Few t → total (row_terms t.terms) < weight_limit
+pub row-most : (t : Threshold) → Few t → total (row_terms t.terms) < weight_limit
 row-most t f = omega (arith, row-total t.terms, total-most t.terms f.1, f.0)
-
-pub totals : (j : Job) → Fits j → Light raw_limit j → All (λ (r : Row). total r.terms < weight_limit) (rows_of j)
-totals j f l =
-    rows_all (λ (r : Row). total r.terms < weight_limit) Few row-most (λ t r q a. a) j
-    (every_mem Few j.thresholds
-    (λ t m. ((all_each (Fit j.nodes) j.thresholds f.each t m).short, all_each (λ (t : Threshold). All (λ (u : Term). u.weight < raw_limit) t.terms) j.thresholds l t m)))
 
 pub weights : (rs : List Row) → All (λ (r : Row). total r.terms < weight_limit) rs → All (λ (r : Row). All (λ (u : Term). u.weight < weight_limit) r.terms) rs
 weights rs a =

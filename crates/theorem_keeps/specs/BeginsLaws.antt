@@ -11,7 +11,7 @@ use Rattle.state.specs.declared.Step.{Step}
 use Rattle.state.specs.declared.Step.TheVariants.{Unchanged}
 use Rattle.queues.specs.Queue.{Rows}
 use Rattle.queues.specs.Marks.{Marks, Decided, decided, decide}
-use Rattle.queues.specs.MarksLaws.{waits-decide}
+use Rattle.queues.proofs.MarksLaws.{waits-decide}
 use Rattle.queues.specs.Waiting.{Waits, Flags}
 use Rattle.row_moves.specs.Between.{Index, Live, Did, did, first_states, seed_from, with_states, with_marks}
 use Rattle.row_moves.specs.Held.{start_by, end_by, EdgesShaped, Shaped, Holds}
@@ -20,8 +20,8 @@ use Rattle.row_moves.specs.ReadyLaws.{ready_states}
 use Rattle.row_moves.specs.FirstLaws.{ready_first}
 use Rattle.row_moves.specs.KeptLaws.{kept_run}
 use Rattle.drain.specs.Drain.{mark, seal}
-use Rattle.drain.specs.DrainLaws.{seal_keeps}
-use Rattle.theorem_ends.specs.SealsLaws.{seal_stays}
+use Rattle.drain.proofs.DrainLaws.{seal_keeps}
+use Rattle.theorem_ends.proofs.SealsLaws.{seal_stays}
 use Rattle.theorem_follows.specs.WaitingLaws.{queued_decide}
 use Rattle.theorem_keeps.specs.Serves.{Serves, owed, Tracked, Going, Fresh}
 use Rattle.theorem_keeps.specs.KeepingLaws.{low_decide, tracked_run}

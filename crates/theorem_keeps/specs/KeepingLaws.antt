@@ -12,7 +12,7 @@ use Rattle.queues.specs.QueueLaws.{row-waits, row_new}
 use Rattle.queues.specs.RowsLaws.{flags_oldest, oldest-row}
 use Rattle.queues.specs.Waiting.{Flags, Queued}
 use Rattle.queues.specs.Marks.{Marks, decide}
-use Rattle.queues.specs.MarksLaws.{decide_other}
+use Rattle.queues.proofs.MarksLaws.{decide_other}
 use Rattle.rows.specs.Rows.{Row, no_row, edges_of}
 use Rattle.links.specs.Links.{neighbours}
 use Rattle.row_runs.specs.Row.{wants_residual}

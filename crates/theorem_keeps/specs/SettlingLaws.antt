@@ -9,9 +9,9 @@ use Rattle.state.specs.declared.Step.TheVariants.{Unchanged}
 use Rattle.state.specs.Step.{joined, contradicts}
 use Rattle.row_moves.specs.Between.{Index, Live, Did, did}
 use Rattle.drain.specs.Drain.{turn, at_rest, drain, turns, settle}
-use Rattle.drain.specs.DrainLaws.{drain_goes, settle_keeps}
+use Rattle.drain.proofs.DrainLaws.{drain_goes, settle_keeps}
 use Rattle.theorem_ends.specs.TurnsLaws.{left, left-most}
-use Rattle.theorem_ends.specs.SettlesLaws.{fall_turn}
+use Rattle.theorem_ends.proofs.SettlesLaws.{fall_turn}
 use Rattle.theorem_keeps.specs.Serves.{Serves, Going}
 use Rattle.theorem_keeps.specs.TurnLaws.{going_turn}
 

@@ -17,7 +17,7 @@ use Rattle.drain.specs.Drain.{turns, settle}
 use Rattle.drain.specs.Sift.{Sifted, sifted, try_row, sift_from, sift}
 use Rattle.drain.specs.SiftLaws.{tries, sift_tries, sift_keeps}
 use Rattle.theorem_ends.specs.TurnsLaws.{left, left-most}
-use Rattle.theorem_ends.specs.SettlesLaws.{settle_stays, fall_try}
+use Rattle.theorem_ends.proofs.SettlesLaws.{settle_stays, fall_try}
 use Rattle.theorem_keeps.specs.Serves.{Serves, Going}
 use Rattle.theorem_keeps.specs.SettlingLaws.{going_settle}
 use Rattle.theorem_keeps.specs.Tries.{Scratch, Short, Tries, Round, round, once}

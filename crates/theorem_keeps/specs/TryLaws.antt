@@ -27,7 +27,7 @@ use Rattle.drain.specs.Sift.{Sifted, sifted, try_row}
 use Rattle.drain.specs.SiftLaws.{try_row_lem, try_leaves}
 use Rattle.drain.specs.Steps.{try_terms, try_residual, try_live}
 use Rattle.theorem_ends.specs.KeepsLaws.{residual-named}
-use Rattle.theorem_ends.specs.SettlesLaws.{fall_try}
+use Rattle.theorem_ends.proofs.SettlesLaws.{fall_try}
 use Rattle.theorem_follows.specs.WaitingLaws.{queued_decide}
 use Rattle.queues.specs.Waiting.{Queued}
 use Rattle.theorem_keeps.specs.Serves.{Serves, Low, Within, Going}

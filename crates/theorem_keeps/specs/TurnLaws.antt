@@ -18,7 +18,7 @@ use Rattle.queues.specs.Queue.{Rows, queue, is_empty, oldest, popped_ring, poppe
 use Rattle.queues.specs.Slot.{rows_in}
 use Rattle.queues.specs.RowsLaws.{flags_next, oldest-row}
 use Rattle.queues.specs.Marks.{Marks, marks, is_decided}
-use Rattle.queues.specs.MarksLaws.{waits-popped}
+use Rattle.queues.proofs.MarksLaws.{waits-popped}
 use Rattle.queues.specs.Waiting.{Waits, Flags}
 use Rattle.row_moves.specs.Between.{Index, Live, Did, did, guard_of, threshold_condition, threshold_prefixes, with_dirty_rows, with_marks, with_residuals}
 use Rattle.row_moves.specs.Handing.{after}
@@ -28,9 +28,9 @@ use Rattle.row_moves.specs.Ready.{Ready, Runnable}
 use Rattle.row_moves.specs.KeptLaws.{runnable_more, runnable_by}
 use Rattle.row_moves.specs.KeptHeldLaws.{edges_light, edges_many, kept_node, kept-links, kept-guard_of}
 use Rattle.drain.specs.Drain.{take_node, take_row, turn, at_rest}
-use Rattle.drain.specs.DrainLaws.{node_ends, row_ends_lem, turn-ends}
+use Rattle.drain.proofs.DrainLaws.{node_ends, row_ends_lem, turn-ends}
 use Rattle.drain.specs.Steps.{untaken, unrowed, node_told, node_drained}
-use Rattle.theorem_ends.specs.SettlesLaws.{fall_turn}
+use Rattle.theorem_ends.proofs.SettlesLaws.{fall_turn}
 use Rattle.theorem_follows.specs.StandsLaws.{also, also_other, also_this}
 use Rattle.theorem_follows.specs.WaitingLaws.{first-decided, first-fresh, queued_taken}
 use Rattle.theorem_keeps.specs.Serves.{Serves, Among, owed, Tracked, Within, Going}

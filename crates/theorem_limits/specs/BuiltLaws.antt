@@ -17,7 +17,7 @@ use Rattle.rows.specs.Guards.{Bound}
 use Rattle.rows.specs.Rows.{Row, row_of, no_row, guard, below, insert_guard, place, place_all, rows_of, row_number, Edge, edge, edges_in, edges_from}
 use Rattle.rows.specs.ListsLaws.{same_refl}
 use Rattle.links.specs.Links.{Link, links, neighbours}
-use Rattle.links.specs.LinksLaws.{links_range, Joined, downward, upward, neighbours-joined}
+use Rattle.links.proofs.LinksLaws.{links_range, Joined, downward, upward, neighbours-joined}
 use Rattle.row_runs.specs.Guards.{Node, Condition}
 use Rattle.row_moves.specs.Between.{Live}
 use Rattle.drain.specs.Drain.{index_of, seal}
@@ -26,7 +26,7 @@ use Rattle.job.specs.JobLaws.{all_more, length_on, every_on}
 use Rattle.job.specs.Taken.{with_threshold, with_term}
 use Rattle.theorem_limits.specs.Good.{FitBy, Fit, Fits, Drafted}
 use Rattle.theorem_ends.specs.Sound.{Indexed, Sound}
-use Rattle.theorem_ends.specs.SealsLaws.{seal_stays}
+use Rattle.theorem_ends.proofs.SealsLaws.{seal_stays}
 
 -- ---- lists
 

@@ -12,7 +12,7 @@ use Rattle.state.specs.declared.State.{State}
 use Rattle.state.specs.State.{no_state}
 use Rattle.queues.specs.Queue.{is_empty}
 use Rattle.queues.specs.RowsLaws.{flags_none}
-use Rattle.queues.specs.MarksLaws.{waits-none, waits-decide}
+use Rattle.queues.proofs.MarksLaws.{waits-none, waits-decide}
 use Rattle.rows.specs.Guards.{Bound}
 use Rattle.drain.specs.Drain as Drain
 use Rattle.drain.specs.Drain.{at_rest}
@@ -29,7 +29,7 @@ use Rattle.files.specs.FileLaws.{checked, after_snoc}
 use Rattle.theorem_ends.specs.RoomsLaws.{none-bounded}
 use Rattle.theorem_limits.specs.Good.{Fits, Drafted, Good}
 use Rattle.theorem_ends.specs.Sound.{Bounded, Sound}
-use Rattle.theorem_ends.specs.SettlesLaws.{settle_stays, settle-ends, sift_sound, sift-ends as sift-rests}
+use Rattle.theorem_ends.proofs.SettlesLaws.{settle_stays, settle-ends, sift_sound, sift-ends as sift-rests}
 use Rattle.theorem_limits.specs.BuiltLaws.{drafted_none, drafted_threshold, drafted_term, fits-none, fits_of, indexed, seal_sound}
 use Rattle.theorem_limits.specs.BlankLaws.{same_at}
 

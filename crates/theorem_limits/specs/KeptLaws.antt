@@ -11,16 +11,16 @@ use Rattle.state.specs.declared.Step.TheVariants.{Unchanged, Changed, Contradict
 use Rattle.state.specs.declared.State.{State}
 use Rattle.queues.specs.Queue.{Queue, Rows, rows, push, popped, queue_row, next_row, oldest}
 use Rattle.queues.specs.Marks.{Marks, waiting, decide}
-use Rattle.queues.specs.MarksLaws.{decide-waits}
+use Rattle.queues.proofs.MarksLaws.{decide-waits}
 use Rattle.rows.specs.Rows.{Row, no_row}
 use Rattle.row_runs.specs.Row.{wants_residual}
-use Rattle.intervals.specs.ForceLaws.{gcds_length}
+use Rattle.intervals.proofs.ForceLaws.{gcds_length}
 use Rattle.row_moves.specs.Between.{Index, Live, live, state_at, residual_queued, run_with, run_row}
 use Rattle.drain.specs.Drain.{index_of}
 use Rattle.row_moves.specs.WalkLaws.{Moves}
 use Rattle.row_moves.specs.KeepsLaws.{Small, run_named}
 use Rattle.drain.specs.Drain as Drain
-use Rattle.drain.specs.DrainLaws.{seal_keeps, keep_turn, settle_keeps}
+use Rattle.drain.proofs.DrainLaws.{seal_keeps, keep_turn, settle_keeps}
 use Rattle.drain.specs.Sift.{try_row}
 use Rattle.drain.specs.Sift as Sift
 use Rattle.drain.specs.SiftLaws.{try_leaves, sift_keeps}

@@ -19,7 +19,7 @@ use Rattle.rows.specs.Laid.{term_lists, guard_lists, edge_lists, edge_row}
 use Rattle.job.specs.Incidents.{incidents_from}
 use Rattle.job.specs.IncidentsLaws.{grouped-joined, keys_from}
 use Rattle.links.specs.Links.{neighbour_lists}
-use Rattle.links.specs.NeighboursLaws.{neighbours_few}
+use Rattle.links.proofs.NeighboursLaws.{neighbours_few}
 use Rattle.job.specs.RowsGivenTermsLaws.{row_short}
 use Rattle.job.specs.Job.{all_terms}
 use Rattle.theorem_limits.specs.BuiltLaws.{rows_every, rows_few}

@@ -1,13 +1,6 @@
 pub mod Table
 pub mod OrderLaws
 pub mod Cases
-pub mod TableLaws
-pub mod LayoutLaws
 pub mod Ends
-pub mod EndsCountLaws
-pub mod EndsDecideLaws
-pub mod EndsLaws
 pub mod Judged
 pub mod JudgedLaws
-pub mod GrowLaws
-pub mod TwinLaws

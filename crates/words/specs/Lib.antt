@@ -2,7 +2,6 @@ pub mod Mask
 pub mod Shift
 pub mod DigitsLaws
 pub mod MaskLaws
-pub mod CountLaws
 pub mod ShiftStepsLaws
 pub mod ShiftPlacesLaws
 pub mod ShiftWindowLaws

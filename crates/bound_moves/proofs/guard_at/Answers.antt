@@ -4,7 +4,7 @@ use mathlib.Core.Path.{◌∙◌, sym}
 use native.Mathlib.Omega.{arith}
 use lib.ListN.{length, get_or}
 use lib.Signed.{mag}
-use Rattle.row_runs.specs.RowLaws.{signed}
+use Rattle.row_runs.proofs.RowLaws.{signed}
 use Rattle.memory.specs.Ranges.{figure_limit}
 use Rattle.row_moves.specs.Between.{did, threshold_guard}
 use Rattle.row_moves.specs.Numbers.{live_of}

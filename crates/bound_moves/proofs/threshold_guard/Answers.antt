@@ -5,7 +5,7 @@ use mir.Syntax.{w64}
 use mir.Val.{to_z, of_z}
 use Rattle.memory.specs.Buffers.{held_rows}
 use Rattle.tightening.specs.declared.Tightened.{Tightened}
-use Rattle.row_runs.specs.RowLaws.{signed}
+use Rattle.row_runs.proofs.RowLaws.{signed}
 use Rattle.tightening.specs.Told.{guard_state}
 use Rattle.memory.specs.Ranges.{figure_limit}
 use Rattle.row_moves.specs.Between.{did, state_at}

@@ -20,7 +20,7 @@ use Rattle.queues.specs.Marks.{marks}
 use Rattle.row_runs.specs.Scan.{Scanned, scanned}
 use Rattle.row_runs.specs.Turns.{light, cut}
 use Rattle.row_runs.specs.Row.{ran}
-use Rattle.row_runs.specs.RowLaws.{stay_false, false-none, false-forced, forced_within, signed}
+use Rattle.row_runs.proofs.RowLaws.{stay_false, false-none, false-forced, forced_within, signed}
 use Rattle.propagate.proofs.false_terms.Goals as goal
 
 pub overflow_sub-cutoff : goal.overflow_sub-cutoff

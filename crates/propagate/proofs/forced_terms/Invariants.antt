@@ -14,7 +14,7 @@ use Rattle.queues.specs.Marks.{marks, is_decided}
 use Rattle.queues.specs.Waiting.{Waits}
 use Rattle.row_runs.specs.Scan.{scan, scanned}
 use Rattle.row_runs.specs.Turns.{turn, light}
-use Rattle.row_runs.specs.ScanLaws.{force_keeps, place-ends, place_goes, place_passed, place_keeps, scan-none}
+use Rattle.row_runs.proofs.ScanLaws.{force_keeps, place-ends, place_goes, place_passed, place_keeps, scan-none}
 use Rattle.row_runs.specs.Row.{term_waits, forces, forced}
 use Rattle.propagate.proofs.forced_terms.Given as goal
 

@@ -2,7 +2,7 @@
 use Rattle.queues.specs.Queue.{queue}
 use Rattle.queues.specs.Marks.{marks, decide}
 use Rattle.row_runs.specs.Scan.{scanned}
-use Rattle.row_runs.specs.ScanLaws.{waits-turn, guard_passed}
+use Rattle.row_runs.proofs.ScanLaws.{waits-turn, guard_passed}
 use borrow.Author.Rules.{rules}
 use Rattle.propagate.proofs.guard_turn.Goals as goal
 

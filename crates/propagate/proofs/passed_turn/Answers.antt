@@ -6,7 +6,7 @@ use Rattle.state.specs.declared.Step.{Step}
 use Rattle.queues.specs.Marks.{decided}
 use Rattle.row_runs.specs.Scan.{scanned}
 use Rattle.row_runs.specs.Turns.{turn}
-use Rattle.row_runs.specs.ScanLaws.{turn_stops, turn_on}
+use Rattle.row_runs.proofs.ScanLaws.{turn_stops, turn_on}
 use borrow.Author.Rules.{rules}
 use Rattle.propagate.proofs.passed_turn.Goals as goal
 

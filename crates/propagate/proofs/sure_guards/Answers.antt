@@ -12,11 +12,11 @@ use borrow.Author.Rules.{rules}
 use Rattle.rows.specs.Rows.{Guard, guard}
 use Rattle.queues.specs.Queue.{queue}
 use Rattle.queues.specs.Marks.{marks}
-use Rattle.queues.specs.MarksLaws.{waits-decide}
+use Rattle.queues.proofs.MarksLaws.{waits-decide}
 use Rattle.queues.specs.Waiting.{Waits}
 use Rattle.row_runs.specs.Scan.{scan, scanned}
 use Rattle.row_runs.specs.Turns.{turn}
-use Rattle.row_runs.specs.ScanLaws.{place-ends, place_goes, place_passed, place_keeps, scan-none}
+use Rattle.row_runs.proofs.ScanLaws.{place-ends, place_goes, place_passed, place_keeps, scan-none}
 use Rattle.row_runs.specs.GuardsLaws.{up_guards, length-guards}
 use Rattle.row_runs.specs.Guards.{guards}
 use Rattle.row_runs.specs.Row.{decides, sure_guards, sure_waits}

@@ -4,7 +4,7 @@ use Rattle.state.specs.declared.Step.TheVariants.{Unchanged}
 use Rattle.queues.specs.Queue.{queue}
 use Rattle.queues.specs.Marks.{marks}
 use Rattle.row_runs.specs.Scan.{scanned}
-use Rattle.row_runs.specs.ScanLaws.{term_passed, term_free}
+use Rattle.row_runs.proofs.ScanLaws.{term_passed, term_free}
 use borrow.Author.Rules.{rules}
 use Rattle.propagate.proofs.term_turn.Goals as goal
 

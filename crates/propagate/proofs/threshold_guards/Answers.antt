@@ -7,7 +7,7 @@ use Rattle.queues.specs.Marks.{marks}
 use Rattle.row_runs.specs.Scan.{Scanned, scanned}
 use Rattle.row_runs.specs.GuardsLaws.{length-guards, all_guards}
 use Rattle.row_runs.specs.Guards.{guards}
-use Rattle.row_runs.specs.RowLaws.{sure_within, never_within, sure_keeps, guards_stop, guards_more}
+use Rattle.row_runs.proofs.RowLaws.{sure_within, never_within, sure_keeps, guards_stop, guards_more}
 use Rattle.propagate.proofs.threshold_guards.Goals as goal
 
 pub sure_guards-first-requires : goal.sure_guards-first-requires

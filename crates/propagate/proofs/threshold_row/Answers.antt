@@ -8,7 +8,7 @@ use Rattle.rows.specs.Rows.{row_of}
 use Rattle.row_runs.specs.GuardsLaws.{all_guards}
 use Rattle.row_runs.specs.Guards.{guards}
 use Rattle.row_runs.specs.Row.{ran, threshold_guards}
-use Rattle.row_runs.specs.RowLaws.{kept-guards, kept_by_lem, figures-moved, row-conflict, row-guards, row-terms}
+use Rattle.row_runs.proofs.RowLaws.{kept-guards, kept_by_lem, figures-moved, row-conflict, row-guards, row-terms}
 use Rattle.propagate.proofs.threshold_row.Goals as goal
 
 pub returns-then-conflict : goal.returns-then-conflict

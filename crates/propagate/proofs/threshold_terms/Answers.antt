@@ -13,7 +13,7 @@ use Rattle.queues.specs.Queue.{queue}
 use Rattle.queues.specs.Marks.{Marks, marks}
 use Rattle.row_runs.specs.GuardsLaws.{all_terms_lem}
 use Rattle.row_runs.specs.Row.{Ran, ran, true_terms}
-use Rattle.row_runs.specs.RowLaws.{kept-true, kept_by_lem, figures-moved, terms_stop, terms_more}
+use Rattle.row_runs.proofs.RowLaws.{kept-true, kept_by_lem, figures-moved, terms_stop, terms_more}
 use Rattle.propagate.proofs.threshold_terms.Goals as goal
 use Rattle.propagate.proofs.threshold_terms.Goals.{After-with_terms-state}
 

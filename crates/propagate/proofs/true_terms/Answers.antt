@@ -19,7 +19,7 @@ use Rattle.queues.specs.Marks.{marks}
 use Rattle.row_runs.specs.Scan.{Scanned, scanned}
 use Rattle.row_runs.specs.Turns.{light, cut}
 use Rattle.row_runs.specs.Row.{ran}
-use Rattle.row_runs.specs.RowLaws.{stay_true, true-none, true-forced, forced_within, signed}
+use Rattle.row_runs.proofs.RowLaws.{stay_true, true-none, true-forced, forced_within, signed}
 use Rattle.propagate.proofs.true_terms.Goals as goal
 
 pub returns-then-known-lower : goal.returns-then-known-lower

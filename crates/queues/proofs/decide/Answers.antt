@@ -1,6 +1,6 @@
 -- `queues::decide` meets its contract. Assumes nothing.
 use Rattle.queues.specs.Queue.{queue}
-use Rattle.queues.specs.MarksLaws.{decide_sure_lem, decide_never_lem}
+use Rattle.queues.proofs.MarksLaws.{decide_sure_lem, decide_never_lem}
 use borrow.Author.Rules.{rules}
 use Rattle.queues.proofs.decide.Goals as goal
 

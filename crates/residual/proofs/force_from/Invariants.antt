@@ -9,7 +9,7 @@ use Rattle.queues.specs.Queue.{queue}
 use Rattle.queues.specs.Marks.{Marks, marks}
 use Rattle.queues.specs.Waiting.{Waits}
 use Rattle.intervals.specs.Residual.{placed, force_from}
-use Rattle.intervals.specs.ForceLaws.{force_skip, turn-waits, turn_stops, turn_goes_on, force_end}
+use Rattle.intervals.proofs.ForceLaws.{force_skip, turn-waits, turn_stops, turn_goes_on, force_end}
 use Rattle.residual.proofs.force_from.Given as goal
 
 abbrev pub invariant-loop-position : goal.invariant-loop-position

@@ -3,7 +3,7 @@ use mathlib.Core.Path.{sym, ◌∙◌}
 use Rattle.numeric.specs.Threshold.{Term, term}
 use Rattle.queues.specs.Queue.{queue}
 use Rattle.queues.specs.Marks.{Marks, marks}
-use Rattle.intervals.specs.ForceLaws.{force-unit, force-none, force_sure, force_never, force_free}
+use Rattle.intervals.proofs.ForceLaws.{force-unit, force-none, force_sure, force_never, force_free}
 use Rattle.residual.proofs.force_term.Goals as goal
 
 pub returns-then-divisor-eq1 : goal.returns-then-divisor-eq1

@@ -11,7 +11,7 @@ use Rattle.queues.specs.Marks.{marks, decided}
 use Rattle.intervals.specs.declared.Interval.{Interval}
 use Rattle.intervals.specs.Residual.{placed, force_from}
 use Rattle.intervals.specs.IntervalLaws.{natural_small}
-use Rattle.intervals.specs.ForceLaws.{residual-none, residual_rest, residual-forced}
+use Rattle.intervals.proofs.ForceLaws.{residual-none, residual_rest, residual-forced}
 use borrow.Author.Rules.{rules}
 use Rattle.residual.proofs.threshold_residual.Goals as goal
 

@@ -7,7 +7,7 @@ use borrow.Author.Rules.{rules}
 use Rattle.numeric.specs.Slices.{terms}
 use Rattle.queues.specs.Marks.{marks}
 use Rattle.row_runs.specs.Guards.{guards}
-use Rattle.row_runs.specs.RowLaws.{signed}
+use Rattle.row_runs.proofs.RowLaws.{signed}
 use Rattle.base.specs.TestLaws.{contrary}
 use Rattle.resting.specs.RestLaws.{row_rests}
 use Rattle.resting.proofs.rests.Goals as goal

@@ -9,7 +9,7 @@ use borrow.Author.Rules.{rules}
 use Rattle.base.specs.SignedLaws.{sub_sfits}
 use Rattle.numeric.specs.Slices.{terms}
 use Rattle.queues.specs.Marks.{marks}
-use Rattle.row_runs.specs.RowLaws.{signed}
+use Rattle.row_runs.proofs.RowLaws.{signed}
 use Rattle.resting.specs.RestLaws.{true_met, true-waits}
 use Rattle.resting.proofs.true_rests.Goals as goal
 

@@ -12,7 +12,7 @@ use Rattle.rows.specs.Rows.{row_of}
 use Rattle.row_runs.specs.Guards.{guards}
 use Rattle.row_runs.specs.GuardsLaws.{all_guards, all_terms_lem}
 use Rattle.row_runs.specs.Row.{ran, threshold_row}
-use Rattle.row_runs.specs.RowLaws.{kept_row, kept_by_lem}
+use Rattle.row_runs.proofs.RowLaws.{kept_row, kept_by_lem}
 use Rattle.row_moves.specs.Between.{Live, state_at}
 use Rattle.row_moves.specs.NumbersLaws.{runs_by, states_cursors}
 use Rattle.row_moves.specs.Stored.{with_cursors}

@@ -4,7 +4,7 @@ use borrow.Author.Rules.{rules}
 use borrow.Author.Tests.{not-true, not-false}
 use Rattle.numeric.specs.Slices.{terms}
 use Rattle.rows.specs.Rows.{row_of}
-use Rattle.row_runs.specs.RowLaws.{wants_conflict, wants_unit, wants_interval}
+use Rattle.row_runs.proofs.RowLaws.{wants_conflict, wants_unit, wants_interval}
 use Rattle.row_runs.proofs.wants_residual.Goals as goal
 
 pub returns-then-conflict : goal.returns-then-conflict

@@ -6,7 +6,7 @@ use lib.Count.{ones, ones-le}
 use lib.ListN.{length, get_or}
 use borrow.Author.Rules.{rules}
 use Rattle.words.specs.Mask.{count}
-use Rattle.words.specs.CountLaws.{count_none, count-le, count_ones}
+use Rattle.words.proofs.CountLaws.{count_none, count-le, count_ones}
 use Rattle.words.proofs.count.Given as goal
 
 abbrev pub invariant-loop-i : goal.invariant-loop-i

@@ -1,0 +1,2 @@
+pub mod ForceLaws
+pub mod SoundLaws

@@ -1,0 +1,3 @@
+pub mod TurnsLaws
+pub mod SettlesLaws
+pub mod SealsLaws

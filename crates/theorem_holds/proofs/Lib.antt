@@ -1,0 +1,6 @@
+pub mod GoesLaws
+pub mod WeightsLaws
+pub mod ServedLaws
+pub mod LentLaws
+pub mod FilesLaws
+pub mod GatheredLaws
