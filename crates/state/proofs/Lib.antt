@@ -1,0 +1,2 @@
+pub mod Alters
+pub mod Lends
