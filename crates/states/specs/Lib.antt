@@ -1,2 +1,9 @@
 pub mod States
 pub mod StatesLaws
+pub mod AgainLaws
+pub mod ChainLaws
+pub mod LocalsLaws
+pub mod Pairs
+pub mod SaidLaws
+pub mod SharedLaws
+pub mod StepsLaws
