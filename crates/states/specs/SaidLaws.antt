@@ -20,7 +20,7 @@ use denote.Signature.{Slot}
 use denote.Steps.{nothing}
 use denote.Exit.{Kept, left}
 use denote.Triple.End.{Kepts}
-use denote.Triple.Walked.{Stay, Stays, Goes, AllGo}
+use denote.Triple.Walked.{Stay, Stays, AllGo}
 
 abbrev pub said_slot : {n : ℕ} (s : Slot n) (k : Kept) → Stay s k
 said_slot s k = record { fit = λ κs x f. Unit {0}; has = λ κs x f vs. left ((s.row κs).exit k) x f }
