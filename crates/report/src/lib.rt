@@ -1,5 +1,6 @@
 // The plan of an input, over buffers of its own: the public call, then the listing.
 #![tactic(auto)]
+
 ghost use Rattle.std.specs.Prelude.{◌≡◌};
 ghost use Rattle.memory.specs.Buffers.{raw_lists, raw, held_rows, built, kept, work};
 ghost use Rattle.files.specs.Contents.{nothing};

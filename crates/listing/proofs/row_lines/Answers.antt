@@ -25,7 +25,7 @@ loop-r-preserved c =
     let w = c.loop-r in
     let d = c.row_line-end in
     let line : Wrote max_row_line w.out d.new.out w.end d.result (row_at c.args.states.now w.r) =
-        subst (λ (s : State). Wrote max_row_line w.out d.new.out w.end d.result (row_line w.r s)) c.load-state.ensures d.ensures in
+    subst (λ (s : State). Wrote max_row_line w.out d.new.out w.end d.result (row_line w.r s)) c.load-state.ensures d.ensures in
     joins_next (omega arith) c.loop-r-test.true w.invariant d.auto.out line
 
 pub shape_of-out : goal.shape_of-out

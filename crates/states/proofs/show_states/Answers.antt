@@ -14,8 +14,7 @@ pub loop-row-preserved : goal.loop-row-preserved
 loop-row-preserved c =
     let w = c.loop-row in
     let a = c.args in
-    let s = states_of a.figures.now a.cursors.now in
-    (
+    let s = states_of a.figures.now a.cursors.now in (
       omega arith,
       c.store.ensures
           ∙ ap (λ (l : List State). set l w.row c.row_state-state.result) w.invariant.1
