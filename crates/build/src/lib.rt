@@ -137,7 +137,8 @@ pub fn build(
         links,
     );
     let standing = read.standing;
-    if read.sealing {
+    let sealing = read.sealing;
+    if sealing {
         return build_job(
             standing,
             raw_conditions,

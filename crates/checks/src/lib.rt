@@ -107,7 +107,8 @@ pub fn entry_comes(input: &[u8], at: usize, standing: Standing) -> bool
     if (kind != 3) & (kind != 8) {
         return false;
     }
-    if input.len() - at <= 6 {
+    let short = input.len() - at <= 6;
+    if short {
         return false;
     }
     let condition = records::u16_at(input, at + 1);
@@ -177,7 +178,8 @@ pub fn next_record(input: &[u8], at: usize, standing: Standing) -> Next
     }
     let entry = records::record_at(input, at);
     let number = refusal(standing, entry);
-    if number != 0 {
+    let refused = number != 0;
+    if refused {
         return Next::Refused(number);
     }
     Next::Taken(entry)

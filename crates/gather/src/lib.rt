@@ -135,7 +135,8 @@ fn more_area(
     let i = at - start_of(thresholds, standing.thresholds - 1);
     let sum = sums[i] + area;
     sums[i] = sum;
-    raw_weights[at] = weight_of_area(sum);
+    let to = at;
+    raw_weights[to] = weight_of_area(sum);
     Standing {
         started: standing.started,
         sealed: standing.sealed,
@@ -167,7 +168,8 @@ pub fn add_area(
         result raw_conditions.new raw_weights.new thresholds.new places.new sums.new }
 {
     let start = start_of(thresholds, standing.thresholds - 1);
-    if place(places[condition as usize]) > start {
+    let noted = place(places[condition as usize]) > start;
+    if noted {
         return more_area(
             standing,
             condition,

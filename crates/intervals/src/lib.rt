@@ -104,7 +104,8 @@ pub fn both_fit(i: Interval, weight: u64, next: u64) -> bool
     if weight <= width {
         return true;
     }
-    if next == 0 {
+    let none = next == 0;
+    if none {
         return false;
     }
     next <= width

@@ -122,7 +122,8 @@ pub fn queue_row(row_queues: &mut [[u16; 4]], k: usize, ring: Ring, row: usize) 
         × ((other : Ring) → rows_in (2 - k) row_queues.new other ≡ rows_in (2 - k) row_queues.old other) }
 {
     let slot = row_queues[row];
-    if slot[k + 1] == 1 {
+    let waits = slot[k + 1] == 1;
+    if waits {
         return ring;
     }
     put(row_queues, row, k + 1, 1);

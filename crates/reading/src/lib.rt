@@ -160,7 +160,8 @@ fn read_entry(
 {
     let condition = records::u16_at(input, at + 1);
     let figure = records::u32_at(input, at + 3) as u64;
-    if input[at] == 8 {
+    let areas = input[at] == 8;
+    if areas {
         let after = gather::add_area(
             standing,
             condition,

@@ -108,7 +108,8 @@ fn plan_in(
 pub fn plan(input: &[u8], out: &mut [u8]) -> Planned
     ensures { Plans input.now out.old out.new result }
 {
-    if out.len() < 262144 {
+    let short = out.len() < 262144;
+    if short {
         return too_short();
     }
     let mut raw_conditions = [0u16; 4096];

@@ -207,7 +207,8 @@ fn turn(
 {
     let ring = rings.nodes;
     let count = ring.count;
-    if count == 0 {
+    let none = count == 0;
+    if none {
         return take_row(
             row_conditions,
             row_weights,

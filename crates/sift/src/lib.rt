@@ -52,7 +52,8 @@ fn try_terms(
     let step = forced.step;
     let next = forced.ring;
     let number = step.number();
-    if number != 0 {
+    let changed = number != 0;
+    if changed {
         return Tried {
             step: step,
             ring: next,

@@ -29,7 +29,8 @@ fn row_state(figures: &[[i64; 4]], cursors: &[[usize; 5]], row: usize) -> State
     requires { max_thresholds ≤ length (states_of figures.now cursors.now) }
     ensures { result ≡ get_or (take max_thresholds (states_of figures.now cursors.now)) row no_state }
 {
-    if row < 1024 {
+    let listed = row < 1024;
+    if listed {
         return row_moves::load(figures, cursors, row);
     }
     State::first(0, 0)

@@ -16,13 +16,13 @@ returns-then-input-at c =
     let l = c.if-input-at.true in
     next_cut a.standing a.input.now a.at c.if-kind.false c.requires (omega (arith, e, l))
 
-pub returns-then-number-ne0 : goal.returns-then-number-ne0
-returns-then-number-ne0 c =
+pub returns-then-refused : goal.returns-then-refused
+returns-then-refused c =
     let a = c.args in
     let e = c.body_length-size.ensures in
     let l = c.if-input-at.false in
     let n = c.refusal-number.ensures ∙ ap (refused_by a.standing) c.record_at-entry.ensures in
-    next_refused a.standing a.input.now a.at c.if-kind.false c.requires (omega (arith, e, l)) c.refusal-number.result n c.if-number-ne0.true
+    next_refused a.standing a.input.now a.at c.if-kind.false c.requires (omega (arith, e, l)) c.refusal-number.result n c.if-refused.true
 
 pub returns : goal.returns
 returns c =
@@ -30,4 +30,4 @@ returns c =
     let e = c.body_length-size.ensures in
     let l = c.if-input-at.false in
     let n = c.refusal-number.ensures ∙ ap (refused_by a.standing) c.record_at-entry.ensures in
-    next_taken a.standing a.input.now a.at c.if-kind.false c.requires (omega (arith, e, l)) c.refusal-number.result n c.record_at-entry.result c.record_at-entry.ensures c.if-number-ne0.false
+    next_taken a.standing a.input.now a.at c.if-kind.false c.requires (omega (arith, e, l)) c.refusal-number.result n c.record_at-entry.result c.record_at-entry.ensures c.if-refused.false

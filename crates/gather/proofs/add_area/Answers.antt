@@ -18,14 +18,14 @@ bounds-places-condition c =
 
 pub more_area-requires : goal.more_area-requires
 more_area-requires c =
-    (c.requires.0, c.requires.1, c.requires.2, c.requires.3, c.requires.4, omega (arith, c.start_of-start.ensures, c.place.ensures.0, c.if-place-start.true))
+    (c.requires.0, c.requires.1, c.requires.2, c.requires.3, c.requires.4, omega (arith, c.start_of-start.ensures, c.place.ensures.0, c.if-noted.true))
 
-pub returns-then-place-start : goal.returns-then-place-start
-returns-then-place-start c = more c.more_area.ensures refl refl refl
+pub returns-then-noted : goal.returns-then-noted
+returns-then-noted c = more c.more_area.ensures refl refl refl
 
 pub first_area-requires : goal.first_area-requires
 first_area-requires c =
-    (c.requires.0, c.requires.1, c.requires.2, c.requires.3, c.requires.4, omega (arith, c.start_of-start.ensures, c.place.ensures.0, c.if-place-start.false))
+    (c.requires.0, c.requires.1, c.requires.2, c.requires.3, c.requires.4, omega (arith, c.start_of-start.ensures, c.place.ensures.0, c.if-noted.false))
 
 pub returns : goal.returns
 returns c = first c.first_area.ensures

@@ -37,8 +37,8 @@ bounds-sums-i-2 c =
     read_inside g.standing g.condition g.area g.raw_conditions.now g.raw_weights.now g.thresholds.now g.places.now g.sums.now c.requires.0 c.requires.1 c.requires.2 c.requires.4 c.requires.3 c.requires.5
     c.place-at.result c.start_of.result c.place-at.ensures.0 c.start_of.ensures
 
-pub bounds-raw_weights-at : goal.bounds-raw_weights-at
-bounds-raw_weights-at c =
+pub bounds-raw_weights-to : goal.bounds-raw_weights-to
+bounds-raw_weights-to c =
     let g = c.args in
     let p = c.place-at.ensures.0 in
     omega (arith, p, at_inside g.standing g.condition g.area g.raw_conditions.now g.raw_weights.now g.thresholds.now g.places.now g.sums.now c.requires.0 c.requires.1 c.requires.2 c.requires.4 c.requires.3 c.requires.5, c.requires.0.terms, c.requires.1.weights)

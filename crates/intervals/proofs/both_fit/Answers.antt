@@ -6,8 +6,8 @@ use Rattle.intervals.proofs.both_fit.Goals as goal
 pub returns-then-weight-width : goal.returns-then-weight-width
 returns-then-weight-width c = simp (le-leb c.args.weight c.args.i.width c.if-weight-width.true)
 
-pub returns-then-next-eq0 : goal.returns-then-next-eq0
-returns-then-next-eq0 c =
+pub returns-then-none : goal.returns-then-none
+returns-then-none c =
     let g = c.args in
     simp (lt-leb g.weight g.i.width c.if-weight-width.false, le-ltb 0 g.next (omega arith))
 

@@ -12,10 +12,10 @@ offset_bounds-row_queues-row c = let a = c.args in search (rules, length-column 
 pub slice_copy_out-slot : goal.slice_copy_out-slot
 slice_copy_out-slot c = let a = c.args in omega (arith, c.requires.2.long, c.requires.3, length-column a.k a.row_queues.now)
 
-pub returns-then-slot-k-eq1 : goal.returns-then-slot-k-eq1
-returns-then-slot-k-eq1 c =
+pub returns-then-waits : goal.returns-then-waits
+returns-then-waits c =
     let a = c.args in
-    (slots_waits a.k c.requires.0 c.requires.1 a.row_queues.now a.ring a.row c.if-slot-k-eq1.true, λ other. refl)
+    (slots_waits a.k c.requires.0 c.requires.1 a.row_queues.now a.ring a.row c.if-waits.true, λ other. refl)
 
 pub put-requires : goal.put-requires
 put-requires c =
@@ -31,7 +31,7 @@ pub returns : goal.returns
 returns c =
     let a = c.args in
     let l = a.row_queues.now in
-    let new = c.if-slot-k-eq1.false in
+    let new = c.if-waits.false in
     let at = c.behind-at in
     let p = c.put in
     let q = c.put-2 in (

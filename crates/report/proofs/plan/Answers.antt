@@ -6,16 +6,16 @@ use Rattle.report.specs.Ready.{Ready}
 use Rattle.report.specs.PlanLaws.{plans_short, fresh, fresh_long}
 use Rattle.report.proofs.plan.Goals as goal
 
-pub returns-then-out-lt262144 : goal.returns-then-out-lt262144
-returns-then-out-lt262144 c =
+pub returns-then-short : goal.returns-then-short
+returns-then-short c =
     let a = c.args in
-    plans_short a.input.now a.out.now c.too_short.result (omega (arith, c.if-out-lt262144.true)) c.too_short.ensures
+    plans_short a.input.now a.out.now c.too_short.result (omega (arith, c.if-short.true)) c.too_short.ensures
 
 pub plan_in-requires : goal.plan_in-requires
 plan_in-requires c =
     let input = c.args.input.now in
     let r : Ready input c.args.out.now fresh =
-    record { bytes = bytes_by input (λ i. omega (arith, c.shared_slice_known-1.given i)); room = omega (arith, c.if-out-lt262144.false); long = fresh_long } in
+    record { bytes = bytes_by input (λ i. omega (arith, c.shared_slice_known-1.given i)); room = omega (arith, c.if-short.false); long = fresh_long } in
     r
 
 pub shape_of-out : goal.shape_of-out

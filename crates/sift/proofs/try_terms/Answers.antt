@@ -18,11 +18,11 @@ threshold_residual-forced-requires c =
     let m = w.3 in
     let t = w.0 in record { shape = record { same = t.same; below = t.below; in_sure = omega (arith, m.sures); in_never = omega (arith, m.nevers) }; weights_in_bounds = (omega (arith, w.1, w.4.room), t.light, m) }
 
-pub returns-then-number-ne0 : goal.returns-then-number-ne0
-returns-then-number-ne0 c = (
+pub returns-then-changed : goal.returns-then-changed
+returns-then-changed c = (
   λ v.
       tried-not ((terms c.args.conditions.now c.args.weights.now)) c.args.state (with_marks v ((let a = c.args in marks a.sure.now a.never.now (queue a.node_queue.now a.ring)))) c.args.gcds.now c.args.visits ((let r = c.threshold_residual-forced in residual (marks r.new.sure r.new.never (queue r.new.node_queue r.result.ring)) r.result.step r.new.gcds)) c.threshold_residual-forced.ensures
-      c.number-number.result c.number-number.ensures c.if-number-ne0.true,
+      c.number-number.result c.number-number.ensures c.if-changed.true,
   refl,
 )
 
@@ -37,21 +37,21 @@ returns c =
     let f = c.threshold_possible_sums-found in (
       λ v.
           tried-search ((terms c.args.conditions.now c.args.weights.now)) c.args.state (with_marks v ((let a = c.args in marks a.sure.now a.never.now (queue a.node_queue.now a.ring)))) c.args.gcds.now c.args.visits ((let r = c.threshold_residual-forced in residual (marks r.new.sure r.new.never (queue r.new.node_queue r.result.ring)) r.result.step r.new.gcds)) c.threshold_residual-forced.ensures
-          c.number-number.result c.number-number.ensures c.if-number-ne0.false f.result f.ensures.found c.step-last.result c.step-last.ensures c.visits-used.result c.visits-used.ensures,
+          c.number-number.result c.number-number.ensures c.if-changed.false f.result f.ensures.found c.step-last.result c.step-last.ensures c.visits-used.result c.visits-used.ensures,
       f.ensures.kept,
     )
 
-pub shape_of-sure-then-number-ne0 : goal.shape_of-sure-then-number-ne0
-shape_of-sure-then-number-ne0 c = c.threshold_residual-forced.auto.sure
+pub shape_of-sure-then-changed : goal.shape_of-sure-then-changed
+shape_of-sure-then-changed c = c.threshold_residual-forced.auto.sure
 
-pub shape_of-never-then-number-ne0 : goal.shape_of-never-then-number-ne0
-shape_of-never-then-number-ne0 c = c.threshold_residual-forced.auto.never
+pub shape_of-never-then-changed : goal.shape_of-never-then-changed
+shape_of-never-then-changed c = c.threshold_residual-forced.auto.never
 
-pub shape_of-node_queue-then-number-ne0 : goal.shape_of-node_queue-then-number-ne0
-shape_of-node_queue-then-number-ne0 c = c.threshold_residual-forced.auto.node_queue
+pub shape_of-node_queue-then-changed : goal.shape_of-node_queue-then-changed
+shape_of-node_queue-then-changed c = c.threshold_residual-forced.auto.node_queue
 
-pub shape_of-gcds-then-number-ne0 : goal.shape_of-gcds-then-number-ne0
-shape_of-gcds-then-number-ne0 c = c.threshold_residual-forced.auto.gcds
+pub shape_of-gcds-then-changed : goal.shape_of-gcds-then-changed
+shape_of-gcds-then-changed c = c.threshold_residual-forced.auto.gcds
 
 pub shape_of-sure : goal.shape_of-sure
 shape_of-sure c = c.threshold_residual-forced.auto.sure

@@ -13,13 +13,13 @@ none : first_state 0 0 ≡ no_state
 unfolding first_state no_state
 none = refl
 
-pub returns-then-row-lt1024 : goal.returns-then-row-lt1024
-returns-then-row-lt1024 c =
+pub returns-then-listed : goal.returns-then-listed
+returns-then-listed c =
     let a = c.args in
-    c.load.ensures ∙ sym (get_or-take max_thresholds (states_of a.figures.now a.cursors.now) a.row no_state (omega (arith, c.if-row-lt1024.true)))
+    c.load.ensures ∙ sym (get_or-take max_thresholds (states_of a.figures.now a.cursors.now) a.row no_state (omega (arith, c.if-listed.true)))
 
 pub returns : goal.returns
 returns c =
     let a = c.args in
     let l = states_of a.figures.now a.cursors.now in
-    c.first.ensures ∙ none ∙ sym (get_or-eq_default (take max_thresholds l) no_state (omega (arith, length-take max_thresholds l, c.if-row-lt1024.false)))
+    c.first.ensures ∙ none ∙ sym (get_or-eq_default (take max_thresholds l) no_state (omega (arith, length-take max_thresholds l, c.if-listed.false)))
