@@ -31,10 +31,12 @@ fn first_number(
     if turn {
         return 3;
     }
-    if contradicted {
+    let stops = contradicted;
+    if stops {
         return 9;
     }
-    if node {
+    let known = node;
+    if known {
         return 5;
     }
     if rising {

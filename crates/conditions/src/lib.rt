@@ -135,7 +135,9 @@ pub fn threshold_condition(
             value,
         );
         let step = turn.step;
-        if step.contradicts() {
+        let contradicts = step.contradicts();
+        let stops = contradicts;
+        if stops {
             return turn;
         }
         let before = so_far.step;

@@ -5,32 +5,32 @@ use Rattle.checks.proofs.first_number.Goals as goal
 pub returns-then-turn : goal.returns-then-turn
 returns-then-turn c = first_here _ 3 _ c.if-turn.true
 
-pub returns-then-contradicted : goal.returns-then-contradicted
-returns-then-contradicted c = first_next_lem _ 3 _ _ c.if-turn.false (first_here _ 9 _ c.if-contradicted.true)
+pub returns-then-stops : goal.returns-then-stops
+returns-then-stops c = first_next_lem _ 3 _ _ c.if-turn.false (first_here _ 9 _ c.if-stops.true)
 
-pub returns-then-node : goal.returns-then-node
-returns-then-node c = first_next_lem _ 3 _ _ c.if-turn.false (first_next_lem _ 9 _ _ c.if-contradicted.false (first_here _ 5 _ c.if-node.true))
+pub returns-then-known : goal.returns-then-known
+returns-then-known c = first_next_lem _ 3 _ _ c.if-turn.false (first_next_lem _ 9 _ _ c.if-stops.false (first_here _ 5 _ c.if-known.true))
 
 pub returns-then-rising : goal.returns-then-rising
 returns-then-rising c =
     first_next_lem _ 3 _ _ c.if-turn.false
-    (first_next_lem _ 9 _ _ c.if-contradicted.false
-    (first_next_lem _ 5 _ _ c.if-node.false
+    (first_next_lem _ 9 _ _ c.if-stops.false
+    (first_next_lem _ 5 _ _ c.if-known.false
     (first_here _ 6 _ c.if-rising.true)))
 
 pub returns-then-bound : goal.returns-then-bound
 returns-then-bound c =
     first_next_lem _ 3 _ _ c.if-turn.false
-    (first_next_lem _ 9 _ _ c.if-contradicted.false
-    (first_next_lem _ 5 _ _ c.if-node.false
+    (first_next_lem _ 9 _ _ c.if-stops.false
+    (first_next_lem _ 5 _ _ c.if-known.false
     (first_next_lem _ 6 _ _ c.if-rising.false
     (first_here _ 7 _ c.if-bound.true))))
 
 pub returns-then-value : goal.returns-then-value
 returns-then-value c =
     first_next_lem _ 3 _ _ c.if-turn.false
-    (first_next_lem _ 9 _ _ c.if-contradicted.false
-    (first_next_lem _ 5 _ _ c.if-node.false
+    (first_next_lem _ 9 _ _ c.if-stops.false
+    (first_next_lem _ 5 _ _ c.if-known.false
     (first_next_lem _ 6 _ _ c.if-rising.false
     (first_next_lem _ 7 _ _ c.if-bound.false
     (first_here _ 8 _ c.if-value.true)))))
@@ -38,8 +38,8 @@ returns-then-value c =
 pub returns-then-count : goal.returns-then-count
 returns-then-count c =
     first_next_lem _ 3 _ _ c.if-turn.false
-    (first_next_lem _ 9 _ _ c.if-contradicted.false
-    (first_next_lem _ 5 _ _ c.if-node.false
+    (first_next_lem _ 9 _ _ c.if-stops.false
+    (first_next_lem _ 5 _ _ c.if-known.false
     (first_next_lem _ 6 _ _ c.if-rising.false
     (first_next_lem _ 7 _ _ c.if-bound.false
     (first_next_lem _ 8 _ _ c.if-value.false
@@ -48,8 +48,8 @@ returns-then-count c =
 pub returns : goal.returns
 returns c =
     first_next_lem _ 3 _ _ c.if-turn.false
-    (first_next_lem _ 9 _ _ c.if-contradicted.false
-    (first_next_lem _ 5 _ _ c.if-node.false
+    (first_next_lem _ 9 _ _ c.if-stops.false
+    (first_next_lem _ 5 _ _ c.if-known.false
     (first_next_lem _ 6 _ _ c.if-rising.false
     (first_next_lem _ 7 _ _ c.if-bound.false
     (first_next_lem _ 8 _ _ c.if-value.false

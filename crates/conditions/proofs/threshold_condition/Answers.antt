@@ -61,44 +61,44 @@ drain_edge-turn-requires c =
     let row = l.own.rows w.at edge_row.result l.above k edge_row.ensures in
     let light = l.own.light w.at edge-weight.result l.above k edge-weight.ensures in record { shaped = (c.requires.shaped.0, row, light); ready_live = draining_ready h a.edges.now bit.result edges-start.result edges_end.result v w.at w.so_far.step u l k }
 
-pub shape_of-figures-then-contradicts : goal.shape_of-figures-then-contradicts
-shape_of-figures-then-contradicts c =
+pub shape_of-figures-then-stops : goal.shape_of-figures-then-stops
+shape_of-figures-then-stops c =
     let drain-edge = c.drain_edge-turn in
     let w = c.loop-at in
     ◌∙◌ {b = length w.figures} drain-edge.auto.figures w.invariant.1.figures
 
-pub shape_of-cursors-then-contradicts : goal.shape_of-cursors-then-contradicts
-shape_of-cursors-then-contradicts c =
+pub shape_of-cursors-then-stops : goal.shape_of-cursors-then-stops
+shape_of-cursors-then-stops c =
     let drain-edge = c.drain_edge-turn in
     let w = c.loop-at in
     ◌∙◌ {b = length w.cursors} drain-edge.auto.cursors w.invariant.1.cursors
 
-pub shape_of-sure-then-contradicts : goal.shape_of-sure-then-contradicts
-shape_of-sure-then-contradicts c =
+pub shape_of-sure-then-stops : goal.shape_of-sure-then-stops
+shape_of-sure-then-stops c =
     let drain-edge = c.drain_edge-turn in
     let w = c.loop-at in
     ◌∙◌ {b = length w.sure} drain-edge.auto.sure w.invariant.1.sure
 
-pub shape_of-never-then-contradicts : goal.shape_of-never-then-contradicts
-shape_of-never-then-contradicts c =
+pub shape_of-never-then-stops : goal.shape_of-never-then-stops
+shape_of-never-then-stops c =
     let drain-edge = c.drain_edge-turn in
     let w = c.loop-at in
     ◌∙◌ {b = length w.never} drain-edge.auto.never w.invariant.1.never
 
-pub shape_of-node_queue-then-contradicts : goal.shape_of-node_queue-then-contradicts
-shape_of-node_queue-then-contradicts c =
+pub shape_of-node_queue-then-stops : goal.shape_of-node_queue-then-stops
+shape_of-node_queue-then-stops c =
     let drain-edge = c.drain_edge-turn in
     let w = c.loop-at in
     ◌∙◌ {b = length w.node_queue} drain-edge.auto.node_queue w.invariant.1.node_queue
 
-pub shape_of-row_queues-then-contradicts : goal.shape_of-row_queues-then-contradicts
-shape_of-row_queues-then-contradicts c =
+pub shape_of-row_queues-then-stops : goal.shape_of-row_queues-then-stops
+shape_of-row_queues-then-stops c =
     let drain-edge = c.drain_edge-turn in
     let w = c.loop-at in
     ◌∙◌ {b = length w.row_queues} drain-edge.auto.row_queues w.invariant.1.row_queues
 
-pub returns-then-contradicts : goal.returns-then-contradicts
-returns-then-contradicts c =
+pub returns-then-stops : goal.returns-then-stops
+returns-then-stops c =
     let drain-edge = c.drain_edge-turn in
     let edge-weight = c.edge_weight-weight in
     let edge_row = c.edge_row-row in
@@ -114,7 +114,7 @@ returns-then-contradicts c =
     let o = live_of drain-edge.new.figures drain-edge.new.cursors drain-edge.new.sure drain-edge.new.never drain-edge.new.node_queue drain-edge.new.row_queues drain-edge.result.rings in
     let stop = draining_stop h a.edges.now bit.result edges-start.result edges_end.result v w.at w.so_far.step u w.invariant.0
     c.requires.shaped.0 test.true edge_row.result edge-weight.result edge_row.ensures edge-weight.ensures
-    o drain-edge.result.step drain-edge.ensures.0 (sym c.contradicts.ensures ∙ c.if-contradicts.true) in (
+    o drain-edge.result.step drain-edge.ensures.0 (sym c.contradicts-contradicts.ensures ∙ c.if-stops.true) in (
       λ x z y. stop x z
           ∙ condition_held x a.nodes.now a.edges.now y a.node c.requires.shaped.2 edges-start.result edges_end.result edges-start.ensures.0 edges_end.ensures.0 v bit.result bit.ensures,
       λ t. drain-edge.ensures.1 (w.invariant.2 t),
@@ -132,8 +132,8 @@ loop-at-smaller c = omega (arith, c.loop-at-test.true)
 pub loop-at-preserved : goal.loop-at-preserved
 loop-at-preserved c =
     let join = c.join in
-    let if1 = c.if-contradicts in
-    let contradicts = c.contradicts in
+    let if1 = c.if-stops in
+    let contradicts = c.contradicts-contradicts in
     let drain-edge = c.drain_edge-turn in
     let edge-weight = c.edge_weight-weight in
     let edge_row = c.edge_row-row in
