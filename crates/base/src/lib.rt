@@ -8,8 +8,5 @@ ghost use Rattle.base.specs.Signed.{natural as naturalOf};
 pub fn natural(figure: i64) -> u64
     ensures { result ≡ naturalOf figure }
 {
-    if figure < 0 {
-        return 0;
-    }
-    figure as u64
+    u64::try_from(figure).unwrap_or(0)
 }

@@ -1,5 +1,5 @@
 -- The loop of `threshold_prefixes` over a row's neighbours: what holds at each place. Assumes nothing.
-use Rattle.std.specs.Prelude.{ℕ, ◌+◌, ◌-◌, ◌<◌, ◌≤◌, ◌≡◌, refl, Bool, true, false, List, ◌∷◌, length, get_or}
+use Rattle.std.specs.Prelude.{ℕ, ◌+◌, ◌-◌, ◌<◌, ◌≤◌, ◌≡◌, refl, Bool, true, false, List, ◌∷◌, length, get_or, ℤ}
 use Rattle.std.proofs.Common.{arith, sym, ◌∙◌}
 use Rattle.std.proofs.Math.Path.{ap}
 use Rattle.std.proofs.Math.Bool.{cond}
@@ -18,15 +18,14 @@ use Rattle.rows.specs.Rows.{Row, no_row}
 use Rattle.base.specs.Parts.{stretch}
 use Rattle.rows.specs.ListsLaws.{stretch-length}
 use Rattle.links.specs.Links.{neighbours}
-use Rattle.tightening.specs.declared.Tightened.{Tightened}
-use Rattle.tightening.specs.Told.{moved_state}
+use Rattle.tightening.specs.Told.{Tightened, moved_state, guard_state}
 use Rattle.memory.specs.Ranges.{figure_limit}
 use Rattle.row_moves.specs.Between.{Index, Live, Did, did, state_at, with_state, with_dirty, run_with, run_row, term_count, prefixes_from, threshold_prefixes}
 use Rattle.row_moves.specs.Handing.{after, told_step, handed_on}
 use Rattle.row_moves.specs.Held.{start_by, end_by, held_row, Shaped, LinksShaped, Holds, HoldsLinks}
 use Rattle.row_moves.specs.HeldLaws.{stretch_cons, stretch-none, run_held}
 use Rattle.row_moves.specs.Ready.{Fit, ReadyLive, Runnable}
-use Rattle.row_moves.specs.ReadyLaws.{ready_set, ready_run, ready_by, fit_prefix}
+use Rattle.row_moves.specs.ReadyLaws.{ready_set, ready_run, ready_by, fit_prefix, fit_guard}
 use Rattle.row_moves.specs.LoopLaws.{walk_next, walk_stop, walk_end, prefix_walk}
 
 -- ---- one neighbour
@@ -89,6 +88,15 @@ count_held x h z y r k =
     ap (λ (ts : List Term). length ts) (z.terms r k)
     ∙ length-terms (stretch a e h.row-conditions) (stretch a e h.row-weights)
     ∙ omega (arith, stretch-length a e h.row-conditions (y.terms.ends r k), stretch-length a e h.row-weights (omega (arith, y.terms.ends r k, y.weighed)))
+
+-- What a row takes of a source, of a neighbour's bounds or of a guard's, fits it.
+pub fit_taken : (h : HeldRows) (n r : ℕ) (source s t : State) (many own : ℕ) (u : Tightened) → mag source.lower < figure_limit → mag (limit source.upper) < figure_limit
+    → s ≡ t → Fit h n r t → u ≡ moved_state source s many own → Fit h n r u.state
+fit_taken h n r source s t many own u lo up e f g = rw (g, e) (fit_prefix h n r source t many own lo up f)
+
+pub fit_told : (h : HeldRows) (n r : ℕ) (s t : State) (value : Bool) (b : ℤ) (u : Tightened) → mag b < figure_limit → s ≡ t → Fit h n r t → u ≡ guard_state s value b
+    → Fit h n r u.state
+fit_told h n r s t value b u l e f g = rw (g, e) (fit_guard h n r t value b l f)
 
 -- ---- the loop
 

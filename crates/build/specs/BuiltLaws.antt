@@ -1,5 +1,5 @@
 -- What `prepare` leaves of a gathered job, then the links: every word as its definition gives it.
-use Rattle.std.specs.Prelude.{ℕ, zero, suc, ◌+◌, ◌-◌, ◌≤◌, ◌≡◌, List, [], ◌∷◌, ◌++◌, length, take, replicate, ℤ}
+use Rattle.std.specs.Prelude.{ℕ, zero, suc, ◌≤◌, ◌≡◌, List, [], ◌∷◌, ◌++◌, length, take, replicate, ℤ}
 use Rattle.std.proofs.Common.{not-suc-le-zero, arith, sym, ap₂, ◌∙◌, subst, append-nil, length-take-le, take_at, drop_at}
 use Rattle.std.proofs.Math.Path.{ap}
 use Rattle.std.proofs.Math.ListN.{drop}

@@ -2,3 +2,4 @@ pub mod Built
 pub mod BuiltLaws
 pub mod SoundLaws
 pub mod ClearedLaws
+pub mod Lent

@@ -3,10 +3,37 @@
 
 ghost use Rattle.std.specs.Prelude.{◌≡◌};
 ghost use Rattle.memory.specs.Buffers.{raw_lists, raw, held_rows, built, kept, work};
-ghost use Rattle.files.specs.Contents.{out, whole};
+ghost use Rattle.checks.specs.Refusal.{number_if};
+ghost use Rattle.files.specs.Contents.{out, whole, nothing};
 
+use checks::Refusal;
 use files::Given;
 use state::Step;
+
+// Refusal 10: nothing is read, and nothing touched.
+pub fn too_short() -> Given
+    ensures { result ≡ nothing }
+{
+    Given {
+        refused: 10,
+        at: 0,
+        sealed: false,
+        nodes: 0,
+        rows: 0,
+        last: Step::Unchanged,
+        answered: 0,
+    }
+}
+
+// The number of a refusal, 0 for none.
+fn number(refused: Option<Refusal>) -> u8
+    ensures { result ≡ number_if refused }
+{
+    match refused {
+        Some(refusal) => u8::from(refusal),
+        None => 0,
+    }
+}
 
 // THE CALL: the three phases over every lent buffer; if one is too short, or the input too long, nothing is touched.
 pub fn run(
@@ -64,15 +91,7 @@ pub fn run(
         answers.len(),
         input.len(),
     ) {
-        return Given {
-            refused: 10,
-            at: 0,
-            sealed: false,
-            nodes: 0,
-            rows: 0,
-            last: Step::Unchanged,
-            answered: 0,
-        };
+        return too_short();
     }
     let job = reading::read(input, raw_conditions, raw_weights, thresholds, bounds);
     let count = build::build(
@@ -115,8 +134,9 @@ pub fn run(
     );
     let standing = end.standing;
     let last = end.last;
+    let refused = number(end.refused);
     Given {
-        refused: end.refused,
+        refused,
         at: end.at,
         sealed: standing.sealed,
         nodes: standing.nodes,

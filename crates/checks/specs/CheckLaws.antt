@@ -1,18 +1,25 @@
 -- Laws of the first check that applies.
-use Rattle.std.specs.Prelude.{ℕ, zero, suc, ◌+◌, ◌-◌, ◌<◌, ◌≤◌, length, get_or, drop, eqb, leb, ltb, ℤ, ◌≡◌, refl, Bool, cond, not, ◌&&◌, List, [], ◌∷◌, ◌⊎◌}
+use Rattle.std.specs.Prelude.{ℕ, zero, suc, ◌+◌, ◌-◌, ◌<◌, ◌≤◌, length, get_or, drop, eqb, leb, ltb, ℤ, ◌≡◌, refl, Bool, cond, not, ◌&&◌, ◌||◌, List, [], ◌∷◌, ◌⊎◌, Option, None, Some, Result, Ok, Err}
+use Rattle.std.specs.Option.{is_some}
+use Rattle.std.specs.Result.{is_ok}
 use Rattle.std.proofs.Math.ListN.{length-take, length-drop}
 use Rattle.std.proofs.Common.{arith, ◌∙◌, inl, inr, ⊎_elim, eqb-true, ltb-false, lt-ltb, le-ltb, eq-eqb, ne_eqb, le-leb}
 use Rattle.std.proofs.Math.Path.{sym, ap}
 use Rattle.std.proofs.Math.Bool.{true, false}
 use Rattle.std.proofs.lemmas.Bool.{not-false}
-use Rattle.base.specs.TestLaws.{unequal, and-false, or-false, contrary}
+use Rattle.base.specs.TestLaws.{unequal, and-false, or-false, or-true, contrary}
 use Rattle.memory.specs.Limits.{max_thresholds}
 use Rattle.records.specs.declared.Record.{Record}
 use Rattle.records.specs.declared.Record.TheVariants.{Opens, Adds, Areas, Seal, Unknown, Header, Mark, Settle, Sift}
-use Rattle.checks.specs.declared.Next.TheVariants.{Refused, Taken}
 use Rattle.records.specs.declared.Standing.{Standing}
 use Rattle.records.specs.Record.{front, behind, Kind, kind, kind_of, body_length, body_of, record_at}
-use Rattle.checks.specs.Next.{taking, next_at, entry_condition, entry_figure, EntryNext}
+use Rattle.checks.specs.declared.Refusal.{Refusal}
+use Rattle.checks.specs.declared.Refusal.TheVariants.{CutOff, UnknownKind, OutOfTurn, TooMany, NoSuchNode, NotRising, BoundOutside, NoValue, Contradicted, TooLong}
+use Rattle.checks.specs.Refusal.{number_of, number_if, number_in}
+use Rattle.checks.specs.Next.{Refused, Taken, taking, next_at, entry_condition, entry_figure, EntryNext}
+use Rattle.records.specs.declared.Kind as Kinds
+use Rattle.records.specs.declared.Kind.TheVariants as Named
+use Rattle.records.specs.Kinds.{byte_of}
 use Rattle.records.specs.At.{record_in}
 use Rattle.records.specs.RecordLaws.{two_fields}
 use Rattle.records.specs.Facts.{Facts, building, within, ofTerms, action, facts}
@@ -27,6 +34,31 @@ pub first_next_lem : (p : Bool) (n x : ℕ) (cs : List Check) → p ≡ false �
 unfolding first
 first_next_lem true n x cs e h = absurd (unequal cc)
 first_next_lem false n x cs e h = h
+
+-- Nothing is refused where all went well.
+pub none_in : {X : Type 0} (r : Result X Refusal) → is_ok r ≡ true → number_in r ≡ 0
+none_in (Ok x) e = refl
+none_in (Err q) e = contrary (sym e)
+
+pub number_some : (r : Option Refusal) → is_some r ≡ true → number_if r ≡ 0 → ⊥
+number_some None e z = contrary (sym e)
+number_some (Some q) e z = above q z
+  where
+    above : (q : Refusal) → number_of q ≡ 0 → ⊥
+    above CutOff e = omega arith
+    above UnknownKind e = omega arith
+    above OutOfTurn e = omega arith
+    above TooMany e = omega arith
+    above NoSuchNode e = omega arith
+    above NotRising e = omega arith
+    above BoundOutside e = omega arith
+    above NoValue e = omega arith
+    above Contradicted e = omega arith
+    above TooLong e = omega arith
+
+pub number_none : (r : Option Refusal) → is_some r ≡ false → number_if r ≡ 0
+number_none None e = refl
+number_none (Some q) e = contrary e
 
 pub first-none : 0 ≡ first []
 unfolding first
@@ -123,10 +155,29 @@ module _ (s : Standing) (bytes : List ℕ) (at : ℕ) where
       pub next_taken : (r : Record) → r ≡ record_in bytes at → x ≡ 0 → Taken r ≡ next_at s bytes at
       next_taken r e z = ap Taken e ∙ sym (checked ∙ ap (λ (t : Bool). cond t (Taken (record_in bytes at)) (Refused x)) (eq-eqb x 0 z))
 
+-- A byte that names a kind is a known one.
+pub named_known : {b : ℕ} (k : Kinds.Kind) → b ≡ byte_of k → unknown_kind b ≡ false
+named_known k e = ap unknown_kind e ∙ known k
+  where
+    known : (k : Kinds.Kind) → unknown_kind (byte_of k) ≡ false
+    known Named.Header = refl
+    known Named.Opens = refl
+    known Named.Adds = refl
+    known Named.Seal = refl
+    known Named.Mark = refl
+    known Named.Settle = refl
+    known Named.Sift = refl
+    known Named.Areas = refl
+
 pub either_kind : (k : ℕ) → (not (eqb k 3) && not (eqb k 8)) ≡ false → (k ≡ 3) ⊎ (k ≡ 8)
 either_kind k e =
     ⊎_elim (λ (q : not (eqb k 3) ≡ false). inl (eqb-true k 3 (not-false (eqb k 3) q))) (λ (q : not (eqb k 8) ≡ false). inr (eqb-true k 8 (not-false (eqb k 8) q)))
     (and-false (not (eqb k 3)) (not (eqb k 8)) e)
+
+-- A byte that names a term or an area.
+pub entry_named : {b : ℕ} (k : Kinds.Kind) → b ≡ byte_of k → (eqb (byte_of k) 3 || eqb (byte_of k) 8) ≡ true → (b ≡ 3) ⊎ (b ≡ 8)
+entry_named k e t = ⊎_elim (λ (q : eqb (byte_of k) 3 ≡ true). inl (e ∙ eqb-true (byte_of k) 3 q)) (λ (q : eqb (byte_of k) 8 ≡ true). inr (e ∙ eqb-true (byte_of k) 8 q))
+    (or-true (eqb (byte_of k) 3) (eqb (byte_of k) 8) t)
 
 -- A term or an area, whole, with no number that refuses it. Both are checked alike.
 pub entry_next : (s : Standing) (bytes : List ℕ) (at : ℕ) → (get_or bytes at 0 ≡ 3) ⊎ (get_or bytes at 0 ≡ 8) → at < length bytes → 6 < length bytes - at

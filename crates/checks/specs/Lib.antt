@@ -1,3 +1,4 @@
+pub mod Refusal
 pub mod Checks
 pub mod CheckLaws
 pub mod Next

@@ -1,11 +1,11 @@
 -- The record at an offset of the input, as the code takes it.
-use Rattle.std.specs.Prelude.{ℕ, ◌+◌, ◌≤◌, ◌≡◌, List, length, get_or, take, drop, Bool, true, false, cond, eqb, ◌⊎◌}
+use Rattle.std.specs.Prelude.{ℕ, ◌+◌, ◌≤◌, ◌≡◌, List, length, get_or, take, drop, Bool, true, false, cond, eqb, ◌⊎◌, Result, Ok, Err}
 use Rattle.records.specs.declared.Record.{Record}
 use Rattle.records.specs.declared.Record.TheVariants.{Adds, Areas}
 use Rattle.records.specs.Record.{little_endian}
 use Rattle.records.specs.Facts.{Action, begins, changes, closes, decides, settles, sifts, idles}
-use Rattle.checks.specs.declared.Next.{Next}
-use Rattle.checks.specs.declared.Next.TheVariants.{Refused, Taken}
+use Rattle.checks.specs.declared.Refusal.{Refusal}
+use Rattle.checks.specs.Refusal.{number_of}
 use Rattle.records.specs.declared.Standing.{Standing}
 use Rattle.checks.specs.Checks.{refused_at}
 use Rattle.records.specs.At.{record_in}
@@ -21,6 +21,14 @@ closing sifts = false
 closing (idles x) = false
 
 -- The record at an offset, or the number that refuses it.
+pub data Next : Type 0 where
+  Refused : ℕ → Next
+  Taken : Record → Next
+
+abbrev pub next_of : Result Record Refusal → Next
+next_of (Ok r) = Taken r
+next_of (Err e) = Refused (number_of e)
+
 abbrev pub taking : ℕ → Record → Next
 taking n r = cond (eqb n 0) (Taken r) (Refused n)
 

@@ -1,11 +1,12 @@
 -- The loop of `threshold_condition` over a node's edges: what holds at each place. Assumes nothing.
-use Rattle.std.specs.Prelude.{ℕ, ◌+◌, ◌-◌, ◌*◌, ◌<◌, ◌≤◌, ◌≡◌, refl, Bool, true, false, List, [], ◌∷◌, length, get_or}
-use Rattle.std.proofs.Common.{arith, sym, ap, ◌∙◌}
+use Rattle.std.specs.Prelude.{ℕ, ◌+◌, ◌-◌, ◌*◌, ◌<◌, ◌≤◌, ◌≡◌, refl, Bool, true, false, List, [], ◌∷◌, length, get_or, set, ℤ}
+use Rattle.std.proofs.Common.{arith, sym, ap, subst, ◌∙◌}
 use Rattle.memory.specs.Buffers.{HeldRows}
 use Rattle.state.specs.declared.Step.{Step}
 use Rattle.state.specs.declared.Step.TheVariants.{Unchanged}
 use Rattle.state.specs.Step.{joined, contradicts}
-use Rattle.state.specs.State.{drained}
+use Rattle.state.specs.declared.State.{State}
+use Rattle.state.specs.State.{no_state, drained}
 use Rattle.words.specs.Mask.{bit}
 use Rattle.rows.specs.Rows.{Edge, edges_of}
 use Rattle.base.specs.Parts.{stretch}
@@ -17,7 +18,16 @@ use Rattle.row_moves.specs.Held.{start_by, end_by, held_row, edge_in, edges_in, 
 use Rattle.row_moves.specs.HeldLaws.{stretch_cons, stretch-none, run_held, edges_back}
 use Rattle.row_moves.specs.Ready.{ReadyLive}
 use Rattle.row_moves.specs.ReadyLaws.{ready_more, ready_set, ready_run, ready_by, fit_drained}
+use Rattle.row_moves.specs.Numbers.{states_of}
+use Rattle.row_moves.specs.Stored.{Stored, sum_words, with_sums}
+use Rattle.row_moves.specs.StoredLaws.{stored_sums, sums_drained}
 use Rattle.row_moves.specs.LoopLaws.{walk_next, walk_stop, walk_end, condition_walk}
+
+-- The sums of a drained state, stored, are its state stored.
+pub drained_stored : (fs fs' : List (List ℤ)) (cs : List (List ℕ)) (r w : ℕ) (value : Bool) (s n : State) → r < length (states_of fs cs) → n ≡ drained value w s
+    → fs' ≡ set fs r (sum_words (get_or fs r []) n.known n.possible) → s ≡ get_or (states_of fs cs) r no_state → Stored fs cs fs' cs r (drained value w s)
+drained_stored fs fs' cs r w value s n k e words at =
+    subst (λ (y : State). Stored fs cs fs' cs r y) (ap (λ (y : State). with_sums y n.known n.possible) (sym at) ∙ sums_drained value w s n e) (stored_sums fs cs r k fs' n.known n.possible words)
 
 -- The edges from one place to another: each names a row, and is light.
 pub record Edges (h : HeldRows) (edges : List (List ℕ)) (from end : ℕ) : Type 0 where

@@ -1,3 +1,4 @@
+pub mod Stop
 pub mod File
 pub mod Listing
 pub mod Contents

@@ -1,12 +1,10 @@
 -- What the program prints, as bytes.
-use Rattle.std.specs.Prelude.{ℕ, zero, suc, ◌+◌, true, false, cond, List, [], ◌∷◌, ◌++◌, get_or, eqb}
+use Rattle.std.specs.Prelude.{ℕ, zero, suc, ◌+◌, true, false, cond, List, [], ◌∷◌, ◌++◌, get_or, eqb, ℤ, Option, None, Some}
 use Prim.Native.Char.{code}
 use Prim.Native.String.{String}
 use Rattle.state.specs.declared.Step.{Step}
 use Rattle.state.specs.declared.Step.TheVariants.{Unchanged, Changed, Contradiction}
 use Rattle.state.specs.declared.State.{State}
-use Rattle.state.specs.declared.Upper.{Upper}
-use Rattle.state.specs.declared.Upper.TheVariants.{Open, Under}
 use Rattle.state.specs.State.{no_state}
 use Rattle.words.specs.Mask.{bit, count}
 use Rattle.rows.specs.Rows.{Row, rows_of}
@@ -24,9 +22,9 @@ step_word Changed = text "changed"
 step_word Contradiction = text "contradiction"
 
 -- `-` for no upper limit.
-abbrev pub upper_text : Upper → List ℕ
-upper_text Open = 45 ∷ []
-upper_text (Under u) = decimal_z u
+abbrev pub upper_text : Option ℤ → List ℕ
+upper_text None = 45 ∷ []
+upper_text (Some u) = decimal_z u
 
 abbrev pub answer_line : Answer → List ℕ
 answer_line (settled k) = text "settle " ++ step_word k ++ text "\n"

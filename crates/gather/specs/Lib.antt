@@ -1,3 +1,4 @@
 pub mod JoinLaws
 pub mod RawLaws
 pub mod TakenLaws
+pub mod Lent

@@ -6,40 +6,27 @@ ghost use Rattle.rows.specs.Guards.{node_at};
 ghost use Rattle.memory.specs.Ranges.{raw_limit};
 ghost use Rattle.records.specs.declared.Record.TheVariants.{Opens, Adds, Areas};
 ghost use Rattle.checks.specs.Checks.{refused_by};
-ghost use Rattle.job.specs.Gathered.{Listed, Bounded, Termed, Opened, Added, open_start, Joinable, FirstArea, MoreArea, AreaTaken};
+ghost use Rattle.job.specs.Gathered.{Listed, Bounded};
+ghost use Rattle.gather.specs.Lent.{TermedIn, JoinableIn, start_in, OpenedIn, AddedIn, FirstIn, MoreIn, AreaIn, SameRaw, SameNotes};
 
 use numeric::weight_of_area;
 use records::Standing;
 use rows::{place, start_of};
 
-// A threshold behind the others; its checks are passed.
-pub fn open_threshold(
-    standing: Standing,
-    node: u16,
-    bound: i64,
-    thresholds: &mut [[u16; 2]],
-    bounds: &mut [i64],
-) -> Standing
-    requires { Listed standing thresholds.old × Bounded standing bounds.old × (refused_by standing (Opens node bound) ≡ 0) }
-    ensures { Opened standing node bound thresholds.old bounds.old result thresholds.new bounds.new }
-{
-    let at = standing.thresholds;
-    let end = standing.raw_terms;
-    let entry = [node, end as u16];
-    thresholds[at] = entry;
-    bounds[at] = bound;
-    Standing {
-        started: standing.started,
-        sealed: standing.sealed,
-        contradicted: standing.contradicted,
-        nodes: standing.nodes,
-        thresholds: at + 1,
-        last_node: node as usize,
-        last_terms: 0,
-        terms: standing.terms,
-        raw_terms: end,
-        answers: standing.answers,
-    }
+// The raw job, as its buffers are lent: the conditions and weights of all terms, the thresholds' nodes and where their terms end, their bounds.
+#[derive(Drop)]
+pub struct Raw<'a> {
+    pub conditions: &'a mut [u16],
+    pub weights: &'a mut [u64],
+    pub thresholds: &'a mut [[u16; 2]],
+    pub bounds: &'a mut [i64],
+}
+
+// What is noted of the areas in the open threshold: behind which term those of a condition went, and what they add up to.
+#[derive(Drop)]
+pub struct Notes<'a> {
+    pub places: &'a mut [u16],
+    pub sums: &'a mut [u64],
 }
 
 fn set_end(thresholds: &mut [[u16; 2]], t: usize, end: usize)
@@ -51,144 +38,124 @@ fn set_end(thresholds: &mut [[u16; 2]], t: usize, end: usize)
     thresholds[t] = entry;
 }
 
-// A term of the open threshold; its checks are passed.
-pub fn add_term(
-    standing: Standing,
-    condition: u16,
-    weight: u64,
-    raw_conditions: &mut [u16],
-    raw_weights: &mut [u64],
-    thresholds: &mut [[u16; 2]],
-) -> Standing
-    requires { Listed standing thresholds.old × Termed standing raw_conditions.old raw_weights.old
-        × (weight < raw_limit) × (refused_by standing (Adds condition weight) ≡ 0) }
-    ensures { Added standing condition weight raw_conditions.old raw_weights.old thresholds.old
-        result raw_conditions.new raw_weights.new thresholds.new }
-{
-    let at = standing.raw_terms;
-    let count = standing.thresholds;
-    raw_conditions[at] = condition;
-    raw_weights[at] = weight;
-    set_end(thresholds, count - 1, at + 1);
-    Standing {
-        started: standing.started,
-        sealed: standing.sealed,
-        contradicted: standing.contradicted,
-        nodes: standing.nodes,
-        thresholds: count,
-        last_node: standing.last_node,
-        last_terms: standing.last_terms + 1,
-        terms: standing.terms + 1,
-        raw_terms: at + 1,
-        answers: standing.answers,
+impl Raw<'_> {
+    // A threshold behind the others; its checks are passed.
+    pub fn open_threshold(&mut self, standing: Standing, node: u16, bound: i64) -> Standing
+        requires { Listed standing self.old.thresholds.now × Bounded standing self.old.bounds.now × (refused_by standing (Opens node bound) ≡ 0) }
+        ensures opened { OpenedIn standing node bound self.old result self.new }
+        ensures kept { (self.new.conditions.now ≡ self.old.conditions.now) × (self.new.weights.now ≡ self.old.weights.now) }
+        ensures lent { SameRaw self.old self.new }
+    {
+        let at = standing.thresholds;
+        let end = standing.raw_terms;
+        let entry = [node, end as u16];
+        self.thresholds[at] = entry;
+        self.bounds[at] = bound;
+        Standing {
+            thresholds: at + 1,
+            last_node: node as usize,
+            last_terms: 0,
+            ..standing
+        }
     }
-}
 
-// The first area of its condition in the open threshold: the last term there.
-fn first_area(
-    standing: Standing,
-    condition: u16,
-    area: u64,
-    raw_conditions: &mut [u16],
-    raw_weights: &mut [u64],
-    thresholds: &mut [[u16; 2]],
-    places: &mut [u16],
-    sums: &mut [u64],
-) -> Standing
-    requires { Listed standing thresholds.old × Termed standing raw_conditions.old raw_weights.old × Joinable standing thresholds.old places.old sums.old
-        × (area < 4294967296) × (refused_by standing (Areas condition area) ≡ 0) × (get_or places.old condition 0 ≤ open_start standing thresholds.old) }
-    ensures { FirstArea standing condition area raw_conditions.old raw_weights.old thresholds.old places.old sums.old
-        result raw_conditions.new raw_weights.new thresholds.new places.new sums.new }
-{
-    let at = standing.raw_terms;
-    let i = at - start_of(thresholds, standing.thresholds - 1);
-    let weight = weight_of_area(area);
-    places[condition as usize] = (at + 1) as u16;
-    sums[i] = area;
-    add_term(
-        standing,
-        condition,
-        weight,
-        raw_conditions,
-        raw_weights,
-        thresholds,
-    )
-}
-
-// Another area of a condition whose first stands at a place of the open threshold: the sum is rounded once.
-fn more_area(
-    standing: Standing,
-    condition: u16,
-    area: u64,
-    raw_conditions: &[u16],
-    raw_weights: &mut [u64],
-    thresholds: &[[u16; 2]],
-    places: &[u16],
-    sums: &mut [u64],
-) -> Standing
-    requires { Listed standing thresholds.now × Termed standing raw_conditions.now raw_weights.old × Joinable standing thresholds.now places.now sums.old
-        × (area < 4294967296) × (refused_by standing (Areas condition area) ≡ 0) × (open_start standing thresholds.now < get_or places.now condition 0) }
-    ensures { MoreArea standing condition area raw_conditions.now raw_weights.old thresholds.now places.now sums.old
-        result raw_weights.new sums.new }
-{
-    let at = place(places[condition as usize]) - 1;
-    let i = at - start_of(thresholds, standing.thresholds - 1);
-    let sum = sums[i] + area;
-    sums[i] = sum;
-    let to = at;
-    raw_weights[to] = weight_of_area(sum);
-    Standing {
-        started: standing.started,
-        sealed: standing.sealed,
-        contradicted: standing.contradicted,
-        nodes: standing.nodes,
-        thresholds: standing.thresholds,
-        last_node: standing.last_node,
-        last_terms: standing.last_terms + 1,
-        terms: standing.terms + 1,
-        raw_terms: standing.raw_terms,
-        answers: standing.answers,
+    // Where the terms of the open threshold start.
+    fn open_start(&self, standing: Standing) -> usize
+        requires { (0 < standing.thresholds) × (standing.thresholds ≤ length self.now.thresholds.now) }
+        ensures { result ≡ start_in standing self.now }
+    {
+        start_of(self.thresholds, standing.thresholds - 1)
     }
-}
 
-// An area of the open threshold; its checks are passed. Areas of one condition are one term, where the first stood.
-pub fn add_area(
-    standing: Standing,
-    condition: u16,
-    area: u64,
-    raw_conditions: &mut [u16],
-    raw_weights: &mut [u64],
-    thresholds: &mut [[u16; 2]],
-    places: &mut [u16],
-    sums: &mut [u64],
-) -> Standing
-    requires { Listed standing thresholds.old × Termed standing raw_conditions.old raw_weights.old × Joinable standing thresholds.old places.old sums.old
-        × (area < 4294967296) × (refused_by standing (Areas condition area) ≡ 0) }
-    ensures { AreaTaken standing condition area raw_conditions.old raw_weights.old thresholds.old places.old sums.old
-        result raw_conditions.new raw_weights.new thresholds.new places.new sums.new }
-{
-    let start = start_of(thresholds, standing.thresholds - 1);
-    let noted = place(places[condition as usize]) > start;
-    if noted {
-        return more_area(
-            standing,
-            condition,
-            area,
-            raw_conditions,
-            raw_weights,
-            thresholds,
-            places,
-            sums,
-        );
+    // A term of the open threshold; its checks are passed.
+    pub fn add_term(&mut self, standing: Standing, condition: u16, weight: u64) -> Standing
+        requires { TermedIn standing self.old × (weight < raw_limit) × (refused_by standing (Adds condition weight) ≡ 0) }
+        ensures added { AddedIn standing condition weight self.old result self.new }
+        ensures kept { self.new.bounds.now ≡ self.old.bounds.now }
+        ensures lent { SameRaw self.old self.new }
+    {
+        let at = standing.raw_terms;
+        let count = standing.thresholds;
+        self.conditions[at] = condition;
+        self.weights[at] = weight;
+        set_end(self.thresholds, count - 1, at + 1);
+        Standing {
+            last_terms: standing.last_terms + 1,
+            terms: standing.terms + 1,
+            raw_terms: at + 1,
+            ..standing
+        }
     }
-    first_area(
-        standing,
-        condition,
-        area,
-        raw_conditions,
-        raw_weights,
-        thresholds,
-        places,
-        sums,
-    )
+
+    // The first area of its condition in the open threshold: the last term there.
+    fn first_area(
+        &mut self,
+        notes: &mut Notes<'_>,
+        standing: Standing,
+        condition: u16,
+        area: u64,
+    ) -> Standing
+        requires { TermedIn standing self.old × JoinableIn standing self.old notes.old
+            × (area < 4294967296) × (refused_by standing (Areas condition area) ≡ 0) × (get_or notes.old.places.now condition 0 ≤ start_in standing self.old) }
+        ensures first { FirstIn standing condition area self.old notes.old result self.new notes.new }
+        ensures kept { self.new.bounds.now ≡ self.old.bounds.now }
+        ensures lent { SameRaw self.old self.new × SameNotes notes.old notes.new }
+    {
+        let at = standing.raw_terms;
+        let i = at - self.open_start(standing);
+        let weight = weight_of_area(area);
+        notes.places[condition as usize] = (at + 1) as u16;
+        notes.sums[i] = area;
+        self.add_term(standing, condition, weight)
+    }
+
+    // Another area of a condition whose first stands at a place of the open threshold: the sum is rounded once.
+    fn more_area(
+        &mut self,
+        notes: &mut Notes<'_>,
+        standing: Standing,
+        condition: u16,
+        area: u64,
+    ) -> Standing
+        requires { TermedIn standing self.old × JoinableIn standing self.old notes.old
+            × (area < 4294967296) × (refused_by standing (Areas condition area) ≡ 0) × (start_in standing self.old < get_or notes.old.places.now condition 0) }
+        ensures more { MoreIn standing condition area self.old notes.old result self.new notes.new }
+        ensures kept { (self.new.conditions.now ≡ self.old.conditions.now) × (self.new.thresholds.now ≡ self.old.thresholds.now)
+            × (self.new.bounds.now ≡ self.old.bounds.now) × (notes.new.places.now ≡ notes.old.places.now) }
+        ensures lent { SameRaw self.old self.new × SameNotes notes.old notes.new }
+    {
+        let at = place(notes.places[condition as usize]) - 1;
+        let i = at - self.open_start(standing);
+        let sum = notes.sums[i] + area;
+        notes.sums[i] = sum;
+        let to = at;
+        self.weights[to] = weight_of_area(sum);
+        Standing {
+            last_terms: standing.last_terms + 1,
+            terms: standing.terms + 1,
+            ..standing
+        }
+    }
+
+    // An area of the open threshold; its checks are passed. Areas of one condition are one term, where the first stood.
+    pub fn add_area(
+        &mut self,
+        notes: &mut Notes<'_>,
+        standing: Standing,
+        condition: u16,
+        area: u64,
+    ) -> Standing
+        requires { TermedIn standing self.old × JoinableIn standing self.old notes.old
+            × (area < 4294967296) × (refused_by standing (Areas condition area) ≡ 0) }
+        ensures taken { AreaIn standing condition area self.old notes.old result self.new notes.new }
+        ensures kept { self.new.bounds.now ≡ self.old.bounds.now }
+        ensures lent { SameRaw self.old self.new × SameNotes notes.old notes.new }
+    {
+        let start = self.open_start(standing);
+        let noted = place(notes.places[condition as usize]) > start;
+        if noted {
+            return self.more_area(notes, standing, condition, area);
+        }
+        self.first_area(notes, standing, condition, area)
+    }
 }

@@ -1,9 +1,8 @@
 -- The whole-row check and the scan for fitting weights, one term a turn from the light end.
-use Rattle.std.specs.Prelude.{ℕ, zero, suc, ◌-◌, ◌<◌, ◌≤◌, min, ◌≡◌, Bool, true, false, ◌&&◌, not, List, [], ◌∷◌, reverse, ◌≢◌, length, get_or, take, eqb, leb}
-use Rattle.std.proofs.Common.{not-suc-le-zero, arith, sym, ap, ◌∙◌, take_all, eq-eqb, ne_eqb}
+use Rattle.std.specs.Prelude.{ℕ, ◌-◌, ◌<◌, ◌≤◌, min, ◌≡◌, Bool, true, false, ◌&&◌, not, List, [], ◌∷◌, reverse, ◌≢◌, length, get_or, eqb, leb}
+use Rattle.std.proofs.Common.{sym, ap, ◌∙◌, eq-eqb, ne_eqb}
 use Rattle.std.specs.Int.Signed.{lt_z}
 use Rattle.numeric.specs.Threshold.{Term, term}
-use Rattle.numeric.specs.Slices.{terms}
 use Rattle.numeric.specs.TermsLaws.{last_terms_of, last_next}
 use Rattle.state.specs.declared.Step.TheVariants.{Unchanged, Contradiction}
 use Rattle.state.specs.declared.State.{State}

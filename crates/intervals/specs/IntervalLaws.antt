@@ -1,13 +1,11 @@
 -- A figure as a natural number, and the window that a state's interval gives where the check reaches the terms.
-use Rattle.std.specs.Prelude.{◌-◌, ◌^◌, ◌<◌, ◌≤◌, ◌≡◌, true, false, ℤ, pos, negsuc}
+use Rattle.std.specs.Prelude.{◌-◌, ◌^◌, ◌<◌, ◌≤◌, ◌≡◌, true, false, ℤ, pos, negsuc, Option, None, Some}
 use Rattle.std.proofs.Common.{arith, sym, ltb-true, leb-true, SFits}
 use Rattle.std.specs.Int.Signed.{le_z, lt_z}
 use Rattle.std.specs.Int.{w64}
 use Rattle.base.specs.TestLaws.{and_left, and_right}
 use Rattle.base.specs.SignedLaws.{le_z_trans, nlt-le_z, lt_z_weaken, nle-lt_z, le_z-lt_z, max_right}
 use Rattle.base.specs.Signed.{natural}
-use Rattle.state.specs.declared.Upper.{Upper}
-use Rattle.state.specs.declared.Upper.TheVariants.{Open, Under}
 use Rattle.state.specs.declared.State.{State}
 use Rattle.state.specs.State.{limit, reached, upper_at_most, has_residual_interval}
 use Rattle.misses.specs.MissesLaws.{clash}
@@ -30,9 +28,9 @@ natural_last (pos a) (negsuc b) h = absurd (clash (sym h))
 natural_last (negsuc a) b h = omega arith
 
 -- A limit that there is, and that is not at most z, is above z.
-pub limit_above : (u : Upper) (y z : ℤ) → upper_at_most u y ≡ true → upper_at_most u z ≡ false → lt_z z (limit u) ≡ true
-limit_above Open y z h k = absurd (clash (sym h))
-limit_above (Under u) y z h k = nle-lt_z z u k
+pub limit_above : (u : Option ℤ) (y z : ℤ) → upper_at_most u y ≡ true → upper_at_most u z ≡ false → lt_z z (limit u) ≡ true
+limit_above None y z h k = absurd (clash (sym h))
+limit_above (Some u) y z h k = nle-lt_z z u k
 
 pub window : (s : State) → has_residual_interval s ≡ true → upper_at_most s.upper (reached s) ≡ false → lt_z s.possible (reached s) ≡ false
     → Window (interval s)

@@ -4,7 +4,7 @@ use Prim.Native.Nat.{ℕ, ◌+◌, ◌-◌, ◌≤◌, ◌∣◌, min}
 use Rattle.std.proofs.Math.Nat.{dvd-zero, dvd-add, dvd_trans}
 use Rattle.std.proofs.Math.Decide.{ℕ_discrete}
 use native.Mathlib.Omega.{arith}
-use Rattle.std.specs.Prelude.{◌≡◌, Bool, ◌&&◌, ◌||◌, not, ◌≢◌, List, [], ◌∷◌, reverse, eqb, leb, ℤ, pos}
+use Rattle.std.specs.Prelude.{◌≡◌, Bool, ◌&&◌, ◌||◌, not, ◌≢◌, List, [], ◌∷◌, reverse, eqb, leb, ℤ, pos, Option, None, Some}
 use Rattle.std.proofs.Math.Path.{refl}
 use Rattle.std.proofs.Common.{sym, ap, ◌∙◌, subst, ne_eqb, le-leb}
 use Rattle.std.proofs.Math.Bool.{true, false}
@@ -14,8 +14,6 @@ use Rattle.base.specs.SignedLaws.{le_z_trans, lt_z-nle, max_least}
 use Rattle.base.specs.Signed.{natural}
 use Rattle.numeric.specs.Threshold.{Term}
 use Rattle.state.specs.declared.Step.TheVariants.{Unchanged, Contradiction}
-use Rattle.state.specs.declared.Upper.{Upper}
-use Rattle.state.specs.declared.Upper.TheVariants.{Open, Under}
 use Rattle.state.specs.declared.State.{State}
 use Rattle.state.specs.Step.{contradicts}
 use Rattle.state.specs.State.{limit, reached, upper_at_most, has_residual_interval}
@@ -70,13 +68,13 @@ stays i divisor weight next s h n = by (ℕ_discrete next divisor) (misses i.kno
 
 module _ (i : Interval) (w : Window i) (d : ℕ → Bool) where
   -- No choice of these terms lands, behind any sum x of weights that were read: the divisor divides it.
-  abbrev None : List Term → Type 0
-  None ts = (divisor x : ℕ)
+  abbrev NoneLands : List Term → Type 0
+  NoneLands ts = (divisor x : ℕ)
       → (divisor ≢ 0 → misses i.known i.lower (min i.possible i.upper) divisor ≡ true) → divisor ∣ x
       → check_from i d ts divisor ≡ Contradiction → (cs : List Bool)
       → i.lower ≤ i.known + (x + chosen cs (open_weights d ts)) → i.known + (x + chosen cs (open_weights d ts)) ≤ min i.possible i.upper → ⊥
 
-  at-end : None []
+  at-end : NoneLands []
   unfolding open_weights
   at-end divisor x h v e cs f t =
       let z = chosen_none cs in
@@ -90,7 +88,7 @@ module _ (i : Interval) (w : Window i) (d : ℕ → Bool) where
       by (yes z) false q a b = unchanged_not (sym (check_end_hits i d divisor z q) ∙ e)
       by (no n) m q a b = misses-sum i.known i.lower (min i.possible i.upper) divisor x w.above w.inside (h n) v a b
 
-  at_turn : (u : Term) (ts : List Term) → None ts → None (u ∷ ts)
+  at_turn : (u : Term) (ts : List Term) → NoneLands ts → NoneLands (u ∷ ts)
   unfolding chosen
   at_turn u ts ih divisor x h v e cs f t = by (d u.condition) refl
     where
@@ -123,7 +121,7 @@ module _ (i : Interval) (w : Window i) (d : ℕ → Bool) where
           (subst (λ (l : List ℕ). i.known + (x + chosen cs l) ≤ min i.possible i.upper) (open_skip d u ts k) t)
       by false k = tried k (stops_at i divisor u.weight next) refl
 
-  none-lands : (ts : List Term) → None ts
+  none-lands : (ts : List Term) → NoneLands ts
   none-lands [] = at-end
   none-lands (u ∷ ts) = at_turn u ts (none-lands ts)
 
@@ -149,9 +147,9 @@ residual-check_sound ts s d e k q cs p l u = units (has_nonunit ts) refl
     at_least : le_z (reached s) σ ≡ true
     at_least = max_least s.known s.lower σ (ap (λ (z : ℤ). le_z z σ) q ∙ le-leb k (k + chosen cs (open_weights d ts)) (omega arith)) l
 
-    above : (x : Upper) → upper_at_most x (reached s) ≡ true → upper_at_most x σ ≡ false → ⊥
-    above Open a b = clash (sym a)
-    above (Under x) a b = clash (sym (le_z_trans x (reached s) σ a at_least) ∙ b)
+    above : (x : Option ℤ) → upper_at_most x (reached s) ≡ true → upper_at_most x σ ≡ false → ⊥
+    above None a b = clash (sym a)
+    above (Some x) a b = clash (sym (le_z_trans x (reached s) σ a at_least) ∙ b)
 
     inside : has_nonunit ts ≡ true → has_residual_interval s ≡ true → upper_at_most s.upper (reached s) ≡ false → lt_z s.possible (reached s) ≡ false → ⊥
     inside h r a b =

@@ -8,7 +8,7 @@ ghost use Rattle.misses.specs.Misses.{misses};
 ghost use Rattle.intervals.specs.Shape.{Window};
 ghost use Rattle.intervals.specs.Residual.{interval, stops_at, too_wide, both_fit, off_misses, on_misses};
 
-use state::{State, Upper};
+use state::State;
 
 // The figures of a row with a residual interval, none of them negative. `upper` is the last sum allowed, `width` the number
 // of sums allowed.
@@ -21,23 +21,10 @@ pub struct Interval {
     pub width: u64,
 }
 
-// A difference, 0 where it would be negative.
-fn minus(a: u64, b: u64) -> u64
-    ensures { result ≡ a - b }
-{
-    if a < b {
-        return 0;
-    }
-    a - b
-}
-
-fn limit_of(upper: Upper) -> u64
+fn limit_of(upper: Option<i64>) -> u64
     ensures { result ≡ naturalOf (limit upper) }
 {
-    match upper {
-        Upper::Open => 0,
-        Upper::Under(bound) => base::natural(bound),
-    }
+    base::natural(upper.unwrap_or(0))
 }
 
 // The interval of a state's figures.
@@ -50,9 +37,9 @@ pub fn interval_of(state: State) -> Interval
     Interval {
         known: base::natural(state.known),
         possible: base::natural(state.possible),
-        lower: lower,
-        upper: minus(limit, 1),
-        width: minus(limit, lower),
+        lower,
+        upper: limit.saturating_sub(1),
+        width: limit.saturating_sub(lower),
     }
 }
 
@@ -60,11 +47,7 @@ pub fn interval_of(state: State) -> Interval
 fn first_fits(i: Interval, divisor: u64, weight: u64) -> bool
     ensures { result ≡ (eqb divisor 0 && leb weight i.width) }
 {
-    if divisor != 0 {
-        return false;
-    }
-    let width = i.width;
-    weight <= width
+    divisor == 0 && weight <= i.width
 }
 
 // With this weight a sum is allowed for sure, whatever the weights above it.
@@ -72,50 +55,31 @@ pub fn stops(i: Interval, divisor: u64, weight: u64, next: u64) -> bool
     requires { Window i }
     ensures { result ≡ stops_at i divisor weight next }
 {
-    if first_fits(i, divisor, weight) {
-        return true;
-    }
-    if next == 1 {
-        return true;
-    }
-    if next == divisor {
-        return false;
-    }
-    let upper = misses::smaller(i.possible, i.upper);
-    !misses::misses(i.known, i.lower, upper, next)
+    let upper = i.possible.min(i.upper);
+    first_fits(i, divisor, weight)
+        || next == 1
+        || (next != divisor && !misses::misses(i.known, i.lower, upper, next))
 }
 
 // No weight fits yet, and this one does not.
 pub fn too_wide(i: Interval, fitting: bool, weight: u64) -> bool
     ensures { result ≡ too_wide i fitting weight }
 {
-    if fitting {
-        return false;
-    }
-    let width = i.width;
-    weight > width
+    !fitting && weight > i.width
 }
 
 // Beside a weight that fits, another one or the gcd of the others fits. No gcd, 0, is no witness.
 pub fn both_fit(i: Interval, weight: u64, next: u64) -> bool
     ensures { result ≡ both_fit i weight next }
 {
-    let width = i.width;
-    if weight <= width {
-        return true;
-    }
-    let none = next == 0;
-    if none {
-        return false;
-    }
-    next <= width
+    weight <= i.width || (next != 0 && next <= i.width)
 }
 
 // No sum is allowed where a term of this weight is left out.
 pub fn off_misses(i: Interval, weight: u64, divisor: u64) -> bool
     ensures { result ≡ off_misses i weight divisor }
 {
-    let maximum = minus(i.possible, weight);
+    let maximum = i.possible.saturating_sub(weight);
     misses::branch_misses(i.known, maximum, i.lower, i.upper, divisor)
 }
 
@@ -124,6 +88,5 @@ pub fn on_misses(i: Interval, weight: u64, divisor: u64) -> bool
     requires { i.known + weight < 2 ^ 64 }
     ensures { result ≡ on_misses i weight divisor }
 {
-    let known = i.known;
-    misses::branch_misses(known + weight, i.possible, i.lower, i.upper, divisor)
+    misses::branch_misses(i.known + weight, i.possible, i.lower, i.upper, divisor)
 }

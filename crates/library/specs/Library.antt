@@ -2,22 +2,24 @@
 use Rattle.std.specs.Prelude.{ℕ, ◌≡◌, cond, List}
 use Rattle.memory.specs.Buffers.{Work}
 use Rattle.state.specs.Step.{step_number}
+use Rattle.files.specs.declared.Given.{Given}
 use Rattle.files.specs.Contents.{Out}
 use Rattle.report.specs.Plan.{reported}
 use Rattle.library.specs.declared.Numbers.{Numbers}
 
+abbrev pub numbers_in : Given → Numbers
+numbers_in g = record {
+  refused = g.refused;
+  last = step_number g.last;
+  sealed = cond g.sealed 1 0;
+  at = g.at;
+  nodes = g.nodes;
+  rows = g.rows;
+  answered = g.answered;
+}
+
 abbrev pub numbers_of : Out → Numbers
-numbers_of o =
-    let g = o.given in
-    record {
-      refused = g.refused;
-      last = step_number g.last;
-      sealed = cond g.sealed 1 0;
-      at = g.at;
-      nodes = g.nodes;
-      rows = g.rows;
-      answered = g.answered;
-    }
+numbers_of o = numbers_in o.given
 
 pub record Export : Type 0 where
   pub given : Numbers

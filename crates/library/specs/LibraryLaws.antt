@@ -8,7 +8,7 @@ use Rattle.files.specs.Contents.{Out, out}
 use Rattle.report.specs.declared.Planned.{Planned}
 use Rattle.report.specs.Plan.{Report, Plans}
 use Rattle.library.specs.declared.Numbers.{Numbers}
-use Rattle.library.specs.Library.{Export, export, exported, Lists}
+use Rattle.library.specs.Library.{export, exported, Lists}
 
 -- What the call gives back, with numbers for its last step and whether it is sealed.
 abbrev told : Given → (last sealed : ℕ) → Numbers

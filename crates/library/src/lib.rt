@@ -1,10 +1,12 @@
 // The library for programs in other languages: the call and its listing, which library_c exports for C. Neither requires anything of its caller.
 #![tactic(auto)]
 
-ghost use Rattle.std.specs.Prelude.{◌≡◌, cond};
+ghost use Rattle.std.specs.Prelude.{◌≡◌};
 ghost use Rattle.memory.specs.Buffers.{raw_lists, raw, held_rows, built, kept, work};
 ghost use Rattle.files.specs.Contents.{whole};
-ghost use Rattle.library.specs.Library.{export, exported, Lists};
+ghost use Rattle.library.specs.Library.{numbers_in, export, exported, Lists};
+
+use files::Given;
 
 // What the call gives back, in numbers, so that every value of every byte is one: the refusal (0 for none) and its offset; the last step; 1
 // if the job is sealed, its nodes and rows, and how many answers there are.
@@ -20,13 +22,20 @@ pub struct Numbers {
     pub answered: usize,
 }
 
-fn flag(b: bool) -> u8
-    ensures { result ≡ cond b 1 0 }
-{
-    if b {
-        return 1;
+impl From<Given> for Numbers {
+    ghost from_gives = { λ given numbers. numbers ≡ numbers_in given };
+
+    fn from(given: Given) -> Numbers {
+        Numbers {
+            refused: given.refused,
+            last: u8::from(given.last),
+            sealed: u8::from(given.sealed),
+            at: given.at,
+            nodes: given.nodes,
+            rows: given.rows,
+            answered: given.answered,
+        }
     }
-    0
 }
 
 // THE CALL, for C: each slice is a pointer and a number of elements.
@@ -85,16 +94,7 @@ pub fn planner_run(
         row_queues,
         answers,
     );
-    let last = given.last;
-    Numbers {
-        refused: given.refused,
-        last: last.number(),
-        sealed: flag(given.sealed),
-        at: given.at,
-        nodes: given.nodes,
-        rows: given.rows,
-        answered: given.answered,
-    }
+    Numbers::from(given)
 }
 
 // ---- the listing
@@ -103,6 +103,5 @@ pub fn planner_run(
 pub fn planner_list(input: &[u8], out: &mut [u8]) -> usize
     ensures { Lists input.now out.old out.new result }
 {
-    let planned = report::plan(input, out);
-    planned.length
+    report::plan(input, out).length
 }

@@ -1,6 +1,6 @@
 -- The three parts of the listing find room one behind the other and are the listing. Assumes nothing.
 use Rattle.std.specs.Prelude.{ℕ, ◌+◌, ◌*◌, ◌≤◌, ◌≡◌, refl, Bool, true, false, cond, List, length}
-use Rattle.std.proofs.Common.{arith, mul-le-mul_left, sym, ap, ◌∙◌, subst}
+use Rattle.std.proofs.Common.{arith, mul-le-mul_left, ◌∙◌, subst}
 use Rattle.memory.specs.Limits.{max_thresholds}
 use Rattle.state.specs.declared.State.{State}
 use Rattle.files.specs.declared.Given.{Given}
@@ -12,7 +12,7 @@ use Rattle.listing.specs.Shows.{Listed}
 use Rattle.listing.specs.ShowsLaws.{shows_listing}
 
 module _ {g : Given} {answers : List (List ℕ)} {states : List State} {sure never : List ℕ} (l : Listable g answers states sure never) where
-  rows-most : (row_count_of g ≤ max_thresholds) × (row_count_of g ≤ length states)
+  pub rows-most : (row_count_of g ≤ max_thresholds) × (row_count_of g ≤ length states)
   rows-most = by g.sealed l.sealed
     where
       by : (b : Bool) → (b ≡ true → Sealed g states sure never) → (cond b g.rows 0 ≤ max_thresholds) × (cond b g.rows 0 ≤ length states)

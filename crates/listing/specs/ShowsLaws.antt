@@ -61,11 +61,15 @@ answers_read (a ∷ as') =
     joined-front (answer_at (pairs (map answer_number (a ∷ as')) (map answer_visits (a ∷ as')))) (length as')
     ∙ ap₂ (λ (x y : List ℕ). x ++ y) (ap answer_line (answer_read a)) (answers_read as')
 
-answers_taken : (answers : List (List ℕ)) (n : ℕ) → joined (answer_at answers) n ≡ joined (answer_at (take n answers)) n
+pub answers_taken : (answers : List (List ℕ)) (n : ℕ) → joined (answer_at answers) n ≡ joined (answer_at (take n answers)) n
 unfolding answer_at
 answers_taken answers n =
     joined_same (answer_at answers) (answer_at (take n answers)) n
     (λ i h. ap (λ (w : List ℕ). answer_line (answer_of (get_or w 0 0) (get_or w 1 0))) (sym (get_or-take n answers i [] h)))
+
+pub rows_taken : (states : List State) (n : ℕ) → joined (row_at states) n ≡ joined (row_at (take n states)) n
+rows_taken states n =
+    joined_same (row_at states) (row_at (take n states)) n (λ r h. ap (row_line r) (sym (get_or-take n states r no_state h)))
 
 -- ---- nodes
 

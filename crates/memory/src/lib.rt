@@ -1,105 +1,10 @@
 // The lent buffers: clearing them, a function for each group of docs/BUFFERS.md, and the test of their lengths.
 #![tactic(auto)]
 
-ghost use Rattle.std.specs.Prelude.{◌≡◌, not, [], ◌∷◌, replicate, pos};
-ghost use Rattle.memory.specs.Buffers.{raw_lists, raw, held_rows, built, kept, fits_by, zeros, clear_raw, clear_built, clear_kept};
+ghost use Rattle.std.specs.Prelude.{◌≡◌, not, [], ◌∷◌};
+ghost use Rattle.memory.specs.Buffers.{raw_lists, raw, held_rows, built, kept, fits_by, clear_raw, clear_built, clear_kept};
 
-// One leaf for each type of element, each for buffers of any length.
-pub fn clear_u16(b: &mut [u16])
-    ensures { b.new ≡ zeros 0 b.old }
-{
-    let mut i: usize = 0;
-    while i < b.len() {
-        b[i] = 0;
-        i += 1;
-    }
-}
-
-fn clear_u64(b: &mut [u64])
-    ensures { b.new ≡ zeros 0 b.old }
-{
-    let mut i: usize = 0;
-    while i < b.len() {
-        b[i] = 0;
-        i += 1;
-    }
-}
-
-fn clear_i64(b: &mut [i64])
-    ensures { b.new ≡ zeros (pos 0) b.old }
-{
-    let mut i: usize = 0;
-    while i < b.len() {
-        b[i] = 0;
-        i += 1;
-    }
-}
-
-fn clear_u16x2(b: &mut [[u16; 2]])
-    ensures { b.new ≡ zeros (replicate 2 0) b.old }
-{
-    let z: [u16; 2] = [0; 2];
-    let mut i: usize = 0;
-    while i < b.len() {
-        b[i] = z;
-        i += 1;
-    }
-}
-
-fn clear_u16x3(b: &mut [[u16; 3]])
-    ensures { b.new ≡ zeros (replicate 3 0) b.old }
-{
-    let z: [u16; 3] = [0; 3];
-    let mut i: usize = 0;
-    while i < b.len() {
-        b[i] = z;
-        i += 1;
-    }
-}
-
-fn clear_u16x4(b: &mut [[u16; 4]])
-    ensures { b.new ≡ zeros (replicate 4 0) b.old }
-{
-    let z: [u16; 4] = [0; 4];
-    let mut i: usize = 0;
-    while i < b.len() {
-        b[i] = z;
-        i += 1;
-    }
-}
-
-fn clear_u64x2(b: &mut [[u64; 2]])
-    ensures { b.new ≡ zeros (replicate 2 0) b.old }
-{
-    let z: [u64; 2] = [0; 2];
-    let mut i: usize = 0;
-    while i < b.len() {
-        b[i] = z;
-        i += 1;
-    }
-}
-
-fn clear_i64x4(b: &mut [[i64; 4]])
-    ensures { b.new ≡ zeros (replicate 4 (pos 0)) b.old }
-{
-    let z: [i64; 4] = [0; 4];
-    let mut i: usize = 0;
-    while i < b.len() {
-        b[i] = z;
-        i += 1;
-    }
-}
-
-fn clear_usizex5(b: &mut [[usize; 5]])
-    ensures { b.new ≡ zeros (replicate 5 0) b.old }
-{
-    let z: [usize; 5] = [0; 5];
-    let mut i: usize = 0;
-    while i < b.len() {
-        b[i] = z;
-        i += 1;
-    }
-}
+// The buffers of a group are parameters one by one, as the C interface lends them (`planner_run`).
 
 // Clears the job as the records gave it.
 pub fn clear_raw(
@@ -111,10 +16,10 @@ pub fn clear_raw(
     ensures { raw (raw_lists raw_conditions.new raw_weights.new thresholds.new) bounds.new
         ≡ clear_raw (raw (raw_lists raw_conditions.old raw_weights.old thresholds.old) bounds.old) }
 {
-    clear_u16(raw_conditions);
-    clear_u64(raw_weights);
-    clear_u16x2(thresholds);
-    clear_i64(bounds);
+    raw_conditions.fill(0);
+    raw_weights.fill(0);
+    thresholds.fill([0; 2]);
+    bounds.fill(0);
 }
 
 // Clears what the seal builds.
@@ -131,14 +36,14 @@ pub fn clear_built(
     ensures { built (held_rows row_conditions.new row_weights.new rows.new guard_bounds.new guard_nodes.new) nodes.new edges.new links.new
         ≡ clear_built (built (held_rows row_conditions.old row_weights.old rows.old guard_bounds.old guard_nodes.old) nodes.old edges.old links.old) }
 {
-    clear_u16(row_conditions);
-    clear_u64(row_weights);
-    clear_u16x3(rows);
-    clear_i64(guard_bounds);
-    clear_u16(guard_nodes);
-    clear_u16x3(nodes);
-    clear_u64x2(edges);
-    clear_u16(links);
+    row_conditions.fill(0);
+    row_weights.fill(0);
+    rows.fill([0; 3]);
+    guard_bounds.fill(0);
+    guard_nodes.fill(0);
+    nodes.fill([0; 3]);
+    edges.fill([0; 2]);
+    links.fill(0);
 }
 
 // Clears what marks, settles and sifts change.
@@ -156,18 +61,19 @@ pub fn clear_kept(
     ensures { kept figures.new cursors.new sure.new never.new search.new gcds.new node_queue.new row_queues.new answers.new
         ≡ clear_kept (kept figures.old cursors.old sure.old never.old search.old gcds.old node_queue.old row_queues.old answers.old) }
 {
-    clear_i64x4(figures);
-    clear_usizex5(cursors);
-    clear_u64(sure);
-    clear_u64(never);
-    clear_u64(search);
-    clear_u64(gcds);
-    clear_u16(node_queue);
-    clear_u16x4(row_queues);
-    clear_u16x2(answers);
+    figures.fill([0; 4]);
+    cursors.fill([0; 5]);
+    sure.fill(0);
+    never.fill(0);
+    search.fill(0);
+    gcds.fill(0);
+    node_queue.fill(0);
+    row_queues.fill([0; 4]);
+    answers.fill([0; 2]);
 }
 
 // Whether one of these lengths is too short for its buffer, or the input too long.
+// One number for each buffer, since each is lent by itself; the clause, `fits_by`, has the lengths in this order.
 pub fn short(
     raw_conditions: usize,
     raw_weights: usize,

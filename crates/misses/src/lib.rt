@@ -1,7 +1,7 @@
 // The gcd, from a table or by its loop, and sums that miss a window by it: the leaves of residual.rs.
 #![tactic(auto)]
 
-ghost use Rattle.std.specs.Prelude.{◌≡◌, ◌-◌, ◌<◌, ◌≤◌, min, max, false, cond};
+ghost use Rattle.std.specs.Prelude.{◌≡◌, ◌≤◌, cond};
 ghost use Rattle.divisors.specs.Gcd.{gcd};
 ghost use Rattle.misses.specs.Misses.{misses, branch_misses};
 
@@ -10,10 +10,8 @@ ghost use Rattle.misses.specs.Misses.{misses, branch_misses};
 pub fn gcd(left: u64, right: u64) -> u64
     ensures { result ≡ gcd left right }
 {
-    if left < 64 {
-        if right < 64 {
-            return divisors::small_gcd(left, right);
-        }
+    if left < 64 && right < 64 {
+        return divisors::small_gcd(left, right);
     }
     if left == 0 {
         return right;
@@ -28,6 +26,7 @@ pub fn gcd(left: u64, right: u64) -> u64
     }
     let mut a = left;
     let mut b = right;
+    // Over no range: how often this turns hangs on the numbers.
     while b != 0 {
         let remainder = a % b;
         a = b;
@@ -59,38 +58,17 @@ pub fn misses(base: u64, lower: u64, upper: u64, divisor: u64) -> bool
 pub fn branch_misses(base: u64, maximum: u64, lower: u64, upper: u64, divisor: u64) -> bool
     ensures { result ≡ branch_misses base maximum lower upper divisor }
 {
-    let from = larger(base, lower);
-    let to = smaller(maximum, upper);
+    let from = base.max(lower);
+    let to = maximum.min(upper);
     if from > to {
         return true;
     }
     misses(base, from, to, divisor)
 }
 
-pub fn larger(a: u64, b: u64) -> u64
-    ensures { result ≡ max a b }
-{
-    if a < b {
-        return b;
-    }
-    a
-}
-
-pub fn smaller(a: u64, b: u64) -> u64
-    ensures { result ≡ min a b }
-{
-    if a < b {
-        return a;
-    }
-    b
-}
-
 // The gcd with one weight more, which a decided term leaves out.
 pub fn reduce(skip: bool, divisor: u64, weight: u64) -> u64
     ensures { result ≡ cond skip divisor (gcd divisor weight) }
 {
-    if skip {
-        return divisor;
-    }
-    gcd(divisor, weight)
+    if skip { divisor } else { gcd(divisor, weight) }
 }

@@ -1,59 +1,59 @@
 // What the listing does not show, in words for a person: what a refusal means, and that no layout is left.
 #![tactic(auto)]
 
-ghost use Rattle.std.specs.Prelude.{◌≤◌, ◌+◌, length};
+ghost use Rattle.std.specs.Prelude.{◌≡◌, ◌≤◌, length};
 ghost use Rattle.text.specs.Text.{Wrote};
+ghost use Rattle.text.specs.Writing.{HasRoom, Writes};
 ghost use Rattle.notice.specs.Notice.{meaning as meaningOf, refused_text, left_text, notice as noticeOf, max_meaning, max_refused, max_left, max_notice};
 
 use files::Given;
 use state::Step;
+use text::Writer;
 
-// What a refusal's number means.
-fn meaning(out: &mut [u8], at: usize, number: u8) -> usize
-    requires { at + max_meaning ≤ length out.old }
-    ensures { Wrote max_meaning out.old out.new at result (meaningOf number) }
+// What a refusal's number means: the number that is given back, as C gets it.
+fn meaning(out: &mut Writer<'_>, number: u8)
+    requires { HasRoom max_meaning out.old }
+    ensures same_buffer { out.new.out.ghost_name ≡ out.old.out.ghost_name }
+    ensures wrote { Writes max_meaning out.old out.new (meaningOf number) }
 {
     match number {
-        1 => text::put(out, at, b"the file ends inside this record"),
-        2 => text::put(out, at, b"there is no record of this kind"),
-        3 => text::put(out, at, b"this record is out of its turn"),
-        4 => text::put(out, at, b"this is one more than the limits allow"),
-        5 => text::put(out, at, b"this node is not below the node count"),
-        6 => text::put(
-            out,
-            at,
-            b"this node is not above that of the threshold before",
-        ),
-        7 => text::put(out, at, b"this bound is outside -2^52 to 2^52"),
-        8 => text::put(out, at, b"a mark is 1 for sure or 0 for never"),
-        9 => text::put(out, at, b"an earlier record left no layout"),
-        _ => text::put(out, at, b"the file is longer than 65,536 bytes"),
+        1 => out.put(b"the file ends inside this record"),
+        2 => out.put(b"there is no record of this kind"),
+        3 => out.put(b"this record is out of its turn"),
+        4 => out.put(b"this is one more than the limits allow"),
+        5 => out.put(b"this node is not below the node count"),
+        6 => out.put(b"this node is not above that of the threshold before"),
+        7 => out.put(b"this bound is outside -2^52 to 2^52"),
+        8 => out.put(b"a mark is 1 for sure or 0 for never"),
+        9 => out.put(b"an earlier record left no layout"),
+        _ => out.put(b"the file is longer than 65,536 bytes"),
     }
 }
 
 // The line of a refusal; nothing if there was none.
-fn refused(out: &mut [u8], at: usize, number: u8, offset: usize) -> usize
-    requires { at + max_refused ≤ length out.old }
-    ensures { Wrote max_refused out.old out.new at result (refused_text number offset) }
+fn refused(out: &mut Writer<'_>, number: u8, offset: usize)
+    requires { HasRoom max_refused out.old }
+    ensures same_buffer { out.new.out.ghost_name ≡ out.old.out.ghost_name }
+    ensures wrote { Writes max_refused out.old out.new (refused_text number offset) }
 {
     if number == 0 {
-        return at;
+        return;
     }
-    let a = text::put(out, at, b"refused: ");
-    let b = meaning(out, a, number);
-    let c = text::labelled(out, b, b", at byte ", offset as u64);
-    text::put(out, c, b"\n")
+    out.put(b"refused: ");
+    meaning(out, number);
+    out.labelled(b", at byte ", offset as u64);
+    out.put(b"\n")
 }
 
 // The line of a contradiction, where it was the last answer.
-fn left(out: &mut [u8], at: usize, last: Step) -> usize
-    requires { at + max_left ≤ length out.old }
-    ensures { Wrote max_left out.old out.new at result (left_text last) }
+fn left(out: &mut Writer<'_>, last: Step)
+    requires { HasRoom max_left out.old }
+    ensures same_buffer { out.new.out.ghost_name ≡ out.old.out.ghost_name }
+    ensures wrote { Writes max_left out.old out.new (left_text last) }
 {
     if last.contradicts() {
-        return text::put(out, at, b"no layout is left\n");
+        out.put(b"no layout is left\n")
     }
-    at
 }
 
 // THE NOTICE of what the call gave back, from the start of the buffer; how many bytes it has.
@@ -61,7 +61,8 @@ pub fn notice(out: &mut [u8], given: Given) -> usize
     requires { max_notice ≤ length out.old }
     ensures { Wrote max_notice out.old out.new 0 result (noticeOf given) }
 {
-    let last = given.last;
-    let end = refused(out, 0, given.refused, given.at);
-    left(out, end, last)
+    let mut notice = Writer { out, at: 0 };
+    refused(&mut notice, given.refused, given.at);
+    left(&mut notice, given.last);
+    notice.at
 }

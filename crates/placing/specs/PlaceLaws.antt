@@ -1,5 +1,5 @@
 -- Laws of rows placed threshold by threshold.
-use Rattle.std.specs.Prelude.{ℕ, zero, suc, ◌+◌, ◌-◌, ◌/◌, ◌%◌, ◌<◌, ◌≤◌, ◌≡◌, refl, Bool, true, false, List, [], ◌∷◌, ◌++◌, map, length, take, drop, get_or, set, replicate, ltb}
+use Rattle.std.specs.Prelude.{ℕ, zero, suc, ◌+◌, ◌-◌, ◌/◌, ◌%◌, ◌<◌, ◌≤◌, ◌≡◌, refl, Bool, true, false, List, [], ◌∷◌, ◌++◌, map, length, take, drop, get_or, set, replicate, ltb, Ok, Err}
 use Rattle.std.proofs.Common.{add-one, arith, sym, ap₂, ◌∙◌, subst, append_assoc, append-nil, length-append, length-set, length-take-le, get_or-take, drop-cons, drop-drop, drop-set-lt, take-suc-set, ltb-true, ltb-false, lt-ltb, le-ltb}
 use Rattle.std.proofs.Math.Path.{ap}
 use Rattle.std.proofs.Math.Bool.{cond}
@@ -10,7 +10,6 @@ use Rattle.base.specs.Laid.{over, join_all, ends}
 use Rattle.numeric.specs.Threshold.{Term}
 use Rattle.row.specs.Terms.{row_terms}
 use Rattle.row.specs.Keys.{laid, conditions_of, weights_of}
-use Rattle.thresholds.specs.declared.Found.TheVariants.{At, Free}
 use Rattle.memory.specs.Buffers.{RawLists}
 use Rattle.thresholds.specs.Raw.{fingerprint}
 use Rattle.job.specs.Shared.{number_in, raws_to, row_to, terms_to, row_entry, nodes_to}
@@ -87,10 +86,10 @@ module _ (r : RawLists) (t : ℕ) (ms : List ℕ) (e : map (marked_list r) ms �
   number_is : number_in (map (marked_list r) ms) (list_at r t) ≡ row_to r t
   number_is = ap (λ (ls : List (List Term)). number_in ls (list_at r t)) e
 
-  pub found_old : (heads : List ℕ) (k : ℕ) → Finds r ms heads (list_at r t) (At k) → (k ≡ row_to r t) × (row_to r t < length (raws_to r t))
+  pub found_old : (heads : List ℕ) (k : ℕ) → Finds r ms heads (list_at r t) (Ok k) → (k ≡ row_to r t) × (row_to r t < length (raws_to r t))
   found_old heads k q = let n = q.0 in let h = q.1 in let i = number_is in let l = long-marks in (n ∙ i, omega arith)
 
-  pub found_new : (heads : List ℕ) (a : ℕ) → Finds r ms heads (list_at r t) (Free a) → row_to r t ≡ length (raws_to r t)
+  pub found_new : (heads : List ℕ) (a : ℕ) → Finds r ms heads (list_at r t) (Err a) → row_to r t ≡ length (raws_to r t)
   found_new heads a q = sym number_is ∙ q.0 ∙ long-marks
 
 -- ---- marks

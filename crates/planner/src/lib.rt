@@ -1,36 +1,16 @@
 // THE PUBLIC CALL: a whole file over every lent buffer, the row states among them as records.
 #![tactic(auto)]
 
-ghost use Rattle.std.specs.Prelude.{◌≡◌, eqb};
+ghost use Rattle.std.specs.Prelude.{◌≡◌};
 ghost use Rattle.memory.specs.Buffers.{raw_lists, raw, held_rows, built, kept, work};
-ghost use Rattle.files.specs.Contents.{out, nothing};
+ghost use Rattle.files.specs.Contents.{out};
 ghost use Rattle.files.specs.Planner.{left, plan};
 
 use files::Given;
-use state::{State, Step};
+use state::State;
 
-// Refusal 10: nothing is read, and nothing touched.
-fn too_short() -> Given
-    ensures { result ≡ nothing }
-{
-    Given {
-        refused: 10,
-        at: 0,
-        sealed: false,
-        nodes: 0,
-        rows: 0,
-        last: Step::Unchanged,
-        answered: 0,
-    }
-}
-
-fn is_too_short(given: Given) -> bool
-    ensures { result ≡ eqb given.refused 10 }
-{
-    given.refused == 10
-}
-
-// Runs the file, then shows every row state; if a buffer is too short, or the input too long, nothing is touched.
+// Runs the file, then shows every row state; if a buffer is too short, or the input too long, nothing is touched. The buffers are lent one by
+// one, as C hands them over.
 pub fn run(
     input: &[u8],
     raw_conditions: &mut [u16],
@@ -64,7 +44,7 @@ pub fn run(
         (kept figures.old cursors.old sure.old never.old search.old gcds.old node_queue.old row_queues.old answers.old)) }
 {
     if states.len() < 1024 {
-        return too_short();
+        return call::too_short();
     }
     let given = call::run(
         input,
@@ -90,7 +70,7 @@ pub fn run(
         row_queues,
         answers,
     );
-    if is_too_short(given) {
+    if given.refused == 10 {
         return given;
     }
     states::show_states(states, figures, cursors);

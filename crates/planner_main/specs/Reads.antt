@@ -1,25 +1,27 @@
 -- How reading standard input goes, what the input can be by what was read of it, and what is written then.
-use Rattle.std.specs.Prelude.{ℕ, ◌<◌, ◌≤◌, ◌≡◌, Bool, true, false, List, ◌++◌}
+use Rattle.std.specs.Prelude.{ℕ, ◌<◌, ◌≤◌, ◌≡◌, Bool, true, false, List, ◌++◌, length, Option, Some, None, Result, Ok, Err}
 use Rattle.files.specs.File.{planned}
 use Rattle.files.specs.Contents.{given_of}
 use Rattle.files.specs.Listing.{listing}
 use Rattle.notice.specs.Notice.{notice}
-use Rattle.planner_main.specs.declared.Chunk.{Chunk}
+use Rattle.std.specs.declared.io.Error.{Error}
 use Rattle.planner_main.specs.declared.Input.{Input}
-use Rattle.planner_main.specs.declared.Input.TheVariants as Inputs
-use Rattle.planner_main.specs.declared.Chunk.TheVariants as Chunks
 
 -- Bytes were read, and there was room for them.
-abbrev pub Got : ℕ → Chunk → Type 0
-Got room (Chunks.Bytes n) = (0 < n) × (n ≤ room)
-Got room Chunks.End = Unit {0}
-Got room Chunks.Failed = Unit {0}
+abbrev pub Got : ℕ → Result (Option ℕ) Error → Type 0
+Got room (Ok (Some n)) = (0 < n) × (n ≤ room)
+Got room (Ok None) = Unit {0}
+Got room (Err e) = Unit {0}
+
+-- So many bytes were read: fewer than there was room for, if the input ended behind them; else as many.
+abbrev pub ReadTo : (room : ℕ) (ended : Bool) → ℕ → Type 0
+ReadTo room true n = n < room
+ReadTo room false n = n ≡ room
 
 -- Reading ends where the input does, or where no room is left.
-abbrev pub Reads : ℕ → Input → Type 0
-Reads room (Inputs.Ended n) = n < room
-Reads room (Inputs.Full n) = n ≡ room
-Reads room Inputs.Failed = Unit {0}
+abbrev pub Reads : ℕ → Result Input Error → Type 0
+Reads room (Ok input) = ReadTo room input.ended (length input.read.now)
+Reads room (Err e) = Unit {0}
 
 -- THE INPUT, by the bytes that were read of it: those, if it ended; else it begins with them.
 abbrev pub CanBe : (ended : Bool) (read input : List ℕ) → Type 0

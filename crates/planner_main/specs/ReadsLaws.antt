@@ -1,9 +1,8 @@
 -- What reading gave, by its cases; what was read fixes the plan. Assumes nothing.
-use Rattle.std.specs.Prelude.{ℕ, ◌+◌, ◌<◌, ◌≤◌, ◌≡◌, refl, Bool, true, false, List, [], ◌++◌, length, take, drop, replicate, leb}
+use Rattle.std.specs.Prelude.{ℕ, ◌+◌, ◌<◌, ◌≤◌, ◌≡◌, refl, Bool, true, false, List, [], length, take, drop, replicate, leb, Option, Some, Result, Ok}
 use Rattle.std.proofs.Common.{arith, sym, ap, ◌∙◌, subst, length-append, take_at, leb-true, lt-ltb}
 use Rattle.std.proofs.lemmas.List.{length-replicate}
 use Rattle.memory.specs.Buffers.{longest_input}
-use Rattle.files.specs.declared.Given.{Given}
 use Rattle.files.specs.File.{Outcome, outcome, begun, file_of, planned}
 use Rattle.files.specs.Contents.{given_of}
 use Rattle.files.specs.Listing.{max_listing, listing}
@@ -12,20 +11,27 @@ use Rattle.report.specs.declared.Planned.{Planned}
 use Rattle.report.specs.Plan.{Plans}
 use Rattle.report.specs.PlanLaws.{plans_given, plans_listed}
 use Rattle.notice.specs.Notice.{notice}
-use Rattle.planner_main.specs.declared.Chunk.{Chunk}
-use Rattle.planner_main.specs.declared.Chunk.TheVariants as Chunks
+use Rattle.std.specs.declared.io.Error.{Error}
+use Rattle.std.proofs.lemmas.Bool.{false≢true}
 use Rattle.planner_main.specs.declared.Input.{Input}
-use Rattle.planner_main.specs.declared.Input.TheVariants as Inputs
-use Rattle.planner_main.specs.Reads.{Got, Reads, CanBe, Prints, Tells}
+use Rattle.planner_main.specs.Reads.{Got, ReadTo, Reads, CanBe, Prints, Tells}
 
-pub got_bytes : (room : ℕ) (k : Chunk) (n : ℕ) → k ≡ Chunks.Bytes n → Got room k → (0 < n) × (n ≤ room)
+pub got_bytes : (room : ℕ) (k : Result (Option ℕ) Error) (n : ℕ) → k ≡ Ok (Some n) → Got room k → (0 < n) × (n ≤ room)
 got_bytes room k n e g = subst (Got room) e g
 
-pub read_ended : (room : ℕ) (k : Input) (n : ℕ) → k ≡ Inputs.Ended n → Reads room k → n < room
-read_ended room k n e g = subst (Reads room) e g
+pub read_ended : (room : ℕ) (k : Result Input Error) (i : Input) → k ≡ Ok i → i.ended ≡ true → Reads room k → length i.read.now < room
+read_ended room k i e t g = by i.ended t (subst (Reads room) e g)
+  where
+    by : (b : Bool) → b ≡ true → ReadTo room b (length i.read.now) → length i.read.now < room
+    by true t h = h
+    by false t h = absurd (false≢true t)
 
-pub read_full : (room : ℕ) (k : Input) (n : ℕ) → k ≡ Inputs.Full n → Reads room k → n ≡ room
-read_full room k n e g = subst (Reads room) e g
+pub read_full : (room : ℕ) (k : Result Input Error) (i : Input) → k ≡ Ok i → i.ended ≡ false → Reads room k → length i.read.now ≡ room
+read_full room k i e t g = by i.ended t (subst (Reads room) e g)
+  where
+    by : (b : Bool) → b ≡ false → ReadTo room b (length i.read.now) → length i.read.now ≡ room
+    by true t h = absurd (false≢true (sym t))
+    by false t h = h
 
 -- An array of zeros has room for as many as it has.
 pub zeros_room : (n m : ℕ) → leb m n ≡ true → m ≤ length (replicate {A = ℕ} n 0)

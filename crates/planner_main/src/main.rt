@@ -8,67 +8,65 @@ ghost use Rattle.files.specs.Listing.{max_listing};
 ghost use Rattle.notice.specs.Notice.{max_notice};
 ghost use Rattle.planner_main.specs.Reads.{Got, Reads, Prints, Tells};
 
+use std::io;
 use std::io::{Print, Read};
 
 // ---- reading
 
-// What one read gave: so many bytes, the end of the input, or a failure.
-#[derive(Clone, Copy)]
-enum Chunk {
-    Bytes(usize),
-    End,
-    Failed,
-}
-
-fn read_some(rt: HostRuntime, into: &mut [u8]) -> Chunk
+// What one read gave: so many bytes, or none at the end of the input.
+fn read_some(rt: HostRuntime, into: &mut [u8]) -> io::Result<Option<usize>>
     ensures { Got (length into.old) result }
 {
-    let Ok(count) = rt.stdin().read(into) else {
-        return Chunk::Failed;
-    };
+    let count = rt.stdin().read(into)?;
     if count == 0 {
-        return Chunk::End;
+        return Ok(None);
     }
-    Chunk::Bytes(count)
+    Ok(Some(count))
 }
 
-// How reading ended: the input did, after so many bytes; no room is left after so many; or a read failed.
+// What was read, and whether the input ended behind it; if not, there was no room for more. A flag, as in the definition of what the input
+// can be.
 #[derive(Clone, Copy)]
-enum Input {
-    Ended(usize),
-    Full(usize),
-    Failed,
+struct Input<'a> {
+    read: &'a [u8],
+    ended: bool,
 }
 
 // Standard input to its end, or as much of it as there is room for.
-fn read_input(rt: HostRuntime, into: &mut [u8]) -> Input
+fn read_input(rt: HostRuntime, into: &mut [u8]) -> io::Result<Input<'_>>
     ensures { Reads (length into.old) result }
 {
     let mut end = 0;
+    // A read gives as much as it likes, so that no range says how often this turns.
     while end < into.len() {
-        let chunk = read_some(rt, &mut into[end..]);
-        match chunk {
-            Chunk::Bytes(count) => end += count,
-            Chunk::End => return Input::Ended(end),
-            Chunk::Failed => return Input::Failed,
-        }
+        let Some(count) = read_some(rt, &mut into[end..])? else {
+            return Ok(Input {
+                read: &into[..end],
+                ended: true,
+            });
+        };
+        end += count;
     }
-    Input::Full(end)
+    Ok(Input {
+        read: &into[..end],
+        ended: false,
+    })
 }
 
 // ---- writing: what goes out is tied to what was read, and whether the input had ended then
 
 // Hands a text to standard output: the listing of every input that can be.
-fn print(rt: HostRuntime, read: &[u8], ended: bool, text: &[u8]) -> bool
-    requires { Prints ended read.now text.now }
+fn print(rt: HostRuntime, input: Input<'_>, text: &[u8]) -> io::Result<()>
+    requires { Prints input.ended input.read.now text.now }
 {
-    rt.stdout().write_all(text).is_ok()
+    rt.stdout().write_all(text)
 }
 
 // Hands a text to standard error: the notice of every input that can be.
-fn tell(rt: HostRuntime, read: &[u8], ended: bool, text: &[u8])
-    requires { Tells ended read.now text.now }
+fn tell(rt: HostRuntime, input: Input<'_>, text: &[u8])
+    requires { Tells input.ended input.read.now text.now }
 {
+    // Nothing is left to say it by, where standard error fails: here and in `say`.
     let _ = rt.stderr().write_all(text);
 }
 
@@ -78,28 +76,25 @@ fn say(rt: HostRuntime, text: &[u8]) {
 }
 
 // Plans what was read, writes its listing at once, and says what the listing does not show.
-fn answer(rt: HostRuntime, read: &[u8], ended: bool, out: &mut [u8], words: &mut [u8])
-    requires { (ended ≡ false → longest_input < length read.now) × (max_listing ≤ length out.old) × (max_notice ≤ length words.old) }
+fn answer(rt: HostRuntime, input: Input<'_>, out: &mut [u8], words: &mut [u8])
+    requires { (input.ended ≡ false → longest_input < length input.read.now) × (max_listing ≤ length out.old) × (max_notice ≤ length words.old) }
 {
-    let planned = report::plan(read, out);
-    let given = planned.given;
-    let end = notice::notice(words, given);
+    let planned = report::plan(input.read, out);
+    let end = notice::notice(words, planned.given);
     let length = planned.length;
-    if !print(rt, read, ended, &out[..length]) {
+    if print(rt, input, &out[..length]).is_err() {
         say(rt, b"writing failed\n");
     }
-    tell(rt, read, ended, &words[..end]);
+    tell(rt, input, &words[..end]);
 }
 
 // The whole program, over room for more than the longest input, for the listing and for the notice.
 fn run(rt: HostRuntime, buffer: &mut [u8], out: &mut [u8], words: &mut [u8])
     requires { (longest_input < length buffer.old) × (max_listing ≤ length out.old) × (max_notice ≤ length words.old) }
 {
-    let input = read_input(rt, buffer);
-    match input {
-        Input::Ended(end) => answer(rt, &buffer[..end], true, out, words),
-        Input::Full(end) => answer(rt, &buffer[..end], false, out, words),
-        Input::Failed => say(rt, b"reading failed\n"),
+    match read_input(rt, buffer) {
+        Ok(input) => answer(rt, input, out, words),
+        Err(_) => say(rt, b"reading failed\n"),
     }
 }
 

@@ -7,3 +7,4 @@ pub mod GuardOrderPickedLaws
 pub mod GuardOrderKeysLaws
 pub mod GuardOrderRowsLaws
 pub mod GuardOrderLaws
+pub mod Lent

@@ -1,5 +1,5 @@
 -- The steps of `prepare` joined: what each asks follows from what the ones before it left, and at the end stand the rows of the job.
-use Rattle.std.specs.Prelude.{ℕ, zero, ◌-◌, ◌%◌, ◌<◌, ◌≤◌, ◌≡◌, refl, List, [], ◌∷◌, ◌++◌, map, length, get_or, take, drop, replicate, ℤ}
+use Rattle.std.specs.Prelude.{ℕ, ◌-◌, ◌%◌, ◌<◌, ◌≤◌, ◌≡◌, refl, List, [], ◌∷◌, ◌++◌, map, length, get_or, take, drop, replicate, ℤ}
 use Rattle.std.proofs.Common.{arith, sym, ap, ap₂, ◌∙◌, subst, length-take-le, take_at, drop_at}
 use Rattle.std.proofs.Math.Decide.{dec_lt}
 use Rattle.std.proofs.lemmas.List.{length-map, length-replicate}

@@ -3,23 +3,25 @@
 
 ghost use Rattle.std.specs.Prelude.{◌≡◌, true, false, not, ◌&&◌, ◌+◌, ◌-◌, ◌<◌, ◌≤◌, ◌^◌, length, drop, List};
 ghost use Rattle.numeric.specs.Threshold.{Term};
-ghost use Rattle.numeric.specs.Slices.{terms};
 ghost use Rattle.state.specs.State.{limit, with_terms};
 ghost use Rattle.state.specs.Shape.{Figures};
 ghost use Rattle.queues.specs.Queue.{queue};
 ghost use Rattle.queues.specs.Marks.{Marks, marks, is_decided, decided, decide};
 ghost use Rattle.queues.specs.Waiting.{Waits};
-ghost use Rattle.rows.specs.Rows.{row_of};
+ghost use Rattle.rows.specs.Lent.{terms_of};
 ghost use Rattle.state.specs.declared.Step.TheVariants.{Unchanged};
 ghost use Rattle.row_runs.specs.Scan.{scanned, force};
 ghost use Rattle.row_runs.specs.Turns.{turn as turn_of, turned, light};
 ghost use Rattle.row_runs.specs.Shape.{TermSlices, GuardSlices};
-ghost use Rattle.row_runs.specs.Guards.{guards};
+ghost use Rattle.row_runs.specs.Lent.{guards_of, row_in};
+ghost use Rattle.propagate.specs.Turn.{scan_of, ends};
 ghost use Rattle.row_runs.specs.Row.{ran as ranOf, sure_guards, never_guards, threshold_guards, forced, true_terms, false_terms, row_terms, threshold_row};
 
 use queues::{Decision, Ring};
-use row_runs::Cutoff;
-use state::{State, Step, Upper};
+use row_runs::{Cutoff, Guards, Row};
+use rows::Terms;
+use state::{State, Step};
+use std::ops::ControlFlow;
 
 // A scan of a row's guards or terms so far: the places passed, the strongest answer, the queue of nodes.
 #[derive(Clone, Copy)]
@@ -37,47 +39,24 @@ pub struct Ran {
     pub ring: Ring,
 }
 
-// The scan after one more place, and whether it ends there.
-#[derive(Clone, Copy)]
-struct Turn {
-    scan: Scan,
-    ends: bool,
-}
-
 // One place more is passed, with what it decided; a contradiction ends the scan.
-fn passed_turn(scan: Scan, made: Decision) -> Turn
+fn passed_turn(scan: Scan, made: Decision) -> ControlFlow<Scan, Scan>
     requires { scan.passed + 1 < 2 ^ 64 }
-    ensures { ((m n : Marks) → turn_of (scanned result.scan.passed m result.scan.step) result.ends ≡ turned false (decided m made.step) (scanned scan.passed n scan.step))
-        × (result.scan.ring ≡ made.ring) }
+    ensures { ((m n : Marks) → turn_of (scanned (scan_of result).passed m (scan_of result).step) (ends result) ≡ turned false (decided m made.step) (scanned scan.passed n scan.step))
+        × ((scan_of result).ring ≡ made.ring) }
 {
     let passed = scan.passed + 1;
-    let step = made.step;
     let ring = made.ring;
-    if step.contradicts() {
-        let next = Scan {
-            passed: passed,
-            step: Step::Contradiction,
-            ring: ring,
-        };
-        return Turn {
-            scan: next,
-            ends: true,
-        };
+    if made.step.contradicts() {
+        let step = Step::Contradiction;
+        return ControlFlow::Break(Scan { passed, step, ring });
     }
-    let before = scan.step;
-    let joined = before.join(step);
-    let next = Scan {
-        passed: passed,
-        step: joined,
-        ring: ring,
-    };
-    Turn {
-        scan: next,
-        ends: false,
-    }
+    let step = scan.step.join(made.step);
+    ControlFlow::Continue(Scan { passed, step, ring })
 }
 
-// A guard that waits ends the scan; any other is passed, and its node decided.
+// A guard that waits ends the scan; any other is passed, and its node decided. The masks, the queue of nodes and its heads come one by one,
+// as the caller's struct of lent buffers has them: a struct of these four would be made and taken apart at each run of a row.
 fn guard_turn(
     value: bool,
     waits: bool,
@@ -86,20 +65,16 @@ fn guard_turn(
     never: &mut [u64],
     node_queue: &mut [u16],
     scan: Scan,
-) -> Turn
+) -> ControlFlow<Scan, Scan>
     requires { Waits (marks sure.old never.old (queue node_queue.old scan.ring)) × (node < 4096) × (scan.passed + 1 < 2 ^ 64) }
-    ensures { turn_of (scanned result.scan.passed (marks sure.new never.new (queue node_queue.new result.scan.ring)) result.scan.step) result.ends
+    ensures { turn_of (scanned (scan_of result).passed (marks sure.new never.new (queue node_queue.new (scan_of result).ring)) (scan_of result).step) (ends result)
         ≡ turned waits (decide value (marks sure.old never.old (queue node_queue.old scan.ring)) node)
         (scanned scan.passed (marks sure.old never.old (queue node_queue.old scan.ring)) scan.step) }
 {
     if waits {
-        return Turn {
-            scan: scan,
-            ends: true,
-        };
+        return ControlFlow::Break(scan);
     }
-    let ring = scan.ring;
-    let made = queues::decide(value, sure, never, node_queue, ring, node as usize);
+    let made = queues::decide(value, sure, never, node_queue, scan.ring, usize::from(node));
     passed_turn(scan, made)
 }
 
@@ -112,18 +87,17 @@ fn term_turn(
     never: &mut [u64],
     node_queue: &mut [u16],
     scan: Scan,
-) -> Turn
+) -> ControlFlow<Scan, Scan>
     requires { Waits (marks sure.old never.old (queue node_queue.old scan.ring)) × (node < 4096) × (scan.passed + 1 < 2 ^ 64) }
-    ensures { turn_of (scanned result.scan.passed (marks sure.new never.new (queue node_queue.new result.scan.ring)) result.scan.step) result.ends
+    ensures { turn_of (scanned (scan_of result).passed (marks sure.new never.new (queue node_queue.new (scan_of result).ring)) (scan_of result).step) (ends result)
         ≡ turned (not (is_decided (marks sure.old never.old (queue node_queue.old scan.ring)) node) && waits)
         (force value (marks sure.old never.old (queue node_queue.old scan.ring)) node)
         (scanned scan.passed (marks sure.old never.old (queue node_queue.old scan.ring)) scan.step) }
 {
-    let ring = scan.ring;
     if words::decided(sure, never, node) {
         let made = Decision {
             step: Step::Unchanged,
-            ring: ring,
+            ring: scan.ring,
         };
         return passed_turn(scan, made);
     }
@@ -132,43 +106,36 @@ fn term_turn(
 
 // Guards from the cursor up: those whose bound is reached are sure.
 fn sure_guards(
-    bounds: &[i64],
-    names: &[u16],
+    guards: Guards<'_>,
     state: State,
     sure: &mut [u64],
     never: &mut [u64],
     node_queue: &mut [u16],
     ring: Ring,
 ) -> Scan
-    requires { GuardSlices bounds.now names.now × Waits (marks sure.old never.old (queue node_queue.old ring)) }
+    requires { GuardSlices guards.bounds.now guards.nodes.now × Waits (marks sure.old never.old (queue node_queue.old ring)) }
     ensures { scanned result.passed (marks sure.new never.new (queue node_queue.new result.ring)) result.step
-        ≡ sure_guards (guards bounds.now names.now) state (marks sure.old never.old (queue node_queue.old ring)) }
+        ≡ sure_guards (guards_of guards.entry) state (marks sure.old never.old (queue node_queue.old ring)) }
 {
-    let mut at = state.sure_guard;
     let mut so_far = Scan {
         passed: 0,
         step: Step::Unchanged,
-        ring: ring,
+        ring,
     };
-    while at < bounds.len() {
-        let bound = bounds[at];
-        let node = names[at];
-        let waits = row_runs::sure_waits(state, bound);
-        let turn = guard_turn(true, waits, node, sure, never, node_queue, so_far);
-        let next = turn.scan;
-        so_far = next;
-        if turn.ends {
-            return so_far;
+    for at in state.sure_guard..guards.bounds.len() {
+        let node = guards.nodes[at];
+        let waits = row_runs::sure_waits(state, guards.bounds[at]);
+        match guard_turn(true, waits, node, sure, never, node_queue, so_far) {
+            ControlFlow::Break(last) => return last,
+            ControlFlow::Continue(next) => so_far = next,
         }
-        at += 1;
     }
     so_far
 }
 
 // Guards from the cursor down: those whose bound cannot be reached are never.
 fn never_guards(
-    bounds: &[i64],
-    names: &[u16],
+    guards: Guards<'_>,
     state: State,
     sure: &mut [u64],
     never: &mut [u64],
@@ -176,73 +143,62 @@ fn never_guards(
     ring: Ring,
     before: Step,
 ) -> Scan
-    requires { GuardSlices bounds.now names.now × (state.never_guard ≤ length bounds.now) × Waits (marks sure.old never.old (queue node_queue.old ring)) }
+    requires { GuardSlices guards.bounds.now guards.nodes.now × (state.never_guard ≤ length guards.bounds.now) × Waits (marks sure.old never.old (queue node_queue.old ring)) }
     ensures { scanned result.passed (marks sure.new never.new (queue node_queue.new result.ring)) result.step
-        ≡ never_guards (guards bounds.now names.now) state (marks sure.old never.old (queue node_queue.old ring)) before }
+        ≡ never_guards (guards_of guards.entry) state (marks sure.old never.old (queue node_queue.old ring)) before }
 {
-    let mut at = state.never_guard;
     let mut so_far = Scan {
         passed: 0,
         step: before,
-        ring: ring,
+        ring,
     };
-    while at > 0 {
-        let bound = bounds[at - 1];
-        let node = names[at - 1];
-        let waits = row_runs::never_waits(state, bound);
-        let turn = guard_turn(false, waits, node, sure, never, node_queue, so_far);
-        let next = turn.scan;
-        so_far = next;
-        if turn.ends {
-            return so_far;
+    for at in (0..state.never_guard).rev() {
+        let node = guards.nodes[at];
+        let waits = row_runs::never_waits(state, guards.bounds[at]);
+        match guard_turn(false, waits, node, sure, never, node_queue, so_far) {
+            ControlFlow::Break(last) => return last,
+            ControlFlow::Continue(next) => so_far = next,
         }
-        at -= 1;
     }
     so_far
 }
 
 // `threshold_guards`: what is reached makes guards sure, what cannot be reached makes them never.
 fn threshold_guards(
-    bounds: &[i64],
-    names: &[u16],
+    guards: Guards<'_>,
     state: State,
     sure: &mut [u64],
     never: &mut [u64],
     node_queue: &mut [u16],
     ring: Ring,
 ) -> Ran
-    requires { GuardSlices bounds.now names.now × (state.never_guard ≤ length bounds.now) × Waits (marks sure.old never.old (queue node_queue.old ring)) }
+    requires { GuardSlices guards.bounds.now guards.nodes.now × (state.never_guard ≤ length guards.bounds.now) × Waits (marks sure.old never.old (queue node_queue.old ring)) }
     ensures { ranOf result.state (marks sure.new never.new (queue node_queue.new result.ring)) result.step
-        ≡ threshold_guards (guards bounds.now names.now) state (marks sure.old never.old (queue node_queue.old ring)) }
+        ≡ threshold_guards (guards_of guards.entry) state (marks sure.old never.old (queue node_queue.old ring)) }
 {
     let low = state.never_guard;
-    let first = sure_guards(bounds, names, state, sure, never, node_queue, ring);
+    let first = sure_guards(guards, state, sure, never, node_queue, ring);
     let up = state.sure_guard + first.passed;
-    let step = first.step;
-    let next = first.ring;
-    if step.contradicts() {
-        let moved = state.with_guards(up, low);
+    if first.step.contradicts() {
         return Ran {
-            state: moved,
+            state: state.with_guards(up, low),
             step: Step::Contradiction,
-            ring: next,
+            ring: first.ring,
         };
     }
-    let second = never_guards(bounds, names, state, sure, never, node_queue, next, step);
-    let moved = state.with_guards(up, low - second.passed);
-    let last = second.step;
-    let left = second.ring;
+    let second = never_guards(
+        guards, state, sure, never, node_queue, first.ring, first.step,
+    );
     Ran {
-        state: moved,
-        step: last,
-        ring: left,
+        state: state.with_guards(up, low - second.passed),
+        step: second.step,
+        ring: second.ring,
     }
 }
 
 // Terms from the cursor on, the heaviest first: decided ones are passed, and those that the cutoff forces.
 fn forced_terms(
-    conditions: &[u16],
-    weights: &[u64],
+    terms: Terms<'_>,
     from: usize,
     cutoff: Cutoff,
     sure: &mut [u64],
@@ -250,98 +206,97 @@ fn forced_terms(
     node_queue: &mut [u16],
     ring: Ring,
 ) -> Scan
-    requires { TermSlices conditions.now weights.now × Waits (marks sure.old never.old (queue node_queue.old ring)) }
+    requires { TermSlices terms.conditions.now terms.weights.now × Waits (marks sure.old never.old (queue node_queue.old ring)) }
     ensures { scanned result.passed (marks sure.new never.new (queue node_queue.new result.ring)) result.step
-        ≡ forced cutoff.value (light cutoff) (drop from (terms conditions.now weights.now)) (marks sure.old never.old (queue node_queue.old ring)) }
+        ≡ forced cutoff.value (light cutoff) (drop from (terms_of terms.entry)) (marks sure.old never.old (queue node_queue.old ring)) }
 {
-    let value = cutoff.value;
-    let mut at = from;
     let mut so_far = Scan {
         passed: 0,
         step: Step::Unchanged,
-        ring: ring,
+        ring,
     };
-    while at < weights.len() {
-        let weight = weights[at];
-        let node = conditions[at];
-        let waits = cutoff.waits(weight);
-        let turn = term_turn(value, waits, node, sure, never, node_queue, so_far);
-        let next = turn.scan;
-        so_far = next;
-        if turn.ends {
-            return so_far;
+    for at in from..terms.weights.len() {
+        let node = terms.conditions[at];
+        let waits = cutoff.waits(terms.weights[at]);
+        match term_turn(cutoff.value, waits, node, sure, never, node_queue, so_far) {
+            ControlFlow::Break(last) => return last,
+            ControlFlow::Continue(next) => so_far = next,
         }
-        at += 1;
     }
     so_far
 }
 
 // `threshold_terms` for true: a term heavier than possible - lower is needed. The places passed, behind the cursor.
 fn true_terms(
-    conditions: &[u16],
-    weights: &[u64],
+    terms: Terms<'_>,
     state: State,
     sure: &mut [u64],
     never: &mut [u64],
     node_queue: &mut [u16],
     ring: Ring,
 ) -> Scan
-    requires { TermSlices conditions.now weights.now × Figures state × Waits (marks sure.old never.old (queue node_queue.old ring)) }
+    requires { TermSlices terms.conditions.now terms.weights.now × Figures state × Waits (marks sure.old never.old (queue node_queue.old ring)) }
     ensures { (ranOf (with_terms state (state.true_term + result.passed) state.false_term) (marks sure.new never.new (queue node_queue.new result.ring)) result.step
-        ≡ true_terms (terms conditions.now weights.now) state (marks sure.old never.old (queue node_queue.old ring)))
-        × (result.passed ≤ length weights.now - state.true_term) }
+        ≡ true_terms (terms_of terms.entry) state (marks sure.old never.old (queue node_queue.old ring)))
+        × (result.passed ≤ length terms.entry.weights.now - state.true_term) }
 {
-    let known = state.known;
-    let lower = state.lower;
-    let possible = state.possible;
-    if known >= lower {
+    if state.known >= state.lower {
         return Scan {
             passed: 0,
             step: Step::Unchanged,
-            ring: ring,
+            ring,
         };
     }
     let cutoff = Cutoff {
         value: true,
-        weight: possible - lower,
+        weight: state.possible - state.lower,
     };
-    let from = state.true_term;
     forced_terms(
-        conditions, weights, from, cutoff, sure, never, node_queue, ring,
+        terms,
+        state.true_term,
+        cutoff,
+        sure,
+        never,
+        node_queue,
+        ring,
     )
 }
 
 // `threshold_terms` for false: a term of at least upper - known is too heavy. The places passed, behind the cursor.
 fn false_terms(
-    conditions: &[u16],
-    weights: &[u64],
+    terms: Terms<'_>,
     state: State,
     sure: &mut [u64],
     never: &mut [u64],
     node_queue: &mut [u16],
     ring: Ring,
 ) -> Scan
-    requires { TermSlices conditions.now weights.now × Figures state × Waits (marks sure.old never.old (queue node_queue.old ring)) }
+    requires { TermSlices terms.conditions.now terms.weights.now × Figures state × Waits (marks sure.old never.old (queue node_queue.old ring)) }
     ensures { (ranOf (with_terms state state.true_term (state.false_term + result.passed)) (marks sure.new never.new (queue node_queue.new result.ring)) result.step
-        ≡ false_terms (terms conditions.now weights.now) state (marks sure.old never.old (queue node_queue.old ring)))
-        × (result.passed ≤ length weights.now - state.false_term) }
+        ≡ false_terms (terms_of terms.entry) state (marks sure.old never.old (queue node_queue.old ring)))
+        × (result.passed ≤ length terms.entry.weights.now - state.false_term) }
 {
     let known = state.known;
     let upper = state.upper;
     match upper {
-        Upper::Open => Scan {
+        None => Scan {
             passed: 0,
             step: Step::Unchanged,
-            ring: ring,
+            ring,
         },
-        Upper::Under(limit) => {
+        Some(limit) => {
             let cutoff = Cutoff {
                 value: false,
                 weight: limit - known,
             };
-            let from = state.false_term;
             forced_terms(
-                conditions, weights, from, cutoff, sure, never, node_queue, ring,
+                terms,
+                state.false_term,
+                cutoff,
+                sure,
+                never,
+                node_queue,
+                ring,
             )
         }
     }
@@ -349,72 +304,58 @@ fn false_terms(
 
 // `threshold_terms`: after the guards the terms, those that must be sure, then those that must not.
 fn threshold_terms(
-    conditions: &[u16],
-    weights: &[u64],
+    terms: Terms<'_>,
     before: Ran,
     sure: &mut [u64],
     never: &mut [u64],
     node_queue: &mut [u16],
 ) -> Ran
-    requires { TermSlices conditions.now weights.now × Figures before.state × Waits (marks sure.old never.old (queue node_queue.old before.ring)) }
+    requires { TermSlices terms.conditions.now terms.weights.now × Figures before.state × Waits (marks sure.old never.old (queue node_queue.old before.ring)) }
     ensures { ranOf result.state (marks sure.new never.new (queue node_queue.new result.ring)) result.step
-        ≡ row_terms (terms conditions.now weights.now)
+        ≡ row_terms (terms_of terms.entry)
         (ranOf before.state (marks sure.old never.old (queue node_queue.old before.ring)) before.step) }
 {
     let start = before.state;
-    let ring = before.ring;
-    let first = true_terms(conditions, weights, start, sure, never, node_queue, ring);
-    let step = first.step;
-    let next = first.ring;
+    let first = true_terms(terms, start, sure, never, node_queue, before.ring);
     let state = start.with_terms(start.true_term + first.passed, start.false_term);
-    if step.contradicts() {
+    if first.step.contradicts() {
         return Ran {
-            state: state,
-            step: step,
-            ring: next,
+            state,
+            step: first.step,
+            ring: first.ring,
         };
     }
-    let second = false_terms(conditions, weights, state, sure, never, node_queue, next);
-    let guards = before.step;
-    let last = second.step;
-    let left = second.ring;
-    let both = guards.join(step);
-    let all = both.join(last);
-    let end = state.with_terms(state.true_term, state.false_term + second.passed);
+    let second = false_terms(terms, state, sure, never, node_queue, first.ring);
     Ran {
-        state: end,
-        step: all,
-        ring: left,
+        state: state.with_terms(state.true_term, state.false_term + second.passed),
+        step: before.step.join(first.step).join(second.step),
+        ring: second.ring,
     }
 }
 
 // `threshold_row`: a row in conflict contradicts; any other scans its guards, then its terms.
 pub fn threshold_row(
-    conditions: &[u16],
-    weights: &[u64],
-    bounds: &[i64],
-    names: &[u16],
+    row: Row<'_>,
     state: State,
     sure: &mut [u64],
     never: &mut [u64],
     node_queue: &mut [u16],
     ring: Ring,
 ) -> Ran
-    requires { TermSlices conditions.now weights.now × GuardSlices bounds.now names.now × Figures state × (state.never_guard ≤ length bounds.now) × Waits (marks sure.old never.old (queue node_queue.old ring)) }
+    requires { TermSlices row.terms.conditions.now row.terms.weights.now × GuardSlices row.guards.bounds.now row.guards.nodes.now × Figures state × (state.never_guard ≤ length row.guards.bounds.now) × Waits (marks sure.old never.old (queue node_queue.old ring)) }
     ensures { (raw : List Term) → ranOf result.state (marks sure.new never.new (queue node_queue.new result.ring)) result.step
-        ≡ threshold_row (row_of raw (terms conditions.now weights.now) (guards bounds.now names.now)) state (marks sure.old never.old (queue node_queue.old ring)) }
+        ≡ threshold_row (row_in raw row.entry) state (marks sure.old never.old (queue node_queue.old ring)) }
 {
     if state.conflict() {
         return Ran {
-            state: state,
+            state,
             step: Step::Contradiction,
-            ring: ring,
+            ring,
         };
     }
-    let first = threshold_guards(bounds, names, state, sure, never, node_queue, ring);
-    let step = first.step;
-    if step.contradicts() {
+    let first = threshold_guards(row.guards, state, sure, never, node_queue, ring);
+    if first.step.contradicts() {
         return first;
     }
-    threshold_terms(conditions, weights, first, sure, never, node_queue)
+    threshold_terms(row.terms, first, sure, never, node_queue)
 }

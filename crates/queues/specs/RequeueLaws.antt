@@ -2,18 +2,18 @@
 use Prim.Native.Nat.{ℕ, zero, suc, ◌≤◌, ◌<◌}
 use Rattle.std.proofs.Math.Decide.{ℕ_discrete}
 use native.Mathlib.Omega.{arith}
-use Rattle.std.specs.Prelude.{◌≡◌, Bool, true, false, cond, List, [], ◌∷◌, ◌⊎◌, ◌≢◌, length, replicate}
+use Rattle.std.specs.Prelude.{◌≡◌, Bool, true, false, cond, List, ◌∷◌, ◌⊎◌, length, replicate}
 use Rattle.std.proofs.Math.Path.{refl, ap}
-use Rattle.std.proofs.Common.{sym, ◌∙◌, subst, inl, inr, ⊎_elim}
+use Rattle.std.proofs.Common.{◌∙◌, inl, inr}
 use Rattle.std.proofs.Math.ListN.{length-replicate}
 use Rattle.base.specs.TestLaws.{clash, true-false}
 use Rattle.memory.specs.Limits.{max_nodes}
-use Rattle.words.specs.Mask.{bit, in_either}
+use Rattle.words.specs.Mask.{in_either}
 use Rattle.queues.specs.Queue.{Queue, queue, ring, push}
 use Rattle.queues.specs.Shape.{Held}
 use Rattle.queues.specs.Marks.{marks}
 use Rattle.queues.specs.Requeue.{requeued}
-use Rattle.queues.specs.Waiting.{times, waiting_list, waits, Waits, Queued}
+use Rattle.queues.specs.Waiting.{times, waiting_list, Queued}
 use Rattle.queues.specs.OnceLaws.{times_none, times_same, times_other}
 use Rattle.queues.specs.QueueLaws.{held_push, push-times, empty_none}
 

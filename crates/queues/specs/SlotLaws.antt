@@ -1,5 +1,5 @@
 -- Two queues of rows in one buffer: what is written for one is that queue's next value, and leaves the other. Assumes nothing.
-use Rattle.std.specs.Prelude.{ℕ, zero, suc, ◌+◌, ◌-◌, ◌%◌, ◌<◌, ◌≡◌, refl, ◌≢◌, List, [], ◌∷◌, map, length}
+use Rattle.std.specs.Prelude.{ℕ, zero, suc, ◌+◌, ◌-◌, ◌%◌, ◌<◌, ◌≡◌, refl, ◌≢◌, List, [], ◌∷◌, map}
 use Rattle.std.proofs.Common.{arith, ap₂, ◌∙◌, get_or-set_same, get_or-set_other}
 use Rattle.std.proofs.Math.Path.{sym, ap}
 use Rattle.std.proofs.Math.ListN.{get_or, set}
@@ -8,8 +8,10 @@ use Rattle.memory.specs.Limits.{max_thresholds}
 use Rattle.base.specs.Columns.{column}
 use Rattle.base.specs.ColumnsLaws.{column-at}
 use Rattle.queues.specs.declared.Ring.{Ring}
+use Rattle.queues.specs.declared.RowQueue.{RowQueue}
+use Rattle.queues.specs.declared.RowQueue.TheVariants.{Bounds, Residuals}
 use Rattle.queues.specs.Queue.{queue, behind, longer_ring, push, popped, popped_ring, rows, queue_row, next_row}
-use Rattle.queues.specs.Slot.{rows_in, slot, put}
+use Rattle.queues.specs.Slot.{rows_in, first_column, slot, put}
 use Rattle.queues.specs.QueueLaws.{row-waits, row_new}
 
 slot_at : (l : List ℕ) (i : ℕ) → i < 4 → get_or (slot l) i 0 ≡ get_or l i 0
@@ -38,6 +40,14 @@ module _ (slots : List (List ℕ)) (at j x : ℕ) where
       column-set i slots at (set (slot (get_or slots at [])) j x)
       ∙ ap (set (column i slots) at) (get_or-set_other (slot (get_or slots at [])) j i x 0 d ∙ slot_at (get_or slots at []) i h ∙ sym (column-at i slots at))
       ∙ set-get_or (column i slots) at 0
+
+pub column_small : (which : RowQueue) → first_column which < 4
+column_small Bounds = omega arith
+column_small Residuals = omega arith
+
+pub column_even : (which : RowQueue) → first_column which % 2 ≡ 0
+column_even Bounds = refl
+column_even Residuals = refl
 
 -- The columns of the two queues are four.
 pub record Apart (k : ℕ) : Type 0 where

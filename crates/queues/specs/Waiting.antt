@@ -1,6 +1,6 @@
 -- Who waits, and how often: each node at most once and only when it is decided, each row as its flag says.
 use Rattle.std.specs.Prelude.{List, [], ◌∷◌, cond, false, Bool, true, ℕ, ◌+◌, zero, suc, ◌%◌, ◌≤◌, eqb, get_or, length, ◌≡◌}
-use Rattle.queues.specs.Queue.{Queue, queue, Rows}
+use Rattle.queues.specs.Queue.{Queue, Rows}
 use Rattle.memory.specs.Limits.{max_nodes, max_thresholds}
 use Rattle.queues.specs.Shape.{Held}
 use Rattle.queues.specs.Marks.{Marks, is_decided}

@@ -5,13 +5,14 @@ ghost use Rattle.std.specs.Prelude.{◌≡◌, ◌+◌, ◌-◌, ◌<◌, ◌≤
 ghost use Rattle.base.specs.Columns.{column};
 ghost use Rattle.queues.specs.declared.Ring.{Ring};
 ghost use Rattle.queues.specs.Queue.{queue, push as pushed, behind as behindAll, longer_ring, popped_ring, queue_row, next_row};
-ghost use Rattle.queues.specs.Slot.{rows_in, put as puts};
+ghost use Rattle.queues.specs.Slot.{rows_in, first_column, put as puts};
 ghost use Rattle.queues.specs.Shape.{Held};
 ghost use Rattle.queues.specs.Marks.{marks, decided, waiting, decide as decides};
 
 use state::Step;
 
-// A queue in a lent slice: the entries that wait begin at `head` and wrap at the slice's end.
+// A queue in a lent slice: the entries that wait begin at `head` and wrap at the slice's end. The slice stands beside it and not in it:
+// its memory is the caller's, and the two queues of rows share one.
 #[derive(Clone, Copy)]
 pub struct Ring {
     pub head: usize,
@@ -26,17 +27,33 @@ pub struct Rings {
     pub residuals: Ring,
 }
 
-// A queue that a call gave back, its two numbers taken one by one: they were written so, and read at once as one value they would
-// have to wait for both.
+// The two queues of rows, which share a buffer of slots: of rows that wait to hand on their bounds, and of rows that wait for a residual.
+#[derive(Clone, Copy)]
+pub enum RowQueue {
+    Bounds,
+    Residuals,
+}
+
+impl RowQueue {
+    // The column of its entries; the flags stand in the next.
+    pub fn first_column(self) -> usize
+        ensures { result ≡ first_column self }
+    {
+        match self {
+            RowQueue::Bounds => 0,
+            RowQueue::Residuals => 2,
+        }
+    }
+}
+
+// A queue that a call gave back, its two numbers taken one by one and not copied whole, which was measured to be slower: they were
+// written so, and read at once as one value they would have to wait for both.
 pub fn taken(ring: Ring) -> Ring
     ensures { result ≡ ring }
 {
-    let first = ring.head;
-    let many = ring.count;
-    Ring {
-        head: first,
-        count: many,
-    }
+    let head = ring.head;
+    let count = ring.count;
+    Ring { head, count }
 }
 
 // What deciding a node did, and the queue of nodes after it.
@@ -51,10 +68,7 @@ fn wrapped(at: usize, places: usize) -> usize
     requires { at < places + places }
     ensures { (result ≡ at % places) × (result < places) }
 {
-    if at < places {
-        return at;
-    }
-    at - places
+    if at < places { at } else { at - places }
 }
 
 // The place behind all that wait.
@@ -62,9 +76,7 @@ fn behind(ring: Ring, places: usize) -> usize
     requires { (ring.head < places) × (ring.count ≤ places) × (places < 2 ^ 63) }
     ensures { (result ≡ behindAll places ring) × (result < places) }
 {
-    let head = ring.head;
-    let count = ring.count;
-    wrapped(head + count, places)
+    wrapped(ring.head + ring.count, places)
 }
 
 // x waits behind all others.
@@ -82,11 +94,9 @@ fn longer(ring: Ring) -> Ring
     requires { ring.count < 2 ^ 63 }
     ensures { result ≡ longer_ring ring }
 {
-    let head = ring.head;
-    let count = ring.count;
     Ring {
-        head: head,
-        count: count + 1,
+        count: ring.count + 1,
+        ..ring
     }
 }
 
@@ -95,12 +105,9 @@ pub fn popped(ring: Ring, places: usize) -> Ring
     requires { (ring.head < places) × (0 < ring.count) }
     ensures { result ≡ popped_ring places ring }
 {
-    let head = ring.head;
-    let count = ring.count;
-    let next = wrapped(head + 1, places);
     Ring {
-        head: next,
-        count: count - 1,
+        head: wrapped(ring.head + 1, places),
+        count: ring.count - 1,
     }
 }
 
@@ -115,12 +122,13 @@ fn put(row_queues: &mut [[u16; 4]], at: usize, j: usize, x: u16)
     row_queues[at] = slot;
 }
 
-// The queue of rows whose columns begin at k. A row that waits already is not queued again.
-pub fn queue_row(row_queues: &mut [[u16; 4]], k: usize, ring: Ring, row: usize) -> Ring
-    requires { (k < 4) × (k % 2 ≡ 0) × Held 1024 (queue (column k row_queues.old) ring) × (row < 1024) }
-    ensures { (rows_in k row_queues.new result ≡ queue_row (rows_in k row_queues.old ring) row)
-        × ((other : Ring) → rows_in (2 - k) row_queues.new other ≡ rows_in (2 - k) row_queues.old other) }
+// A row waits behind all others of its queue. One that waits already is not queued again.
+pub fn queue_row(row_queues: &mut [[u16; 4]], which: RowQueue, ring: Ring, row: usize) -> Ring
+    requires { Held 1024 (queue (column (first_column which) row_queues.old) ring) × (row < 1024) }
+    ensures { (rows_in (first_column which) row_queues.new result ≡ queue_row (rows_in (first_column which) row_queues.old ring) row)
+        × ((other : Ring) → rows_in (2 - first_column which) row_queues.new other ≡ rows_in (2 - first_column which) row_queues.old other) }
 {
+    let k = which.first_column();
     let slot = row_queues[row];
     let waits = slot[k + 1] == 1;
     if waits {
@@ -132,22 +140,15 @@ pub fn queue_row(row_queues: &mut [[u16; 4]], k: usize, ring: Ring, row: usize) 
     longer(ring)
 }
 
-// An entry, as a place.
-fn place(x: u16) -> usize
-    ensures { result ≡ x }
-{
-    x as usize
-}
-
 // The oldest row is taken: its flag falls.
-pub fn next_row(row_queues: &mut [[u16; 4]], k: usize, ring: Ring) -> Ring
-    requires { (k < 4) × (k % 2 ≡ 0) × Held 1024 (queue (column k row_queues.old) ring) × (0 < ring.count) × (get_or (column k row_queues.old) ring.head 0 < length row_queues.old) }
-    ensures { (rows_in k row_queues.new result ≡ next_row (rows_in k row_queues.old ring))
-        × ((other : Ring) → rows_in (2 - k) row_queues.new other ≡ rows_in (2 - k) row_queues.old other) }
+pub fn next_row(row_queues: &mut [[u16; 4]], which: RowQueue, ring: Ring) -> Ring
+    requires { Held 1024 (queue (column (first_column which) row_queues.old) ring) × (0 < ring.count) × (get_or (column (first_column which) row_queues.old) ring.head 0 < length row_queues.old) }
+    ensures { (rows_in (first_column which) row_queues.new result ≡ next_row (rows_in (first_column which) row_queues.old ring))
+        × ((other : Ring) → rows_in (2 - first_column which) row_queues.new other ≡ rows_in (2 - first_column which) row_queues.old other) }
 {
-    let head = ring.head;
-    let slot = row_queues[head];
-    let row = place(slot[k]);
+    let k = which.first_column();
+    let slot = row_queues[ring.head];
+    let row = usize::from(slot[k]);
     put(row_queues, row, k + 1, 0);
     popped(ring, 1024)
 }
@@ -157,10 +158,10 @@ fn wait(node_queue: &mut [u16], ring: Ring, step: Step, n: usize) -> Ring
     requires { Held 4096 (queue node_queue.old ring) × (n < 4096) }
     ensures { queue node_queue.new result ≡ waiting step (queue node_queue.old ring) n }
 {
-    match step {
-        Step::Unchanged => ring,
-        Step::Changed => push(node_queue, ring, 4096, n as u16),
-        Step::Contradiction => ring,
+    if step == Step::Changed {
+        push(node_queue, ring, 4096, n as u16)
+    } else {
+        ring
     }
 }
 
@@ -176,18 +177,11 @@ pub fn decide(
     requires { Held 4096 (queue node_queue.old ring) × (n < 4096) × (64 ≤ length sure.old) × (64 ≤ length never.old) }
     ensures { decided (marks sure.new never.new (queue node_queue.new result.ring)) result.step ≡ decides value (marks sure.old never.old (queue node_queue.old ring)) n }
 {
-    if value {
-        let step = words::learn(sure, never, n);
-        let next = wait(node_queue, ring, step, n);
-        return Decision {
-            step: step,
-            ring: next,
-        };
-    }
-    let step = words::learn(never, sure, n);
-    let next = wait(node_queue, ring, step, n);
-    Decision {
-        step: step,
-        ring: next,
-    }
+    let step = if value {
+        words::learn(sure, never, n)
+    } else {
+        words::learn(never, sure, n)
+    };
+    let ring = wait(node_queue, ring, step, n);
+    Decision { step, ring }
 }

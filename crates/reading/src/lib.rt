@@ -1,18 +1,19 @@
 // The records of a job read into the raw buffers, from an offset on up to the next seal.
 #![tactic(auto)]
 
-ghost use Rattle.std.specs.Prelude.{◌≡◌, false, ◌<◌, List, length, ℤ};
-ghost use Rattle.memory.specs.Buffers.{Raw, raw_lists, raw, clear_raw};
+ghost use Rattle.std.specs.Prelude.{◌≡◌, false, ◌<◌, length, None};
+ghost use Rattle.memory.specs.Buffers.{Raw as RawWords, raw_lists, raw, clear_raw};
 ghost use Rattle.records.specs.Facts.{action};
 ghost use Rattle.checks.specs.Next.{closing, EntryNext};
 ghost use Rattle.checks.specs.Checks.{refused_by};
-ghost use Rattle.job.specs.Gathered.{Listed, Termed, Gathered, Joinable};
+ghost use Rattle.gather.specs.Lent.{JoinableIn, SameRaw, SameNotes};
 ghost use Rattle.files.specs.File.{File};
-ghost use Rattle.reading.specs.Held.{headed, blank, Room, any_open, OfJob, NextOfJob, Held, Reading, Takes, Reads, ReadsOn, ReadsJob, HeldPart};
+ghost use Rattle.reading.specs.Held.{headed, blank, Room, any_open, OfJob, NextOfJob, HeldPart};
+ghost use Rattle.reading.specs.Lent.{GatheredIn, HeldIn, ReadingIn, TakesIn, ReadsIn, ReadsOnIn, ReadsJobIn};
 ghost use Rattle.files.specs.JobPart.{job_part_of};
 
-use checks::Next;
-use files::JobRead;
+use files::{JobRead, Stop};
+use gather::{Notes, Raw};
 use records::{Record, Standing};
 
 // Behind a header.
@@ -24,12 +25,8 @@ fn begin(standing: Standing, nodes: u16) -> Standing
         sealed: standing.sealed,
         contradicted: standing.contradicted,
         nodes: nodes as usize,
-        thresholds: 0,
-        last_node: 0,
-        last_terms: 0,
-        terms: 0,
-        raw_terms: 0,
         answers: standing.answers,
+        ..nothing_read()
     }
 }
 
@@ -37,45 +34,19 @@ fn begin(standing: Standing, nodes: u16) -> Standing
 fn take_record(
     entry: Record,
     standing: Standing,
-    raw_conditions: &mut [u16],
-    raw_weights: &mut [u64],
-    thresholds: &mut [[u16; 2]],
-    bounds: &mut [i64],
-    places: &mut [u16],
-    sums: &mut [u64],
+    raw: &mut Raw<'_>,
+    notes: &mut Notes<'_>,
 ) -> Standing
-    requires { Gathered standing raw_conditions.old raw_weights.old thresholds.old bounds.old × Joinable standing thresholds.old places.old sums.old
+    requires { GatheredIn standing raw.old × JoinableIn standing raw.old notes.old
         × (refused_by standing entry ≡ 0) × OfJob entry × (closing (action entry) ≡ false) }
-    ensures { Takes entry standing raw_conditions.old raw_weights.old thresholds.old bounds.old places.old sums.old
-        result raw_conditions.new raw_weights.new thresholds.new bounds.new places.new sums.new }
+    ensures takes { TakesIn entry standing raw.old notes.old result raw.new notes.new }
+    ensures lent { SameRaw raw.old raw.new × SameNotes notes.old notes.new }
 {
     match entry {
         Record::Header(nodes) => begin(standing, nodes),
-        Record::Opens(node, bound) => {
-            gather::open_threshold(standing, node, bound, thresholds, bounds)
-        }
-        Record::Adds(condition, weight) => {
-            gather::add_term(
-                standing,
-                condition,
-                weight as u64,
-                raw_conditions,
-                raw_weights,
-                thresholds,
-            )
-        }
-        Record::Areas(condition, area) => {
-            gather::add_area(
-                standing,
-                condition,
-                area as u64,
-                raw_conditions,
-                raw_weights,
-                thresholds,
-                places,
-                sums,
-            )
-        }
+        Record::Opens(node, bound) => raw.open_threshold(standing, node, bound),
+        Record::Adds(condition, weight) => raw.add_term(standing, condition, weight as u64),
+        Record::Areas(condition, area) => raw.add_area(notes, standing, condition, area as u64),
         Record::Seal => standing,
         Record::Mark(_, _) => standing,
         Record::Settle => standing,
@@ -89,51 +60,33 @@ fn read_record(
     input: &[u8],
     at: usize,
     standing: Standing,
-    raw_conditions: &mut [u16],
-    raw_weights: &mut [u64],
-    thresholds: &mut [[u16; 2]],
-    bounds: &mut [i64],
-    places: &mut [u16],
-    sums: &mut [u64],
+    raw: &mut Raw<'_>,
+    notes: &mut Notes<'_>,
 ) -> JobRead
-    requires { (at < length input.now) × NextOfJob input.now at standing
-        × Gathered standing raw_conditions.old raw_weights.old thresholds.old bounds.old × Joinable standing thresholds.old places.old sums.old }
-    ensures { Reads input.now at standing
-        raw_conditions.old raw_weights.old thresholds.old bounds.old places.old sums.old
-        result raw_conditions.new raw_weights.new thresholds.new bounds.new places.new sums.new }
+    requires { (at < length input.now) × NextOfJob input.now at standing × GatheredIn standing raw.old × JoinableIn standing raw.old notes.old }
+    ensures reads { ReadsIn input.now at standing raw.old notes.old result raw.new notes.new }
+    ensures lent { SameRaw raw.old raw.new × SameNotes notes.old notes.new }
 {
     let next = checks::next_record(input, at, standing);
     match next {
-        Next::Refused(number) => JobRead {
-            at: at,
-            refusal: number,
-            sealing: false,
-            standing: standing,
+        Err(refusal) => JobRead {
+            at,
+            stop: Some(Stop::AtRefused(refusal)),
+            standing,
         },
-        Next::Taken(entry) => {
+        Ok(entry) => {
             if checks::closes(entry) {
                 return JobRead {
-                    at: at,
-                    refusal: 0,
-                    sealing: true,
-                    standing: standing,
+                    at,
+                    stop: Some(Stop::AtSeal),
+                    standing,
                 };
             }
             let size = records::body_length(input[at]);
-            let after = take_record(
-                entry,
-                standing,
-                raw_conditions,
-                raw_weights,
-                thresholds,
-                bounds,
-                places,
-                sums,
-            );
+            let after = take_record(entry, standing, raw, notes);
             JobRead {
                 at: at + 1 + size,
-                refusal: 0,
-                sealing: false,
+                stop: None,
                 standing: after,
             }
         }
@@ -145,52 +98,30 @@ fn read_entry(
     input: &[u8],
     at: usize,
     standing: Standing,
-    raw_conditions: &mut [u16],
-    raw_weights: &mut [u64],
-    thresholds: &mut [[u16; 2]],
-    places: &mut [u16],
-    sums: &mut [u64],
+    raw: &mut Raw<'_>,
+    notes: &mut Notes<'_>,
 ) -> JobRead
-    requires { EntryNext standing input.now at × Listed standing thresholds.old × Termed standing raw_conditions.old raw_weights.old
-        × Joinable standing thresholds.old places.old sums.old }
-    ensures { ((bs : List ℤ) → Reads input.now at standing
-        raw_conditions.old raw_weights.old thresholds.old bs places.old sums.old
-        result raw_conditions.new raw_weights.new thresholds.new bs places.new sums.new)
-        × (result.refusal ≡ 0) × (result.sealing ≡ false) }
+    requires { EntryNext standing input.now at × GatheredIn standing raw.old × JoinableIn standing raw.old notes.old }
+    ensures reads { ReadsIn input.now at standing raw.old notes.old result raw.new notes.new }
+    ensures going { result.stop ≡ None }
+    ensures lent { SameRaw raw.old raw.new × SameNotes notes.old notes.new }
 {
     let condition = records::u16_at(input, at + 1);
+    // `as`: a call of `u64::from` left the goals of `add_term` and `add_area` open, which want the number itself.
     let figure = records::u32_at(input, at + 3) as u64;
     let areas = input[at] == 8;
     if areas {
-        let after = gather::add_area(
-            standing,
-            condition,
-            figure,
-            raw_conditions,
-            raw_weights,
-            thresholds,
-            places,
-            sums,
-        );
+        let after = raw.add_area(notes, standing, condition, figure);
         return JobRead {
             at: at + 1 + 6,
-            refusal: 0,
-            sealing: false,
+            stop: None,
             standing: after,
         };
     }
-    let after = gather::add_term(
-        standing,
-        condition,
-        figure,
-        raw_conditions,
-        raw_weights,
-        thresholds,
-    );
+    let after = raw.add_term(standing, condition, figure);
     JobRead {
         at: at + 1 + 6,
-        refusal: 0,
-        sealing: false,
+        stop: None,
         standing: after,
     }
 }
@@ -219,53 +150,30 @@ fn read_records(
     input: &[u8],
     at: usize,
     standing: Standing,
-    raw_conditions: &mut [u16],
-    raw_weights: &mut [u64],
-    thresholds: &mut [[u16; 2]],
-    bounds: &mut [i64],
-    places: &mut [u16],
-    sums: &mut [u64],
+    raw: &mut Raw<'_>,
+    notes: &mut Notes<'_>,
 ) -> JobRead
-    requires { ((f : File) × (w : Raw) × Room w × Reading f w standing raw_conditions.old raw_weights.old thresholds.old bounds.old places.old sums.old) × NextOfJob input.now at standing }
-    ensures { ReadsOn input.now at standing
-        raw_conditions.old raw_weights.old thresholds.old bounds.old places.old sums.old result
-        raw_conditions.new raw_weights.new thresholds.new bounds.new }
+    requires { ((f : File) × (w : RawWords) × Room w × ReadingIn f w standing raw.old notes.old) × NextOfJob input.now at standing }
+    ensures reads { ReadsOnIn input.now at standing raw.old notes.old result raw.new }
+    ensures lent { SameRaw raw.old raw.new × SameNotes notes.old notes.new }
 {
     let mut read = JobRead {
-        at: at,
-        refusal: 0,
-        sealing: false,
-        standing: standing,
+        at,
+        stop: None,
+        standing,
     };
+    // A step is as long as its record, so this is no loop over indices.
     while read.at < input.len() {
         let from = read.at;
         let stands = read.standing;
         // Most records are terms or areas, and these need nothing of the others' checks.
         if checks::entry_comes(input, from, stands) {
-            read = read_entry(
-                input,
-                from,
-                stands,
-                raw_conditions,
-                raw_weights,
-                thresholds,
-                places,
-                sums,
-            );
+            read = read_entry(input, from, stands, raw, notes);
             continue;
         }
-        let next = read_record(
-            input,
-            from,
-            stands,
-            raw_conditions,
-            raw_weights,
-            thresholds,
-            bounds,
-            places,
-            sums,
-        );
-        if (next.refusal != 0) | next.sealing {
+        let next = read_record(input, from, stands, raw, notes);
+        let stops = next.stop.is_some();
+        if stops {
             return next;
         }
         read = next;
@@ -274,36 +182,22 @@ fn read_records(
 }
 
 // The same with notes of its own, where no threshold is open.
-pub fn read_job(
-    input: &[u8],
-    at: usize,
-    standing: Standing,
-    raw_conditions: &mut [u16],
-    raw_weights: &mut [u64],
-    thresholds: &mut [[u16; 2]],
-    bounds: &mut [i64],
-) -> JobRead
-    requires { ((f : File) × (w : Raw) × Room w × Held f w standing raw_conditions.old raw_weights.old thresholds.old bounds.old × (any_open f ≡ false)) × NextOfJob input.now at standing }
-    ensures { ReadsJob input.now at standing
-        raw_conditions.old raw_weights.old thresholds.old bounds.old result
-        raw_conditions.new raw_weights.new thresholds.new bounds.new }
+pub fn read_job(input: &[u8], at: usize, standing: Standing, raw: &mut Raw<'_>) -> JobRead
+    requires { ((f : File) × (w : RawWords) × Room w × HeldIn f w standing raw.old × (any_open f ≡ false)) × NextOfJob input.now at standing }
+    ensures reads { ReadsJobIn input.now at standing raw.old result raw.new }
+    ensures lent { SameRaw raw.old raw.new }
 {
     let mut places = [0u16; 4096];
     let mut sums = [0u64; 1024];
-    read_records(
-        input,
-        at,
-        standing,
-        raw_conditions,
-        raw_weights,
-        thresholds,
-        bounds,
-        &mut places,
-        &mut sums,
-    )
+    let mut notes = Notes {
+        places: &mut places,
+        sums: &mut sums,
+    };
+    read_records(input, at, standing, raw, &mut notes)
 }
 
-// THE FIRST PHASE: clears its buffers and reads the job into them, up to its seal.
+// THE FIRST PHASE: clears its buffers and reads the job into them, up to its seal. They come one by one, as C lends them to the call, and what
+// builds the rows reads them afterwards.
 pub fn read(
     input: &[u8],
     raw_conditions: &mut [u16],
@@ -318,13 +212,11 @@ pub fn read(
 {
     memory::clear_raw(raw_conditions, raw_weights, thresholds, bounds);
     let standing = nothing_read();
-    read_job(
-        input,
-        0,
-        standing,
-        raw_conditions,
-        raw_weights,
+    let mut raw = Raw {
+        conditions: raw_conditions,
+        weights: raw_weights,
         thresholds,
         bounds,
-    )
+    };
+    read_job(input, 0, standing, &mut raw)
 }

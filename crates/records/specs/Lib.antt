@@ -2,3 +2,4 @@ pub mod Record
 pub mod Facts
 pub mod RecordLaws
 pub mod At
+pub mod Kinds

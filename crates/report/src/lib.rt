@@ -1,14 +1,12 @@
 // The plan of an input, over buffers of its own: the public call, then the listing.
 #![tactic(auto)]
 
-ghost use Rattle.std.specs.Prelude.{◌≡◌};
 ghost use Rattle.memory.specs.Buffers.{raw_lists, raw, held_rows, built, kept, work};
-ghost use Rattle.files.specs.Contents.{nothing};
-ghost use Rattle.report.specs.Plan.{plan_of, Plans};
+ghost use Rattle.report.specs.Plan.{Plans};
 ghost use Rattle.report.specs.Ready.{Ready};
 
 use files::Given;
-use state::{State, Step};
+use state::State;
 
 // What the call gave back, and how many bytes its listing has.
 #[derive(Clone, Copy)]
@@ -17,32 +15,7 @@ pub struct Planned {
     pub length: usize,
 }
 
-fn together(given: Given, length: usize) -> Planned
-    ensures { result ≡ plan_of given length }
-{
-    Planned {
-        given: given,
-        length: length,
-    }
-}
-
-// Refusal 10: nothing is read, and nothing listed.
-fn too_short() -> Planned
-    ensures { result ≡ plan_of nothing 0 }
-{
-    let given = Given {
-        refused: 10,
-        at: 0,
-        sealed: false,
-        nodes: 0,
-        rows: 0,
-        last: Step::Unchanged,
-        answered: 0,
-    };
-    together(given, 0)
-}
-
-// The plan over lent buffers of numbers; the row states are its own.
+// The plan over lent buffers of numbers, one by one as the public call takes them; the row states are its own.
 fn plan_in(
     input: &[u8],
     out: &mut [u8],
@@ -73,8 +46,7 @@ fn plan_in(
         (kept figures.old cursors.old sure.old never.old search.old gcds.old node_queue.old row_queues.old answers.old)) }
     ensures { Plans input.now out.old out.new result }
 {
-    let none = State::first(0, 0);
-    let mut states = [none; 1024];
+    let mut states = [State::first(0, 0); 1024];
     let given = planner::run(
         input,
         raw_conditions,
@@ -101,7 +73,7 @@ fn plan_in(
         answers,
     );
     let length = listing::list(out, given, answers, &states, sure, never);
-    together(given, length)
+    Planned { given, length }
 }
 
 // THE PLAN of an input: its listing, from the start of the buffer. If that is too short nothing is touched.
@@ -110,35 +82,32 @@ pub fn plan(input: &[u8], out: &mut [u8]) -> Planned
 {
     let short = out.len() < 262144;
     if short {
-        return too_short();
+        return Planned {
+            given: call::too_short(),
+            length: 0,
+        };
     }
     let mut raw_conditions = [0u16; 4096];
     let mut raw_weights = [0u64; 4096];
-    let pair = [0u16; 2];
-    let mut thresholds = [pair; 1024];
+    let mut thresholds = [[0u16; 2]; 1024];
     let mut bounds = [0i64; 1024];
     let mut row_conditions = [0u16; 4096];
     let mut row_weights = [0u64; 4096];
-    let triple = [0u16; 3];
-    let mut rows = [triple; 1024];
+    let mut rows = [[0u16; 3]; 1024];
     let mut guard_bounds = [0i64; 1024];
     let mut guard_nodes = [0u16; 1024];
-    let mut nodes = [triple; 4096];
-    let edge = [0u64; 2];
-    let mut edges = [edge; 4096];
+    let mut nodes = [[0u16; 3]; 4096];
+    let mut edges = [[0u64; 2]; 4096];
     let mut links = [0u16; 2048];
-    let four = [0i64; 4];
-    let mut figures = [four; 1024];
-    let five = [0usize; 5];
-    let mut cursors = [five; 1024];
+    let mut figures = [[0i64; 4]; 1024];
+    let mut cursors = [[0usize; 5]; 1024];
     let mut sure = [0u64; 64];
     let mut never = [0u64; 64];
     let mut search = [0u64; 4096];
     let mut gcds = [0u64; 1025];
     let mut node_queue = [0u16; 4096];
-    let quad = [0u16; 4];
-    let mut row_queues = [quad; 1024];
-    let mut answers = [pair; 64];
+    let mut row_queues = [[0u16; 4]; 1024];
+    let mut answers = [[0u16; 2]; 64];
     plan_in(
         input,
         out,

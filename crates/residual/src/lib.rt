@@ -3,9 +3,10 @@
 
 ghost use Rattle.std.specs.Prelude.{◌≡◌, ◌+◌, ◌-◌, ◌^◌, ◌<◌, ◌≤◌, false, reverse, length};
 ghost use Rattle.numeric.specs.Threshold.{term};
-ghost use Rattle.numeric.specs.Slices.{Below, Shape, terms};
+ghost use Rattle.numeric.specs.Slices.{Below, Shape};
 ghost use Rattle.state.specs.Step.{joined};
 ghost use Rattle.words.specs.Mask.{in_either};
+ghost use Rattle.rows.specs.Lent.{terms_of};
 ghost use Rattle.queues.specs.Queue.{queue};
 ghost use Rattle.queues.specs.Shape.{Held};
 ghost use Rattle.state.specs.declared.Step.TheVariants.{Unchanged};
@@ -30,118 +31,86 @@ ghost use Rattle.intervals.specs.Residual.{
 
 use intervals::Interval;
 use queues::{Decision, Ring};
+use rows::Terms;
 use state::{State, Step};
 
 // The gcd of the undecided weights among the last 0, 1, 2 .. terms, from the start of the buffer on.
-fn prepare_suffix(
-    conditions: &[u16],
-    weights: &[u64],
-    sure: &[u64],
-    never: &[u64],
-    gcds: &mut [u64],
-)
-    requires shape { Shape conditions.now weights.now sure.now never.now }
-    requires weights_in_bounds { length weights.now < length gcds.old }
+fn prepare_suffix(terms: Terms<'_>, sure: &[u64], never: &[u64], gcds: &mut [u64])
+    requires shape { Shape terms.conditions.now terms.weights.now sure.now never.now }
+    requires weights_in_bounds { length terms.weights.now < length gcds.old }
     ensures { gcds.new
-        ≡ over (suffixes (in_either sure.now never.now) (terms conditions.now weights.now)) gcds.old }
+        ≡ over (suffixes (in_either sure.now never.now) (terms_of terms.entry)) gcds.old }
 {
-    let count = weights.len();
-    let mut left = count;
+    let count = terms.weights.len();
     let mut suffix: u64 = 0;
-    while left > 0 {
-        gcds[count - left] = suffix;
-        left -= 1;
-        let skip = words::decided(sure, never, conditions[left]);
-        suffix = misses::reduce(skip, suffix, weights[left]);
+    for left in (0..count).rev() {
+        gcds[count - left - 1] = suffix;
+        let skip = words::decided(sure, never, terms.conditions[left]);
+        suffix = misses::reduce(skip, suffix, terms.weights[left]);
     }
     gcds[count] = suffix;
 }
 
 // Terms from the light end: does the lattice of all undecided weights miss the interval? A gcd that allows a sum ends the
 // scan, since every later gcd divides it and allows that sum too.
-fn check_from(conditions: &[u16], weights: &[u64], i: Interval, sure: &[u64], never: &[u64]) -> Step
-    requires shape { Shape conditions.now weights.now sure.now never.now }
+fn check_from(terms: Terms<'_>, i: Interval, sure: &[u64], never: &[u64]) -> Step
+    requires shape { Shape terms.conditions.now terms.weights.now sure.now never.now }
     requires window { Window i }
     ensures { result
-        ≡ check_from i (in_either sure.now never.now) (reverse (terms conditions.now weights.now)) 0 }
+        ≡ check_from i (in_either sure.now never.now) (reverse (terms_of terms.entry)) 0 }
 {
-    let mut remaining = weights.len();
     let mut divisor: u64 = 0;
-    while remaining > 0 {
-        remaining -= 1;
-        if words::decided(sure, never, conditions[remaining]) {
+    for remaining in (0..terms.weights.len()).rev() {
+        if words::decided(sure, never, terms.conditions[remaining]) {
             continue;
         }
-        let weight = weights[remaining];
+        let weight = terms.weights[remaining];
         let next = misses::gcd(divisor, weight);
         if intervals::stops(i, divisor, weight, next) {
             return Step::Unchanged;
         }
         divisor = next;
     }
+    let upper = i.possible.min(i.upper);
     // A divisor was tested when it last changed.
-    if divisor != 0 {
-        return Step::Contradiction;
-    }
-    let upper = misses::smaller(i.possible, i.upper);
-    if misses::misses(i.known, i.lower, upper, 0) {
+    if divisor != 0 || misses::misses(i.known, i.lower, upper, 0) {
         return Step::Contradiction;
     }
     Step::Unchanged
 }
 
 // What divisibility shows of the whole row: that no sum is allowed, or nothing.
-fn threshold_residual_check(
-    conditions: &[u16],
-    weights: &[u64],
-    state: State,
-    sure: &[u64],
-    never: &[u64],
-) -> Step
-    requires { Shape conditions.now weights.now sure.now never.now }
+#[tactic(auto, unfolding(intervals::specs::Residual::residual_check))]
+fn threshold_residual_check(terms: Terms<'_>, state: State, sure: &[u64], never: &[u64]) -> Step
+    requires { Shape terms.conditions.now terms.weights.now sure.now never.now }
     ensures { result
-        ≡ residual_check (terms conditions.now weights.now) state (in_either sure.now never.now) }
+        ≡ residual_check (terms_of terms.entry) state (in_either sure.now never.now) }
 {
-    if !rows::has_nonunit(conditions, weights) {
-        return Step::Unchanged;
-    }
-    if !state.has_residual_interval() {
+    if !terms.has_nonunit() || !state.has_residual_interval() {
         return Step::Unchanged;
     }
     let reached = state.reached();
-    if state.upper_at_most(reached) {
+    if state.upper_at_most(reached) || state.possible < reached {
         return Step::Contradiction;
     }
-    let possible = state.possible;
-    if possible < reached {
-        return Step::Contradiction;
-    }
-    check_from(
-        conditions,
-        weights,
-        intervals::interval_of(state),
-        sure,
-        never,
-    )
+    check_from(terms, intervals::interval_of(state), sure, never)
 }
 
 // Terms from the light end: one undecided weight fits, and so does another or the gcd of the others. Then every gcd of all
 // weights but one fits, and nothing is forced.
-fn fits_from(conditions: &[u16], weights: &[u64], i: Interval, sure: &[u64], never: &[u64]) -> bool
-    requires { Shape conditions.now weights.now sure.now never.now }
+fn fits_from(terms: Terms<'_>, i: Interval, sure: &[u64], never: &[u64]) -> bool
+    requires { Shape terms.conditions.now terms.weights.now sure.now never.now }
     ensures { result
-        ≡ fits_from i (in_either sure.now never.now) (reverse (terms conditions.now weights.now)) false 0 }
+        ≡ fits_from i (in_either sure.now never.now) (reverse (terms_of terms.entry)) false 0 }
 {
-    let mut unread = weights.len();
     let mut fitting = false;
     let mut complement: u64 = 0;
-    while unread > 0 {
-        unread -= 1;
-        let weight = weights[unread];
+    for unread in (0..terms.weights.len()).rev() {
+        let weight = terms.weights[unread];
         if intervals::too_wide(i, fitting, weight) {
             return false;
         }
-        if words::decided(sure, never, conditions[unread]) {
+        if words::decided(sure, never, terms.conditions[unread]) {
             continue;
         }
         if fitting {
@@ -174,25 +143,24 @@ fn force_term(
 {
     let same = Decision {
         step: Step::Unchanged,
-        ring: ring,
+        ring,
     };
     if divisor == 1 {
         return same;
     }
     let off = intervals::off_misses(i, weight, divisor);
     let on = intervals::on_misses(i, weight, divisor);
-    let n = node as usize;
     if off {
         if on {
             return Decision {
                 step: Step::Contradiction,
-                ring: ring,
+                ring,
             };
         }
-        return queues::decide(true, sure, never, node_queue, ring, n);
+        return queues::decide(true, sure, never, node_queue, ring, usize::from(node));
     }
     if on {
-        return queues::decide(false, sure, never, node_queue, ring, n);
+        return queues::decide(false, sure, never, node_queue, ring, usize::from(node));
     }
     same
 }
@@ -201,21 +169,16 @@ fn force_term(
 fn joined_decision(before: Decision, after: Decision) -> Decision
     ensures { (result.step ≡ joined before.step after.step) × (result.ring ≡ after.ring) }
 {
-    let first = before.step;
-    let second = after.step;
-    let step = first.join(second);
-    let ring = after.ring;
     Decision {
-        step: step,
-        ring: ring,
+        step: before.step.join(after.step),
+        ring: after.ring,
     }
 }
 
 // Terms from the heavy end, each by the gcd of the undecided weights before it and behind it. Conditions of a row are distinct,
 // so that a decision made here is none of a later term's; its weight stays among those before.
 fn force_from(
-    conditions: &[u16],
-    weights: &[u64],
+    terms: Terms<'_>,
     gcds: &[u64],
     i: Interval,
     sure: &mut [u64],
@@ -223,24 +186,22 @@ fn force_from(
     node_queue: &mut [u16],
     ring: Ring,
 ) -> Decision
-    requires shape { Shape conditions.now weights.now sure.old never.old }
-    requires weights_in_bounds { (length weights.now < length gcds.now) × (i.known < 2 ^ 63) × Below (2 ^ 63) weights.now × Waits (marks sure.old never.old (queue node_queue.old ring)) }
-    ensures { decidedOf (marks sure.new never.new (queue node_queue.new result.ring)) result.step ≡ force_from i (placed gcds.now) (terms conditions.now weights.now) 0 (marks sure.old never.old (queue node_queue.old ring)) Unchanged }
+    requires shape { Shape terms.conditions.now terms.weights.now sure.old never.old }
+    requires weights_in_bounds { (length terms.weights.now < length gcds.now) × (i.known < 2 ^ 63) × Below (2 ^ 63) terms.weights.now × Waits (marks sure.old never.old (queue node_queue.old ring)) }
+    ensures { decidedOf (marks sure.new never.new (queue node_queue.new result.ring)) result.step ≡ force_from i (placed gcds.now) (terms_of terms.entry) 0 (marks sure.old never.old (queue node_queue.old ring)) Unchanged }
 {
-    let mut position: usize = 0;
     let mut prefix: u64 = 0;
     let mut so_far = Decision {
         step: Step::Unchanged,
-        ring: ring,
+        ring,
     };
-    while position < weights.len() {
-        let node = conditions[position];
+    for position in 0..terms.weights.len() {
+        let node = terms.conditions[position];
         if words::decided(sure, never, node) {
-            position += 1;
             continue;
         }
-        let weight = weights[position];
-        let divisor = misses::gcd(prefix, gcds[weights.len() - position - 1]);
+        let weight = terms.weights[position];
+        let divisor = misses::gcd(prefix, gcds[terms.weights.len() - position - 1]);
         let forced = force_term(
             i,
             node,
@@ -252,48 +213,29 @@ fn force_from(
             so_far.ring,
         );
         so_far = joined_decision(so_far, forced);
-        let step = forced.step;
-        if step.contradicts() {
+        if forced.step.contradicts() {
             return so_far;
         }
         prefix = misses::gcd(prefix, weight);
-        position += 1;
     }
     so_far
 }
 
 // Nothing can be forced: no residual interval, or every gcd of all weights but one fits it.
-fn nothing_forced(
-    conditions: &[u16],
-    weights: &[u64],
-    state: State,
-    sure: &[u64],
-    never: &[u64],
-) -> bool
-    requires { Shape conditions.now weights.now sure.now never.now }
+fn nothing_forced(terms: Terms<'_>, state: State, sure: &[u64], never: &[u64]) -> bool
+    requires { Shape terms.conditions.now terms.weights.now sure.now never.now }
     ensures { result
-        ≡ nothing_forced (terms conditions.now weights.now) state (in_either sure.now never.now) }
+        ≡ nothing_forced (terms_of terms.entry) state (in_either sure.now never.now) }
 {
-    if !rows::has_nonunit(conditions, weights) {
-        return true;
-    }
-    if !state.has_residual_interval() {
-        return true;
-    }
-    fits_from(
-        conditions,
-        weights,
-        intervals::interval_of(state),
-        sure,
-        never,
-    )
+    !terms.has_nonunit()
+        || !state.has_residual_interval()
+        || fits_from(terms, intervals::interval_of(state), sure, never)
 }
 
 // What divisibility shows of a drained row: that no sum is allowed, or which of its terms are forced. `gcds` holds the suffixes
 // after it where terms were looked at one by one.
 pub fn threshold_residual(
-    conditions: &[u16],
-    weights: &[u64],
+    terms: Terms<'_>,
     state: State,
     sure: &mut [u64],
     never: &mut [u64],
@@ -301,27 +243,26 @@ pub fn threshold_residual(
     ring: Ring,
     gcds: &mut [u64],
 ) -> Decision
-    requires shape { Shape conditions.now weights.now sure.old never.old }
-    requires weights_in_bounds { (length weights.now < length gcds.old) × Below (2 ^ 63) weights.now × Waits (marks sure.old never.old (queue node_queue.old ring)) }
-    ensures { residual (marks sure.new never.new (queue node_queue.new result.ring)) result.step gcds.new ≡ threshold_residual (terms conditions.now weights.now) state (marks sure.old never.old (queue node_queue.old ring)) gcds.old }
+    requires shape { Shape terms.conditions.now terms.weights.now sure.old never.old }
+    requires weights_in_bounds { (length terms.weights.now < length gcds.old) × Below (2 ^ 63) terms.weights.now × Waits (marks sure.old never.old (queue node_queue.old ring)) }
+    ensures { residual (marks sure.new never.new (queue node_queue.new result.ring)) result.step gcds.new ≡ threshold_residual (terms_of terms.entry) state (marks sure.old never.old (queue node_queue.old ring)) gcds.old }
 {
-    let checked = threshold_residual_check(conditions, weights, state, sure, never);
+    let checked = threshold_residual_check(terms, state, sure, never);
     if checked.contradicts() {
         return Decision {
             step: Step::Contradiction,
-            ring: ring,
+            ring,
         };
     }
-    if nothing_forced(conditions, weights, state, sure, never) {
+    if nothing_forced(terms, state, sure, never) {
         return Decision {
             step: Step::Unchanged,
-            ring: ring,
+            ring,
         };
     }
-    prepare_suffix(conditions, weights, sure, never, gcds);
+    prepare_suffix(terms, sure, never, gcds);
     force_from(
-        conditions,
-        weights,
+        terms,
         gcds,
         intervals::interval_of(state),
         sure,

@@ -1,5 +1,5 @@
 -- A row rests where the next place of each scan waits or none is left. Assumes nothing.
-use Rattle.std.specs.Prelude.{ℕ, ◌+◌, ◌-◌, ◌<◌, ◌≤◌, ◌≡◌, Bool, ◌&&◌, length, get_or, take, drop, ℤ, pos, ◌-ℤ◌}
+use Rattle.std.specs.Prelude.{ℕ, ◌+◌, ◌-◌, ◌<◌, ◌≤◌, ◌≡◌, Bool, ◌&&◌, length, get_or, take, drop, ℤ, pos, ◌-ℤ◌, Option, None}
 use native.Mathlib.Omega.{arith}
 use Rattle.std.proofs.Common.{add-one, sym, ◌∙◌, drop_of_length-le}
 use Rattle.std.proofs.Math.Path.{refl, ap, ap₂}
@@ -12,8 +12,6 @@ use Rattle.numeric.specs.TermsLaws.{up_terms, length-terms}
 use Rattle.state.specs.declared.Step.{Step}
 use Rattle.state.specs.declared.Step.TheVariants.{Unchanged}
 use Rattle.state.specs.declared.State.{State}
-use Rattle.state.specs.declared.Upper.{Upper}
-use Rattle.state.specs.declared.Upper.TheVariants.{Open}
 use Rattle.state.specs.State.{reached, limited, upper_at_most, conflict, has_residual_interval, with_guards}
 use Rattle.queues.specs.Marks.{Marks, Decided, is_decided}
 use Rattle.rows.specs.Rows.{row_of, Guard, guard, has_nonunit}
@@ -87,14 +85,14 @@ module _ (ts : List Term) (s : State) (m : Marks) where
 -- ---- the row
 
 -- A row with no upper that can reach its lower, and none of whose scans passes a place.
-module _ (raw ts : List Term) (gs : List Guard) (s : State) (m : Marks) (no-upper : s.upper ≡ Open) (fits : lt_z s.possible s.lower ≡ false) where
+module _ (raw ts : List Term) (gs : List Guard) (s : State) (m : Marks) (no-upper : s.upper ≡ None) (fits : lt_z s.possible s.lower ≡ false) where
   free : conflict s ≡ false
   unfolding conflict
   free = rw (fits, no-upper)
 
   no-interval : has_residual_interval s ≡ false
   unfolding has_residual_interval
-  no-interval = ap (λ (u : Upper). lt_z s.known s.lower && upper_at_most u s.possible) no-upper ∙ by (lt_z s.known s.lower)
+  no-interval = ap (λ (u : Option ℤ). lt_z s.known s.lower && upper_at_most u s.possible) no-upper ∙ by (lt_z s.known s.lower)
     where
       by : (b : Bool) → (b && false) ≡ false
       by true = refl

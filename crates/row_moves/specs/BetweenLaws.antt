@@ -14,14 +14,13 @@ use Rattle.state.specs.declared.Step.TheVariants.{Unchanged}
 use Rattle.queues.specs.declared.Rings.{Rings}
 use Rattle.queues.specs.Queue.{Rows, queue_row}
 use Rattle.rows.specs.Rows.{Row, row_number}
-use Rattle.tightening.specs.declared.Tightened.{Tightened}
 use Rattle.row_moves.specs.Between.{Index, Live, live, state_at, with_state, with_dirty, with_bound, Did, did, residual_queued, linked_queued, run_with, bounded, threshold_guard, with_dirty_rows, with_marks, with_residuals, with_states}
 use Rattle.row_moves.specs.Held.{Holds, held_row}
 use Rattle.row_moves.specs.HeldLaws.{run_held}
 use Rattle.row_moves.specs.WalkLaws.{guard-ends}
 use Rattle.row_moves.specs.Handing.{guard_row}
 use Rattle.base.specs.TestLaws.{contrary}
-use Rattle.tightening.specs.Told.{guard_state}
+use Rattle.tightening.specs.Told.{Tightened, guard_state}
 use Rattle.row_runs.specs.Row.{Ran, ran, threshold_row, wants_residual}
 use Rattle.resting.specs.Rest.{Rests}
 

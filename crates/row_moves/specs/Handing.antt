@@ -9,8 +9,7 @@ use Rattle.state.specs.State.{drained}
 use Rattle.words.specs.Mask.{bit}
 use Rattle.rows.specs.Rows.{Row, no_row, Edge, row_number}
 use Rattle.links.specs.Links.{neighbours}
-use Rattle.tightening.specs.declared.Tightened.{Tightened}
-use Rattle.tightening.specs.Told.{guard_state, moved_state}
+use Rattle.tightening.specs.Told.{Tightened, guard_state, moved_state}
 use Rattle.row_moves.specs.Between.{Index, Live, state_at, with_state, with_dirty, with_bound, Did, did, run_with, run_row, term_count}
 
 -- ---- as the code takes them

@@ -26,6 +26,10 @@ stretch_cons d l a e h k =
     let z : e - a ≡ suc (e - (a + 1)) = omega arith in
     rw (z, drop-cons l a d (omega arith), ← add-one a)
 
+-- Place i of a stretch.
+pub stretch-at : {X : Type 0} (d : X) (l : List X) (a e i : ℕ) → i < e - a → get_or (stretch a e l) i d ≡ get_or l (a + i) d
+stretch-at d l a e i h = get_or-take (e - a) (drop a l) i d h ∙ get_or-drop a l i d
+
 pub stretch-none : {X : Type 0} (l : List X) (a e : ℕ) → e ≤ a → stretch a e l ≡ []
 stretch-none l a e h = let z : e - a ≡ 0 = omega arith in rw z
 

@@ -16,3 +16,5 @@ pub mod KeptHeldLaws
 pub mod Stored
 pub mod StoredLaws
 pub mod FirstLaws
+pub mod Lent
+pub mod LentLaws

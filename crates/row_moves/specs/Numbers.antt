@@ -1,8 +1,6 @@
 -- Row states and the live state, as the buffers hold them.
-use Rattle.std.specs.Prelude.{ℕ, ◌≤◌, ◌≡◌, cond, List, [], ◌∷◌, map, length, get_or, eqb, ℤ, pos}
+use Rattle.std.specs.Prelude.{ℕ, ◌≤◌, ◌≡◌, cond, List, [], ◌∷◌, map, length, get_or, eqb, ℤ, pos, Option, None, Some}
 use Rattle.state.specs.declared.State.{State}
-use Rattle.state.specs.declared.Upper.{Upper}
-use Rattle.state.specs.declared.Upper.TheVariants.{Open, Under}
 use Rattle.state.specs.State.{state_of, figures_of, cursors_of}
 use Rattle.state.specs.Shape.{Figures}
 use Rattle.queues.specs.declared.Ring.{Ring}
@@ -12,8 +10,8 @@ use Rattle.queues.specs.Slot.{rows_in}
 use Rattle.queues.specs.Marks.{marks}
 use Rattle.row_moves.specs.Between.{Live, live}
 
-abbrev pub upper_of : ℕ → ℤ → Upper
-upper_of flag z = cond (eqb flag 1) (Under z) Open
+abbrev pub upper_of : ℕ → ℤ → Option ℤ
+upper_of flag z = cond (eqb flag 1) (Some z) None
 
 unfoldable pub row_state : List ℤ → List ℕ → State
 row_state f c =

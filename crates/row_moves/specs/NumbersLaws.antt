@@ -1,9 +1,7 @@
 -- Laws of row states as the buffers hold them: what is stored is read again, and tidy words stay tidy.
-use Rattle.std.specs.Prelude.{ℕ, zero, suc, ◌≤◌, ◌<◌, ◌≡◌, refl, cond, List, [], ◌∷◌, map, length, get_or, set, ℤ}
+use Rattle.std.specs.Prelude.{ℕ, zero, suc, ◌≤◌, ◌<◌, ◌≡◌, refl, cond, List, [], ◌∷◌, map, length, get_or, set, ℤ, Option, None, Some}
 use Rattle.std.proofs.Common.{not-suc-le-zero, le_of_suc-le-suc, arith, sym, ap, ◌∙◌}
 use Rattle.state.specs.declared.State.{State}
-use Rattle.state.specs.declared.Upper.{Upper}
-use Rattle.state.specs.declared.Upper.TheVariants.{Open, Under}
 use Rattle.state.specs.State.{state_of, no_state, limit, limited, figures_of, cursors_of}
 use Rattle.queues.specs.SlotLaws.{map-set}
 use Rattle.row_moves.specs.Numbers.{row_state, Runs, states_of, Tidy, Same}
@@ -13,10 +11,10 @@ pub stored_read : (s : State) → row_state (figures_of s) (cursors_of s) ≡ s
 unfolding row_state
 stored_read s = by s.upper
   where
-    by : (u : Upper) → row_state (s.known ∷ s.possible ∷ s.lower ∷ limit u ∷ []) (s.sure_guard ∷ s.never_guard ∷ s.true_term ∷ s.false_term ∷ cond (limited u) 1 0 ∷ [])
+    by : (u : Option ℤ) → row_state (s.known ∷ s.possible ∷ s.lower ∷ limit u ∷ []) (s.sure_guard ∷ s.never_guard ∷ s.true_term ∷ s.false_term ∷ cond (limited u) 1 0 ∷ [])
         ≡ state_of s.known s.possible s.lower u s.sure_guard s.never_guard s.true_term s.false_term
-    by Open = refl
-    by (Under b) = refl
+    by None = refl
+    by (Some b) = refl
 
 pub runs_by : (s t : State) (bounds : List ℤ) → s ≡ t → Runs t bounds → Runs s bounds
 runs_by s t bounds e r = rw e r

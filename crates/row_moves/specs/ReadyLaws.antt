@@ -1,13 +1,11 @@
 -- What is ready stays so: when a state is stored, a row run, a weight drained or a bound told. Assumes nothing.
-use Rattle.std.specs.Prelude.{ℕ, ◌+◌, ◌<◌, ◌≤◌, ◌≡◌, refl, Bool, true, false, cond, List, length, get_or, set, ℤ, pos}
+use Rattle.std.specs.Prelude.{ℕ, ◌+◌, ◌<◌, ◌≤◌, ◌≡◌, refl, Bool, true, false, cond, List, length, get_or, set, ℤ, pos, Option, Some}
 use Rattle.std.proofs.Math.Decide.{ℕ_discrete}
 use Rattle.std.proofs.Common.{arith, length-set, get_or-set_same, get_or-set_other}
 use Rattle.std.specs.Int.Signed.{mag}
 use Rattle.memory.specs.Buffers.{HeldRows}
 use Rattle.base.specs.SignedLaws.{mag_add, mag_minus}
 use Rattle.state.specs.declared.State.{State}
-use Rattle.state.specs.declared.Upper.{Upper}
-use Rattle.state.specs.declared.Upper.TheVariants.{Under}
 use Rattle.state.specs.State.{no_state, limit, with_lower, with_upper, drained, with_known, with_possible}
 use Rattle.state.specs.Shape.{Drains}
 use Rattle.queues.specs.Queue.{Rows, queue_row}
@@ -20,8 +18,7 @@ use Rattle.rows.specs.ListsLaws.{stretch-length}
 use Rattle.row_runs.specs.GuardsLaws.{all_guards, all_terms_lem}
 use Rattle.row_runs.specs.Row.{wants_residual, threshold_row}
 use Rattle.row_runs.proofs.RowLaws.{Moved, kept_row}
-use Rattle.tightening.specs.declared.Tightened.{Tightened}
-use Rattle.tightening.specs.Told.{guard_state, moved_lower, moved_state}
+use Rattle.tightening.specs.Told.{Tightened, guard_state, moved_lower, moved_state}
 use Rattle.tightening.specs.ToldLaws.{guard-cases, lower_cases, upper_cases}
 use Rattle.memory.specs.Limits.{max_thresholds}
 use Rattle.memory.specs.Ranges.{figure_limit, weight_limit, drain_limit}
@@ -127,13 +124,13 @@ module _ (h : HeldRows) (n r : ℕ) where
   unfolding with_lower
   fit-lower s b l f = record { known = f.known; possible = f.possible; lower = l; upper = f.upper; inside = f.inside }
 
-  fit-upper : (s : State) (u : Upper) → mag (limit u) < figure_limit → Fit h n r s → Fit h n r (with_upper s u)
+  fit-upper : (s : State) (u : Option ℤ) → mag (limit u) < figure_limit → Fit h n r s → Fit h n r (with_upper s u)
   unfolding with_upper
   fit-upper s u l f = record { known = f.known; possible = f.possible; lower = f.lower; upper = l; inside = f.inside }
 
   -- A guard's bound is told.
   pub fit_guard : (s : State) (value : Bool) (b : ℤ) → mag b < figure_limit → Fit h n r s → Fit h n r (guard_state s value b).state
-  fit_guard s value b l f = guard-cases s value b (λ (t : Tightened). Fit h n r t.state) (λ e. f) (λ e g. fit-lower s b l f) (λ e g. fit-upper s (Under b) l f)
+  fit_guard s value b l f = guard-cases s value b (λ (t : Tightened). Fit h n r t.state) (λ e. f) (λ e g. fit-lower s b l f) (λ e g. fit-upper s (Some b) l f)
 
   -- Another row's bounds are told.
   pub fit_prefix : (source s : State) (i k : ℕ) → mag source.lower < figure_limit → mag (limit source.upper) < figure_limit → Fit h n r s

@@ -6,3 +6,4 @@ pub mod GuardsLaws
 pub mod Shape
 pub mod Runs
 pub mod RunsLaws
+pub mod Lent

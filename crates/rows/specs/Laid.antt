@@ -1,7 +1,7 @@
 -- Rows as the buffers hold them: terms and guards of all rows one behind the other, and for each node its threshold and its edges.
-use Rattle.std.specs.Prelude.{ℕ, ◌+◌, Bool, true, false, List, [], ◌∷◌, map, eqb, ℤ}
-use Rattle.base.specs.Laid.{join_all, ends, numbers}
-use Rattle.numeric.specs.Threshold.{Term, Threshold, Job}
+use Rattle.std.specs.Prelude.{ℕ, ◌+◌, true, false, List, [], ◌∷◌, map, eqb, ℤ}
+use Rattle.base.specs.Laid.{join_all, numbers}
+use Rattle.numeric.specs.Threshold.{Term, Threshold}
 use Rattle.rows.specs.Rows.{Row, Guard, Edge, edges_of, row_number}
 
 abbrev pub conditions : List Term → List ℕ

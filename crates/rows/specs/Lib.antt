@@ -4,3 +4,4 @@ pub mod Guards
 pub mod GuardsLaws
 pub mod ListsLaws
 pub mod Lists
+pub mod Lent

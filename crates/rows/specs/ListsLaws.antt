@@ -1,8 +1,9 @@
 -- Laws of lists of terms in two parallel slices: read place by place, compared, added up, and parts of slices.
-use Rattle.std.specs.Prelude.{ℕ, suc, ◌+◌, ◌-◌, ◌<◌, ◌≤◌, ◌≡◌, refl, Bool, true, false, ◌&&◌, List, [], ◌∷◌, length, drop, get_or, eqb, ltb}
+use Rattle.std.specs.Prelude.{ℕ, suc, ◌+◌, ◌-◌, ◌<◌, ◌≤◌, ◌≡◌, refl, Bool, true, false, ◌&&◌, List, [], ◌∷◌, length, drop, get_or, eqb, ltb, sum}
 use Rattle.std.proofs.Common.{add_assoc, arith, sym, ap, ap₂, ◌∙◌, drop_of_length-le, length-take, length-drop, eqb-true, eq-eqb}
 use Rattle.std.proofs.Math.Numerals.{add-one}
 use Rattle.std.proofs.Math.Seq.{drop-cons}
+use Rattle.std.proofs.lemmas.List.Sums.{sum_by-cons}
 use Rattle.base.specs.TestLaws.{and_left, and_right, unequal}
 use Rattle.numeric.specs.Threshold.{Term, term}
 use Rattle.numeric.specs.Slices.{terms}
@@ -76,6 +77,14 @@ unfolding has_nonunit terms
 nonunit_first cs [] h n = absurd (n refl)
 nonunit_first [] (w ∷ ws) h n = absurd (omega arith)
 nonunit_first (c ∷ cs) (w ∷ ws) h n = refl
+
+-- The sum of the weights alone is the total of the terms.
+pub sum_total : (cs ws : List ℕ) → length ws ≡ length cs → sum ws ≡ total (terms cs ws)
+unfolding terms total
+sum_total [] [] h = refl
+sum_total [] (w ∷ ws) h = absurd (omega arith)
+sum_total (c ∷ cs) [] h = absurd (omega arith)
+sum_total (c ∷ cs) (w ∷ ws) h = sum_by-cons (λ (x : ℕ). x) w ws ∙ ap (λ (s : ℕ). w + s) (sum_total cs ws (omega arith))
 
 pub total_next : (cs ws : List ℕ) (s i : ℕ) → i < length cs → i < length ws
     → s + total (terms (drop i cs) (drop i ws)) ≡ s + get_or ws i 0 + total (terms (drop (i + 1) cs) (drop (i + 1) ws))

@@ -1,8 +1,8 @@
 -- The rows of a job: thresholds with the same raw list share one. The grouping of `prepare` on values.
-use Rattle.std.specs.Prelude.{ℕ, ◌+◌, ◌≡◌, Bool, true, false, ◌&&◌, ◌||◌, not, cond, List, [], ◌∷◌, ◌++◌, length, get_or, ℤ, eqb, leb, ltb}
+use Rattle.std.specs.Prelude.{ℕ, ◌+◌, ◌≡◌, Bool, true, false, ◌&&◌, ◌||◌, List, [], ◌∷◌, ◌++◌, length, ℤ, eqb, ltb}
 use Rattle.std.specs.Int.Signed.{le_z, lt_z}
 use Rattle.base.specs.Insertion.{insert}
-use Rattle.numeric.specs.Threshold.{Term, term, Threshold, Job}
+use Rattle.numeric.specs.Threshold.{Term, Threshold, Job}
 use Rattle.state.specs.declared.State.{State}
 use Rattle.state.specs.State.{first_state}
 use Rattle.row.specs.Terms.{row_terms, same_terms, total}

@@ -3,63 +3,44 @@
 #![tactic(auto)]
 
 ghost use Rattle.std.specs.Prelude.{◌≡◌, ◌+◌, ◌-◌, ◌^◌, ◌≤◌, ◌<◌, length};
-ghost use Rattle.numeric.specs.Slices.{terms};
 ghost use Rattle.row.specs.Terms.{total};
 ghost use Rattle.base.specs.Parts.{end_by, start_by};
 ghost use Rattle.base.specs.Deal.{begins, sum_to};
 ghost use Rattle.base.specs.Columns.{column, with_column, Wide};
 ghost use Rattle.rows.specs.Guards.{node_at};
 ghost use Rattle.rows.specs.Rows.{has_nonunit};
+ghost use Rattle.rows.specs.Lent.{terms_of};
 
-// Where the raw list of a threshold starts.
-pub fn start_of(thresholds: &[[u16; 2]], t: usize) -> usize
-    requires { t ≤ length thresholds.now }
-    ensures { result ≡ start_by 1 thresholds.now t }
-{
-    if t == 0 {
-        return 0;
-    }
-    end_of(thresholds, t - 1)
+// The terms of one row, the heaviest first. They are two buffers since C lends them so.
+#[derive(Clone, Copy)]
+pub struct Terms<'a> {
+    pub conditions: &'a [u16],
+    pub weights: &'a [u64],
 }
 
-pub fn end_of(thresholds: &[[u16; 2]], t: usize) -> usize
-    requires { t < length thresholds.now }
-    ensures { result ≡ end_by 1 thresholds.now t }
-{
-    let pair = thresholds[t];
-    place(pair[1])
+impl Terms<'_> {
+    // Some merged weight of the row is above 1; the first is the heaviest.
+    pub fn has_nonunit(self) -> bool
+        requires { length self.weights.now ≡ length self.conditions.now }
+        ensures { result ≡ has_nonunit (terms_of self.entry) }
+    {
+        !self.weights.is_empty() && self.weights[0] > 1
+    }
+
+    // The sum of the row's weights.
+    pub fn total(self) -> u64
+        requires { (length self.weights.now ≡ length self.conditions.now) × (total (terms_of self) < 2 ^ 64) }
+        ensures { result ≡ total (terms_of self.entry) }
+    {
+        self.weights.iter().sum()
+    }
 }
 
 // A number of 16 bits as a place in a slice.
 pub fn place(x: u16) -> usize
     ensures { (result ≡ x) × (result < 65536) }
 {
-    x as usize
-}
-
-// Some merged weight of a row is above 1; the first is the heaviest.
-pub fn has_nonunit(conditions: &[u16], weights: &[u64]) -> bool
-    requires { length weights.now ≡ length conditions.now }
-    ensures { result ≡ has_nonunit (terms conditions.now weights.now) }
-{
-    if weights.len() == 0 {
-        return false;
-    }
-    weights[0] > 1
-}
-
-// The sum of a row's weights.
-pub fn total(conditions: &[u16], weights: &[u64]) -> u64
-    requires { (length weights.now ≡ length conditions.now) × (total (terms conditions.now weights.now) < 2 ^ 64) }
-    ensures { result ≡ total (terms conditions.now weights.now) }
-{
-    let mut sum: u64 = 0;
-    let mut i: usize = 0;
-    while i < weights.len() {
-        sum += weights[i];
-        i += 1;
-    }
-    sum
+    usize::from(x)
 }
 
 // Counts in a column become the places where the items begin.
@@ -67,22 +48,21 @@ pub fn sum_column(rows: &mut [[u16; 3]], j: usize)
     requires { (j < 3) × (Wide j rows.old) × (sum_to (column j rows.old) (length rows.old) < 65536) }
     ensures { rows.new ≡ with_column j rows.old (begins 0 (column j rows.old)) }
 {
-    let mut sum: u16 = 0;
-    let mut i: usize = 0;
-    while i < rows.len() {
-        let row = rows[i];
-        rows[i][j] = sum;
-        sum += row[j];
-        i += 1;
+    let mut sum = 0;
+    for row in rows.iter_mut() {
+        let count = row[j];
+        row[j] = sum;
+        sum += count;
     }
 }
 
 // A row has three columns: where its terms, its guards and its neighbours end. So has a node: its threshold, that threshold's row, and where
-// its edges end. Callers name the column by the function that they call.
+// its edges end. A threshold has two: its node, and where its raw list ends. Callers name the column by the function that they call, which is
+// plainer than a number or a constant in its place.
 
 // By column j, where the stretch of an entry begins: where that of the entry before it ends.
-fn start_by(table: &[[u16; 3]], j: usize, n: usize) -> usize
-    requires { (n ≤ length table.now) × (j < 3) }
+fn start_by<const N: usize>(table: &[[u16; N]], j: usize, n: usize) -> usize
+    requires { (n ≤ length table.now) × (j < N) }
     ensures { (result ≡ start_by j table.now n) × (result < 65536) }
 {
     if n == 0 {
@@ -92,12 +72,11 @@ fn start_by(table: &[[u16; 3]], j: usize, n: usize) -> usize
 }
 
 // By column j, where the stretch of an entry ends.
-fn end_by(table: &[[u16; 3]], j: usize, n: usize) -> usize
-    requires { (n < length table.now) × (j < 3) }
+fn end_by<const N: usize>(table: &[[u16; N]], j: usize, n: usize) -> usize
+    requires { (n < length table.now) × (j < N) }
     ensures { (result ≡ end_by j table.now n) × (result < 65536) }
 {
-    let entry = table[n];
-    place(entry[j])
+    usize::from(table[n][j])
 }
 
 // By column j, how long the stretch of an entry is.
@@ -105,9 +84,23 @@ fn count_by(table: &[[u16; 3]], j: usize, n: usize) -> usize
     requires { (n < length table.now) × (j < 3) × (start_by j table.now n ≤ end_by j table.now n) }
     ensures { result ≡ end_by j table.now n - start_by j table.now n }
 {
-    let a = start_by(table, j, n);
-    let e = end_by(table, j, n);
-    e - a
+    end_by(table, j, n) - start_by(table, j, n)
+}
+
+// Where the raw list of a threshold starts.
+pub fn start_of(thresholds: &[[u16; 2]], t: usize) -> usize
+    requires { t ≤ length thresholds.now }
+    ensures { result ≡ start_by 1 thresholds.now t }
+{
+    start_by(thresholds, 1, t)
+}
+
+// Where the raw list of a threshold ends.
+pub fn end_of(thresholds: &[[u16; 2]], t: usize) -> usize
+    requires { t < length thresholds.now }
+    ensures { result ≡ end_by 1 thresholds.now t }
+{
+    end_by(thresholds, 1, t)
 }
 
 // Where the terms of a row begin.
@@ -182,7 +175,7 @@ pub fn links_count(rows: &[[u16; 3]], row: usize) -> usize
     count_by(rows, 2, row)
 }
 
-// The number of a node's threshold, counted from 1; 0 for none.
+// The number of a node's threshold, counted from 1; 0 for none, as the nodes' buffer holds it and the theorems on nodes read it (`end_by 0`).
 pub fn threshold_of(nodes: &[[u16; 3]], node: usize) -> usize
     requires { node < length nodes.now }
     ensures { (result ≡ end_by 0 nodes.now node) × (result < 65536) }
@@ -219,6 +212,5 @@ pub fn node_of(thresholds: &[[u16; 2]], t: usize) -> usize
     requires { t < length thresholds.now }
     ensures { (result ≡ node_at thresholds.now t) × (result < 65536) }
 {
-    let pair = thresholds[t];
-    place(pair[0])
+    end_by(thresholds, 0, t)
 }

@@ -2,7 +2,7 @@
 -- One that is cut short never contradicts, and none uses more than 4 visits for each term.
 use Prim.Native.Nat.{ℕ, zero, suc, ◌+◌, ◌-◌, ◌*◌, ◌/◌, ◌<◌, ◌≤◌, min}
 use Rattle.std.proofs.Common.{lt_of_lt_of_le, arith, sym, ap, ◌∙◌, subst, inl, inr, ltb-true, leb-true}
-use Rattle.std.specs.Prelude.{◌≡◌, Bool, true, false, ◌≢◌, ◌⊎◌, ◌↔◌, length, ltb, ℤ, pos, negsuc, ◌+ℤ◌, ◌-ℤ◌}
+use Rattle.std.specs.Prelude.{◌≡◌, Bool, true, false, ◌≢◌, ◌⊎◌, ◌↔◌, length, ltb, ℤ, pos, negsuc, ◌+ℤ◌, ◌-ℤ◌, Option, Some, None}
 use Rattle.std.proofs.Math.Path.{refl}
 use mathlib.Core.List.{List, [], ◌∷◌, reverse}
 use Rattle.std.proofs.Math.IntN.{+ℤ_idl, +ℤ_comm, +ℤ-neg_ℤ_cancel}
@@ -14,8 +14,6 @@ use Rattle.base.specs.SignedLaws.{natural_minus, le_z-sub, lt_z_minus}
 use Rattle.base.specs.Signed.{natural}
 use Rattle.state.specs.declared.State.{State}
 use Rattle.state.specs.declared.Step.TheVariants.{Unchanged, Contradiction}
-use Rattle.state.specs.declared.Upper.{Upper}
-use Rattle.state.specs.declared.Upper.TheVariants.{Under}
 use Rattle.state.specs.State.{limit}
 use Rattle.state.specs.StateLaws.{known_lower, upper_cuts}
 use Rattle.words.specs.declared.Ended.{Ended}
@@ -23,8 +21,6 @@ use Rattle.words.specs.declared.Ended.TheVariants.{Hit, Complete, Stopped}
 use Rattle.words.specs.Shift.{union_shifted}
 use Rattle.row.specs.Terms.{row_terms}
 use Rattle.searches.specs.declared.Window.{Window}
-use Rattle.searches.specs.declared.Plan.{Plan}
-use Rattle.searches.specs.declared.Plan.TheVariants.{Unplanned, Planned}
 use Rattle.searches.specs.declared.Search.{Search}
 use Rattle.searches.specs.declared.Search.TheVariants.{Skipped, Fits, Nothing, Cut}
 use Rattle.searches.specs.Search.{window, plan, search, search_from, search_step, search_visits, chosen, Lands}
@@ -120,7 +116,7 @@ above (negsuc n) e = absurd (unequal cc)
 gap_above : (a b : ℤ) → lt_z a b ≡ true → 0 < natural (b -ℤ a)
 gap_above a b h = above (b -ℤ a) (lt_z_minus (pos 0) b a ∙ ap (λ (z : ℤ). lt_z z b) (+ℤ_idl a) ∙ h)
 
-begins : (ts : List Term) (s : State) (w : Window) → plan ts s ≡ Planned w → (w.words ≡ w.maximum / 64 + 1) × (0 < w.lower)
+begins : (ts : List Term) (s : State) (w : Window) → plan ts s ≡ Some w → (w.words ≡ w.maximum / 64 + 1) × (0 < w.lower)
 begins ts s w e =
     let p = plan_is ts s w e in
     subst (λ (v : Window). (v.words ≡ v.maximum / 64 + 1) × (0 < v.lower)) p.same (refl, gap_above s.known s.lower (known_lower s p.cut))
@@ -128,7 +124,7 @@ begins ts s w e =
 -- ---- THE THEOREMS
 
 module _ (raw : List Term) (s : State) (d : ℕ → Bool) where
-  answered : (w : Window) → plan (row_terms raw) s ≡ Planned w → Answers w d [] (reverse (row_terms raw)) (search (row_terms raw) s d)
+  answered : (w : Window) → plan (row_terms raw) s ≡ Some w → Answers w d [] (reverse (row_terms raw)) (search (row_terms raw) s d)
   answered w e =
       let b = begins (row_terms raw) s w e in
       subst (Answers w d [] (reverse (row_terms raw))) (sym (search-begins (row_terms raw) s d w e))
@@ -139,7 +135,7 @@ module _ (raw : List Term) (s : State) (d : ℕ → Bool) where
   whole choice = omega (arith, chosen_none d choice, chosen-reverse d choice (row_terms raw))
 
 -- PLANNED AND NOT CUT SHORT: A CONTRADICTION EXACTLY IF NO CHOICE LANDS IN THE WINDOW
-pub search_exact : (raw : List Term) (s : State) (decided : ℕ → Bool) (w : Window) → plan (row_terms raw) s ≡ Planned w
+pub search_exact : (raw : List Term) (s : State) (decided : ℕ → Bool) (w : Window) → plan (row_terms raw) s ≡ Some w
     → ((n : ℕ) → search (row_terms raw) s decided ≢ Cut n)
     → (search_step (search (row_terms raw) s decided) ≡ Contradiction) ↔ ((choice : ℕ → Bool) → Lands w decided (row_terms raw) choice → ⊥)
 search_exact raw s d w e n = by (search (row_terms raw) s d) refl (answered raw s d w e)
@@ -182,7 +178,7 @@ lands ts s d choice f g =
     )
 
 pub search_refutes : (raw : List Term) (s : State) (d : ℕ → Bool) → search_step (search (row_terms raw) s d) ≡ Contradiction
-    → (b : ℤ) × (s.upper ≡ Under b)
+    → (b : ℤ) × (s.upper ≡ Some b)
     × ((choice : ℕ → Bool) → le_z s.lower (s.known +ℤ pos (chosen d choice (row_terms raw))) ≡ true
     → lt_z (s.known +ℤ pos (chosen d choice (row_terms raw))) b ≡ true → ⊥)
 search_refutes raw s d q = by (plan (row_terms raw) s) refl
@@ -190,12 +186,12 @@ search_refutes raw s d q = by (plan (row_terms raw) s) refl
     not-cut : (n : ℕ) → search (row_terms raw) s d ≢ Cut n
     not-cut n e = let z = sym (ap search_step e) ∙ q in unequal cc
 
-    by : (p : Plan) → plan (row_terms raw) s ≡ p → (b : ℤ) × (s.upper ≡ Under b)
+    by : (p : Option Window) → plan (row_terms raw) s ≡ p → (b : ℤ) × (s.upper ≡ Some b)
         × ((choice : ℕ → Bool) → le_z s.lower (s.known +ℤ pos (chosen d choice (row_terms raw))) ≡ true
         → lt_z (s.known +ℤ pos (chosen d choice (row_terms raw))) b ≡ true → ⊥)
-    by Unplanned e =
+    by None e =
         absurd (let z = sym (ap search_step (search-none (row_terms raw) s d e)) ∙ q in unequal cc)
-    by (Planned w) e =
+    by (Some w) e =
         let p = plan_is (row_terms raw) s w e in
         let u = upper_cuts s p.cut in (
           u.0,
@@ -204,7 +200,7 @@ search_refutes raw s d q = by (plan (row_terms raw) s) refl
               (search_exact raw s d w e not-cut).0 q choice
               (subst (λ (v : Window). Lands v d (row_terms raw) choice) p.same
               (lands (row_terms raw) s d choice f
-              (ap (λ (x : Upper). lt_z (s.known +ℤ pos (chosen d choice (row_terms raw))) (limit x)) u.1 ∙ g))),
+              (ap (λ (x : Option ℤ). lt_z (s.known +ℤ pos (chosen d choice (row_terms raw))) (limit x)) u.1 ∙ g))),
         )
 
 -- ---- visits
@@ -233,8 +229,8 @@ from_visits w d (t ∷ ts) sums maximum (suc left) =
 pub search_visits_lem : (ts : List Term) (s : State) (d : ℕ → Bool) → search_visits 0 (search ts s d) ≤ 4 * length ts
 search_visits_lem ts s d = by (plan ts s) refl
   where
-    by : (p : Plan) → plan ts s ≡ p → search_visits 0 (search ts s d) ≤ 4 * length ts
-    by Unplanned e = rw (search-none ts s d e) (omega arith)
-    by (Planned w) e =
+    by : (p : Option Window) → plan ts s ≡ p → search_visits 0 (search ts s d) ≤ 4 * length ts
+    by None e = rw (search-none ts s d e) (omega arith)
+    by (Some w) e =
         let v : w.visits ≡ 4 * length ts = ap (λ (x : Window). x.visits) (sym (plan_is ts s w e).same) in
         rw (search-begins ts s d w e) (omega (arith, from_visits w d (reverse ts) (first w.words) 0 (w.visits - (w.words + 2))))

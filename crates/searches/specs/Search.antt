@@ -1,10 +1,8 @@
 -- The sum search of possible_sums.rs on values: when it is planned, every visit, and what it answers.
-use Rattle.std.specs.Prelude.{ℕ, zero, suc, ◌+◌, ◌-◌, ◌*◌, ◌/◌, ◌≤◌, min, Bool, true, false, cond, ◌&&◌, List, [], ◌∷◌, reverse, length, replicate, set, leb, ltb, ◌-ℤ◌, pos}
+use Rattle.std.specs.Prelude.{ℕ, zero, suc, ◌+◌, ◌-◌, ◌*◌, ◌/◌, ◌≤◌, min, Bool, true, false, cond, ◌&&◌, List, [], ◌∷◌, reverse, length, replicate, set, leb, ltb, ◌-ℤ◌, pos, Option, Some, None}
 use Rattle.std.specs.Int.Signed.{lt_z}
 use Rattle.numeric.specs.Threshold.{Term}
 use Rattle.searches.specs.declared.Window.{Window}
-use Rattle.searches.specs.declared.Plan.{Plan}
-use Rattle.searches.specs.declared.Plan.TheVariants.{Unplanned, Planned}
 use Rattle.searches.specs.declared.Search.{Search}
 use Rattle.searches.specs.declared.Search.TheVariants.{Skipped, Fits, Nothing, Cut}
 use Rattle.state.specs.declared.Step.{Step}
@@ -21,10 +19,10 @@ window ts s =
     let maximum = natural (limit s.upper -ℤ s.known -ℤ pos 1) in
     record { lower = natural (s.lower -ℤ s.known); maximum = maximum; words = maximum / 64 + 1; visits = 4 * length ts }
 
--- `Plan::for_row`
-unfoldable pub plan : List Term → State → Plan
+-- `Window::for_row`
+unfoldable pub plan : List Term → State → Option Window
 plan ts s =
-    cond (has_nonunit ts && has_residual_interval s && lt_z s.known (limit s.upper) && leb ((window ts s).words + 5) (window ts s).visits) (Planned (window ts s)) Unplanned
+    cond (has_nonunit ts && has_residual_interval s && lt_z s.known (limit s.upper) && leb ((window ts s).words + 5) (window ts s).visits) (Some (window ts s)) None
 
 -- Document 01's answer, and the visits.
 abbrev pub search_step : Search → Step
@@ -64,8 +62,8 @@ search_from w d (t ∷ ts) sums maximum (suc left) =
 unfoldable pub search : List Term → State → (ℕ → Bool) → Search
 search ts s d =
     elim (plan ts s) [
-      | Unplanned ↦ Skipped
-      | Planned w ↦ search_from w d (reverse ts) (set (replicate w.words 0) 0 1) 0 (w.visits - (w.words + 2))
+      | None ↦ Skipped
+      | Some w ↦ search_from w d (reverse ts) (set (replicate w.words 0) 0 1) 0 (w.visits - (w.words + 2))
     ]
 
 -- WHAT IS RIGHT, apart from words and visits.

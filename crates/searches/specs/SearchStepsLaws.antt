@@ -1,5 +1,5 @@
 -- The search one term a turn from the light end, at places of the two slices, and when a row is planned.
-use Rattle.std.specs.Prelude.{ℕ, suc, ◌+◌, ◌-◌, ◌*◌, ◌/◌, ◌^◌, ◌<◌, ◌≤◌, min, ◌≡◌, Bool, true, false, cond, ◌&&◌, length, get_or, set, replicate, leb, ltb, ℤ, pos, ◌-ℤ◌}
+use Rattle.std.specs.Prelude.{ℕ, suc, ◌+◌, ◌-◌, ◌*◌, ◌/◌, ◌^◌, ◌<◌, ◌≤◌, min, ◌≡◌, Bool, true, false, cond, ◌&&◌, length, get_or, set, replicate, leb, ltb, ℤ, pos, ◌-ℤ◌, None, Some}
 use Rattle.std.proofs.Common.{arith, sym, ap₂, ◌∙◌, subst, SFits}
 use Rattle.std.proofs.Math.Path.{refl, ap}
 use mathlib.Core.List.{List, ◌∷◌, reverse}
@@ -12,7 +12,6 @@ use Rattle.numeric.specs.Threshold.{Term, term}
 use Rattle.base.specs.SignedLaws.{mag_minus, sub_sfits}
 use Rattle.base.specs.Signed.{natural}
 use Rattle.state.specs.declared.State.{State}
-use Rattle.state.specs.declared.Upper.TheVariants.{Open, Under}
 use Rattle.state.specs.State.{limit, upper_at_most, has_residual_interval}
 use Rattle.state.specs.Shape.{Figures}
 use Rattle.words.specs.declared.Ended.TheVariants.{Hit, Complete, Stopped}
@@ -20,7 +19,6 @@ use Rattle.words.specs.Shift.{Shifted, union_shifted}
 use Rattle.words.specs.ShiftLaws.{Outcome, completes, hits, stops, outcome, readable}
 use Rattle.rows.specs.Rows.{has_nonunit}
 use Rattle.searches.specs.declared.Window.{Window}
-use Rattle.searches.specs.declared.Plan.TheVariants.{Unplanned, Planned}
 use Rattle.searches.specs.declared.Search.TheVariants.{Skipped, Fits, Nothing, Cut}
 use Rattle.searches.specs.Search.{window, plan, search_from, search}
 use Rattle.searches.specs.Shape.{Prepared}
@@ -87,40 +85,40 @@ module _ (w : Window) (d : ℕ → Bool) (cs ws : List ℕ) (sums : List ℕ) (c
 -- ---- plans
 
 module _ (ts : List Term) (s : State) where
-  pub plan-unit : has_nonunit ts ≡ false → plan ts s ≡ Unplanned
+  pub plan-unit : has_nonunit ts ≡ false → plan ts s ≡ None
   unfolding plan
   plan-unit a = rw a
 
   module _ (a : has_nonunit ts ≡ true) where
-    pub plan_wide : has_residual_interval s ≡ false → plan ts s ≡ Unplanned
+    pub plan_wide : has_residual_interval s ≡ false → plan ts s ≡ None
     unfolding plan
     plan_wide b = rw (a, b)
 
     module _ (b : has_residual_interval s ≡ true) where
-      pub plan-reached : lt_z s.known (limit s.upper) ≡ false → plan ts s ≡ Unplanned
+      pub plan-reached : lt_z s.known (limit s.upper) ≡ false → plan ts s ≡ None
       unfolding plan
       plan-reached e = rw (a, b, e)
 
       module _ (e : lt_z s.known (limit s.upper) ≡ true) where
-        pub plan_long : (window ts s).visits < (window ts s).words + 5 → plan ts s ≡ Unplanned
+        pub plan_long : (window ts s).visits < (window ts s).words + 5 → plan ts s ≡ None
         unfolding plan
         plan_long h = rw (a, b, e, lt-leb ((window ts s).words + 5) (window ts s).visits h)
 
-        pub plan-window : (window ts s).words + 5 ≤ (window ts s).visits → plan ts s ≡ Planned (window ts s)
+        pub plan-window : (window ts s).words + 5 ≤ (window ts s).visits → plan ts s ≡ Some (window ts s)
         unfolding plan
         plan-window h = rw (a, b, e, le-leb ((window ts s).words + 5) (window ts s).visits h)
 
         -- The same at the numbers of the code.
         module _ (lower maximum n : ℕ) (p : lower ≡ natural (s.lower -ℤ s.known))
             (q : maximum ≡ natural (limit s.upper -ℤ s.known -ℤ pos 1)) (r : n ≡ length ts) where
-          pub not-planned : 4 * n < maximum / 64 + 1 + 5 → plan ts s ≡ Unplanned
+          pub not-planned : 4 * n < maximum / 64 + 1 + 5 → plan ts s ≡ None
           not-planned h = plan_long (rw (q, r) at h)
 
           pub is_planned : maximum / 64 + 1 + 5 ≤ 4 * n
-              → plan ts s ≡ Planned (record { lower = lower; maximum = maximum; words = maximum / 64 + 1; visits = 4 * n })
+              → plan ts s ≡ Some (record { lower = lower; maximum = maximum; words = maximum / 64 + 1; visits = 4 * n })
           is_planned h =
               plan-window (rw (q, r) at h)
-              ∙ sym (ap Planned (λ i. record { lower = p i; maximum = q i; words = q i / 64 + 1; visits = 4 * r i }))
+              ∙ sym (ap Some (λ i. record { lower = p i; maximum = q i; words = q i / 64 + 1; visits = 4 * r i }))
 
 -- What a plan says of its row, and of its window.
 pub record Searched (ts : List Term) (s : State) (w : Window) : Type 0 where
@@ -128,7 +126,7 @@ pub record Searched (ts : List Term) (s : State) (w : Window) : Type 0 where
   pub cut : has_residual_interval s ≡ true
   pub room : (window ts s).words + 5 ≤ (window ts s).visits
 
-pub plan_is : (ts : List Term) (s : State) (w : Window) → plan ts s ≡ Planned w → Searched ts s w
+pub plan_is : (ts : List Term) (s : State) (w : Window) → plan ts s ≡ Some w → Searched ts s w
 unfolding plan
 plan_is ts s w e = by (tests (has_nonunit ts)) refl e
   where
@@ -141,19 +139,19 @@ plan_is ts s w e = by (tests (has_nonunit ts)) refl e
     met true false c d h = absurd (unequal cc)
     met false b c d h = absurd (unequal cc)
 
-    by : (x : Bool) → tests (has_nonunit ts) ≡ x → cond x (Planned (window ts s)) Unplanned ≡ Planned w → Searched ts s w
+    by : (x : Bool) → tests (has_nonunit ts) ≡ x → cond x (Some (window ts s)) None ≡ Some w → Searched ts s w
     by true h q =
         let m = met (has_nonunit ts) (has_residual_interval s) (lt_z s.known (limit s.upper)) (leb ((window ts s).words + 5) (window ts s).visits) h in
         record { same = cc; cut = m.0; room = leb-true ((window ts s).words + 5) (window ts s).visits m.1 }
     by false h q = absurd (unequal cc)
 
-pub plan_prepared : (ts : List Term) (s : State) (w : Window) → length ts ≤ list_terms → plan ts s ≡ Planned w → Prepared w
+pub plan_prepared : (ts : List Term) (s : State) (w : Window) → length ts ≤ list_terms → plan ts s ≡ Some w → Prepared w
 plan_prepared ts s w n e =
     let p = plan_is ts s w e in
     subst Prepared p.same (record { words = refl; enough = p.room; visits = omega arith })
 
 -- Where there is no limit both limits do not cut.
-pub open_wide : (s : State) → s.upper ≡ Open → has_residual_interval s ≡ false
+pub open_wide : (s : State) → s.upper ≡ None → has_residual_interval s ≡ false
 unfolding has_residual_interval
 open_wide s e = by (lt_z s.known s.lower)
   where
@@ -162,7 +160,7 @@ open_wide s e = by (lt_z s.known s.lower)
     by false = refl
 
 -- The differences that a plan takes stay inside 64 bits.
-module _ (s : State) (b : ℤ) (f : Figures s) (e : s.upper ≡ Under b) where
+module _ (s : State) (b : ℤ) (f : Figures s) (e : s.upper ≡ Some b) where
   small : mag b < 2 ^ 61
   small = rw e at f.upper
 
@@ -178,11 +176,11 @@ module _ (s : State) (b : ℤ) (f : Figures s) (e : s.upper ≡ Under b) where
 -- ---- where a search begins
 
 module _ (ts : List Term) (s : State) (d : ℕ → Bool) where
-  pub search-none : plan ts s ≡ Unplanned → search ts s d ≡ Skipped
+  pub search-none : plan ts s ≡ None → search ts s d ≡ Skipped
   unfolding search
   search-none e = rw (e, search)
 
-  pub search-begins : (w : Window) → plan ts s ≡ Planned w
+  pub search-begins : (w : Window) → plan ts s ≡ Some w
       → search ts s d ≡ search_from w d (reverse ts) (set (replicate w.words 0) 0 1) 0 (w.visits - (w.words + 2))
   unfolding search
   search-begins w e = rw (e, search)

@@ -2,11 +2,12 @@
 #![tactic(auto)]
 
 ghost use Rattle.std.specs.Prelude.{◌≡◌, ◌+◌, ◌-◌, ◌/◌, ◌<◌, ◌≤◌, length};
-ghost use Rattle.numeric.specs.Slices.{terms};
 ghost use Rattle.state.specs.Shape.{Figures};
+ghost use Rattle.rows.specs.Lent.{terms_of};
 ghost use Rattle.searches.specs.Search.{plan, search_step, search_visits};
 
-use state::{State, Step, Upper};
+use rows::Terms;
+use state::{State, Step};
 
 // The window of a search, in sums of undecided weights; the words that hold it; the visits that it may use.
 #[derive(Clone, Copy)]
@@ -15,13 +16,6 @@ pub struct Window {
     pub maximum: usize,
     pub words: usize,
     pub visits: usize,
-}
-
-// Whether a row is searched.
-#[derive(Clone, Copy)]
-pub enum Plan {
-    Unplanned,
-    Planned(Window),
 }
 
 // How a search ended, with the visits that it used.
@@ -43,10 +37,8 @@ impl Search {
         ensures { result ≡ search_step self }
     {
         match self {
-            Search::Skipped => Step::Unchanged,
-            Search::Fits(_) => Step::Unchanged,
             Search::Nothing(_) => Step::Contradiction,
-            Search::Cut(_) => Step::Unchanged,
+            Search::Skipped | Search::Fits(_) | Search::Cut(_) => Step::Unchanged,
         }
     }
 
@@ -56,47 +48,45 @@ impl Search {
     {
         match self {
             Search::Skipped => before,
-            Search::Fits(n) => n,
-            Search::Nothing(n) => n,
-            Search::Cut(n) => n,
+            Search::Fits(n) | Search::Nothing(n) | Search::Cut(n) => n,
         }
     }
 }
 
-impl Plan {
+impl Window {
     // Only a row with a weight above 1 and both limits inside what is possible is searched, and only where the words of the
     // window are few against its terms.
-    pub fn for_row(conditions: &[u16], weights: &[u64], state: State) -> Plan
-        requires { (length conditions.now ≡ length weights.now) × (length weights.now ≤ 1024) × Figures state }
-        ensures { result ≡ plan (terms conditions.now weights.now) state }
+    pub fn for_row(terms: Terms<'_>, state: State) -> Option<Window>
+        requires { (length terms.conditions.now ≡ length terms.weights.now) × (length terms.weights.now ≤ 1024) × Figures state }
+        ensures { result ≡ plan (terms_of terms.entry) state }
     {
-        if !rows::has_nonunit(conditions, weights) {
-            return Plan::Unplanned;
+        if !terms.has_nonunit() {
+            return None;
         }
         if !state.has_residual_interval() {
-            return Plan::Unplanned;
+            return None;
         }
         let upper = state.upper;
-        let Upper::Under(limit) = upper else {
-            return Plan::Unplanned;
+        let Some(limit) = upper else {
+            return None;
         };
         let known = state.known;
         if limit <= known {
-            return Plan::Unplanned;
+            return None;
         }
         let lower = base::natural(state.lower - known) as usize;
         let maximum = base::natural(limit - known - 1) as usize;
         let words = maximum / 64 + 1;
         // The reference build has 32 bytes for a term, and a visit for each 8 of them.
-        let visits = 4 * weights.len();
+        let visits = 4 * terms.weights.len();
         if words + 5 > visits {
-            return Plan::Unplanned;
+            return None;
         }
-        Plan::Planned(Window {
-            lower: lower,
-            maximum: maximum,
-            words: words,
-            visits: visits,
+        Some(Window {
+            lower,
+            maximum,
+            words,
+            visits,
         })
     }
 }

@@ -5,110 +5,61 @@ ghost use Rattle.std.specs.Prelude.{◌≡◌, ℕ, ◌-◌, ◌<◌, ◌≤◌,
 ghost use Rattle.memory.specs.Buffers.{held_rows};
 ghost use Rattle.numeric.specs.Slices.{terms};
 ghost use Rattle.row.specs.Terms.{total};
-ghost use Rattle.queues.specs.declared.Ring.{Ring};
 ghost use Rattle.row_moves.specs.Between.{Index, did, first_states, seed_from};
-ghost use Rattle.row_moves.specs.Numbers.{states_of, live_of, Tidy};
+ghost use Rattle.row_moves.specs.Numbers.{states_of, Tidy};
+ghost use Rattle.row_moves.specs.Lent.{held_of, live_in, TidyIn, SameLent};
 ghost use Rattle.memory.specs.Ranges.{figure_limit, room_limit};
 ghost use Rattle.row_moves.specs.Held.{stretch_by, Inside, Rising, Shaped, Holds};
 ghost use Rattle.row_moves.specs.Ready.{ReadyLive, first_at, Totals};
-ghost use Rattle.row_runs.specs.Guards.{guards};
 
-use queues::Rings;
-use row_moves::Did;
+use row_moves::{HeldRows, Live};
 use state::{State, Step};
 
 // The first state of a row: nothing is drained and nothing required.
-fn first_at(row_conditions: &[u16], row_weights: &[u64], rows: &[[u16; 3]], row: usize) -> State
-    requires { Inside 0 rows.now (length row_conditions.now) × (length row_weights.now ≡ length row_conditions.now) × Rising 1 rows.now × (row < length rows.now)
-        × (total (terms (stretch_by 0 rows.now row row_conditions.now) (stretch_by 0 rows.now row row_weights.now)) < room_limit) }
-    ensures { result ≡ first_at row_conditions.now row_weights.now rows.now row }
+fn first_at(held: HeldRows<'_>, row: usize) -> State
+    requires { Inside 0 held.rows.now (length held.row_conditions.now) × (length held.row_weights.now ≡ length held.row_conditions.now)
+        × Rising 1 held.rows.now × (row < length held.rows.now)
+        × (total (terms (stretch_by 0 held.rows.now row held.row_conditions.now) (stretch_by 0 held.rows.now row held.row_weights.now)) < room_limit) }
+    ensures { result ≡ first_at held.entry.row_conditions.now held.entry.row_weights.now held.entry.rows.now row }
 {
-    let a = rows::terms_start(rows, row);
-    let e = rows::terms_end(rows, row);
-    let total = rows::total(&row_conditions[a..e], &row_weights[a..e]);
-    let guards = rows::guards_count(rows, row);
+    let total = held.terms(row).total();
+    let guards = rows::guards_count(held.rows, row);
     State::first(total, guards)
 }
 
 // The first states of all rows.
-pub fn first_states(
-    row_conditions: &[u16],
-    row_weights: &[u64],
-    rows: &[[u16; 3]],
-    figures: &mut [[i64; 4]],
-    cursors: &mut [[usize; 5]],
-)
-    requires { Inside 0 rows.now (length row_conditions.now) × (length row_weights.now ≡ length row_conditions.now) × Rising 1 rows.now × (length rows.now ≤ 1024)
-        × Totals (room_limit) row_conditions.now row_weights.now rows.now × (length rows.now ≤ length (states_of figures.old cursors.old)) }
-    ensures { ((x : Index) (bs : List ℤ) (ns : List ℕ) → Shaped (held_rows row_conditions.now row_weights.now rows.now bs ns)
-        → Holds x (held_rows row_conditions.now row_weights.now rows.now bs ns)
+pub fn first_states(held: HeldRows<'_>, figures: &mut [[i64; 4]], cursors: &mut [[usize; 5]])
+    requires { Inside 0 held.rows.now (length held.row_conditions.now) × (length held.row_weights.now ≡ length held.row_conditions.now)
+        × Rising 1 held.rows.now × (length held.rows.now ≤ 1024)
+        × Totals (room_limit) held.row_conditions.now held.row_weights.now held.rows.now × (length held.rows.now ≤ length (states_of figures.old cursors.old)) }
+    ensures { ((x : Index) (bs : List ℤ) (ns : List ℕ)
+        → Shaped (held_rows held.entry.row_conditions.now held.entry.row_weights.now held.entry.rows.now bs ns)
+        → Holds x (held_rows held.entry.row_conditions.now held.entry.row_weights.now held.entry.rows.now bs ns)
         → states_of figures.new cursors.new ≡ first_states 0 x.rows (states_of figures.old cursors.old))
         × (Tidy figures.old cursors.old → Tidy figures.new cursors.new) }
 {
-    let mut at: usize = 0;
-    while at < rows.len() {
-        let state = first_at(row_conditions, row_weights, rows, at);
+    for at in 0..held.rows.len() {
+        let state = first_at(held, at);
         row_moves::store(figures, cursors, at, state);
-        at += 1;
     }
 }
 
 // `seed_thresholds`: each row is run once, in order, up to a contradiction.
-pub fn seed_thresholds(
-    row_conditions: &[u16],
-    row_weights: &[u64],
-    rows: &[[u16; 3]],
-    guard_bounds: &[i64],
-    guard_nodes: &[u16],
-    figures: &mut [[i64; 4]],
-    cursors: &mut [[usize; 5]],
-    sure: &mut [u64],
-    never: &mut [u64],
-    node_queue: &mut [u16],
-    row_queues: &mut [[u16; 4]],
-    rings: Rings,
-) -> Did
-    requires shaped { Shaped (held_rows row_conditions.now row_weights.now rows.now guard_bounds.now guard_nodes.now) }
-    requires ready_live { ReadyLive (held_rows row_conditions.now row_weights.now rows.now guard_bounds.now guard_nodes.now) figure_limit
-        (live_of figures.old cursors.old sure.old never.old node_queue.old row_queues.old rings) }
-    ensures { ((x : Index) → Holds x (held_rows row_conditions.now row_weights.now rows.now guard_bounds.now guard_nodes.now)
-        → did (live_of figures.new cursors.new sure.new never.new node_queue.new row_queues.new result.rings) result.step
-        ≡ seed_from x 0 x.rows (live_of figures.old cursors.old sure.old never.old node_queue.old row_queues.old rings) Step.Unchanged)
-        × (Tidy figures.old cursors.old → Tidy figures.new cursors.new) }
+pub fn seed_thresholds(held: HeldRows<'_>, live: &mut Live<'_>) -> Step
+    requires shaped { Shaped (held_of held) }
+    requires ready_live { ReadyLive (held_of held) figure_limit (live_in live.old) }
+    ensures ran { ((x : Index) → Holds x (held_of held.entry)
+        → did (live_in live.new) result ≡ seed_from x 0 x.rows (live_in live.old) Step.Unchanged)
+        × (TidyIn live.old → TidyIn live.new) }
+    ensures lent { SameLent live.old live.new }
 {
-    let mut row: usize = 0;
-    let mut so_far = Did {
-        step: Step::Unchanged,
-        rings: rings,
-    };
-    while row < rows.len() {
-        let stand = so_far.rings;
-        let turn = row_moves::run_at(
-            row_conditions,
-            row_weights,
-            rows,
-            guard_bounds,
-            guard_nodes,
-            figures,
-            cursors,
-            sure,
-            never,
-            node_queue,
-            row_queues,
-            stand,
-            row,
-        );
-        let step = turn.step;
+    let mut so_far = Step::Unchanged;
+    for row in 0..held.rows.len() {
+        let step = live.run(held, row);
         if step.contradicts() {
-            return turn;
+            return step;
         }
-        let before = so_far.step;
-        let left = turn.rings;
-        so_far = Did {
-            step: before.join(step),
-            rings: left,
-        };
-        row += 1;
+        so_far = so_far.join(step);
     }
     so_far
 }

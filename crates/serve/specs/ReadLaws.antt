@@ -10,10 +10,8 @@ use Rattle.std.proofs.Math.Seq.{drop-drop}
 use Rattle.std.proofs.Math.Dec.{eqb}
 use borrow.Author.Tests.{eqb-true, eqb-false}
 use Rattle.records.specs.declared.Record.{Record}
-use Rattle.checks.specs.declared.Next.{Next}
-use Rattle.checks.specs.declared.Next.TheVariants.{Refused, Taken}
 use Rattle.records.specs.Record.{kind_of, body_length}
-use Rattle.checks.specs.Next.{next_at}
+use Rattle.checks.specs.Next.{Next, Refused, Taken, next_at}
 use Rattle.records.specs.At.{kind_at, record_in}
 use Rattle.records.specs.declared.Record.TheVariants.{Header, Opens, Adds, Areas, Seal, Mark, Settle, Sift, Unknown}
 use Rattle.checks.specs.Checks.{unknown_kind, cut_body}

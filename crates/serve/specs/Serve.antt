@@ -21,11 +21,12 @@ use Rattle.records.specs.declared.Record.{Record}
 use Rattle.records.specs.declared.Record.TheVariants.{Header, Opens, Adds, Areas, Seal, Mark, Settle, Sift, Unknown}
 use Rattle.records.specs.declared.Standing.{Standing}
 use Rattle.job.specs.JobBuffers.{built_of}
-use Rattle.files.specs.File.{File, sifted, standing, refusal, Outcome, read_from}
+use Rattle.files.specs.File.{File, standing, refusal, Outcome, read_from}
 use Rattle.theorem_limits.specs.Good.{Fits, Light, Good}
 use Rattle.theorem_keeps.specs.Serves.{Fresh}
 use Rattle.theorem_keeps.specs.Tries.{Scratch}
 use Rattle.theorem_holds.specs.Lent.{bounds_of, lent_of, Lendable, Serving}
+use Rattle.checks.specs.Refusal.{number_if}
 use Rattle.serve.specs.declared.Reached.{Reached}
 use Rattle.answers.specs.Answers.{answers_of}
 
@@ -127,7 +128,7 @@ pub record Reaches (bounds : List ℤ) (b : Built) (base : List (List ℕ)) (k :
   pub lies : Lies base o.file k r.rings
   pub standing : r.standing ≡ standing o.file
   pub last : r.last ≡ o.file.last
-  pub refused : r.refused ≡ o.refused
+  pub refused : number_if r.refused ≡ o.refused
   pub at : r.at ≡ o.at
 
 -- The records of an input from an offset on, at most so many.

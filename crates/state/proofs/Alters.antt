@@ -41,7 +41,7 @@ use denote.Triple.Walked.{says, Stays, stay_ref, stay_none, walk_of, AllGo, Goes
 use denote.Exit.{yes}
 use Rattle.state.specs.State.{with_upper}
 use Rattle.state.specs.declared.State.{State}
-use Rattle.state.specs.declared.Upper.TheVariants.{Under}
+use Rattle.std.specs.Prelude.{Some}
 use Rattle.state.specs.contracts.State as T
 use Rattle.state.proofs.State.TheLaws as T'
 use Rattle.state.specs.contracts.raise_lower as f
@@ -65,7 +65,7 @@ Alters 𝓤 to κs a = record { ghost = Unit {0}; requires = λ _. emp 𝓤; ens
 
 -- What `lower_upper` makes of a state; `raise_lower` makes `with_lower`.
 abbrev pub with_limit : State → ℤ → State
-with_limit h z = with_upper h (Under z)
+with_limit h z = with_upper h (Some z)
 
 abbrev reference : Ty
 reference = ty_ref (named 0) mut (pointee (T.the_row).written)

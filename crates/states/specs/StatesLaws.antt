@@ -1,12 +1,11 @@
 -- Writing the states out, place by place. Assumes nothing.
-use Prim.Native.Nat.{ℕ, zero, suc, ◌+◌, ◌-◌, ◌<◌, ◌≤◌}
+use Prim.Native.Nat.{ℕ, zero, suc, ◌<◌, ◌≤◌}
 use Rattle.std.proofs.Common.{arith, sym, ◌∙◌, length-append, length-drop, length-take-le, take-suc, drop-cons}
 use Rattle.std.specs.Prelude.{◌≡◌, length, get_or, set, take, drop}
 use Rattle.std.proofs.Math.Path.{refl, ap}
 use mathlib.Core.List.{List, [], ◌∷◌, ◌++◌}
 use Rattle.std.proofs.Math.Seq.{append_snoc, take-length, drop-length}
 use Rattle.std.proofs.lemmas.List.{set_at}
-use Rattle.base.specs.Laid.{over}
 use Rattle.memory.specs.Limits.{max_thresholds}
 use Rattle.memory.specs.Buffers.{zeros}
 use Rattle.state.specs.declared.State.{State}

@@ -1,28 +1,13 @@
-// Row states as a lent slice of records: one state loaded, one stored, and every state written out of the rows of numbers that the core keeps.
+// Row states as a lent slice of records: every state written out of the rows of numbers that the core keeps.
 #![tactic(auto)]
 
-ghost use Rattle.std.specs.Prelude.{◌≡◌, ◌<◌, ◌≤◌, length, get_or, set, take};
+ghost use Rattle.std.specs.Prelude.{◌≡◌, ◌≤◌, length, get_or, take};
 ghost use Rattle.memory.specs.Limits.{max_thresholds};
 ghost use Rattle.state.specs.State.{no_state};
 ghost use Rattle.row_moves.specs.Numbers.{states_of};
 ghost use Rattle.states.specs.States.{shown};
 
 use state::State;
-
-// The state of a row.
-pub fn load(states: &[State], row: usize) -> State
-    requires { row < length states.now }
-    ensures { result ≡ get_or states.now row no_state }
-{
-    states[row]
-}
-
-fn store(states: &mut [State], row: usize, state: State)
-    requires { row < length states.old }
-    ensures { states.new ≡ set states.old row state }
-{
-    states[row] = state;
-}
 
 // The state of a row as the listed places of the rows of numbers hold it; behind them there is none.
 fn row_state(figures: &[[i64; 4]], cursors: &[[usize; 5]], row: usize) -> State
@@ -41,10 +26,7 @@ pub fn show_states(states: &mut [State], figures: &[[i64; 4]], cursors: &[[usize
     requires { (max_thresholds ≤ length states.old) × (max_thresholds ≤ length (states_of figures.now cursors.now)) }
     ensures { states.new ≡ shown (states_of figures.now cursors.now) states.old }
 {
-    let mut row: usize = 0;
-    while row < states.len() {
-        let state = row_state(figures, cursors, row);
-        store(states, row, state);
-        row += 1;
+    for (row, state) in states.iter_mut().enumerate() {
+        *state = row_state(figures, cursors, row);
     }
 }

@@ -3,3 +3,4 @@ pub mod TextLaws
 pub mod Numbers
 pub mod NumberLaws
 pub mod Decimal
+pub mod Writing

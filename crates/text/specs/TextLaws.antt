@@ -1,6 +1,6 @@
 -- Texts written one behind the other are their join, written at once. Assumes nothing.
 use Rattle.std.specs.Prelude.{ℕ, suc, ◌+◌, ◌*◌, ◌<◌, ◌≤◌, ◌≡◌, refl, List, [], ◌∷◌, ◌++◌, length, get_or, set, take, drop}
-use Rattle.std.proofs.Common.{mul-suc, mul-le-mul_left, add-one, arith, sym, ap, subst, ◌∙◌, append_assoc, length-append, length-take-le, take_at, drop-drop}
+use Rattle.std.proofs.Common.{mul-suc, mul-le-mul_left, add-one, arith, sym, ap, subst, ◌∙◌, append_assoc, length-append, length-take-le, length-drop, take_at, drop-drop}
 use Rattle.std.proofs.Math.Seq.{drop-append_seam, drop-append-add, take-length, paste, paste-zero, paste-suc}
 use Rattle.text.specs.Text.{placed, Wrote, joined, Joins}
 
@@ -47,6 +47,14 @@ wrote_same q x = wrote_as (omega arith) q x
 -- Two texts behind another, written at once.
 pub wrote_both : {a b : ℕ} {d e f : List ℕ} {at m r : ℕ} {s : List ℕ} (t u : List ℕ) → at ≤ length d → Wrote a d e at m s → Wrote b e f m r (t ++ u) → Wrote (a + b) d f at r (s ++ t ++ u)
 wrote_both {s} t u h x y = wrote_same (sym (append_assoc s t u)) (wrote_then h x y)
+
+-- The buffer keeps its length.
+pub wrote_long : {k : ℕ} {d e : List ℕ} {at r : ℕ} {s : List ℕ} → at + k ≤ length d → Wrote k d e at r s → length e ≡ length d
+wrote_long {k} {d} {e} {at} {r} {s} h x =
+    let behind = drop (at + length s) d in
+    let i : at + length s ≤ length d = omega (arith, x.ended, x.within) in
+    let b : length e ≡ length (take at d ++ s ++ behind) = ap (λ (l : List ℕ). length l) x.bytes in
+    omega (arith, length-append (take at d ++ s) behind, length-append (take at d) s, length-take-le at d (omega arith), length-drop (at + length s) d)
 
 -- ---- byte by byte
 

@@ -1,5 +1,5 @@
 -- DEMANDS 2 AND 3 OF THE CALL: the words that it leaves say what the file's masks and row states say.
-use Rattle.std.specs.Prelude.{ℕ, zero, suc, ◌+◌, ◌-◌, ◌/◌, ◌%◌, ◌≤◌, ◌<◌, ◌≡◌, Bool, true, false, cond, ◌⊎◌, ◌≢◌, length, drop, eqb, ℤ}
+use Rattle.std.specs.Prelude.{ℕ, zero, suc, ◌+◌, ◌-◌, ◌/◌, ◌%◌, ◌≤◌, ◌<◌, ◌≡◌, Bool, true, false, cond, ◌⊎◌, ◌≢◌, length, drop, eqb, ℤ, Option}
 use Rattle.std.proofs.Math.Decide.{dec_lt}
 use Rattle.std.proofs.Common.{not-suc-le-zero, le_of_suc-le-suc, arith, sym, ◌∙◌, subst, inl, inr, ⊎_elim, get_or-append-add, get_or-drop}
 use Rattle.std.proofs.Math.Path.{refl, ap}
@@ -14,7 +14,6 @@ use Rattle.numeric.specs.Area.{job_of}
 use Rattle.state.specs.declared.Step.{Step}
 use Rattle.state.specs.declared.Step.TheVariants.{Unchanged, Changed, Contradiction}
 use Rattle.state.specs.declared.State.{State}
-use Rattle.state.specs.declared.Upper.{Upper}
 use Rattle.state.specs.Step.{contradicts}
 use Rattle.state.specs.State.{no_state, limit, limited, figures_of, cursors_of}
 use Rattle.words.specs.Mask.{bit, digit}
@@ -169,11 +168,11 @@ says input w h e t s = record {
       let i = row_held input w h r k in record {
         figures = figures_are input w h r i.1
             ∙ figures-by (get_or (planned input).file.live.states r no_state) _ _ _ _ (s.known r i.0) (s.possible r i.0) (s.lower r i.0) (s.upper r i.0);
-        flag = flag_is input w h r i.1 ∙ ap (λ (u : Upper). cond (limited u) 1 0) (s.upper r i.0);
+        flag = flag_is input w h r i.1 ∙ ap (λ (u : Option ℤ). cond (limited u) 1 0) (s.upper r i.0);
       };
 }
   where
-    figures-by : (st : State) (a b c : ℤ) (u : Upper) → st.known ≡ a → st.possible ≡ b → st.lower ≡ c → st.upper ≡ u → figures_of st ≡ a ∷ b ∷ c ∷ limit u ∷ []
+    figures-by : (st : State) (a b c : ℤ) (u : Option ℤ) → st.known ≡ a → st.possible ≡ b → st.lower ≡ c → st.upper ≡ u → figures_of st ≡ a ∷ b ∷ c ∷ limit u ∷ []
     figures-by st a b c u p q r k = λ i. p i ∷ q i ∷ r i ∷ limit (k i) ∷ []
 
 -- a settling that is exactly the table
@@ -218,7 +217,7 @@ same_words x y v w h k s = record {
   flags = λ r i.
       let a = row_held x v h r i in
       let b = row_held y w k r (subst (λ (n : ℕ). r < n) rows i) in
-      flag_is x v h r a.1 ∙ ap (λ (u : Upper). cond (limited u) 1 0) (s.upper r a.0) ∙ sym (flag_is y w k r b.1);
+      flag_is x v h r a.1 ∙ ap (λ (u : Option ℤ). cond (limited u) 1 0) (s.upper r a.0) ∙ sym (flag_is y w k r b.1);
 }
   where
     f : File

@@ -1,6 +1,6 @@
 -- The cases P1 to P12 of document 01, an empty input and a file read on after a refusal 9, and those of joined areas and of unmarked jobs (document
 -- 02, sections 1 and 2), rows of tables, proved by computing the definitions. Each table has one theorem in proofs/Cases.
-use Rattle.std.specs.Prelude.{ℕ, zero, suc, ◌+◌, ◌-◌, ◌/◌, ◌%◌, ◌^◌, ◌≤◌, ◌≡◌, refl, Bool, true, false, cond, ℤ, pos, negsuc}
+use Rattle.std.specs.Prelude.{ℕ, zero, suc, ◌+◌, ◌-◌, ◌/◌, ◌%◌, ◌^◌, ◌≤◌, ◌≡◌, refl, Bool, true, false, cond, ℤ, pos, negsuc, None, Some}
 use Prim.Native.String.{String}
 use Rattle.std.proofs.Common.{arith}
 use mathlib.Core.List.{List, [], ◌∷◌, ◌++◌}
@@ -14,7 +14,6 @@ use Rattle.numeric.specs.Threshold.{Term, term}
 use Rattle.state.specs.declared.Step.{Step}
 use Rattle.state.specs.declared.Step.TheVariants.{Unchanged, Changed, Contradiction}
 use Rattle.state.specs.declared.State.{State}
-use Rattle.state.specs.declared.Upper.TheVariants.{Open, Under}
 use Rattle.state.specs.State as States
 use Rattle.words.specs.Mask as Mask
 use Rattle.words.specs.Shift as Shift
@@ -113,7 +112,7 @@ Right (continues f t n) =
 
 -- A row state before its scans: known 0, possible, lower, upper.
 abbrev fresh : ℕ → ℕ → ℕ → State
-fresh p l u = States.state_of (pos 0) (pos p) (pos l) (Under (pos u)) 0 0 0 0
+fresh p l u = States.state_of (pos 0) (pos p) (pos l) (Some (pos u)) 0 0 0 0
 
 -- Files A and B of document 01.
 abbrev pub file_A : List Record
@@ -133,8 +132,8 @@ cases =
     ∷ lists file_A "settle changed\nnode 0 sure\nnode 4 sure\nrow 0 4 9 6 -\nend 2 0\n"  -- P5
     ∷ lists (Header 3 ∷ Opens 2 (pos 5) ∷ Adds 0 5 ∷ Adds 1 4 ∷ Seal ∷ Mark 2 0 ∷ Settle ∷ [])
     "settle changed\nnode 0 never\nnode 2 never\nrow 0 0 4 0 5\nend 0 2\n"  -- P6
-    ∷ conflicts (States.state_of (pos 0) (pos 9) (pos 9) Open 0 0 0 0) false  -- P7
-    ∷ conflicts (States.state_of (pos 0) (pos 9) (pos 10) Open 0 0 0 0) true
+    ∷ conflicts (States.state_of (pos 0) (pos 9) (pos 9) None 0 0 0 0) false  -- P7
+    ∷ conflicts (States.state_of (pos 0) (pos 9) (pos 10) None 0 0 0 0) true
     ∷ lists file_B "settle unchanged\nsift contradiction 11\nnode 4 sure\nnode 5 never\nrow 0 0 18 6 8\nend 1 1\n"  -- P8
     ∷ searches (term 0 301 ∷ term 1 299 ∷ term 2 200 ∷ []) (fresh 800 400 431) (Cut 12)  -- P9
     ∷ misses (term 0 301 ∷ term 1 299 ∷ term 2 200 ∷ []) (fresh 800 400 431)

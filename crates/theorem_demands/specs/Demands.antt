@@ -1,6 +1,6 @@
 -- THE DEMANDS of the mission, the clauses a and c of document 01 and what document 02 asks for, as statements over the definitions.
 -- They are what the proofs of this repository are for. A statement is met when a term of its type stands in a crate.
-use Rattle.std.specs.Prelude.{ℕ, ◌+◌, ◌*◌, ◌≤◌, ◌<◌, ◌≡◌, Bool, true, false, cond, ◌⊎◌, ◌≢◌, ◌↔◌, length, get_or, take, drop, ℤ, eqb}
+use Rattle.std.specs.Prelude.{ℕ, ◌+◌, ◌*◌, ◌≤◌, ◌<◌, ◌≡◌, Bool, true, false, cond, ◌⊎◌, ◌≢◌, ◌↔◌, length, get_or, take, drop, ℤ, eqb, Option, Some}
 use mathlib.Core.List.{List, [], ◌∷◌, ◌++◌, Memᴰ}
 use Rattle.numeric.specs.Threshold.{Term, Job}
 use Rattle.numeric.specs.Area.{Entry, area, hundredths, joined, Single, job_of}
@@ -9,14 +9,12 @@ use Rattle.numeric.specs.Least.{least_layout, NodesRise}
 use Rattle.state.specs.declared.Step.{Step}
 use Rattle.state.specs.declared.Step.TheVariants.{Unchanged, Contradiction}
 use Rattle.state.specs.declared.State.{State}
-use Rattle.state.specs.declared.Upper.{Upper}
 use Rattle.state.specs.State.{no_state, limit, limited, figures_of, cursors_of}
 use Rattle.words.specs.Mask.{bit}
 use Rattle.queues.specs.Queue.{is_empty}
 use Rattle.row.specs.Terms.{row_terms}
 use Rattle.rows.specs.Rows.{Row, rows_of}
 use Rattle.searches.specs.declared.Window.{Window}
-use Rattle.searches.specs.declared.Plan.TheVariants.{Planned}
 use Rattle.searches.specs.declared.Search.TheVariants.{Cut}
 use Rattle.searches.specs.Search.{plan, search, search_step, search_visits, Lands}
 use Rattle.theorem_table.specs.Table.{Table, known_of, possible_of, Conflict, Run, steps, ReachesConflict, AtRest, Ended}
@@ -80,7 +78,7 @@ pub record Demand2 : Type 0 where
       → (v : Layout) → IsLayout (planned input).file.closed v → Agrees (planned input).records v → ⊥
   -- a sum search planned and not cut short contradicts exactly if no choice of undecided terms lands in its window,
   -- for every row, every state of it and all decided nodes
-  pub search_exact : (raw : List Term) (s : State) (decided : ℕ → Bool) (w : Window) → plan (row_terms raw) s ≡ Planned w
+  pub search_exact : (raw : List Term) (s : State) (decided : ℕ → Bool) (w : Window) → plan (row_terms raw) s ≡ Some w
       → ((n : ℕ) → search (row_terms raw) s decided ≢ Cut n)
       → (search_step (search (row_terms raw) s decided) ≡ Contradiction) ↔ ((choice : ℕ → Bool) → Lands w decided (row_terms raw) choice → ⊥)
   -- one that is cut short never contradicts
@@ -161,7 +159,7 @@ pub record UnmarkedHasLayout : Type 0 where
 -- DEMANDS 2 AND 3 ONCE MORE, as the caller meets them: of what the call gives back and of the words in its buffers.
 
 -- The words of a row: its four figures, the last 0 where there is no upper, and the word that tells whether there is one.
-pub record RowWords (o : Out) (r : ℕ) (known possible lower : ℤ) (upper : Upper) : Type 0 where
+pub record RowWords (o : Out) (r : ℕ) (known possible lower : ℤ) (upper : Option ℤ) : Type 0 where
   pub figures : get_or o.work.kept.figures r [] ≡ known ∷ possible ∷ lower ∷ limit upper ∷ []
   pub flag : get_or (get_or o.work.kept.cursors r []) 4 0 ≡ cond (limited upper) 1 0
 

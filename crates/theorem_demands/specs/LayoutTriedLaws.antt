@@ -1,6 +1,6 @@
 -- NO ROW THAT IS TRIED LOSES A LAYOUT: all decided nodes drained, what the residual of a row decides a layout agrees with, and neither
 -- the residual nor the search contradicts where there is such a layout.
-use Rattle.std.specs.Prelude.{ℕ, suc, ◌+◌, ◌≤◌, ◌<◌, ◌≡◌, refl, Bool, true, false, cond, not, ◌||◌, ◌⊎◌, length, get_or, ℤ, pos, ◌+ℤ◌}
+use Rattle.std.specs.Prelude.{ℕ, suc, ◌+◌, ◌≤◌, ◌<◌, ◌≡◌, refl, Bool, true, false, cond, not, ◌||◌, ◌⊎◌, length, get_or, ℤ, pos, ◌+ℤ◌, Option, None, Some}
 use Rattle.std.proofs.Math.Decide.{dec_lt}
 use Rattle.std.proofs.Common.{le_refl, arith, sym, ap, ◌∙◌, subst, inl, inr, lt-ltb}
 use mathlib.Core.List.{List, [], ◌∷◌, Memᴰ}
@@ -17,8 +17,6 @@ use Rattle.numeric.specs.LayoutLaws.{sum_of}
 use Rattle.state.specs.declared.Step.{Step}
 use Rattle.state.specs.declared.Step.TheVariants.{Unchanged, Changed, Contradiction}
 use Rattle.state.specs.declared.State.{State}
-use Rattle.state.specs.declared.Upper.{Upper}
-use Rattle.state.specs.declared.Upper.TheVariants.{Open, Under}
 use Rattle.state.specs.Step.{joined, contradicts, is_unchanged}
 use Rattle.state.specs.State.{upper_at_most}
 use Rattle.words.specs.Mask.{bit}
@@ -178,9 +176,9 @@ unchanged_is Changed h = absurd (clash false h refl)
 unchanged_is Contradiction h = absurd (clash false h refl)
 
 -- AN UPPER ABOVE THE SUM is not reached
-under : (u : Upper) (n : ℕ) → UpLe (Under (pos (suc n))) u → upper_at_most u (pos n) ≡ false
-under Open n h = refl
-under (Under z) n h = by (le_z z (pos n)) refl
+under : (u : Option ℤ) (n : ℕ) → UpLe (Some (pos (suc n))) u → upper_at_most u (pos n) ≡ false
+under None n h = refl
+under (Some z) n h = by (le_z z (pos n)) refl
   where
     by : (c : Bool) → le_z z (pos n) ≡ c → c ≡ false
     by true e = clash_ℤ (lt (lt_z-pos n (suc n) ∙ lt-ltb n (suc n) (le_refl (suc n)))) (≤ℤ_trans h (le e))
@@ -202,7 +200,7 @@ search_fine w raw ts e s d k known low high =
         let same : s.known +ℤ pos n ≡ pos (k + open_sum d w (row_terms raw)) =
         ap (λ (z : ℤ). z +ℤ pos n) known ∙ pos-+ℤ-pos k n ∙ ap (λ (i : ℕ). pos (k + i)) (chosen_open d w (row_terms raw)) in
         absurd (o.2 w (ap (le_z s.lower) same ∙ a)
-        (ap (λ (z : ℤ). lt_z z o.0) same ∙ nle-lt_z (pos (k + open_sum d w (row_terms raw))) o.0 (ap (λ (u : Upper). upper_at_most u (pos (k + open_sum d w (row_terms raw)))) (sym o.1) ∙ b)))
+        (ap (λ (z : ℤ). lt_z z o.0) same ∙ nle-lt_z (pos (k + open_sum d w (row_terms raw))) o.0 (ap (λ (u : Option ℤ). upper_at_most u (pos (k + open_sum d w (row_terms raw)))) (sym o.1) ∙ b)))
 
 -- A NUMBER BEHIND THE LAST ROW has no terms: nothing is tried
 empty_residual : (s : State) (m : Marks) (gcds : List ℕ) → threshold_residual [] s m gcds ≡ residual m Unchanged gcds

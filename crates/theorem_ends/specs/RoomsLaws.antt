@@ -1,28 +1,25 @@
 -- How far the bounds of rows may still move: lower up and upper down, between -2 ^ 52 and 2 ^ 52. What a row is told by a guard
 -- or by another row leaves less. Assumes nothing.
-use Rattle.std.specs.Prelude.{ℕ, zero, suc, ◌+◌, ◌-◌, ◌*◌, ◌≤◌, ◌<◌, ◌≡◌, refl, Bool, true, false, List, [], ◌∷◌, length, get_or, set, leb, ℤ, pos}
+use Rattle.std.specs.Prelude.{ℕ, zero, suc, ◌+◌, ◌-◌, ◌*◌, ◌≤◌, ◌<◌, ◌≡◌, refl, Bool, true, false, List, [], ◌∷◌, length, get_or, set, leb, ℤ, pos, Option, None, Some}
 use Rattle.std.proofs.Common.{le_refl, not-suc-le-zero, le_of_suc-le-suc, arith, sym, ap₂, ◌∙◌, ltb-true}
 use Rattle.std.specs.Int.Signed.{le_z, lt_z}
 use Rattle.std.proofs.lemmas.Bool.{not-true}
 use Rattle.base.specs.TestLaws.{and_right, contrary}
 use Rattle.base.specs.SignedLaws.{nle-lt_z, lt_z-nle, lt_z-add, lt_z-pos}
 use Rattle.state.specs.declared.State.{State}
-use Rattle.state.specs.declared.Upper.{Upper}
-use Rattle.state.specs.declared.Upper.TheVariants.{Open, Under}
 use Rattle.state.specs.State.{limit, upper_at_most, with_lower, with_upper, no_state, first_state}
 use Rattle.rows.specs.Guards.{Bound, raised}
 use Rattle.rows.specs.GuardsLaws.{raised-pos, raised_small}
-use Rattle.tightening.specs.declared.Tightened.{Tightened}
-use Rattle.tightening.specs.Told.{tight, guard_state, moved_lower, under, moved_upper, moved_state}
+use Rattle.tightening.specs.Told.{Tightened, tight, guard_state, moved_lower, under, moved_upper, moved_state}
 use Rattle.tightening.specs.ToldLaws.{guard-cases, lower_cases, upper_cases}
 use Rattle.theorem_ends.specs.Sound.{Bounded, AllBounded}
 
 abbrev pub above : ℤ → ℕ
 above z = 9007199254740992 - raised z
 
-abbrev pub beneath : Upper → ℕ
-beneath Open = 9007199254740994
-beneath (Under u) = raised u
+abbrev pub beneath : Option ℤ → ℕ
+beneath None = 9007199254740994
+beneath (Some u) = raised u
 
 abbrev pub room : State → ℕ
 room s = above s.lower + beneath s.upper
@@ -35,16 +32,16 @@ raised_less a b h k l =
     ltb-true (raised a) (raised b)
     (sym (lt_z-pos (raised a) (raised b)) ∙ ap₂ lt_z (raised-pos a h) (raised-pos b k) ∙ lt_z-add a b (pos 4503599627370496) ∙ l)
 
-beneath_most : (u : Upper) → Bound (limit u) → beneath u ≤ 9007199254740994
-beneath_most Open h = omega arith
-beneath_most (Under u) h = omega (arith, raised_small u h)
+beneath_most : (u : Option ℤ) → Bound (limit u) → beneath u ≤ 9007199254740994
+beneath_most None h = omega arith
+beneath_most (Some u) h = omega (arith, raised_small u h)
 
 pub room_most : (s : State) → Bounded s → room s ≤ 18014398509481986
 room_most s h = omega (arith, beneath_most s.upper h.upper)
 
-beneath_less : (u : Upper) (b : ℤ) → Bound (limit u) → Bound b → upper_at_most u b ≡ false → raised b < beneath u
-beneath_less Open b h k e = omega (arith, raised_small b k)
-beneath_less (Under u) b h k e = raised_less b u k h (nle-lt_z b u e)
+beneath_less : (u : Option ℤ) (b : ℤ) → Bound (limit u) → Bound b → upper_at_most u b ≡ false → raised b < beneath u
+beneath_less None b h k e = omega (arith, raised_small b k)
+beneath_less (Some u) b h k e = raised_less b u k h (nle-lt_z b u e)
 
 -- A bound that moves leaves less.
 pub room_lower : (s : State) (b : ℤ) → Bounded s → Bound b → le_z b s.lower ≡ false → room (with_lower s b) < room s
@@ -52,7 +49,7 @@ unfolding with_lower
 room_lower s b h k e =
     omega (arith, raised_less s.lower b h.lower k (nle-lt_z s.lower b e), raised_small b k, raised_small s.lower h.lower)
 
-pub room_upper : (s : State) (b : ℤ) → Bounded s → Bound b → upper_at_most s.upper b ≡ false → room (with_upper s (Under b)) < room s
+pub room_upper : (s : State) (b : ℤ) → Bounded s → Bound b → upper_at_most s.upper b ≡ false → room (with_upper s (Some b)) < room s
 unfolding with_upper
 room_upper s b h k e = omega (arith, beneath_less s.upper b h.upper k e)
 
@@ -60,7 +57,7 @@ bounded_lower : (s : State) (b : ℤ) → Bounded s → Bound b → Bounded (wit
 unfolding with_lower
 bounded_lower s b h k = record { lower = k; upper = h.upper }
 
-bounded_upper : (s : State) (u : Upper) → Bounded s → Bound (limit u) → Bounded (with_upper s u)
+bounded_upper : (s : State) (u : Option ℤ) → Bounded s → Bound (limit u) → Bounded (with_upper s u)
 unfolding with_upper
 bounded_upper s u h k = record { lower = h.lower; upper = k }
 
@@ -79,7 +76,7 @@ tells_less s t h k = record { bounded = h; most = omega arith; less = λ e. k }
 pub tells_guard : (s : State) (value : Bool) (b : ℤ) → Bounded s → Bound b → Tells s (guard_state s value b)
 tells_guard s value b h k =
     guard-cases s value b (Tells s) (λ e. tells_not s h) (λ e f. tells_less s (with_lower s b) (bounded_lower s b h k) (room_lower s b h k f))
-    (λ e f. tells_less s (with_upper s (Under b)) (bounded_upper s (Under b) h k) (room_upper s b h k f))
+    (λ e f. tells_less s (with_upper s (Some b)) (bounded_upper s (Some b) h k) (room_upper s b h k f))
 
 tells_lower : (source s : State) (n k : ℕ) → Bounded source → Bounded s → Tells s (moved_lower source s n k)
 tells_lower source s n k o h =
@@ -92,10 +89,10 @@ tells_then s t u h k l = tells_less s u k (omega (arith, h.most))
 tells_upper : (source s : State) (t : Tightened) (n k : ℕ) → Bounded source → Tells s t → Tells s (moved_upper source t n k)
 tells_upper source s t n k o h = upper_cases source n k (Tells s) t (λ e. one source.upper o.upper (and_right (leb k n) (under source.upper t.state.upper) e)) (λ e. h)
   where
-    one : (u : Upper) → Bound (limit u) → under u t.state.upper ≡ true → Tells s (tight (with_upper t.state u) true)
-    one Open b e = contrary (sym e)
-    one (Under a) b e =
-        tells_then s t (with_upper t.state (Under a)) h (bounded_upper t.state (Under a) h.bounded b)
+    one : (u : Option ℤ) → Bound (limit u) → under u t.state.upper ≡ true → Tells s (tight (with_upper t.state u) true)
+    one None b e = contrary (sym e)
+    one (Some a) b e =
+        tells_then s t (with_upper t.state (Some a)) h (bounded_upper t.state (Some a) h.bounded b)
         (room_upper t.state a h.bounded b (not-true (upper_at_most t.state.upper a) e))
 
 pub tells_moved : (source s : State) (n k : ℕ) → Bounded source → Bounded s → Tells s (moved_state source s n k)
@@ -138,4 +135,4 @@ pub bounded_same : (s t : State) → t.lower ≡ s.lower → t.upper ≡ s.upper
 bounded_same s t e f h = record { lower = rw e h.lower; upper = rw f h.upper }
 
 pub room_same : (s t : State) → t.lower ≡ s.lower → t.upper ≡ s.upper → room t ≡ room s
-room_same s t e f = ap₂ (λ (a : ℤ) (b : Upper). above a + beneath b) e f
+room_same s t e f = ap₂ (λ (a : ℤ) (b : Option ℤ). above a + beneath b) e f

@@ -1,6 +1,6 @@
 -- NOTHING IS LEFT UNDONE: a row that was run without a contradiction has every guard and term decided that its drained figures
 -- decide. Cursors only move forward, and pass only what is decided.
-use Rattle.std.specs.Prelude.{ℕ, zero, suc, ◌+◌, ◌-◌, ◌≤◌, ◌<◌, ◌≡◌, refl, Bool, true, false, not, cond, ◌&&◌, ◌||◌, ◌⊎◌, length, take, drop, ℤ, pos}
+use Rattle.std.specs.Prelude.{ℕ, zero, suc, ◌+◌, ◌-◌, ◌≤◌, ◌<◌, ◌≡◌, refl, Bool, true, false, not, cond, ◌&&◌, ◌||◌, ◌⊎◌, length, take, drop, ℤ, pos, Option, None, Some}
 use Rattle.std.proofs.Common.{arith, sym, ap, ap₂, ◌∙◌, subst, inl, inr, ⊎_elim, take-append-drop, length-take, length-append, take-add, drop-drop}
 use mathlib.Core.List.Memᴰ
 use mathlib.Core.List.{List, [], ◌∷◌, ◌++◌, append_assoc, reverse, reverse-cons, reverse-append, reverse-reverse, Memᴰ}
@@ -20,8 +20,6 @@ use Rattle.state.specs.State.{reached, upper_at_most}
 use Rattle.words.specs.Mask.{bit}
 use Rattle.queues.specs.Marks.{Marks, is_decided, Decided, decided, decide, mask}
 use Rattle.queues.proofs.MarksLaws.{decide_has, decide-length}
-use Rattle.state.specs.declared.Upper.{Upper}
-use Rattle.state.specs.declared.Upper.TheVariants.{Open, Under}
 use Rattle.rows.specs.Rows.{Guard}
 use Rattle.row_runs.specs.Scan.{scan, Scanned, scanned, force}
 use Rattle.row_runs.specs.Row.{sure_waits, deciding, decides, sure_guards, reachable, never_waits, never_guards, term_waits, forces, forced}
@@ -109,8 +107,8 @@ abbrev pub Has : Bool → ℕ → Marks → Type 0
 Has v n m = bit (mask v m) n ≡ true
 
 pub has_stays : (v : Bool) (k : ℕ) (value : Bool) (m : Marks) (n : ℕ) → Has v k m → Has v k (decide value m n).marks
-has_stays true k value m n h = (decide_grows value m n (λ _. pos 0) (λ _. Open)).sure k h
-has_stays false k value m n h = (decide_grows value m n (λ _. pos 0) (λ _. Open)).never k h
+has_stays true k value m n h = (decide_grows value m n (λ _. pos 0) (λ _. None)).sure k h
+has_stays false k value m n h = (decide_grows value m n (λ _. pos 0) (λ _. None)).never k h
 
 has_after : (v : Bool) (m : Marks) (n : ℕ) → n < max_nodes → Wide m → contradicts (decide v m n).step ≡ false → Has v n (decide v m n).marks
 has_after true m n h w c = decide_has true m n (let k = w.sure in omega arith) (λ e. absurd (unequal cc))
@@ -342,9 +340,9 @@ reach_down st a b h k = both_true (le_z_trans a b st.possible h (and_left (le_z 
     below u true e f = ap not (sym (le_z_trans u a b e h)) ∙ f
     below u false e f = refl
 
-    under : (x : Upper) → not (upper_at_most x b) ≡ true → not (upper_at_most x a) ≡ true
-    under Open e = refl
-    under (Under u) e = below u (le_z u a) refl e
+    under : (x : Option ℤ) → not (upper_at_most x b) ≡ true → not (upper_at_most x a) ≡ true
+    under None e = refl
+    under (Some u) e = below u (le_z u a) refl e
 
 -- RULE 3 IS DONE: every guard whose bound is out of reach is never, and so is every guard behind the cursor.
 pub never_complete : (gs : List Guard) (st : State) (m : Marks) (k : Step) → Rising gs → Each (λ (g : Guard). g.node < max_nodes) gs → Wide m → st.never_guard ≤ length gs

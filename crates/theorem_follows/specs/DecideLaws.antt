@@ -1,5 +1,5 @@
 -- A decided node follows by the rules of the table where one of them gives it; a scan keeps that from place to place.
-use Rattle.std.specs.Prelude.{ℕ, ◌+◌, ◌≡◌, refl, Bool, true, false, not, cond, eqb, ℤ}
+use Rattle.std.specs.Prelude.{ℕ, ◌+◌, ◌≡◌, refl, Bool, true, false, not, cond, eqb, ℤ, Option}
 use Rattle.std.proofs.Math.Decide.{ℕ_discrete}
 use Rattle.std.proofs.Common.{sym, ap, ◌∙◌, subst, ⊎_elim, eq-eqb}
 use mathlib.Core.List.{List, [], ◌∷◌, Memᴰ}
@@ -8,7 +8,6 @@ use Rattle.base.specs.TestLaws.{true-false, unequal}
 use Rattle.state.specs.StepLaws.{joined_fine}
 use Rattle.state.specs.declared.Step.{Step}
 use Rattle.state.specs.declared.Step.TheVariants.{Contradiction}
-use Rattle.state.specs.declared.Upper.{Upper}
 use Rattle.state.specs.Step.{joined, contradicts}
 use Rattle.words.specs.Mask.{bit}
 use Rattle.queues.specs.Marks.{Marks, Decided, decide, mask}
@@ -21,7 +20,7 @@ use Rattle.theorem_table.specs.OrderLaws.{up_refl}
 use Rattle.theorem_table.proofs.TableLaws.{Le, le_then, Follows, follows_step}
 
 -- The nodes of the masks, with lowers and uppers of rows, as a state of the table.
-abbrev pub table_of : Marks → (ℕ → ℤ) → (ℕ → Upper) → Table
+abbrev pub table_of : Marks → (ℕ → ℤ) → (ℕ → Option ℤ) → Table
 table_of m l u = record { sure = bit m.sure; never = bit m.never; lower = l; upper = u }
 
 -- A conflict follows from the start.
@@ -47,7 +46,7 @@ at-kept n k f h = by (eqb k n)
     by true = refl
     by false = h
 
-module _ (l : ℕ → ℤ) (u : ℕ → Upper) where
+module _ (l : ℕ → ℤ) (u : ℕ → Option ℤ) where
   -- a decision adds no more than its node
   adds-only : (value : Bool) (m : Marks) (n k : ℕ) → bit (mask value (decide value m n).marks) k ≡ true → T.at n true (bit (mask value m)) k ≡ true
   adds-only value m n k h = by (ℕ_discrete k n)
@@ -75,7 +74,7 @@ module _ (l : ℕ → ℤ) (u : ℕ → Upper) where
   against rows true m n h = both n (at_same n n (bit m.sure) refl) h
   against rows false m n h = both n h (at_same n n (bit m.never) refl)
 
-module _ (rows : List Row) (s : Table) (l : ℕ → ℤ) (u : ℕ → Upper) where
+module _ (rows : List Row) (s : Table) (l : ℕ → ℤ) (u : ℕ → Option ℤ) where
   -- What is kept along a scan: the masks follow from the start.
   abbrev pub Kept : Marks → Type 0
   Kept m = Follows rows s (table_of m l u)

@@ -15,7 +15,6 @@ use Rattle.base.specs.SignedLaws.{le_z_trans, nle-lt_z, add_up}
 use Rattle.numeric.specs.Threshold.{Threshold}
 use Rattle.state.specs.declared.Step.TheVariants.{Contradiction}
 use Rattle.state.specs.declared.State.{State}
-use Rattle.state.specs.declared.Upper.{Upper}
 use Rattle.state.specs.Step.{contradicts}
 use Rattle.state.specs.State.{max_z, reached, upper_at_most, conflict, with_lower, with_upper, drained, with_known, with_possible}
 use Rattle.words.specs.Mask.{bit}
@@ -23,9 +22,8 @@ use Rattle.queues.specs.Marks.{Marks, is_decided}
 use Rattle.queues.specs.Queue.{Rows}
 use Rattle.rows.specs.Rows.{Row, no_row, Guard, Edge, edges_of, row_number}
 use Rattle.links.specs.Links.{neighbours}
-use Rattle.tightening.specs.declared.Tightened.{Tightened}
 use Rattle.row_runs.specs.Row.{Ran, ran, scans, threshold_row}
-use Rattle.tightening.specs.Told.{guard_state, moved_lower, moved_state}
+use Rattle.tightening.specs.Told.{Tightened, guard_state, moved_lower, moved_state}
 use Rattle.tightening.specs.ToldLaws.{guard-cases, lower_cases, upper_cases}
 use Rattle.row_moves.specs.Between.{Index, Live, state_at, Did, run_row, run_with, threshold_guard, threshold_condition, term_count, threshold_prefixes, with_dirty_rows, with_residuals, with_state}
 use Rattle.row_moves.specs.LoopLaws.{condition_walk}

@@ -1,6 +1,6 @@
 -- A DRAINED CONDITION keeps the invariant of Stands: its weight is added to known or taken from possible once in each row in which it
 -- stands, and each of these rows is run. After it the node counts as drained in every row.
-use Rattle.std.specs.Prelude.{ℕ, ◌+◌, ◌≤◌, ◌<◌, ◌≡◌, Bool, not, ◌&&◌, ◌||◌, ◌⊎◌, ◌≢◌, length, eqb, ℤ, ◌+ℤ◌, ◌-ℤ◌, ◌≤ℤ◌}
+use Rattle.std.specs.Prelude.{ℕ, ◌+◌, ◌≤◌, ◌<◌, ◌≡◌, Bool, not, ◌&&◌, ◌||◌, ◌⊎◌, ◌≢◌, length, eqb, ℤ, ◌+ℤ◌, ◌-ℤ◌, ◌≤ℤ◌, Option}
 use Rattle.std.proofs.Math.Decide.{ℕ_discrete}
 use native.Mathlib.Omega.{arith}
 use Rattle.std.proofs.Math.Path.{refl, ap, subst}
@@ -17,7 +17,6 @@ use Rattle.base.specs.TestLaws.{true-false, clash}
 use Rattle.base.specs.SignedLaws.{pos_minus}
 use Rattle.numeric.specs.Threshold.{Term, term}
 use Rattle.state.specs.declared.State.{State}
-use Rattle.state.specs.declared.Upper.{Upper}
 use Rattle.state.specs.Step.{contradicts}
 use Rattle.state.specs.State.{drained, with_known, with_possible}
 use Rattle.words.specs.Mask.{bit}
@@ -141,7 +140,7 @@ module _ (rows : List Row) (s : Table) (before now : ℕ → ℕ → Bool) (v : 
       lower = put_state (λ (k : ℕ) (t : State). (state_at v k).lower ≤ℤ t.lower) v.states r st room
           (subst (λ (z : ℤ). (state_at v r).lower ≤ℤ z) (sym (drained_lower value w (state_at v r))) (≤ℤ_refl (state_at v r).lower)) (λ k e. ≤ℤ_refl (state_at v k).lower);
       upper = put_state (λ (k : ℕ) (t : State). UpLe t.upper (state_at v k).upper) v.states r st room
-          (subst (λ (z : Upper). UpLe z (state_at v r).upper) (sym (drained_upper value w (state_at v r))) (up_refl (state_at v r).upper)) (λ k e. up_refl (state_at v k).upper);
+          (subst (λ (z : Option ℤ). UpLe z (state_at v r).upper) (sym (drained_upper value w (state_at v r))) (up_refl (state_at v r).upper)) (λ k e. up_refl (state_at v k).upper);
     });
     follows = λ u a still. let f = h.follows u a still in record {
       sure = f.sure;
@@ -149,7 +148,7 @@ module _ (rows : List Row) (s : Table) (before now : ℕ → ℕ → Bool) (v : 
       lower = put_state (λ (k : ℕ) (t : State). t.lower ≤ℤ u.lower k) v.states r st room
           (subst (λ (z : ℤ). z ≤ℤ u.lower r) (sym (drained_lower value w (state_at v r))) (f.lower r)) (λ k e. f.lower k);
       upper = put_state (λ (k : ℕ) (t : State). UpLe (u.upper k) t.upper) v.states r st room
-          (subst (λ (z : Upper). UpLe (u.upper r) z) (sym (drained_upper value w (state_at v r))) (f.upper r)) (λ k e. f.upper k);
+          (subst (λ (z : Option ℤ). UpLe (u.upper r) z) (sym (drained_upper value w (state_at v r))) (f.upper r)) (λ k e. f.upper k);
     };
     apart = h.apart;
     decided = λ q n e. was q n e (ℕ_discrete q r) (ℕ_discrete n c);

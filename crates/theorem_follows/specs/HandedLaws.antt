@@ -3,7 +3,7 @@
 use Prim.Native.Nat.{ℕ, ◌≤◌, ◌<◌}
 use Rattle.std.proofs.Math.Decide.{ℕ_discrete}
 use Rattle.std.proofs.Common.{arith, ◌∙◌, ⊎_elim, length-append, get_or-set_same, get_or-set_other, eq-eqb, ne_eqb, eqb-true, le-leb}
-use Rattle.std.specs.Prelude.{◌≡◌, true, not, cond, ◌⊎◌, ◌≢◌, length, set, leb, ℤ, ◌≤ℤ◌}
+use Rattle.std.specs.Prelude.{◌≡◌, true, not, cond, ◌⊎◌, ◌≢◌, length, set, leb, ℤ, ◌≤ℤ◌, Option, None, Some}
 use Rattle.std.proofs.Math.Path.{refl, sym, ap, subst}
 use Rattle.std.proofs.Math.Bool.{Bool, false}
 use mathlib.Core.List.Memᴰ
@@ -16,8 +16,6 @@ use Rattle.base.specs.TestLaws.{clash, and_one}
 use Rattle.base.specs.SignedLaws.{nlt-le_z}
 use Rattle.numeric.specs.Threshold.{Threshold}
 use Rattle.state.specs.declared.State.{State}
-use Rattle.state.specs.declared.Upper.{Upper}
-use Rattle.state.specs.declared.Upper.TheVariants.{Open, Under}
 use Rattle.state.specs.Step.{contradicts}
 use Rattle.state.specs.State.{with_lower, with_upper, drained}
 use Rattle.words.specs.Mask.{bit}
@@ -26,8 +24,7 @@ use Rattle.queues.specs.QueueLaws.{row-waits, row_new}
 use Rattle.rows.specs.Rows.{Edge, edges_of, row_number}
 use Rattle.links.specs.Links.{Link, links, neighbours}
 use Rattle.links.proofs.LinksLaws.{link, link_starts, Climbs, stay, up, across, onward, climbs_exactly, downward, upward, joined-neighbours}
-use Rattle.tightening.specs.declared.Tightened.{Tightened}
-use Rattle.tightening.specs.Told.{moved_lower, moved_state, under}
+use Rattle.tightening.specs.Told.{Tightened, moved_lower, moved_state, under}
 use Rattle.tightening.specs.ToldLaws.{lower_cases, upper_cases}
 use Rattle.row_moves.specs.Between.{Index, Live, state_at, Did, run_row, run_with, threshold_guard, threshold_condition, term_count, prefixes_from, threshold_prefixes, with_dirty_rows, with_residuals, with_state}
 use Rattle.row_moves.specs.LoopLaws.{drained_lower, drained_upper}
@@ -83,7 +80,7 @@ module _ (x : Index) where
       → HandedOn x v r q → HandedOn x w r q
   handed-on v w r q s l u h = (
     λ k. ≤ℤ_trans (subst (λ (z : ℤ). z ≤ℤ (state_at v q).lower) (sym s.lower) (h.0 k)) l,
-    λ k. up_trans (state_at w q).upper (state_at v q).upper (state_at w r).upper u (subst (λ (z : Upper). UpLe (state_at v q).upper z) (sym s.upper) (h.1 k)),
+    λ k. up_trans (state_at w q).upper (state_at v q).upper (state_at w r).upper u (subst (λ (z : Option ℤ). UpLe (state_at v q).upper z) (sym s.upper) (h.1 k)),
   )
 
   -- ONE STEP: each row has no neighbours, waits, or has its bounds and its flag as before
@@ -109,7 +106,7 @@ module _ (x : Index) where
   unfolding run_row run_with AsBefore
   run_handed but v r i h =
       step-handed but v (run_row x v r).live (sym (length-set v.states r _)) refl
-      (λ q. let s = same q in (subst (λ (z : ℤ). (state_at v q).lower ≤ℤ z) (sym s.lower) (≤ℤ_refl (state_at v q).lower), subst (λ (z : Upper). UpLe z (state_at v q).upper) (sym s.upper) (up_refl (state_at v q).upper)))
+      (λ q. let s = same q in (subst (λ (z : ℤ). (state_at v q).lower ≤ℤ z) (sym s.lower) (≤ℤ_refl (state_at v q).lower), subst (λ (z : Option ℤ). UpLe z (state_at v q).upper) (sym s.upper) (up_refl (state_at v q).upper)))
       (λ q. inr (inr (same q, refl))) h
     where
       same : (q : ℕ) → SameBounds (state_at (run_row x v r).live q) (state_at v q)
@@ -132,10 +129,10 @@ module _ (x : Index) where
         by (yes e) =
             let s = put_here x v r room st d q in
             subst (λ (i : ℕ). ((state_at v i).lower ≤ℤ (state_at ended i).lower) × UpLe (state_at ended i).upper (state_at v i).upper) (sym e)
-            (subst (λ (z : ℤ). (state_at v r).lower ≤ℤ z) (sym s.lower) low, subst (λ (z : Upper). UpLe z (state_at v r).upper) (sym s.upper) high)
+            (subst (λ (z : ℤ). (state_at v r).lower ≤ℤ z) (sym s.lower) low, subst (λ (z : Option ℤ). UpLe z (state_at v r).upper) (sym s.upper) high)
         by (no e) =
             let s = put_there x v r room st d q k e in
-            (subst (λ (z : ℤ). (state_at v k).lower ≤ℤ z) (sym s.lower) (≤ℤ_refl (state_at v k).lower), subst (λ (z : Upper). UpLe z (state_at v k).upper) (sym s.upper) (up_refl (state_at v k).upper))
+            (subst (λ (z : ℤ). (state_at v k).lower ≤ℤ z) (sym s.lower) (≤ℤ_refl (state_at v k).lower), subst (λ (z : Option ℤ). UpLe z (state_at v k).upper) (sym s.upper) (up_refl (state_at v k).upper))
 
     put-run-handed : ((k : ℕ) → Memᴰ k (neighbours r x.links) → ⊥) ⊎ ((eqb (get_or d.pending r 0) 1 ≡ true) ⊎ (SameBounds st (state_at v r) × (get_or d.pending r 0 ≡ get_or v.dirty.pending r 0)))
         → Handed x but ended
@@ -194,7 +191,7 @@ module _ (x : Index) where
           let s : SameBounds st (state_at u r) = record { lower = drained_lower value e.weight (state_at u r); upper = drained_upper value e.weight (state_at u r) } in
           put-run-handed but u r st u.dirty u.residuals (edge-term x.rows n e m).0 k
           (subst (λ (z : ℤ). (state_at u r).lower ≤ℤ z) (sym s.lower) (≤ℤ_refl (state_at u r).lower))
-          (subst (λ (z : Upper). UpLe z (state_at u r).upper) (sym s.upper) (up_refl (state_at u r).upper)) refl (λ k n. refl) (inr (inr (s, refl)))
+          (subst (λ (z : Option ℤ). UpLe z (state_at u r).upper) (sym s.upper) (up_refl (state_at u r).upper)) refl (λ k n. refl) (inr (inr (s, refl)))
 
   -- BOUNDS HANDED ON
 
@@ -213,10 +210,10 @@ module _ (x : Index) where
         (λ e. le (nlt-le_z st.lower source.lower (and_one (leb n k) (lt_z st.lower source.lower) (le-leb n k h) e))) in
         upper_cases source n k (λ (t : Tightened). source.lower ≤ℤ t.state.lower) first (λ e. low) (λ e. low)
 
-    not-under : (a b : Upper) → under a b ≡ false → UpLe b a
-    not-under Open b e = tt
-    not-under (Under a) Open e = absurd (clash true refl e)
-    not-under (Under a) (Under b) e = at_test (le_z b a) refl e
+    not-under : (a b : Option ℤ) → under a b ≡ false → UpLe b a
+    not-under None b e = tt
+    not-under (Some a) None e = absurd (clash true refl e)
+    not-under (Some a) (Some b) e = at_test (le_z b a) refl e
       where
         at_test : (t : Bool) → le_z b a ≡ t → not t ≡ false → b ≤ℤ a
         at_test true f g = le f
@@ -237,7 +234,7 @@ module _ (x : Index) where
   told-on : (v : Live) (row r : ℕ) (source st : State) → SameBounds (state_at v row) source → SameBounds (state_at v r) (moved_state source st (term_count x row) (term_count x r)).state → HandedOn x v row r
   told-on v row r source st a b = (
     λ k. subst (λ (z : ℤ). z ≤ℤ (state_at v r).lower) (sym a.lower) (subst (λ (z : ℤ). source.lower ≤ℤ z) (sym b.lower) (lower-told source st (term_count x row) (term_count x r) k)),
-    λ k. subst (λ (z : Upper). UpLe (state_at v r).upper z) (sym a.upper) (subst (λ (z : Upper). UpLe z source.upper) (sym b.upper) (upper-told source st (term_count x row) (term_count x r) k)),
+    λ k. subst (λ (z : Option ℤ). UpLe (state_at v r).upper z) (sym a.upper) (subst (λ (z : Option ℤ). UpLe z source.upper) (sym b.upper) (upper-told source st (term_count x row) (term_count x r) k)),
   )
 
   -- While a row hands on: all but the row itself as before, the row's own bounds, and each neighbour told that is passed.
@@ -280,7 +277,7 @@ module _ (x : Index) where
       low = subst (λ (z : ℤ). source.lower ≤ℤ z) (sym h.own.lower) (≤ℤ_refl source.lower)
 
       high : UpLe (state_at v row).upper source.upper
-      high = subst (λ (z : Upper). UpLe z source.upper) (sym h.own.upper) (up_refl source.upper)
+      high = subst (λ (z : Option ℤ). UpLe z source.upper) (sym h.own.upper) (up_refl source.upper)
 
       tighter : ((state_at v r).lower ≤ℤ st.lower) × UpLe st.upper (state_at v r).upper
       tighter = let k = moved_tighter x drained s v row r source prefix low high h.stands in (k.2, k.3)

@@ -1,12 +1,11 @@
 -- NO LAYOUT IS LOST: every layout of the job that agrees with a live state agrees with what a run row, a drained guard, a drained
 -- condition or handed-on bounds make of it, and where one of these contradicts there was no such layout.
-use Rattle.std.specs.Prelude.{ℕ, suc, ◌≡◌, Bool, true, false, not, List, pos, ◌≤ℤ◌}
+use Rattle.std.specs.Prelude.{ℕ, suc, ◌≡◌, Bool, true, false, not, List, pos, ◌≤ℤ◌, Some}
 use Rattle.std.proofs.Common.{arith, sym, ap, subst}
 use Rattle.std.proofs.lemmas.Bool.{not-true}
 use Rattle.numeric.specs.Threshold.{Job}
 use Rattle.numeric.specs.Layout.{Layout, IsLayout}
 use Rattle.numeric.specs.LayoutLaws.{sum_of}
-use Rattle.state.specs.declared.Upper.TheVariants.{Under}
 use Rattle.state.specs.Step.{contradicts}
 use Rattle.words.specs.Mask.{bit}
 use Rattle.rows.specs.Rows.{Row}
@@ -25,7 +24,7 @@ pub record Agrees (rows : List Row) (w : Layout) (v : Live) : Type 0 where
   pub sure : (n : ℕ) → bit v.marks.sure n ≡ true → w n ≡ true
   pub never : (n : ℕ) → bit v.marks.never n ≡ true → w n ≡ false
   pub lower : (r : ℕ) → (state_at v r).lower ≤ℤ pos (sum_of w (terms_of rows r))
-  pub upper : (r : ℕ) → UpLe (Under (pos (suc (sum_of w (terms_of rows r))))) (state_at v r).upper
+  pub upper : (r : ℕ) → UpLe (Some (pos (suc (sum_of w (terms_of rows r))))) (state_at v r).upper
 
 module _ (rows : List Row) (w : Layout) (v : Live) where
   pub agrees_le : Agrees rows w v → Le (table_at v) (of_layout rows w)

@@ -11,17 +11,14 @@ use Rattle.std.specs.Int.Signed.{≤ℤ_refl}
 use Rattle.base.specs.TestLaws.{and_left}
 use Rattle.numeric.specs.Threshold.{Threshold}
 use Rattle.state.specs.declared.State.{State}
-use Rattle.state.specs.declared.Upper.{Upper}
-use Rattle.state.specs.declared.Upper.TheVariants.{Open, Under}
 use Rattle.state.specs.State.{with_lower, with_upper, drained}
 use Rattle.words.specs.Mask.{bit}
 use Rattle.queues.specs.Marks.{Marks, is_decided, decide}
 use Rattle.queues.specs.Queue.{Rows}
 use Rattle.rows.specs.Rows.{Row, no_row, Guard, guard, alone, Edge, edges_of, row_number}
 use Rattle.links.specs.Links.{neighbours}
-use Rattle.tightening.specs.declared.Tightened.{Tightened}
 use Rattle.row_runs.specs.Row.{threshold_row}
-use Rattle.tightening.specs.Told.{moved_lower, moved_upper, moved_state}
+use Rattle.tightening.specs.Told.{Tightened, moved_lower, moved_upper, moved_state}
 use Rattle.tightening.specs.ToldLaws.{guard-cases, lower_cases, upper_cases}
 use Rattle.row_moves.specs.Between.{Index, Live, state_at, with_state, with_dirty, Did, run_row, run_with, threshold_guard, threshold_condition, term_count, threshold_prefixes, with_dirty_rows, with_residuals}
 use Rattle.row_moves.specs.LoopLaws.{drained_lower, drained_upper}

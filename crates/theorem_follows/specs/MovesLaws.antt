@@ -2,7 +2,7 @@
 -- keep the invariant of Stands, and where one of them contradicts, a conflict follows from the start.
 use Prim.Native.Nat.{ℕ, ◌≤◌, ◌<◌}
 use Rattle.std.proofs.Common.{arith, sym, ap, ◌∙◌, subst, inl, inr, ⊎_elim, length-append, leb-true}
-use Rattle.std.specs.Prelude.{◌≡◌, Bool, true, false, not, ◌||◌, ◌⊎◌, length, get_or, leb, ◌≤ℤ◌, ◌<ℤ◌}
+use Rattle.std.specs.Prelude.{◌≡◌, Bool, true, false, not, ◌||◌, ◌⊎◌, length, get_or, leb, ◌≤ℤ◌, ◌<ℤ◌, Option, None, Some}
 use Rattle.std.proofs.Math.Path.{refl}
 use mathlib.Core.List.{List, [], ◌∷◌, ◌++◌, append-nil, Memᴰ}
 use Rattle.std.proofs.Math.IntN.{ℤ}
@@ -12,8 +12,6 @@ use Rattle.base.specs.SignedLaws.{nle-lt_z}
 use Rattle.numeric.specs.Threshold.{Term, Threshold}
 use Rattle.state.specs.declared.Step.TheVariants.{Unchanged}
 use Rattle.state.specs.declared.State.{State}
-use Rattle.state.specs.declared.Upper.{Upper}
-use Rattle.state.specs.declared.Upper.TheVariants.{Open, Under}
 use Rattle.state.specs.Step.{contradicts}
 use Rattle.state.specs.State.{upper_at_most, with_lower, with_upper}
 use Rattle.words.specs.Mask.{bit}
@@ -21,9 +19,8 @@ use Rattle.queues.specs.Marks.{Marks, is_decided, decide}
 use Rattle.queues.specs.Queue.{Rows}
 use Rattle.rows.specs.Rows.{Row, no_row, Guard, guard, alone, row_number}
 use Rattle.links.specs.Links.{neighbours}
-use Rattle.tightening.specs.declared.Tightened.{Tightened}
 use Rattle.row_runs.specs.Row.{Ran, threshold_row}
-use Rattle.tightening.specs.Told.{guard_state, moved_lower, moved_upper, moved_state, under}
+use Rattle.tightening.specs.Told.{Tightened, guard_state, moved_lower, moved_upper, moved_state, under}
 use Rattle.tightening.specs.ToldLaws.{guard-cases, lower_cases, upper_cases}
 use Rattle.row_moves.specs.Between.{Index, Live, state_at, with_state, with_dirty, Did, run_row, run_with, threshold_guard, term_count, threshold_prefixes, with_dirty_rows, with_residuals}
 use Rattle.row_moves.specs.Handing.{moved_run, guard_row, guard_told}
@@ -39,9 +36,9 @@ use Rattle.theorem_follows.specs.StandsLaws.{table_at, Apart, Stands, stay_le, a
 use Rattle.queues.proofs.StayLaws.{Stay, stay_same, stay_decide}
 
 -- An upper bound that lies above a number says no more than the number as a bound would.
-pub not_above : (z : ℤ) (y : Upper) → upper_at_most y z ≡ false → UpLe (Under z) y
-not_above z Open f = tt
-not_above z (Under b) f = <ℤ_≤ℤ (lt (nle-lt_z z b f))
+pub not_above : (z : ℤ) (y : Option ℤ) → upper_at_most y z ≡ false → UpLe (Some z) y
+not_above z None f = tt
+not_above z (Some b) f = <ℤ_≤ℤ (lt (nle-lt_z z b f))
 
 -- A GUARD'S BOUND makes a row's bounds no wider.
 pub guard_tightens : (st : State) (b : ℤ) (value : Bool) → (st.lower ≤ℤ (guard_state st value b).state.lower) × UpLe (guard_state st value b).state.upper st.upper
@@ -83,14 +80,14 @@ module _ (x : Index) (drained : ℕ → ℕ → Bool) where
           sure = (stay_le v.marks a.marks l u f.0.2.0).sure;
           never = (stay_le v.marks a.marks l u f.0.2.0).never;
           lower = put_state (λ (q : ℕ) (t : State). l q ≤ℤ t.lower) v.states r a.state room (subst (λ (z : ℤ). l r ≤ℤ z) (sym goes.lower) (≤ℤ_refl (l r))) (λ q e. ≤ℤ_refl (l q));
-          upper = put_state (λ (q : ℕ) (t : State). UpLe t.upper (u q)) v.states r a.state room (subst (λ (z : Upper). UpLe z (u r)) (sym goes.upper) (up_refl (u r))) (λ q e. up_refl (u q));
+          upper = put_state (λ (q : ℕ) (t : State). UpLe t.upper (u q)) v.states r a.state room (subst (λ (z : Option ℤ). UpLe z (u r)) (sym goes.upper) (up_refl (u r))) (λ q e. up_refl (u q));
         })
         (follows_below x.rows s (table_at after) (table_of a.marks l u) f.0.0
         (record {
           sure = λ n e. e;
           never = λ n e. e;
           lower = put_state (λ (q : ℕ) (t : State). t.lower ≤ℤ l q) v.states r a.state room (subst (λ (z : ℤ). z ≤ℤ l r) (sym goes.lower) (≤ℤ_refl (l r))) (λ q e. ≤ℤ_refl (l q));
-          upper = put_state (λ (q : ℕ) (t : State). UpLe (u q) t.upper) v.states r a.state room (subst (λ (z : Upper). UpLe (u r) z) (sym goes.upper) (up_refl (u r))) (λ q e. up_refl (u q));
+          upper = put_state (λ (q : ℕ) (t : State). UpLe (u q) t.upper) v.states r a.state room (subst (λ (z : Option ℤ). UpLe (u r) z) (sym goes.upper) (up_refl (u r))) (λ q e. up_refl (u q));
         })),
     f.1,
   )
@@ -98,7 +95,7 @@ module _ (x : Index) (drained : ℕ → ℕ → Bool) where
       l : ℕ → ℤ
       l q = (state_at v q).lower
 
-      u : ℕ → Upper
+      u : ℕ → Option ℤ
       u q = (state_at v q).upper
 
       row : Row
@@ -212,10 +209,10 @@ module _ (x : Index) (drained : ℕ → ℕ → Bool) where
           ),
         )) (λ e. tighter-same s v r h)
 
-    under-le : (a b : Upper) → under a b ≡ true → UpLe a b
-    under-le Open b e = absurd (clash false e refl)
-    under-le (Under a) Open e = tt
-    under-le (Under a) (Under b) e = by (le_z b a) refl e
+    under-le : (a b : Option ℤ) → under a b ≡ true → UpLe a b
+    under-le None b e = absurd (clash false e refl)
+    under-le (Some a) None e = tt
+    under-le (Some a) (Some b) e = by (le_z b a) refl e
       where
         by : (t : Bool) → le_z b a ≡ t → not t ≡ true → a ≤ℤ b
         by true f g = absurd (clash false g refl)

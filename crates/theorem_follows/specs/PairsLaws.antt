@@ -1,6 +1,6 @@
 -- TWO MEASURES: the node of two guards that stand beside each other is sure once both rows' sure cursors passed them. A run of one row
 -- keeps that, if a guard that it passes decides where the other row's figures reach the other bound; and at rest it leaves nothing of rule 2.
-use Rattle.std.specs.Prelude.{ℕ, zero, suc, ◌<◌, ◌≡◌, Bool, true, false, cond, ◌&&◌, ◌||◌, ◌⊎◌, ◌≢◌, length, get_or, take, drop, ℤ, ◌≤ℤ◌}
+use Rattle.std.specs.Prelude.{ℕ, zero, suc, ◌<◌, ◌≡◌, Bool, true, false, cond, ◌&&◌, ◌||◌, ◌⊎◌, ◌≢◌, length, get_or, take, drop, ℤ, ◌≤ℤ◌, Option, Some}
 use Rattle.std.proofs.Math.Decide.{ℕ_discrete}
 use Rattle.std.proofs.Math.Path.{refl, ap}
 use Rattle.std.proofs.Common.{sym, ap₂, ◌∙◌, subst, inl, inr, take-append-drop, get_or-set_same, get_or-set_other}
@@ -11,8 +11,6 @@ use Rattle.std.specs.Int.Signed.{le_z, ≤ℤ_refl}
 use Rattle.base.specs.TestLaws.{clash}
 use Rattle.base.specs.SignedLaws.{le_z_trans}
 use Rattle.state.specs.declared.State.{State}
-use Rattle.state.specs.declared.Upper.{Upper}
-use Rattle.state.specs.declared.Upper.TheVariants.{Under}
 use Rattle.words.specs.Mask.{bit}
 use Rattle.state.specs.State.{no_state, max_z, reached}
 use Rattle.rows.specs.Rows.{Row, row_of, no_row, Guard, Other, alone, beside, is_alone, MayDecide}
@@ -153,7 +151,7 @@ module _ (rows : List Row) where
   -- ---- WHAT NEVER NODES TOLD: where the cursor passed the other guard, the row has the upper
   abbrev pub NeverTold : (ℕ → Bool) → Live → Type 0
   NeverTold told v =
-      (r : ℕ) (g : Guard) → Guards rows r g → told g.node ≡ true → bit v.marks.never g.node ≡ true → OtherPassed v r g g.other → UpLe (state_at v r).upper (Under g.bound)
+      (r : ℕ) (g : Guard) → Guards rows r g → told g.node ≡ true → bit v.marks.never g.node ≡ true → OtherPassed v r g g.other → UpLe (state_at v r).upper (Some g.bound)
 
   -- A RUN KEEPS IT if every never node whose guard is passed now waits again, and so is told no more
   pub never_told_run : (v w : Live) (r : ℕ) (told after : ℕ → Bool) → ((q : ℕ) → q ≢ r → state_at w q ≡ state_at v q) → ((q : ℕ) → UpLe (state_at w q).upper (state_at v q).upper)
@@ -161,7 +159,7 @@ module _ (rows : List Row) where
       → Each (λ (h : Guard). after h.node ≡ true → bit w.marks.never h.node ≡ true → ⊥) (drop (state_at v r).sure_guard (take (state_at w r).sure_guard (guards_at r)))
       → NeverTold told v → NeverTold after w
   never_told_run v w r told after others sinks fewer stay again h k g i e n o =
-      up_trans (state_at w k).upper (state_at v k).upper (Under g.bound) (sinks k) (h k g i (fewer g.node e) (stay g.node e n) (by g.other o))
+      up_trans (state_at w k).upper (state_at v k).upper (Some g.bound) (sinks k) (h k g i (fewer g.node e) (stay g.node e n) (by g.other o))
     where
       before : (q : ℕ) (y : Guard) → y.node ≡ g.node → PassedIn w q y → PassedIn v q y
       before q y same m = at (ℕ_discrete q r) m
@@ -180,7 +178,7 @@ module _ (rows : List Row) where
   pub never_told_rest : Paired rows → (v : Live) (told : ℕ → Bool) → NeverTold told v → ((n : ℕ) → bit v.marks.never n ≡ true → told n ≡ true)
       → ((r : ℕ) → IsRow rows r → reached (state_at v r) ≡ reached_of rows (table_at v) r)
       → ((r : ℕ) → IsRow rows r → Each (λ (g : Guard). le_z g.bound (reached (state_at v r)) ≡ false) (drop (state_at v r).sure_guard (guards_at r)))
-      → (r : ℕ) (g : Guard) → Guards rows r g → bit v.marks.never g.node ≡ true → OtherReached rows (table_at v) g.other → UpLe (state_at v r).upper (Under g.bound)
+      → (r : ℕ) (g : Guard) → Guards rows r g → bit v.marks.never g.node ≡ true → OtherReached rows (table_at v) g.other → UpLe (state_at v r).upper (Some g.bound)
   unfolding OtherReached
   never_told_rest paired v told h all_told exact all r g i n o = h r g i (all_told g.node n) n (by g.other refl o)
     where
@@ -265,7 +263,7 @@ module _ (rows : List Row) (s : Table) (drained : ℕ → ℕ → Bool) (v : Liv
   pub lows : ℕ → ℤ
   lows q = (state_at v q).lower
 
-  pub highs : ℕ → Upper
+  pub highs : ℕ → Option ℤ
   highs q = (state_at v q).upper
 
   pub More : Marks → Type 0

@@ -1,6 +1,6 @@
 -- NO RULE IS LEFT UNDONE: a row that was run without a contradiction, all its decided terms drained, has none of the rules 2 to 5 left
 -- and is in no conflict. With rules 1 and 6 done for all rows, the live state is a rest of the table.
-use Rattle.std.specs.Prelude.{ℕ, ◌+◌, ◌-◌, ◌≤◌, ◌≡◌, refl, Bool, true, false, not, cond, ◌&&◌, ◌||◌, ◌⊎◌, get_or, take, ℤ, pos, ◌-ℤ◌, ◌≤ℤ◌, ◌<ℤ◌}
+use Rattle.std.specs.Prelude.{ℕ, ◌+◌, ◌-◌, ◌≤◌, ◌≡◌, refl, Bool, true, false, not, cond, ◌&&◌, ◌||◌, ◌⊎◌, get_or, take, ℤ, pos, ◌-ℤ◌, ◌≤ℤ◌, ◌<ℤ◌, Option, None, Some}
 use Rattle.std.proofs.Common.{arith, sym, ap, ap₂, ◌∙◌, subst, inl, inr, ⊎_elim, take-append-drop}
 use Rattle.std.proofs.Math.Bool as B
 use mathlib.Core.List.Memᴰ
@@ -9,8 +9,6 @@ use Rattle.std.specs.Int.Signed.{le_z, lt_z, ≤ℤ_refl, clash_ℤ}
 use Rattle.base.specs.TestLaws.{true-false, clash, or-false}
 use Rattle.base.specs.SignedLaws.{pos_minus, lt_z-nle, le_z-nlt}
 use Rattle.numeric.specs.Threshold.{Term}
-use Rattle.state.specs.declared.Upper.{Upper}
-use Rattle.state.specs.declared.Upper.TheVariants.{Open, Under}
 use Rattle.state.specs.State.{max_z, reached, upper_at_most, conflict}
 use Rattle.words.specs.Mask.{bit}
 use Rattle.queues.specs.Marks.{is_decided}
@@ -28,7 +26,7 @@ pub record RowRests (rows : List Row) (t : Table) (r : ℕ) : Type 0 where
   pub reached : (g : Guard) → Guards rows r g → MayDecide g → g.other ≡ alone → g.bound ≤ℤ reached_of rows t r → t.sure g.node ≡ true
   pub out_of_reach : (g : Guard) → Guards rows r g → MayDecide g → (possible_of rows t r <ℤ g.bound) ⊎ AtMost (t.upper r) g.bound → t.never g.node ≡ true
   pub needed : (u : Term) → HasTerm rows r u → Undecided rows t u.condition → (possible_of rows t r -ℤ t.lower r) <ℤ pos u.weight → ⊥
-  pub too_heavy : (u : Term) (b : ℤ) → HasTerm rows r u → Undecided rows t u.condition → t.upper r ≡ Under b → (b -ℤ known_of rows t r) ≤ℤ pos u.weight → ⊥
+  pub too_heavy : (u : Term) (b : ℤ) → HasTerm rows r u → Undecided rows t u.condition → t.upper r ≡ Some b → (b -ℤ known_of rows t r) ≤ℤ pos u.weight → ⊥
   pub in_reach : possible_of rows t r <ℤ t.lower r → ⊥
   pub not-reached : AtMost (t.upper r) (reached_of rows t r) → ⊥
 
@@ -117,7 +115,7 @@ module _ (rows : List Row) (s : Table) (drained : ℕ → ℕ → Bool) (v : Liv
 
 -- ALL ROWS AT REST, rules 1 and 6 done: the table is
 pub at_rest_lem : (rows : List Row) (t : Table) → ((n : ℕ) → t.sure n ≡ true → t.never n ≡ true → ⊥) → ((r : ℕ) → IsRow rows r → RowRests rows t r)
-    → ((r : ℕ) (g : Guard) → Guards rows r g → (t.sure g.node ≡ true → g.bound ≤ℤ t.lower r) × (t.never g.node ≡ true → UpLe (t.upper r) (Under g.bound)))
+    → ((r : ℕ) (g : Guard) → Guards rows r g → (t.sure g.node ≡ true → g.bound ≤ℤ t.lower r) × (t.never g.node ≡ true → UpLe (t.upper r) (Some g.bound)))
     → ((r q : ℕ) → IsPrefix rows r q → (t.lower r ≤ℤ t.lower q) × UpLe (t.upper r) (t.upper q)) → ((r : ℕ) (g : Guard) → Guards rows r g → g.other ≡ alone) → AtRest rows t
 at_rest_lem rows t apart rest guards prefixes single = (no-conflict, no_step)
   where
@@ -126,14 +124,14 @@ at_rest_lem rows t apart rest guards prefixes single = (no-conflict, no_step)
     no-conflict (lower-above r i k) = (rest r i).in_reach k
     no-conflict (upper-reached r i k) = (rest r i).not-reached k
 
-    not-below : (a b : Upper) → UpLe a b → Below b a → ⊥
-    not-below a Open l k = k
-    not-below Open (Under b) l k = l
-    not-below (Under a) (Under b) l k = clash_ℤ k l
+    not-below : (a b : Option ℤ) → UpLe a b → Below b a → ⊥
+    not-below a None l k = k
+    not-below None (Some b) l k = l
+    not-below (Some a) (Some b) l k = clash_ℤ k l
 
     no_step : (u : Table) → Step rows t u → ⊥
     no_step u (sure-guard r g i e k) = clash_ℤ k ((guards r g i).0 e)
-    no_step u (never-guard r g i e k) = not-below (t.upper r) (Under g.bound) ((guards r g i).1 e.0) k
+    no_step u (never-guard r g i e k) = not-below (t.upper r) (Some g.bound) ((guards r g i).1 e.0) k
     no_step u (bound-reached r g i k e) = clash (t.sure g.node) ((rest r i.0).reached g i k.0 (single r g i) k.1) e
     no_step u (bound-out-of-reach r g i k e) = clash (t.never g.node) ((rest r i.0).out_of_reach g i k.0 k.1) e
     no_step u (term-needed r x i d k) = (rest r i.0).needed x i d k

@@ -1,7 +1,7 @@
 -- A ROW RUN ONCE leaves none of the rules 2 to 5 undone that its drained figures give, and its cursors pass only what is decided.
 use Prim.Native.Nat.{ℕ, ◌+◌, ◌-◌, ◌≤◌}
 use Rattle.std.proofs.Common.{arith, sym, ap, ap₂, ◌∙◌, subst, le-leb}
-use Rattle.std.specs.Prelude.{◌≡◌, true, false, not, cond, ◌&&◌, length, take, drop, ℤ, pos, ◌-ℤ◌}
+use Rattle.std.specs.Prelude.{◌≡◌, true, false, not, cond, ◌&&◌, length, take, drop, ℤ, pos, ◌-ℤ◌, Option, None, Some}
 use Rattle.std.proofs.Math.Path.{refl}
 use Rattle.std.proofs.Math.Bool.{Bool}
 use mathlib.Core.List.{List, Memᴰ, reverse}
@@ -13,8 +13,6 @@ use Rattle.numeric.specs.Threshold.{Term}
 use Rattle.state.specs.declared.Step.{Step}
 use Rattle.state.specs.declared.Step.TheVariants.{Unchanged, Contradiction}
 use Rattle.state.specs.declared.State.{State}
-use Rattle.state.specs.declared.Upper.{Upper}
-use Rattle.state.specs.declared.Upper.TheVariants.{Open, Under}
 use Rattle.state.specs.Step.{joined, contradicts}
 use Rattle.state.specs.State.{max_z, reached, upper_at_most, limited, limit, with_guards, with_terms}
 use Rattle.queues.specs.Marks.{Marks, is_decided, Decided}
@@ -42,7 +40,7 @@ pub record Complete (row : Row) (st : State) (m : Marks) : Type 0 where
   pub all : Each (λ (g : Guard). le_z g.bound (reached st) ≡ false) (drop st.sure_guard row.guards)
   pub out_of_reach : Each (λ (g : Guard). reachable st g.bound ≡ false → Meets false g m) row.guards
   pub needed : le_z st.lower st.known ≡ false → Each (λ (t : Term). le_z (pos t.weight) (st.possible -ℤ st.lower) ≡ false → is_decided m t.condition ≡ true) row.terms
-  pub too_heavy : (b : ℤ) → st.upper ≡ Under b → Each (λ (t : Term). lt_z (pos t.weight) (b -ℤ st.known) ≡ false → is_decided m t.condition ≡ true) row.terms
+  pub too_heavy : (b : ℤ) → st.upper ≡ Some b → Each (λ (t : Term). lt_z (pos t.weight) (b -ℤ st.known) ≡ false → is_decided m t.condition ≡ true) row.terms
 
 -- A guard that the sure cursor passed on its way from one state to another, and that decides, is sure.
 abbrev pub Fresh : Row → State → State → Marks → Type 0
@@ -176,29 +174,29 @@ module _ (row : Row) (o : Ordered row) where
   false-done : (st : State) (m : Marks) → Passed row st m → contradicts (false_terms row.terms st m).step ≡ false
       → let r = false_terms row.terms st m in
       Passed row r.state r.marks × Stays m r.marks
-      × ((b : ℤ) → st.upper ≡ Under b → Each (λ (t : Term). lt_z (pos t.weight) (b -ℤ st.known) ≡ false → is_decided r.marks t.condition ≡ true) row.terms)
+      × ((b : ℤ) → st.upper ≡ Some b → Each (λ (t : Term). lt_z (pos t.weight) (b -ℤ st.known) ≡ false → is_decided r.marks t.condition ≡ true) row.terms)
   unfolding false_terms with_terms
   false-done st m p h = by st.upper refl h
     where
-      light : Upper → ℕ → Bool
+      light : Option ℤ → ℕ → Bool
       light x w = lt_z (pos w) (limit x -ℤ st.known)
 
-      a : Upper → Scanned
+      a : Option ℤ → Scanned
       a x = forced false (light x) (drop st.false_term row.terms) m
 
-      ends : Upper → Ran
+      ends : Option ℤ → Ran
       ends x = cond (limited x) (ran (with_terms st st.true_term (st.false_term + (a x).passed)) (a x).marks (a x).step) (ran st m Unchanged)
 
-      by : (x : Upper) → st.upper ≡ x → contradicts (ends x).step ≡ false
+      by : (x : Option ℤ) → st.upper ≡ x → contradicts (ends x).step ≡ false
           → Passed row (ends x).state (ends x).marks × Stays m (ends x).marks
-          × ((b : ℤ) → st.upper ≡ Under b → Each (λ (t : Term). lt_z (pos t.weight) (b -ℤ st.known) ≡ false → is_decided (ends x).marks t.condition ≡ true) row.terms)
-      by Open e d = (p, ((λ v k q. q), (λ k q. q)), λ b f. absurd (let g : Open ≡ Under b = sym e ∙ f in unequal cc))
-      by (Under b) e d =
-          let c = forced_complete false (light (Under b)) (light-false (b -ℤ st.known)) row.terms st.false_term m o.falling o.terms p.wide p.false-terms d in (
-            stays-passed false (light (Under b)) (light-false (b -ℤ st.known)) st.false_term m st (with_terms st st.true_term (st.false_term + (a (Under b)).passed)) p refl refl refl
-                (λ t i. stays-decided false (light (Under b)) (light-false (b -ℤ st.known)) st.false_term m t.condition (p.true-terms t i)) c.0,
-            (stays-has false (light (Under b)) (light-false (b -ℤ st.known)) st.false_term m, stays-decided false (light (Under b)) (light-false (b -ℤ st.known)) st.false_term m),
-            λ b' f. let g : b ≡ b' = (let q : Under b ≡ Under b' = sym e ∙ f in cc) in
+          × ((b : ℤ) → st.upper ≡ Some b → Each (λ (t : Term). lt_z (pos t.weight) (b -ℤ st.known) ≡ false → is_decided (ends x).marks t.condition ≡ true) row.terms)
+      by None e d = (p, ((λ v k q. q), (λ k q. q)), λ b f. absurd (let g : None ≡ Some b = sym e ∙ f in unequal cc))
+      by (Some b) e d =
+          let c = forced_complete false (light (Some b)) (light-false (b -ℤ st.known)) row.terms st.false_term m o.falling o.terms p.wide p.false-terms d in (
+            stays-passed false (light (Some b)) (light-false (b -ℤ st.known)) st.false_term m st (with_terms st st.true_term (st.false_term + (a (Some b)).passed)) p refl refl refl
+                (λ t i. stays-decided false (light (Some b)) (light-false (b -ℤ st.known)) st.false_term m t.condition (p.true-terms t i)) c.0,
+            (stays-has false (light (Some b)) (light-false (b -ℤ st.known)) st.false_term m, stays-decided false (light (Some b)) (light-false (b -ℤ st.known)) st.false_term m),
+            λ b' f. let g : b ≡ b' = (let q : Some b ≡ Some b' = sym e ∙ f in cc) in
                 λ t i q. c.1 t i (subst (λ (z : ℤ). lt_z (pos t.weight) (z -ℤ st.known) ≡ false) (sym g) q),
           )
 
@@ -314,7 +312,7 @@ row_complete row o st m p h =
           complete = record {
             all = λ g i. ap (le_z g.bound) (sym (reached_same st c.state fc)) ∙ ga.all g (subst (λ (n : ℕ). Memᴰ g (drop n row.guards)) at i);
             out_of_reach = λ g i q d. gc.1.0 false g.node (gb.1.0 false g.node (ga.out_of_reach g i
-                (ap₂ (λ (p : ℤ) (u : Upper). le_z g.bound p && not (upper_at_most u g.bound)) (sym fc.possible) (sym fc.upper) ∙ q) d));
+                (ap₂ (λ (p : ℤ) (u : Option ℤ). le_z g.bound p && not (upper_at_most u g.bound)) (sym fc.possible) (sym fc.upper) ∙ q) d));
             needed = λ f t i q. gc.1.1 t.condition (gb.2 (ap₂ le_z (fa.lower ∙ sym fc.lower) (fa.known ∙ sym fc.known) ∙ f) t i
                 (ap (le_z (pos t.weight)) (ap₂ (λ (x y : ℤ). x -ℤ y) (fa.possible ∙ sym fc.possible) (fa.lower ∙ sym fc.lower)) ∙ q));
             too_heavy = λ z f t i q. gc.2 z (fb.upper ∙ sym fc.upper ∙ f) t i (ap (λ (x : ℤ). lt_z (pos t.weight) (z -ℤ x)) (fb.known ∙ sym fc.known) ∙ q);

@@ -2,7 +2,7 @@
 -- those of the masks; where it contradicts, a conflict follows.
 use Prim.Native.Nat.{ℕ, ◌+◌, ◌-◌}
 use Rattle.std.proofs.Math.Decide.{ℕ_discrete}
-use Rattle.std.specs.Prelude.{◌≡◌, true, not, cond, ◌&&◌, ◌||◌, ◌⊎◌, get_or, take, drop, ℤ, pos, ◌-ℤ◌, ◌≤ℤ◌, ◌<ℤ◌}
+use Rattle.std.specs.Prelude.{◌≡◌, true, not, cond, ◌&&◌, ◌||◌, ◌⊎◌, get_or, take, drop, ℤ, pos, ◌-ℤ◌, ◌≤ℤ◌, ◌<ℤ◌, Option, None, Some}
 use Rattle.std.proofs.Math.Path.{refl}
 use Rattle.std.proofs.Common.{sym, ap, ◌∙◌, subst, inl, inr, ⊎_elim}
 use Rattle.std.proofs.Math.Bool as B
@@ -18,8 +18,6 @@ use Rattle.numeric.specs.Threshold.{Term}
 use Rattle.state.specs.declared.Step.{Step}
 use Rattle.state.specs.declared.Step.TheVariants.{Unchanged, Contradiction}
 use Rattle.state.specs.declared.State.{State}
-use Rattle.state.specs.declared.Upper.{Upper}
-use Rattle.state.specs.declared.Upper.TheVariants.{Open, Under}
 use Rattle.state.specs.Step.{joined, contradicts}
 use Rattle.state.specs.State.{reached, upper_at_most, limited, limit, conflict, with_guards, with_terms}
 use Rattle.words.specs.Mask.{bit, learn, Learned}
@@ -52,7 +50,7 @@ learn_grows mask opposite n k h = by (ℕ_discrete k n)
     by (yes e) = ap (λ (x : Learned). bit x.mask k) (learn_there mask opposite n (subst (λ (i : ℕ). bit mask i ≡ true) e h)) ∙ h
     by (no d) = learn_other mask opposite n k d ∙ h
 
-pub decide_grows : (value : Bool) (m : Marks) (n : ℕ) (l : ℕ → ℤ) (u : ℕ → Upper) → Le (table_of m l u) (table_of (decide value m n).marks l u)
+pub decide_grows : (value : Bool) (m : Marks) (n : ℕ) (l : ℕ → ℤ) (u : ℕ → Option ℤ) → Le (table_of m l u) (table_of (decide value m n).marks l u)
 unfolding decide
 decide_grows true m n l u = record {
   sure = λ k h. learn_grows m.sure m.never n k h;
@@ -68,13 +66,13 @@ decide_grows false m n l u = record {
 }
 
 -- A row state's figures lie inside those of the masks; its bounds are the table's.
-pub record Inside (rows : List Row) (l : ℕ → ℤ) (u : ℕ → Upper) (r : ℕ) (st : State) (m : Marks) : Type 0 where
+pub record Inside (rows : List Row) (l : ℕ → ℤ) (u : ℕ → Option ℤ) (r : ℕ) (st : State) (m : Marks) : Type 0 where
   pub known : st.known ≤ℤ known_of rows (table_of m l u) r
   pub possible : possible_of rows (table_of m l u) r ≤ℤ st.possible
   pub lower : st.lower ≡ l r
   pub upper : st.upper ≡ u r
 
-pub inside_up : (rows : List Row) (l : ℕ → ℤ) (u : ℕ → Upper) (r : ℕ) (st : State) (m m' : Marks) → Le (table_of m l u) (table_of m' l u)
+pub inside_up : (rows : List Row) (l : ℕ → ℤ) (u : ℕ → Option ℤ) (r : ℕ) (st : State) (m m' : Marks) → Le (table_of m l u) (table_of m' l u)
     → Inside rows l u r st m → Inside rows l u r st m'
 inside_up rows l u r st m m' g i = record {
   known = ≤ℤ_trans i.known (pos_≤ℤ (known_up (bit m.sure) (bit m'.sure) (terms_of rows r) g.sure));
@@ -84,7 +82,7 @@ inside_up rows l u r st m m' g i = record {
 }
 
 -- `More` is whatever else each decision keeps.
-module _ (rows : List Row) (s : Table) (l : ℕ → ℤ) (u : ℕ → Upper) (r : ℕ) (is : IsRow rows r)
+module _ (rows : List Row) (s : Table) (l : ℕ → ℤ) (u : ℕ → Option ℤ) (r : ℕ) (is : IsRow rows r)
     (More : Marks → Type 0) (keeps : (value : Bool) (m : Marks) (n : ℕ) → More m → More (decide value m n).marks) where
   pub inside_guards : (st : State) (m : Marks) (a b : ℕ) → Inside rows l u r st m → Inside rows l u r (with_guards st a b) m
   unfolding with_guards
@@ -147,7 +145,7 @@ module _ (rows : List Row) (s : Table) (l : ℕ → ℤ) (u : ℕ → Upper) (r 
       → (possible_of rows (table_of m l u) r <ℤ b) ⊎ AtMost (u r) b
   out_of_reach st m b i w =
       ⊎_elim (λ (e : le_z b st.possible ≡ false). inl (≤ℤ_<ℤ_trans i.possible (lt (nle-lt_z st.possible b e))))
-      (λ (e : not (upper_at_most st.upper b) ≡ false). inr (subst (λ (x : Upper). AtMost x b) i.upper (at_most st.upper b (not-false (upper_at_most st.upper b) e))))
+      (λ (e : not (upper_at_most st.upper b) ≡ false). inr (subst (λ (x : Option ℤ). AtMost x b) i.upper (at_most st.upper b (not-false (upper_at_most st.upper b) e))))
       (and-false (le_z b st.possible) (not (upper_at_most st.upper b)) w)
 
   never-along : (gs : List Guard) → Each StandsFor gs → (st : State) (m : Marks) (k : Step) → Along st m → contradicts k ≡ false
@@ -213,14 +211,14 @@ module _ (rows : List Row) (s : Table) (l : ℕ → ℤ) (u : ℕ → Upper) (r 
   unfolding false_terms
   false_fine st m h = by st.upper refl
     where
-      by : (x : Upper) → st.upper ≡ x
+      by : (x : Option ℤ) → st.upper ≡ x
           → Fine (cond (limited x)
           (ran (with_terms st st.true_term (st.false_term + (forced false (λ (w : ℕ). lt_z (pos w) (limit x -ℤ st.known)) (drop st.false_term (terms_of rows r)) m).passed))
           (forced false (λ (w : ℕ). lt_z (pos w) (limit x -ℤ st.known)) (drop st.false_term (terms_of rows r)) m).marks
           (forced false (λ (w : ℕ). lt_z (pos w) (limit x -ℤ st.known)) (drop st.false_term (terms_of rows r)) m).step)
           (ran st m Unchanged))
-      by Open e = (h, λ c. absurd (unequal cc))
-      by (Under b) e =
+      by None e = (h, λ c. absurd (unequal cc))
+      by (Some b) e =
           let a = force-along false st (drop st.false_term (terms_of rows r)) (λ (w : ℕ). lt_z (pos w) (b -ℤ st.known)) m h
           (λ t k x p d w. decide_follows rows s l u false k t.condition p.0
           (λ q. term-too-heavy r t b (is, mem_drop st.false_term (terms_of rows r) t x) (or-false (bit k.sure t.condition) (bit k.never t.condition) d)
@@ -283,7 +281,7 @@ module _ (rows : List Row) (s : Table) (l : ℕ → ℤ) (u : ℕ → Upper) (r 
           ⊎_elim
           (λ (x : lt_z st.possible st.lower ≡ true). lower-above r is (≤ℤ_<ℤ_trans h.1.possible (subst (λ (z : ℤ). st.possible <ℤ z) h.1.lower (lt x))))
           (λ (x : upper_at_most st.upper (reached st) ≡ true).
-          upper-reached r is (T-up (subst (λ (y : Upper). AtMost y (reached st)) h.1.upper (at_most st.upper (reached st) x))))
+          upper-reached r is (T-up (subst (λ (y : Option ℤ). AtMost y (reached st)) h.1.upper (at_most st.upper (reached st) x))))
           (or-true (lt_z st.possible st.lower) (upper_at_most st.upper (reached st)) e)
         where
           T-up : AtMost (u r) (reached st) → AtMost (u r) (reached_of rows (table_of m l u) r)

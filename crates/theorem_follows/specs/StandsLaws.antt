@@ -1,7 +1,7 @@
 -- THE INVARIANT of a live state: its nodes and bounds lie between a start and every rest of the table above that start, and each
 -- row's known and possible are the sums of the nodes drained into it. So whatever is decided, raised or lowered follows by the
 -- rules, and drained sums lie inside those that the masks give.
-use Rattle.std.specs.Prelude.{ℕ, ◌+◌, ◌≤◌, ◌<◌, ◌≡◌, refl, Bool, true, false, cond, ◌&&◌, ◌⊎◌, ◌≢◌, length, get_or, set, eqb, ℤ, pos, ◌≤ℤ◌}
+use Rattle.std.specs.Prelude.{ℕ, ◌+◌, ◌≤◌, ◌<◌, ◌≡◌, refl, Bool, true, false, cond, ◌&&◌, ◌⊎◌, ◌≢◌, length, get_or, set, eqb, ℤ, pos, ◌≤ℤ◌, Option}
 use Rattle.std.proofs.Math.Decide.{ℕ_discrete}
 use Rattle.std.proofs.Common.{arith, sym, ap, ap₂, ◌∙◌, subst, inl, inr, length-set, get_or-set_same, get_or-set_other, eq-eqb, ne_eqb, eqb-true}
 use Rattle.std.proofs.Math.Bool as B
@@ -10,7 +10,6 @@ use Rattle.std.specs.Int.Signed.{≤ℤ_refl}
 use Rattle.base.specs.TestLaws.{true-false, clash, and_right}
 use Rattle.numeric.specs.Threshold.{Term}
 use Rattle.state.specs.declared.State.{State}
-use Rattle.state.specs.declared.Upper.{Upper}
 use Rattle.state.specs.State.{no_state}
 use Rattle.words.specs.Mask.{bit}
 use Rattle.queues.specs.Marks.{Marks, is_decided, decide, mask}
@@ -95,7 +94,7 @@ among_stay m m' stay drained decided value n = by (drained n) refl
     by true e = sym (stay n (decided n e) value)
     by false e = refl
 
-pub stay_le : (m m' : Marks) (l : ℕ → ℤ) (u : ℕ → Upper) → Stay m m' → Le (table_of m l u) (table_of m' l u)
+pub stay_le : (m m' : Marks) (l : ℕ → ℤ) (u : ℕ → Option ℤ) → Stay m m' → Le (table_of m l u) (table_of m' l u)
 stay_le m m' l u h = record {
   sure = λ n e. h n (sure_decided m n e) true ∙ e;
   never = λ n e. h n (never_decided m n e) false ∙ e;

@@ -1,6 +1,6 @@
 -- WHERE THE INVARIANT BEGINS, and what else keeps it: the first states of all rows, a mark, a node or a row taken from its queue, and
 -- the nodes decided so far as a new start.
-use Rattle.std.specs.Prelude.{ℕ, ◌+◌, ◌≤◌, ◌<◌, ◌≡◌, refl, Bool, true, false, not, length, get_or, take, eqb, ℤ, pos, ◌≤ℤ◌}
+use Rattle.std.specs.Prelude.{ℕ, ◌+◌, ◌≤◌, ◌<◌, ◌≡◌, refl, Bool, true, false, not, length, get_or, take, eqb, ℤ, pos, ◌≤ℤ◌, Option, None}
 use Rattle.std.proofs.Math.Decide.{dec_lt}
 use Rattle.std.proofs.Common.{arith, sym, ap, ◌∙◌, subst, ⊎_elim, drop_of_length-le}
 use mathlib.Core.List.Memᴰ
@@ -10,8 +10,6 @@ use Rattle.base.specs.TestLaws.{true-false, clash}
 use Rattle.memory.specs.Limits.{max_nodes}
 use Rattle.numeric.specs.Threshold.{Term}
 use Rattle.state.specs.declared.State.{State}
-use Rattle.state.specs.declared.Upper.{Upper}
-use Rattle.state.specs.declared.Upper.TheVariants.{Open}
 use Rattle.state.specs.Step.{contradicts}
 use Rattle.state.specs.State.{no_state, first_state}
 use Rattle.words.specs.Mask.{bit}
@@ -43,8 +41,8 @@ module _ (x : Index) (v : Live) (m : Marks) (d q : Rows) (stay : Stay v.marks m)
   now = with_residuals (with_dirty_rows (with_marks v m) d) q
 
   grows : Grows v.marks m
-  grows true n e = (stay_le v.marks m (λ r. pos 0) (λ r. Open) stay).sure n e
-  grows false n e = (stay_le v.marks m (λ r. pos 0) (λ r. Open) stay).never n e
+  grows true n e = (stay_le v.marks m (λ r. pos 0) (λ r. None) stay).sure n e
+  grows false n e = (stay_le v.marks m (λ r. pos 0) (λ r. None) stay).never n e
 
   pub marked_stands : (s s' : Table) (drained : ℕ → ℕ → Bool) → Apart m → Le s' (table_at now) → Follows x.rows s' (table_at now) → Stands x.rows s drained v → Stands x.rows s' drained now
   marked_stands s s' drained apart up f h = record {
@@ -174,7 +172,7 @@ module _ (x : Index) (s : Table) (l : Ledger) (v : Live) (h : Sound x s l v) whe
         lo : ℕ → ℤ
         lo r = (state_at v r).lower
 
-        hi : ℕ → Upper
+        hi : ℕ → Option ℤ
         hi r = (state_at v r).upper
 
         wide : Wide (decide value v.marks n).marks
@@ -257,21 +255,21 @@ first-none : (n : ℕ) (gs : List Guard) (g : Guard) → Memᴰ g (take (first_s
 unfolding first_state
 first-none n gs g m = Memᴰ.not-nil m
 
-first-figures : (n g : ℕ) → ((first_state n g).known ≡ pos 0) × ((first_state n g).possible ≡ pos n) × ((first_state n g).lower ≡ pos 0) × ((first_state n g).upper ≡ Open)
+first-figures : (n g : ℕ) → ((first_state n g).known ≡ pos 0) × ((first_state n g).possible ≡ pos n) × ((first_state n g).lower ≡ pos 0) × ((first_state n g).upper ≡ None)
 unfolding first_state
 first-figures n g = (refl, refl, refl, refl)
 
-none-figures : (no_state.lower ≡ pos 0) × (no_state.upper ≡ Open)
+none-figures : (no_state.lower ≡ pos 0) × (no_state.upper ≡ None)
 unfolding no_state
 none-figures = (refl, refl)
 
 module _ (x : Index) (v : Live) (sized : length x.rows ≤ length v.states) (flags : length x.rows ≤ length v.dirty.pending)
     (firsts : (r : ℕ) → IsRow x.rows r → state_at v r ≡ state_of_row (get_or x.rows r no_row)) (behind : (r : ℕ) → length x.rows ≤ r → state_at v r ≡ no_state)
     (waits : Queued (λ (n : ℕ). false) v.marks) (apart : Apart v.marks) where
-  no-bounds : (r : ℕ) → ((state_at v r).lower ≡ pos 0) × ((state_at v r).upper ≡ Open)
+  no-bounds : (r : ℕ) → ((state_at v r).lower ≡ pos 0) × ((state_at v r).upper ≡ None)
   no-bounds r = by (dec_lt r (length x.rows))
     where
-      by : Dec (r < length x.rows) → ((state_at v r).lower ≡ pos 0) × ((state_at v r).upper ≡ Open)
+      by : Dec (r < length x.rows) → ((state_at v r).lower ≡ pos 0) × ((state_at v r).upper ≡ None)
       by (yes i) =
           let f = first-figures (total (terms_of x.rows r)) (length (get_or x.rows r no_row).guards) in
           (ap (λ (t : State). t.lower) (firsts r i) ∙ f.2, ap (λ (t : State). t.upper) (firsts r i) ∙ f.3)
@@ -291,7 +289,7 @@ module _ (x : Index) (v : Live) (sized : length x.rows ≤ length v.states) (fla
     sure = λ n e. e;
     never = λ n e. e;
     lower = λ r. subst (λ (z : ℤ). z ≤ℤ pos 0) (sym (no-bounds r).0) (≤ℤ_refl (pos 0));
-    upper = λ r. subst (λ (z : Upper). UpLe Open z) (sym (no-bounds r).1) tt;
+    upper = λ r. subst (λ (z : Option ℤ). UpLe None z) (sym (no-bounds r).1) tt;
   }
 
   pub first_sound : Sound x (start (bit v.marks.sure) (bit v.marks.never)) nothing v
@@ -318,7 +316,7 @@ module _ (x : Index) (v : Live) (sized : length x.rows ≤ length v.states) (fla
       flags = flags;
       handed = λ r q m e f. (
         λ k. subst (λ (z : ℤ). z ≤ℤ (state_at v q).lower) (sym (no-bounds r).0) (subst (λ (z : ℤ). pos 0 ≤ℤ z) (sym (no-bounds q).0) (≤ℤ_refl (pos 0))),
-        λ k. subst (λ (z : Upper). UpLe (state_at v q).upper z) (sym (no-bounds r).1) tt,
+        λ k. subst (λ (z : Option ℤ). UpLe (state_at v q).upper z) (sym (no-bounds r).1) tt,
       );
     };
     queued = waits;

@@ -1,5 +1,5 @@
 -- RULE 1 STAYS DONE: a drained guard's bound is in its row, and whatever comes later keeps it there.
-use Rattle.std.specs.Prelude.{ℕ, zero, suc, ◌<◌, ◌≡◌, refl, Bool, ◌||◌, ◌⊎◌, ◌≢◌, length, get_or, ℤ, ◌≤ℤ◌}
+use Rattle.std.specs.Prelude.{ℕ, zero, suc, ◌<◌, ◌≡◌, refl, Bool, ◌||◌, ◌⊎◌, ◌≢◌, length, get_or, ℤ, ◌≤ℤ◌, Option, None, Some}
 use Rattle.std.proofs.Common.{not-suc-le-zero, le_of_suc-le-suc, arith, sym, ap, ◌∙◌, subst, inl, inr, ⊎_elim}
 use Rattle.std.proofs.Math.Bool as B
 use Rattle.std.proofs.Math.Bool.{true, false}
@@ -10,15 +10,12 @@ use Rattle.numeric.specs.Threshold.{Term, Threshold, Job}
 use Rattle.row.specs.Terms.{same_terms}
 use Rattle.state.specs.declared.Step.TheVariants.{Unchanged}
 use Rattle.state.specs.declared.State.{State}
-use Rattle.state.specs.declared.Upper.{Upper}
-use Rattle.state.specs.declared.Upper.TheVariants.{Open, Under}
 use Rattle.state.specs.State.{upper_at_most, with_lower, with_upper}
 use Rattle.words.specs.Mask.{bit}
 use Rattle.queues.specs.Marks.{is_decided}
 use Rattle.rows.specs.Rows.{Row, row_of, no_row, Guard, guard, insert_guard, place, place_all, rows_of, row_number}
 use Rattle.rows.specs.ListsLaws.{same_refl}
-use Rattle.tightening.specs.declared.Tightened.{Tightened}
-use Rattle.tightening.specs.Told.{guard_state}
+use Rattle.tightening.specs.Told.{Tightened, guard_state}
 use Rattle.tightening.specs.ToldLaws.{guard-cases}
 use Rattle.row_moves.specs.Between.{Index, Live, state_at, Did, did, threshold_guard}
 use Rattle.row_moves.specs.WalkLaws.{guard-ends}
@@ -36,7 +33,7 @@ use Rattle.theorem_follows.specs.MovesLaws.{guard_stands}
 pub record Told (rows : List Row) (told : ℕ → Bool) (v : Live) : Type 0 where
   pub decided : (n : ℕ) → told n ≡ true → is_decided v.marks n ≡ true
   pub sure : (r : ℕ) (g : Guard) → Guards rows r g → told g.node ≡ true → bit v.marks.sure g.node ≡ true → g.bound ≤ℤ (state_at v r).lower
-  pub never : (r : ℕ) (g : Guard) → Guards rows r g → told g.node ≡ true → bit v.marks.never g.node ≡ true → UpLe (state_at v r).upper (Under g.bound)
+  pub never : (r : ℕ) (g : Guard) → Guards rows r g → told g.node ≡ true → bit v.marks.never g.node ≡ true → UpLe (state_at v r).upper (Some g.bound)
 
 -- MORE DECIDED AND MASKS APART: decided nodes keep their value
 pub later_stay : (v w : Live) → Le (table_at v) (table_at w) → Apart w.marks → Stay v.marks w.marks
@@ -59,7 +56,7 @@ pub told_stays : (rows : List Row) (told : ℕ → Bool) (drained : ℕ → ℕ 
 told_stays rows told drained v w h t = record {
   decided = λ n e. stay_decided v.marks w.marks stay n (t.decided n e);
   sure = λ r g i e s. ≤ℤ_trans (t.sure r g i e (sym (stay g.node (t.decided g.node e) true) ∙ s)) (h.above.lower r);
-  never = λ r g i e s. up_trans (state_at w r).upper (state_at v r).upper (Under g.bound) (h.above.upper r) (t.never r g i e (sym (stay g.node (t.decided g.node e) false) ∙ s));
+  never = λ r g i e s. up_trans (state_at w r).upper (state_at v r).upper (Some g.bound) (h.above.upper r) (t.never r g i e (sym (stay g.node (t.decided g.node e) false) ∙ s));
 }
   where
     stay : Stay v.marks w.marks
@@ -79,18 +76,18 @@ abbrev pub Single : List Row → Type 0
 Single rows = (r q : ℕ) (g h : Guard) → Guards rows r g → Guards rows q h → g.node ≡ h.node → (r ≡ q) × (g ≡ h)
 
 -- What a guard tells is nothing new, or the row has it then.
-at_most : (b : ℤ) (y : Upper) → upper_at_most y b ≡ true → UpLe y (Under b)
-at_most b Open e = absurd (clash false e refl)
-at_most b (Under z) e = le e
+at_most : (b : ℤ) (y : Option ℤ) → upper_at_most y b ≡ true → UpLe y (Some b)
+at_most b None e = absurd (clash false e refl)
+at_most b (Some z) e = le e
 
 module _ (st : State) (b : ℤ) (value : Bool) where
   guard-same : (guard_state st value b).changed ≡ false → (guard_state st value b).state ≡ st
   guard-same = guard-cases st value b (λ (o : Tightened). o.changed ≡ false → o.state ≡ st) (λ e c. refl) (λ e f c. absurd (clash true refl c)) (λ e f c. absurd (clash true refl c))
 
-  guard-has : (value ≡ true → b ≤ℤ (guard_state st value b).state.lower) × (value ≡ false → UpLe (guard_state st value b).state.upper (Under b))
+  guard-has : (value ≡ true → b ≤ℤ (guard_state st value b).state.lower) × (value ≡ false → UpLe (guard_state st value b).state.upper (Some b))
   unfolding with_lower with_upper
-  guard-has = guard-cases st value b (λ (o : Tightened). (value ≡ true → b ≤ℤ o.state.lower) × (value ≡ false → UpLe o.state.upper (Under b)))
-      (λ e. ((λ f. le (e.0 f)), λ f. at_most b st.upper (e.1 f))) (λ e f. ((λ _. ≤ℤ_refl b), λ k. absurd (clash value e k))) (λ e f. ((λ k. absurd (clash value k e)), λ _. up_refl (Under b)))
+  guard-has = guard-cases st value b (λ (o : Tightened). (value ≡ true → b ≤ℤ o.state.lower) × (value ≡ false → UpLe o.state.upper (Some b)))
+      (λ e. ((λ f. le (e.0 f)), λ f. at_most b st.upper (e.1 f))) (λ e f. ((λ _. ≤ℤ_refl b), λ k. absurd (clash value e k))) (λ e f. ((λ k. absurd (clash value k e)), λ _. up_refl (Some b)))
 
 module _ (x : Index) (drained : ℕ → ℕ → Bool) (s : Table) (v : Live) (t : Threshold) (is : Guards x.rows (row_number x.rows t.terms) (guard t.bound t.node))
     (d : is_decided v.marks t.node ≡ true) (h : Stands x.rows s drained v) where
@@ -104,7 +101,7 @@ module _ (x : Index) (drained : ℕ → ℕ → Bool) (s : Table) (v : Live) (t 
   kept = (guard_stands x drained (table_at v) v t is d (restart x.rows s drained v h)).0
 
   -- the bound is in the row
-  guard_tells : (bit v.marks.sure t.node ≡ true → t.bound ≤ℤ (state_at after number).lower) × (bit v.marks.sure t.node ≡ false → UpLe (state_at after number).upper (Under t.bound))
+  guard_tells : (bit v.marks.sure t.node ≡ true → t.bound ≤ℤ (state_at after number).lower) × (bit v.marks.sure t.node ≡ false → UpLe (state_at after number).upper (Some t.bound))
   guard_tells = guard-ends x v t Tells (λ e. from (did v Unchanged) (same-as (state_at v number) (guard-same (state_at v number) t.bound (bit v.marks.sure t.node) e)))
       (λ e. from (guard_run x v t) (put_here x v number room (guard_told x v t).state _ _))
     where
@@ -112,7 +109,7 @@ module _ (x : Index) (drained : ℕ → ℕ → Bool) (s : Table) (v : Live) (t 
       room = let z = h.sized in let k = is.0 in omega arith
 
       Tells : Did → Type 0
-      Tells d = (bit v.marks.sure t.node ≡ true → t.bound ≤ℤ (state_at d.live number).lower) × (bit v.marks.sure t.node ≡ false → UpLe (state_at d.live number).upper (Under t.bound))
+      Tells d = (bit v.marks.sure t.node ≡ true → t.bound ≤ℤ (state_at d.live number).lower) × (bit v.marks.sure t.node ≡ false → UpLe (state_at d.live number).upper (Some t.bound))
 
       same-as : (st : State) → (guard_told x v t).state ≡ st → SameBounds st (guard_told x v t).state
       same-as st e = record { lower = ap (λ (y : State). y.lower) (sym e); upper = ap (λ (y : State). y.upper) (sym e) }
@@ -120,7 +117,7 @@ module _ (x : Index) (drained : ℕ → ℕ → Bool) (s : Table) (v : Live) (t 
       from : (d : Did) → SameBounds (state_at d.live number) (guard_told x v t).state → Tells d
       from d k =
           let o = guard-has (state_at v number) t.bound (bit v.marks.sure t.node) in
-          ((λ e. subst (λ (z : ℤ). t.bound ≤ℤ z) (sym k.lower) (o.0 e)), λ e. subst (λ (z : Upper). UpLe z (Under t.bound)) (sym k.upper) (o.1 e))
+          ((λ e. subst (λ (z : ℤ). t.bound ≤ℤ z) (sym k.lower) (o.0 e)), λ e. subst (λ (z : Option ℤ). UpLe z (Some t.bound)) (sym k.upper) (o.1 e))
 
   -- A DRAINED GUARD IS TOLD
   pub guard_told_lem : (told : ℕ → Bool) → Single x.rows → Told x.rows told v → Told x.rows (also t.node told) after
@@ -137,7 +134,7 @@ module _ (x : Index) (drained : ℕ → ℕ → Bool) (s : Table) (v : Live) (t 
         let o = single r number g (guard t.bound t.node) i is q in
         let b : bit v.marks.never t.node ≡ true = sym (stay t.node d false) ∙ subst (λ (m : ℕ). bit after.marks.never m ≡ true) q a in
         let f : bit v.marks.sure t.node ≡ false = ⊎_elim (λ (c : bit v.marks.sure t.node ≡ true). absurd (h.apart t.node c b)) (λ c. c) (true-false (bit v.marks.sure t.node)) in
-        subst (λ (y : ℕ). UpLe (state_at after y).upper (Under g.bound)) (sym o.0) (subst (λ (y : Guard). UpLe (state_at after number).upper (Under y.bound)) (sym o.1) (guard_tells.1 f)))
+        subst (λ (y : ℕ). UpLe (state_at after y).upper (Some g.bound)) (sym o.0) (subst (λ (y : Guard). UpLe (state_at after number).upper (Some y.bound)) (sym o.1) (guard_tells.1 f)))
         (λ q. old.never r g i q a) (also_which t.node told g.node e);
   }
     where

@@ -5,7 +5,7 @@ use Rattle.std.proofs.Math.Nat.{le_refl}
 use Rattle.std.proofs.Common.{not-suc-le-zero, zero-mul, suc-mul, sym, ◌∙◌, subst, inr, eqb-true, eq-eqb, ltb-true, ltb-false}
 use native.Mathlib.Omega.{arith}
 use Rattle.std.proofs.Math.Path.{◌≡◌, ap}
-use Rattle.std.specs.Prelude.{refl, Bool, true, false, ◌⊎◌, get_or, eqb, ltb, ℤ, ◌≤ℤ◌, ◌<ℤ◌}
+use Rattle.std.specs.Prelude.{refl, Bool, true, false, ◌⊎◌, get_or, eqb, ltb, ℤ, ◌≤ℤ◌, ◌<ℤ◌, Option, None, Some}
 use Rattle.std.proofs.Math.Bool.{cond, not}
 use mathlib.Core.List.{List, [], ◌∷◌, map, flat_map, Memᴰ}
 use Rattle.std.proofs.Math.Logic.{⊎_elim}
@@ -13,8 +13,6 @@ use Rattle.std.proofs.Math.ListN.{length}
 use Rattle.std.specs.Int.Signed.{lt_z, ≤ℤ_refl}
 use Rattle.base.specs.SignedLaws.{le_z-lt_z, lt_z-le_z, le_z-nlt}
 use Rattle.numeric.specs.Threshold.{Term}
-use Rattle.state.specs.declared.Upper.{Upper}
-use Rattle.state.specs.declared.Upper.TheVariants.{Open, Under}
 use Rattle.rows.specs.Rows.{Row, Guard, no_row}
 use Rattle.theorem_table.specs.Table.{Table, Below, at, decide_sure, decide_never, raise_lower, lower_upper, Guards, HasTerm, Step, sure-guard, never-guard, bound-reached, bound-out-of-reach, term-needed, term-too-heavy, longer-lower, shorter-upper, Run, done, more, steps}
 use Rattle.theorem_table.specs.OrderLaws.{of_le, of_lt, UpLe, up_refl}
@@ -100,9 +98,9 @@ one_of P false x y h k = k
 -- WHAT IS LEFT
 
 -- the level lies below the upper
-abbrev under : ℤ → Upper → Bool
-under v Open = true
-under v (Under u) = lt_z v u
+abbrev under : ℤ → Option ℤ → Bool
+under v None = true
+under v (Some u) = lt_z v u
 
 module _ (rows : List Row) where
   openSure : Table → ℕ
@@ -172,7 +170,7 @@ module _ (rows : List Row) (n : ℕ) where
     upper = f.upper;
   }
 
-  kept-upper : (s : Table) (r : ℕ) (u : Upper) → Finite rows n s → UpperIn (levels rows) u → Finite rows n (lower_upper s r u)
+  kept-upper : (s : Table) (r : ℕ) (u : Option ℤ) → Finite rows n s → UpperIn (levels rows) u → Finite rows n (lower_upper s r u)
   kept-upper s r u f i = record {
     sure = f.sure;
     lower = f.lower;
@@ -181,7 +179,7 @@ module _ (rows : List Row) (n : ℕ) where
 
   pub finite_step : (s t : Table) → Finite rows n s → Step rows s t → Finite rows n t
   finite_step s t f (sure-guard r g i e h) = kept-lower s r g.bound f (guard_level rows r g i)
-  finite_step s t f (never-guard r g i e h) = kept-upper s r (Under g.bound) f (guard_level rows r g i)
+  finite_step s t f (never-guard r g i e h) = kept-upper s r (Some g.bound) f (guard_level rows r g i)
   finite_step s t f (bound-reached r g i h e) = kept-sure s g.node f (guard_node rows r g i)
   finite_step s t f (bound-out-of-reach r g i h e) = kept-never s g.node f
   finite_step s t f (term-needed r x i d h) = kept-sure s x.condition f (term_node rows r x i)
@@ -200,18 +198,18 @@ not_down true true h k = k
 not_down true false h k = h refl
 not_down false b h k = refl
 
-under_up : (v : ℤ) (a b : Upper) → UpLe a b → under v a ≡ true → under v b ≡ true
-under_up v a Open h k = refl
-under_up v Open (Under b) h k = absurd h
-under_up v (Under a) (Under b) h k = lt_z-le_z v a b k (of_le h)
+under_up : (v : ℤ) (a b : Option ℤ) → UpLe a b → under v a ≡ true → under v b ≡ true
+under_up v a None h k = refl
+under_up v None (Some b) h k = absurd h
+under_up v (Some a) (Some b) h k = lt_z-le_z v a b k (of_le h)
 
-under_yes : (v : ℤ) (u : Upper) → Below (Under v) u → under v u ≡ true
-under_yes v Open h = refl
-under_yes v (Under u) h = of_lt h
+under_yes : (v : ℤ) (u : Option ℤ) → Below (Some v) u → under v u ≡ true
+under_yes v None h = refl
+under_yes v (Some u) h = of_lt h
 
-under_no : (v : ℤ) (u : Upper) → UpLe u (Under v) → under v u ≡ false
-under_no v Open h = absurd h
-under_no v (Under u) h = le_z-nlt v u (of_le h)
+under_no : (v : ℤ) (u : Option ℤ) → UpLe u (Some v) → under v u ≡ false
+under_no v None h = absurd h
+under_no v (Some u) h = le_z-nlt v u (of_le h)
 
 module _ (rows : List Row) (s t : Table) (l : Le s t) where
   sure-down : openSure rows t ≤ openSure rows s
@@ -277,15 +275,15 @@ module _ (rows : List Row) (s t : Table) (l : Le s t) where
       let b = many-up (λ (w : ℤ). under w (t.upper r)) (λ (w : ℤ). under w (s.upper r)) (levels rows) (upper-up r) in
       omega arith)
 
-  fell-upper : (r : ℕ) (u : Upper) → r < length rows → UpperIn (levels rows) u → Below u (s.upper r) → t.upper r ≡ u → left rows t + 1 ≤ left rows s
+  fell-upper : (r : ℕ) (u : Option ℤ) → r < length rows → UpperIn (levels rows) u → Below u (s.upper r) → t.upper r ≡ u → left rows t + 1 ≤ left rows s
   unfolding room
-  fell-upper r Open i m h e = absurd h
-  fell-upper r (Under v) i m h e =
+  fell-upper r None i m h e = absurd h
+  fell-upper r (Some v) i m h e =
       fell-room r i
       (let a = many-up (λ (w : ℤ). lt_z (t.lower r) w) (λ (w : ℤ). lt_z (s.lower r) w) (levels rows) (lower-up r) in
       let b =
       many_more (λ (w : ℤ). under w (t.upper r)) (λ (w : ℤ). under w (s.upper r)) (levels rows) v (upper-up r) m
-      (under_no v (t.upper r) (subst (λ (z : Upper). UpLe z (Under v)) (sym e) (up_refl (Under v)))) (under_yes v (s.upper r) h) in
+      (under_no v (t.upper r) (subst (λ (z : Option ℤ). UpLe z (Some v)) (sym e) (up_refl (Some v)))) (under_yes v (s.upper r) h) in
       omega arith)
 
 module _ (rows : List Row) (n : ℕ) where
@@ -294,8 +292,8 @@ module _ (rows : List Row) (n : ℕ) where
       fell-lower rows s (raise_lower s r g.bound) (grows rows s t (sure-guard r g i e h)) r g.bound i.0 (guard_level rows r g i) h
       (at_same r g.bound s.lower)
   falls s t f (never-guard r g i e h) =
-      fell-upper rows s (lower_upper s r (Under g.bound)) (grows rows s t (never-guard r g i e h)) r (Under g.bound) i.0 (guard_level rows r g i) h
-      (at_same r (Under g.bound) s.upper)
+      fell-upper rows s (lower_upper s r (Some g.bound)) (grows rows s t (never-guard r g i e h)) r (Some g.bound) i.0 (guard_level rows r g i) h
+      (at_same r (Some g.bound) s.upper)
   falls s t f (bound-reached r g i h e) =
       fell-sure rows s (decide_sure s g.node) (grows rows s t (bound-reached r g i h e)) g.node (guard_node rows r g i) e
       (at_same g.node true s.sure)

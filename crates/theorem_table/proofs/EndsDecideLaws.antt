@@ -1,5 +1,5 @@
 -- Whether a table has a conflict, and whether a step is left in it, is decided by going through rows, guards, terms and pairs of rows.
-use Rattle.std.specs.Prelude.{ℕ, zero, suc, ◌<◌, ◌≡◌, refl, Bool, true, false, ◌⊎◌, length, get_or, eqb, ltb, ℤ, pos, ◌-ℤ◌, ◌≤ℤ◌, ◌<ℤ◌}
+use Rattle.std.specs.Prelude.{ℕ, zero, suc, ◌<◌, ◌≡◌, refl, Bool, true, false, ◌⊎◌, length, get_or, eqb, ltb, ℤ, pos, ◌-ℤ◌, ◌≤ℤ◌, ◌<ℤ◌, Option, None, Some}
 use Rattle.std.proofs.Common.{not-suc-le-zero, arith, sym, ap, ap₂, ◌∙◌, subst, inr, ⊎_elim, eqb-true, ltb-true, ltb-false}
 use Rattle.std.proofs.Math.Path.{subst⁻¹}
 use mathlib.Core.List.Memᴰ
@@ -9,8 +9,6 @@ use Rattle.std.specs.Int.Signed.{≤ℤ_refl, clash_ℤ}
 use Rattle.std.proofs.lemmas.Bool.{eqb-false}
 use Rattle.base.specs.TestLaws.{unequal}
 use Rattle.numeric.specs.Threshold.{Term}
-use Rattle.state.specs.declared.Upper.{Upper}
-use Rattle.state.specs.declared.Upper.TheVariants.{Open, Under}
 use Rattle.rows.specs.Rows.{Row, Guard, Other, alone, beside, MayDecide, linked_by, Linked, no_row}
 use Rattle.theorem_table.specs.Table.{Table, AtMost, Below, decide_sure, decide_never, raise_lower, lower_upper, IsRow, terms_of, Guards, HasTerm, known_of, possible_of, reached_of, OtherReached, Undecided, Step, sure-guard, never-guard, bound-reached, bound-out-of-reach, term-needed, term-too-heavy, longer-lower, shorter-upper, Conflict, both, lower-above, upper-reached, FallsShort, Reached, OutOfReach, Prefixed}
 use Rattle.theorem_table.specs.OrderLaws.{≤ℤ_or_<ℤ, UpLe, le-or-below}
@@ -48,16 +46,16 @@ less a b = by (≤ℤ_or_<ℤ b a)
     by (inl h) = inr (λ k. clash_ℤ k h)
     by (inr h) = inl h
 
-upper_at-most : (u : Upper) (z : ℤ) → Decided (AtMost u z)
-upper_at-most Open z = inr (λ h. h)
-upper_at-most (Under u) z = at_most u z
+upper_at-most : (u : Option ℤ) (z : ℤ) → Decided (AtMost u z)
+upper_at-most None z = inr (λ h. h)
+upper_at-most (Some u) z = at_most u z
 
-below_clash : (a b : Upper) → UpLe b a → Below a b → ⊥
-below_clash Open b h k = k
-below_clash (Under a) Open h k = h
-below_clash (Under a) (Under b) h k = clash_ℤ k h
+below_clash : (a b : Option ℤ) → UpLe b a → Below a b → ⊥
+below_clash None b h k = k
+below_clash (Some a) None h k = h
+below_clash (Some a) (Some b) h k = clash_ℤ k h
 
-lies_below : (a b : Upper) → Decided (Below a b)
+lies_below : (a b : Option ℤ) → Decided (Below a b)
 lies_below a b = by (le-or-below b a)
   where
     by : UpLe b a ⊎ Below a b → Decided (Below a b)
@@ -147,9 +145,9 @@ module _ {A : Type 0} where
 -- STEPS
 
 -- the number of an upper that is one
-abbrev bound_of : Upper → ℤ
-bound_of Open = pos 0
-bound_of (Under u) = u
+abbrev bound_of : Option ℤ → ℤ
+bound_of None = pos 0
+bound_of (Some u) = u
 
 module _ (rows : List Row) where
   abbrev pub SomeStep : Table → Type 0
@@ -158,13 +156,13 @@ module _ (rows : List Row) where
   -- no rule has its premises at a guard, at a term, at a pair of rows
   abbrev StillGuard : Table → ℕ → Guard → Type 0
   StillGuard s r g =
-      ((s.sure g.node ≡ true → s.lower r <ℤ g.bound → ⊥) × (FallsShort rows s g → Below (Under g.bound) (s.upper r) → ⊥))
+      ((s.sure g.node ≡ true → s.lower r <ℤ g.bound → ⊥) × (FallsShort rows s g → Below (Some g.bound) (s.upper r) → ⊥))
       × ((Reached rows s r g → s.sure g.node ≡ false → ⊥) × (OutOfReach rows s r g → s.never g.node ≡ false → ⊥))
 
   abbrev StillTerm : Table → ℕ → Term → Type 0
   StillTerm s r t =
       (Undecided rows s t.condition → (possible_of rows s r -ℤ s.lower r) <ℤ pos t.weight → ⊥)
-      × (Undecided rows s t.condition → ((u : ℤ) × (s.upper r ≡ Under u) × ((u -ℤ known_of rows s r) ≤ℤ pos t.weight)) → ⊥)
+      × (Undecided rows s t.condition → ((u : ℤ) × (s.upper r ≡ Some u) × ((u -ℤ known_of rows s r) ≤ℤ pos t.weight)) → ⊥)
 
   abbrev StillPair : Table → ℕ → ℕ → Type 0
   StillPair s r q = (Prefixed rows r q → s.lower q <ℤ s.lower r → ⊥) × (Prefixed rows r q → Below (s.upper q) (s.upper r) → ⊥)
@@ -178,16 +176,16 @@ module _ (rows : List Row) where
   at-guard s r g i =
       also
       (also (rule (is (s.sure g.node) true) (less (s.lower r) g.bound) (λ e h. (raise_lower s r g.bound, sure-guard r g i e h)))
-      (rule (and (is _ true) (other s _)) (lies_below (Under g.bound) (s.upper r)) (λ e h. (lower_upper s r (Under g.bound), never-guard r g i e h))))
+      (rule (and (is _ true) (other s _)) (lies_below (Some g.bound) (s.upper r)) (λ e h. (lower_upper s r (Some g.bound), never-guard r g i e h))))
       (also (rule (and_three (is _ true) (at_most _ _) (other s _)) (is (s.sure g.node) false) (λ h e. (decide_sure s g.node, bound-reached r g i h e)))
       (rule (and (is _ true) (either (less _ _) (upper_at-most (s.upper r) g.bound))) (is (s.never g.node) false) (λ h e. (decide_never s g.node, bound-out-of-reach r g i h e))))
 
   -- a row's upper and the weight that it leaves
-  too_heavy : (s : Table) (r w : ℕ) (c : Upper) → s.upper r ≡ c → Decided ((u : ℤ) × (s.upper r ≡ Under u) × ((u -ℤ known_of rows s r) ≤ℤ pos w))
-  too_heavy s r w Open e = inr (λ h. subst⁻¹ (λ (c : Upper). AtMost c h.0) (sym e ∙ h.1) (≤ℤ_refl h.0))
-  too_heavy s r w (Under u) e = by (at_most (u -ℤ known_of rows s r) (pos w))
+  too_heavy : (s : Table) (r w : ℕ) (c : Option ℤ) → s.upper r ≡ c → Decided ((u : ℤ) × (s.upper r ≡ Some u) × ((u -ℤ known_of rows s r) ≤ℤ pos w))
+  too_heavy s r w None e = inr (λ h. subst⁻¹ (λ (c : Option ℤ). AtMost c h.0) (sym e ∙ h.1) (≤ℤ_refl h.0))
+  too_heavy s r w (Some u) e = by (at_most (u -ℤ known_of rows s r) (pos w))
     where
-      by : Decided ((u -ℤ known_of rows s r) ≤ℤ pos w) → Decided ((v : ℤ) × (s.upper r ≡ Under v) × ((v -ℤ known_of rows s r) ≤ℤ pos w))
+      by : Decided ((u -ℤ known_of rows s r) ≤ℤ pos w) → Decided ((v : ℤ) × (s.upper r ≡ Some v) × ((v -ℤ known_of rows s r) ≤ℤ pos w))
       by (inl h) = inl (u, e, h)
       by (inr n) = inr (λ h. n (subst⁻¹ (λ (v : ℤ). (v -ℤ known_of rows s r) ≤ℤ pos w) (ap bound_of (sym e ∙ h.1)) h.2))
 

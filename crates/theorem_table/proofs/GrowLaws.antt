@@ -13,8 +13,6 @@ use Rattle.base.specs.InsertionLaws.{insert_mem}
 use Rattle.numeric.specs.Threshold.{Term, Threshold}
 use Rattle.row.specs.Terms.{same_terms}
 use Rattle.state.specs.State.{max_z}
-use Rattle.state.specs.declared.Upper.{Upper}
-use Rattle.state.specs.declared.Upper.TheVariants.{Open, Under}
 use Rattle.rows.specs.Rows.{Row, row_of, Guard, guard, no_row, below, insert_guard, place, place_all, Other, alone, beside, linked_by, Linked}
 use Rattle.theorem_table.specs.Table.{Table, known, possible, AtMost, Below, Undecided, terms_of, IsRow, Guards, HasTerm, OtherReached, IsPrefix, Step, sure-guard, never-guard, bound-reached, bound-out-of-reach, term-needed, term-too-heavy, longer-lower, shorter-upper, Conflict, both, lower-above, upper-reached, AtRest, raise_lower, lower_upper, decide_sure, decide_never, known_of, possible_of, reached_of}
 use Rattle.theorem_table.specs.OrderLaws.{≤ℤ_trans, zero-le, max_up}

@@ -1,6 +1,6 @@
 -- A layout is a state of the table at rest. So whatever follows from nodes that a layout agrees with, the layout agrees with,
 -- and where a conflict follows, there is no such layout.
-use Rattle.std.specs.Prelude.{ℕ, zero, suc, ◌+◌, ◌≤◌, ◌<◌, ◌≡◌, refl, Bool, true, false, cond, not, ◌&&◌, length, get_or, eqb, ℤ, pos, negsuc, ◌≤ℤ◌, ◌<ℤ◌}
+use Rattle.std.specs.Prelude.{ℕ, zero, suc, ◌+◌, ◌≤◌, ◌<◌, ◌≡◌, refl, Bool, true, false, cond, not, ◌&&◌, length, get_or, eqb, ℤ, pos, negsuc, ◌≤ℤ◌, ◌<ℤ◌, Some}
 use Rattle.std.proofs.Common.{le_refl, not-suc-le-zero, le_of_suc-le-suc, arith, sym, ap, ap₂, ◌∙◌, subst, ⊎_elim}
 use mathlib.Core.List.Memᴰ
 use mathlib.Core.List.{List, [], ◌∷◌, ◌++◌, Memᴰ}
@@ -12,7 +12,6 @@ use Rattle.base.specs.InsertionLaws.{mem_insert}
 use Rattle.numeric.specs.Threshold.{Term, Threshold, Job}
 use Rattle.numeric.specs.Layout.{Layout, IsLayout, constraint, value}
 use Rattle.numeric.specs.LayoutLaws.{sum_of, value-sum}
-use Rattle.state.specs.declared.Upper.TheVariants.{Under}
 use Rattle.row.specs.Terms.{row_terms, same_terms}
 use Rattle.row.specs.SumLaws.{row-sum}
 use Rattle.rows.specs.Rows.{Row, row_of, Guard, guard, no_row, insert_guard, below, place, place_all, rows_of}
@@ -98,7 +97,7 @@ of_layout rows v = record {
   sure = v;
   never = λ (n : ℕ). not (v n);
   lower = λ (r : ℕ). pos (sum_of v (terms_of rows r));
-  upper = λ (r : ℕ). Under (pos (suc (sum_of v (terms_of rows r))));
+  upper = λ (r : ℕ). Some (pos (suc (sum_of v (terms_of rows r))));
 }
 
 not_both : (b : Bool) → b ≡ true → not b ≡ true → ⊥

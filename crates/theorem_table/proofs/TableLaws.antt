@@ -1,6 +1,6 @@
 -- One end for all orders: the rules only add, and every state at rest above a start has what a rule concludes.
 -- So all runs from one start end in a conflict, or all end in the same state.
-use Rattle.std.specs.Prelude.{ℕ, ◌+◌, ◌≤◌, ◌≡◌, refl, Bool, true, false, cond, ◌⊎◌, eqb, ℤ, pos, ◌-ℤ◌, ◌≤ℤ◌, ◌<ℤ◌}
+use Rattle.std.specs.Prelude.{ℕ, ◌+◌, ◌≤◌, ◌≡◌, refl, Bool, true, false, cond, ◌⊎◌, eqb, ℤ, pos, ◌-ℤ◌, ◌≤ℤ◌, ◌<ℤ◌, Option, None, Some}
 use Rattle.std.proofs.Common.{le_refl, arith, sym, ap, ◌∙◌, subst, inl, inr, ⊎_elim, eqb-true}
 use Rattle.std.proofs.Math.Path.{fun_ext}
 use mathlib.Core.List.Memᴰ
@@ -9,8 +9,6 @@ use Rattle.std.specs.Int.Signed.{≤ℤ_refl, <ℤ-≤ℤ_trans}
 use Rattle.base.specs.TestLaws.{same_bool, true-false, unequal}
 use Rattle.numeric.specs.Threshold.{Term}
 use Rattle.numeric.specs.LayoutLaws.{sum_of, one_rises, sum_rises}
-use Rattle.state.specs.declared.Upper.{Upper}
-use Rattle.state.specs.declared.Upper.TheVariants.{Open, Under}
 use Rattle.rows.specs.Rows.{Row, Other, alone, beside, is_alone}
 use Rattle.theorem_table.specs.Table.{Table, known, possible, AtMost, Below, at, decide_sure, decide_never, raise_lower, lower_upper, terms_of, HasTerm, known_of, possible_of, reached_of, OtherReached, Undecided, Step, sure-guard, never-guard, bound-reached, bound-out-of-reach, term-needed, term-too-heavy, longer-lower, shorter-upper, Conflict, both, lower-above, upper-reached, Run, done, more, AtRest, Ended}
 use Rattle.theorem_table.specs.OrderLaws.{≤ℤ_trans, ≤ℤ_<ℤ_trans, ≤ℤ_anti, <ℤ_≤ℤ, ≤ℤ_or_<ℤ, pos_≤ℤ, max_up, max_above, sub_up, needed_clash, heavy_clash, UpLe, up_refl, up_trans, up_anti, below-le, le-or-below, at-most_up}
@@ -128,12 +126,12 @@ lower_below s u r b a h = record {
   upper = a.upper;
 }
 
-upper_below : (s u : Table) (r : ℕ) (b : Upper) → Le s u → UpLe (u.upper r) b → Le (lower_upper s r b) u
+upper_below : (s u : Table) (r : ℕ) (b : Option ℤ) → Le s u → UpLe (u.upper r) b → Le (lower_upper s r b) u
 upper_below s u r b a h = record {
   sure = a.sure;
   never = a.never;
   lower = a.lower;
-  upper = changed (λ (m : ℕ) (z : Upper). UpLe (u.upper m) z) r b s.upper h a.upper;
+  upper = changed (λ (m : ℕ) (z : Option ℤ). UpLe (u.upper m) z) r b s.upper h a.upper;
 }
 
 -- and above what was there
@@ -161,12 +159,12 @@ lower_raised s r b h = record {
   upper = λ q. up_refl (s.upper q);
 }
 
-upper_lowered : (s : Table) (r : ℕ) (b : Upper) → Below b (s.upper r) → Le s (lower_upper s r b)
+upper_lowered : (s : Table) (r : ℕ) (b : Option ℤ) → Below b (s.upper r) → Le s (lower_upper s r b)
 upper_lowered s r b h = record {
   sure = λ m k. k;
   never = λ m k. k;
   lower = λ q. ≤ℤ_refl (s.lower q);
-  upper = changed (λ (m : ℕ) (z : Upper). UpLe z (s.upper m)) r b s.upper (below-le b (s.upper r) h) (λ m. up_refl (s.upper m));
+  upper = changed (λ (m : ℕ) (z : Option ℤ). UpLe z (s.upper m)) r b s.upper (below-le b (s.upper r) h) (λ m. up_refl (s.upper m));
 }
 
 module _ (rows : List Row) where
@@ -198,7 +196,7 @@ module _ (rows : List Row) where
   -- a step only adds
   pub grows : (s t : Table) → Step rows s t → Le s t
   grows s t (sure-guard r g i e h) = lower_raised s r g.bound h
-  grows s t (never-guard r g i e h) = upper_lowered s r (Under g.bound) h
+  grows s t (never-guard r g i e h) = upper_lowered s r (Some g.bound) h
   grows s t (bound-reached r g i h e) = sure_above s g.node
   grows s t (bound-out-of-reach r g i h e) = never_above s g.node
   grows s t (term-needed r x i d h) = sure_above s x.condition
@@ -207,15 +205,15 @@ module _ (rows : List Row) where
   grows s t (shorter-upper r q i h) = upper_lowered s r (s.upper q) h
 
   -- WHAT A RULE CONCLUDES, every rest above has: else the rule holds there
-  heavy : (s u : Table) (r : ℕ) (t : Term) (b : ℤ) → Le s u → AtRest rows u → HasTerm rows r t → Undecided rows s t.condition → s.upper r ≡ Under b
-      → (b -ℤ known_of rows s r) ≤ℤ pos t.weight → (c : Upper) → u.upper r ≡ c → UpLe c (Under b) → u.never t.condition ≡ true
-  heavy s u r t b a rest i d e h Open q l = absurd l
-  heavy s u r t b a rest i d e h (Under c) q l =
+  heavy : (s u : Table) (r : ℕ) (t : Term) (b : ℤ) → Le s u → AtRest rows u → HasTerm rows r t → Undecided rows s t.condition → s.upper r ≡ Some b
+      → (b -ℤ known_of rows s r) ≤ℤ pos t.weight → (c : Option ℤ) → u.upper r ≡ c → UpLe c (Some b) → u.never t.condition ≡ true
+  heavy s u r t b a rest i d e h None q l = absurd l
+  heavy s u r t b a rest i d e h (Some c) q l =
       ⊎_elim (λ (n : u.never t.condition ≡ true). n)
       (λ (n : u.never t.condition ≡ false).
       ⊎_elim
       (λ (y : u.sure t.condition ≡ true).
-      absurd (rest.0 (upper-reached r i.0 (subst (λ (z : Upper). AtMost z (reached_of rows u r)) (sym q)
+      absurd (rest.0 (upper-reached r i.0 (subst (λ (z : Option ℤ). AtMost z (reached_of rows u r)) (sym q)
       (≤ℤ_trans (≤ℤ_trans l (heavy_clash (known s.sure (terms_of rows r)) (known u.sure (terms_of rows r)) t.weight b
       (known_rise s.sure u.sure (terms_of rows r) t a.sure i.1 d.0 y) h))
       (max_above (known_of rows u r) (u.lower r)))))))
@@ -232,10 +230,10 @@ module _ (rows : List Row) where
       (λ (k : u.lower r <ℤ g.bound). absurd (rest.1 (raise_lower u r g.bound) (sure-guard r g i (a.sure g.node e) k)))
       (≤ℤ_or_<ℤ g.bound (u.lower r)))
   kept s t u (never-guard r g i e h) a rest =
-      upper_below s u r (Under g.bound) a
-      (⊎_elim (λ (k : UpLe (u.upper r) (Under g.bound)). k)
-      (λ (k : Below (Under g.bound) (u.upper r)). absurd (rest.1 (lower_upper u r (Under g.bound)) (never-guard r g i (a.never g.node e.0, other_up s u _ a e.1) k)))
-      (le-or-below (u.upper r) (Under g.bound)))
+      upper_below s u r (Some g.bound) a
+      (⊎_elim (λ (k : UpLe (u.upper r) (Some g.bound)). k)
+      (λ (k : Below (Some g.bound) (u.upper r)). absurd (rest.1 (lower_upper u r (Some g.bound)) (never-guard r g i (a.never g.node e.0, other_up s u _ a e.1) k)))
+      (le-or-below (u.upper r) (Some g.bound)))
   kept s t u (bound-reached r g i h e) a rest =
       sure_below s u g.node a
       (⊎_elim (λ (k : u.sure g.node ≡ true). k)
@@ -267,7 +265,7 @@ module _ (rows : List Row) where
       (true-false (u.sure x.condition)))
   kept s t u (term-too-heavy r x b i d e h) a rest =
       never_below s u x.condition a
-      (heavy s u r x b a rest i d e h (u.upper r) refl (subst (λ (z : Upper). UpLe (u.upper r) z) e (a.upper r)))
+      (heavy s u r x b a rest i d e h (u.upper r) refl (subst (λ (z : Option ℤ). UpLe (u.upper r) z) e (a.upper r)))
   kept s t u (longer-lower r q i h) a rest =
       lower_below s u q (s.lower r) a
       (≤ℤ_trans (a.lower r)

@@ -1,6 +1,6 @@
 -- DEGENERATE PAIRS: rows with thresholds of two measures whose second bounds are 0 or less, and the rows of their first measures alone,
 -- rest alike. What a run of the pairs' table does from a start stays inside every rest of the plain table above that start.
-use Rattle.std.specs.Prelude.{ℕ, ◌+◌, ◌-◌, ◌≤◌, ◌<◌, ◌≡◌, refl, Bool, true, false, cond, ◌⊎◌, length, get_or, eqb, ℤ, pos, ◌-ℤ◌, ◌≤ℤ◌, ◌<ℤ◌}
+use Rattle.std.specs.Prelude.{ℕ, ◌+◌, ◌-◌, ◌≤◌, ◌<◌, ◌≡◌, refl, Bool, true, false, cond, ◌⊎◌, length, get_or, eqb, ℤ, pos, ◌-ℤ◌, ◌≤ℤ◌, ◌<ℤ◌, Option, None, Some}
 use Rattle.std.proofs.Common.{le_refl, arith, sym, ap, ◌∙◌, subst, inl, inr, ⊎_elim, eqb-true, eq-eqb}
 use mathlib.Core.List.Memᴰ
 use mathlib.Core.List.{List, [], ◌∷◌, ◌++◌, append-nil, append_assoc, Memᴰ}
@@ -9,8 +9,6 @@ use Rattle.base.specs.TestLaws.{true-false, unequal}
 use Rattle.base.specs.SignedLaws.{max_right, max_least}
 use Rattle.numeric.specs.Threshold.{Term}
 use Rattle.state.specs.State.{max_z}
-use Rattle.state.specs.declared.Upper.{Upper}
-use Rattle.state.specs.declared.Upper.TheVariants.{Open, Under}
 use Rattle.rows.specs.Rows.{Row, Guard, Other, alone, beside, linked_by, Linked, no_row}
 use Rattle.theorem_table.specs.Table.{Table, known, possible, AtMost, Below, at, decide_sure, decide_never, raise_lower, lower_upper, IsRow, terms_of, Guards, HasTerm, IsPrefix, known_of, possible_of, reached_of, OtherReached, Reached, OutOfReach, Undecided, Step, sure-guard, never-guard, bound-reached, bound-out-of-reach, term-needed, term-too-heavy, longer-lower, shorter-upper, Conflict, both, lower-above, upper-reached, Run, done, more, AtRest, Ended}
 use Rattle.theorem_table.specs.OrderLaws.{le, of_le, ≤ℤ_trans, ≤ℤ_<ℤ_trans, ≤ℤ_or_<ℤ, pos_≤ℤ, zero-le, max_up, max_above, sub_up, needed_clash, heavy_clash, UpLe, up_refl, up_trans, le-or-below, at-most_up}
@@ -77,7 +75,7 @@ module _ (ps qs : List Row) (e : ℕ → ℕ) (w : Twin ps qs e) (t : Table) (re
   calm : Calm qs t
   calm = rest_calm qs t rest
 
-  has-never : (r : ℕ) (b : ℤ) (g : Guard) → Guards qs r (plainly g b) → t.never g.node ≡ true → UpLe (t.upper r) (Under b)
+  has-never : (r : ℕ) (b : ℤ) (g : Guard) → Guards qs r (plainly g b) → t.never g.node ≡ true → UpLe (t.upper r) (Some b)
   has-never r b g i d = calm_never qs t calm r (plainly g b) i (d, alone_reached qs t alone refl)
 
   has-reached : (r : ℕ) (g : Guard) → Guards qs r g → Reached qs t r g → t.sure g.node ≡ true
@@ -124,8 +122,8 @@ module _ (ps qs : List Row) (e : ℕ → ℕ) (w : Twin ps qs e) (t : Table) (re
   abbrev Low : ℕ → ℤ → Type 0
   Low p z = (z ≤ℤ pos 0) ⊎ ((r : ℕ) × IsRow qs r × Starts ps (e r) p × (z ≤ℤ t.lower r))
 
-  abbrev Up : ℕ → Upper → Type 0
-  Up p y = (y ≡ Open) ⊎ ((r : ℕ) × IsRow qs r × Starts ps p (e r) × UpLe (t.upper r) y)
+  abbrev Up : ℕ → Option ℤ → Type 0
+  Up p y = (y ≡ None) ⊎ ((r : ℕ) × IsRow qs r × Starts ps p (e r) × UpLe (t.upper r) y)
 
   pub record Inside (u : Table) : Type 0 where
     pub sure : (n : ℕ) → u.sure n ≡ true → t.sure n ≡ true
@@ -142,7 +140,7 @@ module _ (ps qs : List Row) (e : ℕ → ℕ) (w : Twin ps qs e) (t : Table) (re
 
     up-plain : (r : ℕ) → IsRow qs r → UpLe (t.upper r) (u.upper (e r))
     up-plain r i =
-        ⊎_elim (λ (k : u.upper (e r) ≡ Open). subst (UpLe (t.upper r)) (sym k) tt) (λ (k : (q : ℕ) × IsRow qs q × Starts ps (e r) (e q) × UpLe (t.upper q) (u.upper (e r))).
+        ⊎_elim (λ (k : u.upper (e r) ≡ None). subst (UpLe (t.upper r)) (sym k) tt) (λ (k : (q : ℕ) × IsRow qs q × Starts ps (e r) (e q) × UpLe (t.upper q) (u.upper (e r))).
         up_trans (t.upper r) (t.upper k.0) (u.upper (e r)) (has-shorter r k.0 (prefix-plain r k.0 i k.1 k.2)) k.3) (h.up (e r))
 
     reached-plain : (r : ℕ) → IsRow qs r → reached_of ps u (e r) ≤ℤ reached_of qs t r
@@ -175,7 +173,7 @@ module _ (ps qs : List Row) (e : ℕ → ℕ) (w : Twin ps qs e) (t : Table) (re
     inside_fine (upper-reached p i k) = by (h.up p)
       where
         by : Up p (u.upper p) → ⊥
-        by (inl z) = subst (λ (y : Upper). AtMost y (reached_of ps u p)) z k
+        by (inl z) = subst (λ (y : Option ℤ). AtMost y (reached_of ps u p)) z k
         by (inr (r, j, a, z)) = rest.0 (upper-reached r j (at-most_up (t.upper r) (u.upper p) z reached-below k))
           where
             known-below : known_of ps u p ≤ℤ reached_of qs t r
@@ -199,7 +197,7 @@ module _ (ps qs : List Row) (e : ℕ → ℕ) (w : Twin ps qs e) (t : Table) (re
     with-low : (p : ℕ) (z : ℤ) → Low p z → Inside (raise_lower u p z)
     with-low p z d = record { sure = h.sure; never = h.never; low = changed Low p z u.lower d h.low; up = h.up }
 
-    with-up : (p : ℕ) (y : Upper) → Up p y → Inside (lower_upper u p y)
+    with-up : (p : ℕ) (y : Option ℤ) → Up p y → Inside (lower_upper u p y)
     with-up p y d = record { sure = h.sure; never = h.never; low = h.low; up = changed Up p y u.upper d h.up }
 
     -- a weight that a row needs the rest has
@@ -242,16 +240,16 @@ module _ (ps qs : List Row) (e : ℕ → ℕ) (w : Twin ps qs e) (t : Table) (re
                 (needed_clash (possible u.never (terms_of ps p)) (possible u.never (terms_of qs r)) x.weight (u.lower p) (omega (arith, parts, counts u.never a.2.0 x m d.1)) k))
                 (Memᴰ.append_cases (terms_of ps (e r)) (subst (Memᴰ x) a.2.1 i.1))
 
-    heavy : (p : ℕ) (x : Term) (b : ℤ) → HasTerm ps p x → Undecided ps u x.condition → u.upper p ≡ Under b → (b -ℤ known_of ps u p) ≤ℤ pos x.weight → t.never x.condition ≡ true
+    heavy : (p : ℕ) (x : Term) (b : ℤ) → HasTerm ps p x → Undecided ps u x.condition → u.upper p ≡ Some b → (b -ℤ known_of ps u p) ≤ℤ pos x.weight → t.never x.condition ≡ true
     heavy p x b i d q k = by (h.up p)
       where
         by : Up p (u.upper p) → t.never x.condition ≡ true
-        by (inl z) = absurd (subst (λ (y : Upper). AtMost y b) (sym q ∙ z) (≤ℤ_refl b))
+        by (inl z) = absurd (subst (λ (y : Option ℤ). AtMost y b) (sym q ∙ z) (≤ℤ_refl b))
         by (inr (r, j, a, z)) =
             ⊎_elim (λ (n : t.never x.condition ≡ true). n)
             (λ (n : t.never x.condition ≡ false). absurd (⊎_elim sure-there (λ (y : t.sure x.condition ≡ false). open-there (t.upper r) refl y n) (true-false (t.sure x.condition)))) (true-false (t.never x.condition))
           where
-            bound : UpLe (t.upper r) (Under b)
+            bound : UpLe (t.upper r) (Some b)
             bound = subst (UpLe (t.upper r)) q z
 
             there : Memᴰ x (terms_of qs r)
@@ -259,16 +257,16 @@ module _ (ps qs : List Row) (e : ℕ → ℕ) (w : Twin ps qs e) (t : Table) (re
 
             sure-there : t.sure x.condition ≡ true → ⊥
             sure-there y =
-                rest.0 (upper-reached r j (at-most_up (t.upper r) (Under b) bound (≤ℤ_refl (reached_of qs t r))
+                rest.0 (upper-reached r j (at-most_up (t.upper r) (Some b) bound (≤ℤ_refl (reached_of qs t r))
                 (≤ℤ_trans (heavy_clash (known u.sure (terms_of ps p)) (known t.sure (terms_of qs r)) x.weight b
                 (let m = known_rise u.sure t.sure (terms_of ps p) x h.sure i.1 d.0 y in let l = known_start p r j a in omega arith) k)
                 (max_above (known_of qs t r) (t.lower r)))))
 
-            open-there : (c : Upper) → t.upper r ≡ c → t.sure x.condition ≡ false → t.never x.condition ≡ false → ⊥
-            open-there Open f y n = subst (λ (g : Upper). UpLe g (Under b)) f bound
-            open-there (Under c) f y n =
+            open-there : (c : Option ℤ) → t.upper r ≡ c → t.sure x.condition ≡ false → t.never x.condition ≡ false → ⊥
+            open-there None f y n = subst (λ (g : Option ℤ). UpLe g (Some b)) f bound
+            open-there (Some c) f y n =
                 rest.1 (decide_never t x.condition) (term-too-heavy r x c (j, there) (y, n) f
-                (≤ℤ_trans (sub_up (subst (λ (g : Upper). UpLe g (Under b)) f bound) (pos_≤ℤ {a = known u.sure (terms_of ps p)} {b = known t.sure (terms_of qs r)} (let m = known_up u.sure t.sure (terms_of ps p) h.sure in let l = known_start p r j a in omega arith))) k))
+                (≤ℤ_trans (sub_up (subst (λ (g : Option ℤ). UpLe g (Some b)) f bound) (pos_≤ℤ {a = known u.sure (terms_of ps p)} {b = known t.sure (terms_of qs r)} (let m = known_up u.sure t.sure (terms_of ps p) h.sure in let l = known_start p r j a in omega arith))) k))
 
     -- the first measure of a second guard is reached there too
     second-reached : (g : Guard) (r : ℕ) (b : ℤ) → g.other ≡ beside (e r) b → Guards qs r (plainly g b) → OtherReached ps u g.other → b ≤ℤ reached_of qs t r
@@ -283,9 +281,9 @@ module _ (ps qs : List Row) (e : ℕ → ℕ) (w : Twin ps qs e) (t : Table) (re
         by (inr s) = inl s.0
     inside_step v (never-guard p g i (d, o) k) = by (w.guards p g i)
       where
-        by : ((r : ℕ) × (p ≡ e r) × Guards qs r (plainly g g.bound)) ⊎ ((g.bound ≤ℤ pos 0) × ((r : ℕ) × (b : ℤ) × (g.other ≡ beside (e r) b) × Guards qs r (plainly g b))) → Inside (lower_upper u p (Under g.bound))
-        by (inl (r, q, j)) = with-up p (Under g.bound) (inr (r, j.0, subst (λ (m : ℕ). Starts ps m (e r)) (sym q) (prefix_same (e r) (w.row r j.0)), has-never r g.bound g j (h.never g.node d)))
-        by (inr (z, (r, b, f, j))) = absurd (rest.0 (upper-reached r j.0 (at-most_up (t.upper r) (Under b) (has-never r b g j (h.never g.node d)) (≤ℤ_refl (reached_of qs t r)) (second-reached g r b f j o))))
+        by : ((r : ℕ) × (p ≡ e r) × Guards qs r (plainly g g.bound)) ⊎ ((g.bound ≤ℤ pos 0) × ((r : ℕ) × (b : ℤ) × (g.other ≡ beside (e r) b) × Guards qs r (plainly g b))) → Inside (lower_upper u p (Some g.bound))
+        by (inl (r, q, j)) = with-up p (Some g.bound) (inr (r, j.0, subst (λ (m : ℕ). Starts ps m (e r)) (sym q) (prefix_same (e r) (w.row r j.0)), has-never r g.bound g j (h.never g.node d)))
+        by (inr (z, (r, b, f, j))) = absurd (rest.0 (upper-reached r j.0 (at-most_up (t.upper r) (Some b) (has-never r b g j (h.never g.node d)) (≤ℤ_refl (reached_of qs t r)) (second-reached g r b f j o))))
     inside_step v (bound-reached p g i (m, k, o) d) = with-sure g.node (by (w.guards p g i))
       where
         by : ((r : ℕ) × (p ≡ e r) × Guards qs r (plainly g g.bound)) ⊎ ((g.bound ≤ℤ pos 0) × ((r : ℕ) × (b : ℤ) × (g.other ≡ beside (e r) b) × Guards qs r (plainly g b))) → t.sure g.node ≡ true
@@ -360,7 +358,7 @@ module _ (ps qs : List Row) (e : ℕ → ℕ) (w : Twin ps qs e) (u : Table) (re
   seen-still v (sure-guard r g i d k) = let o = w.plain r g i in rest.1 (raise_lower u (e r) g.bound) (sure-guard (e r) (beside_by g o.0) o.1 d k)
   seen-still v (never-guard r g i (d, x) k) =
       let o = w.plain r g i in
-      rest.1 (lower_upper u (e r) (Under g.bound)) (never-guard (e r) (beside_by g o.0) o.1 (d, slight-reached o.0 o.2) k)
+      rest.1 (lower_upper u (e r) (Some g.bound)) (never-guard (e r) (beside_by g o.0) o.1 (d, slight-reached o.0 o.2) k)
   seen-still v (bound-reached r g i (m, k, x) d) =
       let o = w.plain r g i in
       rest.1 (decide_sure u g.node) (bound-reached (e r) (beside_by g o.0) o.1 (m, subst (λ (z : ℤ). g.bound ≤ℤ z) (same-reached r i.0) k, slight-reached o.0 o.2) d)

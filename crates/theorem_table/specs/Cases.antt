@@ -1,12 +1,11 @@
 -- Worked examples of what rules 1 to 3 and 6 ask besides figures. Each comes twice: where the rule has a step, and where that one
 -- thing is lacking and nothing else.
-use Rattle.std.specs.Prelude.{ℕ, ◌≡◌, refl, Bool, true, false, eqb, ltb, get_or, ℤ, pos, ◌≤ℤ◌}
+use Rattle.std.specs.Prelude.{ℕ, ◌≡◌, refl, Bool, true, false, eqb, ltb, get_or, ℤ, pos, ◌≤ℤ◌, Some}
 use mathlib.Core.List.{List, [], ◌∷◌, Memᴰ}
 use Rattle.std.proofs.Common.{inl, arith}
 use Rattle.std.specs.Int.Signed.{le_z}
 use Rattle.base.specs.TestLaws.{clash}
 use Rattle.numeric.specs.Threshold.{Term, term}
-use Rattle.state.specs.declared.Upper.TheVariants.{Under}
 use Rattle.rows.specs.Rows.{Row, row_of, no_row, Guard, Other, alone, beside}
 use Rattle.theorem_table.specs.Table.{Table, known, possible, start, decide_sure, decide_never, raise_lower, lower_upper, OtherReached, FallsShort, Reached, OutOfReach, Prefixed, Step, never-guard, bound-reached, bound-out-of-reach, longer-lower}
 use Rattle.theorem_table.specs.OrderLaws.{le, lt, of_le}
@@ -66,7 +65,7 @@ one-reached_alone : Reached pair (start (one 0) none) 0 (asks 1) → ⊥
 unfolding known OtherReached
 one-reached_alone h = unreached h.2
 
-never_beside_reached : Step pair (start (one 1) (one 9)) (lower_upper (start (one 1) (one 9)) 0 (Under (pos 1)))
+never_beside_reached : Step pair (start (one 1) (one 9)) (lower_upper (start (one 1) (one 9)) 0 (Some (pos 1)))
 unfolding known OtherReached
 never_beside_reached = never-guard 0 (asks 1) (omega arith, Memᴰ.head refl) (refl, le refl) tt
 

@@ -1,10 +1,8 @@
 -- What makes the runs of a table end: its sure nodes lie below some number or are nodes of the rows, and a lower or an upper is
 -- 0, none or the bound of some guard. Every step keeps that, and there are only so many steps.
-use Rattle.std.specs.Prelude.{ℕ, ◌+◌, ◌*◌, ◌<◌, ◌≡◌, true, ◌⊎◌, length, ℤ, pos}
+use Rattle.std.specs.Prelude.{ℕ, ◌+◌, ◌*◌, ◌<◌, ◌≡◌, true, ◌⊎◌, length, ℤ, pos, Option, None, Some}
 use mathlib.Core.List.{List, ◌∷◌, ◌++◌, map, flat_map, Memᴰ}
 use Rattle.numeric.specs.Threshold.{Term}
-use Rattle.state.specs.declared.Upper.{Upper}
-use Rattle.state.specs.declared.Upper.TheVariants.{Open, Under}
 use Rattle.rows.specs.Rows.{Row, Guard}
 use Rattle.theorem_table.specs.Table.{Table}
 
@@ -23,9 +21,9 @@ unfoldable pub levels : List Row → List ℤ
 levels rows = pos 0 ∷ flat_map bounds_in rows
 
 -- There is no upper, or it is one of the numbers.
-abbrev pub UpperIn : List ℤ → Upper → Type 0
-UpperIn vs Open = Unit {0}
-UpperIn vs (Under u) = Memᴰ u vs
+abbrev pub UpperIn : List ℤ → Option ℤ → Type 0
+UpperIn vs None = Unit {0}
+UpperIn vs (Some u) = Memᴰ u vs
 
 pub record Finite (rows : List Row) (n : ℕ) (s : Table) : Type 0 where
   pub sure : (m : ℕ) → s.sure m ≡ true → (m < n) ⊎ Memᴰ m (nodes_of rows)

@@ -1,9 +1,7 @@
 -- What a single step is judged by: bounds that rules 1 and 6 alone give, a conflict ending nothing, and rules 2 to 5 on the figures of rows.
-use Rattle.std.specs.Prelude.{ℕ, ◌≡◌, Bool, true, false, List, ◌⊎◌, ℤ, pos, ◌-ℤ◌, ◌≤ℤ◌, ◌<ℤ◌}
+use Rattle.std.specs.Prelude.{ℕ, ◌≡◌, Bool, true, false, List, ◌⊎◌, ℤ, pos, ◌-ℤ◌, ◌≤ℤ◌, ◌<ℤ◌, Option, Some}
 use Rattle.numeric.specs.Threshold.{Term}
 use Rattle.state.specs.State.{max_z}
-use Rattle.state.specs.declared.Upper.{Upper}
-use Rattle.state.specs.declared.Upper.TheVariants.{Under}
 use Rattle.rows.specs.Rows.{Row, Guard, Other, alone, beside, MayDecide}
 use Rattle.theorem_table.specs.Table.{Table, AtMost, Guards, HasTerm, known_of, possible_of, Step, sure-guard, never-guard, bound-reached, bound-out-of-reach, term-needed, term-too-heavy, longer-lower, shorter-upper}
 
@@ -12,7 +10,7 @@ pub record RowFigures : Type 0 where
   pub known : ℤ
   pub possible : ℤ
   pub lower : ℤ
-  pub upper : Upper
+  pub upper : Option ℤ
 
 -- A bound is reached by the figures of a row; the other measure of a guard's node is, if it has one.
 abbrev pub ReachedBy : RowFigures → ℤ → Type 0
@@ -47,4 +45,4 @@ module _ (rows : List Row) where
     by_2 : (g : Guard) → Guards rows r g → MayDecide g → ReachedBy (f r) g.bound → OtherReachedBy f g.other → By f r g.node true 2
     by-3 : (g : Guard) → Guards rows r g → MayDecide g → ((f r).possible <ℤ g.bound) ⊎ AtMost (f r).upper g.bound → By f r g.node false 3
     by_4 : (x : Term) → HasTerm rows r x → ((f r).possible -ℤ (f r).lower) <ℤ pos x.weight → By f r x.condition true 4
-    by-5 : (x : Term) (u : ℤ) → HasTerm rows r x → (f r).upper ≡ Under u → (u -ℤ (f r).known) ≤ℤ pos x.weight → By f r x.condition false 5
+    by-5 : (x : Term) (u : ℤ) → HasTerm rows r x → (f r).upper ≡ Some u → (u -ℤ (f r).known) ≤ℤ pos x.weight → By f r x.condition false 5

@@ -1,11 +1,9 @@
 -- Where neither rule 1 nor rule 6 has a step left, each row has the bounds that they ask for; and what one of the rules 2 to 5 concludes
 -- from weaker figures it concludes from tighter ones.
-use Rattle.std.specs.Prelude.{ℕ, ◌≡◌, refl, Bool, true, List, ◌⊎◌, ℤ, pos, ◌-ℤ◌, ◌≤ℤ◌, ◌<ℤ◌}
+use Rattle.std.specs.Prelude.{ℕ, ◌≡◌, refl, Bool, true, List, ◌⊎◌, ℤ, pos, ◌-ℤ◌, ◌≤ℤ◌, ◌<ℤ◌, Option, None, Some}
 use Rattle.std.proofs.Common.{subst, inl, inr, ⊎_elim}
 use Rattle.std.specs.Int.Signed.{≤ℤ_refl}
 use Rattle.numeric.specs.Threshold.{Term}
-use Rattle.state.specs.declared.Upper.{Upper}
-use Rattle.state.specs.declared.Upper.TheVariants.{Open, Under}
 use Rattle.rows.specs.Rows.{Row, Guard, Other, alone, beside}
 use Rattle.theorem_table.specs.Table.{Table, AtMost, Below, raise_lower, lower_upper, Guards, FallsShort, IsPrefix, sure-guard, never-guard, longer-lower, shorter-upper, AtRest}
 use Rattle.theorem_table.specs.OrderLaws.{≤ℤ_trans, ≤ℤ_<ℤ_trans, ≤ℤ_or_<ℤ, max_up, sub_up, UpLe, le-or-below, at-most_up}
@@ -20,10 +18,10 @@ module _ (rows : List Row) (u : Table) (calm : Calm rows u) where
   calm_sure r g i e =
       ⊎_elim (λ (k : g.bound ≤ℤ u.lower r). k) (λ (k : u.lower r <ℤ g.bound). absurd (calm (raise_lower u r g.bound) (sure-guard r g i e k) refl)) (≤ℤ_or_<ℤ g.bound (u.lower r))
 
-  pub calm_never : (r : ℕ) (g : Guard) → Guards rows r g → FallsShort rows u g → UpLe (u.upper r) (Under g.bound)
+  pub calm_never : (r : ℕ) (g : Guard) → Guards rows r g → FallsShort rows u g → UpLe (u.upper r) (Some g.bound)
   calm_never r g i e =
-      ⊎_elim (λ (k : UpLe (u.upper r) (Under g.bound)). k) (λ (k : Below (Under g.bound) (u.upper r)). absurd (calm (lower_upper u r (Under g.bound)) (never-guard r g i e k) refl))
-      (le-or-below (u.upper r) (Under g.bound))
+      ⊎_elim (λ (k : UpLe (u.upper r) (Some g.bound)). k) (λ (k : Below (Some g.bound) (u.upper r)). absurd (calm (lower_upper u r (Some g.bound)) (never-guard r g i e k) refl))
+      (le-or-below (u.upper r) (Some g.bound))
 
   pub calm_longer : (r q : ℕ) → IsPrefix rows r q → u.lower r ≤ℤ u.lower q
   calm_longer r q i =
@@ -49,10 +47,10 @@ module _ (a b : ℕ → RowFigures) (t : (r : ℕ) → Tighter (a r) (b r)) wher
   other-tighter alone k = tt
   other-tighter (beside q z) k = reached_tighter (a q) (b q) z (t q) k
 
-  heavier : (r : ℕ) (x : Term) (u : ℤ) → (u -ℤ (a r).known) ≤ℤ pos x.weight → (c : Upper) → (b r).upper ≡ c → UpLe c (Under u)
-      → (v : ℤ) × ((b r).upper ≡ Under v) × ((v -ℤ (b r).known) ≤ℤ pos x.weight)
-  heavier r x u k Open q l = absurd l
-  heavier r x u k (Under v) q l = (v, q, ≤ℤ_trans (sub_up l (t r).known) k)
+  heavier : (r : ℕ) (x : Term) (u : ℤ) → (u -ℤ (a r).known) ≤ℤ pos x.weight → (c : Option ℤ) → (b r).upper ≡ c → UpLe c (Some u)
+      → (v : ℤ) × ((b r).upper ≡ Some v) × ((v -ℤ (b r).known) ≤ℤ pos x.weight)
+  heavier r x u k None q l = absurd l
+  heavier r x u k (Some v) q l = (v, q, ≤ℤ_trans (sub_up l (t r).known) k)
 
   -- WHAT FOLLOWS FROM WEAKER FIGURES FOLLOWS FROM TIGHTER ONES, by the same rule
   pub by_tighter : (rows : List Row) (r n : ℕ) (value : Bool) (rule : ℕ) → By rows a r n value rule → By rows b r n value rule

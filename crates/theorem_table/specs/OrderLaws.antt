@@ -1,5 +1,5 @@
 -- The order of signed numbers in the form in which the rules state their premises, and of uppers.
-use Rattle.std.specs.Prelude.{ℕ, ◌+◌, ◌-◌, ◌≤◌, ◌≡◌, refl, Bool, true, false, ◌⊎◌, T, ℤ, pos, ◌+ℤ◌, ◌-ℤ◌, ◌≤ℤ◌, ◌<ℤ◌}
+use Rattle.std.specs.Prelude.{ℕ, ◌+◌, ◌-◌, ◌≤◌, ◌≡◌, refl, Bool, true, false, ◌⊎◌, T, ℤ, pos, ◌+ℤ◌, ◌-ℤ◌, ◌≤ℤ◌, ◌<ℤ◌, Option, None, Some}
 use Rattle.std.proofs.Common.{arith, sym, ap, ap₂, ◌∙◌, subst, inl, inr, le-leb}
 use Rattle.std.proofs.Math.Path.{subst⁻¹}
 use Rattle.std.proofs.Math.IntN.{+ℤ_comm, -ℤ-+ℤ_cancel, pos-+ℤ-pos}
@@ -7,8 +7,6 @@ use Rattle.std.specs.Int.Signed.{le_z, lt_z, le_z_yes, lt_z_yes, ≤ℤ_refl, cl
 use Rattle.base.specs.TestLaws.{clash}
 use Rattle.base.specs.SignedLaws.{le_z_trans, le_z_antisymm, le_z-lt_z, lt_z_weaken, nle-lt_z, le_z-add, le_z_minus, pos_minus, le_z-pos, max-left, max_right, max_least}
 use Rattle.base.specs.Signed.{max_z}
-use Rattle.state.specs.declared.Upper.{Upper}
-use Rattle.state.specs.declared.Upper.TheVariants.{Open, Under}
 use Rattle.state.specs.State.{upper_at_most}
 use Rattle.theorem_table.specs.Table.{AtMost, Below}
 
@@ -88,47 +86,47 @@ heavy_clash k m w u h g =
     (subst (λ (z : ℤ). z ≤ℤ pos m) (sym (pos-+ℤ-pos w k)) (pos_≤ℤ {a = w + k} {b = m} (omega arith)))
 
 -- UPPERS: the first is at most the second; none is the largest
-abbrev pub UpLe : Upper → Upper → Type 0
-UpLe a Open = Unit {0}
-UpLe Open (Under b) = ⊥
-UpLe (Under a) (Under b) = a ≤ℤ b
+abbrev pub UpLe : Option ℤ → Option ℤ → Type 0
+UpLe a None = Unit {0}
+UpLe None (Some b) = ⊥
+UpLe (Some a) (Some b) = a ≤ℤ b
 
-pub up_refl : (a : Upper) → UpLe a a
-up_refl Open = tt
-up_refl (Under a) = ≤ℤ_refl a
+pub up_refl : (a : Option ℤ) → UpLe a a
+up_refl None = tt
+up_refl (Some a) = ≤ℤ_refl a
 
-pub up_trans : (a b c : Upper) → UpLe a b → UpLe b c → UpLe a c
-up_trans a b Open h k = tt
-up_trans a Open (Under c) h k = absurd k
-up_trans Open (Under b) (Under c) h k = absurd h
-up_trans (Under a) (Under b) (Under c) h k = ≤ℤ_trans h k
+pub up_trans : (a b c : Option ℤ) → UpLe a b → UpLe b c → UpLe a c
+up_trans a b None h k = tt
+up_trans a None (Some c) h k = absurd k
+up_trans None (Some b) (Some c) h k = absurd h
+up_trans (Some a) (Some b) (Some c) h k = ≤ℤ_trans h k
 
-pub up_anti : (a b : Upper) → UpLe a b → UpLe b a → a ≡ b
-up_anti Open Open h k = refl
-up_anti Open (Under b) h k = absurd h
-up_anti (Under a) Open h k = absurd k
-up_anti (Under a) (Under b) h k = ap Under (≤ℤ_anti h k)
+pub up_anti : (a b : Option ℤ) → UpLe a b → UpLe b a → a ≡ b
+up_anti None None h k = refl
+up_anti None (Some b) h k = absurd h
+up_anti (Some a) None h k = absurd k
+up_anti (Some a) (Some b) h k = ap Some (≤ℤ_anti h k)
 
-pub below-le : (a b : Upper) → Below a b → UpLe a b
-below-le Open b h = absurd h
-below-le (Under a) Open h = tt
-below-le (Under a) (Under b) h = <ℤ_≤ℤ h
+pub below-le : (a b : Option ℤ) → Below a b → UpLe a b
+below-le None b h = absurd h
+below-le (Some a) None h = tt
+below-le (Some a) (Some b) h = <ℤ_≤ℤ h
 
-pub le-or-below : (a b : Upper) → UpLe a b ⊎ Below b a
-le-or-below a Open = inl tt
-le-or-below Open (Under b) = inr tt
-le-or-below (Under a) (Under b) = ≤ℤ_or_<ℤ a b
+pub le-or-below : (a b : Option ℤ) → UpLe a b ⊎ Below b a
+le-or-below a None = inl tt
+le-or-below None (Some b) = inr tt
+le-or-below (Some a) (Some b) = ≤ℤ_or_<ℤ a b
 
 -- from the test of an upper to the order and back
-pub at_most : (x : Upper) (z : ℤ) → upper_at_most x z ≡ true → AtMost x z
-at_most Open z h = absurd (clash false h refl)
-at_most (Under a) z h = le h
+pub at_most : (x : Option ℤ) (z : ℤ) → upper_at_most x z ≡ true → AtMost x z
+at_most None z h = absurd (clash false h refl)
+at_most (Some a) z h = le h
 
-pub of_at-most : (x : Upper) (z : ℤ) → AtMost x z → upper_at_most x z ≡ true
-of_at-most Open z h = absurd h
-of_at-most (Under a) z h = of_le h
+pub of_at-most : (x : Option ℤ) (z : ℤ) → AtMost x z → upper_at_most x z ≡ true
+of_at-most None z h = absurd h
+of_at-most (Some a) z h = of_le h
 
-pub at-most_up : (a b : Upper) {y z : ℤ} → UpLe a b → y ≤ℤ z → AtMost b y → AtMost a z
-at-most_up a Open h k g = absurd g
-at-most_up Open (Under b) h k g = absurd h
-at-most_up (Under a) (Under b) h k g = ≤ℤ_trans h (≤ℤ_trans g k)
+pub at-most_up : (a b : Option ℤ) {y z : ℤ} → UpLe a b → y ≤ℤ z → AtMost b y → AtMost a z
+at-most_up a None h k g = absurd g
+at-most_up None (Some b) h k g = absurd h
+at-most_up (Some a) (Some b) h k g = ≤ℤ_trans h (≤ℤ_trans g k)

@@ -1,9 +1,7 @@
 -- The plain rule table of document 01: rules, conflicts and runs on states of their own, whatever the order.
-use Rattle.std.specs.Prelude.{ℕ, ◌+◌, ◌<◌, ◌≤◌, ◌≡◌, Bool, true, false, cond, ◌||◌, ◌⊎◌, length, get_or, eqb, ℤ, pos, ◌-ℤ◌, ◌≤ℤ◌, ◌<ℤ◌}
+use Rattle.std.specs.Prelude.{ℕ, ◌+◌, ◌<◌, ◌≤◌, ◌≡◌, Bool, true, false, cond, ◌||◌, ◌⊎◌, length, get_or, eqb, ℤ, pos, ◌-ℤ◌, ◌≤ℤ◌, ◌<ℤ◌, Option, None, Some}
 use mathlib.Core.List.{List, [], ◌∷◌, ◌++◌, Memᴰ}
 use Rattle.numeric.specs.Threshold.{Term}
-use Rattle.state.specs.declared.Upper.{Upper}
-use Rattle.state.specs.declared.Upper.TheVariants.{Open, Under}
 use Rattle.state.specs.State.{max_z}
 use Rattle.rows.specs.Rows.{Row, Guard, Other, alone, beside, MayDecide, Linked, no_row}
 
@@ -12,11 +10,11 @@ pub record Table : Type 0 where
   pub sure : ℕ → Bool
   pub never : ℕ → Bool
   pub lower : ℕ → ℤ
-  pub upper : ℕ → Upper
+  pub upper : ℕ → Option ℤ
 
 -- The start: some nodes with their values; each row begins with lower 0 and no upper.
 abbrev pub start : (ℕ → Bool) → (ℕ → Bool) → Table
-start sure never = record { sure = sure; never = never; lower = λ r. pos 0; upper = λ r. Open }
+start sure never = record { sure = sure; never = never; lower = λ r. pos 0; upper = λ r. None }
 
 -- Known: the weights of the sure terms. Possible: all weights less those of the never terms.
 unfoldable pub known : (ℕ → Bool) → List Term → ℕ
@@ -28,15 +26,15 @@ possible never [] = 0
 possible never (t ∷ ts) = cond (never t.condition) 0 t.weight + possible never ts
 
 -- There is an upper, and it is at most z.
-abbrev pub AtMost : Upper → ℤ → Type 0
-AtMost Open z = ⊥
-AtMost (Under u) z = u ≤ℤ z
+abbrev pub AtMost : Option ℤ → ℤ → Type 0
+AtMost None z = ⊥
+AtMost (Some u) z = u ≤ℤ z
 
 -- The first upper lies below the second, or the second is none.
-abbrev pub Below : Upper → Upper → Type 0
-Below Open u = ⊥
-Below (Under a) Open = Unit {0}
-Below (Under a) (Under b) = a <ℤ b
+abbrev pub Below : Option ℤ → Option ℤ → Type 0
+Below None u = ⊥
+Below (Some a) None = Unit {0}
+Below (Some a) (Some b) = a <ℤ b
 
 -- A function changed at one place.
 abbrev pub at : {X : Type 0} → ℕ → X → (ℕ → X) → ℕ → X
@@ -51,7 +49,7 @@ decide_never s n = record { sure = s.sure; never = at n true s.never; lower = s.
 abbrev pub raise_lower : Table → ℕ → ℤ → Table
 raise_lower s r b = record { sure = s.sure; never = s.never; lower = at r b s.lower; upper = s.upper }
 
-abbrev pub lower_upper : Table → ℕ → Upper → Table
+abbrev pub lower_upper : Table → ℕ → Option ℤ → Table
 lower_upper s r u = record { sure = s.sure; never = s.never; lower = s.lower; upper = at r u s.upper }
 
 -- The rules of a job's rows; each premise says also that the conclusion does not stand yet.
@@ -106,7 +104,7 @@ module _ (rows : List Row) where
   pub data Step (s : Table) : Table → Type 0 where
     -- 1. Guard sure: lower is at least its bound. Guard never: upper is at most its bound.
     sure-guard : (r : ℕ) (g : Guard) → Guards r g → s.sure g.node ≡ true → s.lower r <ℤ g.bound → Step s (raise_lower s r g.bound)
-    never-guard : (r : ℕ) (g : Guard) → Guards r g → FallsShort s g → Below (Under g.bound) (s.upper r) → Step s (lower_upper s r (Under g.bound))
+    never-guard : (r : ℕ) (g : Guard) → Guards r g → FallsShort s g → Below (Some g.bound) (s.upper r) → Step s (lower_upper s r (Some g.bound))
     -- 2. Bound at most max(known, lower): guard sure.
     bound-reached : (r : ℕ) (g : Guard) → Guards r g → Reached s r g → s.sure g.node ≡ false → Step s (decide_sure s g.node)
     -- 3. Bound above possible, or at least upper: guard never.
@@ -115,7 +113,7 @@ module _ (rows : List Row) where
     term-needed : (r : ℕ) (t : Term) → HasTerm r t → Undecided s t.condition → (possible_of s r -ℤ s.lower r) <ℤ pos t.weight
         → Step s (decide_sure s t.condition)
     -- 5. Undecided weight at least upper - known: term never.
-    term-too-heavy : (r : ℕ) (t : Term) (u : ℤ) → HasTerm r t → Undecided s t.condition → s.upper r ≡ Under u → (u -ℤ known_of s r) ≤ℤ pos t.weight
+    term-too-heavy : (r : ℕ) (t : Term) (u : ℤ) → HasTerm r t → Undecided s t.condition → s.upper r ≡ Some u → (u -ℤ known_of s r) ≤ℤ pos t.weight
         → Step s (decide_never s t.condition)
     -- 6. The longer's lower becomes at least the shorter's, and the shorter's upper at most the longer's.
     longer-lower : (r q : ℕ) → IsPrefix r q → s.lower q <ℤ s.lower r → Step s (raise_lower s q (s.lower r))

@@ -4,3 +4,4 @@ pub mod Tree
 pub mod Placed
 pub mod PlacedLaws
 pub mod TreeLaws
+pub mod Lent

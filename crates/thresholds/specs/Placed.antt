@@ -1,5 +1,5 @@
 -- What the buffers hold of the rows as they grow: their terms, and a mark for each.
-use Rattle.std.specs.Prelude.{ℕ, zero, ◌+◌, ◌-◌, ◌≡◌, List, ◌++◌, map, length, take, drop, replicate}
+use Rattle.std.specs.Prelude.{ℕ, ◌-◌, ◌≡◌, List, ◌++◌, map, length, take, drop, replicate}
 use Rattle.base.specs.Laid.{join_all}
 use Rattle.row.specs.Keys.{laid, conditions_of, weights_of}
 use Rattle.memory.specs.Buffers.{RawLists}

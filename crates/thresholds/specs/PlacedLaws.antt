@@ -1,8 +1,7 @@
 -- Laws of rows as they grow.
-use Rattle.std.specs.Prelude.{ℕ, zero, suc, ◌+◌, ◌-◌, ◌*◌, ◌/◌, ◌%◌, ◌<◌, ◌≤◌, ◌≡◌, refl, Bool, true, false, cond, List, [], ◌∷◌, ◌++◌, map, length, take, drop, get_or, set, replicate, eqb, ltb}
-use Rattle.std.proofs.Common.{not-suc-le-zero, add-zero, add_assoc, zero-add, le_refl, add-one, arith, sym, ap, ap₂, ◌∙◌, subst, append_assoc, append-nil, length-append, length-take, length-drop, take-append-drop, drop_of_length-le, take_all, take_at, drop_at, lt-ltb, le-ltb}
+use Rattle.std.specs.Prelude.{ℕ, zero, suc, ◌+◌, ◌-◌, ◌<◌, ◌≤◌, ◌≡◌, refl, List, [], ◌∷◌, ◌++◌, map, length, take, drop, get_or, replicate}
+use Rattle.std.proofs.Common.{arith, sym, ap, ap₂, ◌∙◌, subst, append_assoc, append-nil, length-append, length-drop, take-append-drop, drop_of_length-le, take_all, take_at, drop_at}
 use Rattle.std.proofs.lemmas.List.{length-replicate, replicate-append-replicate}
-use Rattle.std.proofs.Math.Seq.{take-append_seam, drop-append_seam}
 use Rattle.row.specs.Keys.{Raw, laid}
 use Rattle.sort.specs.Runs.{cleared}
 use Rattle.base.specs.Parts.{stretch}

@@ -1,6 +1,6 @@
 -- Laws of raw lists in two parallel slices, read place by place, and of the search among lists.
-use Rattle.std.specs.Prelude.{ℕ, ◌+◌, ◌*◌, ◌%◌, ◌<◌, ◌≤◌, ◌≡◌, Bool, true, false, ◌&&◌, List, length, drop, get_or, eqb}
-use Rattle.std.proofs.Common.{sym, ap, ◌∙◌, eq-eqb, ne_eqb}
+use Rattle.std.specs.Prelude.{ℕ, ◌+◌, ◌*◌, ◌%◌, ◌<◌, ◌≤◌, ◌≡◌, refl, Bool, true, false, ◌&&◌, List, [], ◌∷◌, length, drop, get_or, eqb, bytes_eq}
+use Rattle.std.proofs.Common.{sym, ap, ◌∙◌, eq-eqb, ne_eqb, arith}
 use Rattle.numeric.specs.Slices.{terms}
 use Rattle.row.specs.Terms.{same_terms}
 use Rattle.thresholds.specs.Raw.{prints, mixed, fingerprint}
@@ -34,6 +34,26 @@ module _ (l v r w : List ℕ) where
   pub same_done : (i : ℕ) → length l ≤ i → length r ≤ i → same_from i ≡ true
   unfolding same_terms
   same_done i h k = rw (terms_done l v i h, terms_done r w i k, same_terms)
+
+-- By one comparison of the conditions and one of the weights.
+pub same_slices : (l v r w : List ℕ) → length v ≡ length l → length w ≡ length r → (bytes_eq l r && bytes_eq v w) ≡ same_terms (terms l v) (terms r w)
+unfolding same_terms terms
+same_slices [] [] [] [] h k = refl
+same_slices [] (p ∷ v) r w h k = absurd (omega arith)
+same_slices (x ∷ l) [] r w h k = absurd (omega arith)
+same_slices l v [] (q ∷ w) h k = absurd (omega arith)
+same_slices l v (y ∷ r) [] h k = absurd (omega arith)
+same_slices [] [] (y ∷ r) (q ∷ w) h k = refl
+same_slices (x ∷ l) (p ∷ v) [] [] h k = refl
+same_slices (x ∷ l) (p ∷ v) (y ∷ r) (q ∷ w) h k =
+    pairs (eqb x y) (bytes_eq l r) (eqb p q) (bytes_eq v w) ∙ ap (λ (b : Bool). eqb x y && eqb p q && b) (same_slices l v r w (omega arith) (omega arith))
+  where
+    pairs : (a b c d : Bool) → ((a && b) && (c && d)) ≡ (a && c && (b && d))
+    pairs true true true d = refl
+    pairs true true false d = refl
+    pairs true false true d = refl
+    pairs true false false d = refl
+    pairs false b c d = refl
 
 -- ---- fingerprints
 

@@ -1,6 +1,6 @@
 -- The rows of one class in a tree: a search for a raw list goes by the list's terms and by their binary digits, so that it passes a bounded number of rows
 -- for each of its terms, whatever the other lists are.
-use Rattle.std.specs.Prelude.{ℕ, zero, suc, ◌+◌, ◌-◌, ◌*◌, ◌/◌, ◌%◌, ◌^◌, ◌<◌, ◌≤◌, ◌≡◌, Bool, true, cond, List, [], ◌∷◌, map, length, get_or, set, eqb}
+use Rattle.std.specs.Prelude.{ℕ, zero, suc, ◌+◌, ◌-◌, ◌*◌, ◌/◌, ◌%◌, ◌^◌, ◌<◌, ◌≤◌, ◌≡◌, Bool, true, cond, List, [], ◌∷◌, map, length, get_or, set, eqb, Result, Ok, Err}
 use Rattle.memory.specs.Limits.{max_thresholds}
 use Rattle.numeric.specs.Threshold.{Term}
 use Rattle.row.specs.Terms.{same_terms}
@@ -8,8 +8,6 @@ use Rattle.memory.specs.Buffers.{RawLists}
 use Rattle.thresholds.specs.Raw.{fingerprint}
 use Rattle.job.specs.Shared.{number_in}
 use Rattle.rows.specs.Lists.{list_at}
-use Rattle.thresholds.specs.declared.Found.{Found}
-use Rattle.thresholds.specs.declared.Found.TheVariants.{At, Free}
 
 -- ---- marks
 
@@ -144,10 +142,10 @@ pub record Searching (r : RawLists) (marks heads : List ℕ) (x : List Term) (k 
   pub came : Came r marks heads x a k
   pub ahead : (i : ℕ) → i < length marks → same_terms (marked_list r (get_or marks i 0)) x ≡ true → (d : ℕ) × ((walk r marks x d (way k p q)).row ≡ suc i)
 
--- What a search finds: the row that has the list, or the link at which a row with it belongs.
-abbrev pub Finds : RawLists → List ℕ → List ℕ → List Term → Found → Type 0
-Finds r marks heads x (At k) = (k ≡ number_in (map (marked_list r) marks) x) × (k < length marks)
-Finds r marks heads x (Free a) = (number_in (map (marked_list r) marks) x ≡ length marks) × Came r marks heads x a 0
+-- What a search finds: the row that has the list, or, as an error, the link at which a row with it belongs.
+abbrev pub Finds : RawLists → List ℕ → List ℕ → List Term → Result ℕ ℕ → Type 0
+Finds r marks heads x (Ok k) = (k ≡ number_in (map (marked_list r) marks) x) × (k < length marks)
+Finds r marks heads x (Err a) = (number_in (map (marked_list r) marks) x ≡ length marks) × Came r marks heads x a 0
 
 -- A row more, counted from 1, at a link.
 unfoldable pub linked_marks : ℕ → ℕ → List ℕ → List ℕ

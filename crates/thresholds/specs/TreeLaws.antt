@@ -3,7 +3,7 @@ use Prim.Native.Nat.{ℕ, zero, suc, ◌+◌, ◌-◌, ◌*◌, ◌/◌, ◌%◌
 use Rattle.std.proofs.Common.{not-suc-le-zero, ◌∙◌, length-append, length-set, get_or-take, get_or-drop, drop-set-lt, ltb-false, eq-eqb}
 use Rattle.std.proofs.Math.Decide.{dec_lt, ℕ_discrete}
 use native.Mathlib.Omega.{arith}
-use Rattle.std.specs.Prelude.{◌≡◌, Bool, true, false, cond, take, drop, set, replicate, ltb}
+use Rattle.std.specs.Prelude.{◌≡◌, Bool, true, false, cond, take, drop, set, replicate, ltb, Ok, Err}
 use Rattle.std.proofs.Math.Path.{refl, sym, ap, ap₂, subst}
 use Rattle.std.proofs.lemmas.Bool.{false≢true}
 use mathlib.Core.List.{List, [], ◌∷◌, ◌++◌, map}
@@ -16,7 +16,6 @@ use Rattle.numeric.specs.Threshold.{Term}
 use Rattle.numeric.specs.Slices.{terms}
 use Rattle.numeric.specs.TermsLaws.{no_term, get_d_terms}
 use Rattle.row.specs.Terms.{same_terms}
-use Rattle.thresholds.specs.declared.Found.TheVariants.{At, Free}
 use Rattle.memory.specs.Buffers.{RawLists}
 use Rattle.thresholds.specs.Raw.{prints, mixed, fingerprint}
 use Rattle.job.specs.Shared.{number_in, raws_to, row_to}
@@ -721,12 +720,12 @@ module _ (r : RawLists) (ms heads : List ℕ) (x : List Term) (t : Treed r ms he
         let f = t.few (k - 1) side there in
         left_less (length ms) k l h s.few (omega arith) (λ o. let g = t.later (k - 1) side there (omega arith) in omega arith)
 
-  pub search_found : Own (map (marked_list r) ms) → (k : ℕ) → k < length ms → same_terms (marked_list r (get_or ms k 0)) x ≡ true → Finds r ms heads x (At k)
+  pub search_found : Own (map (marked_list r) ms) → (k : ℕ) → k < length ms → same_terms (marked_list r (get_or ms k 0)) x ≡ true → Finds r ms heads x (Ok k)
   search_found own k h e =
       let l = length_marked r ms in
       (sym (ap (number_in (map (marked_list r) ms)) (sym (list_marked r ms k h ∙ same_is (marked_list r (get_or ms k 0)) x e)) ∙ own k (omega arith)), h)
 
-  pub search-none : (k p q a : ℕ) → k ≡ 0 → Searching r ms heads x k p q a → Finds r ms heads x (Free a)
+  pub search-none : (k p q a : ℕ) → k ≡ 0 → Searching r ms heads x k p q a → Finds r ms heads x (Err a)
   search-none k p q a e s = (number_none r ms x (λ i h. other i h (same_terms (marked_list r (get_or ms i 0)) x) refl), subst (Came r ms heads x a) e s.came)
     where
       other : (i : ℕ) → i < length ms → (b : Bool) → same_terms (marked_list r (get_or ms i 0)) x ≡ b → same_terms (marked_list r (get_or ms i 0)) x ≡ false

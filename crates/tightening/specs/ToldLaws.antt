@@ -1,15 +1,29 @@
 -- What a state takes from a guard or another row, case by case as the code tells them apart. Assumes nothing.
-use Rattle.std.specs.Prelude.{ℕ, ◌≤◌, ◌<◌, ◌≡◌, refl, Bool, true, false, not, cond, ◌&&◌, ℤ, leb}
-use Rattle.std.proofs.Common.{sym, ap, le-leb}
+use Rattle.std.specs.Prelude.{ℕ, ◌≤◌, ◌<◌, ◌≡◌, refl, Bool, true, false, not, cond, ◌&&◌, ℤ, leb, None, Some}
+use Rattle.std.proofs.Common.{sym, ap, ◌∙◌, le-leb}
 use Rattle.std.specs.Int.Signed.{le_z, lt_z}
 use Rattle.std.proofs.lemmas.Bool.{lt-leb, not-true, not-false}
 use Rattle.base.specs.SignedLaws.{nle-lt_z, le_z-nlt}
 use Rattle.state.specs.declared.State.{State}
-use Rattle.state.specs.declared.Upper.TheVariants.{Open, Under}
 use Rattle.state.specs.State.{upper_at_most, with_lower, with_upper}
-use Rattle.tightening.specs.declared.Tightened.{Tightened}
-use Rattle.tightening.specs.Told.{tight, guard_state, moved_lower, under, moved_upper}
+use Rattle.tightening.specs.Told.{Tightened, tight, told, guard_state, moved_lower, under, moved_upper}
+use Rattle.std.proofs.lemmas.Option.{none-some, same_Some}
 use Rattle.base.specs.TestLaws.{contrary}
+
+-- What a new state, or none, says of what was told.
+pub told_some : (s : State) (t : Tightened) → Some s ≡ told t → tight s true ≡ t
+told_some s t e = by t.changed refl
+  where
+    by : (c : Bool) → t.changed ≡ c → tight s true ≡ t
+    by true f = let h : Some s ≡ Some t.state = e ∙ ap (λ (b : Bool). cond b (Some t.state) None) f in rw (same_Some s t.state h) (ap (tight t.state) (sym f))
+    by false f = absurd (none-some s (sym (e ∙ ap (λ (b : Bool). cond b (Some t.state) None) f)))
+
+pub told_none : (t : Tightened) → None ≡ told t → t.changed ≡ false
+told_none t e = by t.changed refl
+  where
+    by : (c : Bool) → t.changed ≡ c → t.changed ≡ false
+    by true f = absurd (none-some t.state (e ∙ ap (λ (b : Bool). cond b (Some t.state) None) f))
+    by false f = f
 
 -- A guard's bound: new, or not.
 module _ (s : State) (value : Bool) (b : ℤ) where
@@ -19,7 +33,7 @@ module _ (s : State) (value : Bool) (b : ℤ) where
   pub guard-reached : value ≡ true → not (le_z b s.lower) ≡ false → tight s false ≡ guard_state s value b
   guard-reached v h = rw (v, guard_state, not-false (le_z b s.lower) h)
 
-  pub guard_lowers : value ≡ false → upper_at_most s.upper b ≡ false → (t : State) → t ≡ with_upper s (Under b) → tight t true ≡ guard_state s value b
+  pub guard_lowers : value ≡ false → upper_at_most s.upper b ≡ false → (t : State) → t ≡ with_upper s (Some b) → tight t true ≡ guard_state s value b
   guard_lowers v h t e = rw (v, guard_state, h) (ap (λ (x : State). tight x true) e)
 
   pub guard-limited : value ≡ false → upper_at_most s.upper b ≡ true → tight s false ≡ guard_state s value b
@@ -42,21 +56,21 @@ module _ (source : State) (t : Tightened) (n k : ℕ) where
   upper_not h = rw (lt-leb k n h)
 
   module _ (h : k ≤ n) where
-    pub upper_none : source.upper ≡ Open → t ≡ moved_upper source t n k
+    pub upper_none : source.upper ≡ None → t ≡ moved_upper source t n k
     upper_none e = rw (le-leb k n h, e)
 
-    pub upper_stays : (b : ℤ) → source.upper ≡ Under b → upper_at_most t.state.upper b ≡ true → t ≡ moved_upper source t n k
+    pub upper_stays : (b : ℤ) → source.upper ≡ Some b → upper_at_most t.state.upper b ≡ true → t ≡ moved_upper source t n k
     upper_stays b e g = rw (le-leb k n h, e, g)
 
-    pub upper_moves : (b : ℤ) → source.upper ≡ Under b → upper_at_most t.state.upper b ≡ false
-        → (u : State) → u ≡ with_upper t.state (Under b) → tight u true ≡ moved_upper source t n k
+    pub upper_moves : (b : ℤ) → source.upper ≡ Some b → upper_at_most t.state.upper b ≡ false
+        → (u : State) → u ≡ with_upper t.state (Some b) → tight u true ≡ moved_upper source t n k
     upper_moves b e g u f = rw (le-leb k n h, e, g) (ap (λ (x : State). tight x true) f)
 
 -- ---- for laws of what was told: what holds in each case holds
 
 -- A guard tells nothing new, raises the lower or lowers the upper.
 pub guard-cases : (s : State) (value : Bool) (b : ℤ) (G : Tightened → Type 0) → ((value ≡ true → le_z b s.lower ≡ true) × (value ≡ false → upper_at_most s.upper b ≡ true) → G (tight s false))
-    → (value ≡ true → le_z b s.lower ≡ false → G (tight (with_lower s b) true)) → (value ≡ false → upper_at_most s.upper b ≡ false → G (tight (with_upper s (Under b)) true)) → G (guard_state s value b)
+    → (value ≡ true → le_z b s.lower ≡ false → G (tight (with_lower s b) true)) → (value ≡ false → upper_at_most s.upper b ≡ false → G (tight (with_upper s (Some b)) true)) → G (guard_state s value b)
 guard-cases s true b G none raised lowered = by (le_z b s.lower) refl
   where
     by : (c : Bool) → le_z b s.lower ≡ c → G (elim c [ true ↦ tight s false | false ↦ tight (with_lower s b) true ])
@@ -64,7 +78,7 @@ guard-cases s true b G none raised lowered = by (le_z b s.lower) refl
     by false e = raised refl e
 guard-cases s false b G none raised lowered = by (upper_at_most s.upper b) refl
   where
-    by : (c : Bool) → upper_at_most s.upper b ≡ c → G (elim c [ true ↦ tight s false | false ↦ tight (with_upper s (Under b)) true ])
+    by : (c : Bool) → upper_at_most s.upper b ≡ c → G (elim c [ true ↦ tight s false | false ↦ tight (with_upper s (Some b)) true ])
     by true e = none ((λ f. contrary (sym f)), λ f. e)
     by false e = lowered refl e
 

@@ -8,7 +8,7 @@ use Rattle.std.proofs.Math.Nat.{div-eq_of_lt, zero-div, mod-le}
 use native.Mathlib.Omega.{arith}
 use Rattle.std.proofs.Math.Pow.{field}
 use Rattle.std.proofs.lemmas.Nat.{shl-shr}
-use Rattle.words.specs.Shift.{Shifted, shifted, before, up_to, meets, low_part, high_part, or_into, spills, shift_word, word_hits, shift_from, union_shifted}
+use Rattle.words.specs.Shift.{shifted, before, up_to, meets, low_part, high_part, or_into, spills, shift_word, word_hits, shift_from, union_shifted}
 use Rattle.words.specs.declared.Ended.TheVariants.{Hit, Complete, Stopped}
 
 -- A window that lies behind the word, before it, or over some of it.

@@ -22,10 +22,7 @@ pub enum Ended {
 fn words(atoms: usize) -> usize
     ensures { result ≡ (atoms + 63) / 64 }
 {
-    if atoms % 64 == 0 {
-        return atoms / 64;
-    }
-    atoms / 64 + 1
+    atoms.div_ceil(64)
 }
 
 // Whether node n is in the mask.
@@ -41,7 +38,7 @@ pub fn decided(sure: &[u64], never: &[u64], node: u16) -> bool
     requires { (node < 4096) × (64 ≤ length sure.now) × (64 ≤ length never.now) }
     ensures { result ≡ in_either sure.now never.now node }
 {
-    let n = node as usize;
+    let n = usize::from(node);
     bit(sure, n) | bit(never, n)
 }
 
@@ -66,34 +63,18 @@ pub fn count(mask: &[u64]) -> usize
     requires { length mask.now < 2 ^ 58 }
     ensures { result ≡ nodes mask.now (64 * length mask.now) }
 {
-    let mut sum: usize = 0;
-    let mut i = 0;
-    while i < mask.len() {
-        sum += u64::count_ones(mask[i]) as usize;
-        i += 1;
+    let mut sum = 0;
+    for word in mask {
+        sum += word.count_ones() as usize;
     }
     sum
-}
-
-// The difference, or 0 where there is none.
-fn saturating_sub(a: usize, b: usize) -> usize
-    ensures { result ≡ a - b }
-{
-    if a < b {
-        return 0;
-    }
-    a - b
 }
 
 // The source words that stay inside the slice when they are moved.
 fn readable_words(source_words: usize, length: usize, displacement: usize) -> usize
     ensures { result ≡ min source_words (length - displacement) }
 {
-    let inside = saturating_sub(length, displacement);
-    if source_words < inside {
-        return source_words;
-    }
-    inside
+    source_words.min(length.saturating_sub(displacement))
 }
 
 // Whether some bit of the word that stands at a position lies in the places from start to end.
@@ -107,8 +88,8 @@ fn meets(position: usize, bits: u64, start: usize, end: usize) -> bool
         return false;
     }
     let base = position * 64;
-    let above = saturating_sub(63, end - base);
-    let below = saturating_sub(start, base);
+    let above = 63_usize.saturating_sub(end - base);
+    let below = start.saturating_sub(base);
     // Places behind the window leave the word at its top, places before it at its bottom.
     ((bits << above) >> above) >> below != 0
 }
@@ -155,14 +136,13 @@ pub fn union_shifted_until_hit(
     ensures moved { words.new ≡ (union_shifted words.old source_words shift start end allowance).words }
     ensures ended { result ≡ (union_shifted words.old source_words shift start end allowance).ended }
 {
-    let mut source = readable_words(source_words, words.len(), shift / 64);
+    let readable = readable_words(source_words, words.len(), shift / 64);
     let mut left = allowance;
-    while source > 0 {
+    for source in (0..readable).rev() {
         if left == 0 {
             return Ended::Stopped;
         }
         left -= 1;
-        source -= 1;
         if shift_word(words, source, shift, start, end) {
             return Ended::Hit(left);
         }

@@ -50,7 +50,7 @@ returns-in-Settle c =
     let h = c.requires.0 (room a.given a.step a.visits (settled a.step) e) in
     λ before base long many laid.
     rw e (
-      answer_put before base a.answers.now laid a.count many (omega arith) (settled a.step) c.number-number.result 0 c.number-number.ensures refl c.put.new.answers c.put.ensures.0,
+      answer_put before base a.answers.now laid a.count many (omega arith) (settled a.step) c.from-number.result 0 c.from-number.ensures refl c.put.new.answers c.put.ensures.0,
       answer_more before (settled a.step) a.count c.put.result many c.put.ensures.1,
     )
 
@@ -61,7 +61,7 @@ returns-in-Sift c =
     let h = c.requires.0 (room a.given a.step a.visits (sifted a.step a.visits) e) in
     λ before base long many laid.
     rw e (
-      answer_put before base a.answers.now laid a.count many (omega arith) (sifted a.step a.visits) (c.number-number.result + 4) a.visits (omega (arith, c.number-number.ensures)) refl c.put-in-Sift.new.answers c.put-in-Sift.ensures.0,
+      answer_put before base a.answers.now laid a.count many (omega arith) (sifted a.step a.visits) (c.from-number.result + 4) a.visits (omega (arith, c.from-number.ensures)) refl c.put-in-Sift.new.answers c.put-in-Sift.ensures.0,
       answer_more before (sifted a.step a.visits) a.count c.put-in-Sift.result many c.put-in-Sift.ensures.1,
     )
 

@@ -1,29 +1,33 @@
--- `job::build` meets its contract: the rows' terms lie in the buffers, so that their links can be found.
-use mathlib.Core.List.{[]}
-use mathlib.Core.Path.{sym}
+-- `build::build_job` meets its contract: the rows' terms lie in the buffers, so that their links can be found.
+use Prim.Native.Nat.{◌≤◌}
+use lib.ListN.{length}
 use lib.Seq.{length-take-le}
-use Rattle.memory.specs.Buffers.{Built, held_rows, built}
-use Rattle.numeric.specs.Threshold.{Job}
-use Rattle.job.specs.Gathered.{job_in}
-use Rattle.build.specs.SoundLaws.{roomy_links}
-use Rattle.build.specs.BuiltLaws.{rows_inside, linkable, zeros_spare, all_built}
-use borrow.Author.Rules.{rules}
+use mathlib.Core.Path.{sym}
+use Rattle.build.specs.Lent.{job_lent, built_in}
+use Rattle.build.specs.BuiltLaws.{rows_inside, linkable, all_built}
 use Rattle.build.proofs.build_job.Goals as goal
+use Rattle.build.proofs.build_job.Goals.{After-build_rows-count}
 
-pub build_rows-count-requires : goal.build_rows-count-requires
-build_rows-count-requires c = (c.requires.0, roomy_links ((let g = c.args in built (held_rows g.row_conditions.now g.row_weights.now g.rows.now g.guard_bounds.now g.guard_nodes.now) g.nodes.now g.edges.now g.links.now)) [] c.requires.1, zeros_spare)
+inside : (c : After-build_rows-count) → c.build_rows-count.result ≤ length c.build_rows-count.new.built.rows.now
+inside c =
+    let g = c.args in
+    let e = c.build_rows-count.ensures.laid in
+    rows_inside (job_lent g.standing g.lists g.bounds.now) c.build_rows-count.result (built_in g.built.now g.nodes.now g.edges.now g.links.now) _ c.requires.1 e.0 e.1 e.2
+
+pub slice_bounds-prepare-end : goal.slice_bounds-prepare-end
+slice_bounds-prepare-end c = inside (goal.at.slice_bounds-prepare-end c).After-build_rows-count
 
 pub slice_bounds-prepare-end-2 : goal.slice_bounds-prepare-end-2
-slice_bounds-prepare-end-2 c =
-    let e = c.build_rows-count.ensures in
-    sym (length-take-le c.build_rows-count.result _ (rows_inside ((let g = c.args in job_in g.standing g.raw_conditions.now g.raw_weights.now g.thresholds.now g.bounds.now)) c.build_rows-count.result ((let g = c.args in built (held_rows g.row_conditions.now g.row_weights.now g.rows.now g.guard_bounds.now g.guard_nodes.now) g.nodes.now g.edges.now g.links.now)) _ c.requires.1 e.0 e.1 e.2))
+slice_bounds-prepare-end-2 c = sym (length-take-le c.build_rows-count.result c.build_rows-count.new.built.rows.now (inside (goal.at.slice_bounds-prepare-end-2 c).After-build_rows-count))
 
 pub prepare-requires : goal.prepare-requires
 prepare-requires c =
-    let e = c.build_rows-count.ensures in
-    linkable ((let g = c.args in job_in g.standing g.raw_conditions.now g.raw_weights.now g.thresholds.now g.bounds.now)) c.build_rows-count.result ((let g = c.args in built (held_rows g.row_conditions.now g.row_weights.now g.rows.now g.guard_bounds.now g.guard_nodes.now) g.nodes.now g.edges.now g.links.now)) _ c.requires.1 e.0 e.1 e.2 c.requires.2
+    let g = c.args in
+    let e = c.build_rows-count.ensures.laid in
+    linkable (job_lent g.standing g.lists g.bounds.now) c.build_rows-count.result (built_in g.built.now g.nodes.now g.edges.now g.links.now) _ c.requires.1 e.0 e.1 e.2 c.requires.2
 
-pub returns : goal.returns
-returns c =
-    let e = c.build_rows-count.ensures in
-    (e.0, all_built ((let g = c.args in job_in g.standing g.raw_conditions.now g.raw_weights.now g.thresholds.now g.bounds.now)) c.build_rows-count.result ((let g = c.args in built (held_rows g.row_conditions.now g.row_weights.now g.rows.now g.guard_bounds.now g.guard_nodes.now) g.nodes.now g.edges.now g.links.now)) _ c.requires.1 e.0 e.1 e.2 _ _ c.prepare.ensures)
+pub returns-clause-laid : goal.returns-clause-laid
+returns-clause-laid c =
+    let g = c.args in
+    let e = c.build_rows-count.ensures.laid in
+    (e.0, all_built (job_lent g.standing g.lists g.bounds.now) c.build_rows-count.result (built_in g.built.now g.nodes.now g.edges.now g.links.now) _ c.requires.1 e.0 e.1 e.2 _ _ c.prepare.ensures)

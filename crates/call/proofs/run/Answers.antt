@@ -1,16 +1,20 @@
 -- `run` meets its contract: the test of all lengths, then what the three phases leave, one behind the other.
-use mathlib.Core.Path.{◌≡◌}
+use mathlib.Core.Path.{◌≡◌, ap, ◌∙◌}
 use mathlib.Core.Bool.{true}
-use Rattle.memory.specs.Buffers.{raw_lists, raw, held_rows, Built, built, Kept, kept, Work, work, fits}
+use Rattle.memory.specs.Buffers.{raw_lists, raw, held_rows, built, kept, work, fits}
 use Rattle.memory.specs.LengthsLaws.{fits_sized}
+use Rattle.files.specs.declared.Given.{Given}
+use Rattle.files.specs.Contents.{out}
 use Rattle.call.specs.RunLaws.{raw_room, built_room, links_room, long, whole-none, serve_asks, whole_all}
 use Rattle.call.proofs.run.Goals as goal
 
 pub returns-then-short : goal.returns-then-short
 returns-then-short c =
-    let t = c.short in
-    let h = whole-none c.args.input.now ((let a = c.args in work (raw (raw_lists a.raw_conditions.now a.raw_weights.now a.thresholds.now) a.bounds.now) (built (held_rows a.row_conditions.now a.row_weights.now a.rows.now a.guard_bounds.now a.guard_nodes.now) a.nodes.now a.edges.now a.links.now) (kept a.figures.now a.cursors.now a.sure.now a.never.now a.search.now a.gcds.now a.node_queue.now a.row_queues.now a.answers.now))) t.result t.ensures c.if-short.true in
-    h
+    let a = c.args in
+    let w = work (raw (raw_lists a.raw_conditions.now a.raw_weights.now a.thresholds.now) a.bounds.now)
+    (built (held_rows a.row_conditions.now a.row_weights.now a.rows.now a.guard_bounds.now a.guard_nodes.now) a.nodes.now a.edges.now a.links.now)
+    (kept a.figures.now a.cursors.now a.sure.now a.never.now a.search.now a.gcds.now a.node_queue.now a.row_queues.now a.answers.now) in
+    ap (λ (g : Given). out g w) c.too_short.ensures ∙ whole-none a.input.now w c.short.result c.short.ensures c.if-short.true
 
 pub read-job-requires : goal.read-job-requires
 read-job-requires c =
@@ -105,7 +109,7 @@ returns c =
     let w = (let a = c.args in work (raw (raw_lists a.raw_conditions.now a.raw_weights.now a.thresholds.now) a.bounds.now) (built (held_rows a.row_conditions.now a.row_weights.now a.rows.now a.guard_bounds.now a.guard_nodes.now) a.nodes.now a.edges.now a.links.now) (kept a.figures.now a.cursors.now a.sure.now a.never.now a.search.now a.gcds.now a.node_queue.now a.row_queues.now a.answers.now)) in
     let y = (let it : fits c.args.input.now ((let a = c.args in work (raw (raw_lists a.raw_conditions.now a.raw_weights.now a.thresholds.now) a.bounds.now) (built (held_rows a.row_conditions.now a.row_weights.now a.rows.now a.guard_bounds.now a.guard_nodes.now) a.nodes.now a.edges.now a.links.now) (kept a.figures.now a.cursors.now a.sure.now a.never.now a.search.now a.gcds.now a.node_queue.now a.row_queues.now a.answers.now))) ≡ true = let t = c.short in long c.args.input.now ((let a = c.args in work (raw (raw_lists a.raw_conditions.now a.raw_weights.now a.thresholds.now) a.bounds.now) (built (held_rows a.row_conditions.now a.row_weights.now a.rows.now a.guard_bounds.now a.guard_nodes.now) a.nodes.now a.edges.now a.links.now) (kept a.figures.now a.cursors.now a.sure.now a.never.now a.search.now a.gcds.now a.node_queue.now a.row_queues.now a.answers.now))) t.result t.ensures c.if-short.false in it) in
     let h = whole_all x w y c.read-job.result c.read-job.new.raw_conditions c.read-job.new.raw_weights c.read-job.new.thresholds c.read-job.new.bounds c.read-job.ensures ((built (held_rows c.build-count.new.row_conditions c.build-count.new.row_weights c.build-count.new.rows c.build-count.new.guard_bounds c.build-count.new.guard_nodes) c.build-count.new.nodes c.build-count.new.edges c.build-count.new.links)) c.build-count.result
-    c.build-count.ensures ((kept c.serve-end.new.figures c.serve-end.new.cursors c.serve-end.new.sure c.serve-end.new.never c.serve-end.new.search c.serve-end.new.gcds c.serve-end.new.node_queue c.serve-end.new.row_queues c.serve-end.new.answers)) c.serve-end.result c.serve-end.ensures in
+    c.build-count.ensures ((kept c.serve-end.new.figures c.serve-end.new.cursors c.serve-end.new.sure c.serve-end.new.never c.serve-end.new.search c.serve-end.new.gcds c.serve-end.new.node_queue c.serve-end.new.row_queues c.serve-end.new.answers)) c.serve-end.result c.serve-end.ensures c.number-refused.result c.number-refused.ensures in
     h
 
 pub short-requires : goal.short-requires

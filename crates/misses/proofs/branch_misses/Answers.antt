@@ -15,5 +15,5 @@ pub returns : goal.returns
 returns c =
     let g = c.args in
     c.misses.ensures
-    ∙ ap₂ (λ (x y : ℕ). misses g.base x y g.divisor) c.larger-from.ensures c.smaller-to.ensures
+    ∙ ap₂ (λ (x y : ℕ). misses g.base x y g.divisor) c.max-from.ensures c.min-to.ensures
     ∙ sym (branch_open g.base g.maximum g.lower g.upper g.divisor (search rules))

@@ -2,9 +2,7 @@
 -- right one falls.
 use Prim.Native.Nat.{ℕ}
 use native.Mathlib.Omega.{arith}
-use native.Mathlib.Nat.{mod-lt}
-use mathlib.Core.Path.{◌≡◌, refl, sym, ap, ◌∙◌}
-use borrow.Author.Rules.{rules}
+use mathlib.Core.Path.{sym, ap, ◌∙◌}
 use Rattle.divisors.specs.Gcd.{gcd}
 use Rattle.divisors.specs.GcdLaws.{gcd-none, gcd-zero, gcd_step, gcd_multiple}
 use Rattle.misses.proofs.gcd.Goals as goal
@@ -19,22 +17,10 @@ returns-then-left-eq1 c =
     let g = c.args in
     sym (ap (λ (x : ℕ). gcd x g.right) c.if-left-eq1.true ∙ gcd_multiple 1 g.right (omega arith))
 
-pub nonzero_rem-right : goal.nonzero_rem-right
-nonzero_rem-right c = omega arith
-
 pub returns-then-right-left-eq0 : goal.returns-then-right-left-eq0
 returns-then-right-left-eq0 c =
     let g = c.args in
     sym (gcd_multiple g.left g.right c.if-right-left-eq0.true)
-
-pub loop-b-init : goal.loop-b-init
-loop-b-init c = refl
-
-pub nonzero_rem-remainder : goal.nonzero_rem-remainder
-nonzero_rem-remainder c = omega arith
-
-pub loop-b-smaller : goal.loop-b-smaller
-loop-b-smaller c = mod-lt c.loop-b.a (omega arith)
 
 pub loop-b-preserved : goal.loop-b-preserved
 loop-b-preserved c =

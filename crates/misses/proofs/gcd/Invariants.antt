@@ -1,11 +1,6 @@
 -- What the loops of `misses::gcd` keep, and what falls.
-use Prim.Native.Nat.{ℕ}
-use native.Mathlib.Omega.{arith}
-use native.Mathlib.Nat.{mod-lt}
-use mathlib.Core.Path.{◌≡◌, refl, sym, ap, ◌∙◌}
-use borrow.Author.Rules.{rules}
+use mathlib.Core.Path.{◌≡◌}
 use Rattle.divisors.specs.Gcd.{gcd}
-use Rattle.divisors.specs.GcdLaws.{gcd-none, gcd-zero, gcd_step, gcd_multiple}
 use Rattle.misses.proofs.gcd.Given as goal
 
 abbrev pub invariant-loop-b : goal.invariant-loop-b

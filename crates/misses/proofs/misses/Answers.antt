@@ -1,8 +1,6 @@
 -- `misses::misses` meets its contract: each answer rewrites the definition by the tests that led there.
 use Prim.Native.Nat.{◌-◌, ◌%◌}
 use native.Mathlib.Omega.{arith}
-use native.Mathlib.Nat.{mod-lt}
-use borrow.Author.Rules.{rules}
 use borrow.Author.Tests.{lt-ltb, le-ltb, eq-eqb, ne_eqb}
 use Rattle.misses.specs.Misses.{misses}
 use Rattle.misses.proofs.misses.Goals as goal
@@ -28,11 +26,6 @@ returns-then-remainder-eq0 c =
       eq-eqb ((g.lower - g.base) % g.divisor) 0 c.if-remainder-eq0.true,
       le-ltb (g.upper - g.lower) 0 (omega arith),
     )
-
-pub overflow_sub-distance : goal.overflow_sub-distance
-overflow_sub-distance c =
-    let g = c.args in
-    omega (arith, mod-lt (g.lower - g.base) {m = g.divisor} (omega arith))
 
 pub returns : goal.returns
 unfolding misses

@@ -8,52 +8,52 @@ use Rattle.notice.specs.Notice.{meaning}
 use Rattle.notice.specs.NoticeLaws.{meaning_other}
 use Rattle.notice.proofs.meaning.Goals as goal
 
-pub returns-in-1 : goal.returns-in-1
+pub returns-in-1-clause-wrote : goal.returns-in-1-clause-wrote
 unfolding meaning text
-returns-in-1 c =
-    wrote_as (omega arith) (ap meaning (sym c.in-1.is)) c.put.ensures
+returns-in-1-clause-wrote c =
+    wrote_as (omega arith) (ap meaning (sym c.in-1.is)) c.put.ensures.wrote
 
-pub returns-in-2 : goal.returns-in-2
+pub returns-in-2-clause-wrote : goal.returns-in-2-clause-wrote
 unfolding meaning text
-returns-in-2 c =
-    wrote_as (omega arith) (ap meaning (sym c.in-2.is)) c.put-in-2.ensures
+returns-in-2-clause-wrote c =
+    wrote_as (omega arith) (ap meaning (sym c.in-2.is)) c.put-in-2.ensures.wrote
 
-pub returns-in-3 : goal.returns-in-3
+pub returns-in-3-clause-wrote : goal.returns-in-3-clause-wrote
 unfolding meaning text
-returns-in-3 c =
-    wrote_as (omega arith) (ap meaning (sym c.in-3.is)) c.put-in-3.ensures
+returns-in-3-clause-wrote c =
+    wrote_as (omega arith) (ap meaning (sym c.in-3.is)) c.put-in-3.ensures.wrote
 
-pub returns-in-4 : goal.returns-in-4
+pub returns-in-4-clause-wrote : goal.returns-in-4-clause-wrote
 unfolding meaning text
-returns-in-4 c =
-    wrote_as (omega arith) (ap meaning (sym c.in-4.is)) c.put-in-4.ensures
+returns-in-4-clause-wrote c =
+    wrote_as (omega arith) (ap meaning (sym c.in-4.is)) c.put-in-4.ensures.wrote
 
-pub returns-in-5 : goal.returns-in-5
+pub returns-in-5-clause-wrote : goal.returns-in-5-clause-wrote
 unfolding meaning text
-returns-in-5 c =
-    wrote_as (omega arith) (ap meaning (sym c.in-5.is)) c.put-in-5.ensures
+returns-in-5-clause-wrote c =
+    wrote_as (omega arith) (ap meaning (sym c.in-5.is)) c.put-in-5.ensures.wrote
 
-pub returns-in-6 : goal.returns-in-6
+pub returns-in-6-clause-wrote : goal.returns-in-6-clause-wrote
 unfolding meaning text
-returns-in-6 c =
-    wrote_as (omega arith) (ap meaning (sym c.in-6.is)) c.put-in-6.ensures
+returns-in-6-clause-wrote c =
+    wrote_as (omega arith) (ap meaning (sym c.in-6.is)) c.put-in-6.ensures.wrote
 
-pub returns-in-7 : goal.returns-in-7
+pub returns-in-7-clause-wrote : goal.returns-in-7-clause-wrote
 unfolding meaning text
-returns-in-7 c =
-    wrote_as (omega arith) (ap meaning (sym c.in-7.is)) c.put-in-7.ensures
+returns-in-7-clause-wrote c =
+    wrote_as (omega arith) (ap meaning (sym c.in-7.is)) c.put-in-7.ensures.wrote
 
-pub returns-in-8 : goal.returns-in-8
+pub returns-in-8-clause-wrote : goal.returns-in-8-clause-wrote
 unfolding meaning text
-returns-in-8 c =
-    wrote_as (omega arith) (ap meaning (sym c.in-8.is)) c.put-in-8.ensures
+returns-in-8-clause-wrote c =
+    wrote_as (omega arith) (ap meaning (sym c.in-8.is)) c.put-in-8.ensures.wrote
 
-pub returns-in-9 : goal.returns-in-9
+pub returns-in-9-clause-wrote : goal.returns-in-9-clause-wrote
 unfolding meaning text
-returns-in-9 c =
-    wrote_as (omega arith) (ap meaning (sym c.in-9.is)) c.put-in-9.ensures
+returns-in-9-clause-wrote c =
+    wrote_as (omega arith) (ap meaning (sym c.in-9.is)) c.put-in-9.ensures.wrote
 
-pub returns-in_default : goal.returns-in_default
+pub returns-in_default-clause-wrote : goal.returns-in_default-clause-wrote
 unfolding text
-returns-in_default c =
-    wrote_as (omega arith) (sym (meaning_other c.args.number c.in_default.in_default-own.rest)) c.put-in_default.ensures
+returns-in_default-clause-wrote c =
+    wrote_as (omega arith) (sym (meaning_other c.args.number (search rules))) c.put-in_default.ensures.wrote

@@ -1,5 +1,4 @@
 -- `prepare::order_keys` meets its contract. Assumes nothing.
-use native.Mathlib.Omega.{arith}
 use lib.ListN.{length}
 use lib.Seq.{length-take-le}
 use Rattle.sort.specs.Sorted.{sorted}
@@ -7,24 +6,8 @@ use Rattle.sort.specs.SortedLaws.{length-sorted}
 use Rattle.rows.specs.Guards.{guard_keys}
 use Rattle.rows.specs.GuardsLaws.{length_keys}
 use Rattle.prepare.specs.PreparePartsLaws.{keys_over, spare_kept}
-use mathlib.Core.Path.{◌∙◌, sym}
-use borrow.Author.Rules.{rules}
+use mathlib.Core.Path.{◌∙◌}
 use Rattle.prepare.proofs.order_keys.Goals as goal
-
-pub slice_bounds-order_guards-end-2 : goal.slice_bounds-order_guards-end-2
-slice_bounds-order_guards-end-2 c = let g = c.args in
-    sym (length-take-le (length g.bounds.now) g.scratch.now c.requires.3)
-
-pub slice_bounds-order_guards-end-4 : goal.slice_bounds-order_guards-end-4
-slice_bounds-order_guards-end-4 c = let g = c.args in
-    sym (length-take-le (length g.bounds.now) g.row_weights.now c.requires.2)
-
-pub order_guards-requires : goal.order_guards-requires
-order_guards-requires c = let g = c.args in
-    let p = c.requires in
-    let a = length-take-le (length g.bounds.now) g.scratch.now p.3 in
-    let b = length-take-le (length g.bounds.now) g.row_weights.now p.2 in
-    (a, p.0, p.1, omega arith)
 
 pub returns : goal.returns
 returns c = let g = c.args in

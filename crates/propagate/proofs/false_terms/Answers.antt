@@ -8,7 +8,6 @@ use lib.Signed.{mag}
 use mir.Syntax.{w64}
 use mir.Val.{to_z, of_z}
 use mir.Facts.{to_z-of_z}
-use borrow.Author.Rules.{rules}
 use Rattle.base.specs.SignedLaws.{sub_sfits}
 use Rattle.numeric.specs.Slices.{terms}
 use Rattle.numeric.specs.TermsLaws.{length-terms}
@@ -23,38 +22,28 @@ use Rattle.row_runs.specs.Row.{ran}
 use Rattle.row_runs.proofs.RowLaws.{stay_false, false-none, false-forced, forced_within, signed}
 use Rattle.propagate.proofs.false_terms.Goals as goal
 
-pub overflow_sub-cutoff : goal.overflow_sub-cutoff
-overflow_sub-cutoff c =
-    let a = c.args in
-    let p = c.requires in
-    let v = c.in-Under.limit in
-    let l : limit a.state.upper ≡ v = ap limit c.in-Under.is in
-    let hu : to_z w64 (of_z w64 v) ≡ v = signed v (omega (arith, p.1.upper, ap mag l)) in
-    let hk : to_z w64 (of_z w64 a.state.known) ≡ a.state.known = signed a.state.known p.1.known in
-    simp (hu, hk) (sub_sfits v a.state.known (omega (arith, p.1.upper, p.1.known, ap mag l)))
-
-pub returns-in-Open : goal.returns-in-Open
-returns-in-Open c =
+pub returns-in-None : goal.returns-in-None
+returns-in-None c =
     let a = c.args in
     let m = marks a.sure.now a.never.now (queue a.node_queue.now a.ring) in
-    (ap (λ (y : State). ran y m Unchanged) (sym (stay_false a.state)) ∙ false-none (terms a.conditions.now a.weights.now) a.state m (ap limited c.in-Open.is), omega arith)
+    (ap (λ (y : State). ran y m Unchanged) (sym (stay_false a.state)) ∙ false-none (terms a.terms.conditions.now a.terms.weights.now) a.state m (ap limited c.in-None.is), omega arith)
 
-pub returns-in-Under : goal.returns-in-Under
-returns-in-Under c =
+pub returns-in-Some : goal.returns-in-Some
+returns-in-Some c =
     let a = c.args in
     let p = c.requires in
     let f = c.forced_terms in
     let s = a.state in
-    let v = c.in-Under.limit in
-    let l : limit s.upper ≡ v = ap limit c.in-Under.is in
+    let v = c.in-Some.limit in
+    let l : limit s.upper ≡ v = ap limit c.in-Some.is in
     let hu : to_z w64 (of_z w64 v) ≡ v = signed v (omega (arith, p.1.upper, ap mag l)) in
     let hk : to_z w64 (of_z w64 s.known) ≡ s.known = signed s.known p.1.known in
-    let ts = terms a.conditions.now a.weights.now in
+    let ts = terms a.terms.conditions.now a.terms.weights.now in
     let m = marks a.sure.now a.never.now (queue a.node_queue.now a.ring) in
     let z = to_z w64 (of_z w64 (to_z w64 (of_z w64 v) -ℤ to_z w64 (of_z w64 s.known))) in
     let d : to_z w64 (of_z w64 (v -ℤ s.known)) ≡ v -ℤ s.known = to_z-of_z (sub_sfits v s.known (omega (arith, p.1.upper, p.1.known, ap mag l))) in
     let scan = scanned f.result.passed (marks f.new.sure f.new.never (queue f.new.node_queue f.result.ring)) f.result.step in
     let next = with_terms s s.true_term (s.false_term + f.result.passed) in (
-      false-forced ts s m z scan next (ap limited c.in-Under.is) (simp (hu, hk, d) (ap (λ (y : ℤ). y -ℤ s.known) (sym l))) f.ensures refl,
-      omega (arith, forced_within false (light (cut false z)) ts s.false_term m, ap (λ (x : Scanned). x.passed) f.ensures, length-terms a.conditions.now a.weights.now),
+      false-forced ts s m z scan next (ap limited c.in-Some.is) (simp (hu, hk, d) (ap (λ (y : ℤ). y -ℤ s.known) (sym l))) f.ensures refl,
+      omega (arith, forced_within false (light (cut false z)) ts s.false_term m, ap (λ (x : Scanned). x.passed) f.ensures, length-terms a.terms.conditions.now a.terms.weights.now),
     )

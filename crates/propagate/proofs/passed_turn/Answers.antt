@@ -7,7 +7,6 @@ use Rattle.queues.specs.Marks.{decided}
 use Rattle.row_runs.specs.Scan.{scanned}
 use Rattle.row_runs.specs.Turns.{turn}
 use Rattle.row_runs.proofs.ScanLaws.{turn_stops, turn_on}
-use borrow.Author.Rules.{rules}
 use Rattle.propagate.proofs.passed_turn.Goals as goal
 
 pub returns-then-contradicts : goal.returns-then-contradicts
@@ -18,7 +17,7 @@ returns-then-contradicts c =
 pub returns : goal.returns
 returns c =
     let a = c.args in (
-      λ m n. ap (λ (k : Step). turn (scanned (a.scan.passed + 1) m k) false) c.join-joined.ensures
+      λ m n. ap (λ (k : Step). turn (scanned (a.scan.passed + 1) m k) false) c.join-step.ensures
           ∙ sym (turn_on (decided m a.made.step) (scanned a.scan.passed n a.scan.step) (sym c.contradicts.ensures ∙ c.if-contradicts.false)),
       refl,
     )

@@ -1,33 +1,18 @@
--- What the loops of `propagate::sure_guards` keep, and what falls.
-use Prim.Native.Nat.{◌+◌, ◌-◌, ◌≤◌}
-use native.Mathlib.Omega.{arith}
-use mathlib.Core.Path.{◌≡◌, refl, sym, ap, ◌∙◌}
+-- What the loop of `propagate::sure_guards` keeps.
+use Prim.Native.Nat.{◌+◌, ◌≤◌}
+use mathlib.Core.Path.{◌≡◌}
 use mathlib.Core.Bool.{true}
-use mathlib.Core.List.{List, [], ◌∷◌}
-use lib.ListN.{length, get_or, drop, drop_of_length-le}
-use lib.IntN.{pos}
-use mir.Syntax.{w64}
-use mir.Val.{to_z, of_z}
-use borrow.Author.Rules.{rules}
-use Rattle.rows.specs.Rows.{Guard, guard}
+use lib.ListN.{length, drop}
 use Rattle.queues.specs.Queue.{queue}
 use Rattle.queues.specs.Marks.{marks}
-use Rattle.queues.proofs.MarksLaws.{waits-decide}
 use Rattle.queues.specs.Waiting.{Waits}
-use Rattle.row_runs.specs.Scan.{scan, scanned}
-use Rattle.row_runs.specs.Turns.{turn}
-use Rattle.row_runs.proofs.ScanLaws.{place-ends, place_goes, place_passed, place_keeps, scan-none}
-use Rattle.row_runs.specs.GuardsLaws.{up_guards, length-guards}
+use Rattle.row_runs.specs.Scan.{scan}
 use Rattle.row_runs.specs.Guards.{guards}
 use Rattle.row_runs.specs.Row.{decides, sure_guards, sure_waits}
 use Rattle.propagate.proofs.sure_guards.Given as goal
 
 abbrev pub invariant-loop-at : goal.invariant-loop-at
 invariant-loop-at l =
-    (l.at ≡ l.state.sure_guard + l.so_far.passed) × (l.so_far.passed ≤ length l.bounds) × (length l.sure ≡ length l.initial.sure) × (length l.never ≡ length l.initial.never) × (length l.node_queue ≡ length l.initial.node_queue)
-    × Waits (marks l.sure l.never (queue l.node_queue l.so_far.ring))
-    × (scan (sure_waits l.state) (decides true) (drop l.at (guards l.bounds l.names)) l.so_far.passed (marks l.sure l.never (queue l.node_queue l.so_far.ring)) l.so_far.step
-    ≡ sure_guards (guards l.bounds l.names) l.state (marks l.initial.sure l.initial.never (queue l.initial.node_queue l.initial.so_far.ring)))
-
-abbrev pub decreases-loop-at : goal.decreases-loop-at
-decreases-loop-at l = length l.bounds - l.at
+    (l.at ≡ l.state.sure_guard + l.so_far.passed) × (l.so_far.passed ≤ length l.guards.bounds.now) × Waits (marks l.sure l.never (queue l.node_queue l.so_far.ring))
+    × (scan (sure_waits l.state) (decides true) (drop l.at (guards l.guards.bounds.now l.guards.nodes.now)) l.so_far.passed (marks l.sure l.never (queue l.node_queue l.so_far.ring)) l.so_far.step
+    ≡ sure_guards (guards l.guards.bounds.now l.guards.nodes.now) l.state (marks l.initial.sure l.initial.never (queue l.initial.node_queue l.initial.so_far.ring)))

@@ -1,7 +1,6 @@
 -- `propagate::threshold_guards` meets its contract: the scan up, and the scan down where it did not contradict.
 use native.Mathlib.Omega.{arith}
 use mathlib.Core.Path.{◌≡◌, sym, ap, ◌∙◌}
-use borrow.Author.Rules.{rules}
 use Rattle.queues.specs.Queue.{queue}
 use Rattle.queues.specs.Marks.{marks}
 use Rattle.row_runs.specs.Scan.{Scanned, scanned}
@@ -10,61 +9,49 @@ use Rattle.row_runs.specs.Guards.{guards}
 use Rattle.row_runs.proofs.RowLaws.{sure_within, never_within, sure_keeps, guards_stop, guards_more}
 use Rattle.propagate.proofs.threshold_guards.Goals as goal
 
-pub sure_guards-first-requires : goal.sure_guards-first-requires
-sure_guards-first-requires c = let p = c.requires in (p.0, p.2)
-
 pub overflow_add-up : goal.overflow_add-up
 overflow_add-up c =
     let a = c.args in
-    let gs = guards a.bounds.now a.names.now in
+    let gs = guards a.guards.bounds.now a.guards.nodes.now in
     let m = marks a.sure.now a.never.now (queue a.node_queue.now a.ring) in
-    omega (arith, sure_within gs a.state m, ap (λ (x : Scanned). x.passed) c.sure_guards-first.ensures, length-guards a.bounds.now a.names.now)
+    omega (arith, sure_within gs a.state m, ap (λ (x : Scanned). x.passed) c.sure_guards-first.ensures, length-guards a.guards.bounds.now a.guards.nodes.now)
 
 pub returns-then-contradicts : goal.returns-then-contradicts
 returns-then-contradicts c =
     let a = c.args in
     let f = c.sure_guards-first in
-    let gs = guards a.bounds.now a.names.now in
+    let gs = guards a.guards.bounds.now a.guards.nodes.now in
     let m = marks a.sure.now a.never.now (queue a.node_queue.now a.ring) in
     guards_stop gs a.state m (scanned f.result.passed (marks f.new.sure f.new.never (queue f.new.node_queue f.result.ring)) f.result.step) f.ensures
-    c.with_guards-moved.result (sym c.contradicts.ensures ∙ c.if-contradicts.true) c.with_guards-moved.ensures
+    c.with_guards.result (sym c.contradicts.ensures ∙ c.if-contradicts.true) c.with_guards.ensures
 
 pub never_guards-second-requires : goal.never_guards-second-requires
 never_guards-second-requires c =
     let a = c.args in
     let p = c.requires in
     let f = c.sure_guards-first in
-    let gs = guards a.bounds.now a.names.now in
+    let gs = guards a.guards.bounds.now a.guards.nodes.now in
     let m = marks a.sure.now a.never.now (queue a.node_queue.now a.ring) in
     let e : marks f.new.sure f.new.never (queue f.new.node_queue f.result.ring) ≡ _ = ap (λ (x : Scanned). x.marks) f.ensures in
-    (p.0, p.1, rw e (sure_keeps gs a.state m (all_guards a.bounds.now a.names.now p.0.below) p.2))
+    (p.0, p.1, rw e (sure_keeps gs a.state m (all_guards a.guards.bounds.now a.guards.nodes.now p.0.below) p.2))
 
 pub overflow_sub-low : goal.overflow_sub-low
 overflow_sub-low c =
     let a = c.args in
     let f = c.sure_guards-first in
     let n = c.never_guards-second in
-    let gs = guards a.bounds.now a.names.now in
+    let gs = guards a.guards.bounds.now a.guards.nodes.now in
     let m = marks f.new.sure f.new.never (queue f.new.node_queue f.result.ring) in
     omega (arith, never_within gs a.state m f.result.step, ap (λ (x : Scanned). x.passed) n.ensures)
-
-pub shape_of-sure : goal.shape_of-sure
-shape_of-sure c = c.never_guards-second.auto.sure ∙ c.sure_guards-first.auto.sure
-
-pub shape_of-never : goal.shape_of-never
-shape_of-never c = c.never_guards-second.auto.never ∙ c.sure_guards-first.auto.never
-
-pub shape_of-node_queue : goal.shape_of-node_queue
-shape_of-node_queue c = c.never_guards-second.auto.node_queue ∙ c.sure_guards-first.auto.node_queue
 
 pub returns : goal.returns
 returns c =
     let a = c.args in
     let f = c.sure_guards-first in
     let n = c.never_guards-second in
-    let gs = guards a.bounds.now a.names.now in
+    let gs = guards a.guards.bounds.now a.guards.nodes.now in
     let m = marks a.sure.now a.never.now (queue a.node_queue.now a.ring) in
     guards_more gs a.state m (scanned f.result.passed (marks f.new.sure f.new.never (queue f.new.node_queue f.result.ring)) f.result.step) f.ensures
-    c.with_guards-moved-2.result (sym c.contradicts.ensures ∙ c.if-contradicts.false)
+    c.with_guards-2.result (sym c.contradicts.ensures ∙ c.if-contradicts.false)
     (scanned n.result.passed (marks n.new.sure n.new.never (queue n.new.node_queue n.result.ring)) n.result.step) n.ensures
-    c.with_guards-moved-2.ensures
+    c.with_guards-2.ensures

@@ -1,6 +1,5 @@
 -- `propagate::threshold_row` meets its contract: a conflict, a contradiction of the guards, or the terms after them.
 use mathlib.Core.Path.{sym, ◌∙◌}
-use borrow.Author.Rules.{rules}
 use Rattle.numeric.specs.Slices.{terms}
 use Rattle.queues.specs.Queue.{queue}
 use Rattle.queues.specs.Marks.{marks}
@@ -14,17 +13,14 @@ use Rattle.propagate.proofs.threshold_row.Goals as goal
 pub returns-then-conflict : goal.returns-then-conflict
 returns-then-conflict c =
     let a = c.args in
-    λ raw. row-conflict (row_of raw (terms a.conditions.now a.weights.now) (guards a.bounds.now a.names.now)) a.state
+    λ raw. row-conflict (row_of raw (terms a.row.terms.conditions.now a.row.terms.weights.now) (guards a.row.guards.bounds.now a.row.guards.nodes.now)) a.state
     (marks a.sure.now a.never.now (queue a.node_queue.now a.ring)) (sym c.conflict.ensures ∙ c.if-conflict.true)
-
-pub threshold_guards-first-requires : goal.threshold_guards-first-requires
-threshold_guards-first-requires c = let p = c.requires in (p.1, p.3, p.4)
 
 pub returns-then-contradicts : goal.returns-then-contradicts
 returns-then-contradicts c =
     let a = c.args in
     let f = c.threshold_guards-first in
-    λ raw. row-guards (row_of raw (terms a.conditions.now a.weights.now) (guards a.bounds.now a.names.now)) a.state
+    λ raw. row-guards (row_of raw (terms a.row.terms.conditions.now a.row.terms.weights.now) (guards a.row.guards.bounds.now a.row.guards.nodes.now)) a.state
     (marks a.sure.now a.never.now (queue a.node_queue.now a.ring)) (sym c.conflict.ensures ∙ c.if-conflict.false)
     (ran f.result.state (marks f.new.sure f.new.never (queue f.new.node_queue f.result.ring)) f.result.step)
     f.ensures (sym c.contradicts.ensures ∙ c.if-contradicts.true)
@@ -35,26 +31,17 @@ threshold_terms-requires c =
     let p = c.requires in
     let f = c.threshold_guards-first in
     let m = marks a.sure.now a.never.now (queue a.node_queue.now a.ring) in
-    let gs = guards a.bounds.now a.names.now in
+    let gs = guards a.row.guards.bounds.now a.row.guards.nodes.now in
     let k = kept_by_lem a.state (ran f.result.state (marks f.new.sure f.new.never (queue f.new.node_queue f.result.ring)) f.result.step)
-    (threshold_guards gs a.state m) f.ensures (kept-guards gs a.state m (all_guards a.bounds.now a.names.now p.1.below) p.4) in
+    (threshold_guards gs a.state m) f.ensures (kept-guards gs a.state m (all_guards a.row.guards.bounds.now a.row.guards.nodes.now p.1.below) p.4) in
     (p.0, figures-moved a.state f.result.state k.moved p.2, k.waits)
-
-pub shape_of-sure : goal.shape_of-sure
-shape_of-sure c = c.threshold_terms.auto.sure ∙ c.threshold_guards-first.auto.sure
-
-pub shape_of-never : goal.shape_of-never
-shape_of-never c = c.threshold_terms.auto.never ∙ c.threshold_guards-first.auto.never
-
-pub shape_of-node_queue : goal.shape_of-node_queue
-shape_of-node_queue c = c.threshold_terms.auto.node_queue ∙ c.threshold_guards-first.auto.node_queue
 
 pub returns : goal.returns
 returns c =
     let a = c.args in
     let f = c.threshold_guards-first in
     let t = c.threshold_terms in
-    λ raw. row-terms (row_of raw (terms a.conditions.now a.weights.now) (guards a.bounds.now a.names.now)) a.state
+    λ raw. row-terms (row_of raw (terms a.row.terms.conditions.now a.row.terms.weights.now) (guards a.row.guards.bounds.now a.row.guards.nodes.now)) a.state
     (marks a.sure.now a.never.now (queue a.node_queue.now a.ring)) (sym c.conflict.ensures ∙ c.if-conflict.false)
     (ran f.result.state (marks f.new.sure f.new.never (queue f.new.node_queue f.result.ring)) f.result.step)
     f.ensures (sym c.contradicts.ensures ∙ c.if-contradicts.false)

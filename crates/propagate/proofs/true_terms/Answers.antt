@@ -7,7 +7,6 @@ use lib.IntN.{◌-ℤ◌}
 use mir.Syntax.{w64}
 use mir.Val.{to_z, of_z}
 use mir.Facts.{to_z-of_z}
-use borrow.Author.Rules.{rules}
 use Rattle.base.specs.SignedLaws.{sub_sfits}
 use Rattle.numeric.specs.Slices.{terms}
 use Rattle.numeric.specs.TermsLaws.{length-terms}
@@ -22,22 +21,14 @@ use Rattle.row_runs.specs.Row.{ran}
 use Rattle.row_runs.proofs.RowLaws.{stay_true, true-none, true-forced, forced_within, signed}
 use Rattle.propagate.proofs.true_terms.Goals as goal
 
-pub returns-then-known-lower : goal.returns-then-known-lower
-returns-then-known-lower c =
+pub returns-then-state : goal.returns-then-state
+returns-then-state c =
     let a = c.args in
     let p = c.requires in
     let hk : to_z w64 (of_z w64 a.state.known) ≡ a.state.known = signed a.state.known p.1.known in
     let hl : to_z w64 (of_z w64 a.state.lower) ≡ a.state.lower = signed a.state.lower p.1.lower in
     let m = marks a.sure.now a.never.now (queue a.node_queue.now a.ring) in
-    (ap (λ (y : State). ran y m Unchanged) (sym (stay_true a.state)) ∙ true-none (terms a.conditions.now a.weights.now) a.state m (simp (hk, hl) at c.if-known-lower.true), omega arith)
-
-pub overflow_sub-cutoff : goal.overflow_sub-cutoff
-overflow_sub-cutoff c =
-    let a = c.args in
-    let p = c.requires in
-    let hp : to_z w64 (of_z w64 a.state.possible) ≡ a.state.possible = signed a.state.possible p.1.possible in
-    let hl : to_z w64 (of_z w64 a.state.lower) ≡ a.state.lower = signed a.state.lower p.1.lower in
-    simp (hp, hl) (sub_sfits a.state.possible a.state.lower (omega (arith, p.1.possible, p.1.lower)))
+    (ap (λ (y : State). ran y m Unchanged) (sym (stay_true a.state)) ∙ true-none (terms a.terms.conditions.now a.terms.weights.now) a.state m (simp (hk, hl) at c.if-state.true), omega arith)
 
 pub returns : goal.returns
 returns c =
@@ -48,12 +39,12 @@ returns c =
     let hk : to_z w64 (of_z w64 s.known) ≡ s.known = signed s.known p.1.known in
     let hp : to_z w64 (of_z w64 s.possible) ≡ s.possible = signed s.possible p.1.possible in
     let hl : to_z w64 (of_z w64 s.lower) ≡ s.lower = signed s.lower p.1.lower in
-    let ts = terms a.conditions.now a.weights.now in
+    let ts = terms a.terms.conditions.now a.terms.weights.now in
     let m = marks a.sure.now a.never.now (queue a.node_queue.now a.ring) in
     let z = to_z w64 (of_z w64 (to_z w64 (of_z w64 s.possible) -ℤ to_z w64 (of_z w64 s.lower))) in
     let d : to_z w64 (of_z w64 (s.possible -ℤ s.lower)) ≡ s.possible -ℤ s.lower = to_z-of_z (sub_sfits s.possible s.lower (omega (arith, p.1.possible, p.1.lower))) in
     let scan = scanned f.result.passed (marks f.new.sure f.new.never (queue f.new.node_queue f.result.ring)) f.result.step in
     let next = with_terms s (s.true_term + f.result.passed) s.false_term in (
-      true-forced ts s m z scan next (simp (hk, hl) at c.if-known-lower.false) (simp (hp, hl, d)) f.ensures refl,
-      omega (arith, forced_within true (light (cut true z)) ts s.true_term m, ap (λ (x : Scanned). x.passed) f.ensures, length-terms a.conditions.now a.weights.now),
+      true-forced ts s m z scan next (simp (hk, hl) at c.if-state.false) (simp (hp, hl, d)) f.ensures refl,
+      omega (arith, forced_within true (light (cut true z)) ts s.true_term m, ap (λ (x : Scanned). x.passed) f.ensures, length-terms a.terms.conditions.now a.terms.weights.now),
     )

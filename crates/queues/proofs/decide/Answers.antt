@@ -1,19 +1,27 @@
 -- `queues::decide` meets its contract. Assumes nothing.
+use mathlib.Core.Path.{◌∙◌, ap}
+use mathlib.Core.List.{List}
+use Prim.Native.Nat.{ℕ}
 use Rattle.queues.specs.Queue.{queue}
+use Rattle.queues.specs.Marks.{marks, decided}
 use Rattle.queues.proofs.MarksLaws.{decide_sure_lem, decide_never_lem}
-use borrow.Author.Rules.{rules}
 use Rattle.queues.proofs.decide.Goals as goal
-
-pub returns-then-value : goal.returns-then-value
-returns-then-value c =
-    let a = c.args in
-    let l = c.learn-step in
-    decide_sure_lem a.sure.now a.never.now (queue a.node_queue.now a.ring) a.n a.value
-    l.new.mask l.result (queue c.wait-next.new.node_queue c.wait-next.result) c.wait-next.ensures c.if-value.true l.ensures.into l.ensures.step
+use Rattle.queues.proofs.decide.Goals.{then-value, else-value}
 
 pub returns : goal.returns
 returns c =
     let a = c.args in
-    let l = c.learn-step-2 in
-    decide_never_lem a.sure.now a.never.now (queue a.node_queue.now a.ring) a.n a.value
-    l.new.mask l.result (queue c.wait-next-2.new.node_queue c.wait-next-2.result) c.wait-next-2.ensures c.if-value.false l.ensures.into l.ensures.step
+    let i = c.if-value in
+    let q = queue c.wait-ring.new.node_queue c.wait-ring.result in
+    elim i.branch [
+      | then-value w ↦
+          let l = w.learn-step in
+          ap (λ (never : List ℕ). decided (marks i.sure never q) i.step) w.never-is
+          ∙ decide_sure_lem a.sure.now a.never.now (queue a.node_queue.now a.ring) a.n a.value i.sure i.step q c.wait-ring.ensures w.if-value.true
+          (w.sure-is ∙ l.ensures.into) (w.step-is ∙ l.ensures.step)
+      | else-value w ↦
+          let l = w.learn-step-else-value in
+          ap (λ (sure : List ℕ). decided (marks sure i.never q) i.step) w.sure-is
+          ∙ decide_never_lem a.sure.now a.never.now (queue a.node_queue.now a.ring) a.n a.value i.never i.step q c.wait-ring.ensures w.if-value.false
+          (w.never-is ∙ l.ensures.into) (w.step-is ∙ l.ensures.step)
+    ]

@@ -4,7 +4,6 @@ use Prim.Native.Nat.{ℕ}
 use lib.ListN.{set}
 use Rattle.queues.specs.declared.Ring.{Ring}
 use Rattle.queues.specs.Queue.{queue, push}
-use borrow.Author.Rules.{rules}
 use Rattle.queues.proofs.push.Goals as goal
 
 pub returns : goal.returns

@@ -1,6 +1,5 @@
 -- `reading::read_entry` meets its contract: the two fields are added to the job, by the kind that was found.
-use mathlib.Core.Path.{refl}
-use Rattle.reading.specs.HeldLaws.{term_passes, read_term, area_passes, read_area}
+use Rattle.reading.specs.HeldLaws.{read_term, read_area, term_passes, area_passes}
 use borrow.Author.Rules.{rules}
 use Rattle.reading.proofs.read_entry.Goals as goal
 
@@ -9,27 +8,29 @@ add_area-after-requires c =
     let w = c.u32_at-figure in
     let n = c.u16_at-condition in
     let g = c.args in
-    (c.requires.1, c.requires.2, c.requires.3, search rules, area_passes g.input.now g.at g.standing c.requires.0 n.result w.result n.ensures w.ensures c.if-areas.true)
+    ((c.requires.1.listed, c.requires.1.termed), c.requires.2, search rules, area_passes g.input.now g.at g.standing c.requires.0 n.result w.result n.ensures w.ensures c.if-areas.true)
 
-pub returns-then-areas : goal.returns-then-areas
-returns-then-areas c =
+pub returns-then-areas-clause-reads : goal.returns-then-areas-clause-reads
+returns-then-areas-clause-reads c =
     let w = c.u32_at-figure in
     let n = c.u16_at-condition in
     let g = c.args in
     let t = c.add_area-after in
-    (read_area g.input.now g.at g.standing c.requires.0 n.result w.result n.ensures w.ensures c.if-areas.true g.raw_conditions.now g.raw_weights.now g.thresholds.now g.places.now g.sums.now t.result _ _ _ _ _ t.ensures, refl, refl)
+    let so = read_area g.input.now g.at g.standing c.requires.0 n.result w.result n.ensures w.ensures c.if-areas.true _ _ _ _ _ t.result _ _ _ _ _ t.ensures.taken g.raw.now.bounds.now in
+    rw (t.ensures.kept) so
 
 pub add_term-after-requires : goal.add_term-after-requires
 add_term-after-requires c =
     let w = c.u32_at-figure in
     let n = c.u16_at-condition in
     let g = c.args in
-    (c.requires.1, c.requires.2, search rules, term_passes g.input.now g.at g.standing c.requires.0 n.result w.result n.ensures w.ensures c.if-areas.false)
+    ((c.requires.1.listed, c.requires.1.termed), search rules, term_passes g.input.now g.at g.standing c.requires.0 n.result w.result n.ensures w.ensures c.if-areas.false)
 
-pub returns : goal.returns
-returns c =
+pub returns-clause-reads : goal.returns-clause-reads
+returns-clause-reads c =
     let w = c.u32_at-figure in
     let n = c.u16_at-condition in
     let g = c.args in
     let t = c.add_term-after in
-    (read_term g.input.now g.at g.standing c.requires.0 n.result w.result n.ensures w.ensures c.if-areas.false g.raw_conditions.now g.raw_weights.now g.thresholds.now g.places.now g.sums.now t.result _ _ _ t.ensures, refl, refl)
+    let so = read_term g.input.now g.at g.standing c.requires.0 n.result w.result n.ensures w.ensures c.if-areas.false _ _ _ g.notes.now.places.now g.notes.now.sums.now t.result _ _ _ t.ensures.added g.raw.now.bounds.now in
+    rw (t.ensures.kept) so

@@ -18,57 +18,71 @@ open_threshold-requires c =
 
 pub add_term-requires : goal.add_term-requires
 add_term-requires c =
-    (c.requires.0.listed, c.requires.0.termed, search rules, sym (ap (refused_by c.args.standing) c.in-Adds.is) ∙ c.requires.2)
+    ((c.requires.0.listed, c.requires.0.termed), search rules, sym (ap (refused_by c.args.standing) c.in-Adds.is) ∙ c.requires.2)
 
 pub add_area-requires : goal.add_area-requires
 add_area-requires c =
-    (c.requires.0.listed, c.requires.0.termed, c.requires.1, search rules, sym (ap (refused_by c.args.standing) c.in-Areas.is) ∙ c.requires.2)
+    ((c.requires.0.listed, c.requires.0.termed), c.requires.1, search rules, sym (ap (refused_by c.args.standing) c.in-Areas.is) ∙ c.requires.2)
 
-pub returns-in-Header : goal.returns-in-Header
-returns-in-Header c =
+pub returns-in-Header-clause-takes : goal.returns-in-Header-clause-takes
+returns-in-Header-clause-takes c =
     let g = c.args in
-    takes_header g.entry g.standing g.raw_conditions.now g.raw_weights.now g.thresholds.now g.bounds.now g.places.now g.sums.now c.requires.2 _ c.in-Header.is c.begin.result c.begin.ensures
+    takes_header g.entry g.standing _ _ _ _ _ _ c.requires.2 _ c.in-Header.is c.begin.result c.begin.ensures
 
-pub returns-in-Opens : goal.returns-in-Opens
-returns-in-Opens c =
+pub returns-in-Opens-clause-takes : goal.returns-in-Opens-clause-takes
+returns-in-Opens-clause-takes c =
     let g = c.args in
+    let w = g.raw.now in
+    let n = g.notes.now in
+    let t = c.open_threshold in
+    let v = t.new.self in
     let z = c.in-Opens.bound in
     let same : to_z w64 (of_z w64 z) ≡ z = search rules in
-    takes_opens g.entry g.standing g.raw_conditions.now g.raw_weights.now g.thresholds.now g.bounds.now g.places.now g.sums.now c.requires.2 c.in-Opens.node z (to_z w64 (of_z w64 z)) c.in-Opens.is same c.open_threshold.result _ _ c.open_threshold.ensures
+    let so = takes_opens g.entry g.standing w.conditions.now w.weights.now w.thresholds.now w.bounds.now n.places.now n.sums.now c.requires.2 c.in-Opens.node z (to_z w64 (of_z w64 z)) c.in-Opens.is same t.result v.thresholds.now v.bounds.now t.ensures.opened in
+    rw (t.ensures.kept.0, t.ensures.kept.1) so
 
-pub returns-in-Adds : goal.returns-in-Adds
-returns-in-Adds c =
+pub returns-in-Adds-clause-takes : goal.returns-in-Adds-clause-takes
+returns-in-Adds-clause-takes c =
     let g = c.args in
+    let w = g.raw.now in
+    let n = g.notes.now in
     let t = c.add_term in
-    takes_adds g.entry g.standing g.raw_conditions.now g.raw_weights.now g.thresholds.now g.bounds.now g.places.now g.sums.now c.requires.2 _ _ c.in-Adds.is t.result _ _ _ t.ensures
+    let v = t.new.self in
+    let so = takes_adds g.entry g.standing w.conditions.now w.weights.now w.thresholds.now w.bounds.now n.places.now n.sums.now c.requires.2 _ _ c.in-Adds.is t.result v.conditions.now v.weights.now v.thresholds.now t.ensures.added in
+    rw (t.ensures.kept) so
 
-pub returns-in-Areas : goal.returns-in-Areas
-returns-in-Areas c =
+pub returns-in-Areas-clause-takes : goal.returns-in-Areas-clause-takes
+returns-in-Areas-clause-takes c =
     let g = c.args in
+    let w = g.raw.now in
+    let n = g.notes.now in
     let t = c.add_area in
-    takes_areas g.entry g.standing g.raw_conditions.now g.raw_weights.now g.thresholds.now g.bounds.now g.places.now g.sums.now c.requires.2 _ _ _ c.in-Areas.is refl t.result _ _ _ _ _ t.ensures
+    let v = t.new.self in
+    let m = t.new.notes in
+    let so = takes_areas g.entry g.standing w.conditions.now w.weights.now w.thresholds.now w.bounds.now n.places.now n.sums.now c.requires.2 _ _ _ c.in-Areas.is refl t.result v.conditions.now v.weights.now v.thresholds.now m.places.now m.sums.now t.ensures.taken in
+    rw (t.ensures.kept) so
 
-pub returns-in-Seal : goal.returns-in-Seal
-returns-in-Seal c =
+pub returns-in-Seal-clause-takes : goal.returns-in-Seal-clause-takes
+returns-in-Seal-clause-takes c =
     let g = c.args in
-    takes_seal g.entry g.standing g.raw_conditions.now g.raw_weights.now g.thresholds.now g.bounds.now g.places.now g.sums.now c.requires.2 c.in-Seal.is c.requires.4
+    takes_seal g.entry g.standing _ _ _ _ _ _ c.requires.2 c.in-Seal.is c.requires.4
 
-pub returns-in-Mark : goal.returns-in-Mark
-returns-in-Mark c =
+pub returns-in-Mark-clause-takes : goal.returns-in-Mark-clause-takes
+returns-in-Mark-clause-takes c =
     let g = c.args in
-    takes_other g.entry g.standing g.raw_conditions.now g.raw_weights.now g.thresholds.now g.bounds.now g.places.now g.sums.now c.requires.2 _ c.in-Mark.is c.requires.3 (λ z. z)
+    takes_other g.entry g.standing _ _ _ _ _ _ c.requires.2 _ c.in-Mark.is c.requires.3 (λ z. z)
 
-pub returns-in-Settle : goal.returns-in-Settle
-returns-in-Settle c =
+pub returns-in-Settle-clause-takes : goal.returns-in-Settle-clause-takes
+returns-in-Settle-clause-takes c =
     let g = c.args in
-    takes_other g.entry g.standing g.raw_conditions.now g.raw_weights.now g.thresholds.now g.bounds.now g.places.now g.sums.now c.requires.2 _ c.in-Settle.is c.requires.3 (λ z. z)
+    takes_other g.entry g.standing _ _ _ _ _ _ c.requires.2 _ c.in-Settle.is c.requires.3 (λ z. z)
 
-pub returns-in-Sift : goal.returns-in-Sift
-returns-in-Sift c =
+pub returns-in-Sift-clause-takes : goal.returns-in-Sift-clause-takes
+returns-in-Sift-clause-takes c =
     let g = c.args in
-    takes_other g.entry g.standing g.raw_conditions.now g.raw_weights.now g.thresholds.now g.bounds.now g.places.now g.sums.now c.requires.2 _ c.in-Sift.is c.requires.3 (λ z. z)
+    takes_other g.entry g.standing _ _ _ _ _ _ c.requires.2 _ c.in-Sift.is c.requires.3 (λ z. z)
 
-pub returns-in-Unknown : goal.returns-in-Unknown
-returns-in-Unknown c =
+pub returns-in-Unknown-clause-takes : goal.returns-in-Unknown-clause-takes
+returns-in-Unknown-clause-takes c =
     let g = c.args in
-    takes_other g.entry g.standing g.raw_conditions.now g.raw_weights.now g.thresholds.now g.bounds.now g.places.now g.sums.now c.requires.2 _ c.in-Unknown.is c.requires.3 (λ z. z)
+    takes_other g.entry g.standing _ _ _ _ _ _ c.requires.2 _ c.in-Unknown.is c.requires.3 (λ z. z)

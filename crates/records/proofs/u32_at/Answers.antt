@@ -1,9 +1,10 @@
--- `records::u32_at` meets its contract: two numbers of two bytes put together.
-use mathlib.Core.Path.{ap₂, ◌∙◌}
-use Prim.Native.Nat.{ℕ, ◌+◌, ◌*◌}
-use Rattle.records.specs.RecordLaws.{four_bytes}
-use borrow.Author.Rules.{rules}
+-- `records::u32_at` meets its contract: four bytes put together.
+use native.Mathlib.Omega.{arith}
+use Prim.Native.Nat.{◌+◌}
+use Rattle.records.proofs.Bytes.{four}
 use Rattle.records.proofs.u32_at.Goals as goal
 
 pub returns : goal.returns
-returns c = ap₂ (λ (x y : ℕ). x + 65536 * y) c.u16_at-low.ensures c.u16_at-high.ensures ∙ four_bytes c.args.input.now c.args.at c.requires
+returns c =
+    let i = c.args.at in
+    omega (arith, c.from_le_bytes.ensures, four c.args.input.now i (i + 1) (i + 2) (i + 3) (omega arith) (omega arith) (omega arith) c.requires)

@@ -1,9 +1,6 @@
 -- `report::plan_in` meets its contract: what the call left can be listed, and its listing is that of the input's file.
-use mathlib.Core.Path.{sym, subst}
 use native.Mathlib.Omega.{arith}
 use Rattle.memory.specs.Buffers.{raw_lists, raw, held_rows, built, kept, work}
-use Rattle.report.specs.declared.Planned.{Planned}
-use Rattle.report.specs.Plan.{Plans}
 use Rattle.report.specs.PlanLaws.{ran_listable, ran_plans}
 use Rattle.report.proofs.plan_in.Goals as goal
 
@@ -21,5 +18,4 @@ returns c =
     let w = work (raw (raw_lists n.raw_conditions n.raw_weights n.thresholds) n.bounds)
     (built (held_rows n.row_conditions n.row_weights n.rows n.guard_bounds n.guard_nodes) n.nodes n.edges n.links)
     (kept n.figures n.cursors n.sure n.never n.search n.gcds n.node_queue n.row_queues n.answers) in
-    subst (λ (p : Planned). Plans c.args.input.now c.args.out.now c.list-length.new.out p) (sym c.together.ensures)
-    (ran_plans c.requires _ n.states w c.run-given.result (omega arith) c.run-given.ensures c.list-length.auto.out c.list-length.ensures)
+    ran_plans c.requires _ n.states w c.run-given.result (omega arith) c.run-given.ensures c.list-length.auto.out c.list-length.ensures

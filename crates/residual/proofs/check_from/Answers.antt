@@ -1,28 +1,22 @@
 -- `residual::check_from` meets its contract: the check of the terms that are left, from here, is that of the whole row.
-use Prim.Native.Nat.{ℕ, ◌-◌, ◌≤◌}
+use Prim.Native.Nat.{ℕ}
 use native.Mathlib.Omega.{arith}
 use mathlib.Core.Path.{◌≡◌, sym, ap, ◌∙◌}
-use mathlib.Core.List.{List, reverse}
-use lib.ListN.{length}
+use mathlib.Core.List.{List}
 use Rattle.numeric.specs.Threshold.{Term}
-use Rattle.numeric.specs.Slices.{terms}
-use Rattle.numeric.specs.TermsLaws.{last_terms_of, last_all, last_none}
+use Rattle.numeric.specs.TermsLaws.{last_all, last_none}
 use Rattle.words.specs.Mask.{in_either}
 use Rattle.misses.specs.Misses.{misses}
 use Rattle.intervals.specs.Residual.{check_from}
 use Rattle.intervals.specs.CheckLaws.{turn_skip, turn_stop, turn_more, check_end_divisor, check_end_misses, check_end_hits}
 use Rattle.residual.proofs.check_from.Goals as goal
+use Rattle.residual.proofs.check_from.Goals.{then-divisor-ne0-via-then-divisor-ne0, then-divisor-ne0-via-else-divisor-ne0+then-misses}
 
 pub loop-remaining-init : goal.loop-remaining-init
 loop-remaining-init c =
     let g = c.args in
     let p = c.requires.shape in
-    (omega arith, ap (λ (l : List Term). check_from g.i (in_either g.sure.now g.never.now) l 0) (last_all g.conditions.now g.weights.now p.same))
-
-pub decided-requires : goal.decided-requires
-decided-requires c =
-    let p = c.requires.shape in
-    (p.below (c.loop-remaining.remaining - 1) (omega arith), p.in_sure, p.in_never)
+    (omega arith, ap (λ (l : List Term). check_from g.i (in_either g.sure.now g.never.now) l 0) (last_all g.terms.conditions.now g.terms.weights.now p.same))
 
 pub loop-remaining-preserved-then-decided : goal.loop-remaining-preserved-then-decided
 loop-remaining-preserved-then-decided c =
@@ -30,20 +24,17 @@ loop-remaining-preserved-then-decided c =
     let w = c.loop-remaining in (
       omega arith,
       sym
-          (turn_skip g.i (in_either g.sure.now g.never.now) g.conditions.now g.weights.now w.remaining w.divisor (omega arith) (omega arith) (omega arith)
+          (turn_skip g.i (in_either g.sure.now g.never.now) g.terms.conditions.now g.terms.weights.now w.remaining w.divisor (omega arith) (omega arith) (omega arith)
           (sym c.decided.ensures ∙ c.if-decided.true))
           ∙ w.invariant.1,
     )
-
-pub stops-requires : goal.stops-requires
-stops-requires c = c.requires.window
 
 pub returns-then-stops : goal.returns-then-stops
 returns-then-stops c =
     let g = c.args in
     let w = c.loop-remaining in
     sym
-    (turn_stop g.i (in_either g.sure.now g.never.now) g.conditions.now g.weights.now w.remaining w.divisor (omega arith) (omega arith) (omega arith)
+    (turn_stop g.i (in_either g.sure.now g.never.now) g.terms.conditions.now g.terms.weights.now w.remaining w.divisor (omega arith) (omega arith) (omega arith)
     c.gcd-next.result (sym c.decided.ensures ∙ c.if-decided.false) c.gcd-next.ensures
     (sym c.stops.ensures ∙ c.if-stops.true))
     ∙ w.invariant.1
@@ -54,7 +45,7 @@ loop-remaining-preserved c =
     let w = c.loop-remaining in (
       omega arith,
       sym
-          (turn_more g.i (in_either g.sure.now g.never.now) g.conditions.now g.weights.now w.remaining w.divisor (omega arith) (omega arith) (omega arith)
+          (turn_more g.i (in_either g.sure.now g.never.now) g.terms.conditions.now g.terms.weights.now w.remaining w.divisor (omega arith) (omega arith) (omega arith)
           c.gcd-next.result (sym c.decided.ensures ∙ c.if-decided.false) c.gcd-next.ensures
           (sym c.stops.ensures ∙ c.if-stops.false))
           ∙ w.invariant.1,
@@ -65,27 +56,17 @@ returns-then-divisor-ne0 c =
     let g = c.args in
     let d = in_either g.sure.now g.never.now in
     let w = c.loop-remaining in
-    sym
-    (ap (λ (l : List Term). check_from g.i d l w.divisor) (last_none g.conditions.now g.weights.now w.remaining (omega arith))
-    ∙ check_end_divisor g.i d w.divisor c.if-divisor-ne0.true)
-    ∙ w.invariant.1
-
-pub misses-requires : goal.misses-requires
-misses-requires c =
-    let p = c.requires.window in
-    (p.above, omega (arith, p.inside, c.smaller-upper.ensures))
-
-pub returns-then-misses : goal.returns-then-misses
-returns-then-misses c =
-    let g = c.args in
-    let d = in_either g.sure.now g.never.now in
-    let w = c.loop-remaining in
-    let z : w.divisor ≡ 0 = omega (arith, c.if-divisor-ne0.false) in
-    sym
-    (ap (λ (l : List Term). check_from g.i d l w.divisor) (last_none g.conditions.now g.weights.now w.remaining (omega arith))
-    ∙ check_end_misses g.i d w.divisor z
-    (sym (c.misses.ensures ∙ ap (λ (x : ℕ). misses g.i.known g.i.lower x 0) c.smaller-upper.ensures) ∙ c.if-misses.true))
-    ∙ w.invariant.1
+    let at_end = ap (λ (l : List Term). check_from g.i d l w.divisor) (last_none g.terms.conditions.now g.terms.weights.now w.remaining (omega arith)) in
+    elim c.then-divisor-ne0.branch [
+      | then-divisor-ne0-via-then-divisor-ne0 b ↦
+          sym (at_end ∙ check_end_divisor g.i d w.divisor b.if-divisor-ne0.true) ∙ w.invariant.1
+      | then-divisor-ne0-via-else-divisor-ne0+then-misses b ↦
+          sym
+          (at_end
+          ∙ check_end_misses g.i d w.divisor (omega (arith, b.if-divisor-ne0.false))
+          (sym (b.misses.ensures ∙ ap (λ (x : ℕ). misses g.i.known g.i.lower x 0) c.min-upper.ensures) ∙ b.if-misses.true))
+          ∙ w.invariant.1
+    ]
 
 pub returns : goal.returns
 returns c =
@@ -94,34 +75,7 @@ returns c =
     let w = c.loop-remaining in
     let z : w.divisor ≡ 0 = omega (arith, c.if-divisor-ne0.false) in
     sym
-    (ap (λ (l : List Term). check_from g.i d l w.divisor) (last_none g.conditions.now g.weights.now w.remaining (omega arith))
+    (ap (λ (l : List Term). check_from g.i d l w.divisor) (last_none g.terms.conditions.now g.terms.weights.now w.remaining (omega arith))
     ∙ check_end_hits g.i d w.divisor z
-    (sym (c.misses.ensures ∙ ap (λ (x : ℕ). misses g.i.known g.i.lower x 0) c.smaller-upper.ensures) ∙ c.if-misses.false))
+    (sym (c.misses.ensures ∙ ap (λ (x : ℕ). misses g.i.known g.i.lower x 0) c.min-upper.ensures) ∙ c.if-misses.false))
     ∙ w.invariant.1
-
-pub overflow_sub-remaining : goal.overflow_sub-remaining
-overflow_sub-remaining c = omega arith
-
-pub offset_bounds-conditions-remaining : goal.offset_bounds-conditions-remaining
-offset_bounds-conditions-remaining c = omega arith
-
-pub bounds-conditions-remaining : goal.bounds-conditions-remaining
-bounds-conditions-remaining c = omega arith
-
-pub loop-remaining-smaller-then-decided : goal.loop-remaining-smaller-then-decided
-loop-remaining-smaller-then-decided c = omega arith
-
-pub offset_bounds-weights-remaining : goal.offset_bounds-weights-remaining
-offset_bounds-weights-remaining c = omega arith
-
-pub bounds-weights-remaining : goal.bounds-weights-remaining
-bounds-weights-remaining c = omega arith
-
-pub gcd-next-requires : goal.gcd-next-requires
-gcd-next-requires c = tt
-
-pub loop-remaining-smaller : goal.loop-remaining-smaller
-loop-remaining-smaller c = omega arith
-
-pub smaller-upper-requires : goal.smaller-upper-requires
-smaller-upper-requires c = tt

@@ -1,15 +1,12 @@
 -- `residual::fits_from` meets its contract: the scan of the terms that are left, from here, is that of the whole row.
-use Prim.Native.Nat.{◌-◌, ◌≤◌}
 use native.Mathlib.Omega.{arith}
-use mathlib.Core.Path.{◌≡◌, sym, ap, ◌∙◌}
+use mathlib.Core.Path.{sym, ap, ◌∙◌}
 use mathlib.Core.Bool.{false}
-use mathlib.Core.List.{List, reverse}
-use lib.ListN.{length}
+use mathlib.Core.List.{List}
 use Rattle.numeric.specs.Threshold.{Term}
-use Rattle.numeric.specs.Slices.{terms}
 use Rattle.words.specs.Mask.{in_either}
 use Rattle.intervals.specs.Residual.{fits_from}
-use Rattle.numeric.specs.TermsLaws.{last_terms_of, last_all}
+use Rattle.numeric.specs.TermsLaws.{last_all}
 use Rattle.intervals.specs.FitsLaws.{fits_wide, fits_skip, fits-first, fits_both, fits_more, fits-none}
 use Rattle.residual.proofs.fits_from.Goals as goal
 
@@ -17,21 +14,16 @@ pub loop-unread-init : goal.loop-unread-init
 loop-unread-init c =
     let g = c.args in
     let p = c.requires in
-    (omega arith, ap (λ (l : List Term). fits_from g.i (in_either g.sure.now g.never.now) l false 0) (last_all g.conditions.now g.weights.now p.same))
+    (omega arith, ap (λ (l : List Term). fits_from g.i (in_either g.sure.now g.never.now) l false 0) (last_all g.terms.conditions.now g.terms.weights.now p.same))
 
 pub returns-then-too_wide : goal.returns-then-too_wide
 returns-then-too_wide c =
     let w = c.loop-unread in
     let g = c.args in
     sym
-    (fits_wide g.i (in_either g.sure.now g.never.now) g.conditions.now g.weights.now w.unread w.fitting w.complement (omega arith) (omega arith) (omega arith)
+    (fits_wide g.i (in_either g.sure.now g.never.now) g.terms.conditions.now g.terms.weights.now w.unread w.fitting w.complement (omega arith) (omega arith) (omega arith)
     (sym c.too_wide.ensures ∙ c.if-too_wide.true))
     ∙ w.invariant.1
-
-pub decided-requires : goal.decided-requires
-decided-requires c =
-    let p = c.requires in
-    (p.below (c.loop-unread.unread - 1) (omega arith), p.in_sure, p.in_never)
 
 pub loop-unread-preserved-then-decided : goal.loop-unread-preserved-then-decided
 loop-unread-preserved-then-decided c =
@@ -39,7 +31,7 @@ loop-unread-preserved-then-decided c =
     let g = c.args in (
       omega arith,
       sym
-          (fits_skip g.i (in_either g.sure.now g.never.now) g.conditions.now g.weights.now w.unread w.fitting w.complement (omega arith) (omega arith) (omega arith)
+          (fits_skip g.i (in_either g.sure.now g.never.now) g.terms.conditions.now g.terms.weights.now w.unread w.fitting w.complement (omega arith) (omega arith) (omega arith)
           (sym c.too_wide.ensures ∙ c.if-too_wide.false) (sym c.decided.ensures ∙ c.if-decided.true))
           ∙ w.invariant.1,
     )
@@ -49,7 +41,7 @@ returns-then-both_fit c =
     let w = c.loop-unread in
     let g = c.args in
     sym
-    (fits_both g.i (in_either g.sure.now g.never.now) g.conditions.now g.weights.now w.unread w.fitting w.complement (omega arith) (omega arith) (omega arith)
+    (fits_both g.i (in_either g.sure.now g.never.now) g.terms.conditions.now g.terms.weights.now w.unread w.fitting w.complement (omega arith) (omega arith) (omega arith)
     (sym c.too_wide.ensures ∙ c.if-too_wide.false) (sym c.decided.ensures ∙ c.if-decided.false)
     c.if-fitting.true c.gcd-complement.result c.gcd-complement.ensures
     (sym c.both_fit.ensures ∙ c.if-both_fit.true))
@@ -61,7 +53,7 @@ loop-unread-preserved-else-both_fit c =
     let g = c.args in (
       omega arith,
       sym
-          (fits_more g.i (in_either g.sure.now g.never.now) g.conditions.now g.weights.now w.unread w.fitting w.complement (omega arith) (omega arith) (omega arith)
+          (fits_more g.i (in_either g.sure.now g.never.now) g.terms.conditions.now g.terms.weights.now w.unread w.fitting w.complement (omega arith) (omega arith) (omega arith)
           (sym c.too_wide.ensures ∙ c.if-too_wide.false) (sym c.decided.ensures ∙ c.if-decided.false)
           c.if-fitting.true c.gcd-complement.result c.gcd-complement.ensures
           (sym c.both_fit.ensures ∙ c.if-both_fit.false))
@@ -74,7 +66,7 @@ loop-unread-preserved c =
     let g = c.args in (
       omega arith,
       sym
-          (fits-first g.i (in_either g.sure.now g.never.now) g.conditions.now g.weights.now w.unread w.fitting w.complement (omega arith) (omega arith) (omega arith)
+          (fits-first g.i (in_either g.sure.now g.never.now) g.terms.conditions.now g.terms.weights.now w.unread w.fitting w.complement (omega arith) (omega arith) (omega arith)
           (sym c.too_wide.ensures ∙ c.if-too_wide.false) (sym c.decided.ensures ∙ c.if-decided.false) c.if-fitting.false)
           ∙ w.invariant.1,
     )
@@ -83,38 +75,5 @@ pub returns : goal.returns
 returns c =
     let w = c.loop-unread in
     let g = c.args in
-    sym (fits-none g.i (in_either g.sure.now g.never.now) g.conditions.now g.weights.now w.unread w.fitting w.complement (omega arith))
+    sym (fits-none g.i (in_either g.sure.now g.never.now) g.terms.conditions.now g.terms.weights.now w.unread w.fitting w.complement (omega arith))
     ∙ w.invariant.1
-
-pub overflow_sub-unread : goal.overflow_sub-unread
-overflow_sub-unread c = omega arith
-
-pub offset_bounds-weights-unread : goal.offset_bounds-weights-unread
-offset_bounds-weights-unread c = omega arith
-
-pub bounds-weights-unread : goal.bounds-weights-unread
-bounds-weights-unread c = omega arith
-
-pub too_wide-requires : goal.too_wide-requires
-too_wide-requires c = tt
-
-pub offset_bounds-conditions-unread : goal.offset_bounds-conditions-unread
-offset_bounds-conditions-unread c = omega arith
-
-pub bounds-conditions-unread : goal.bounds-conditions-unread
-bounds-conditions-unread c = omega arith
-
-pub loop-unread-smaller-then-decided : goal.loop-unread-smaller-then-decided
-loop-unread-smaller-then-decided c = omega arith
-
-pub gcd-complement-requires : goal.gcd-complement-requires
-gcd-complement-requires c = tt
-
-pub both_fit-requires : goal.both_fit-requires
-both_fit-requires c = tt
-
-pub loop-unread-smaller-else-both_fit : goal.loop-unread-smaller-else-both_fit
-loop-unread-smaller-else-both_fit c = omega arith
-
-pub loop-unread-smaller : goal.loop-unread-smaller
-loop-unread-smaller c = omega arith

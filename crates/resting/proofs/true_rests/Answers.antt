@@ -5,7 +5,6 @@ use lib.IntN.{◌-ℤ◌}
 use mir.Syntax.{w64}
 use mir.Val.{to_z, of_z}
 use mir.Facts.{to_z-of_z}
-use borrow.Author.Rules.{rules}
 use Rattle.base.specs.SignedLaws.{sub_sfits}
 use Rattle.numeric.specs.Slices.{terms}
 use Rattle.queues.specs.Marks.{marks}
@@ -13,21 +12,13 @@ use Rattle.row_runs.proofs.RowLaws.{signed}
 use Rattle.resting.specs.RestLaws.{true_met, true-waits}
 use Rattle.resting.proofs.true_rests.Goals as goal
 
-pub returns-then-known-lower : goal.returns-then-known-lower
-returns-then-known-lower c =
+pub returns-then-state : goal.returns-then-state
+returns-then-state c =
     let a = c.args in
     let p = c.requires in
     let hk : to_z w64 (of_z w64 a.state.known) ≡ a.state.known = signed a.state.known p.1.known in
     let hl : to_z w64 (of_z w64 a.state.lower) ≡ a.state.lower = signed a.state.lower p.1.lower in
-    (λ h q. true_met (terms a.conditions.now a.weights.now) a.state (marks a.sure.now a.never.now q) (simp (hk, hl) at c.if-known-lower.true))
-
-pub overflow_sub-cutoff : goal.overflow_sub-cutoff
-overflow_sub-cutoff c =
-    let a = c.args in
-    let p = c.requires in
-    let hp : to_z w64 (of_z w64 a.state.possible) ≡ a.state.possible = signed a.state.possible p.1.possible in
-    let hl : to_z w64 (of_z w64 a.state.lower) ≡ a.state.lower = signed a.state.lower p.1.lower in
-    simp (hp, hl) (sub_sfits a.state.possible a.state.lower (omega (arith, p.1.possible, p.1.lower)))
+    (λ h q. true_met (terms a.terms.conditions.now a.terms.weights.now) a.state (marks a.sure.now a.never.now q) (simp (hk, hl) at c.if-state.true))
 
 pub returns : goal.returns
 returns c =
@@ -38,5 +29,5 @@ returns c =
     let hl : to_z w64 (of_z w64 a.state.lower) ≡ a.state.lower = signed a.state.lower p.1.lower in
     let z = to_z w64 (of_z w64 (to_z w64 (of_z w64 a.state.possible) -ℤ to_z w64 (of_z w64 a.state.lower))) in
     let d : to_z w64 (of_z w64 (a.state.possible -ℤ a.state.lower)) ≡ a.state.possible -ℤ a.state.lower = to_z-of_z (sub_sfits a.state.possible a.state.lower (omega (arith, p.1.possible, p.1.lower))) in
-    let left = simp (hk, hl) at c.if-known-lower.false in
-    (λ h q. true-waits (terms a.conditions.now a.weights.now) a.state (marks a.sure.now a.never.now q) z left (simp (hp, hl, d)) (c.term_rests.ensures h q))
+    let left = simp (hk, hl) at c.if-state.false in
+    (λ h q. true-waits (terms a.terms.conditions.now a.terms.weights.now) a.state (marks a.sure.now a.never.now q) z left (simp (hp, hl, d)) (c.term_rests.ensures h q))

@@ -19,6 +19,3 @@ bounds-cursors-row c = omega (arith, c.requires, states_cursors c.args.figures.n
 
 pub returns : goal.returns
 returns c = c.make.ensures ∙ sym (states_at c.args.figures.now c.args.cursors.now c.args.row c.requires)
-
-pub make-requires : goal.make-requires
-make-requires c = tt

@@ -1,87 +1,87 @@
 -- `serve::seal_and_serve` meets its contract: what the seal leaves is what the records behind it begin with.
-use native.Mathlib.Omega.{arith}
-use Prim.Native.Nat.{ℕ, ◌+◌}
-use mathlib.Core.Path.{◌≡◌, refl, ◌∙◌}
+use mathlib.Core.Path.{◌≡◌, refl, sym, subst}
 use mathlib.Core.List.{List, []}
-use Rattle.memory.specs.Buffers.{held_rows, Built, built, Kept, kept}
+use Rattle.std.specs.Prelude.{None}
+use Prim.Native.Nat.{ℕ, ◌+◌}
+use lib.ListN.{length}
+use Rattle.memory.specs.Buffers.{Kept, kept}
 use Rattle.records.specs.declared.Record.TheVariants.{Seal}
 use Rattle.files.specs.File.{File, standing, apply, outcome}
+use Rattle.row_moves.specs.Lent.{built_of}
 use Rattle.serve.specs.declared.Reached.{Reached}
-use Rattle.serve.specs.Serve.{Lies, Seals, Reaches, Same}
+use Rattle.serve.specs.KeptLent.{kept_in}
+use Rattle.serve.specs.KeptLentLaws.{lent_back}
+use Rattle.serve.specs.Serve.{Lies, Seals, Reaches, read_at}
 use Rattle.serve.specs.SealLaws.{seals_holds, seals_shaped, seals_totals, seals_room, seals_waits, seals_flags, seals_reaches, seals_passed, seals_whole}
 use borrow.Author.Rules.{rules}
 use Rattle.serve.proofs.seal_and_serve.Goals as goal
 use Rattle.serve.proofs.seal_and_serve.Goals.{After-stood-next}
 
--- With the seal the records behind it have a beginning.
-reaches : (p : After-stood-next) → (f : File) (base : List (List ℕ)) → Seals p.args.bounds.now ((let a = p.args in built (held_rows a.row_conditions.now a.row_weights.now a.rows.now a.guard_bounds.now a.guard_nodes.now) a.nodes.now a.edges.now a.links.now)) f → Lies base f ((let a = p.args in kept a.figures.now a.cursors.now a.sure.now a.never.now a.search.now a.gcds.now a.node_queue.now a.row_queues.now a.answers.now)) p.args.rings → p.args.standing ≡ standing f → Reaches p.args.bounds.now ((let a = p.args in built (held_rows a.row_conditions.now a.row_weights.now a.rows.now a.guard_bounds.now a.guard_nodes.now) a.nodes.now a.edges.now a.links.now)) base ((let a = p.args in kept p.seal-did.new.figures p.seal-did.new.cursors p.seal-did.new.sure p.seal-did.new.never a.search.now a.gcds.now p.seal-did.new.node_queue p.seal-did.new.row_queues a.answers.now)) ((let it : Reached = record { at = p.args.at + 1; refused = 0; standing = p.stood-next.result; last = p.seal-did.result.step; rings = p.seal-did.result.rings } in it)) (outcome (apply f Seal) [] 0 ((let it : Reached = record { at = p.args.at + 1; refused = 0; standing = p.stood-next.result; last = p.seal-did.result.step; rings = p.seal-did.result.rings } in it)).at)
-reaches p f base z l e =
-    let a = p.args in
-    let t = p.seal-did in
-    let passed = seals_passed f a.input.now a.at p.requires.1 a.standing e p.requires.2 in
-    seals_reaches a.bounds.now ((let a = p.args in built (held_rows a.row_conditions.now a.row_weights.now a.rows.now a.guard_bounds.now a.guard_nodes.now) a.nodes.now a.edges.now a.links.now)) base f ((let a = p.args in kept a.figures.now a.cursors.now a.sure.now a.never.now a.search.now a.gcds.now a.node_queue.now a.row_queues.now a.answers.now)) a.rings z l ((let a = p.args in kept p.seal-did.new.figures p.seal-did.new.cursors p.seal-did.new.sure p.seal-did.new.never a.search.now a.gcds.now p.seal-did.new.node_queue p.seal-did.new.row_queues a.answers.now)) t.result.rings t.result.step t.ensures.0 passed
-    (t.ensures.1 l.tidy) refl refl refl ((let it : Reached = record { at = p.args.at + 1; refused = 0; standing = p.stood-next.result; last = p.seal-did.result.step; rings = p.seal-did.result.rings } in it)) refl refl refl a.standing e p.stood-next.ensures
+-- How far the seal was taken, and the buffers that it leaves.
+abbrev sealed : After-stood-next → Reached
+sealed c = record { at = c.args.at + 1; refused = None; standing = c.stood-next.result; last = c.seal-step.result; rings = c.seal-step.new.live.rings }
 
-pub seal-did-requires : goal.seal-did-requires
-seal-did-requires c =
+abbrev left : After-stood-next → Kept
+left c =
+    let k = kept_in c.args.kept.now in
+    let l = c.seal-step.new.live in
+    kept l.figures.now l.cursors.now l.sure.now l.never.now k.search k.gcds l.node_queue.now l.row_queues.now k.answers
+
+-- With the seal the records behind it have a beginning.
+reaches : (c : After-stood-next) (f : File) (base : List (List ℕ)) → Seals c.args.built.bounds.now (built_of c.args.built) f → Lies base f (kept_in c.args.kept.now) c.args.rings
+    → c.args.standing ≡ standing f → Reaches c.args.built.bounds.now (built_of c.args.built) base (left c) (sealed c) (outcome (apply f Seal) [] 0 (sealed c).at)
+reaches c f base z l e =
     let a = c.args in
+    let b = a.built in
+    let t = c.seal-step in
+    let passed = seals_passed f a.input.now a.at c.requires.1 a.standing e c.requires.2 in
+    seals_reaches b.bounds.now (built_of b) base f (kept_in a.kept.now) a.rings z l (left c) t.new.live.rings t.result t.ensures.sealed.0 passed
+    (t.ensures.sealed.1 l.tidy) refl refl refl (sealed c) refl refl refl a.standing e c.stood-next.ensures
+
+pub seal-step-requires : goal.seal-step-requires
+seal-step-requires c =
+    let a = c.args in
+    let b = a.built in
+    let k = kept_in a.kept.now in
     let p = c.requires.0 in record {
       shaped = (
-        seals_holds a.bounds.now ((let a = c.args in built (held_rows a.row_conditions.now a.row_weights.now a.rows.now a.guard_bounds.now a.guard_nodes.now) a.nodes.now a.edges.now a.links.now)) p.1 p.0 ((let a = c.args in kept a.figures.now a.cursors.now a.sure.now a.never.now a.search.now a.gcds.now a.node_queue.now a.row_queues.now a.answers.now)) a.rings p.2 p.3,
-        seals_shaped a.bounds.now ((let a = c.args in built (held_rows a.row_conditions.now a.row_weights.now a.rows.now a.guard_bounds.now a.guard_nodes.now) a.nodes.now a.edges.now a.links.now)) p.1 p.0 ((let a = c.args in kept a.figures.now a.cursors.now a.sure.now a.never.now a.search.now a.gcds.now a.node_queue.now a.row_queues.now a.answers.now)) a.rings p.2 p.3,
-        seals_totals a.bounds.now ((let a = c.args in built (held_rows a.row_conditions.now a.row_weights.now a.rows.now a.guard_bounds.now a.guard_nodes.now) a.nodes.now a.edges.now a.links.now)) p.1 p.0 ((let a = c.args in kept a.figures.now a.cursors.now a.sure.now a.never.now a.search.now a.gcds.now a.node_queue.now a.row_queues.now a.answers.now)) a.rings p.2 p.3,
-        seals_room a.bounds.now ((let a = c.args in built (held_rows a.row_conditions.now a.row_weights.now a.rows.now a.guard_bounds.now a.guard_nodes.now) a.nodes.now a.edges.now a.links.now)) p.1 p.0 ((let a = c.args in kept a.figures.now a.cursors.now a.sure.now a.never.now a.search.now a.gcds.now a.node_queue.now a.row_queues.now a.answers.now)) a.rings p.2 p.3,
+        seals_holds b.bounds.now (built_of b) p.1 p.0 k a.rings p.2 p.3,
+        seals_shaped b.bounds.now (built_of b) p.1 p.0 k a.rings p.2 p.3,
+        seals_totals b.bounds.now (built_of b) p.1 p.0 k a.rings p.2 p.3,
+        seals_room b.bounds.now (built_of b) p.1 p.0 k a.rings p.2 p.3,
       );
       waits = (
-        seals_waits a.bounds.now ((let a = c.args in built (held_rows a.row_conditions.now a.row_weights.now a.rows.now a.guard_bounds.now a.guard_nodes.now) a.nodes.now a.edges.now a.links.now)) p.1 p.0 ((let a = c.args in kept a.figures.now a.cursors.now a.sure.now a.never.now a.search.now a.gcds.now a.node_queue.now a.row_queues.now a.answers.now)) a.rings p.2 p.3,
-        seals_flags a.bounds.now ((let a = c.args in built (held_rows a.row_conditions.now a.row_weights.now a.rows.now a.guard_bounds.now a.guard_nodes.now) a.nodes.now a.edges.now a.links.now)) p.1 p.0 ((let a = c.args in kept a.figures.now a.cursors.now a.sure.now a.never.now a.search.now a.gcds.now a.node_queue.now a.row_queues.now a.answers.now)) a.rings p.2 p.3,
+        seals_waits b.bounds.now (built_of b) p.1 p.0 k a.rings p.2 p.3,
+        seals_flags b.bounds.now (built_of b) p.1 p.0 k a.rings p.2 p.3,
       );
     }
 
-pub overflow_add-behind : goal.overflow_add-behind
-overflow_add-behind c =
-    omega (arith, c.requires.1, c.requires.3)
-
 pub serve_records-reached-requires : goal.serve_records-reached-requires
 serve_records-reached-requires c =
+    let a = c.args in
+    let b = a.built in
     let w = c.requires in
     let p = w.0 in
-    ((apply p.0 Seal, p.1, reaches (goal.at.serve_records-reached-requires c).After-stood-next p.0 p.1 p.2 p.3 p.4), w.3)
-
-pub returns : goal.returns
-returns c =
-    let a = c.args in
-    let w = c.requires in
-    let t = c.serve_records-reached in (
-      λ f base z l e.
-          seals_whole a.bounds.now ((let a = c.args in built (held_rows a.row_conditions.now a.row_weights.now a.rows.now a.guard_bounds.now a.guard_nodes.now) a.nodes.now a.edges.now a.links.now)) base f ((kept c.serve_records-reached.new.figures c.serve_records-reached.new.cursors c.serve_records-reached.new.sure c.serve_records-reached.new.never c.serve_records-reached.new.search c.serve_records-reached.new.gcds c.serve_records-reached.new.node_queue c.serve_records-reached.new.row_queues c.serve_records-reached.new.answers)) t.result a.input.now a.at w.1 a.standing e w.2
-          (t.ensures (apply f Seal) base (reaches (goal.at.returns c).After-stood-next f base z l e)),
-      c.fours.ensures,
+    let s = (goal.at.serve_records-reached-requires c).After-stood-next in (
+      (
+        apply p.0 Seal,
+        p.1,
+        lent_back (λ (n : Kept). Reaches b.bounds.now (built_of b) p.1 n (sealed s) (outcome (apply p.0 Seal) [] 0 (a.at + 1))) c.seal-step.new.live
+            (search rules) (search rules) (search rules) (search rules) (search rules) (search rules) (reaches s p.0 p.1 p.2 p.3 p.4),
+      ),
+      w.3,
     )
 
-pub shape_of-figures : goal.shape_of-figures
-shape_of-figures c = ((let it : Same ((let a = c.args in kept a.figures.now a.cursors.now a.sure.now a.never.now a.search.now a.gcds.now a.node_queue.now a.row_queues.now a.answers.now)) ((kept c.serve_records-reached.new.figures c.serve_records-reached.new.cursors c.serve_records-reached.new.sure c.serve_records-reached.new.never c.serve_records-reached.new.search c.serve_records-reached.new.gcds c.serve_records-reached.new.node_queue c.serve_records-reached.new.row_queues c.serve_records-reached.new.answers)) = record { figures = c.serve_records-reached.auto.figures ∙ c.seal-did.auto.figures; cursors = c.serve_records-reached.auto.cursors ∙ c.seal-did.auto.cursors; sure = c.serve_records-reached.auto.sure ∙ c.seal-did.auto.sure; never = c.serve_records-reached.auto.never ∙ c.seal-did.auto.never; node_queue = c.serve_records-reached.auto.node_queue ∙ c.seal-did.auto.node_queue; row_queues = c.serve_records-reached.auto.row_queues ∙ c.seal-did.auto.row_queues; gcds = c.serve_records-reached.auto.gcds; search = c.serve_records-reached.auto.search; answers = c.serve_records-reached.auto.answers } in it)).figures
-
-pub shape_of-cursors : goal.shape_of-cursors
-shape_of-cursors c = ((let it : Same ((let a = c.args in kept a.figures.now a.cursors.now a.sure.now a.never.now a.search.now a.gcds.now a.node_queue.now a.row_queues.now a.answers.now)) ((kept c.serve_records-reached.new.figures c.serve_records-reached.new.cursors c.serve_records-reached.new.sure c.serve_records-reached.new.never c.serve_records-reached.new.search c.serve_records-reached.new.gcds c.serve_records-reached.new.node_queue c.serve_records-reached.new.row_queues c.serve_records-reached.new.answers)) = record { figures = c.serve_records-reached.auto.figures ∙ c.seal-did.auto.figures; cursors = c.serve_records-reached.auto.cursors ∙ c.seal-did.auto.cursors; sure = c.serve_records-reached.auto.sure ∙ c.seal-did.auto.sure; never = c.serve_records-reached.auto.never ∙ c.seal-did.auto.never; node_queue = c.serve_records-reached.auto.node_queue ∙ c.seal-did.auto.node_queue; row_queues = c.serve_records-reached.auto.row_queues ∙ c.seal-did.auto.row_queues; gcds = c.serve_records-reached.auto.gcds; search = c.serve_records-reached.auto.search; answers = c.serve_records-reached.auto.answers } in it)).cursors
-
-pub shape_of-sure : goal.shape_of-sure
-shape_of-sure c = ((let it : Same ((let a = c.args in kept a.figures.now a.cursors.now a.sure.now a.never.now a.search.now a.gcds.now a.node_queue.now a.row_queues.now a.answers.now)) ((kept c.serve_records-reached.new.figures c.serve_records-reached.new.cursors c.serve_records-reached.new.sure c.serve_records-reached.new.never c.serve_records-reached.new.search c.serve_records-reached.new.gcds c.serve_records-reached.new.node_queue c.serve_records-reached.new.row_queues c.serve_records-reached.new.answers)) = record { figures = c.serve_records-reached.auto.figures ∙ c.seal-did.auto.figures; cursors = c.serve_records-reached.auto.cursors ∙ c.seal-did.auto.cursors; sure = c.serve_records-reached.auto.sure ∙ c.seal-did.auto.sure; never = c.serve_records-reached.auto.never ∙ c.seal-did.auto.never; node_queue = c.serve_records-reached.auto.node_queue ∙ c.seal-did.auto.node_queue; row_queues = c.serve_records-reached.auto.row_queues ∙ c.seal-did.auto.row_queues; gcds = c.serve_records-reached.auto.gcds; search = c.serve_records-reached.auto.search; answers = c.serve_records-reached.auto.answers } in it)).sure
-
-pub shape_of-never : goal.shape_of-never
-shape_of-never c = ((let it : Same ((let a = c.args in kept a.figures.now a.cursors.now a.sure.now a.never.now a.search.now a.gcds.now a.node_queue.now a.row_queues.now a.answers.now)) ((kept c.serve_records-reached.new.figures c.serve_records-reached.new.cursors c.serve_records-reached.new.sure c.serve_records-reached.new.never c.serve_records-reached.new.search c.serve_records-reached.new.gcds c.serve_records-reached.new.node_queue c.serve_records-reached.new.row_queues c.serve_records-reached.new.answers)) = record { figures = c.serve_records-reached.auto.figures ∙ c.seal-did.auto.figures; cursors = c.serve_records-reached.auto.cursors ∙ c.seal-did.auto.cursors; sure = c.serve_records-reached.auto.sure ∙ c.seal-did.auto.sure; never = c.serve_records-reached.auto.never ∙ c.seal-did.auto.never; node_queue = c.serve_records-reached.auto.node_queue ∙ c.seal-did.auto.node_queue; row_queues = c.serve_records-reached.auto.row_queues ∙ c.seal-did.auto.row_queues; gcds = c.serve_records-reached.auto.gcds; search = c.serve_records-reached.auto.search; answers = c.serve_records-reached.auto.answers } in it)).never
-
-pub shape_of-node_queue : goal.shape_of-node_queue
-shape_of-node_queue c = ((let it : Same ((let a = c.args in kept a.figures.now a.cursors.now a.sure.now a.never.now a.search.now a.gcds.now a.node_queue.now a.row_queues.now a.answers.now)) ((kept c.serve_records-reached.new.figures c.serve_records-reached.new.cursors c.serve_records-reached.new.sure c.serve_records-reached.new.never c.serve_records-reached.new.search c.serve_records-reached.new.gcds c.serve_records-reached.new.node_queue c.serve_records-reached.new.row_queues c.serve_records-reached.new.answers)) = record { figures = c.serve_records-reached.auto.figures ∙ c.seal-did.auto.figures; cursors = c.serve_records-reached.auto.cursors ∙ c.seal-did.auto.cursors; sure = c.serve_records-reached.auto.sure ∙ c.seal-did.auto.sure; never = c.serve_records-reached.auto.never ∙ c.seal-did.auto.never; node_queue = c.serve_records-reached.auto.node_queue ∙ c.seal-did.auto.node_queue; row_queues = c.serve_records-reached.auto.row_queues ∙ c.seal-did.auto.row_queues; gcds = c.serve_records-reached.auto.gcds; search = c.serve_records-reached.auto.search; answers = c.serve_records-reached.auto.answers } in it)).node_queue
-
-pub shape_of-row_queues : goal.shape_of-row_queues
-shape_of-row_queues c = ((let it : Same ((let a = c.args in kept a.figures.now a.cursors.now a.sure.now a.never.now a.search.now a.gcds.now a.node_queue.now a.row_queues.now a.answers.now)) ((kept c.serve_records-reached.new.figures c.serve_records-reached.new.cursors c.serve_records-reached.new.sure c.serve_records-reached.new.never c.serve_records-reached.new.search c.serve_records-reached.new.gcds c.serve_records-reached.new.node_queue c.serve_records-reached.new.row_queues c.serve_records-reached.new.answers)) = record { figures = c.serve_records-reached.auto.figures ∙ c.seal-did.auto.figures; cursors = c.serve_records-reached.auto.cursors ∙ c.seal-did.auto.cursors; sure = c.serve_records-reached.auto.sure ∙ c.seal-did.auto.sure; never = c.serve_records-reached.auto.never ∙ c.seal-did.auto.never; node_queue = c.serve_records-reached.auto.node_queue ∙ c.seal-did.auto.node_queue; row_queues = c.serve_records-reached.auto.row_queues ∙ c.seal-did.auto.row_queues; gcds = c.serve_records-reached.auto.gcds; search = c.serve_records-reached.auto.search; answers = c.serve_records-reached.auto.answers } in it)).row_queues
-
-pub shape_of-gcds : goal.shape_of-gcds
-shape_of-gcds c = ((let it : Same ((let a = c.args in kept a.figures.now a.cursors.now a.sure.now a.never.now a.search.now a.gcds.now a.node_queue.now a.row_queues.now a.answers.now)) ((kept c.serve_records-reached.new.figures c.serve_records-reached.new.cursors c.serve_records-reached.new.sure c.serve_records-reached.new.never c.serve_records-reached.new.search c.serve_records-reached.new.gcds c.serve_records-reached.new.node_queue c.serve_records-reached.new.row_queues c.serve_records-reached.new.answers)) = record { figures = c.serve_records-reached.auto.figures ∙ c.seal-did.auto.figures; cursors = c.serve_records-reached.auto.cursors ∙ c.seal-did.auto.cursors; sure = c.serve_records-reached.auto.sure ∙ c.seal-did.auto.sure; never = c.serve_records-reached.auto.never ∙ c.seal-did.auto.never; node_queue = c.serve_records-reached.auto.node_queue ∙ c.seal-did.auto.node_queue; row_queues = c.serve_records-reached.auto.row_queues ∙ c.seal-did.auto.row_queues; gcds = c.serve_records-reached.auto.gcds; search = c.serve_records-reached.auto.search; answers = c.serve_records-reached.auto.answers } in it)).gcds
-
-pub shape_of-search : goal.shape_of-search
-shape_of-search c = ((let it : Same ((let a = c.args in kept a.figures.now a.cursors.now a.sure.now a.never.now a.search.now a.gcds.now a.node_queue.now a.row_queues.now a.answers.now)) ((kept c.serve_records-reached.new.figures c.serve_records-reached.new.cursors c.serve_records-reached.new.sure c.serve_records-reached.new.never c.serve_records-reached.new.search c.serve_records-reached.new.gcds c.serve_records-reached.new.node_queue c.serve_records-reached.new.row_queues c.serve_records-reached.new.answers)) = record { figures = c.serve_records-reached.auto.figures ∙ c.seal-did.auto.figures; cursors = c.serve_records-reached.auto.cursors ∙ c.seal-did.auto.cursors; sure = c.serve_records-reached.auto.sure ∙ c.seal-did.auto.sure; never = c.serve_records-reached.auto.never ∙ c.seal-did.auto.never; node_queue = c.serve_records-reached.auto.node_queue ∙ c.seal-did.auto.node_queue; row_queues = c.serve_records-reached.auto.row_queues ∙ c.seal-did.auto.row_queues; gcds = c.serve_records-reached.auto.gcds; search = c.serve_records-reached.auto.search; answers = c.serve_records-reached.auto.answers } in it)).search
-
-pub shape_of-answers : goal.shape_of-answers
-shape_of-answers c = ((let it : Same ((let a = c.args in kept a.figures.now a.cursors.now a.sure.now a.never.now a.search.now a.gcds.now a.node_queue.now a.row_queues.now a.answers.now)) ((kept c.serve_records-reached.new.figures c.serve_records-reached.new.cursors c.serve_records-reached.new.sure c.serve_records-reached.new.never c.serve_records-reached.new.search c.serve_records-reached.new.gcds c.serve_records-reached.new.node_queue c.serve_records-reached.new.row_queues c.serve_records-reached.new.answers)) = record { figures = c.serve_records-reached.auto.figures ∙ c.seal-did.auto.figures; cursors = c.serve_records-reached.auto.cursors ∙ c.seal-did.auto.cursors; sure = c.serve_records-reached.auto.sure ∙ c.seal-did.auto.sure; never = c.serve_records-reached.auto.never ∙ c.seal-did.auto.never; node_queue = c.serve_records-reached.auto.node_queue ∙ c.seal-did.auto.node_queue; row_queues = c.serve_records-reached.auto.row_queues ∙ c.seal-did.auto.row_queues; gcds = c.serve_records-reached.auto.gcds; search = c.serve_records-reached.auto.search; answers = c.serve_records-reached.auto.answers } in it)).answers
+pub returns-clause-reaches : goal.returns-clause-reaches
+returns-clause-reaches c =
+    let a = c.args in
+    let b = a.built in
+    let w = c.requires in
+    let t = c.serve_records-reached in
+    let s = (goal.at.returns-clause-reaches c).After-stood-next in
+    λ f base z l e.
+    let first = lent_back (λ (n : Kept). Reaches b.bounds.now (built_of b) base n (sealed s) (outcome (apply f Seal) [] 0 (a.at + 1))) c.seal-step.new.live
+    (search rules) (search rules) (search rules) (search rules) (search rules) (search rules) (reaches s f base z l e) in
+    let whole = seals_whole b.bounds.now (built_of b) base f (kept_in t.new.kept) t.result a.input.now a.at w.1 a.standing e w.2 (t.ensures.reaches (apply f Seal) base first) in
+    let k = kept_in t.new.kept in
+    subst (λ (q : List (List ℕ)). Reaches b.bounds.now (built_of b) base (kept k.figures k.cursors k.sure k.never k.search k.gcds k.node_queue q k.answers) t.result (read_at (length a.input.now) a.input.now a.at f)) (sym c.fours.ensures.0) whole

@@ -1,18 +1,15 @@
--- What the loops of `serve::serve_records` keep, and what falls.
-use native.Mathlib.Omega.{arith}
-use mathlib.Core.Path.{refl, ◌∙◌}
+-- What the loop of `serve::serve_records` keeps, and what falls.
 use Prim.Native.Nat.{◌-◌}
 use lib.ListN.{length}
-use Rattle.memory.specs.Buffers.{held_rows, Built, built, Kept, kept}
-use Rattle.serve.specs.Serve.{Same}
-use Rattle.serve.specs.ServeLaws.{Loops, loops_first, loops_end, loops_stop, loops_next, loops_less}
+use Rattle.row_moves.specs.Lent.{built_of}
+use Rattle.serve.specs.KeptLent.{kept_in, SameKept}
+use Rattle.serve.specs.ServeLaws.{Loops}
 use Rattle.serve.proofs.serve_records.Given as goal
 
 abbrev pub invariant-loop-reached : goal.invariant-loop-reached
 invariant-loop-reached l =
-    let k₀ = kept l.initial.figures l.initial.cursors l.initial.sure l.initial.never l.initial.search l.initial.gcds l.initial.node_queue l.initial.row_queues l.initial.answers in
-    let k = kept l.figures l.cursors l.sure l.never l.search l.gcds l.node_queue l.row_queues l.answers in
-    Loops l.input l.bounds (built (held_rows l.row_conditions l.row_weights l.rows l.guard_bounds l.guard_nodes) l.nodes l.edges l.links) k₀ l.initial.reached k l.reached × Same k₀ k
+    Loops l.input l.built.bounds.now (built_of l.built) (kept_in l.initial.kept) l.initial.reached (kept_in l.kept) l.reached
+    × SameKept l.initial.kept l.kept
 
 abbrev pub decreases-loop-reached : goal.decreases-loop-reached
 decreases-loop-reached l = length l.input - l.reached.at

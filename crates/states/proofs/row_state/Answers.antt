@@ -3,7 +3,6 @@ use mathlib.Core.Path.{sym, ◌∙◌, ◌≡◌, refl}
 use native.Mathlib.Omega.{arith}
 use lib.ListN.{take, length-take, get_or-eq_default}
 use lib.Seq.{get_or-take}
-use borrow.Author.Rules.{rules}
 use Rattle.memory.specs.Limits.{max_thresholds}
 use Rattle.state.specs.State.{no_state, first_state}
 use Rattle.row_moves.specs.Numbers.{states_of}

@@ -1,7 +1,5 @@
 -- What the loops of `text::digits` keep, and what falls.
-use mathlib.Core.Path.{◌∙◌, sym}
-use native.Mathlib.Omega.{arith}
-use Rattle.text.specs.NumberLaws.{Digits, digits-first, digits_next, digits_last}
+use Rattle.text.specs.NumberLaws.{Digits}
 use Rattle.text.proofs.digits.Given as goal
 
 abbrev pub invariant-loop-rest : goal.invariant-loop-rest

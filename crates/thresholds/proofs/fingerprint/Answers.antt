@@ -1,41 +1,31 @@
--- `thresholds::fingerprint` meets its contract. Assumes nothing.
-use lib.Dec.{lit<}
-use native.Mathlib.Nat.{mod-lt}
-use Rattle.thresholds.specs.RawLaws.{mixed_next, mixed_done, fingerprint_of}
+-- `thresholds::fingerprint` meets its contract.
+use Rattle.std.proofs.Common.{rules, arith, ℕ, [], ◌∷◌, ◌++◌, ◌+◌, ◌*◌, ◌%◌, ◌∙◌, sym, ap, ap₂, length, drop, get_or, mod-lt}
+use Rattle.std.proofs.lemmas.List.{length_push}
+use Rattle.std.proofs.lemmas.Slice.Zip.{zip_turn, zip_end}
 use Rattle.numeric.specs.Slices.{terms}
 use Rattle.thresholds.specs.Raw.{prints, mixed as mixedOf}
-use mathlib.Core.Path.{◌≡◌, refl, sym, ◌∙◌}
-use Prim.Native.Nat.{◌+◌, ◌*◌, ◌-◌, ◌<◌, ◌≤◌}
-use native.Mathlib.Omega.{arith}
-use lib.ListN.{length, drop, get_or}
-use borrow.Author.Rules.{rules}
+use Rattle.thresholds.specs.RawLaws.{mixed_next, mixed_done, fingerprint_of}
+use lib.Dec.{lit<}
 use Rattle.thresholds.proofs.fingerprint.Goals as goal
 
-pub loop-i-init : goal.loop-i-init
-loop-i-init c = (search rules, search rules, refl)
-
-pub overflow_cast-mixed : goal.overflow_cast-mixed
-overflow_cast-mixed c = omega (arith, c.shared_slice_known-1.given c.loop-i.i)
-
-pub overflow_mul-mixed-in-loop-i : goal.overflow_mul-mixed-in-loop-i
-overflow_mul-mixed-in-loop-i c = omega (arith, c.shared_slice_known-1.given c.loop-i.i)
-
-pub overflow_add-mixed : goal.overflow_add-mixed
-overflow_add-mixed c = omega (arith, c.shared_slice_known-1.given c.loop-i.i)
-
-pub overflow_add-mixed-in-loop-i : goal.overflow_add-mixed-in-loop-i
-overflow_add-mixed-in-loop-i c =
-    let i = c.loop-i.i in
-    omega (arith, c.requires.2 i, c.shared_slice_known-1.given i)
-
-pub loop-i-preserved : goal.loop-i-preserved
-loop-i-preserved c = let g = c.args in
-    let w = c.loop-i in
-    let p = c.requires in
-    (omega arith, mod-lt (w.mixed * 65599 + get_or g.conditions.now w.i 0 * 257 + get_or g.weights.now w.i 0) (lit< tt), sym (mixed_next g.conditions.now g.weights.now w.mixed w.i (omega arith) (omega arith)) ∙ w.invariant.2)
+pub loop-condition-preserved : goal.loop-condition-preserved
+loop-condition-preserved c =
+    let cs = c.args.conditions.now in
+    let ws = c.args.weights.now in
+    let w = c.loop-condition in
+    let i = length w.yielded in
+    let t = zip_turn cs ws w.yielded c.into_iter-condition-iterator.result w.condition-iterator c.next.new.self _ (search rules) (search rules) w.yielded_by _ c.in-Some.is c.next.ensures.steps in
+    let n = length_push w.yielded (c.in-Some.condition, c.in-Some.weight) in (
+      mod-lt _ (lit< tt),
+      ap₂ (λ (x y : ℕ). mixedOf ((w.mixed * 65599 + x * 257 + y) % prints) (terms (drop (length (w.yielded ++ (c.in-Some.condition, c.in-Some.weight) ∷ [])) cs) (drop (length (w.yielded ++ (c.in-Some.condition, c.in-Some.weight) ∷ [])) ws))) (c.from.ensures ∙ t.2 0) (t.3 0)
+          ∙ ap (λ (k : ℕ). mixedOf ((w.mixed * 65599 + get_or cs i 0 * 257 + get_or ws i 0) % prints) (terms (drop k cs) (drop k ws))) n
+          ∙ sym (mixed_next cs ws w.mixed i t.0 t.1) ∙ w.invariant.1,
+    )
 
 pub returns : goal.returns
-returns c = let g = c.args in
-    let w = c.loop-i in
-    mixed_done g.conditions.now g.weights.now w.mixed w.i c.loop-i-test.false
-    ∙ w.invariant.2 ∙ fingerprint_of g.conditions.now g.weights.now c.requires.1
+returns c =
+    let cs = c.args.conditions.now in
+    let ws = c.args.weights.now in
+    let w = c.loop-condition in
+    let t = zip_end cs ws w.yielded c.into_iter-condition-iterator.result w.condition-iterator c.next.new.self _ (search rules) (search rules) w.yielded_by c.in-None.is c.next.ensures.steps in
+    mixed_done cs ws w.mixed (length w.yielded) (omega arith) ∙ w.invariant.1 ∙ fingerprint_of cs ws c.requires.1

@@ -1,23 +1,22 @@
--- `thresholds::with_link` meets its contract. Assumes nothing.
+-- `thresholds::with_link` meets its contract.
+use Rattle.std.proofs.Common.{arith, rules}
 use Rattle.thresholds.specs.TreeLaws.{link_zero, link_one, link_two, with_zero, with_one, with_two}
-use native.Mathlib.Omega.{arith}
-use borrow.Author.Rules.{rules}
 use Rattle.thresholds.proofs.with_link.Goals as goal
 
 pub overflow_add-result : goal.overflow_add-result
-overflow_add-result c = let g = c.args in let p = c.requires in record { fits = omega (arith, link_zero g.side g.mark c.if-side-eq0.true) }
+overflow_add-result c = let g = c.args in record { fits = omega (arith, link_zero g.side g.mark c.in-0.is) }
 
-pub returns-then-side-eq0 : goal.returns-then-side-eq0
-returns-then-side-eq0 c = let g = c.args in with_zero g.side g.row g.mark c.if-side-eq0.true
+pub overflow_add-result-in-1 : goal.overflow_add-result-in-1
+overflow_add-result-in-1 c = let g = c.args in record { fits = omega (arith, link_one g.side g.mark c.in-1.is) }
 
-pub overflow_add-result-then-side-eq1 : goal.overflow_add-result-then-side-eq1
-overflow_add-result-then-side-eq1 c = let g = c.args in let p = c.requires in record { fits = omega (arith, link_one g.side g.mark c.if-side-eq1.true) }
+pub overflow_add-result-in_default : goal.overflow_add-result-in_default
+overflow_add-result-in_default c = let g = c.args in record { fits = omega (arith, link_two g.side g.mark (search rules) (search rules)) }
 
-pub returns-then-side-eq1 : goal.returns-then-side-eq1
-returns-then-side-eq1 c = let g = c.args in with_one g.side g.row g.mark c.if-side-eq1.true
+pub returns-in-0 : goal.returns-in-0
+returns-in-0 c = let g = c.args in with_zero g.side g.row g.mark c.in-0.is
 
-pub overflow_add-result-2 : goal.overflow_add-result-2
-overflow_add-result-2 c = let g = c.args in let p = c.requires in record { fits = omega (arith, link_two g.side g.mark c.if-side-eq0.false c.if-side-eq1.false) }
+pub returns-in-1 : goal.returns-in-1
+returns-in-1 c = let g = c.args in with_one g.side g.row g.mark c.in-1.is
 
-pub returns : goal.returns
-returns c = let g = c.args in with_two g.side g.row g.mark c.if-side-eq0.false c.if-side-eq1.false
+pub returns-in_default : goal.returns-in_default
+returns-in_default c = let g = c.args in with_two g.side g.row g.mark (search rules) (search rules)

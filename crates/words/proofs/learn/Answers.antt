@@ -1,6 +1,5 @@
 -- `words::learn` meets its contract: the three answers of its definition.
 use mathlib.Core.Path.{sym, ap, ◌∙◌}
-use borrow.Author.Rules.{rules}
 use Rattle.words.specs.Mask.{Learned}
 use Rattle.words.specs.MaskLaws.{learn_there, learn_opposite, learn_new, set-bit}
 use Rattle.words.proofs.learn.Goals as goal

@@ -1,9 +1,7 @@
 -- `words::shift_word` meets its contract: a word that stays whole, one whose upper part falls off the end, and one in two parts.
 use mathlib.Core.Path.{sym, ◌∙◌}
 use Prim.Native.Nat.{◌+◌, ◌-◌, ◌/◌, ◌%◌, ◌<◌, ◌≤◌}
-use native.Mathlib.Omega.{arith}
 use lib.ListN.{length, length-set}
-use borrow.Author.Rules.{rules}
 use Rattle.words.specs.ShiftStepsLaws.{spills-whole, spills_last, spills-over, shift_one, shift_two, hits_one, hits_low, hits_high}
 use Rattle.words.proofs.shift_word.Goals as goal
 
@@ -12,10 +10,6 @@ returns-then-offset-eq0 c =
     let g = c.args in
     let e = spills-whole g.words.now (g.source + g.shift / 64) (g.shift % 64) c.if-offset-eq0.true in
     record { moved = shift_one g.words.now g.source g.shift e; hit = c.meets-found.ensures ∙ hits_one g.words.now g.source g.shift g.start g.end e }
-
-pub overflow_sub-last : goal.overflow_sub-last
-overflow_sub-last c =
-    simp length-set (omega arith)
 
 pub returns-then-last-target : goal.returns-then-last-target
 returns-then-last-target c =

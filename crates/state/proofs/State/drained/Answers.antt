@@ -30,20 +30,26 @@ module _
 up : (a b : ℤ) → mag a + mag b < 2 ^ 63 - 2 → SFits w64 (a +ℤ b)
 up a b h = add_sfits a b (omega arith)
 
-pub overflow_add-next : goal.overflow_add-next
-overflow_add-next c =
+pub overflow_add-result : goal.overflow_add-result
+overflow_add-result c =
     moved-fits ◌+ℤ◌ up c.args.self.known c.args.weight (search rules) c.requires.known c.requires.light
 
 pub returns-then-value : goal.returns-then-value
 unfolding drained with_known
 returns-then-value c =
-    simp (moved ◌+ℤ◌ up c.args.self.known c.args.weight (search rules) c.requires.known c.requires.light, c.if-value.true)
+    let s = c.args.self in
+    let hp : to_z w64 (of_z w64 s.possible) ≡ s.possible = search rules in
+    let hl : to_z w64 (of_z w64 s.lower) ≡ s.lower = search rules in
+    simp (moved ◌+ℤ◌ up s.known c.args.weight (search rules) c.requires.known c.requires.light, hp, hl, c.if-value.true)
 
-pub overflow_sub-next : goal.overflow_sub-next
-overflow_sub-next c =
+pub overflow_sub-result : goal.overflow_sub-result
+overflow_sub-result c =
     moved-fits ◌-ℤ◌ sub_sfits c.args.self.possible c.args.weight (search rules) c.requires.possible c.requires.light
 
-pub returns : goal.returns
+pub returns-else-value : goal.returns-else-value
 unfolding drained with_possible
-returns c =
-    simp (moved ◌-ℤ◌ sub_sfits c.args.self.possible c.args.weight (search rules) c.requires.possible c.requires.light, c.if-value.false)
+returns-else-value c =
+    let s = c.args.self in
+    let hk : to_z w64 (of_z w64 s.known) ≡ s.known = search rules in
+    let hl : to_z w64 (of_z w64 s.lower) ≡ s.lower = search rules in
+    simp (moved ◌-ℤ◌ sub_sfits s.possible c.args.weight (search rules) c.requires.possible c.requires.light, hk, hl, c.if-value.false)

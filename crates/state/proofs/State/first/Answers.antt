@@ -6,7 +6,6 @@ use mir.Syntax.{w64}
 use mir.Val.{to_z}
 use mir.Facts.{to_z_pos}
 use Rattle.state.specs.State.{first_state}
-use borrow.Author.Rules.{rules}
 use Rattle.state.proofs.State.first.Goals as goal
 
 pub returns : goal.returns
