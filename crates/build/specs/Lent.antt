@@ -9,10 +9,10 @@ use Rattle.prepare.specs.Lent.{rows_in}
 use Rattle.job.specs.Gathered.{Gathered, job_in}
 
 abbrev pub GatheredIn : Standing → RawLists → List ℤ → Type 0
-GatheredIn k l bounds = Gathered k l.conditions.now l.weights.now l.thresholds.now bounds
+GatheredIn k l bounds = Gathered k l.raw_conditions.now l.raw_weights.now l.thresholds.now bounds
 
 abbrev pub job_lent : Standing → RawLists → List ℤ → Job
-job_lent k l bounds = job_in k l.conditions.now l.weights.now l.thresholds.now bounds
+job_lent k l bounds = job_in k l.raw_conditions.now l.raw_weights.now l.thresholds.now bounds
 
 abbrev pub built_in : NewRows → List (List ℕ) → List (List ℕ) → List ℕ → Built
 built_in b nodes edges links = built (rows_in b) nodes edges links

@@ -10,7 +10,6 @@ ghost use Rattle.prepare.specs.Prepare.{unlinked_of};
 ghost use Rattle.job.specs.Gathered.{Gathered, job_in};
 ghost use Rattle.build.specs.Built.{Roomy, Spare, Builds};
 ghost use Rattle.job.specs.Rooms.{BuiltRoom};
-ghost use Rattle.files.specs.Stop.{at_seal};
 ghost use Rattle.prepare.specs.Lent.{unlinked_in, SameRows};
 ghost use Rattle.build.specs.Lent.{GatheredIn, job_lent, built_in};
 
@@ -39,8 +38,8 @@ fn build_rows(
     let count = standing.thresholds;
     let many = standing.nodes;
     let gathered = RawLists {
-        conditions: &lists.conditions[..terms],
-        weights: &lists.weights[..terms],
+        raw_conditions: &lists.raw_conditions[..terms],
+        raw_weights: &lists.raw_weights[..terms],
         thresholds: &lists.thresholds[..count],
     };
     let so = prepare::prepare(
@@ -90,7 +89,7 @@ fn build_in(
 ) -> usize
     requires { GatheredIn read.standing lists bounds.now × BuiltRoom (built_in built.old nodes.old edges.old links.old)
         × (max_links ≤ length links.old) }
-    ensures sealed { Builds (job_lent read.standing lists.entry bounds.now) (at_seal read.stop)
+    ensures sealed { Builds (job_lent read.standing lists.entry bounds.now) read.sealing
         (built_in built.old nodes.old edges.old links.old) (built_in built.new nodes.new edges.new links.new) result }
     ensures lent { SameRows built.old built.new }
 {
@@ -105,7 +104,7 @@ fn build_in(
         links,
     );
     let standing = read.standing;
-    let sealing = read.at_seal();
+    let sealing = read.sealing;
     if sealing {
         build_job(standing, lists, bounds, built, nodes, edges, links)
     } else {
@@ -133,13 +132,13 @@ pub fn build<'a>(
     requires { Gathered read.standing raw_conditions.now raw_weights.now thresholds.now bounds.now
         × BuiltRoom (built (held_rows row_conditions.old row_weights.old rows.old guard_bounds.old guard_nodes.old) nodes.old edges.old links.old)
         × (max_links ≤ length links.old) }
-    ensures { Builds (job_in read.standing raw_conditions.now raw_weights.now thresholds.now bounds.now) (at_seal read.stop)
+    ensures { Builds (job_in read.standing raw_conditions.now raw_weights.now thresholds.now bounds.now) read.sealing
         (built (held_rows row_conditions.old row_weights.old rows.old guard_bounds.old guard_nodes.old) nodes.old edges.old links.old)
         (built (held_rows row_conditions.new row_weights.new rows.new guard_bounds.new guard_nodes.new) nodes.new edges.new links.new) result }
 {
     let lists = RawLists {
-        conditions: raw_conditions,
-        weights: raw_weights,
+        raw_conditions,
+        raw_weights,
         thresholds,
     };
     let mut built = NewRows {

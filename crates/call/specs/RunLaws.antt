@@ -19,9 +19,7 @@ use Rattle.records.specs.Record.{record_at}
 use Rattle.records.specs.Facts.{Action, action, facts}
 use Rattle.checks.specs.Next.{Taken, next_at}
 use Rattle.job.specs.Gathered.{job_in}
-use Rattle.checks.specs.Refusal.{number_if}
 use Rattle.files.specs.declared.JobRead.{JobRead}
-use Rattle.files.specs.Stop.{at_seal}
 use Rattle.files.specs.File.{File, standing, refusal, sealed_file, act, apply, Outcome, refusal_at, read_from, file_of}
 use Rattle.files.specs.FileLaws.{zero_or, read_on, read_stop}
 use Rattle.files.specs.Contents.{laid, served, untouched, whole, out, nothing}
@@ -151,8 +149,8 @@ module _ (input : List ℕ) (w : Work) (yes-fits : fits input w ≡ true) (r : J
   abbrev file : File
   file = (job_part_of input).file
 
-  module _ (b : Built) (n : ℕ) (u : Builds given (at_seal r.stop) w.built b n) where
-    stops : at_seal r.stop ≡ true → Stops bs b file n
+  module _ (b : Built) (n : ℕ) (u : Builds given r.sealing w.built b n) where
+    stops : r.sealing ≡ true → Stops bs b file n
     stops q =
         let s = fits_sized input w yes-fits in
         record {
@@ -170,7 +168,7 @@ module _ (input : List ℕ) (w : Work) (yes-fits : fits input w ≡ true) (r : J
 
     -- WHAT THE LAST PHASE ASKS
     pub serve_asks : KeptRoom w.kept × (length input ≤ longest_input)
-        × (at_seal r.stop ≡ true → ((f : File) × Stops bs b f n × Blank f × (r.standing ≡ standing f)) × (r.at < length input) × (next_at r.standing input r.at ≡ Taken Seal))
+        × (r.sealing ≡ true → ((f : File) × Stops bs b f n × Blank f × (r.standing ≡ standing f)) × (r.at < length input) × (next_at r.standing input r.at ≡ Taken Seal))
     serve_asks = (
       kept_room w (fits_sized input w yes-fits),
       fits_input input w yes-fits,
@@ -185,7 +183,7 @@ module _ (input : List ℕ) (w : Work) (yes-fits : fits input w ≡ true) (r : J
 
     -- AFTER THE LAST
     module _ (k : Kept) (e : Reached)
-        (left : (f : File) → Blank f → r.standing ≡ standing f → (at_seal r.stop ≡ true → Stops bs b f n) → LeavesOn w.kept k e (ending input f r)) where
+        (left : (f : File) → Blank f → r.standing ≡ standing f → (r.sealing ≡ true → Stops bs b f n) → LeavesOn w.kept k e (ending input f r)) where
       leaves : Leaves w.kept k e (file_of input)
       leaves = leaves_file input r h.refusal h.at h.sealing w.kept k e (left file (job_blank input) h.held.stands stops).leaves
 
@@ -196,17 +194,17 @@ module _ (input : List ℕ) (w : Work) (yes-fits : fits input w ≡ true) (r : J
       same P d true t i j q z = ap P (z refl) ∙ ap (λ (v : Bool). cond v (P j) d) q
       same P d false t i j q z = ap (λ (v : Bool). cond v (P j) d) q
 
-      sealed-so : at_seal r.stop ≡ last.sealed
+      sealed-so : r.sealing ≡ last.sealed
       sealed-so = h.sealing ∙ sym (file-ends-so input).sealed
 
-      closed-so : at_seal r.stop ≡ true → given ≡ last.closed
+      closed-so : r.sealing ≡ true → given ≡ last.closed
       closed-so q = h.held.job ∙ sym ((file-ends-so input).closed (sym h.sealing ∙ q))
 
       built-so : b ≡ cond last.sealed (built_of last.closed (clear_built w.built)) (clear_built w.built)
-      built-so = u.words ∙ same (λ (i : Job). built_of i (clear_built w.built)) (clear_built w.built) (at_seal r.stop) last.sealed given last.closed sealed-so closed-so
+      built-so = u.words ∙ same (λ (i : Job). built_of i (clear_built w.built)) (clear_built w.built) r.sealing last.sealed given last.closed sealed-so closed-so
 
       rows-so : n ≡ cond last.sealed (length (rows_of last.closed)) 0
-      rows-so = u.counted ∙ same (λ (i : Job). length (rows_of i)) 0 (at_seal r.stop) last.sealed given last.closed sealed-so closed-so
+      rows-so = u.counted ∙ same (λ (i : Job). length (rows_of i)) 0 r.sealing last.sealed given last.closed sealed-so closed-so
 
       raw-so : raw (raw_lists cs ws ts) bs ≡ raw_of (job_of last.draft) (clear_raw w.raw)
       raw-so = h.held.words ∙ ap (λ (i : Job). raw_of i (clear_raw w.raw)) (sym (file-ends-so input).job)
@@ -215,10 +213,9 @@ module _ (input : List ℕ) (w : Work) (yes-fits : fits input w ≡ true) (r : J
       unfolding laid cleared
       work-so = λ i. work (raw-so i) (built-so i) (leaves.words i)
 
-      -- What is given back, with the number of the refusal.
-      abbrev all : ℕ → Given
-      all m = record {
-        refused = m;
+      abbrev all : Given
+      all = record {
+        refused = e.refused;
         at = e.at;
         sealed = e.standing.sealed;
         nodes = e.standing.nodes;
@@ -227,9 +224,9 @@ module _ (input : List ℕ) (w : Work) (yes-fits : fits input w ≡ true) (r : J
         answered = e.standing.answers;
       }
 
-      given_so : (m : ℕ) → m ≡ number_if e.refused → out (all m) (work (raw (raw_lists cs ws ts) bs) b k) ≡ served (file_of input) w
-      given_so m em = λ i. out (record {
-        refused = (em ∙ leaves.refused) i;
+      given_so : out all (work (raw (raw_lists cs ws ts) bs) b k) ≡ served (file_of input) w
+      given_so = λ i. out (record {
+        refused = leaves.refused i;
         at = leaves.at i;
         sealed = (leaves.standing i).sealed;
         nodes = (leaves.standing i).nodes;
@@ -239,6 +236,6 @@ module _ (input : List ℕ) (w : Work) (yes-fits : fits input w ≡ true) (r : J
       }) (work-so i)
 
       -- THE WHOLE CALL
-      pub whole_all : (m : ℕ) → m ≡ number_if e.refused → out (all m) (work (raw (raw_lists cs ws ts) bs) b k) ≡ whole input w
+      pub whole_all : out all (work (raw (raw_lists cs ws ts) bs) b k) ≡ whole input w
       unfolding whole
-      whole_all m em = given_so m em ∙ ap (λ (t : Bool). elim t [ true ↦ served (file_of input) w | false ↦ untouched w ]) (sym yes-fits)
+      whole_all = given_so ∙ ap (λ (t : Bool). elim t [ true ↦ served (file_of input) w | false ↦ untouched w ]) (sym yes-fits)

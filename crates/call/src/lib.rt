@@ -3,10 +3,8 @@
 
 ghost use Rattle.std.specs.Prelude.{◌≡◌};
 ghost use Rattle.memory.specs.Buffers.{raw_lists, raw, held_rows, built, kept, work};
-ghost use Rattle.checks.specs.Refusal.{number_if};
 ghost use Rattle.files.specs.Contents.{out, whole, nothing};
 
-use checks::Refusal;
 use files::Given;
 use state::Step;
 
@@ -22,16 +20,6 @@ pub fn too_short() -> Given
         rows: 0,
         last: Step::Unchanged,
         answered: 0,
-    }
-}
-
-// The number of a refusal, 0 for none.
-fn number(refused: Option<Refusal>) -> u8
-    ensures { result ≡ number_if refused }
-{
-    match refused {
-        Some(refusal) => u8::from(refusal),
-        None => 0,
     }
 }
 
@@ -134,9 +122,8 @@ pub fn run(
     );
     let standing = end.standing;
     let last = end.last;
-    let refused = number(end.refused);
     Given {
-        refused,
+        refused: end.refused,
         at: end.at,
         sealed: standing.sealed,
         nodes: standing.nodes,

@@ -1,6 +1,5 @@
 -- Laws of the first check that applies.
-use Rattle.std.specs.Prelude.{ℕ, zero, suc, ◌+◌, ◌-◌, ◌<◌, ◌≤◌, length, get_or, drop, eqb, leb, ltb, ℤ, ◌≡◌, refl, Bool, cond, not, ◌&&◌, ◌||◌, List, [], ◌∷◌, ◌⊎◌, Option, None, Some, Result, Ok, Err}
-use Rattle.std.specs.Option.{is_some}
+use Rattle.std.specs.Prelude.{ℕ, zero, suc, ◌+◌, ◌-◌, ◌<◌, ◌≤◌, length, get_or, drop, eqb, leb, ltb, ℤ, ◌≡◌, refl, Bool, cond, not, ◌&&◌, ◌||◌, List, [], ◌∷◌, ◌⊎◌, Result, Ok, Err}
 use Rattle.std.specs.Result.{is_ok}
 use Rattle.std.proofs.Math.ListN.{length-take, length-drop}
 use Rattle.std.proofs.Common.{arith, ◌∙◌, inl, inr, ⊎_elim, eqb-true, ltb-false, lt-ltb, le-ltb, eq-eqb, ne_eqb, le-leb}
@@ -14,8 +13,7 @@ use Rattle.records.specs.declared.Record.TheVariants.{Opens, Adds, Areas, Seal, 
 use Rattle.records.specs.declared.Standing.{Standing}
 use Rattle.records.specs.Record.{front, behind, Kind, kind, kind_of, body_length, body_of, record_at}
 use Rattle.checks.specs.declared.Refusal.{Refusal}
-use Rattle.checks.specs.declared.Refusal.TheVariants.{CutOff, UnknownKind, OutOfTurn, TooMany, NoSuchNode, NotRising, BoundOutside, NoValue, Contradicted, TooLong}
-use Rattle.checks.specs.Refusal.{number_of, number_if, number_in}
+use Rattle.checks.specs.Refusal.{number_in}
 use Rattle.checks.specs.Next.{Refused, Taken, taking, next_at, entry_condition, entry_figure, EntryNext}
 use Rattle.records.specs.declared.Kind as Kinds
 use Rattle.records.specs.declared.Kind.TheVariants as Named
@@ -39,26 +37,6 @@ first_next_lem false n x cs e h = h
 pub none_in : {X : Type 0} (r : Result X Refusal) → is_ok r ≡ true → number_in r ≡ 0
 none_in (Ok x) e = refl
 none_in (Err q) e = contrary (sym e)
-
-pub number_some : (r : Option Refusal) → is_some r ≡ true → number_if r ≡ 0 → ⊥
-number_some None e z = contrary (sym e)
-number_some (Some q) e z = above q z
-  where
-    above : (q : Refusal) → number_of q ≡ 0 → ⊥
-    above CutOff e = omega arith
-    above UnknownKind e = omega arith
-    above OutOfTurn e = omega arith
-    above TooMany e = omega arith
-    above NoSuchNode e = omega arith
-    above NotRising e = omega arith
-    above BoundOutside e = omega arith
-    above NoValue e = omega arith
-    above Contradicted e = omega arith
-    above TooLong e = omega arith
-
-pub number_none : (r : Option Refusal) → is_some r ≡ false → number_if r ≡ 0
-number_none None e = refl
-number_none (Some q) e = contrary e
 
 pub first-none : 0 ≡ first []
 unfolding first

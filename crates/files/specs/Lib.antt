@@ -1,4 +1,3 @@
-pub mod Stop
 pub mod File
 pub mod Listing
 pub mod Contents

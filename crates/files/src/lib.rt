@@ -1,11 +1,6 @@
 // The whole file: records, refusals, answers, and the lent buffers.
 #![tactic(auto)]
 
-ghost use Rattle.std.specs.Prelude.{◌≡◌};
-ghost use Rattle.checks.specs.Refusal.{number_if};
-ghost use Rattle.files.specs.Stop.{refused_in, at_seal};
-
-use checks::Refusal;
 use records::Standing;
 use state::Step;
 
@@ -23,36 +18,12 @@ pub struct Given {
     pub answered: usize,
 }
 
-// What stopped the reading of a job: a seal that is next, or a record that is refused.
-#[derive(Clone, Copy, Debug, PartialEq, Eq)]
-pub enum Stop {
-    AtSeal,
-    AtRefused(Refusal),
-}
-
-// Where reading a job ended: the offset, what stopped it there (the end of the input, if nothing did), and what the checks read then.
+// Where reading a job ended: the offset, the number of the refusal (0 for none), whether a seal is next, and what the checks read then. A
+// number and a flag: the contracts of `build::build` and `serve_phase::serve` hold of every number, and of one beside a seal.
 #[derive(Clone, Copy)]
 pub struct JobRead {
     pub at: usize,
-    pub stop: Option<Stop>,
+    pub refusal: u8,
+    pub sealing: bool,
     pub standing: Standing,
-}
-
-impl JobRead {
-    // Whether a seal is next.
-    pub fn at_seal(self) -> bool
-        ensures { result ≡ at_seal self.stop }
-    {
-        matches!(self.stop, Some(Stop::AtSeal))
-    }
-
-    // Why the record there is refused, if it is.
-    pub fn refusal(self) -> Option<Refusal>
-        ensures { number_if result ≡ refused_in self.stop }
-    {
-        match self.stop {
-            Some(Stop::AtRefused(refusal)) => Some(refusal),
-            _ => None,
-        }
-    }
 }

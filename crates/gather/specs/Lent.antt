@@ -6,7 +6,7 @@ use Rattle.gather.specs.declared.Raw.{Raw}
 use Rattle.gather.specs.declared.Notes.{Notes}
 
 abbrev pub TermedIn : Standing → Raw → Type 0
-TermedIn k w = Listed k w.thresholds.now × Termed k w.conditions.now w.weights.now
+TermedIn k w = Listed k w.thresholds.now × Termed k w.raw_conditions.now w.raw_weights.now
 
 abbrev pub JoinableIn : Standing → Raw → Notes → Type 0
 JoinableIn k w n = Joinable k w.thresholds.now n.places.now n.sums.now
@@ -20,28 +20,28 @@ OpenedIn k n b w r v = Opened k n b w.thresholds.now w.bounds.now r v.thresholds
 
 abbrev pub AddedIn : Standing → ℕ → ℕ → Raw → Standing → Raw → Type 0
 AddedIn k c x w r v =
-    Added k c x w.conditions.now w.weights.now w.thresholds.now r v.conditions.now v.weights.now v.thresholds.now
+    Added k c x w.raw_conditions.now w.raw_weights.now w.thresholds.now r v.raw_conditions.now v.raw_weights.now v.thresholds.now
 
 abbrev pub FirstIn : Standing → ℕ → ℕ → Raw → Notes → Standing → Raw → Notes → Type 0
 FirstIn k c a w n r v m =
-    FirstArea k c a w.conditions.now w.weights.now w.thresholds.now n.places.now n.sums.now
-    r v.conditions.now v.weights.now v.thresholds.now m.places.now m.sums.now
+    FirstArea k c a w.raw_conditions.now w.raw_weights.now w.thresholds.now n.places.now n.sums.now
+    r v.raw_conditions.now v.raw_weights.now v.thresholds.now m.places.now m.sums.now
 
 abbrev pub MoreIn : Standing → ℕ → ℕ → Raw → Notes → Standing → Raw → Notes → Type 0
 MoreIn k c a w n r v m =
-    MoreArea k c a w.conditions.now w.weights.now w.thresholds.now n.places.now n.sums.now r v.weights.now m.sums.now
+    MoreArea k c a w.raw_conditions.now w.raw_weights.now w.thresholds.now n.places.now n.sums.now r v.raw_weights.now m.sums.now
 
 abbrev pub AreaIn : Standing → ℕ → ℕ → Raw → Notes → Standing → Raw → Notes → Type 0
 AreaIn k c a w n r v m =
-    AreaTaken k c a w.conditions.now w.weights.now w.thresholds.now n.places.now n.sums.now
-    r v.conditions.now v.weights.now v.thresholds.now m.places.now m.sums.now
+    AreaTaken k c a w.raw_conditions.now w.raw_weights.now w.thresholds.now n.places.now n.sums.now
+    r v.raw_conditions.now v.raw_weights.now v.thresholds.now m.places.now m.sums.now
 
 -- The same buffers are lent, as long as they were.
 abbrev pub SameRaw : Raw → Raw → Type 0
 SameRaw w v =
-    (v.conditions.ghost_name ≡ w.conditions.ghost_name) × (v.weights.ghost_name ≡ w.weights.ghost_name)
+    (v.raw_conditions.ghost_name ≡ w.raw_conditions.ghost_name) × (v.raw_weights.ghost_name ≡ w.raw_weights.ghost_name)
     × (v.thresholds.ghost_name ≡ w.thresholds.ghost_name) × (v.bounds.ghost_name ≡ w.bounds.ghost_name)
-    × (length v.conditions.now ≡ length w.conditions.now) × (length v.weights.now ≡ length w.weights.now)
+    × (length v.raw_conditions.now ≡ length w.raw_conditions.now) × (length v.raw_weights.now ≡ length w.raw_weights.now)
     × (length v.thresholds.now ≡ length w.thresholds.now) × (length v.bounds.now ≡ length w.bounds.now)
 
 abbrev pub SameNotes : Notes → Notes → Type 0

@@ -16,8 +16,8 @@ use rows::{place, start_of};
 // The raw job, as its buffers are lent: the conditions and weights of all terms, the thresholds' nodes and where their terms end, their bounds.
 #[derive(Drop)]
 pub struct Raw<'a> {
-    pub conditions: &'a mut [u16],
-    pub weights: &'a mut [u64],
+    pub raw_conditions: &'a mut [u16],
+    pub raw_weights: &'a mut [u64],
     pub thresholds: &'a mut [[u16; 2]],
     pub bounds: &'a mut [i64],
 }
@@ -43,7 +43,7 @@ impl Raw<'_> {
     pub fn open_threshold(&mut self, standing: Standing, node: u16, bound: i64) -> Standing
         requires { Listed standing self.old.thresholds.now × Bounded standing self.old.bounds.now × (refused_by standing (Opens node bound) ≡ 0) }
         ensures opened { OpenedIn standing node bound self.old result self.new }
-        ensures kept { (self.new.conditions.now ≡ self.old.conditions.now) × (self.new.weights.now ≡ self.old.weights.now) }
+        ensures kept { (self.new.raw_conditions.now ≡ self.old.raw_conditions.now) × (self.new.raw_weights.now ≡ self.old.raw_weights.now) }
         ensures lent { SameRaw self.old self.new }
     {
         let at = standing.thresholds;
@@ -76,8 +76,8 @@ impl Raw<'_> {
     {
         let at = standing.raw_terms;
         let count = standing.thresholds;
-        self.conditions[at] = condition;
-        self.weights[at] = weight;
+        self.raw_conditions[at] = condition;
+        self.raw_weights[at] = weight;
         set_end(self.thresholds, count - 1, at + 1);
         Standing {
             last_terms: standing.last_terms + 1,
@@ -120,7 +120,7 @@ impl Raw<'_> {
         requires { TermedIn standing self.old × JoinableIn standing self.old notes.old
             × (area < 4294967296) × (refused_by standing (Areas condition area) ≡ 0) × (start_in standing self.old < get_or notes.old.places.now condition 0) }
         ensures more { MoreIn standing condition area self.old notes.old result self.new notes.new }
-        ensures kept { (self.new.conditions.now ≡ self.old.conditions.now) × (self.new.thresholds.now ≡ self.old.thresholds.now)
+        ensures kept { (self.new.raw_conditions.now ≡ self.old.raw_conditions.now) × (self.new.thresholds.now ≡ self.old.thresholds.now)
             × (self.new.bounds.now ≡ self.old.bounds.now) × (notes.new.places.now ≡ notes.old.places.now) }
         ensures lent { SameRaw self.old self.new × SameNotes notes.old notes.new }
     {
@@ -129,7 +129,7 @@ impl Raw<'_> {
         let sum = notes.sums[i] + area;
         notes.sums[i] = sum;
         let to = at;
-        self.weights[to] = weight_of_area(sum);
+        self.raw_weights[to] = weight_of_area(sum);
         Standing {
             last_terms: standing.last_terms + 1,
             terms: standing.terms + 1,

@@ -74,7 +74,7 @@ fn place_in(
         × (built.new.guard_bounds.now ≡ built.old.guard_bounds.now) }
     ensures lent { SameRows built.old built.new }
 {
-    let total = lists.conditions.len();
+    let total = lists.raw_conditions.len();
     place_all(
         lists,
         &mut built.row_conditions[..total],
@@ -163,7 +163,7 @@ pub fn prepare(
     scratch: &mut [u64],
 ) -> Extent
     requires { Sound (lists_of lists) bounds.now (length nodes.old)
-        × Ample (length lists.conditions.now) (length lists.thresholds.now) (unlinked_in built.old nodes.old edges.old) scratch.old }
+        × Ample (length lists.raw_conditions.now) (length lists.thresholds.now) (unlinked_in built.old nodes.old edges.old) scratch.old }
     ensures prepared { Prepared (lists_of lists.entry) bounds.now result (unlinked_in built.old nodes.old edges.old)
         (unlinked_in built.new nodes.new edges.new)
         × (scratch.new ≡ scratch.old) }

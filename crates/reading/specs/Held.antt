@@ -1,5 +1,5 @@
 -- What the raw buffers hold while a job is read: the job of the file so far, word by word, and what the checks read of it.
-use Rattle.std.specs.Prelude.{ℕ, ◌+◌, ◌-◌, ◌<◌, ◌≤◌, ◌≡◌, Bool, true, false, List, [], length, get_or, drop, ℤ, ltb, None}
+use Rattle.std.specs.Prelude.{ℕ, ◌+◌, ◌-◌, ◌<◌, ◌≤◌, ◌≡◌, Bool, true, false, List, [], length, get_or, drop, ℤ, ltb}
 use Rattle.numeric.specs.Area.{Entry, plain, area, joined, job_of}
 use Rattle.memory.specs.Limits.{max_nodes, max_terms, max_thresholds, list_terms}
 use Rattle.memory.specs.Buffers.{Raw, raw_lists, raw}
@@ -13,7 +13,6 @@ use Rattle.checks.specs.Checks.{wrong_turn}
 use Rattle.job.specs.Job.{last_list}
 use Rattle.job.specs.Gathered.{job_in, Gathered, open_start, Joinable}
 use Rattle.files.specs.declared.JobRead.{JobRead}
-use Rattle.files.specs.Stop.{refused_in, at_seal}
 use Rattle.files.specs.File.{File, standing, apply}
 use Rattle.files.specs.JobPart.{JobPart, read_job, job_part_from}
 
@@ -34,7 +33,7 @@ headed s n = record {
 
 -- Read up to an offset, and neither refused nor at a seal there.
 abbrev pub read_to : ℕ → Standing → JobRead
-read_to o s = record { at = o; stop = None; standing = s }
+read_to o s = record { at = o; refusal = 0; sealing = false; standing = s }
 
 -- Nothing is read yet.
 abbrev pub blank : Standing
@@ -109,9 +108,9 @@ pub record Takes (x : Record) (s : Standing) (cs ws : List ℕ) (ts : List (List
 
 -- What was read, as the code gives it back: each equals what the definition gives.
 pub record HeldPart (j : JobPart) (w : Raw) (r : JobRead) (cs ws : List ℕ) (ts : List (List ℕ)) (bs : List ℤ) : Type 0 where
-  pub refusal : refused_in r.stop ≡ j.refused
+  pub refusal : r.refusal ≡ j.refused
   pub at : r.at ≡ j.at
-  pub sealing : at_seal r.stop ≡ j.sealing
+  pub sealing : r.sealing ≡ j.sealing
   pub held : Held j.file w r.standing cs ws ts bs
 
 -- The same of one record at an offset, whatever file the buffers held; and what is noted then.
@@ -119,7 +118,7 @@ pub record ReadPart (j : JobPart) (w : Raw) (r : JobRead) (cs ws : List ℕ) (ts
   pub part : HeldPart j w r cs ws ts bs
   pub joinable : Joinable r.standing ts ps ss
   pub noted : any_open j.file ≡ true → Noted (joined (last_list j.file.draft.thresholds)) r.standing ts ps ss
-  pub building : refused_in r.stop ≡ 0 → at_seal r.stop ≡ false → wrong_turn r.standing serving ≡ true
+  pub building : r.refusal ≡ 0 → r.sealing ≡ false → wrong_turn r.standing serving ≡ true
 
 pub record Reads (bytes : List ℕ) (o : ℕ) (s : Standing) (cs ws : List ℕ) (ts : List (List ℕ)) (bs : List ℤ) (ps ss : List ℕ)
     (r : JobRead) (cs' ws' : List ℕ) (ts' : List (List ℕ)) (bs' : List ℤ) (ps' ss' : List ℕ) : Type 0 where
@@ -134,8 +133,8 @@ pub record Going (bytes : List ℕ) (whole : JobPart) (w : Raw) (r : JobRead) (c
   pub same : read_job left r.at (drop r.at bytes) file taken ≡ whole
   pub reading : Reading file w r.standing cs ws ts bs ps ss
   pub builds : NextOfJob bytes r.at r.standing
-  pub refusal : refused_in r.stop ≡ 0
-  pub sealing : at_seal r.stop ≡ false
+  pub refusal : r.refusal ≡ 0
+  pub sealing : r.sealing ≡ false
 
 -- The same from an offset on, whatever file the buffers held there.
 pub record GoesFrom (bytes : List ℕ) (o : ℕ) (s : Standing) (cs ws : List ℕ) (ts : List (List ℕ)) (bs : List ℤ) (ps ss : List ℕ)

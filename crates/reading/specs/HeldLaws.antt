@@ -1,11 +1,10 @@
 -- Each record that is taken keeps what the buffers hold; reading one record, and the next ones.
-use Rattle.std.specs.Prelude.{ℕ, zero, suc, ◌+◌, ◌-◌, ◌<◌, ◌≤◌, Bool, not, ◌||◌, get_or, drop, set, ℤ, eqb, ltb, ◌⊎◌, ◌≢◌, Option, None, Some}
+use Rattle.std.specs.Prelude.{ℕ, zero, suc, ◌+◌, ◌-◌, ◌<◌, ◌≤◌, Bool, not, ◌||◌, get_or, drop, set, ℤ, eqb, ltb, ◌⊎◌, ◌≢◌}
 use Rattle.std.proofs.Common.{arith, ◌∙◌, drop_of_length-le, length-append, length-set, drop-cons, drop-drop, inl, inr, ⊎_elim}
 use Rattle.std.proofs.Math.Path.{◌≡◌, refl, sym, ap, ap₂, subst}
 use Rattle.std.proofs.Math.Bool.{true, false}
 use mathlib.Core.List.{List, [], ◌∷◌, ◌++◌, map}
 use Rattle.std.proofs.Math.ListN.{length}
-use Rattle.std.specs.Option.{is_some}
 use Rattle.std.proofs.lemmas.List.{length-map}
 use borrow.Author.Tests.{lt-ltb, ltb-false, ne_eqb, not-false}
 use Rattle.base.specs.TestLaws.{or-false, true-false, unequal, contrary}
@@ -25,10 +24,8 @@ use Rattle.records.specs.Record.{kind_of, body_length}
 use Rattle.checks.specs.Next.{Refused, Taken, closing, next_at, entry_condition, entry_figure, EntryNext}
 use Rattle.records.specs.At.{record_in}
 use Rattle.records.specs.Facts.{within, serving, action, facts}
-use Rattle.checks.specs.declared.Refusal.{Refusal}
-use Rattle.checks.specs.Refusal.{number_of}
 use Rattle.checks.specs.Checks.{wrong_turn, unknown_kind, refused_by, refused_at}
-use Rattle.checks.specs.CheckLaws.{Passes, passes, next_unknown, number_some, was_refused, was_taken, taken_passes, taken_whole, known_record}
+use Rattle.checks.specs.CheckLaws.{Passes, passes, next_unknown, was_refused, was_taken, taken_passes, taken_whole, known_record}
 use Rattle.job.specs.Job.{last_node_of, last_list, all_terms, standing_of}
 use Rattle.job.specs.Taken.{opened_by, added_to, with_threshold, with_term, weighing, with_weight}
 use Rattle.job.specs.Gathered.{Gathered, Opened, Added, open_start, Joinable, FirstArea, MoreArea, AreaTaken, first, more}
@@ -38,9 +35,6 @@ use Rattle.gather.specs.TakenLaws.{opened_gathered, added_gathered, term_open, c
 use Rattle.gather.specs.JoinLaws.{opened_joinable, added_joinable, area_named, reweighed_gathered}
 use Rattle.gather.specs.RawLaws.{raw_opened, raw_added, raw-weighed}
 use Rattle.files.specs.declared.JobRead.{JobRead}
-use Rattle.files.specs.declared.Stop.{Stop}
-use Rattle.files.specs.declared.Stop.TheVariants.{AtSeal, AtRefused}
-use Rattle.files.specs.Stop.{refused_in, at_seal}
 use Rattle.files.specs.File.{File, contradicted, standing, no_job, begun, with_draft, act, apply, refusal_at}
 use Rattle.files.specs.FileLaws.{zero_or}
 use Rattle.files.specs.JobPart.{JobPart, job_part, read_job, job_part_from, job_part_of}
@@ -492,27 +486,27 @@ module _ (bytes : List ℕ) (o : ℕ) (inside : o < length bytes) where
     by-file : (x : ℕ) → refused_at s key rest ≡ x → refusal_at f key rest ≡ x
     by-file x e = sym (ap (λ (y : Standing). refused_at y key rest) h.held.stands) ∙ e
 
-    pub read_refused : (x : Refusal) → Refused (number_of x) ≡ next_at s bytes o → ReadPart part w (record { at = o; stop = Some (AtRefused x); standing = s }) cs ws ts bs ps ss
+    pub read_refused : (x : ℕ) → Refused x ≡ next_at s bytes o → ReadPart part w (record { at = o; refusal = x; sealing = false; standing = s }) cs ws ts bs ps ss
     read_refused x e =
-        let q = was_refused s bytes o (number_of x) e in
-        let v = by-file (number_of x) q.0 in
-        subst (λ (j : JobPart). ReadPart j w (record { at = o; stop = Some (AtRefused x); standing = s }) cs ws ts bs ps ss)
+        let q = was_refused s bytes o x e in
+        let v = by-file x q.0 in
+        subst (λ (j : JobPart). ReadPart j w (record { at = o; refusal = x; sealing = false; standing = s }) cs ws ts bs ps ss)
         (sym (at-refused 0 f [] (λ z. q.1 (sym v ∙ z)) ∙ ap (λ (y : ℕ). job_part f [] y o false) v)) (record { part = record { refusal = refl; at = refl; sealing = refl; held = h.held }; joinable = h.joinable; noted = h.noted; building = λ z y. absurd (q.1 z) })
 
     module _ (x : Record) (e : Taken x ≡ next_at s bytes o) where
       same-record : x ≡ record_in bytes o
       same-record = (was_taken s bytes o x e).1
 
-      pub read_sealing : closing (action x) ≡ true → ReadPart part w (record { at = o; stop = Some AtSeal; standing = s }) cs ws ts bs ps ss
+      pub read_sealing : closing (action x) ≡ true → ReadPart part w (record { at = o; refusal = 0; sealing = true; standing = s }) cs ws ts bs ps ss
       read_sealing c =
-          subst (λ (j : JobPart). ReadPart j w (record { at = o; stop = Some AtSeal; standing = s }) cs ws ts bs ps ss)
+          subst (λ (j : JobPart). ReadPart j w (record { at = o; refusal = 0; sealing = true; standing = s }) cs ws ts bs ps ss)
           (sym (at-sealing 0 f [] (by-file 0 (was_taken s bytes o x e).0) (sym (ap (λ (y : Record). closing (action y)) same-record) ∙ c)))
           (record { part = record { refusal = refl; at = refl; sealing = refl; held = h.held }; joinable = h.joinable; noted = h.noted; building = λ z y. contrary y })
 
       pub read_next : closing (action x) ≡ false → (n : ℕ) → n ≡ size → (s' : Standing) (cs' ws' : List ℕ) (ts' : List (List ℕ)) (bs' : List ℤ) (ps' ss' : List ℕ) → Reading (apply f x) w s' cs' ws' ts' bs' ps' ss'
-          → wrong_turn s' serving ≡ true → ReadPart part w (record { at = o + 1 + n; stop = None; standing = s' }) cs' ws' ts' bs' ps' ss'
+          → wrong_turn s' serving ≡ true → ReadPart part w (record { at = o + 1 + n; refusal = 0; sealing = false; standing = s' }) cs' ws' ts' bs' ps' ss'
       read_next c n en s' cs' ws' ts' bs' ps' ss' a t =
-          subst (λ (j : JobPart). ReadPart j w (record { at = o + 1 + n; stop = None; standing = s' }) cs' ws' ts' bs' ps' ss')
+          subst (λ (j : JobPart). ReadPart j w (record { at = o + 1 + n; refusal = 0; sealing = false; standing = s' }) cs' ws' ts' bs' ps' ss')
           (sym (one-next f (by-file 0 (was_taken s bytes o x e).0) (sym (ap (λ (y : Record). closing (action y)) same-record) ∙ c)))
           (let b = subst (λ (y : Record). Reading (apply f y) w s' cs' ws' ts' bs' ps' ss') same-record a in
           record { part = record { refusal = refl; at = ap (λ (k : ℕ). o + 1 + k) en; sealing = refl; held = b.held }; joinable = b.joinable; noted = b.noted; building = λ z y. t })
@@ -527,7 +521,7 @@ module _ (bytes : List ℕ) (o : ℕ) (s : Standing) (t : EntryNext s bytes o) (
   module _ (x : Record) (next : Taken x ≡ next_at s bytes o) (goes : closing (action x) ≡ false) (long : 6 ≡ body_length (kind_of (get_or bytes o 0)))
       (cs ws : List ℕ) (ts : List (List ℕ)) (bs : List ℤ) (ps ss : List ℕ) (r : Standing) (cs' ws' : List ℕ) (ts' : List (List ℕ)) (ps' ss' : List ℕ)
       (k : Takes x s cs ws ts bs ps ss r cs' ws' ts' bs ps' ss') where
-    read_one : Reads bytes o s cs ws ts bs ps ss (record { at = o + 1 + 6; stop = None; standing = r }) cs' ws' ts' bs ps' ss'
+    read_one : Reads bytes o s cs ws ts bs ps ss (record { at = o + 1 + 6; refusal = 0; sealing = false; standing = r }) cs' ws' ts' bs ps' ss'
     read_one = record {
       part = λ f w room h.
           read_next bytes o (let q = t.whole in omega (arith, q)) f w s cs ws ts bs ps ss h x next goes 6 long r cs' ws' ts' bs ps' ss' (k.done f w room h) (k.building f w h);
@@ -544,7 +538,7 @@ module _ (bytes : List ℕ) (o : ℕ) (s : Standing) (t : EntryNext s bytes o) (
     term_passes = next_passes s bytes o (Adds c v) term-comes
 
     pub read_term : (cs ws : List ℕ) (ts : List (List ℕ)) (ps ss : List ℕ) (r : Standing) (cs' ws' : List ℕ) (ts' : List (List ℕ)) → Added s c v cs ws ts r cs' ws' ts' → (bs : List ℤ)
-        → Reads bytes o s cs ws ts bs ps ss (record { at = o + 1 + 6; stop = None; standing = r }) cs' ws' ts' bs ps ss
+        → Reads bytes o s cs ws ts bs ps ss (record { at = o + 1 + 6; refusal = 0; sealing = false; standing = r }) cs' ws' ts' bs ps ss
     read_term cs ws ts ps ss r cs' ws' ts' a bs =
         read_one (Adds c v) term-comes refl (sym (ap (λ (b : ℕ). body_length (kind_of b)) is-term)) cs ws ts bs ps ss r cs' ws' ts' ps ss
         (takes_adds (Adds c v) s cs ws ts bs ps ss term_passes c v refl r cs' ws' ts' a)
@@ -558,7 +552,7 @@ module _ (bytes : List ℕ) (o : ℕ) (s : Standing) (t : EntryNext s bytes o) (
 
     pub read_area : (cs ws : List ℕ) (ts : List (List ℕ)) (ps ss : List ℕ) (r : Standing) (cs' ws' : List ℕ) (ts' : List (List ℕ)) (ps' ss' : List ℕ)
         → AreaTaken s c v cs ws ts ps ss r cs' ws' ts' ps' ss' → (bs : List ℤ)
-        → Reads bytes o s cs ws ts bs ps ss (record { at = o + 1 + 6; stop = None; standing = r }) cs' ws' ts' bs ps' ss'
+        → Reads bytes o s cs ws ts bs ps ss (record { at = o + 1 + 6; refusal = 0; sealing = false; standing = r }) cs' ws' ts' bs ps' ss'
     read_area cs ws ts ps ss r cs' ws' ts' ps' ss' a bs =
         read_one (Areas c v) area-comes refl (sym (ap (λ (b : ℕ). body_length (kind_of b)) is-area)) cs ws ts bs ps ss r cs' ws' ts' ps' ss'
         (takes_areas (Areas c v) s cs ws ts bs ps ss area_passes c v v refl refl r cs' ws' ts' ps' ss' a)
@@ -629,25 +623,9 @@ none_left (suc n) o f taken = refl
 
 -- Whether what was given back ends the reading.
 abbrev pub stopping : JobRead → Bool
-stopping r = not (eqb (refused_in r.stop) 0) || at_seal r.stop
+stopping r = not (eqb r.refusal 0) || r.sealing
 
--- The code asks whether anything stopped it.
-pub stopping_some : (r : JobRead) → is_some r.stop ≡ true → stopping r ≡ true
-stopping_some r e = by r.stop e
-  where
-    by : (t : Option Stop) → is_some t ≡ true → (not (eqb (refused_in t) 0) || at_seal t) ≡ true
-    by None q = contrary (sym q)
-    by (Some AtSeal) q = refl
-    by (Some (AtRefused x)) q = ap (λ (b : Bool). not b || false) (ne_eqb (number_of x) 0 (number_some (Some x) refl))
-
-pub stopping_none : (r : JobRead) → is_some r.stop ≡ false → stopping r ≡ false
-stopping_none r e = by r.stop e
-  where
-    by : (t : Option Stop) → is_some t ≡ false → (not (eqb (refused_in t) 0) || at_seal t) ≡ false
-    by None q = refl
-    by (Some x) q = contrary q
-
-pub goes : (r : JobRead) → refused_in r.stop ≡ 0 → at_seal r.stop ≡ false → stopping r ≡ false
+pub goes : (r : JobRead) → r.refusal ≡ 0 → r.sealing ≡ false → stopping r ≡ false
 goes r e q = ap₂ (λ (n : ℕ) (b : Bool). not (eqb n 0) || b) e q
 
 module _ (bytes : List ℕ) (whole : JobPart) (w : Raw) (r : JobRead) (cs ws : List ℕ) (ts : List (List ℕ)) (bs : List ℤ) (ps ss : List ℕ) (g : Going bytes whole w r cs ws ts bs ps ss) where

@@ -12,6 +12,6 @@ pub notes_on : (n m l : Notes) → SameNotes n m → SameNotes m l → SameNotes
 notes_on n m l e f = (f.0 ∙ e.0, f.1 ∙ e.1, f.2 ∙ e.2, f.3 ∙ e.3)
 
 pub lent_back : (P : List ℕ → List ℕ → List (List ℕ) → List ℤ → Type 0) (v : Raw) {cs ws : List ℕ} {ts : List (List ℕ)} {bs : List ℤ}
-    → cs ≡ v.conditions.now → ws ≡ v.weights.now → ts ≡ v.thresholds.now → bs ≡ v.bounds.now
-    → P v.conditions.now v.weights.now v.thresholds.now v.bounds.now → P cs ws ts bs
+    → cs ≡ v.raw_conditions.now → ws ≡ v.raw_weights.now → ts ≡ v.thresholds.now → bs ≡ v.bounds.now
+    → P v.raw_conditions.now v.raw_weights.now v.thresholds.now v.bounds.now → P cs ws ts bs
 lent_back P v e0 e1 e2 e3 p = rw (e0, e1, e2, e3) p

@@ -1,7 +1,7 @@
 // The records of a job read into the raw buffers, from an offset on up to the next seal.
 #![tactic(auto)]
 
-ghost use Rattle.std.specs.Prelude.{◌≡◌, false, ◌<◌, length, None};
+ghost use Rattle.std.specs.Prelude.{◌≡◌, false, ◌<◌, length};
 ghost use Rattle.memory.specs.Buffers.{Raw as RawWords, raw_lists, raw, clear_raw};
 ghost use Rattle.records.specs.Facts.{action};
 ghost use Rattle.checks.specs.Next.{closing, EntryNext};
@@ -12,7 +12,7 @@ ghost use Rattle.reading.specs.Held.{headed, blank, Room, any_open, OfJob, NextO
 ghost use Rattle.reading.specs.Lent.{GatheredIn, HeldIn, ReadingIn, TakesIn, ReadsIn, ReadsOnIn, ReadsJobIn};
 ghost use Rattle.files.specs.JobPart.{job_part_of};
 
-use files::{JobRead, Stop};
+use files::JobRead;
 use gather::{Notes, Raw};
 use records::{Record, Standing};
 
@@ -71,14 +71,16 @@ fn read_record(
     match next {
         Err(refusal) => JobRead {
             at,
-            stop: Some(Stop::AtRefused(refusal)),
+            refusal: u8::from(refusal),
+            sealing: false,
             standing,
         },
         Ok(entry) => {
             if checks::closes(entry) {
                 return JobRead {
                     at,
-                    stop: Some(Stop::AtSeal),
+                    refusal: 0,
+                    sealing: true,
                     standing,
                 };
             }
@@ -86,7 +88,8 @@ fn read_record(
             let after = take_record(entry, standing, raw, notes);
             JobRead {
                 at: at + 1 + size,
-                stop: None,
+                refusal: 0,
+                sealing: false,
                 standing: after,
             }
         }
@@ -103,7 +106,7 @@ fn read_entry(
 ) -> JobRead
     requires { EntryNext standing input.now at × GatheredIn standing raw.old × JoinableIn standing raw.old notes.old }
     ensures reads { ReadsIn input.now at standing raw.old notes.old result raw.new notes.new }
-    ensures going { result.stop ≡ None }
+    ensures going { (result.refusal ≡ 0) × (result.sealing ≡ false) }
     ensures lent { SameRaw raw.old raw.new × SameNotes notes.old notes.new }
 {
     let condition = records::u16_at(input, at + 1);
@@ -114,14 +117,16 @@ fn read_entry(
         let after = raw.add_area(notes, standing, condition, figure);
         return JobRead {
             at: at + 1 + 6,
-            stop: None,
+            refusal: 0,
+            sealing: false,
             standing: after,
         };
     }
     let after = raw.add_term(standing, condition, figure);
     JobRead {
         at: at + 1 + 6,
-        stop: None,
+        refusal: 0,
+        sealing: false,
         standing: after,
     }
 }
@@ -159,7 +164,8 @@ fn read_records(
 {
     let mut read = JobRead {
         at,
-        stop: None,
+        refusal: 0,
+        sealing: false,
         standing,
     };
     // A step is as long as its record, so this is no loop over indices.
@@ -172,7 +178,7 @@ fn read_records(
             continue;
         }
         let next = read_record(input, from, stands, raw, notes);
-        let stops = next.stop.is_some();
+        let stops = (next.refusal != 0) | next.sealing;
         if stops {
             return next;
         }
@@ -213,8 +219,8 @@ pub fn read(
     memory::clear_raw(raw_conditions, raw_weights, thresholds, bounds);
     let standing = nothing_read();
     let mut raw = Raw {
-        conditions: raw_conditions,
-        weights: raw_weights,
+        raw_conditions,
+        raw_weights,
         thresholds,
         bounds,
     };

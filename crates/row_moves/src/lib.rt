@@ -70,6 +70,19 @@ impl<'a> HeldRows<'a> {
             nodes: &self.guard_nodes[b..f],
         }
     }
+
+    // Whether one look at a row with this state tells that its run would change nothing. The masks are only read, and no node of a guard is.
+    pub fn rests(self, row: usize, state: State, sure: &[u64], never: &[u64]) -> bool
+        requires { ((ns : List ℕ) × Shaped (held_by self ns) × Fit (held_by self ns) figure_limit row state)
+            × (row < length self.rows.now) × (64 ≤ length sure.now) × (64 ≤ length never.now) }
+        ensures { result ≡ true → (ns : List ℕ) (q : Queue) → Shaped (held_by self.entry ns)
+            → Rests (held_row (held_by self.entry ns) row) state (marks sure.now never.now q) }
+    {
+        let b = rows::guards_start(self.rows, row);
+        let f = rows::guards_end(self.rows, row);
+        let terms = self.terms(row);
+        resting::rests(terms, &self.guard_bounds[b..f], state, sure, never)
+    }
 }
 
 // All that a seal built, and the bounds of the thresholds.
@@ -240,22 +253,14 @@ impl Live<'_> {
         self.run_row(own, row)
     }
 
-    // Whether one look at a row with this state tells that its run would change nothing.
+    // `HeldRows::rests`, by the masks of `self`.
     pub fn rests(&self, held: HeldRows<'_>, row: usize, state: State) -> bool
         requires { ((ns : List ℕ) × Shaped (held_by held ns) × Fit (held_by held ns) figure_limit row state)
             × (row < length held.rows.now) × (64 ≤ length self.now.sure.now) × (64 ≤ length self.now.never.now) }
         ensures { result ≡ true → (ns : List ℕ) (q : Queue) → Shaped (held_by held.entry ns)
             → Rests (held_row (held_by held.entry ns) row) state (marks self.now.sure.now self.now.never.now q) }
     {
-        let b = rows::guards_start(held.rows, row);
-        let f = rows::guards_end(held.rows, row);
-        resting::rests(
-            held.terms(row),
-            &held.guard_bounds[b..f],
-            state,
-            self.sure,
-            self.never,
-        )
+        held.rests(row, state, self.sure, self.never)
     }
 
     // A row run. One that rests is not run.

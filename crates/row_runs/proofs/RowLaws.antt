@@ -297,6 +297,10 @@ row-raw raw raw' ts gs s m = by (conflict s) refl
 
 -- Whether a row wants a residual, from its slices.
 module _ (r : Row) (s : State) where
+  pub wants_conflict : conflict s ≡ true → wants_residual r s ≡ false
+  unfolding wants_residual
+  wants_conflict h = rw h
+
   pub wants_unit : conflict s ≡ false → has_nonunit r.terms ≡ false → wants_residual r s ≡ false
   unfolding wants_residual
   wants_unit h k = rw (h, k)

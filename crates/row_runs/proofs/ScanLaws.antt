@@ -1,5 +1,5 @@
 -- A scan, place by place: what a turn leaves, how far a scan comes, and what it keeps. Assumes nothing.
-use Rattle.std.specs.Prelude.{ℕ, zero, suc, ◌+◌, ◌<◌, ◌≤◌, ◌≡◌, Bool, take, drop}
+use Rattle.std.specs.Prelude.{ℕ, zero, suc, ◌+◌, ◌<◌, ◌≤◌, ◌≡◌, Bool, ◌&&◌, not, take, drop}
 use native.Mathlib.Omega.{arith}
 use Rattle.std.proofs.Math.Path.{refl, sym, ap}
 use Rattle.std.proofs.Common.{◌∙◌}
@@ -11,7 +11,9 @@ use Rattle.base.specs.TestLaws.{contrary}
 use Rattle.state.specs.declared.Step.{Step}
 use Rattle.state.specs.declared.Step.TheVariants.{Unchanged, Changed, Contradiction}
 use Rattle.state.specs.Step.{joined, contradicts}
-use Rattle.queues.specs.Marks.{Marks, Decided, is_decided}
+use Rattle.queues.specs.declared.Ring.{Ring}
+use Rattle.queues.specs.Queue.{queue}
+use Rattle.queues.specs.Marks.{Marks, marks, Decided, decided, is_decided, decide}
 use Rattle.queues.proofs.MarksLaws.{waits-decide}
 use Rattle.queues.specs.Waiting.{Waits}
 use Rattle.row_runs.specs.Scan.{Scanned, scanned, scan, force}
@@ -135,13 +137,44 @@ module _ {X : Type 0} (waits : X → Marks → Bool) (act : X → Marks → Deci
 pub waits-turn : (w : Bool) (d : Decided) (s : Scanned) → w ≡ true → turn s true ≡ turned w d s
 waits-turn w d s e = rw (e, turn-waits d s)
 
--- What waits after a term was forced.
+-- A decision, and a place passed with it.
+module _ (value w : Bool) (m : Marks) (x q : ℕ) (i : Step) (s n l : List ℕ) (r r' : Ring) (k : Step) (p : ℕ) (j : Step) (b : Bool) (a : r' ≡ r)
+    (f : (y z : Marks) → turn (scanned p y j) b ≡ turned false (decided y k) (scanned q z i)) where
+  pub guard_passed : w ≡ false → decided (marks s n (queue l r)) k ≡ decide value m x
+      → turn (scanned p (marks s n (queue l r')) j) b ≡ turned w (decide value m x) (scanned q m i)
+  guard_passed h e =
+      f (marks s n (queue l r')) m
+      ∙ ap (λ (y : Ring). turned false (decided (marks s n (queue l y)) k) (scanned q m i)) a
+      ∙ ap (λ (d : Decided). turned false d (scanned q m i)) e
+      ∙ ap (λ (v : Bool). turned v (decide value m x) (scanned q m i)) (sym h)
+
+  pub term_passed : k ≡ Unchanged → marks s n (queue l r) ≡ m → is_decided m x ≡ true
+      → turn (scanned p (marks s n (queue l r')) j) b ≡ turned (not (is_decided m x) && w) (force value m x) (scanned q m i)
+  term_passed u e h =
+      f (marks s n (queue l r')) m
+      ∙ ap (λ (y : Ring). turned false (decided (marks s n (queue l y)) k) (scanned q m i)) a
+      ∙ ap (λ (y : Step). turned false (decided (marks s n (queue l r)) y) (scanned q m i)) u
+      ∙ ap (λ (y : Marks). turned false (decided y Unchanged) (scanned q m i)) e
+      ∙ ap (λ (v : Bool). turned (not v && w) (cond v (decided m Unchanged) (decide value m x)) (scanned q m i)) (sym h)
+
+pub term_free : (value w : Bool) (m : Marks) (x : ℕ) (s : Scanned) → is_decided m x ≡ false
+    → turned w (decide value m x) s ≡ turned (not (is_decided m x) && w) (force value m x) s
+term_free value w m x s h = ap (λ (v : Bool). turned (not v && w) (cond v (decided m Unchanged) (decide value m x)) s) (sym h)
+
+-- What waits after a turn.
+pub guard_keeps : (value w : Bool) (m : Marks) (x q : ℕ) (i : Step) → x < 4096 → Waits m → Waits (turned w (decide value m x) (scanned q m i)).scanned.marks
+guard_keeps value w m x q i h a = turn_keeps Waits w (decide value m x) (scanned q m i) a (waits-decide m a value x h)
+
 pub force_keeps : (value : Bool) (m : Marks) (x : ℕ) → x < 4096 → Waits m → Waits (force value m x).marks
 force_keeps value m x h a = by (is_decided m x) refl
   where
     by : (b : Bool) → is_decided m x ≡ b → Waits (force value m x).marks
     by true e = rw e a
     by false e = rw e (waits-decide m a value x h)
+
+pub term_keeps : (value w : Bool) (m : Marks) (x q : ℕ) (i : Step) → x < 4096 → Waits m
+    → Waits (turned (not (is_decided m x) && w) (force value m x) (scanned q m i)).scanned.marks
+term_keeps value w m x q i h a = turn_keeps Waits (not (is_decided m x) && w) (force value m x) (scanned q m i) a (force_keeps value m x h a)
 
 -- A scan at a place of a loop, with the test and the turn as the code has them.
 module _ {X : Type 0} (waits : X → Marks → Bool) (act : X → Marks → Decided) (l : List X) (x : X) (xs : List X) (here : l ≡ x ∷ xs) (q : ℕ) (m : Marks) (i : Step)

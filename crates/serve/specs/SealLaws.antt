@@ -17,7 +17,6 @@ use Rattle.drain.specs.Drain as Drain
 use Rattle.drain.specs.Drain.{index_of}
 use Rattle.records.specs.declared.Record.TheVariants.{Seal}
 use Rattle.records.specs.declared.Standing.{Standing}
-use Rattle.checks.specs.Refusal.{number_if}
 use Rattle.checks.specs.Next.{Taken, next_at}
 use Rattle.files.specs.File.{File, standing, refusal, told, sealed_file, act, apply, outcome}
 use Rattle.theorem_limits.specs.BuiltLaws.{fits_of}
@@ -76,7 +75,7 @@ module _ (bs : List ℤ) (b : Built) (base : List (List ℕ)) (f : File) (k : Ke
         (ap (Drain.seal (index_of (job_of f.draft))) (sym l.live) ∙ sym (made (index_of (job_of f.draft)) served.serves.holds))
 
     pub seals_reaches : refusal f Seal ≡ 0 → Tidy m.figures m.cursors → m.gcds ≡ k.gcds → m.search ≡ k.search → m.answers ≡ k.answers
-        → (o : Reached) → o.rings ≡ rings → o.last ≡ step → number_if o.refused ≡ 0 → (from : Standing) → from ≡ standing f → o.standing ≡ stood from step from.answers
+        → (o : Reached) → o.rings ≡ rings → o.last ≡ step → o.refused ≡ 0 → (from : Standing) → from ≡ standing f → o.standing ≡ stood from step from.answers
         → Reaches bs b base m o (outcome (apply f Seal) [] 0 o.at)
     seals_reaches passed tidy eg es ea o er el en from e q = record {
       lent = lent passed;

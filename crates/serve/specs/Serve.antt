@@ -26,7 +26,6 @@ use Rattle.theorem_limits.specs.Good.{Fits, Light, Good}
 use Rattle.theorem_keeps.specs.Serves.{Fresh}
 use Rattle.theorem_keeps.specs.Tries.{Scratch}
 use Rattle.theorem_holds.specs.Lent.{bounds_of, lent_of, Lendable, Serving}
-use Rattle.checks.specs.Refusal.{number_if}
 use Rattle.serve.specs.declared.Reached.{Reached}
 use Rattle.answers.specs.Answers.{answers_of}
 
@@ -128,7 +127,7 @@ pub record Reaches (bounds : List ℤ) (b : Built) (base : List (List ℕ)) (k :
   pub lies : Lies base o.file k r.rings
   pub standing : r.standing ≡ standing o.file
   pub last : r.last ≡ o.file.last
-  pub refused : number_if r.refused ≡ o.refused
+  pub refused : r.refused ≡ o.refused
   pub at : r.at ≡ o.at
 
 -- The records of an input from an offset on, at most so many.

@@ -29,7 +29,6 @@ use Rattle.records.specs.declared.Record.{Record}
 use Rattle.records.specs.declared.Record.TheVariants.{Header, Opens, Adds, Areas, Seal, Mark, Settle, Sift, Unknown}
 use Rattle.records.specs.declared.Standing.{Standing}
 use Rattle.records.specs.Record.{body_length}
-use Rattle.checks.specs.Refusal.{number_if}
 use Rattle.checks.specs.Next.{Next, Refused, Taken, next_at}
 use Rattle.records.specs.At.{kind_at}
 use Rattle.records.specs.Facts.{adds}
@@ -219,7 +218,7 @@ module _ (bs : List ℤ) (b : Built) (base : List (List ℕ)) (f : File) (k : Ke
     -- ALL OF IT IS THE FILE'S
     pub record_reaches : Tidy m.figures m.cursors → length m.gcds ≡ length k.gcds → m.search ≡ k.search
         → m.answers ≡ over (answers_of (f.answers ++ answered r step visits)) base
-        → (o : Reached) → o.rings ≡ rings → o.last ≡ step → number_if o.refused ≡ 0 → o.standing ≡ stood at.standing step (length (f.answers ++ answered r step visits))
+        → (o : Reached) → o.rings ≡ rings → o.last ≡ step → o.refused ≡ 0 → o.standing ≡ stood at.standing step (length (f.answers ++ answered r step visits))
         → Reaches bs b base m o (outcome (apply f r) [] 0 o.at)
     unfolding g
     record_reaches tidy long same put o er el en es = record {
@@ -253,7 +252,7 @@ module _ (bs : List ℤ) (b : Built) (base : List (List ℕ)) (f : File) (k : Ke
   found = ap (λ (s : Standing). next_at s input at.at) (sym z.standing) ∙ sym made
 
   -- It is refused.
-  pub next_refused : (n : ℕ) → next ≡ Refused n → (o : Reached) → o.rings ≡ at.rings → o.standing ≡ at.standing → o.last ≡ at.last → number_if o.refused ≡ n → o.at ≡ at.at
+  pub next_refused : (n : ℕ) → next ≡ Refused n → (o : Reached) → o.rings ≡ at.rings → o.standing ≡ at.standing → o.last ≡ at.last → o.refused ≡ n → o.at ≡ at.at
       → Reaches bs b base k o (read_at 1 input at.at f)
   next_refused n e o er es el en ea =
       subst (Reaches bs b base k o) (sym (refused_next input at.at f h n (found ∙ e)))
@@ -299,7 +298,7 @@ module _ (input : List ℕ) (bs : List ℤ) (b : Built) (k₀ : Kept) (r₀ : Re
     -- One more was served.
     module _ (h : r.at < length input) (m : Kept) (o : Reached)
         (made : (f : File) (base : List (List ℕ)) → Reaches bs b base k r (outcome f [] 0 r.at) → Reaches bs b base m o (read_at 1 input r.at f)) where
-      pub loops_stop : (number_if o.refused ≡ 0 → ⊥) → (f : File) (base : List (List ℕ)) → Reaches bs b base k₀ r₀ (outcome f [] 0 r₀.at)
+      pub loops_stop : (o.refused ≡ 0 → ⊥) → (f : File) (base : List (List ℕ)) → Reaches bs b base k₀ r₀ (outcome f [] 0 r₀.at)
           → Reaches bs b base m o (read_at (length input) input r₀.at f)
       loops_stop s f base z =
           let a = l.so_far f base z in
@@ -307,10 +306,10 @@ module _ (input : List ℕ) (bs : List ℤ) (b : Built) (k₀ : Kept) (r₀ : Re
           reaches_ended bs b base m o (read_at 1 input r.at a.0) (read_at (length input) input r₀.at f)
           (sym (read_stops input r.at a.0 h (λ e. s (y.refused ∙ e))) ∙ a.2) y
 
-      goes : number_if o.refused ≡ 0 → (f : File) (base : List (List ℕ)) → Reaches bs b base m o (read_at 1 input r.at f) → (read_at 1 input r.at f).refused ≡ 0
+      goes : o.refused ≡ 0 → (f : File) (base : List (List ℕ)) → Reaches bs b base m o (read_at 1 input r.at f) → (read_at 1 input r.at f).refused ≡ 0
       goes e f base y = sym y.refused ∙ e
 
-      pub loops_next : number_if o.refused ≡ 0 → Loops input bs b k₀ r₀ m o
+      pub loops_next : o.refused ≡ 0 → Loops input bs b k₀ r₀ m o
       loops_next e = record {
         so_far = λ f base z.
             let a = l.so_far f base z in
@@ -323,7 +322,7 @@ module _ (input : List ℕ) (bs : List ℤ) (b : Built) (k₀ : Kept) (r₀ : Re
             );
       }
 
-      pub loops_less : number_if o.refused ≡ 0 → (f : File) (base : List (List ℕ)) → Reaches bs b base k₀ r₀ (outcome f [] 0 r₀.at) → length input - o.at < length input - r.at
+      pub loops_less : o.refused ≡ 0 → (f : File) (base : List (List ℕ)) → Reaches bs b base k₀ r₀ (outcome f [] 0 r₀.at) → length input - o.at < length input - r.at
       loops_less e f base z =
           let a = l.so_far f base z in
           let y = made a.0 base a.1 in

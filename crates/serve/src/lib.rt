@@ -12,19 +12,18 @@ ghost use Rattle.checks.specs.Next.{Taken, next_at};
 ghost use Rattle.serve.specs.KeptLent.{kept_in, SameKept};
 ghost use Rattle.serve.specs.Serve.{Lies, Seals, Asks, came, Takes, stood as stands, Reaches, read_at, fourfold};
 
-use checks::Refusal;
 use queues::Rings;
 use records::{Record, Standing};
 use row_moves::{Built, Live};
 use sift::Sifted;
 use state::Step;
 
-// How far the records were taken: the offset, why the record there is refused if it is, what the checks read of the
+// How far the records were taken: the offset, the number of the refusal there (0 for none), what the checks read of the
 // file, the step of the last record that answered, and where the queues stand.
 #[derive(Clone, Copy)]
 pub struct Reached {
     pub at: usize,
-    pub refused: Option<Refusal>,
+    pub refused: u8,
     pub standing: Standing,
     pub last: Step,
     pub rings: Rings,
@@ -122,7 +121,7 @@ fn take_record(
     let next = stood(standing, step, count);
     Reached {
         at: behind,
-        refused: None,
+        refused: 0,
         standing: next,
         last: step,
         rings,
@@ -142,7 +141,7 @@ fn serve_record(input: &[u8], built: Built<'_>, kept: &mut Kept<'_>, reached: Re
     let found = checks::next_record(input, at, reached.standing);
     match found {
         Err(refusal) => Reached {
-            refused: Some(refusal),
+            refused: u8::from(refusal),
             ..reached
         },
         Ok(given) => {
@@ -166,8 +165,8 @@ fn serve_records(input: &[u8], built: Built<'_>, kept: &mut Kept<'_>, first: Rea
     // A step is as long as its record, so this is no loop over indices.
     while reached.at < input.len() {
         let next = serve_record(input, built, kept, reached);
-        let refused = next.refused.is_some();
-        if refused {
+        let number = next.refused;
+        if number != 0 {
             return next;
         }
         reached = next;
@@ -213,7 +212,7 @@ pub fn seal_and_serve(
     let behind = at + 1;
     let first = Reached {
         at: behind,
-        refused: None,
+        refused: 0,
         standing: next,
         last: step,
         rings,

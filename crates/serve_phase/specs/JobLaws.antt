@@ -19,7 +19,6 @@ use Rattle.records.specs.Facts.{Action, serving, action, facts}
 use Rattle.memory.specs.Buffers.{Kept, clear_kept}
 use Rattle.queues.specs.declared.Rings.{Rings}
 use Rattle.files.specs.declared.JobRead.{JobRead}
-use Rattle.files.specs.Stop.{refused_in, at_seal}
 use Rattle.files.specs.File.{File, begun, standing, refusal, act, apply, Outcome, outcome, refusal_at, file_of}
 use Rattle.files.specs.FileLaws.{zero_or}
 use Rattle.files.specs.Contents.{kept_of}
@@ -139,7 +138,7 @@ module _ (input : List ℕ) where
 
 -- THE FILE ENDS as the phase ends it, by what the job's reader gave back: from any file and offset.
 module _ (input : List ℕ) (at : ℕ) (f : File) (r : JobRead)
-    (er : refused_in r.stop ≡ (job_part_from input at f []).refused) (ea : r.at ≡ (job_part_from input at f []).at) (es : at_seal r.stop ≡ (job_part_from input at f []).sealing) where
+    (er : r.refusal ≡ (job_part_from input at f []).refused) (ea : r.at ≡ (job_part_from input at f []).at) (es : r.sealing ≡ (job_part_from input at f []).sealing) where
   abbrev j : JobPart
   j = job_part_from input at f []
 
@@ -166,7 +165,7 @@ module _ (input : List ℕ) (at : ℕ) (f : File) (r : JobRead)
   begins_part k₀ k rings b = subst (λ (p : Outcome). Begins k₀ p.file k rings) (part-ending j.sealing refl) b
 
 -- THE WHOLE FILE
-module _ (input : List ℕ) (r : JobRead) (er : refused_in r.stop ≡ (job_part_of input).refused) (ea : r.at ≡ (job_part_of input).at) (es : at_seal r.stop ≡ (job_part_of input).sealing) where
+module _ (input : List ℕ) (r : JobRead) (er : r.refusal ≡ (job_part_of input).refused) (ea : r.at ≡ (job_part_of input).at) (es : r.sealing ≡ (job_part_of input).sealing) where
   pub leaves_file : (k₀ k : Kept) (o : Reached) → Leaves k₀ k o (ending input (job_part_of input).file r) → Leaves k₀ k o (file_of input)
   unfolding job_part_of file_of
   leaves_file k₀ k o l = leaves_part input 0 begun r er ea es k₀ k o l

@@ -8,9 +8,7 @@ use Rattle.state.specs.declared.Step.TheVariants.{Unchanged}
 use Rattle.queues.specs.declared.Rings.{Rings}
 use Rattle.rows.specs.Rows.{rows_of}
 use Rattle.job.specs.JobBuffers.{raw_of, built_of}
-use Rattle.checks.specs.Refusal.{number_if}
 use Rattle.files.specs.declared.JobRead.{JobRead}
-use Rattle.files.specs.Stop.{refused_in, at_seal}
 use Rattle.files.specs.File.{File, begun, standing, Outcome, outcome}
 use Rattle.files.specs.Contents.{kept_of}
 use Rattle.theorem_limits.specs.Good.{Light, Good}
@@ -85,14 +83,14 @@ pub record Begins (k₀ : Kept) (f : File) (k : Kept) (rings : Rings) : Type 0 w
 
 -- How the file ends: behind the seal if there is one.
 abbrev pub ending : List ℕ → File → JobRead → Outcome
-ending input f j = elim (at_seal j.stop) [ true ↦ read_at (length input) input j.at f | false ↦ outcome f [] (refused_in j.stop) j.at ]
+ending input f j = elim j.sealing [ true ↦ read_at (length input) input j.at f | false ↦ outcome f [] j.refusal j.at ]
 
 -- WHAT IS LEFT, in every word, and what is given back.
 pub record Leaves (k₀ k : Kept) (r : Reached) (o : Outcome) : Type 0 where
   pub words : k ≡ kept_of o.file (clear_kept k₀)
   pub standing : r.standing ≡ standing o.file
   pub last : r.last ≡ o.file.last
-  pub refused : number_if r.refused ≡ o.refused
+  pub refused : r.refused ≡ o.refused
   pub at : r.at ≡ o.at
 
 -- With what the next phase can begin with.

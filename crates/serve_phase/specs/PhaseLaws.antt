@@ -23,9 +23,7 @@ use Rattle.row_moves.specs.Numbers.{row_state, states_of, Tidy}
 use Rattle.job.specs.JobBuffers.{raw_of, row_entries, node_entries, built_with, built_of}
 use Rattle.records.specs.declared.Standing.{Standing}
 use Rattle.files.specs.File.{File, Answer, begun, standing, Outcome, outcome}
-use Rattle.checks.specs.Refusal.{number_if}
 use Rattle.files.specs.declared.JobRead.{JobRead}
-use Rattle.files.specs.Stop.{refused_in, at_seal}
 use Rattle.files.specs.Contents.{kept_of}
 use Rattle.theorem_limits.specs.BuiltLaws.{fits_of, rows_few}
 use Rattle.theorem_limits.specs.Good.{Fits}
@@ -417,13 +415,13 @@ module _ (k : Kept) (f : File) (now : Kept) (rings : Rings) (g : Begins k f now 
 -- The file ends behind its seal, or where its job ended.
 module _ (input : List ℕ) (f : File) (j : JobRead) where
   ends_by : Bool → Outcome
-  ends_by b = elim b [ true ↦ read_at (length input) input j.at f | false ↦ outcome f [] (refused_in j.stop) j.at ]
+  ends_by b = elim b [ true ↦ read_at (length input) input j.at f | false ↦ outcome f [] j.refusal j.at ]
 
-  pub ending_seals : at_seal j.stop ≡ true → ending input f j ≡ read_at (length input) input j.at f
+  pub ending_seals : j.sealing ≡ true → ending input f j ≡ read_at (length input) input j.at f
   unfolding ends_by
   ending_seals e = ap ends_by e
 
-  pub ending-none : at_seal j.stop ≡ false → ending input f j ≡ outcome f [] (refused_in j.stop) j.at
+  pub ending-none : j.sealing ≡ false → ending input f j ≡ outcome f [] j.refusal j.at
   unfolding ends_by
   ending-none e = ap ends_by e
 
@@ -447,8 +445,8 @@ module _ (k : Kept) (f : File) (now : Kept) (rings : Rings) (g : Begins k f now 
       sym (whole_back now) ∙ g.behind (cut_kept now)
       ∙ phase_words k g.whole f (cut_kept now) rings g.lies (begins-listed k f now rings g (cut_kept now) same) g.fours
 
-  pub leaves_begun : (j : JobRead) → j.standing ≡ standing f → (r : Reached) → r.standing ≡ j.standing → r.last ≡ f.last → number_if r.refused ≡ refused_in j.stop → r.at ≡ j.at → r.rings ≡ rings
-      → LeavesOn k now r (outcome f [] (refused_in j.stop) j.at)
+  pub leaves_begun : (j : JobRead) → j.standing ≡ standing f → (r : Reached) → r.standing ≡ j.standing → r.last ≡ f.last → r.refused ≡ j.refusal → r.at ≡ j.at → r.rings ≡ rings
+      → LeavesOn k now r (outcome f [] j.refusal j.at)
   leaves_begun j d r es el en ea er = record {
     leaves = record { words = begins-none; standing = es ∙ d; last = el; refused = en; at = ea };
     begins = subst (Begins k f now) (sym er) g;
@@ -456,6 +454,6 @@ module _ (k : Kept) (f : File) (now : Kept) (rings : Rings) (g : Begins k f now 
 
 -- Of a file whose first seal did not come.
 pub leaves_none : (k : Kept) → KeptRoom k → (now : Kept) → now ≡ clear_kept k → (f : File) → Blank f → (j : JobRead) → j.standing ≡ standing f → (r : Reached)
-    → r.standing ≡ j.standing → r.last ≡ Unchanged → number_if r.refused ≡ refused_in j.stop → r.at ≡ j.at → r.rings ≡ no_rings → LeavesOn k now r (outcome f [] (refused_in j.stop) j.at)
+    → r.standing ≡ j.standing → r.last ≡ Unchanged → r.refused ≡ j.refusal → r.at ≡ j.at → r.rings ≡ no_rings → LeavesOn k now r (outcome f [] j.refusal j.at)
 leaves_none k room now e f z j d r es el en ea er =
     leaves_begun k f now no_rings (begins_clear k room now e f z) j d r es (el ∙ sym z.last) en ea er

@@ -7,7 +7,6 @@ ghost use Rattle.row_moves.specs.Lent.{built_of};
 ghost use Rattle.files.specs.File.{File, standing as standing_of};
 ghost use Rattle.records.specs.declared.Record.TheVariants.{Seal};
 ghost use Rattle.checks.specs.Next.{Taken, next_at};
-ghost use Rattle.files.specs.Stop.{at_seal};
 ghost use Rattle.serve.specs.Serve.{Lies, Seals, Reaches, read_at, fourfold};
 ghost use Rattle.serve_phase.specs.Phase.{KeptRoom, Blank, Stops, Sealable, Begins, ending, LeavesOn};
 
@@ -146,9 +145,9 @@ pub fn serve<'a>(
     row_count: usize,
 ) -> Reached
     requires { KeptRoom (kept figures.old cursors.old sure.old never.old search.old gcds.old node_queue.old row_queues.old answers.old) × (length input.now ≤ longest_input)
-        × (at_seal read.stop ≡ true → ((f : File) × Stops bounds.now (built (held_rows row_conditions.now row_weights.now rows.now guard_bounds.now guard_nodes.now) nodes.now edges.now links.now)
+        × (read.sealing ≡ true → ((f : File) × Stops bounds.now (built (held_rows row_conditions.now row_weights.now rows.now guard_bounds.now guard_nodes.now) nodes.now edges.now links.now)
         f row_count × Blank f × (read.standing ≡ standing_of f)) × (read.at < length input.now) × (next_at read.standing input.now read.at ≡ Taken Seal)) }
-    ensures { (f : File) → Blank f → read.standing ≡ standing_of f → (at_seal read.stop ≡ true → Stops bounds.now (built (held_rows row_conditions.now row_weights.now
+    ensures { (f : File) → Blank f → read.standing ≡ standing_of f → (read.sealing ≡ true → Stops bounds.now (built (held_rows row_conditions.now row_weights.now
         rows.now guard_bounds.now guard_nodes.now) nodes.now edges.now links.now)
         f row_count) → LeavesOn (kept figures.old cursors.old sure.old never.old search.old gcds.old node_queue.old row_queues.old
         answers.old) (kept figures.new cursors.new sure.new never.new search.new gcds.new node_queue.new row_queues.new
@@ -165,7 +164,7 @@ pub fn serve<'a>(
         rows: none,
         residuals: none,
     };
-    let sealing = read.at_seal();
+    let sealing = read.sealing;
     if sealing {
         let built = Built {
             held: HeldRows {
@@ -187,7 +186,7 @@ pub fn serve<'a>(
     }
     Reached {
         at,
-        refused: read.refusal(),
+        refused: read.refusal,
         standing,
         last: Step::Unchanged,
         rings,

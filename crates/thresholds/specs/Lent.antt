@@ -3,4 +3,4 @@ use Rattle.memory.specs.Buffers.{RawLists, raw_lists}
 use Rattle.thresholds.specs.declared.RawLists.{RawLists as LentLists}
 
 abbrev pub lists_of : LentLists → RawLists
-lists_of l = raw_lists l.conditions.now l.weights.now l.thresholds.now
+lists_of l = raw_lists l.raw_conditions.now l.raw_weights.now l.thresholds.now

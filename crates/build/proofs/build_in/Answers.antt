@@ -1,6 +1,5 @@
 -- `build::build_in` meets its contract: its buffers are cleared, and a job that stopped at its seal is built into them.
 use Rattle.std.proofs.Common.{rules, ◌≡◌, true, false}
-use Rattle.files.specs.Stop.{at_seal}
 use Rattle.build.specs.ClearedLaws.{build_room, builds_rows, builds_none}
 use Rattle.build.proofs.build_in.Goals as goal
 
@@ -12,10 +11,10 @@ build_job-requires c =
 pub returns-then-sealing-clause-sealed : goal.returns-then-sealing-clause-sealed
 returns-then-sealing-clause-sealed c =
     let e = c.build_job.ensures.laid in
-    let sealing : at_seal c.args.read.stop ≡ true = search rules in
+    let sealing : c.args.read.sealing ≡ true = search rules in
     builds_rows _ _ _ _ _ _ sealing c.clear_built.ensures e.0 e.1
 
 pub returns-else-sealing-clause-sealed : goal.returns-else-sealing-clause-sealed
 returns-else-sealing-clause-sealed c =
-    let reading : at_seal c.args.read.stop ≡ false = search rules in
+    let reading : c.args.read.sealing ≡ false = search rules in
     builds_none _ _ _ _ reading c.clear_built.ensures

@@ -13,9 +13,9 @@ prepare-so-requires c =
     let l = g.lists in
     let p = c.requires in
     let b = unlinked_in g.built.now g.nodes.now g.edges.now in
-    let i = nodes_inside g.standing l.conditions.now l.weights.now l.thresholds.now g.bounds.now p.0 b p.1 in (
-      gathered_sound g.standing l.conditions.now l.weights.now l.thresholds.now g.bounds.now p.0 (length (take g.standing.nodes g.nodes.now)) (length-take-le g.standing.nodes g.nodes.now i),
-      gathered_ample g.standing l.conditions.now l.weights.now l.thresholds.now g.bounds.now p.0 b g.scratch.now p.1 p.2,
+    let i = nodes_inside g.standing l.raw_conditions.now l.raw_weights.now l.thresholds.now g.bounds.now p.0 b p.1 in (
+      gathered_sound g.standing l.raw_conditions.now l.raw_weights.now l.thresholds.now g.bounds.now p.0 (length (take g.standing.nodes g.nodes.now)) (length-take-le g.standing.nodes g.nodes.now i),
+      gathered_ample g.standing l.raw_conditions.now l.raw_weights.now l.thresholds.now g.bounds.now p.0 b g.scratch.now p.1 p.2,
     )
 
 pub returns-clause-laid : goal.returns-clause-laid
@@ -24,8 +24,8 @@ returns-clause-laid c =
     let l = g.lists in
     let p = c.requires in
     let b = unlinked_in g.built.now g.nodes.now g.edges.now in
-    let i = nodes_inside g.standing l.conditions.now l.weights.now l.thresholds.now g.bounds.now p.0 b p.1 in
+    let i = nodes_inside g.standing l.raw_conditions.now l.raw_weights.now l.thresholds.now g.bounds.now p.0 b p.1 in
     let e = c.prepare-so.ensures.prepared in
-    let r = rows_few g.standing l.conditions.now l.weights.now l.thresholds.now g.bounds.now b i c.prepare-so.result _ e.0 in
-    let k = long g.standing l.conditions.now l.weights.now l.thresholds.now g.bounds.now p.0 in
-    (e.0.many, omega (arith, e.0.many, r, k, p.0.listed.many), unlinked g.standing l.conditions.now l.weights.now l.thresholds.now g.bounds.now b i c.prepare-so.result _ e.0, e.1)
+    let r = rows_few g.standing l.raw_conditions.now l.raw_weights.now l.thresholds.now g.bounds.now b i c.prepare-so.result _ e.0 in
+    let k = long g.standing l.raw_conditions.now l.raw_weights.now l.thresholds.now g.bounds.now p.0 in
+    (e.0.many, omega (arith, e.0.many, r, k, p.0.listed.many), unlinked g.standing l.raw_conditions.now l.raw_weights.now l.thresholds.now g.bounds.now b i c.prepare-so.result _ e.0, e.1)

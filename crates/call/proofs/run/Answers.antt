@@ -109,7 +109,7 @@ returns c =
     let w = (let a = c.args in work (raw (raw_lists a.raw_conditions.now a.raw_weights.now a.thresholds.now) a.bounds.now) (built (held_rows a.row_conditions.now a.row_weights.now a.rows.now a.guard_bounds.now a.guard_nodes.now) a.nodes.now a.edges.now a.links.now) (kept a.figures.now a.cursors.now a.sure.now a.never.now a.search.now a.gcds.now a.node_queue.now a.row_queues.now a.answers.now)) in
     let y = (let it : fits c.args.input.now ((let a = c.args in work (raw (raw_lists a.raw_conditions.now a.raw_weights.now a.thresholds.now) a.bounds.now) (built (held_rows a.row_conditions.now a.row_weights.now a.rows.now a.guard_bounds.now a.guard_nodes.now) a.nodes.now a.edges.now a.links.now) (kept a.figures.now a.cursors.now a.sure.now a.never.now a.search.now a.gcds.now a.node_queue.now a.row_queues.now a.answers.now))) ≡ true = let t = c.short in long c.args.input.now ((let a = c.args in work (raw (raw_lists a.raw_conditions.now a.raw_weights.now a.thresholds.now) a.bounds.now) (built (held_rows a.row_conditions.now a.row_weights.now a.rows.now a.guard_bounds.now a.guard_nodes.now) a.nodes.now a.edges.now a.links.now) (kept a.figures.now a.cursors.now a.sure.now a.never.now a.search.now a.gcds.now a.node_queue.now a.row_queues.now a.answers.now))) t.result t.ensures c.if-short.false in it) in
     let h = whole_all x w y c.read-job.result c.read-job.new.raw_conditions c.read-job.new.raw_weights c.read-job.new.thresholds c.read-job.new.bounds c.read-job.ensures ((built (held_rows c.build-count.new.row_conditions c.build-count.new.row_weights c.build-count.new.rows c.build-count.new.guard_bounds c.build-count.new.guard_nodes) c.build-count.new.nodes c.build-count.new.edges c.build-count.new.links)) c.build-count.result
-    c.build-count.ensures ((kept c.serve-end.new.figures c.serve-end.new.cursors c.serve-end.new.sure c.serve-end.new.never c.serve-end.new.search c.serve-end.new.gcds c.serve-end.new.node_queue c.serve-end.new.row_queues c.serve-end.new.answers)) c.serve-end.result c.serve-end.ensures c.number-refused.result c.number-refused.ensures in
+    c.build-count.ensures ((kept c.serve-end.new.figures c.serve-end.new.cursors c.serve-end.new.sure c.serve-end.new.never c.serve-end.new.search c.serve-end.new.gcds c.serve-end.new.node_queue c.serve-end.new.row_queues c.serve-end.new.answers)) c.serve-end.result c.serve-end.ensures in
     h
 
 pub short-requires : goal.short-requires

@@ -33,10 +33,10 @@ returns-clause-placed c =
       record {
         many = s.0.many;
         end = s.0.end;
-        conditions = ap (λ (l : List ℕ). l ++ drop (length g.lists.conditions.now) g.built.now.row_conditions.now) s.0.conditions
-            ∙ over_part (conditions_of J) g.built.now.row_conditions.now (length g.lists.conditions.now) (omega arith) p.conditions;
-        weights = ap (λ (l : List ℕ). l ++ drop (length g.lists.conditions.now) g.built.now.row_weights.now) s.0.weights
-            ∙ over_part (weights_of J) g.built.now.row_weights.now (length g.lists.conditions.now) (omega arith) p.weights;
+        conditions = ap (λ (l : List ℕ). l ++ drop (length g.lists.raw_conditions.now) g.built.now.row_conditions.now) s.0.conditions
+            ∙ over_part (conditions_of J) g.built.now.row_conditions.now (length g.lists.raw_conditions.now) (omega arith) p.conditions;
+        weights = ap (λ (l : List ℕ). l ++ drop (length g.lists.raw_conditions.now) g.built.now.row_weights.now) s.0.weights
+            ∙ over_part (weights_of J) g.built.now.row_weights.now (length g.lists.raw_conditions.now) (omega arith) p.weights;
         entries = s.0.entries;
         named = s.0.named;
       },

@@ -7,11 +7,11 @@ pub read_records-requires : goal.read_records-requires
 read_records-requires c =
     let g = c.args in
     let w = g.raw.now in
-    (anew_asks w.conditions.now w.weights.now w.thresholds.now w.bounds.now _ _ zeros_unnoted g.standing c.requires.0, c.requires.1)
+    (anew_asks w.raw_conditions.now w.raw_weights.now w.thresholds.now w.bounds.now _ _ zeros_unnoted g.standing c.requires.0, c.requires.1)
 
 pub returns-clause-reads : goal.returns-clause-reads
 returns-clause-reads c =
     let g = c.args in
     let w = g.raw.now in
     let t = c.read_records in
-    anew_reads w.conditions.now w.weights.now w.thresholds.now w.bounds.now _ _ zeros_unnoted g.standing g.input.now g.at t.result _ _ _ _ t.ensures.reads
+    anew_reads w.raw_conditions.now w.raw_weights.now w.thresholds.now w.bounds.now _ _ zeros_unnoted g.standing g.input.now g.at t.result _ _ _ _ t.ensures.reads

@@ -1,6 +1,6 @@
 -- `reading::read_record` meets its contract: the next record is refused, a seal, or taken.
 use mathlib.Core.Path.{sym, ap, ◌∙◌}
-use Rattle.checks.specs.Next.{next_of}
+use Rattle.checks.specs.Next.{Refused, next_of}
 use Rattle.reading.specs.HeldLaws.{next_passes, read_refused, read_sealing, read_next}
 use Rattle.reading.proofs.read_record.Goals as goal
 
@@ -20,7 +20,7 @@ pub returns-in-Err-clause-reads : goal.returns-in-Err-clause-reads
 returns-in-Err-clause-reads c =
     let g = c.args in
     let e = sym (ap next_of c.in-Err.is) ∙ c.next_record-next.ensures in
-    record { part = λ f w room h. read_refused g.input.now g.at c.requires.0 f w g.standing _ _ _ _ _ _ h _ e }
+    record { part = λ f w room h. read_refused g.input.now g.at c.requires.0 f w g.standing _ _ _ _ _ _ h _ (ap Refused c.from.ensures ∙ e) }
 
 pub returns-else-closes-clause-reads : goal.returns-else-closes-clause-reads
 returns-else-closes-clause-reads c =

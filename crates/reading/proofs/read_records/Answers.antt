@@ -1,8 +1,6 @@
 -- `reading::read_records` meets its contract: every record that is taken keeps the invariant.
-use mathlib.Core.Path.{sym, ap, ◌∙◌}
 use native.Mathlib.Omega.{arith}
-use Rattle.files.specs.Stop.{refused_in, at_seal}
-use Rattle.reading.specs.HeldLaws.{stopping_some, stopping_none, goes, from_asks, from_ends, from_stops, from_farther, from_on}
+use Rattle.reading.specs.HeldLaws.{goes, from_asks, from_ends, from_stops, from_farther, from_on}
 use Rattle.reading.specs.LentLaws.{raw_on, notes_on}
 use Rattle.reading.proofs.read_records.Goals as goal
 
@@ -20,7 +18,7 @@ loop-read-smaller-then-entry_comes c =
     let v = c.loop-read in
     let n = c.read_entry-read in
     let p = c.requires.0 in
-    let e = goes n.result (ap refused_in n.ensures.going) (ap at_seal n.ensures.going) in
+    let e = goes n.result n.ensures.going.0 n.ensures.going.1 in
     let far = from_farther g.input.now g.at g.standing _ _ _ _ _ _ v.read _ _ _ _ _ _ v.invariant.0 c.loop-read-test.true n.result _ _ _ _ _ _ n.ensures.reads p.0 p.1 p.2 p.3 e in
     omega (arith, c.loop-read-test.true, far)
 
@@ -31,7 +29,7 @@ loop-read-preserved-then-entry_comes c =
     let n = c.read_entry-read in
     let i = v.invariant in
     let l = n.ensures.lent in
-    let e = goes n.result (ap refused_in n.ensures.going) (ap at_seal n.ensures.going) in (
+    let e = goes n.result n.ensures.going.0 n.ensures.going.1 in (
       from_on g.input.now g.at g.standing _ _ _ _ _ _ v.read _ _ _ _ _ _ i.0 c.loop-read-test.true n.result _ _ _ _ _ _ n.ensures.reads e,
       raw_on g.raw.now v.raw n.new.raw i.1 l.0,
       notes_on g.notes.now v.notes n.new.notes i.2 l.1,
@@ -50,7 +48,7 @@ returns-then-stops-clause-reads c =
     let g = c.args in
     let v = c.loop-read in
     let n = c.read_record-next in
-    from_stops g.input.now g.at g.standing _ _ _ _ _ _ v.read _ _ _ _ _ _ v.invariant.0 c.loop-read-test.true n.result _ _ _ _ _ _ n.ensures.reads (stopping_some n.result (sym c.is_some-stops.ensures ∙ c.if-stops.true))
+    from_stops g.input.now g.at g.standing _ _ _ _ _ _ v.read _ _ _ _ _ _ v.invariant.0 c.loop-read-test.true n.result _ _ _ _ _ _ n.ensures.reads c.if-stops.true
 
 pub loop-read-smaller : goal.loop-read-smaller
 loop-read-smaller c =
@@ -58,7 +56,7 @@ loop-read-smaller c =
     let v = c.loop-read in
     let n = c.read_record-next in
     let p = c.requires.0 in
-    let e = stopping_none n.result (sym c.is_some-stops.ensures ∙ c.if-stops.false) in
+    let e = c.if-stops.false in
     let far = from_farther g.input.now g.at g.standing _ _ _ _ _ _ v.read _ _ _ _ _ _ v.invariant.0 c.loop-read-test.true n.result _ _ _ _ _ _ n.ensures.reads p.0 p.1 p.2 p.3 e in
     omega (arith, c.loop-read-test.true, far)
 
@@ -69,7 +67,7 @@ loop-read-preserved c =
     let n = c.read_record-next in
     let i = v.invariant in
     let l = n.ensures.lent in
-    let e = stopping_none n.result (sym c.is_some-stops.ensures ∙ c.if-stops.false) in (
+    let e = c.if-stops.false in (
       from_on g.input.now g.at g.standing _ _ _ _ _ _ v.read _ _ _ _ _ _ i.0 c.loop-read-test.true n.result _ _ _ _ _ _ n.ensures.reads e,
       raw_on g.raw.now v.raw n.new.raw i.1 l.0,
       notes_on g.notes.now v.notes n.new.notes i.2 l.1,

@@ -38,7 +38,7 @@ returns-in-Opens-clause-takes c =
     let v = t.new.self in
     let z = c.in-Opens.bound in
     let same : to_z w64 (of_z w64 z) ≡ z = search rules in
-    let so = takes_opens g.entry g.standing w.conditions.now w.weights.now w.thresholds.now w.bounds.now n.places.now n.sums.now c.requires.2 c.in-Opens.node z (to_z w64 (of_z w64 z)) c.in-Opens.is same t.result v.thresholds.now v.bounds.now t.ensures.opened in
+    let so = takes_opens g.entry g.standing w.raw_conditions.now w.raw_weights.now w.thresholds.now w.bounds.now n.places.now n.sums.now c.requires.2 c.in-Opens.node z (to_z w64 (of_z w64 z)) c.in-Opens.is same t.result v.thresholds.now v.bounds.now t.ensures.opened in
     rw (t.ensures.kept.0, t.ensures.kept.1) so
 
 pub returns-in-Adds-clause-takes : goal.returns-in-Adds-clause-takes
@@ -48,7 +48,7 @@ returns-in-Adds-clause-takes c =
     let n = g.notes.now in
     let t = c.add_term in
     let v = t.new.self in
-    let so = takes_adds g.entry g.standing w.conditions.now w.weights.now w.thresholds.now w.bounds.now n.places.now n.sums.now c.requires.2 _ _ c.in-Adds.is t.result v.conditions.now v.weights.now v.thresholds.now t.ensures.added in
+    let so = takes_adds g.entry g.standing w.raw_conditions.now w.raw_weights.now w.thresholds.now w.bounds.now n.places.now n.sums.now c.requires.2 _ _ c.in-Adds.is t.result v.raw_conditions.now v.raw_weights.now v.thresholds.now t.ensures.added in
     rw (t.ensures.kept) so
 
 pub returns-in-Areas-clause-takes : goal.returns-in-Areas-clause-takes
@@ -59,7 +59,7 @@ returns-in-Areas-clause-takes c =
     let t = c.add_area in
     let v = t.new.self in
     let m = t.new.notes in
-    let so = takes_areas g.entry g.standing w.conditions.now w.weights.now w.thresholds.now w.bounds.now n.places.now n.sums.now c.requires.2 _ _ _ c.in-Areas.is refl t.result v.conditions.now v.weights.now v.thresholds.now m.places.now m.sums.now t.ensures.taken in
+    let so = takes_areas g.entry g.standing w.raw_conditions.now w.raw_weights.now w.thresholds.now w.bounds.now n.places.now n.sums.now c.requires.2 _ _ _ c.in-Areas.is refl t.result v.raw_conditions.now v.raw_weights.now v.thresholds.now m.places.now m.sums.now t.ensures.taken in
     rw (t.ensures.kept) so
 
 pub returns-in-Seal-clause-takes : goal.returns-in-Seal-clause-takes

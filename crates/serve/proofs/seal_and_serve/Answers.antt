@@ -1,7 +1,6 @@
 -- `serve::seal_and_serve` meets its contract: what the seal leaves is what the records behind it begin with.
 use mathlib.Core.Path.{◌≡◌, refl, sym, subst}
 use mathlib.Core.List.{List, []}
-use Rattle.std.specs.Prelude.{None}
 use Prim.Native.Nat.{ℕ, ◌+◌}
 use lib.ListN.{length}
 use Rattle.memory.specs.Buffers.{Kept, kept}
@@ -19,7 +18,7 @@ use Rattle.serve.proofs.seal_and_serve.Goals.{After-stood-next}
 
 -- How far the seal was taken, and the buffers that it leaves.
 abbrev sealed : After-stood-next → Reached
-sealed c = record { at = c.args.at + 1; refused = None; standing = c.stood-next.result; last = c.seal-step.result; rings = c.seal-step.new.live.rings }
+sealed c = record { at = c.args.at + 1; refused = 0; standing = c.stood-next.result; last = c.seal-step.result; rings = c.seal-step.new.live.rings }
 
 abbrev left : After-stood-next → Kept
 left c =

@@ -26,7 +26,7 @@ returns-in-Err-clause-reaches c =
     let a = c.args in
     let b = a.built in
     let n = c.next_record-found in
-    λ f base z. next_refused b.bounds.now (built_of b) base f (kept_in a.kept.now) a.reached z a.input.now c.requires.1 (next_of n.result) n.ensures _ (ap next_of c.in-Err.is) _ refl refl refl refl refl
+    λ f base z. next_refused b.bounds.now (built_of b) base f (kept_in a.kept.now) a.reached z a.input.now c.requires.1 (next_of n.result) n.ensures _ (ap next_of c.in-Err.is) _ refl refl refl c.from.ensures refl
 
 pub returns-in-Ok-clause-reaches : goal.returns-in-Ok-clause-reaches
 returns-in-Ok-clause-reaches c =

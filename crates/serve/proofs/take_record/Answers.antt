@@ -1,5 +1,4 @@
 -- `serve::take_record` meets its contract.
-use Rattle.std.specs.Prelude.{None}
 use mathlib.Core.Path.{refl, ap, ◌∙◌}
 use mathlib.Core.List.{[]}
 use Rattle.memory.specs.Buffers.{Kept, kept}
@@ -38,7 +37,7 @@ returns-clause-reaches c =
     let l = t.new.live in
     let s = c.store-count in
     let m = kept l.figures.now l.cursors.now l.sure.now l.never.now t.new.search t.new.gcds l.node_queue.now l.row_queues.now s.new.answers in
-    let o : Reached = record { at = a.behind; refused = None; standing = c.stood-next.result; last = t.result.step; rings = l.rings } in
+    let o : Reached = record { at = a.behind; refused = 0; standing = c.stood-next.result; last = t.result.step; rings = l.rings } in
     λ f base z asks passed.
     let takes = record_takes b.bounds.now (built_of b) base f k a.reached z a.given asks passed in
     let put = s.ensures f.answers base z.lies.room (ap (λ (i : Standing). i.answers) z.standing) z.lies.answers in

@@ -46,5 +46,5 @@ returns-clause-added c =
     let w = g.self.now in
     let at = g.standing.raw_terms in
     subst
-    (λ (l : List (List ℕ)). Added g.standing g.condition g.weight w.conditions.now w.weights.now w.thresholds.now (added_to g.standing (at + 1)) (set w.conditions.now at g.condition) (set w.weights.now at g.weight) l)
-    (sym c.set_end.ensures) (added g.standing g.condition g.weight w.conditions.now w.weights.now w.thresholds.now q.0.0 q.0.1 q.2 q.1)
+    (λ (l : List (List ℕ)). Added g.standing g.condition g.weight w.raw_conditions.now w.raw_weights.now w.thresholds.now (added_to g.standing (at + 1)) (set w.raw_conditions.now at g.condition) (set w.raw_weights.now at g.weight) l)
+    (sym c.set_end.ensures) (added g.standing g.condition g.weight w.raw_conditions.now w.raw_weights.now w.thresholds.now q.0.0 q.0.1 q.2 q.1)

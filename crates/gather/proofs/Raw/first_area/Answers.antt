@@ -35,6 +35,6 @@ returns-clause-first c =
     let w = g.self.now in
     let t = c.add_term in
     let v = t.new.self in
-    let so : Added g.standing g.condition (weight_of_area g.area) w.conditions.now w.weights.now w.thresholds.now t.result v.conditions.now v.weights.now v.thresholds.now =
-    subst (λ (x : ℕ). Added g.standing g.condition x w.conditions.now w.weights.now w.thresholds.now t.result v.conditions.now v.weights.now v.thresholds.now) c.weight_of_area-weight.ensures t.ensures.added in
+    let so : Added g.standing g.condition (weight_of_area g.area) w.raw_conditions.now w.raw_weights.now w.thresholds.now t.result v.raw_conditions.now v.raw_weights.now v.thresholds.now =
+    subst (λ (x : ℕ). Added g.standing g.condition x w.raw_conditions.now w.raw_weights.now w.thresholds.now t.result v.raw_conditions.now v.raw_weights.now v.thresholds.now) c.weight_of_area-weight.ensures t.ensures.added in
     first_read g.standing g.condition g.area _ _ _ _ _ q.0.0 q.0.1 q.1 q.3 q.2 q.4 t.result _ _ _ so c.open_start.result c.open_start.ensures

@@ -86,7 +86,7 @@ returns-clause-placed c =
     let q = c.link_row.ensures in
     let turn = w.turn in
     let few = w.few in
-    let x = terms (stretch c.start_of-a.result c.end_of-e.result g.lists.conditions.now) (stretch c.start_of-a.result c.end_of-e.result g.lists.weights.now) in (
+    let x = terms (stretch c.start_of-a.result c.end_of-e.result g.lists.raw_conditions.now) (stretch c.start_of-a.result c.end_of-e.result g.lists.raw_weights.now) in (
       placing_new r g.t g.so g.self.now.row_conditions.now g.self.now.row_weights.now g.self.now.scratch.now g.self.now.heads.now p.3 l p.1 c.start_of-a.result c.end_of-e.result x a e (list_is r g.t _ _ a e) s.1 p.4
           c.build_at-end.result (mark g.print g.t) g.link _ _ _ _ p.0.room p.0.even w.word (omega arith) s.0
           c.build_at-end.auto.row_conditions s.2 c.build_at-end.auto.row_weights s.3

@@ -18,8 +18,8 @@ pub build_row-count-requires : goal.build_row-count-requires
 build_row-count-requires c =
     let g = c.args in
     let p = c.requires in
-    let cs = g.self.conditions.now in
-    let ws = g.self.weights.now in
+    let cs = g.self.raw_conditions.now in
+    let ws = g.self.raw_weights.now in
     let lc = stretch-length g.a g.e cs p.1 in
     let to = g.at + (g.e - g.a) in
     let lw = stretch-length g.a g.e ws (omega arith) in
@@ -39,8 +39,8 @@ pub returns : goal.returns
 returns c =
     let g = c.args in
     let p = c.requires in
-    let cs = g.self.conditions.now in
-    let ws = g.self.weights.now in
+    let cs = g.self.raw_conditions.now in
+    let ws = g.self.raw_weights.now in
     let lc = stretch-length g.a g.e cs p.1 in
     let x = row_terms (terms (stretch g.a g.e cs) (stretch g.a g.e ws)) in
     let s = c.build_row-count.ensures in

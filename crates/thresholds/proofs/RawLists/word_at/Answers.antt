@@ -16,7 +16,7 @@ returns-then-p-e c =
     let a = c.start_of-a.ensures in
     let e = c.end_of-e.ensures in
     sym (ap (λ (l : List Term). word_at l g.p) (sym (list_is (lists_of g.self) g.t _ _ a e))
-    ∙ word_past g.self.conditions.now g.self.weights.now _ _ g.p p.0.weighed (omega (arith, p.0.inside g.t p.1)) c.if-p-e.true)
+    ∙ word_past g.self.raw_conditions.now g.self.raw_weights.now _ _ g.p p.0.weighed (omega (arith, p.0.inside g.t p.1)) c.if-p-e.true)
 
 pub returns : goal.returns
 returns c =
@@ -25,4 +25,4 @@ returns c =
     let a = c.start_of-a.ensures in
     let e = c.end_of-e.ensures in
     rw c.from.ensures (sym (ap (λ (l : List Term). word_at l g.p) (sym (list_is (lists_of g.self) g.t _ _ a e))
-    ∙ word_here g.self.conditions.now g.self.weights.now _ _ g.p p.0.weighed (omega (arith, p.0.inside g.t p.1)) c.if-p-e.false))
+    ∙ word_here g.self.raw_conditions.now g.self.raw_weights.now _ _ g.p p.0.weighed (omega (arith, p.0.inside g.t p.1)) c.if-p-e.false))
