@@ -18,27 +18,38 @@ returns-then-short c =
 
 pub read-job-requires : goal.read-job-requires
 read-job-requires c =
-    let x = c.args.input.now in
-    let w = (let a = c.args in work (raw (raw_lists a.raw_conditions.now a.raw_weights.now a.thresholds.now) a.bounds.now) (built (held_rows a.row_conditions.now a.row_weights.now a.rows.now a.guard_bounds.now a.guard_nodes.now) a.nodes.now a.edges.now a.links.now) (kept a.figures.now a.cursors.now a.sure.now a.never.now a.search.now a.gcds.now a.node_queue.now a.row_queues.now a.answers.now)) in
-    let y = (let it : fits c.args.input.now ((let a = c.args in work (raw (raw_lists a.raw_conditions.now a.raw_weights.now a.thresholds.now) a.bounds.now) (built (held_rows a.row_conditions.now a.row_weights.now a.rows.now a.guard_bounds.now a.guard_nodes.now) a.nodes.now a.edges.now a.links.now) (kept a.figures.now a.cursors.now a.sure.now a.never.now a.search.now a.gcds.now a.node_queue.now a.row_queues.now a.answers.now))) ≡ true = let t = c.short in long c.args.input.now ((let a = c.args in work (raw (raw_lists a.raw_conditions.now a.raw_weights.now a.thresholds.now) a.bounds.now) (built (held_rows a.row_conditions.now a.row_weights.now a.rows.now a.guard_bounds.now a.guard_nodes.now) a.nodes.now a.edges.now a.links.now) (kept a.figures.now a.cursors.now a.sure.now a.never.now a.search.now a.gcds.now a.node_queue.now a.row_queues.now a.answers.now))) t.result t.ensures c.if-short.false in it) in
+    let a = c.args in
+    let x = a.input.now in
+    let w = work (raw (raw_lists a.raw_conditions.now a.raw_weights.now a.thresholds.now) a.bounds.now)
+    (built (held_rows a.row_conditions.now a.row_weights.now a.rows.now a.guard_bounds.now a.guard_nodes.now) a.nodes.now a.edges.now a.links.now)
+    (kept a.figures.now a.cursors.now a.sure.now a.never.now a.search.now a.gcds.now a.node_queue.now a.row_queues.now a.answers.now) in
+    let y : fits x w ≡ true = long x w c.short.result c.short.ensures c.if-short.false in
     raw_room w (fits_sized x w y)
 
 pub build-count-requires : goal.build-count-requires
 build-count-requires c =
-    let x = c.args.input.now in
-    let w = (let a = c.args in work (raw (raw_lists a.raw_conditions.now a.raw_weights.now a.thresholds.now) a.bounds.now) (built (held_rows a.row_conditions.now a.row_weights.now a.rows.now a.guard_bounds.now a.guard_nodes.now) a.nodes.now a.edges.now a.links.now) (kept a.figures.now a.cursors.now a.sure.now a.never.now a.search.now a.gcds.now a.node_queue.now a.row_queues.now a.answers.now)) in
-    let y = (let it : fits c.args.input.now ((let a = c.args in work (raw (raw_lists a.raw_conditions.now a.raw_weights.now a.thresholds.now) a.bounds.now) (built (held_rows a.row_conditions.now a.row_weights.now a.rows.now a.guard_bounds.now a.guard_nodes.now) a.nodes.now a.edges.now a.links.now) (kept a.figures.now a.cursors.now a.sure.now a.never.now a.search.now a.gcds.now a.node_queue.now a.row_queues.now a.answers.now))) ≡ true = let t = c.short in long c.args.input.now ((let a = c.args in work (raw (raw_lists a.raw_conditions.now a.raw_weights.now a.thresholds.now) a.bounds.now) (built (held_rows a.row_conditions.now a.row_weights.now a.rows.now a.guard_bounds.now a.guard_nodes.now) a.nodes.now a.edges.now a.links.now) (kept a.figures.now a.cursors.now a.sure.now a.never.now a.search.now a.gcds.now a.node_queue.now a.row_queues.now a.answers.now))) t.result t.ensures c.if-short.false in it) in
+    let a = c.args in
+    let x = a.input.now in
+    let w = work (raw (raw_lists a.raw_conditions.now a.raw_weights.now a.thresholds.now) a.bounds.now)
+    (built (held_rows a.row_conditions.now a.row_weights.now a.rows.now a.guard_bounds.now a.guard_nodes.now) a.nodes.now a.edges.now a.links.now)
+    (kept a.figures.now a.cursors.now a.sure.now a.never.now a.search.now a.gcds.now a.node_queue.now a.row_queues.now a.answers.now) in
+    let y : fits x w ≡ true = long x w c.short.result c.short.ensures c.if-short.false in
     let s = fits_sized x w y in
     (c.read-job.ensures.held.gathered, built_room w s, links_room w s)
 
 pub serve-end-requires : goal.serve-end-requires
 serve-end-requires c =
-    let x = c.args.input.now in
-    let w = (let a = c.args in work (raw (raw_lists a.raw_conditions.now a.raw_weights.now a.thresholds.now) a.bounds.now) (built (held_rows a.row_conditions.now a.row_weights.now a.rows.now a.guard_bounds.now a.guard_nodes.now) a.nodes.now a.edges.now a.links.now) (kept a.figures.now a.cursors.now a.sure.now a.never.now a.search.now a.gcds.now a.node_queue.now a.row_queues.now a.answers.now)) in
-    let y = (let it : fits c.args.input.now ((let a = c.args in work (raw (raw_lists a.raw_conditions.now a.raw_weights.now a.thresholds.now) a.bounds.now) (built (held_rows a.row_conditions.now a.row_weights.now a.rows.now a.guard_bounds.now a.guard_nodes.now) a.nodes.now a.edges.now a.links.now) (kept a.figures.now a.cursors.now a.sure.now a.never.now a.search.now a.gcds.now a.node_queue.now a.row_queues.now a.answers.now))) ≡ true = let t = c.short in long c.args.input.now ((let a = c.args in work (raw (raw_lists a.raw_conditions.now a.raw_weights.now a.thresholds.now) a.bounds.now) (built (held_rows a.row_conditions.now a.row_weights.now a.rows.now a.guard_bounds.now a.guard_nodes.now) a.nodes.now a.edges.now a.links.now) (kept a.figures.now a.cursors.now a.sure.now a.never.now a.search.now a.gcds.now a.node_queue.now a.row_queues.now a.answers.now))) t.result t.ensures c.if-short.false in it) in
-    let h = serve_asks x w y c.read-job.result c.read-job.new.raw_conditions c.read-job.new.raw_weights c.read-job.new.thresholds c.read-job.new.bounds c.read-job.ensures ((built (held_rows c.build-count.new.row_conditions c.build-count.new.row_weights c.build-count.new.rows c.build-count.new.guard_bounds c.build-count.new.guard_nodes) c.build-count.new.nodes c.build-count.new.edges c.build-count.new.links)) c.build-count.result
-    c.build-count.ensures in
-    h
+    let a = c.args in
+    let x = a.input.now in
+    let w = work (raw (raw_lists a.raw_conditions.now a.raw_weights.now a.thresholds.now) a.bounds.now)
+    (built (held_rows a.row_conditions.now a.row_weights.now a.rows.now a.guard_bounds.now a.guard_nodes.now) a.nodes.now a.edges.now a.links.now)
+    (kept a.figures.now a.cursors.now a.sure.now a.never.now a.search.now a.gcds.now a.node_queue.now a.row_queues.now a.answers.now) in
+    let y : fits x w ≡ true = long x w c.short.result c.short.ensures c.if-short.false in
+    let r = c.read-job in
+    let u = c.build-count.new in
+    let b = built (held_rows u.row_conditions u.row_weights u.rows u.guard_bounds u.guard_nodes) u.nodes u.edges u.links in
+    serve_asks x w y r.result r.new.raw_conditions r.new.raw_weights r.new.thresholds r.new.bounds r.ensures b c.build-count.result
+    c.build-count.ensures
 
 pub shape_of-raw_conditions : goal.shape_of-raw_conditions
 shape_of-raw_conditions c = c.read-job.auto.raw_conditions
@@ -105,12 +116,19 @@ shape_of-answers c = c.serve-end.auto.answers
 
 pub returns : goal.returns
 returns c =
-    let x = c.args.input.now in
-    let w = (let a = c.args in work (raw (raw_lists a.raw_conditions.now a.raw_weights.now a.thresholds.now) a.bounds.now) (built (held_rows a.row_conditions.now a.row_weights.now a.rows.now a.guard_bounds.now a.guard_nodes.now) a.nodes.now a.edges.now a.links.now) (kept a.figures.now a.cursors.now a.sure.now a.never.now a.search.now a.gcds.now a.node_queue.now a.row_queues.now a.answers.now)) in
-    let y = (let it : fits c.args.input.now ((let a = c.args in work (raw (raw_lists a.raw_conditions.now a.raw_weights.now a.thresholds.now) a.bounds.now) (built (held_rows a.row_conditions.now a.row_weights.now a.rows.now a.guard_bounds.now a.guard_nodes.now) a.nodes.now a.edges.now a.links.now) (kept a.figures.now a.cursors.now a.sure.now a.never.now a.search.now a.gcds.now a.node_queue.now a.row_queues.now a.answers.now))) ≡ true = let t = c.short in long c.args.input.now ((let a = c.args in work (raw (raw_lists a.raw_conditions.now a.raw_weights.now a.thresholds.now) a.bounds.now) (built (held_rows a.row_conditions.now a.row_weights.now a.rows.now a.guard_bounds.now a.guard_nodes.now) a.nodes.now a.edges.now a.links.now) (kept a.figures.now a.cursors.now a.sure.now a.never.now a.search.now a.gcds.now a.node_queue.now a.row_queues.now a.answers.now))) t.result t.ensures c.if-short.false in it) in
-    let h = whole_all x w y c.read-job.result c.read-job.new.raw_conditions c.read-job.new.raw_weights c.read-job.new.thresholds c.read-job.new.bounds c.read-job.ensures ((built (held_rows c.build-count.new.row_conditions c.build-count.new.row_weights c.build-count.new.rows c.build-count.new.guard_bounds c.build-count.new.guard_nodes) c.build-count.new.nodes c.build-count.new.edges c.build-count.new.links)) c.build-count.result
-    c.build-count.ensures ((kept c.serve-end.new.figures c.serve-end.new.cursors c.serve-end.new.sure c.serve-end.new.never c.serve-end.new.search c.serve-end.new.gcds c.serve-end.new.node_queue c.serve-end.new.row_queues c.serve-end.new.answers)) c.serve-end.result c.serve-end.ensures in
-    h
+    let a = c.args in
+    let x = a.input.now in
+    let w = work (raw (raw_lists a.raw_conditions.now a.raw_weights.now a.thresholds.now) a.bounds.now)
+    (built (held_rows a.row_conditions.now a.row_weights.now a.rows.now a.guard_bounds.now a.guard_nodes.now) a.nodes.now a.edges.now a.links.now)
+    (kept a.figures.now a.cursors.now a.sure.now a.never.now a.search.now a.gcds.now a.node_queue.now a.row_queues.now a.answers.now) in
+    let y : fits x w ≡ true = long x w c.short.result c.short.ensures c.if-short.false in
+    let r = c.read-job in
+    let u = c.build-count.new in
+    let b = built (held_rows u.row_conditions u.row_weights u.rows u.guard_bounds u.guard_nodes) u.nodes u.edges u.links in
+    let e = c.serve-end.new in
+    let k = kept e.figures e.cursors e.sure e.never e.search e.gcds e.node_queue e.row_queues e.answers in
+    whole_all x w y r.result r.new.raw_conditions r.new.raw_weights r.new.thresholds r.new.bounds r.ensures b c.build-count.result
+    c.build-count.ensures k c.serve-end.result c.serve-end.ensures
 
 pub short-requires : goal.short-requires
 short-requires c = tt
