@@ -13,7 +13,8 @@ use Rattle.records.specs.declared.Record.TheVariants.{Opens, Adds, Areas, Seal, 
 use Rattle.records.specs.declared.Standing.{Standing}
 use Rattle.records.specs.Record.{front, behind, Kind, kind, kind_of, body_length, body_of, record_at}
 use Rattle.checks.specs.declared.Refusal.{Refusal}
-use Rattle.checks.specs.Refusal.{number_in}
+use Rattle.checks.specs.declared.Refusal.TheVariants.{CutOff, UnknownKind, OutOfTurn, TooMany, NoSuchNode, NotRising, BoundOutside, NoValue, Contradicted, TooLong}
+use Rattle.checks.specs.Refusal.{number_of, number_in}
 use Rattle.checks.specs.Next.{Refused, Taken, taking, next_at, entry_condition, entry_figure, EntryNext}
 use Rattle.records.specs.declared.Kind as Kinds
 use Rattle.records.specs.declared.Kind.TheVariants as Named
@@ -37,6 +38,19 @@ first_next_lem false n x cs e h = h
 pub none_in : {X : Type 0} (r : Result X Refusal) → is_ok r ≡ true → number_in r ≡ 0
 none_in (Ok x) e = refl
 none_in (Err q) e = contrary (sym e)
+
+-- No refusal has a number above 10.
+pub number_up_to : (r : Refusal) → number_of r ≤ 10
+number_up_to CutOff = omega arith
+number_up_to UnknownKind = omega arith
+number_up_to OutOfTurn = omega arith
+number_up_to TooMany = omega arith
+number_up_to NoSuchNode = omega arith
+number_up_to NotRising = omega arith
+number_up_to BoundOutside = omega arith
+number_up_to NoValue = omega arith
+number_up_to Contradicted = omega arith
+number_up_to TooLong = omega arith
 
 pub first-none : 0 ≡ first []
 unfolding first

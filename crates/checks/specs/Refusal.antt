@@ -1,5 +1,5 @@
 -- The numbers of refusals, as docs/FORMAT.md has them.
-use Rattle.std.specs.Prelude.{ℕ, Result, Ok, Err}
+use Rattle.std.specs.Prelude.{ℕ, Option, None, Some, Result, Ok, Err}
 use Rattle.checks.specs.declared.Refusal.{Refusal}
 use Rattle.checks.specs.declared.Refusal.TheVariants.{CutOff, UnknownKind, OutOfTurn, TooMany, NoSuchNode, NotRising, BoundOutside, NoValue, Contradicted, TooLong}
 
@@ -16,6 +16,10 @@ number_of Contradicted = 9
 number_of TooLong = 10
 
 -- 0 where nothing is refused.
+abbrev pub number_if : Option Refusal → ℕ
+number_if None = 0
+number_if (Some r) = number_of r
+
 abbrev pub number_in : {X : Type 0} → Result X Refusal → ℕ
 number_in (Ok x) = 0
 number_in (Err r) = number_of r

@@ -1,5 +1,5 @@
--- Laws of the records up to the seal: one record, the next ones, and that the rest of the file goes on from there.
-use Rattle.std.specs.Prelude.{ℕ, zero, suc, ◌+◌, ◌-◌, ◌≤◌, ◌≡◌, refl, Bool, true, false, List, [], ◌∷◌, ◌++◌, length, drop}
+-- Laws of the records up to the seal: one record, the next ones, that the rest of the file goes on from there, and the number there.
+use Rattle.std.specs.Prelude.{ℕ, zero, suc, ◌+◌, ◌-◌, ◌≤◌, ◌≡◌, refl, Bool, true, false, List, [], ◌∷◌, ◌++◌, length, drop, eqb}
 use Rattle.std.proofs.Common.{le_refl, arith, sym, ◌∙◌, subst, length-drop, drop-drop, ⊎_elim, eq-eqb, ne_eqb}
 use Rattle.std.proofs.Math.Path.{ap, ap₂}
 use Rattle.base.specs.TestLaws.{true-false, unequal}
@@ -7,8 +7,8 @@ use Rattle.records.specs.declared.Record.{Record}
 use Rattle.records.specs.Record.{kind_of, body_length, record_at}
 use Rattle.records.specs.Facts.{action}
 use Rattle.checks.specs.Next.{closing}
-use Rattle.files.specs.File.{File, begun, apply, refusal_at, outcome, read_from, file_of}
-use Rattle.files.specs.FileLaws.{zero_or, read_on, read_stop, read_enough}
+use Rattle.files.specs.File.{File, begun, apply, refusal_at, Outcome, outcome, read_from, file_of}
+use Rattle.files.specs.FileLaws.{zero_or, read_on, read_stop, read_enough, read_up_to}
 use Rattle.files.specs.JobPart.{JobPart, job_part, read_job, job_part_from, job_part_of}
 
 -- ---- one record: it is refused, a seal, or taken
@@ -129,3 +129,43 @@ part_ends bytes o f taken q = ends_there (length bytes) o (drop o bytes) f taken
 pub file-ends : (bytes : List ℕ) → let j = job_part_of bytes in j.sealing ≡ false → file_of bytes ≡ outcome j.file j.records j.refused j.at
 unfolding file_of job_part_of
 file-ends bytes q = part_ends bytes 0 begun [] q
+
+-- ---- THE NUMBER THERE is at most 9, and 0 where a seal is next
+
+abbrev Unrefused : JobPart → Type 0
+Unrefused j = j.sealing ≡ true → j.refused ≡ 0
+
+unrefused : (n o : ℕ) (bytes : List ℕ) (f : File) (taken : List Record) → Unrefused (read_job n o bytes f taken)
+unfolding read_job
+unrefused zero o bytes f taken = λ q. refl
+unrefused (suc n) o [] f taken = λ q. refl
+unrefused (suc n) o (kind ∷ rest) f taken = by (λ o b g t. unrefused n o b g t) (eqb (refusal_at f kind rest) 0) (closing (action this))
+  where
+    this : Record
+    this = record_at kind rest
+
+    size : ℕ
+    size = body_length (kind_of kind)
+
+    by : ((o : ℕ) (b : List ℕ) (g : File) (t : List Record) → Unrefused (read_job n o b g t)) → (b c : Bool)
+        → Unrefused (elim b [
+          | true ↦ elim c [ true ↦ job_part f taken 0 o true | false ↦ read_job n (o + 1 + size) (drop size rest) (apply f this) (taken ++ (this ∷ [])) ]
+          | false ↦ job_part f taken (refusal_at f kind rest) o false
+        ])
+    by ih true true = λ q. refl
+    by ih true false = ih _ _ _ _
+    by ih false c = λ q. absurd (unequal cc)
+
+-- From any file and offset.
+pub part_unrefused : (bytes : List ℕ) (o : ℕ) (f : File) (taken : List Record) → let j = job_part_from bytes o f taken in j.sealing ≡ true → j.refused ≡ 0
+part_unrefused bytes o f taken = unrefused (length bytes) o (drop o bytes) f taken
+
+pub part_numbered : (bytes : List ℕ) (o : ℕ) (f : File) (taken : List Record) → (job_part_from bytes o f taken).refused ≤ 9
+part_numbered bytes o f taken = by (job_part_from bytes o f taken).sealing refl
+  where
+    j : JobPart
+    j = job_part_from bytes o f taken
+
+    by : (s : Bool) → j.sealing ≡ s → j.refused ≤ 9
+    by true q = let e = part_unrefused bytes o f taken q in omega (arith, e)
+    by false q = subst (λ (p : Outcome). p.refused ≤ 9) (part_ends bytes o f taken q) (read_up_to (length bytes) o (drop o bytes) f taken)

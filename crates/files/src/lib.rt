@@ -1,6 +1,10 @@
 // The whole file: records, refusals, answers, and the lent buffers.
 #![tactic(auto)]
 
+ghost use Rattle.std.specs.Prelude.{◌≡◌, ◌<◌, ◌≤◌, None};
+ghost use Rattle.checks.specs.Refusal.{number_if};
+
+use checks::Refusal;
 use records::Standing;
 use state::Step;
 
@@ -26,4 +30,71 @@ pub struct JobRead {
     pub refusal: u8,
     pub sealing: bool,
     pub standing: Standing,
+}
+
+impl JobRead {
+    // Why the record there is refused, if it is. A number that no refusal has gives none.
+    pub fn refusal(self) -> Option<Refusal>
+        ensures named { self.refusal ≤ 10 → number_if result ≡ self.refusal }
+        ensures none { 10 < self.refusal → result ≡ None }
+    {
+        match self.refusal {
+            1 => Some(Refusal::CutOff),
+            2 => Some(Refusal::UnknownKind),
+            3 => Some(Refusal::OutOfTurn),
+            4 => Some(Refusal::TooMany),
+            5 => Some(Refusal::NoSuchNode),
+            6 => Some(Refusal::NotRising),
+            7 => Some(Refusal::BoundOutside),
+            8 => Some(Refusal::NoValue),
+            9 => Some(Refusal::Contradicted),
+            10 => Some(Refusal::TooLong),
+            _ => None,
+        }
+    }
+}
+
+#[cfg(test)]
+mod tests {
+    use super::*;
+
+    // Each number of docs/FORMAT.md names its refusal, and no other number names one.
+    #[test]
+    fn refusals_by_number(rt: HostRuntime) {
+        for (number, want) in [
+            (0, None),
+            (1, Some(Refusal::CutOff)),
+            (2, Some(Refusal::UnknownKind)),
+            (3, Some(Refusal::OutOfTurn)),
+            (4, Some(Refusal::TooMany)),
+            (5, Some(Refusal::NoSuchNode)),
+            (6, Some(Refusal::NotRising)),
+            (7, Some(Refusal::BoundOutside)),
+            (8, Some(Refusal::NoValue)),
+            (9, Some(Refusal::Contradicted)),
+            (10, Some(Refusal::TooLong)),
+            (11, None),
+            (255, None),
+        ] {
+            let standing = Standing {
+                started: false,
+                sealed: false,
+                contradicted: false,
+                nodes: 0,
+                thresholds: 0,
+                last_node: 0,
+                last_terms: 0,
+                terms: 0,
+                raw_terms: 0,
+                answers: 0,
+            };
+            let read = JobRead {
+                at: 0,
+                refusal: number,
+                sealing: false,
+                standing,
+            };
+            assert_eq!(rt; read.refusal(), want, "number {number}");
+        }
+    }
 }
