@@ -136,32 +136,22 @@ abbrev Unrefused : JobPart → Type 0
 Unrefused j = j.sealing ≡ true → j.refused ≡ 0
 
 unrefused : (n o : ℕ) (bytes : List ℕ) (f : File) (taken : List Record) → Unrefused (read_job n o bytes f taken)
-unfolding read_job
+unfolding read_job goes
 unrefused zero o bytes f taken = λ q. refl
 unrefused (suc n) o [] f taken = λ q. refl
-unrefused (suc n) o (kind ∷ rest) f taken = by (λ o b g t. unrefused n o b g t) (eqb (refusal_at f kind rest) 0) (closing (action this))
+unrefused (suc n) o (kind ∷ rest) f taken = by (unrefused n _ _ _ _) (eqb (refusal_at f kind rest) 0) (closing (action (record_at kind rest)))
   where
-    this : Record
-    this = record_at kind rest
-
-    size : ℕ
-    size = body_length (kind_of kind)
-
-    by : ((o : ℕ) (b : List ℕ) (g : File) (t : List Record) → Unrefused (read_job n o b g t)) → (b c : Bool)
-        → Unrefused (elim b [
-          | true ↦ elim c [ true ↦ job_part f taken 0 o true | false ↦ read_job n (o + 1 + size) (drop size rest) (apply f this) (taken ++ (this ∷ [])) ]
-          | false ↦ job_part f taken (refusal_at f kind rest) o false
-        ])
-    by ih true true = λ q. refl
-    by ih true false = ih _ _ _ _
-    by ih false c = λ q. absurd (unequal cc)
+    by : Unrefused (on n o kind rest f taken) → (b c : Bool) → Unrefused (goes n o kind rest f taken b c)
+    by h true true = λ q. refl
+    by h true false = h
+    by h false c = λ q. absurd (unequal cc)
 
 -- From any file and offset.
 pub part_unrefused : (bytes : List ℕ) (o : ℕ) (f : File) (taken : List Record) → let j = job_part_from bytes o f taken in j.sealing ≡ true → j.refused ≡ 0
 part_unrefused bytes o f taken = unrefused (length bytes) o (drop o bytes) f taken
 
 pub part_numbered : (bytes : List ℕ) (o : ℕ) (f : File) (taken : List Record) → (job_part_from bytes o f taken).refused ≤ 9
-part_numbered bytes o f taken = by (job_part_from bytes o f taken).sealing refl
+part_numbered bytes o f taken = by j.sealing refl
   where
     j : JobPart
     j = job_part_from bytes o f taken

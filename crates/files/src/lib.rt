@@ -61,6 +61,18 @@ mod tests {
     // Each number of docs/FORMAT.md names its refusal, and no other number names one.
     #[test]
     fn refusals_by_number(rt: HostRuntime) {
+        let standing = Standing {
+            started: false,
+            sealed: false,
+            contradicted: false,
+            nodes: 0,
+            thresholds: 0,
+            last_node: 0,
+            last_terms: 0,
+            terms: 0,
+            raw_terms: 0,
+            answers: 0,
+        };
         for (number, want) in [
             (0, None),
             (1, Some(Refusal::CutOff)),
@@ -76,18 +88,6 @@ mod tests {
             (11, None),
             (255, None),
         ] {
-            let standing = Standing {
-                started: false,
-                sealed: false,
-                contradicted: false,
-                nodes: 0,
-                thresholds: 0,
-                last_node: 0,
-                last_terms: 0,
-                terms: 0,
-                raw_terms: 0,
-                answers: 0,
-            };
             let read = JobRead {
                 at: 0,
                 refusal: number,
